@@ -30,6 +30,7 @@ pub record HaltsOn (k : ℕ) (mid new : MirrorView) : Type 0 where
   pub tried : IsTried k write mid.disks new.disks
   pub members : new.array.members ≡ mid.array.members
   pub halted : new.array.halted ≡ true
+  pub failed : AtDevice k mid.disks new.disks (λ d e. d.honest ≡ true → d.failures < e.failures)
   pub keeps : (m : MemberView) → IsMember mid.array k m → AtDevice k mid.disks new.disks (KeepsDataBut m m)
 
 beside_sector : (a : ArrayView) (m : MemberView) (block : ℕ) (w : Write) (d e : Disk) → IsMarkWrite a m block w → SameOutside (512 * w.sector) (length w.bytes) d.content e.content → KeepsDataBut m m d e
@@ -51,6 +52,7 @@ halts_on k mid new sound (Event.RecordFails j) of is h =
       tried = h.halts.disks.tried;
       members = ap (λ (a : ArrayView). a.members) h.halts.array.array;
       halted = storing_halted mid new (λ n. None) (Event.RecordFails j) tt h;
+      failed = h.halts.disks.failed;
       keeps = λ m at d e at_d at_e.
           inl (beside_super_of m d e ((places_of mid sound).each j m d at at_d)
           (subst (λ n. SameOutside (512 * 8) n d.content e.content) h.may.readable.size (h.halts.disks.tried.outside d e at_d at_e)));
@@ -61,6 +63,7 @@ halts_on k mid new sound (Event.StoreMarksFails j b) of is h =
       tried = h.halts.disks.tried;
       members = ap (λ (a : ArrayView). a.members) h.halts.array.array;
       halted = storing_halted mid new (λ n. None) (Event.StoreMarksFails j b) tt h;
+      failed = h.halts.disks.failed;
       keeps = λ m at d e at_d at_e.
           subst (λ (z : MemberView). KeepsDataBut z z d e) (same_Some h.member m (sym h.may.in_sync.member ∙ at))
           (beside_sector mid.array h.member b h.write d e h.may.write (h.halts.disks.tried.outside d e at_d at_e));

@@ -413,6 +413,28 @@ listing_halts k old new h =
     let last = halts_event h.mid new k h.failing h.of (h.halts (λ n. None)) in
     (leaves_then k old h.mid new (listing_leaves k old h.mid h.goes) last.0, last.1)
 
+-- and this one is counted
+halt_fails : (k : ℕ) (mid new : MirrorView) (e : Event) → IsListing k e → IsFailureOf k e → HaltsAt mid (λ n. None) e new → AtDevice k mid.disks new.disks (λ d f. d.honest ≡ true → d.failures < f.failures)
+halt_fails k mid new (Event.StoreLogFails j) of is h = subst (λ i. AtDevice i mid.disks new.disks (λ d f. d.honest ≡ true → d.failures < f.failures)) is h.halts.disks.failed
+halt_fails k mid new (Event.StoreMarksFails j b) of is h = subst (λ i. AtDevice i mid.disks new.disks (λ d f. d.honest ≡ true → d.failures < f.failures)) is h.halts.disks.failed
+halt_fails k mid new (Event.RecordFails j) of is h = subst (λ i. AtDevice i mid.disks new.disks (λ d f. d.honest ≡ true → d.failures < f.failures)) is h.halts.disks.failed
+halt_fails k mid new (Event.StoreLog j listed) of is h = absurd is
+halt_fails k mid new (Event.StoreMarks j b) of is h = absurd is
+halt_fails k mid new (Event.Record j) of is h = absurd is
+halt_fails k mid new e of is h = absurd of
+
+pub listing_halt_fails : (k : ℕ) (old new : MirrorView) → (h : HaltsAfter only_others only_others (IsListing k) old new) → IsFailureOf k h.failing → (m : MemberView) → IsMember old.array k m
+    → HasDataApart m.superblock m.stored.chunks → AtDevice k old.disks new.disks (λ d f. d.honest ≡ true → d.failures < f.failures)
+listing_halt_fails k old new h is m at apart d f at_d at_f honest =
+    let uses = (listing_leaves k old h.mid h.goes).disks m at apart in
+    let low = slice_get_within old.disks k d at_d in
+    let many = uses.as_many in
+    let c = got_within h.mid.disks k (omega (arith, low, many)) in
+    let first = uses.stays d c.0 at_d c.1 in
+    let counted = first.counted in
+    let less = halt_fails k h.mid new h.failing h.of is (h.halts (λ n. None)) c.0 f c.1 at_f (first.honest ∙ honest) in
+    omega (arith, counted, less)
+
 -- ---- where nothing failed
 -- the fields of the array are as before, and each member is in its state
 pub record KeepsFields (a b : ArrayView) : Type 0 where

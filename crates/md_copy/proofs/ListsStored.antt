@@ -21,6 +21,7 @@ use Rattle.md_kept_members.specs.Enrolling.{HasRoomFor}
 use Rattle.md_kept_members.specs.View.{MemberView}
 use Rattle.md_model.specs.Events.{Event}
 use Rattle.md_super.specs.declared.superblock.Superblock.{Superblock}
+use Rattle.md_state.specs.DiskWrites.{AtDevice}
 use Rattle.md_state.specs.Members.{AllInSync, IsInSync, IsMember}
 use Rattle.md_state.specs.Rising.{HasSpentEvents}
 use Rattle.md_state.specs.View.{ArrayView, MirrorView}
@@ -41,7 +42,7 @@ use Rattle.md_passes.specs.Listed.{IsOfFailed, ListsFailed, ListsOwn}
 use Rattle.md_copy.specs.declared.fault.RebuildFault.{RebuildFault}
 use Rattle.md_copy.specs.declared.fault.RebuildFault.TheVariants.{MetadataFault}
 use Rattle.md_copy.specs.Listing.{AreListsOf, FitsLog, HasFailed, HasListOn, HaveRoom, IsListOn, IsStoringList, KeepsList, ListsAll, NotesLists, StopsAtList, StopsStoringLists, StoresIfFailed, StoresListIf, StoresLists, StoresOwn, WritesMetadata, all_list_events}
-use Rattle.md_copy.proofs.ListingKeeps.{KeepsPlaces, LeavesBeside, apart_of, listing_fails, listing_fields, listing_halts, listing_leaves, writes_one, writes_same, writes_then}
+use Rattle.md_copy.proofs.ListingKeeps.{KeepsPlaces, LeavesBeside, apart_of, listing_fails, listing_fields, listing_halt_fails, listing_halts, listing_leaves, writes_one, writes_same, writes_then}
 use Rattle.md_copy.proofs.ListsOn.{IsCanonicalAt, any_or_none, list_on, lists_beside, lists_stored}
 use Rattle.md_copy.proofs.Served.{in_sync_as}
 
@@ -236,6 +237,7 @@ module _ (failed : List Slot) (k : ℕ) where
             members = lists_kept leaves.0;
             own = λ x y at_x at_y. inl (fields.state k x y at_x (sym (ap (λ (xs : List MemberView). slice_get xs k) members) ∙ at_y));
             others = λ j x apart at_x is. inr ((leaves.0.disks m at (apart_of old sound k m at)).others j apart);
+            counted = listing_halt_fails k old new goes h.named m at (apart_of old sound k m at);
             writes = writes_one k old new sound m in_sync leaves.0;
           }
       stops_one unspent (part.MemberFailed j) h =
@@ -251,6 +253,7 @@ module _ (failed : List Slot) (k : ℕ) where
               listing_fails k old new h.1.loses.goes h.1.last m at (apart_of old sound k m at),
             );
             others = λ j x apart at_x is. inr ((leaves.disks m at (apart_of old sound k m at)).others j apart);
+            counted = listing_fails k old new h.1.loses.goes h.1.last m at (apart_of old sound k m at);
             writes = writes_one k old new sound m in_sync leaves;
           }
 
@@ -408,6 +411,17 @@ module _ (failed : List Slot) where
       out = λ no. list.out (ap is_in_sync own.state ∙ no) ∙ ap (λ (z : MemberView). record z { due = n.due }) (own.out no);
     }
 
+    -- a failure after that is counted
+    counts_below : (i : ℕ) (new : MirrorView) → AtDevice i mid.disks new.disks (λ d e. d.honest ≡ true → d.failures < e.failures) → AtDevice i old.disks new.disks (λ d e. d.honest ≡ true → d.failures < e.failures)
+    counts_below i new failed d f at_d at_f honest =
+        let low = slice_get_within old.disks i d at_d in
+        let many = x.writes.as_many in
+        let e = got_within mid.disks i (omega (arith, low, many)) in
+        let first = x.writes.stays i d e.0 at_d e.1 in
+        let counted = first.counted in
+        let less = failed e.0 f e.1 at_f (first.honest ∙ honest) in
+        omega (arith, counted, less)
+
     -- what stands on the devices of the others
     module _ (sound : IsConsistent old) (room : HaveRoom failed old.array) where
       canonical : All (λ (l : ℕ × (ℕ → Bool)). IsCanonicalAt l.0 old.array) x.stored
@@ -458,18 +472,9 @@ module _ (failed : List Slot) where
               let same = (kept i m n.0 at n.1).state in
               elim (y.own n.0 o n.1 there) [
                 | inl still ↦ inl (still ∙ same)
-                | inr failed ↦ inr (
-                  failed.0,
-                  λ d f at_d at_f honest.
-                      (let low = slice_get_within old.disks i d at_d in
-                      let many = x.writes.as_many in
-                      let e = got_within mid.disks i (omega (arith, low, many)) in
-                      let first = x.writes.stays i d e.0 at_d e.1 in
-                      let counted = first.counted in
-                      let less = failed.1 e.0 f e.1 at_f (first.honest ∙ honest) in
-                      omega (arith, counted, less)),
-                )
+                | inr failed ↦ inr (failed.0, counts_below i new y.counted)
               ]);
+          counted = counts_below i new y.counted;
           writes = writes_then old mid new below_places x.writes y.writes;
         }
 

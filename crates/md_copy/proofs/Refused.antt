@@ -27,7 +27,7 @@ use Rattle.md_copy.specs.Filling.{CountsFailed}
 use Rattle.md_copy.specs.declared.fault.RebuildFault.{RebuildFault}
 use Rattle.md_copy.specs.declared.fault.RebuildFault.TheVariants.{MetadataFault}
 use Rattle.md_copy.specs.Rebuilt.{KeepStates, ListsGrow, OthersKeepData, failed_of}
-use Rattle.md_copy.specs.Refused.{Ending, EndsSo, HasEnded, HasMade, IsBesideLacking}
+use Rattle.md_copy.specs.Refused.{Ending, EndsSo, HasEnded, HasMade, IsBesideLacking, StatesStay}
 use Rattle.md_copy.proofs.StartedAs.{StartsAs}
 use Rattle.md_copy.proofs.StoringKeeps.{HavePlaces, KeepsAll, beside_super_of, device_before, device_then, member_then, places_of}
 
@@ -407,8 +407,12 @@ lasts_none target fault v = record {
   keeps = λ k other runs. refl;
 }
 
+-- no member is in another state
+pub states_same : (target : ℕ) (fault : RebuildFault) (a b : ArrayView) → b ≡ a → StatesStay target fault a b
+states_same target fault a b is k m n other apart at there = ap (λ (z : MemberView). z.state) (same_Some n m (sym there ∙ ap (λ (v : ArrayView). slice_get v.members k) is ∙ at))
+
 module _ (target : ℕ) (fault : RebuildFault) (s : Ending) (old mid last new : MirrorView) (at : IsMember old.array target s.member) (x : Preserves target old mid)
-    (grows : GrowsSo target (failed_of s.listed ++ s.noted) (failed_of (s.listed ++ s.last)) old mid) (y : KeepsRest target mid last) (z : Lasts target fault last new) where
+    (grows : GrowsSo target (failed_of s.listed ++ s.noted) (failed_of (s.listed ++ s.last)) old mid) (y : KeepsRest target mid last) (z : Lasts target fault last new) (same : StatesStay target fault mid.array last.array) where
   was_last : (k : ℕ) (n : MemberView) → IsMember new.array k n → IsMember last.array k n
   was_last k n there = sym (ap (λ (xs : List MemberView). slice_get xs k) z.members) ∙ there
 
@@ -456,7 +460,7 @@ module _ (target : ℕ) (fault : RebuildFault) (s : Ending) (old mid last new : 
             let second = (z.counted k e.0 f e.1 at_f).0 in
             omega (arith, first, second));
         states = λ k m n other at_m at_n. elim (states_last k m n other at_m (was_last k n at_n)) [
-          | inl same ↦ inl same
+          | inl as_was ↦ inl as_was
           | inr lost ↦
               inr (
                 lost.0,
@@ -468,5 +472,6 @@ module _ (target : ℕ) (fault : RebuildFault) (s : Ending) (old mid last new : 
                     (omega (arith, once, second), λ role in_role. (let more = less.1 role in_role in omega (arith, more, second)))),
               )
         ];
+        still = λ k m n other apart at_m at_n. (let o = x.then k m at_m in same k o.0 n other apart o.1 (was_last k n at_n) ∙ grows.states k m o.0 other at_m o.1);
         so = so now.0 there;
       }

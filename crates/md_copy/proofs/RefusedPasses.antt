@@ -1,20 +1,22 @@
 -- What a rebuild that is refused leaves as it was.
-use Rattle.std.proofs.Common.{◌≡◌, ◌≢◌, ◌∙◌, ◌⊎◌, ℕ, suc, zero, ◌==◌, ◌<◌, ◌≤◌, ◌&&◌, Bool, true, false, List, [], ◌∷◌, ◌++◌, append-nil, append_assoc, All, cond, length, length-append, slice_get, Some, refl, sym, ap, subst, arith, inl, inr}
+use Rattle.std.proofs.Common.{◌≡◌, ◌≢◌, ◌∙◌, ◌⊎◌, ℕ, suc, zero, ◌+◌, ◌==◌, ◌<◌, ◌≤◌, ◌&&◌, Bool, true, false, List, [], ◌∷◌, ◌++◌, append-nil, append_assoc, All, cond, filter, length, not, length-append, slice_get, Some, refl, sym, ap, subst, arith, inl, inr}
 use Rattle.std.proofs.lemmas.Bool.{both_ways, cases_Bool, cases_eq, eqb-true}
 use Rattle.std.proofs.lemmas.List.Folds.{Any-from_list_any}
 use Rattle.std.proofs.lemmas.Option.{same_Some, slice_get_within}
 use Rattle.md_assembly.proofs.Indices.{got_within}
 use Rattle.md_assembly.specs.declared.state.MemberState.{MemberState}
 use Rattle.md_assembly.specs.declared.state.MemberState.TheVariants.{InSync, Recovering, Stale, Spare, Faulty}
-use Rattle.md_assembly.specs.States.{is_in_sync, is_in_sync_as, is_recovering, is_spare}
+use Rattle.md_array.proofs.Worlds.States.{in_sync_recorded}
+use Rattle.md_assembly.specs.States.{is_in_sync, is_in_sync_as, is_recorded, is_recovering, is_spare}
+use Rattle.md_badblocks.specs.declared.run.Run.{Run}
 use Rattle.md_badblocks.specs.Runs.{IsBad}
 use Rattle.md_bitmap.specs.Marks.{Bitmap, is_set}
 use Rattle.md_bitmap.specs.declared.chunks.Chunks.{Chunks}
 use Rattle.md_cert.specs.declared.slots.Slot.{Slot}
 use Rattle.md_collect.specs.Reading.{Fails}
 use Rattle.md_device.specs.Splice.{part}
-use Rattle.md_kept_members.specs.Enrolling.{IsListWith}
-use Rattle.md_kept_members.specs.TakingBack.{admitted_member}
+use Rattle.md_kept_members.specs.Enrolling.{HasRoomFor, IsListAfter, IsListWith}
+use Rattle.md_kept_members.specs.TakingBack.{admitted_member, with_offset}
 use Rattle.md_kept_members.specs.View.{MemberView}
 use Rattle.md_model.specs.Rebuilding.{lacks}
 use Rattle.md_pass.specs.Beside.{has_chunk}
@@ -24,22 +26,25 @@ use Rattle.md_passes.proofs.Listing.{lists_add}
 use Rattle.md_passes.specs.Listed.{AreCopiedBy, IsArrayPass, IsOfFailed, ListsFailed, MayServe, ServesAs, most_failures}
 use Rattle.md_passes.specs.Passes.{PassView, ServesAtMost, failed_chunks, slots_of}
 use Rattle.md_state.specs.DiskWrites.{AtDevice}
+use Rattle.md_state.specs.Enrolling.{HasFullLog}
 use Rattle.md_state.specs.Members.{IsInSync, IsMember}
 use Rattle.md_state.specs.Missing.{has_passed, is_missing}
 use Rattle.md_state.specs.View.{ArrayView, Disk, MirrorView, of_disks}
 use Rattle.md_array.specs.Consistency.{IsConsistent}
 use Rattle.md_array.specs.Enrolling.{KeepsData}
 use Rattle.md_array.specs.Lending.{IsBesideMissing}
+use Rattle.md_metadata.specs.Storing.{IsStoring, Stores}
 use Rattle.md_copy.specs.declared.fault.RebuildFault.{RebuildFault}
 use Rattle.md_copy.specs.declared.fault.RebuildFault.TheVariants.{Halted, NotSpare, Dirty, InFlight, LogFull, NoMemory, TargetFault, MetadataFault, EventsFull}
 use Rattle.md_copy.specs.Filling.{IsFilling}
 use Rattle.md_copy.specs.Leaving.{HasNone, Leaves}
 use Rattle.md_copy.specs.Listing.{HasFailed, ListsAll, NotesLists, StopsAtList}
-use Rattle.md_copy.specs.Preparing.{IsWithin}
+use Rattle.md_copy.specs.Preparing.{IsWithin, is_in, uncopied_chunks}
 use Rattle.md_copy.specs.Passing.{AreListedPasses, BreaksOff, CopiesAll, EndsBetween, FailsListing, RecordsPass}
-use Rattle.md_copy.specs.Rebuilding.{Begins, LacksMemory, LacksRoom, LosesTarget, RefusesAtOnce, RefusesRebuild}
+use Rattle.md_copy.specs.Enrolled.{LacksOwnRoom}
+use Rattle.md_copy.specs.Rebuilding.{Begins, EndsFilled, LacksMemory, LacksRoom, LosesTarget, RefusesAtOnce, RefusesRebuild}
 use Rattle.md_copy.specs.Rebuilt.{failed_of}
-use Rattle.md_copy.specs.Refused.{AreListed, Ending, EndsSo, HasCopied, HasEnded, HasHalted, HasMade, IsAdmitted, IsAsBefore, IsLost, IsRebuiltSoFar, IsRebuiltTo, KeepsDataBut, LacksRoomFor, ListsStand, NotesSome, offset_of}
+use Rattle.md_copy.specs.Refused.{AreListed, Ending, EndsSo, HasCopied, HasEnded, HasHalted, HasMade, IsAdmitted, IsAsBefore, IsLost, IsRebuiltSoFar, IsRebuiltTo, KeepsDataBut, LacksOwnRoomFor, LacksRoomFor, ListsStand, NotesSome, StatesStay, offset_of}
 use Rattle.md_copy.specs.Sources.{missing_chunks}
 use Rattle.md_copy.proofs.BegunAs.{permits_both, same_missing, serves_both, serves_most}
 use Rattle.md_copy.proofs.Halting.{data_but}
@@ -48,13 +53,14 @@ use Rattle.md_copy.proofs.ListsKept.{lists_all, lists_chain, of_state}
 use Rattle.md_copy.proofs.ListsOn.{AtInSync, IsRecordedOn, list_on}
 use Rattle.md_copy.proofs.PassRecorded.{recorded_lists, recorded_ready}
 use Rattle.md_copy.proofs.PassesKeep.{PassesKeep, all_keep, chain_keeps, disk_then, failed_last, keeps_none, keeps_on, pass_keeps}
+use Rattle.md_copy.proofs.PassesLack.{all_lacks, orphans_same}
 use Rattle.md_copy.proofs.PassesTold.{HoldsSoFar, all_copied, begins_holding, chain_copied, chain_holds, filled_ready, listed_holds}
 use Rattle.md_copy.proofs.Readied.{admitted_is, after_so, ready_of, spare_is}
 use Rattle.md_copy.proofs.ReadyStill.{ready_noted}
 use Rattle.md_copy.proofs.RebuildLeads.{same_beside}
 use Rattle.md_copy.proofs.RebuiltTo.{RebuiltTo, begins_to, grown_to, kept_to, same_to}
-use Rattle.md_copy.proofs.Refused.{GrowsSo, KeepsRest, Lasts, Preserves, grows_rest, has_ended, lasts_none, preserves_none, preserves_on, preserves_rest, preserves_same, rest_none, rest_on, target_same}
-use Rattle.md_copy.proofs.RefusedSteps.{HaltsBy, StaysStill, StopsSo, checkpointed_many, grows_as, grows_from, grows_none, halted_left, halts_list, list_chunks, list_marks, list_missing, preserves_admitted, preserves_begun, preserves_recorded, rest_left, rest_list, rest_stores, rest_unadmitted, rest_unenrolled, rest_unrecordable, rest_unrecorded, starts_after, states_admitted, states_begun, still_same, still_stored, still_unadmitted, still_unrecorded, stops_so, was_spare}
+use Rattle.md_copy.proofs.Refused.{GrowsSo, KeepsRest, Lasts, Preserves, grows_rest, has_ended, lasts_none, preserves_none, preserves_on, preserves_rest, preserves_same, rest_none, rest_on, states_same, target_same}
+use Rattle.md_copy.proofs.RefusedSteps.{HaltsBy, StaysStill, StopsSo, checkpointed_many, grows_as, grows_from, grows_none, halted_left, halts_list, list_chunks, list_marks, list_missing, own_is, preserves_admitted, preserves_begun, preserves_recorded, rest_left, rest_list, rest_stores, rest_unadmitted, rest_unenrolled, rest_unrecordable, rest_unrecorded, starts_after, states_admitted, states_begun, still_same, still_stored, still_unadmitted, still_unrecorded, stops_so, was_spare}
 use Rattle.md_copy.proofs.Stands.{stand_filled, stand_left, stand_listing, stand_none, stand_noted, stand_recorded, stand_unenrolled, stand_unrecorded, within_exact}
 use Rattle.md_copy.proofs.StartedAs.{StartsAs}
 use Rattle.md_copy.proofs.StartsReadied.{starts_of}
@@ -314,6 +320,23 @@ made_with copied s old h = record { first = h.first; served = h.served; permitte
 some_with : (copied : Bitmap) (s : Ending) (Why : Slot → Type 0) → NotesSome s Why → NotesSome (with_copied copied s) Why
 some_with copied s Why h = record { pass = h.pass; last = h.last; next = h.next; rest = h.rest; slots = h.slots; why = h.why }
 
+own_with : (target : ℕ) (s : Ending) (old new : ArrayView) → LacksOwnRoomFor target s old new → LacksOwnRoomFor target (with_copied s.copied s) old new
+own_with target s old new h = record {
+  pass = h.pass;
+  last = h.last;
+  done = h.done;
+  none = h.none;
+  kept = h.kept;
+  kept_are = h.kept_are;
+  orphans = h.orphans;
+  orphans_are = h.orphans_are;
+  full = h.full;
+}
+
+-- the list of a member is that of one with another offset
+list_with : (q : Chunks) (offset : ℕ) (m : MemberView) (kept orphans : Bitmap) (list : List Run) → IsListAfter q m kept orphans list → IsListAfter q (record (with_offset offset m) { due = false }) kept orphans list
+list_with q offset m kept orphans list h = record { canonical = h.canonical; bad = h.bad }
+
 has_same : (s : Ending) → HasCopied s → HasCopied (with_copied s.copied s)
 has_same s h = record { listed = h.listed; only = h.only }
 
@@ -335,20 +358,20 @@ pub record EndsAt (target : ℕ) (s : Ending) (old v : MirrorView) : Type 0 wher
   pub stand : ListsStand target (failed_of s.listed) old.array v
   pub to : RebuiltTo target old.array s.member v s.copied
 
--- a write to the target's device failed after that
-fails_after : (target : ℕ) (listed failed : List Slot) (old mid new : MirrorView) → Preserves target old mid → GrowsSo target listed failed old mid
-    → AtDevice target mid.disks new.disks (λ d e. d.honest ≡ true → d.failures < e.failures) → AtDevice target old.disks new.disks (Fails of_disks)
-fails_after target listed failed old mid new pre g fails d f at_d at_f honest =
-    let e = pre.disk_then target d at_d in
-    let first = g.rises target d e.0 at_d e.1 in
-    let less = fails e.0 f e.1 at_f (g.honest target d e.0 at_d e.1 ∙ honest) in
+-- a write to a device failed after that
+fails_after : (target k : ℕ) (listed failed : List Slot) (old mid new : MirrorView) → Preserves target old mid → GrowsSo target listed failed old mid
+    → AtDevice k mid.disks new.disks (λ d e. d.honest ≡ true → d.failures < e.failures) → AtDevice k old.disks new.disks (Fails of_disks)
+fails_after target k listed failed old mid new pre g fails d f at_d at_f honest =
+    let e = pre.disk_then k d at_d in
+    let first = g.rises k d e.0 at_d e.1 in
+    let less = fails e.0 f e.1 at_f (g.honest k d e.0 at_d e.1 ∙ honest) in
     omega (arith, first, less)
 
-fails_rest : (target : ℕ) (old mid new : MirrorView) → KeepsRest target old mid → AtDevice target mid.disks new.disks (λ d e. d.honest ≡ true → d.failures < e.failures) → AtDevice target old.disks new.disks (Fails of_disks)
-fails_rest target old mid new rest fails d f at_d at_f honest =
-    let e = rest.disk_then target d at_d in
-    let first = rest.counted target d e.0 at_d e.1 in
-    let less = fails e.0 f e.1 at_f (rest.honest target d e.0 at_d e.1 ∙ honest) in
+fails_rest : (target k : ℕ) (old mid new : MirrorView) → KeepsRest target old mid → AtDevice k mid.disks new.disks (λ d e. d.honest ≡ true → d.failures < e.failures) → AtDevice k old.disks new.disks (Fails of_disks)
+fails_rest target k old mid new rest fails d f at_d at_f honest =
+    let e = rest.disk_then k d at_d in
+    let first = rest.counted k d e.0 at_d e.1 in
+    let less = fails e.0 f e.1 at_f (rest.honest k d e.0 at_d e.1 ∙ honest) in
     omega (arith, first, less)
 
 module _ (target : ℕ) (old ready : MirrorView) (none : Bitmap) (b : Begins target old ready none) where
@@ -595,7 +618,7 @@ module _ (target : ℕ) (old ready : MirrorView) (none : Bitmap) (b : Begins tar
 
   -- why there is no room in a log
   abbrev NoRoom : ℕ → ArrayView → Ending → Type 0
-  NoRoom k a s = ((k ≡ target) × (s.noted ≡ []) × (failed_of s.last ≡ [])) ⊎ NotesSome s (LacksRoomFor k a)
+  NoRoom k a s = ((k ≡ target) × LacksOwnRoomFor target s old.array a) ⊎ NotesSome s (LacksRoomFor k a)
 
   record FullSo (k : ℕ) (after : Bitmap) (stopped : MirrorView) : Type 0 where
     s : Ending
@@ -603,6 +626,31 @@ module _ (target : ℕ) (old ready : MirrorView) (none : Bitmap) (b : Begins tar
     noted : NoRoom k stopped.array s
     by : AreCopiedBy (s.listed ++ s.last) s.copied
     left : after.chunks ≡ stopped.array.marks.chunks → IsWithin after s.copied
+
+  -- all passes are made, and the log of the target has no room
+  own_full : (after : Bitmap) (stopped : MirrorView) → (e : EndsFilled target b.now none ready (λ kept orphans filled. LacksOwnRoom target kept orphans after filled stopped))
+      → LacksOwnRoomFor target (ended e.fills.copies.listed (e.fills.copies.last ∷ []) [] e.copied) old.array stopped.array
+  own_full after stopped e =
+      let c = e.fills.copies in
+      let sets = e.fills.has.sets in
+      let may = e.fills.has.may in
+      let begins = ready_of target old ready none b in
+      record {
+        pass = c.last;
+        last = refl;
+        done = c.done;
+        none = refl;
+        kept = e.kept;
+        kept_are = λ i low set.
+            both_true (is_missing e.filled.array may.member i) (is_set e.copied.bytes i)
+            (sym (sets.kept_are i (subst (λ (q : Bitmap). i < q.chunks) (sym (ends_copied e.passes e.copied e.filled c).pre.marks) low)) ∙ set);
+        orphans = e.orphans;
+        orphans_are = λ i.
+            sets.orphans_are.bits i ∙ ap (λ xs. is_in xs i) (sets.chunks_are
+            ∙ orphans_same target none e.copied ready e.filled (all_lacks target b.now e.passes none e.copied ready e.filled c) b.now may.member b.there may.at (begins.recovering b.now b.there) begins.sound.chunks.count
+            ∙ ap (filter (λ x. not (is_set e.copied.bytes x))) (same_missing target old ready starts b.sound b.member b.now b.at b.there));
+        full = subst (λ (v : MirrorView). HasFullLog target e.kept e.orphans v.array) (sym e.why.unchanged) e.why.full;
+      }
 
   lacks_room : (k : ℕ) (after : Bitmap) (stopped : MirrorView) → LacksRoom k target b.now none after ready stopped → FullSo k after stopped
   lacks_room k after stopped (inl e) =
@@ -629,7 +677,7 @@ module _ (target : ℕ) (old ready : MirrorView) (none : Bitmap) (b : Begins tar
       record {
         s = ended c.listed (c.last ∷ []) [] e.copied;
         ends = subst (EndsAt target (ended c.listed (c.last ∷ []) [] e.copied) old) (sym e.why.unchanged) (ends_copied e.passes e.copied e.filled c);
-        noted = inl (is, refl, ap (λ xs. xs ++ []) c.done);
+        noted = inl (is, own_full after stopped e);
         by = by_all e.passes e.copied e.filled c;
         left = λ many i low set.
             (let same = many ∙ ap (λ (v : MirrorView). v.array.marks.chunks) e.why.unchanged in
@@ -677,7 +725,10 @@ module _ (target : ℕ) (old ready : MirrorView) (none : Bitmap) (b : Begins tar
     stand_then = stand_left target (failed_of s.listed) old.array copied stopped new (λ running. z.sound) leaves (λ running. z.stand) runs_then
 
     ended_leaving : (c : Bitmap) → ((now : MemberView) → IsMember new.array target now → EndsSo target fault (with_copied c s) now old new) → HasEnded target fault old new
-    ended_leaving c = has_ended target fault (with_copied c s) old stopped new new z.at z.pre z.grows rest_then (lasts_none target fault new) (made_with c s old.array z.made)
+    ended_leaving c = has_ended target fault (with_copied c s) old stopped new new z.at z.pre z.grows rest_then (lasts_none target fault new) states_then (made_with c s old.array z.made)
+      where
+        states_then : StatesStay target fault stopped.array new.array
+        states_then j x y other apart at_x at_y = ap (λ (l : MemberView). l.state) (same_Some y x (sym at_y ∙ (left_still copied stopped new (λ running. z.sound) leaves).0 j other ∙ at_x))
 
     -- how far it is rebuilt: as far as it was, or by what was copied since
     left_to : (stopped.array.marks.chunks ≡ copied.chunks → IsWithin copied s.copied) → RebuiltTo target old.array s.member new s.copied
@@ -704,8 +755,42 @@ module _ (target : ℕ) (old ready : MirrorView) (none : Bitmap) (b : Begins tar
     so_far_then c to now there = record { recovering = recovers_then now there; to = to now there }
 
     -- the member whose log has no room
+    full_then : (kept orphans : Bitmap) → HasFullLog target kept orphans stopped.array → HasFullLog target kept orphans new.array
+    full_then kept orphans full = by leaves
+      where
+        by : Leaves target copied stopped new → HasFullLog target kept orphans new.array
+        by (inl same) = subst (λ (v : MirrorView). HasFullLog target kept orphans v.array) (sym same.1) full
+        by (inr (inr f)) = subst (HasFullLog target kept orphans) (sym f.array) full
+        by (inr (inl r)) =
+            let n = rest_then.then target full.member full.at in
+            let is = own_is target copied stopped new z.sound r full.member n.0 full.at n.1 in
+            record {
+              member = n.0;
+              at = n.1;
+              list = full.list;
+              list_is = subst (λ (l : MemberView). IsListAfter new.array.chunks l kept orphans full.list) (sym is)
+                  (subst (λ (q : Chunks). IsListAfter q (record (with_offset r.offset full.member) { due = false }) kept orphans full.list) (sym (ap (λ (a : ArrayView). a.chunks) r.array))
+                  (list_with stopped.array.chunks r.offset full.member kept orphans full.list full.list_is));
+              full = subst (λ (l : MemberView). HasRoomFor l.superblock full.list → ⊥) (sym is) full.full;
+            }
+
     room_then : (k : ℕ) → NoRoom k stopped.array s → NoRoom k new.array s
-    room_then k (inl own) = inl own
+    room_then k (inl own) =
+        let o = own.1 in
+        inl (
+          own.0,
+          record {
+            pass = o.pass;
+            last = o.last;
+            done = o.done;
+            none = o.none;
+            kept = o.kept;
+            kept_are = o.kept_are;
+            orphans = o.orphans;
+            orphans_are = o.orphans_are;
+            full = full_then o.kept o.orphans o.full;
+          },
+        )
     room_then k (inr some) =
         let full = some.why.full in
         let other : k ≢ target =
@@ -781,11 +866,12 @@ module _ (target : ℕ) (old ready : MirrorView) (none : Bitmap) (b : Begins tar
         let size = pre.size k m o.0 at_m o.1 in
         rest_lost.keeps k d1.0 g o.0 d1.1 at_g o.1 i n (omega (arith, offset, from)) (omega (arith, offset, size, to)) ∙ pre.others k d d1.0 m other_lost at_d d1.1 at_m i n from to
 
-    lost_so : IsLost k new.array ⊎ HasHalted k old new
+    lost_so : IsLost k old.array new.array ⊎ HasHalted k old new
     lost_so = elim stops.ends [
       | inl lost ↦
           let runs = lost.loses.halted ∙ z_noted.running in
           inl (record {
+            was = λ m at_m. in_sync_recorded m.state (sym (ap is_in_sync (z_noted.grows.states k m stops.member other_lost at_m stops.was.member)) ∙ stops.was.in_sync);
             running = running_left copied stopped new runs leaves;
             member = lost.faulty.member;
             at = (left_still copied stopped new sound_lost leaves).0 k other_lost ∙ lost.faulty.at;
@@ -794,11 +880,12 @@ module _ (target : ℕ) (old ready : MirrorView) (none : Bitmap) (b : Begins tar
       | inr at ↦
           let same : new ≡ stopped = halted_left target copied stopped new (halts_list k noted stopped at) leaves in
           inr (record {
+            failed = fails_after target k (failed_of e.passes ++ f.pass.failed) (failed_of (e.passes ++ f.pass ∷ [])) old noted new z_noted.pre z_noted.grows
+                (subst (λ (v : MirrorView). AtDevice k noted.disks v.disks (λ d g. d.honest ≡ true → d.failures < g.failures)) (sym same) stops.counted);
             halted = ap (λ (v : MirrorView). v.array.halted) same ∙ halts_list k noted stopped at;
             member = at.member;
             in_sync = subst (λ (v : MirrorView). IsInSync v.array k at.member) (sym same) at.in_sync;
             alone = subst (λ (v : MirrorView). (j : ℕ) (n : MemberView) → IsInSync v.array j n → j ≡ k) (sym same) at.alone;
-            kept = λ m at_m d g at_d at_g. inl (data_lost m at_m d g at_d at_g);
           })
     ]
 
@@ -832,9 +919,13 @@ module _ (target : ℕ) (old ready : MirrorView) (none : Bitmap) (b : Begins tar
             (λ c low set. absurd (both_ways (is_set copied.bytes c) (nothing c low) set))
         by (inr (inr g)) = array_to target old b.sound b.member b.at stopped new e.why.0 g.array to_stopped
 
+    states_lost : StatesStay target (MetadataFault k) noted.array new.array
+    states_lost j x y other apart at_x at_y =
+        (stops.members j x y at_x (sym ((left_still copied stopped new sound_lost leaves).0 j other) ∙ at_y)).1 (λ same. apart (ap (λ i. MetadataFault i) (sym same)))
+
     ended_source : HasEnded target (MetadataFault k) old new
     ended_source =
-        has_ended target (MetadataFault k) s old noted new new b.at z_noted.pre z_noted.grows rest_lost (lasts_none target (MetadataFault k) new) z_noted.made
+        has_ended target (MetadataFault k) s old noted new new b.at z_noted.pre z_noted.grows rest_lost (lasts_none target (MetadataFault k) new) states_lost z_noted.made
         (λ now there. record {
           other = other_lost;
           lost = lost_so;
@@ -843,6 +934,7 @@ module _ (target : ℕ) (old ready : MirrorView) (none : Bitmap) (b : Begins tar
             copied = by_more _ e e.why.0 f.pass f.recorded f.records;
             noted = record { pass = f.pass; last = refl; slots = refl };
             source = λ m at_m. of_state f.pass.failed stops.member.state m.state (z_noted.grows.states k m stops.member other_lost at_m stops.was.member) stops.source;
+            kept = data_lost;
           });
           stand = stand_lost;
         })
@@ -854,10 +946,11 @@ module _ (target : ℕ) (old ready : MirrorView) (none : Bitmap) (b : Begins tar
   ended_target new (inl e) =
       let f = e.why.1 in
       let z = ends_filled _ e f.pass f.is f.member f.at new f.breaks.filling f.sound in
-      has_ended target TargetFault (ended e.passes (bare f.pass ∷ []) [] e.copied) old new new new b.at z.pre z.grows (rest_none target new) (lasts_none target TargetFault new) z.made
+      has_ended target TargetFault (ended e.passes (bare f.pass ∷ []) [] e.copied) old new new new b.at z.pre z.grows (rest_none target new) (lasts_none target TargetFault new)
+      (states_same target TargetFault new.array new.array refl) z.made
       (λ now at_now. record {
         running = z.running;
-        failed = fails_after target (failed_of e.passes) (failed_of e.passes) old e.now new (there _ e) (grown _ e) f.breaks.failed;
+        failed = fails_after target target (failed_of e.passes) (failed_of e.passes) old e.now new (there _ e) (grown _ e) f.breaks.failed;
         target_is = inr (record { recovering = z.recovers now at_now; to = z.to now at_now }, inl (by_now _ e));
         noted = refl;
         stand = z.stand;
@@ -865,10 +958,11 @@ module _ (target : ℕ) (old ready : MirrorView) (none : Bitmap) (b : Begins tar
   ended_target new (inr (inl e)) =
       let f = e.why in
       let z = ends_filled _ e f.pass f.makes.is f.makes.member f.makes.at f.filled f.makes.copies.filling f.makes.sound in
-      has_ended target TargetFault (ended e.passes (bare f.pass ∷ []) [] e.copied) old f.filled new new b.at z.pre z.grows (rest_unrecordable target f.after f.filled new f.makes.sound f.fails) (lasts_none target TargetFault new) z.made
+      has_ended target TargetFault (ended e.passes (bare f.pass ∷ []) [] e.copied) old f.filled new new b.at z.pre z.grows (rest_unrecordable target f.after f.filled new f.makes.sound f.fails) (lasts_none target TargetFault new)
+      (states_same target TargetFault f.filled.array new.array f.fails.array) z.made
       (λ now at_now. record {
         running = ap (λ (a : ArrayView). a.halted) f.fails.array ∙ z.running;
-        failed = fails_after target (failed_of e.passes ++ []) (failed_of (e.passes ++ bare f.pass ∷ [])) old f.filled new z.pre z.grows f.fails.disks.failed;
+        failed = fails_after target target (failed_of e.passes ++ []) (failed_of (e.passes ++ bare f.pass ∷ [])) old f.filled new z.pre z.grows f.fails.disks.failed;
         target_is =
             (let was = ap (λ (a : ArrayView). slice_get a.members target) (sym f.fails.array) ∙ at_now in
             inr (record { recovering = z.recovers now was; to = z.to now was }, inl (by_now _ e)));
@@ -878,10 +972,11 @@ module _ (target : ℕ) (old ready : MirrorView) (none : Bitmap) (b : Begins tar
   ended_target new (inr (inr e)) =
       let c = e.fills.copies in
       let z = ends_copied e.passes e.copied e.filled c in
-      has_ended target TargetFault (ended c.listed (c.last ∷ []) [] e.copied) old e.filled new new b.at z.pre z.grows (rest_unenrolled target e.kept e.orphans e.filled new e.why) (lasts_none target TargetFault new) z.made
+      has_ended target TargetFault (ended c.listed (c.last ∷ []) [] e.copied) old e.filled new new b.at z.pre z.grows (rest_unenrolled target e.kept e.orphans e.filled new e.why) (lasts_none target TargetFault new)
+      (states_same target TargetFault e.filled.array new.array e.why.array) z.made
       (λ now at_now. record {
         running = ap (λ (a : ArrayView). a.halted) e.why.array ∙ z.running;
-        failed = fails_after target (failed_of c.listed ++ []) (failed_of (c.listed ++ c.last ∷ [])) old e.filled new z.pre z.grows (λ d g at_d at_g. (e.why.disks.change d g at_d at_g).0.failed);
+        failed = fails_after target target (failed_of c.listed ++ []) (failed_of (c.listed ++ c.last ∷ [])) old e.filled new z.pre z.grows (λ d g at_d at_g. (e.why.disks.change d g at_d at_g).0.failed);
         target_is =
             (let was = ap (λ (a : ArrayView). slice_get a.members target) (sym e.why.array) ∙ at_now in
             inr (record { recovering = z.recovers now was; to = z.to now was }, inr (by_all e.passes e.copied e.filled c, ap (λ xs. xs ++ []) c.done)));
@@ -894,13 +989,19 @@ module _ (target : ℕ) where
   ended_at_once : (fault : RebuildFault) (old new : MirrorView) → (h : RefusesAtOnce target fault old new) → ((now : MemberView) → EndsSo target fault (none_made old.array h.member) now old new) → HasEnded target fault old new
   ended_at_once fault old new h so =
       has_ended target fault (none_made old.array h.member) old old old new h.at (preserves_none target old) (grows_none target old) (rest_none target old)
-      (subst (λ (v : MirrorView). Lasts target fault old v) (sym h.unchanged) (lasts_none target fault old)) (made_none old.array h.member) (λ now there. so now)
+      (subst (λ (v : MirrorView). Lasts target fault old v) (sym h.unchanged) (lasts_none target fault old)) (states_same target fault old.array old.array refl) (made_none old.array h.member) (λ now there. so now)
 
   -- nothing was copied
-  ended_rest : (fault : RebuildFault) (old new : MirrorView) (m : MemberView) → IsMember old.array target m → KeepsRest target old new → ((now : MemberView) → IsMember new.array target now → EndsSo target fault (none_made old.array m) now old new)
-      → HasEnded target fault old new
-  ended_rest fault old new m at rest =
-      has_ended target fault (none_made old.array m) old old new new at (preserves_none target old) (grows_none target old) rest (lasts_none target fault new) (made_none old.array m)
+  ended_rest : (fault : RebuildFault) (old new : MirrorView) (m : MemberView) → IsMember old.array target m → KeepsRest target old new → StatesStay target fault old.array new.array
+      → ((now : MemberView) → IsMember new.array target now → EndsSo target fault (none_made old.array m) now old new) → HasEnded target fault old new
+  ended_rest fault old new m at rest states =
+      has_ended target fault (none_made old.array m) old old new new at (preserves_none target old) (grows_none target old) rest (lasts_none target fault new) states (made_none old.array m)
+
+  -- what is due was stored, and then no state changed
+  states_stored : (fault : RebuildFault) (old mid new : MirrorView) → Stores IsStoring old mid → new.array ≡ mid.array → StatesStay target fault old.array new.array
+  states_stored fault old mid new s is k m n other apart at there =
+      (let x = s.ready.each k n (ap (λ (a : ArrayView). slice_get a.members k) (sym is) ∙ there) in
+      ap (λ (z : MemberView). z.state) x.same ∙ ap (λ (z : MemberView). z.state) (same_Some x.before m (sym x.member ∙ at)))
 
   -- the target stays what it was
   as_before : (old new : MirrorView) (m now : MemberView) → IsMember old.array target m → IsMember new.array target now → StaysStill target old new → IsAsBefore (none_made old.array m) now
@@ -909,6 +1010,14 @@ module _ (target : ℕ) where
   -- a member failed before a pass
   module _ (old a new : MirrorView) (k : ℕ) (m : MemberView) (at : IsMember old.array target m) (pre : Preserves target old a) (grows : GrowsSo target [] [] old a) (st : StopsSo target k a new) (other : k ≢ target)
       (when : (now : MemberView) → IsMember st.last.array target now → IsAsBefore (none_made old.array m) now ⊎ IsAdmitted (none_made old.array m) now) where
+    data_last : (n : MemberView) → IsMember old.array k n → AtDevice k old.disks st.last.disks (KeepsData n)
+    data_last n at_n d x at_d at_x i l from to =
+        let e = pre.disk_then k d at_d in
+        let o = pre.then k n at_n in
+        let offset = pre.offset k n o.0 at_n o.1 in
+        let size = pre.size k n o.0 at_n o.1 in
+        st.rest.keeps k e.0 x o.0 e.1 at_x o.1 i l (omega (arith, offset, from)) (omega (arith, offset, size, to)) ∙ pre.others k d e.0 n other at_d e.1 at_n i l from to
+
     data_stopped : (n : MemberView) → IsMember old.array k n → (h : HaltsBy k st.last new) → AtDevice k old.disks new.disks (KeepsDataBut n h.member)
     data_stopped n at_n h d g at_d at_g =
         let e = pre.disk_then k d at_d in
@@ -921,21 +1030,44 @@ module _ (target : ℕ) where
         let size_y = st.rest.size k o.0 y.0 o.1 y.1 in
         let same : y.0 ≡ h.member = same_Some y.0 h.member (sym y.1 ∙ ap (λ (xs : List MemberView). slice_get xs k) (sym h.on.members) ∙ h.in_sync.member) in
         subst (λ (z : MemberView). KeepsDataBut n z d g) same
-        (data_but n y.0 d x.0 g (offset_y ∙ offset) (size_y ∙ size)
-        (λ i l from to.
-        st.rest.keeps k e.0 x.0 o.0 e.1 x.1 o.1 i l (omega (arith, offset, from)) (omega (arith, offset, size, to)) ∙ pre.others k d e.0 n other at_d e.1 at_n i l from to)
-        (h.on.keeps y.0 y.1 x.0 g x.1 at_g))
+        (data_but n y.0 d x.0 g (offset_y ∙ offset) (size_y ∙ size) (data_last n at_n d x.0 at_d x.1) (h.on.keeps y.0 y.1 x.0 g x.1 at_g))
+
+    data_before : (x n : MemberView) → IsMember old.array k x → IsMember new.array k n → AtDevice k old.disks new.disks (KeepsDataBut x n)
+    data_before x n at_x at_n d g at_d at_g = elim st.lost [
+      | inl lost ↦ inl (data_last x at_x d g at_d (sym (st.lasts.keeps k other (λ named. lost.running)) ∙ at_g))
+      | inr h ↦ subst (λ (z : MemberView). KeepsDataBut x z d g) (same_Some h.member n (sym h.in_sync.member ∙ at_n)) (data_stopped x at_x h d g at_d at_g)
+    ]
+
+    states_before : StatesStay target (MetadataFault k) a.array st.last.array
+    states_before j x y beside apart at_x at_y = st.states j x y (λ same. apart (ap (λ i. MetadataFault i) (sym same))) at_x at_y
+
+    lost_before : IsLost k old.array new.array ⊎ HasHalted k old new
+    lost_before = elim st.lost [
+      | inl lost ↦
+          inl (record {
+            was = λ x at_x. (let o = pre.then k x at_x in sym (ap is_recorded (grows.states k x o.0 other at_x o.1)) ∙ lost.was o.0 o.1);
+            running = lost.running;
+            member = lost.member;
+            at = lost.at;
+            faulty = lost.faulty;
+          })
+      | inr h ↦
+          inr (record {
+            failed = fails_after target k [] [] old a new pre grows (fails_rest target k a st.last new st.rest h.on.failed);
+            halted = h.on.halted;
+            member = h.member;
+            in_sync = h.in_sync;
+            alone = h.alone;
+          })
+    ]
 
     ended_before : HasEnded target (MetadataFault k) old new
     ended_before =
-        has_ended target (MetadataFault k) (none_made old.array m) old a st.last new at pre grows st.rest st.lasts (made_none old.array m)
+        has_ended target (MetadataFault k) (none_made old.array m) old a st.last new at pre grows st.rest st.lasts states_before (made_none old.array m)
         (λ now there. record {
           other = other;
-          lost = elim st.lost [
-            | inl lost ↦ inl lost
-            | inr h ↦ inr (record { halted = h.on.halted; member = h.member; in_sync = h.in_sync; alone = h.alone; kept = λ n at_n. data_stopped n at_n h })
-          ];
-          when = inl (when now (sym (ap (λ (xs : List MemberView). slice_get xs target) st.lasts.members) ∙ there), refl);
+          lost = lost_before;
+          when = inl (record { target_is = when now (sym (ap (λ (xs : List MemberView). slice_get xs target) st.lasts.members) ∙ there); noted = refl; kept = data_before });
           stand = λ running. stand_none target old.array new;
         })
 
@@ -971,10 +1103,10 @@ module _ (target : ℕ) where
   refused_ended old new sound TargetFault (inl h) =
       let f = h.why in
       let runs = f.stores.ready.halted ∙ h.may.settled.has_target.running in
-      ended_rest TargetFault old new h.member h.at (rest_unrecorded target old new f)
+      ended_rest TargetFault old new h.member h.at (rest_unrecorded target old new f) (states_stored TargetFault old f.mid new f.stores f.fails.array)
       (λ now there. record {
         running = ap (λ (a : ArrayView). a.halted) f.fails.array ∙ runs;
-        failed = fails_rest target old f.mid new (rest_stores target old f.mid f.stores) f.fails.disks.failed;
+        failed = fails_rest target target old f.mid new (rest_stores target old f.mid f.stores) f.fails.disks.failed;
         target_is = inl (as_before old new h.member now h.at there (still_unrecorded target old new f));
         noted = refl;
         stand = stand_none target old.array new;
@@ -982,10 +1114,10 @@ module _ (target : ℕ) where
   refused_ended old new sound TargetFault (inr (inl h)) =
       let f = h.why in
       let runs = f.first.stores.ready.halted ∙ h.may.settled.has_target.running in
-      ended_rest TargetFault old new h.member h.at (rest_unadmitted target old new f)
+      ended_rest TargetFault old new h.member h.at (rest_unadmitted target old new f) (states_stored TargetFault old f.stored new f.first.stores f.fails.array)
       (λ now there. record {
         running = ap (λ (a : ArrayView). a.halted) f.fails.array ∙ runs;
-        failed = fails_rest target old f.stored new (rest_stores target old f.stored f.first.stores) f.fails.disks.failed;
+        failed = fails_rest target target old f.stored new (rest_stores target old f.stored f.first.stores) f.fails.disks.failed;
         target_is = inl (as_before old new h.member now h.at there (still_unadmitted target old new f));
         noted = refl;
         stand = stand_none target old.array new;
@@ -993,7 +1125,7 @@ module _ (target : ℕ) where
   refused_ended old new sound TargetFault (inr (inr e)) = ended_target target old e.ready e.none e.begins new e.why
   refused_ended old new sound NoMemory (inl h) = elim h.why [
     | inl same ↦
-        ended_rest NoMemory old new h.member h.at (subst (KeepsRest target old) (sym same) (rest_none target old))
+        ended_rest NoMemory old new h.member h.at (subst (KeepsRest target old) (sym same) (rest_none target old)) (states_same target NoMemory old.array new.array (ap (λ (v : MirrorView). v.array) same))
         (λ now there. record {
           running = ap (λ (v : MirrorView). v.array.halted) same ∙ h.may.settled.has_target.running;
           target_is = inl (as_before old new h.member now h.at there (still_same target old new (ap (λ (v : MirrorView). v.array) same)));
@@ -1001,7 +1133,7 @@ module _ (target : ℕ) where
           stand = stand_none target old.array new;
         })
     | inr lacks ↦
-        ended_rest NoMemory old new h.member h.at (rest_stores target old new lacks.first.stores)
+        ended_rest NoMemory old new h.member h.at (rest_stores target old new lacks.first.stores) (states_stored NoMemory old new new lacks.first.stores refl)
         (λ now there. record {
           running = lacks.first.stores.ready.halted ∙ h.may.settled.has_target.running;
           target_is = inl (as_before old new h.member now h.at there (still_stored target old new lacks.first.stores));
@@ -1029,6 +1161,9 @@ module _ (target : ℕ) where
         running = runs_then target old e.ready e.none e.begins (LogFull k) x.s h.copied h.stopped new x.ends h.leaves;
         rebuilt = so_far_then target old e.ready e.none e.begins (LogFull k) x.s h.copied h.stopped new x.ends h.leaves x.s.copied to now there;
         copied = x.by;
-        noted = elim (room_then target old e.ready e.none e.begins (LogFull k) x.s h.copied h.stopped new x.ends h.leaves k x.noted) [ inl own ↦ inl own | inr some ↦ inr (some_with x.s.copied x.s (LacksRoomFor k new.array) some) ];
+        noted = elim (room_then target old e.ready e.none e.begins (LogFull k) x.s h.copied h.stopped new x.ends h.leaves k x.noted) [
+          | inl own ↦ inl (own.0, own_with target x.s old.array new.array own.1)
+          | inr some ↦ inr (some_with x.s.copied x.s (LacksRoomFor k new.array) some)
+        ];
         stand = stand_then target old e.ready e.none e.begins (LogFull k) x.s h.copied h.stopped new x.ends h.leaves;
       })

@@ -4,7 +4,7 @@ use Rattle.std.proofs.lemmas.Bool.{both_ways, cases_eq}
 use Rattle.std.proofs.lemmas.Option.{same_Some, slice_get-get_or, slice_get_within}
 use Rattle.std.proofs.Math.Nat.{le-max_left}
 use Rattle.md_assembly.proofs.Indices.{got_within}
-use Rattle.md_assembly.specs.States.{is_in_sync, is_recovering, is_spare}
+use Rattle.md_assembly.specs.States.{is_in_sync, is_in_sync_as, is_recorded, is_recovering, is_spare}
 use Rattle.md_badblocks.specs.declared.run.Run.{Run}
 use Rattle.md_badblocks.specs.Runs.{IsBad}
 use Rattle.md_bitmap.specs.Marks.{Bitmap, is_set}
@@ -98,7 +98,8 @@ pub record StopsSo (target k : ℕ) (old new : MirrorView) : Type 0 where
   pub rest : KeepsRest target old last
   pub still : StaysStill target old last
   pub lasts : Lasts target (MetadataFault k) last new
-  pub lost : IsLost k new.array ⊎ HaltsBy k last new
+  pub lost : IsLost k old.array new.array ⊎ HaltsBy k last new
+  pub states : (j : ℕ) (m n : MemberView) → j ≢ k → IsMember old.array j m → IsMember last.array j n → n.state ≡ m.state
 
 pub stops_so : (target k : ℕ) (old new : MirrorView) → old.array.halted ≡ false → StopsAt target k old new → StopsSo target k old new
 stops_so target k old new running h = elim h.ends [
@@ -111,7 +112,14 @@ stops_so target k old new running h = elim h.ends [
         rest = rest_stored target old new (storing_keeps old new goes) goes.sound state;
         still = λ m n at there. (state m n at there, ap (λ (v : Superblock). v.recovery_offset) ((storing_keeps old new goes).each target m n at there).superblock);
         lasts = lasts_none target (MetadataFault k) new;
-        lost = inl (record { running = lost.loses.halted ∙ running; member = lost.faulty.member; at = lost.faulty.at; faulty = lost.faulty.faulty });
+        lost = inl (record {
+          was = λ m at. ap (λ (z : MemberView). is_recorded z.state) (same_Some m lost.was.member (sym at ∙ lost.was.at)) ∙ lost.was.recorded;
+          running = lost.loses.halted ∙ running;
+          member = lost.faulty.member;
+          at = lost.faulty.at;
+          faulty = lost.faulty.faulty;
+        });
+        states = λ j m n apart at there. (let x = storing_states j k old new (λ same. apart (sym same)) lost n there in x.2 ∙ ap (λ (z : MemberView). z.state) (same_Some x.0 m (sym x.1 ∙ at)));
       }
   | inr at ↦
       let on = halts_on k at.mid new at.stores.goes.sound at.failing at.of at.named (at.halts (λ n. None)) in
@@ -121,6 +129,7 @@ stops_so target k old new running h = elim h.ends [
         still = still_stored target old at.mid at.stores;
         lasts = lasts_halted target k at.mid new h.other on;
         lost = inr (record { on = on; member = at.member; in_sync = at.in_sync; alone = at.alone });
+        states = λ j m n apart at_m there. ap (λ (z : MemberView). z.state) (as_was target old at.mid at.stores j m n at_m there);
       }
 ]
 
@@ -281,7 +290,7 @@ module _ (target : ℕ) (copied : Bitmap) (v w : MirrorView) (sound : IsConsiste
   m = r.may.member
 
   -- the target is as it was, but for its offset
-  own_is : (l n : MemberView) → IsMember v.array target l → IsMember w.array target n → n ≡ record (with_offset r.offset l) { due = false }
+  pub own_is : (l n : MemberView) → IsMember v.array target l → IsMember w.array target n → n ≡ record (with_offset r.offset l) { due = false }
   own_is l n at there = checkpointed_is target copied v w sound r n there ∙ ap (λ (z : MemberView). record (with_offset r.offset z) { due = false }) (same_Some m l (sym r.may.at ∙ at))
 
   other_same : (k : ℕ) → k ≢ target → (l n : MemberView) → IsMember v.array k l → IsMember w.array k n → n ≡ l

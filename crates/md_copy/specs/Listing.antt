@@ -182,6 +182,7 @@ pub record StopsAtList (failed : List Slot) (k : ℕ) (old new : MirrorView) : T
   pub own : (m n : MemberView) → IsMember old.array k m → IsMember new.array k n
       → (n.state ≡ m.state) ⊎ ((n.state ≡ Faulty) × AtDevice k old.disks new.disks (Fails of_disks))
   pub others : (j : ℕ) (m : MemberView) → j ≢ k → IsMember old.array j m → is_in_sync m.state ≡ true → IsListOn m.bad j new ⊎ (slice_get new.disks j ≡ slice_get old.disks j)
+  pub counted : AtDevice k old.disks new.disks (Fails of_disks)
   pub writes : WritesMetadata old new
 
 abbrev pub StopsStoringLists : List Slot → MirrorView → MirrorView → RebuildFault → Type 0

@@ -2,7 +2,7 @@
 use Rattle.std.specs.Prelude.{◌≡◌, ◌≢◌, ◌⊎◌, ◌↔◌, ℕ, ◌+◌, ◌*◌, ◌<◌, ◌≤◌, Bool, true, false, List, [], ◌∷◌, ◌++◌, cond, length, max, slice_get, All, Some}
 use Rattle.std.specs.List.{Any}
 use Rattle.md_assembly.specs.declared.state.MemberState.TheVariants.{Faulty}
-use Rattle.md_assembly.specs.States.{is_in_sync, is_in_sync_as, is_recovering, is_spare}
+use Rattle.md_assembly.specs.States.{is_in_sync, is_in_sync_as, is_recorded, is_recovering, is_spare}
 use Rattle.md_badblocks.specs.declared.run.Run.{Run}
 use Rattle.md_badblocks.specs.Runs.{IsBad}
 use Rattle.md_bitmap.specs.Marks.{Bitmap, is_set}
@@ -14,6 +14,7 @@ use Rattle.md_members.specs.Reading.{BitmapStartsAt}
 use Rattle.md_super.specs.declared.superblock.Superblock.{Superblock}
 use Rattle.md_state.specs.Checkpoints.{Stops}
 use Rattle.md_state.specs.DiskWrites.{AtDevice}
+use Rattle.md_state.specs.Enrolling.{HasFullLog}
 use Rattle.md_state.specs.Members.{IsInSync, IsMember}
 use Rattle.md_state.specs.NotingBad.{HasFullLogFor}
 use Rattle.md_state.specs.View.{ArrayView, Disk, MirrorView, of_disks}
@@ -27,6 +28,7 @@ use Rattle.md_copy.specs.declared.fault.RebuildFault.{RebuildFault}
 use Rattle.md_copy.specs.declared.fault.RebuildFault.TheVariants.{Halted, NotSpare, Dirty, InFlight, LogFull, NoMemory, TargetFault, MetadataFault, EventsFull}
 use Rattle.md_copy.specs.Filling.{CountsFailed}
 use Rattle.md_copy.specs.Listing.{HasFailed}
+use Rattle.md_copy.specs.Preparing.{is_in, uncopied_chunks}
 use Rattle.md_copy.specs.Rebuilt.{KeepStates, ListsGrow, failed_of}
 use Rattle.md_copy.specs.Sources.{missing_chunks}
 
@@ -39,7 +41,8 @@ AreListed (p ∷ ps) a chunks b left =
     IsArrayPass a chunks p × (p.failed ≢ []) × ((c : ArrayView) × ListsFailed p.failed a c × AreListed ps c (failed_chunks p) b left)
 
 -- The passes of a call that was refused: those of which all that failed was listed and stored, and then at most one that was planned. Of its slots that
--- failed these are listed in memory alone. These chunks were copied when it was recorded for the last time how far the target is rebuilt.
+-- failed these are listed in memory, and not all of them stored. These chunks were copied when it was recorded for the last time how far the target is
+-- rebuilt.
 pub record Ending : Type 0 where
   pub member : MemberView  -- the target, as it was
   pub listed : List PassView
@@ -117,7 +120,7 @@ ListsStand target stored old new =
     (k : ℕ) (m n : MemberView) (e : Disk) → k ≢ target → IsMember old k m → HasFailed stored m → IsMember new.array k n → is_in_sync n.state ≡ true
     → slice_get new.disks k ≡ Some e → e.honest ≡ true → HasListWithin (λ sector. IsBad m.bad sector ⊎ IsOfFailed old.chunks stored m sector) n.bad e.content
 
--- Of the slots of the last pass that failed the first are listed in memory alone, and this one is not, for this reason.
+-- Of the slots of the last pass that failed the first are listed in memory, and this one is not, for this reason.
 pub record NotesSome (s : Ending) (Why : Slot → Type 0) : Type 0 where
   pub pass : PassView
   pub last : s.last ≡ pass ∷ []
@@ -131,6 +134,19 @@ pub record LacksRoomFor (k : ℕ) (a : ArrayView) (slot : Slot) : Type 0 where
   pub full : HasFullLogFor k slot.chunk a
   pub own : is_in_sync_as slot.source full.member.state ≡ true
 
+-- All passes are made: in the last no slot failed. The target would list the orphans, and no more those of the chunks that were copied which it lacked
+-- still, and for this list its log has no room.
+pub record LacksOwnRoomFor (target : ℕ) (s : Ending) (old new : ArrayView) : Type 0 where
+  pub pass : PassView
+  pub last : s.last ≡ pass ∷ []
+  pub done : pass.failed ≡ []
+  pub none : s.noted ≡ []
+  pub kept : Bitmap
+  pub kept_are : (c : ℕ) → c < old.marks.chunks → is_set kept.bytes c ≡ true → is_set s.copied.bytes c ≡ true
+  pub orphans : Bitmap
+  pub orphans_are : (c : ℕ) → is_set orphans.bytes c ≡ is_in (uncopied_chunks old s.member s.copied) c
+  pub full : HasFullLog target kept orphans new
+
 -- All of them are.
 pub record NotesAll (s : Ending) : Type 0 where
   pub pass : PassView
@@ -138,11 +154,12 @@ pub record NotesAll (s : Ending) : Type 0 where
   pub slots : pass.failed ≡ s.noted
 
 -- ---- the member that failed
--- it is faulty, and the mirror runs
-pub record IsLost (k : ℕ) (a : ArrayView) : Type 0 where
-  pub running : a.halted ≡ false
+-- it was kept up to date, and is faulty, and the mirror runs
+pub record IsLost (k : ℕ) (old new : ArrayView) : Type 0 where
+  pub was : (m : MemberView) → IsMember old k m → is_recorded m.state ≡ true
+  pub running : new.halted ≡ false
   pub member : MemberView
-  pub at : IsMember a k member
+  pub at : IsMember new k member
   pub faulty : member.state ≡ Faulty
 
 -- a sector that lies where the member's bitmap starts, or after that
@@ -162,13 +179,13 @@ KeepsDataBeside sector m d e =
 abbrev pub KeepsDataBut : MemberView → MemberView → Disk → Disk → Type 0
 KeepsDataBut m n d e = KeepsData m d e ⊎ ((sector : ℕ) × IsFromMarks n sector × KeepsDataBeside sector m d e)
 
--- it is in sync still, no other member is, and the mirror is halted
+-- its device failed, it is in sync still, no other member is, and the mirror is halted
 pub record HasHalted (k : ℕ) (old new : MirrorView) : Type 0 where
+  pub failed : AtDevice k old.disks new.disks (Fails of_disks)
   pub halted : new.array.halted ≡ true
   pub member : MemberView
   pub in_sync : IsInSync new.array k member
   pub alone : (j : ℕ) (n : MemberView) → IsInSync new.array j n → j ≡ k
-  pub kept : (m : MemberView) → IsMember old.array k m → AtDevice k old.disks new.disks (KeepsDataBut m member)
 
 -- ---- by the fault
 -- Nothing was done.
@@ -194,31 +211,35 @@ pub record EndsWithoutMemory (target : ℕ) (s : Ending) (now : MemberView) (old
   pub noted : (s.noted ≡ []) ⊎ NotesSome s (λ next. Unit {0})
   pub stand : ListsStand target (failed_of s.listed) old.array new
 
--- The mirror runs, and the target is recovering, rebuilt as far as the passes have copied, the last among them. A slot failed of member k, whose log has no room for the chunk; or k is the target, all passes are
--- made, and all that is listed stands on the devices.
+-- The mirror runs, and the target is recovering, rebuilt as far as the passes have copied, the last among them. A slot failed of member k, whose log has no
+-- room for the chunk; or k is the target, all passes are made, and its log has no room for its list.
 pub record EndsWithoutRoom (target k : ℕ) (s : Ending) (now : MemberView) (old new : MirrorView) : Type 0 where
   pub running : new.array.halted ≡ false
   pub rebuilt : IsRebuiltSoFar old.array s now
   pub copied : AreCopiedBy (s.listed ++ s.last) s.copied
-  pub noted : ((k ≡ target) × (s.noted ≡ []) × (failed_of s.last ≡ []))
-      ⊎ NotesSome s (LacksRoomFor k new.array)
+  pub noted : ((k ≡ target) × LacksOwnRoomFor target s old.array new.array) ⊎ NotesSome s (LacksRoomFor k new.array)
   pub stand : ListsStand target (failed_of s.listed) old.array new
 
--- Its list was to be stored, as slots of it failed.
-pub record LosesSource (k : ℕ) (s : Ending) (now : MemberView) (old : MirrorView) : Type 0 where
+-- It was to store marks or a superblock before a pass. The target is what it was, or was admitted.
+pub record LosesBefore (k : ℕ) (s : Ending) (now : MemberView) (old new : MirrorView) : Type 0 where
+  pub target_is : IsAsBefore s now ⊎ IsAdmitted s now
+  pub noted : s.noted ≡ []
+  pub kept : (m n : MemberView) → IsMember old.array k m → IsMember new.array k n → AtDevice k old.disks new.disks (KeepsDataBut m n)
+
+-- It was to store its list after a pass, as slots of it failed. All that failed in this pass is listed in memory. The target is recovering, rebuilt as far
+-- as the passes have copied, the last among them.
+pub record LosesSource (k : ℕ) (s : Ending) (now : MemberView) (old new : MirrorView) : Type 0 where
   pub rebuilt : IsRebuiltSoFar old.array s now
   pub copied : AreCopiedBy (s.listed ++ s.last) s.copied
   pub noted : NotesAll s
   pub source : (m : MemberView) → IsMember old.array k m → HasFailed s.noted m
+  pub kept : (m : MemberView) → IsMember old.array k m → AtDevice k old.disks new.disks (KeepsData m)
 
--- Member k, another one, is faulty, or has halted the mirror. It was to store marks or a superblock before a pass: then the target is what it was, or
--- was admitted. Or it was to store its list after one: then the target is recovering, rebuilt as far as the passes have copied, the last among them, and
--- all that failed in this one is listed in memory.
+-- A write to member k, another one, failed: it is faulty, or has halted the mirror.
 pub record EndsWithMember (target k : ℕ) (s : Ending) (now : MemberView) (old new : MirrorView) : Type 0 where
   pub other : k ≢ target
-  pub lost : IsLost k new.array ⊎ HasHalted k old new
-  pub when : ((IsAsBefore s now ⊎ IsAdmitted s now) × (s.noted ≡ []))
-      ⊎ LosesSource k s now old
+  pub lost : IsLost k old.array new.array ⊎ HasHalted k old new
+  pub when : LosesBefore k s now old new ⊎ LosesSource k s now old new
   pub stand : new.array.halted ≡ false → ListsStand target (failed_of s.listed) old.array new
 
 abbrev pub EndsSo : ℕ → RebuildFault → Ending → MemberView → MirrorView → MirrorView → Type 0
@@ -239,10 +260,15 @@ OthersKeep target fault old new =
     (j : ℕ) (d e : Disk) (m : MemberView) → j ≢ target → (fault ≡ MetadataFault j → new.array.halted ≡ false)
     → slice_get old.disks j ≡ Some d → slice_get new.disks j ≡ Some e → IsMember old.array j m → KeepsData m d e
 
+-- each other member is in the state in which it was, but for one whose metadata could not be stored
+abbrev pub StatesStay : ℕ → RebuildFault → ArrayView → ArrayView → Type 0
+StatesStay target fault old new =
+    (k : ℕ) (m n : MemberView) → k ≢ target → fault ≢ MetadataFault k → IsMember old k m → IsMember new k n → n.state ≡ m.state
+
 -- Whatever the fault is: the target is in the state in which it was, or it was a spare and is recovering. How far it is rebuilt is no less than before,
 -- its list is as before, and so are its data beside what it lacked. The data of all other members are as before, their lists grew by slots that
--- failed alone, which the devices have counted, and their states are as before where no write to them failed. A mirror that was halted on the way is
--- spoken of as it is.
+-- failed alone, which the devices have counted, and their states are as before, but for the one that the fault names where a write to it failed. A mirror
+-- that was halted on the way is spoken of as it is.
 pub record HasEnded (target : ℕ) (fault : RebuildFault) (old new : MirrorView) : Type 0 where
   pub ending : Ending
   pub at : IsMember old.array target ending.member
@@ -258,4 +284,5 @@ pub record HasEnded (target : ℕ) (fault : RebuildFault) (old new : MirrorView)
   pub lists : ListsGrow target (failed_of ending.listed ++ ending.noted) old.array new.array
   pub counted : CountsFailed (failed_of (ending.listed ++ ending.last)) old new
   pub states : KeepStates target (failed_of (ending.listed ++ ending.last)) old new
+  pub still : StatesStay target fault old.array new.array
   pub so : EndsSo target fault ending now old new
