@@ -691,6 +691,22 @@ CASES = [
         ],
     ),
     (
+        "members by their images",
+        {"a": ZEROS, "b": ZEROS, "c": ZEROS, "0": ZEROS},
+        [
+            create("raid1", 2, 4, "--assume-clean a b", output=CLEAN, changes="a b"),
+            Step("fail --member b a b", "in sync 1 of 2, events 2, marked 0\n", changes="a"),
+            Step("fail --member b b a", fault="NotActive"),
+            Step("remove --member b a b", "in sync 1 of 2, events 2, marked 0\n"),
+            Step("add --device c a", "in sync 1 of 2, events 3, marked 0\n", changes="a c"),
+            Step("rebuild --member c a c", ("rounds 8, chunks 8, orphans 0\n", "rebuilt member 1, passes 1, orphans 0\n"), changes="a c"),
+            Step("plan --member c c a", fault="NotSpare"),
+            # A number is a place, also where an image has that name.
+            Step("fail --member 0 a 0", fault="Member 1 Super Magic"),
+            Step("fail --member 2 a c", fault="BadMember"),
+        ],
+    ),
+    (
         "a third member is rebuilt",
         THREE,
         [

@@ -96,7 +96,9 @@ fn data_advice(fault: DataFault) -> &'static str {
         DataFault::InputFault => "see why its file or program fails; nothing was written",
         DataFault::BadLength => "give it a multiple of 512 bytes",
         DataFault::OutOfRange => WITHIN_ARRAY,
-        DataFault::BadMember => "count the images from 0, in the order in which they are named",
+        DataFault::BadMember => {
+            "count the images from 0, in the order in which they are named, or give `--member` an image as it is listed"
+        }
         DataFault::Fail(fault) => fail_advice(fault),
         DataFault::Remove(fault) => remove_advice(fault),
         DataFault::Add(fault) => add_advice(fault),

@@ -1,9 +1,8 @@
 // One command.
 ghost use Rattle.std.specs.Prelude.{◌≡◌, ◌≢◌, ◌⊎◌, [], IfOk};
-ghost use Rattle.clap.specs.Words.{FailsBy, fault_of};
-ghost use Rattle.md_words.specs.Asked.{asked, image_words};
+ghost use Rattle.clap.specs.Words.{FailsBy};
+ghost use Rattle.md_words.specs.Asked.{asked, image_words, words_fault};
 ghost use Rattle.md_words.specs.Asks.{ask_of, options_of};
-ghost use Rattle.md_words.specs.Words.{mdcli};
 ghost use Rattle.md_cli.specs.Arrays.{texts};
 ghost use Rattle.md_cli.specs.Running.{Does, DoesCommand, IsIdle, MakesArray, status_of};
 ghost use Rattle.md_cli.specs.Streams.{streams_of, told_of};
@@ -57,10 +56,10 @@ pub fn run<
 ) -> u8
     requires asks { IfOk parsed (λ r. ask_of r.command ≡ asked (texts words.now)) }
     requires images { IfOk parsed (λ r. texts r.images.items ≡ image_words (texts words.now)) }
-    requires fails { FailsBy (fault_of mdcli (texts words.now)) parsed }
-    ensures refused { fault_of mdcli (texts words.entry.now) ≢ [] →
+    requires fails { FailsBy (words_fault (texts words.now)) parsed }
+    ensures refused { words_fault (texts words.entry.now) ≢ [] →
         (result ≡ 2) × IsIdle images.old images.new (streams_of session.old) (streams_of session.new) }
-    ensures taken { fault_of mdcli (texts words.entry.now) ≡ [] →
+    ensures taken { words_fault (texts words.entry.now) ≡ [] →
         ((result ≡ 2) × IsIdle images.old images.new (streams_of session.old) (streams_of session.new))
         ⊎ DoesCommand I.Images I.Dev.Device R.Source S.Sink
         (asked (texts words.entry.now)) (image_words (texts words.entry.now))

@@ -1,12 +1,14 @@
 -- The command line as a value, and its image words.
-use Rattle.std.proofs.Common.{◌≡◌, ◌||◌, Bool, true, false, ap₂, List, [], Option, Some, None, codes, refl, sym, ap, ◌∙◌, option_map, unwrap_or, IsSomeAnd}
+use Rattle.std.proofs.Common.{◌≡◌, ◌||◌, ◌∷◌, Bool, true, false, ap₂, List, [], Option, inl, inr, subst, Some, None, codes, refl, sym, ap, ◌∙◌, option_map, unwrap_or, IsSomeAnd}
 use Rattle.std.specs.Box.{box_value}
 use Rattle.clap.proofs.OnLiterals.{clap_on_literals}
 use Rattle.clap.proofs.WalkLemmas.{raw_values-rows}
 use Rattle.clap.specs.declared.parser.matches.Found.{Found}
 use Rattle.clap.specs.declared.parser.matches.ArgMatches.{ArgMatches}
 use Rattle.clap.specs.declared.parser.matches.ArgMatches.TheViews.{out-ArgMatches, out-SubCommand}
-use Rattle.clap.specs.Words.{Row, Text, matched_of, raw_values, rule_of, rows_of, found_of, is_simple, is_simple_and_free, subcommand_name_of, subcommand_rows_of}
+use Rattle.clap.specs.Kinds.{or_else}
+use Rattle.clap.specs.declared.error.Error.{Error}
+use Rattle.clap.specs.Words.{HasKind, Kinds, Row, Text, matched_of, raw_values, rule_of, rows_of, found_of, is_simple, is_simple_and_free, subcommand_name_of, subcommand_rows_of}
 use Rattle.clap.specs.declared.builder.arg.Arg.{Arg}
 use Rattle.clap.specs.declared.builder.range.ValueRange.{ValueRange}
 use Rattle.std.specs.Borrow.{Bor}
@@ -82,3 +84,17 @@ verbose_read m name f is = sym (ap verbose_in is)
 -- a command gets no global argument with one that is local
 pub no_globals : (old arg new : Bool) → new ≡ (old || arg) → old ≡ false → arg ≡ false → new ≡ false
 no_globals old arg new e first second = e ∙ ap₂ (λ a b. a || b) first second
+
+-- what fails first decides, and what is looked at next only where nothing did
+pub first_fails : (first next : Kinds) (e : Error) → HasKind first e → HasKind (or_else first next) e
+first_fails [] next e h = elim h [
+  | inl memory ↦ inl memory
+  | inr none ↦ absurd none
+]
+first_fails (k ∷ ks) next e h = h
+
+pub next_fails : (first next : Kinds) (e : Error) → first ≡ [] → HasKind next e → HasKind (or_else first next) e
+next_fails first next e empty h = subst (λ (f : Kinds). HasKind (or_else f next) e) (sym empty) h
+
+pub none_fails : (first next : Kinds) → first ≡ [] → next ≡ [] → or_else first next ≡ []
+none_fails first next empty rest = ap (λ (f : Kinds). or_else f next) empty ∙ rest

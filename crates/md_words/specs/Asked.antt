@@ -1,10 +1,12 @@
 -- How a command comes from the words.
-use Rattle.std.specs.Prelude.{ℕ, ◌^◌, Bool, false, List, [], Option, Some, None, ◌&&◌, codes, length, nat_lt, option_map, unwrap_or, if◌then◌else◌}
+use Rattle.std.specs.Prelude.{ℕ, ◌^◌, Bool, false, List, [], ◌∷◌, Option, Some, None, ◌&&◌, codes, is_none, length, min, nat_lt, option_map, position, unwrap_or, if◌then◌else◌}
 use Rattle.std.specs.List.{list_all}
 use Rattle.std.specs.Str.{bytes_eq}
 use Rattle.std.specs.Str.Parse.{digits_value, without_leading_plus}
 use Rattle.std.specs.Char.{digit_value}
-use Rattle.clap.specs.Words.{Row, Text, all_of, first_of, subcommand_of}
+use Rattle.clap.specs.Kinds.{or_else}
+use Rattle.clap.specs.Words.{Kinds, Row, Text, all_of, fault_of, first_of, subcommand_of}
+use Rattle.clap.specs.declared.error.kind.ErrorKind.TheVariants as kind
 use Rattle.md_words.specs.Words.{mdcli}
 use Rattle.md_words.specs.Asks.{Ask, Options, examines, examines_bitmap, examines_badblocks, creates, assembles, details, plans, reads, checks, writes, resyncs, stops, fails, removes, adds, re_adds, rebuilds}
 
@@ -18,6 +20,11 @@ abbrev pub number_of : ℕ → Text → ℕ
 number_of bits text =
     let digits = without_leading_plus text in
     if is_number digits && nat_lt (digits_value 10 digits) (2 ^ bits) then digits_value 10 digits else 0
+
+abbrev pub is_number_of : ℕ → Text → Bool
+is_number_of bits text =
+    let digits = without_leading_plus text in
+    is_number digits && nat_lt (digits_value 10 digits) (2 ^ bits)
 
 -- the value of an option among a command's, empty where it has none
 abbrev pub text_in : Text → List Row → Text
@@ -43,9 +50,24 @@ options_in rows = record {
 abbrev pub readonly_in : List Row → Bool
 readonly_in rows = bytes_eq (text_in (codes "readonly") rows) (codes "true")
 
+-- the images that a command names
+abbrev pub listed_in : List Row → List Text
+listed_in rows = unwrap_or (all_of (codes "image") rows) []
+
+-- the place among images of the first of this name; 2^32 - 1 stands for all that are greater, at which no array has a member
+abbrev pub place_in : List Text → Text → Option ℕ
+place_in images name = option_map (λ place. min place 4294967295) (position (λ image. bytes_eq image name) images)
+
+-- the member that a text says: a number is its place among the images, and any other text the image as it is listed
+abbrev pub member_at : List Text → Text → Option ℕ
+member_at images text = if is_number_of 32 text then Some (number_of 32 text) else place_in images text
+
+abbrev pub member_of : List Row → Option ℕ
+member_of rows = member_at (listed_in rows) (text_in (codes "member") rows)
+
 -- the member, the sector and the number of sectors that a command names
 abbrev pub member_in : List Row → ℕ
-member_in rows = number_in 32 (codes "member") rows
+member_in rows = unwrap_or (member_of rows) 0
 
 abbrev pub sector_in : List Row → ℕ
 sector_in rows = number_in 64 (codes "sector") rows
@@ -80,7 +102,7 @@ asks_in (Some p) = asks_of p.0 p.1
 
 abbrev pub images_in : Option (Text × List Row) → List Text
 images_in None = []
-images_in (Some p) = unwrap_or (all_of (codes "image") p.1) []
+images_in (Some p) = listed_in p.1
 
 -- whether more is to be said of a refusal
 abbrev pub verbose_of : List Row → Bool
@@ -101,3 +123,19 @@ image_words words = images_in (subcommand_of mdcli words)
 -- whether the words ask that more is said of a refusal
 unfoldable pub is_verbose : List Text → Bool
 is_verbose words = verbose_in (subcommand_of mdcli words)
+
+-- whether a member is named that is neither a number nor listed
+abbrev pub is_unknown : Option Text → Option ℕ → Bool
+is_unknown None member = false
+is_unknown (Some text) member = is_none member
+
+abbrev pub names_no_member : List Row → Bool
+names_no_member rows = is_unknown (first_of (codes "member") rows) (member_of rows)
+
+abbrev pub member_fault : Option (Text × List Row) → Kinds
+member_fault None = []
+member_fault (Some p) = if names_no_member p.1 then kind.ValueValidation ∷ [] else []
+
+-- why the words are not taken: for what the parser says, or else for the member that they name
+unfoldable pub words_fault : List Text → Kinds
+words_fault words = or_else (fault_of mdcli words) (member_fault (subcommand_of mdcli words))

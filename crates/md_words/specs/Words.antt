@@ -48,9 +48,9 @@ with_images a = completed (with_rule a (flag_rule (codes "readonly")))
 abbrev pub array_app : Text → App
 array_app name = with_images (new_app name)
 
--- an option that is a member of the array
+-- an option that is a member of the array, by its place or its image
 abbrev pub with_member : App → App
-with_member a = with_rule a (required (u32_rule (codes "member")))
+with_member a = with_rule a (required (value_rule (codes "member")))
 
 abbrev pub plan_app : App
 plan_app = with_images (with_member (new_app (codes "plan")))

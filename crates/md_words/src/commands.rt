@@ -42,8 +42,8 @@ const READONLY: OptionWords = OptionWords {
 const MEMBER: OptionWords = OptionWords {
     name: "member",
     value: "N",
-    help: "The member, by its place among the images, from 0",
-    kind: Kind::U32,
+    help: "The member: its place among the images, from 0, or its image as it is listed",
+    kind: Kind::Text,
     required: true,
     default: None,
 };

@@ -1,14 +1,16 @@
 // Reading the words.
-ghost use Rattle.std.specs.Prelude.{◌≡◌, IfOk, [], codes, map, option_map, unwrap_or};
+ghost use Rattle.std.specs.Prelude.{◌≡◌, IfOk, [], codes, map, option_map, position, unwrap_or};
+ghost use Rattle.std.specs.Str.{bytes_eq};
 ghost use Rattle.clap.specs.Words.{FailsBy, fault_of, first_of, found_of, matched_of, raw_values, rows_of, subcommand_of, subcommand_rows_of};
 ghost use Rattle.md_words.specs.Words.{mdcli};
-ghost use Rattle.md_words.specs.Asked.{asked, asks_in, asks_of, image_words, images_in, is_verbose, member_in, number_in, number_of, options_in, readonly_in, text_in, verbose_in, verbose_of};
+ghost use Rattle.md_words.specs.Asked.{asked, asks_in, asks_of, image_words, images_in, is_verbose, member_at, member_fault, member_in, member_of, names_no_member, number_in, number_of, options_in, place_in, readonly_in, text_in, verbose_in, verbose_of, words_fault};
 ghost use Rattle.md_words.specs.Asks.{ask_of, options_of};
 
 use crate::command::Command;
 use crate::command_line::command_line;
 use crate::options::CreateOptions;
 use crate::request::Request;
+use clap::error::ErrorKind;
 use clap::{ArgMatches, Error};
 use std::alloc::{AllocError, Global};
 
@@ -88,11 +90,59 @@ fn number_of<'a>(found: &ArgMatches<'a>, name: &str) -> u64
     u64_of(text_of(found, name))
 }
 
-// The index of the member that a command names, 0 where it names none.
-fn member_of(found: &ArgMatches<'_>) -> u32
+// The place among images of the first of this name.
+fn place_of(images: &[&str], name: &str) -> Option<usize>
+    ensures { result ≡ position (λ image. bytes_eq image.now name.now) images.now }
+{
+    images.iter().position(|image| *image == name)
+}
+
+// The same as an index.
+fn place_in(images: &[&str], name: &str) -> Option<u32>
+    ensures { result ≡ place_in (map (λ s. s.now) images.now) name.now }
+{
+    match place_of(images, name) {
+        Some(place) => Some(place.min(u32::MAX as usize) as u32),
+        None => None,
+    }
+}
+
+// The index of the member that a text says, as a number or as one of the images.
+fn member_at(images: &[&str], text: &str) -> Option<u32>
+    ensures { result ≡ member_at (map (λ s. s.now) images.now) text.now }
+{
+    match text.parse::<u32>() {
+        Ok(place) => Some(place),
+        Err(_) => place_in(images, text),
+    }
+}
+
+// The index of the member that a command names.
+fn member_of(found: &ArgMatches<'_>) -> Option<u32>
+    ensures { result ≡ member_of (rows_of (found_of found.now)) }
+{
+    let text = text_of(found, "member");
+    match found.get_strs("image") {
+        Some(images) => member_at(images, text),
+        None => member_at(&[], text),
+    }
+}
+
+// The same, 0 where it names none.
+fn member_in(found: &ArgMatches<'_>) -> u32
     ensures { result ≡ member_in (rows_of (found_of found.now)) }
 {
-    u32_of(text_of(found, "member"))
+    member_of(found).unwrap_or(0)
+}
+
+// Whether a member is named that is neither a number nor listed.
+fn names_no_member(found: &ArgMatches<'_>) -> bool
+    ensures { result ≡ names_no_member (rows_of (found_of found.now)) }
+{
+    match found.get_str("member") {
+        Some(_) => member_of(found).is_none(),
+        None => false,
+    }
 }
 
 // The command of a name, with the values of its options.
@@ -115,7 +165,7 @@ fn command_of<'a>(name: &str, found: &ArgMatches<'a>) -> Command<'a>
         }
     } else if name == "plan" {
         Command::Plan {
-            member: member_of(found),
+            member: member_in(found),
             readonly: is_readonly(found),
         }
     } else if name == "read" {
@@ -140,11 +190,11 @@ fn command_of<'a>(name: &str, found: &ArgMatches<'a>) -> Command<'a>
         Command::Stop
     } else if name == "fail" {
         Command::Fail {
-            member: member_of(found),
+            member: member_in(found),
         }
     } else if name == "remove" {
         Command::Remove {
-            member: member_of(found),
+            member: member_in(found),
         }
     } else if name == "add" {
         Command::Add {
@@ -156,7 +206,7 @@ fn command_of<'a>(name: &str, found: &ArgMatches<'a>) -> Command<'a>
         }
     } else if name == "rebuild" {
         Command::Rebuild {
-            member: member_of(found),
+            member: member_in(found),
         }
     } else {
         Command::Examine
@@ -201,15 +251,34 @@ fn image_list<'a>(alloc: Global, found: &ArgMatches<'a>) -> Result<Vec<&'a str>,
     Vec::from_slice(alloc, images)
 }
 
+// Refuses a member that is neither a number nor listed, as the parser refuses a value.
+fn check_member(alloc: Global, matches: &ArgMatches<'_>) -> Result<(), Error>
+    ensures { FailsBy (member_fault (subcommand_rows_of matches.now)) result }
+{
+    let Some((_, found)) = matches.subcommand() else {
+        return Ok(());
+    };
+    if !names_no_member(found) {
+        return Ok(());
+    }
+    let mut program = command_line(alloc)?;
+    let message = "invalid value for '--member <N>': it is neither a number nor one of the images";
+    Err(program.error(ErrorKind::ValueValidation, message)?)
+}
+
 /// What the words ask for, or why the words are not taken.
-#[tactic(auto, unfolding(crate::specs::Asked::image_words, crate::specs::Asked::asked, crate::specs::Asked::is_verbose))]
+#[tactic(auto, unfolding(crate::specs::Asked::image_words, crate::specs::Asked::asked, crate::specs::Asked::is_verbose, crate::specs::Asked::words_fault))]
 pub fn parse<'a>(alloc: Global, words: &'a [&'a str]) -> Result<Request<'a>, Error>
     ensures asks { IfOk result (λ r. ask_of r.command ≡ asked (map (λ s. s.now) words.entry.now)) }
     ensures images { IfOk result
         (λ r. map (λ s. s.now) r.images.items ≡ image_words (map (λ s. s.now) words.entry.now)) }
     ensures verbose { IfOk result (λ r. r.verbose ≡ is_verbose (map (λ s. s.now) words.entry.now)) }
-    ensures fails { FailsBy (fault_of mdcli (map (λ s. s.now) words.entry.now)) result }
+    ensures fails { FailsBy (words_fault (map (λ s. s.now) words.entry.now)) result }
 {
-    let matches = matches(alloc, words)?;
+    let matches = match matches(alloc, words) {
+        Ok(matches) => matches,
+        Err(error) => return Err(error),
+    };
+    check_member(alloc, &matches)?;
     Ok(requested(alloc, &matches)?)
 }

@@ -1,7 +1,6 @@
 use Rattle.std.proofs.Common.{◌≡◌, ap, ◌∙◌, inr, IfOk, List, subst}
-use Rattle.clap.specs.Words.{FailsBy, Text, fault_of}
-use Rattle.md_words.specs.Words.{mdcli}
-use Rattle.md_words.specs.Asked.{asked, image_words}
+use Rattle.clap.specs.Words.{FailsBy, Text}
+use Rattle.md_words.specs.Asked.{asked, image_words, words_fault}
 use Rattle.md_words.specs.Asks.{Ask, ask_of}
 use Rattle.md_cli.specs.declared.notices.Notices.{Notices}
 use Rattle.md_cli.specs.Arrays.{texts}
@@ -12,7 +11,7 @@ use Rattle.md_cli.proofs.Flushed.{when_done}
 use Rattle.md_cli.proofs.running.run.Goals as goal
 
 pub returns-clause-refused : goal.returns-clause-refused
-returns-clause-refused g c = λ other. absurd (other (subst (λ parsed. FailsBy (fault_of mdcli (texts c.args.words.now)) parsed) c.in-Ok.is c.requires.fails))
+returns-clause-refused g c = λ other. absurd (other (subst (λ parsed. FailsBy (words_fault (texts c.args.words.now)) parsed) c.in-Ok.is c.requires.fails))
 
 pub returns-clause-taken : goal.returns-clause-taken
 returns-clause-taken g c taken =
