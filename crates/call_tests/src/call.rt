@@ -6,7 +6,7 @@ use md_assembly::MemberState;
 use md_check::CheckFault;
 use md_copy::RebuildFault;
 use md_metadata::StopFault;
-use md_read::UnreadFault;
+use md_read::{UnreadFault, UnresyncedFault};
 use md_resync::ResyncFault;
 
 #[derive(Clone, Copy)]
@@ -17,6 +17,8 @@ pub(crate) enum Call {
     Write(u64, usize),
     // Of so many sectors from this one on, of which the first so many are given, with these bytes.
     Read(u64, usize, usize, Data),
+    // The same as they would be after a resync.
+    ReadUnresynced(u64, usize, usize, Data),
     Resync,
     Stop,
     Check,
@@ -50,6 +52,7 @@ pub(crate) enum Answer {
     // Other bytes are read than those.
     Differs,
     NotRead(UnreadFault),
+    NotReadUnresynced(UnresyncedFault),
     NotResynced(ResyncFault),
     NotStopped(StopFault),
     Counts(u32),

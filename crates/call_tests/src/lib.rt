@@ -37,6 +37,8 @@ mod run;
 #[cfg(test)]
 mod told;
 #[cfg(test)]
+mod unresynced_reads;
+#[cfg(test)]
 mod write_mostly;
 #[cfg(test)]
 mod writes;

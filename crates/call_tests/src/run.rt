@@ -12,7 +12,7 @@ use md_cert::Table;
 use md_check::{CheckFault, check_array};
 use md_copy::{Gate, RebuildFault, Rebuilt, rebuild, table};
 use md_metadata::stop;
-use md_read::read;
+use md_read::{read, read_unresynced};
 use md_resync::resync;
 use md_write::write;
 use std::alloc::Global;
@@ -67,6 +67,9 @@ impl Run {
             Call::Begin(sector) => self.begin(sector),
             Call::Write(sector, count) => self.write(sector, count),
             Call::Read(sector, count, given, data) => self.read(sector, count, given, &data),
+            Call::ReadUnresynced(sector, count, given, data) => {
+                self.read_unresynced(sector, count, given, &data)
+            }
             Call::Resync => self.resync(alloc),
             Call::Stop => self.stop(),
             Call::Check => answer_of(self.check(rt, alloc, &Silent)),
@@ -114,12 +117,19 @@ impl Run {
             Ok(()) => Answer::Done,
             Err(fault) => Answer::NotRead(fault),
         };
-        let found = bytes.get(..given.min(64) * 512).unwrap_or(&[]);
-        if data.is_in(found, sector as usize) {
-            answer
-        } else {
-            Answer::Differs
-        }
+        answer_of_read(answer, sector, bytes, given, data)
+    }
+
+    fn read_unresynced(&mut self, sector: u64, count: usize, given: usize, data: &Data) -> Answer {
+        let mut bytes = [0x99; WHOLE];
+        let Some(bytes) = bytes.get_mut(..count.min(64) * 512) else {
+            return Answer::NotCalled;
+        };
+        let answer = match read_unresynced(&mut self.mirror, sector, bytes) {
+            Ok(()) => Answer::Done,
+            Err(fault) => Answer::NotReadUnresynced(fault),
+        };
+        answer_of_read(answer, sector, bytes, given, data)
     }
 
     fn resync(&mut self, alloc: Global) -> Answer {
@@ -298,6 +308,16 @@ impl Run {
         let answer = Answer::Lacks(missing.count(), missing.next_marked(0));
         drop(missing);
         answer
+    }
+}
+
+// The answer of a read, where the first of these sectors have these bytes.
+fn answer_of_read(answer: Answer, sector: u64, bytes: &[u8], given: usize, data: &Data) -> Answer {
+    let found = bytes.get(..given.min(64) * 512).unwrap_or(&[]);
+    if data.is_in(found, sector as usize) {
+        answer
+    } else {
+        Answer::Differs
     }
 }
 
