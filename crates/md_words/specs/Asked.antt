@@ -1,5 +1,5 @@
 -- How a command comes from the words.
-use Rattle.std.specs.Prelude.{ℕ, ◌^◌, Bool, List, [], Option, Some, None, ◌&&◌, codes, length, nat_lt, option_map, unwrap_or, if◌then◌else◌}
+use Rattle.std.specs.Prelude.{ℕ, ◌^◌, Bool, false, List, [], Option, Some, None, ◌&&◌, codes, length, nat_lt, option_map, unwrap_or, if◌then◌else◌}
 use Rattle.std.specs.List.{list_all}
 use Rattle.std.specs.Str.{bytes_eq}
 use Rattle.std.specs.Str.Parse.{digits_value, without_leading_plus}
@@ -43,6 +43,14 @@ options_in rows = record {
 abbrev pub readonly_in : List Row → Bool
 readonly_in rows = bytes_eq (text_in (codes "readonly") rows) (codes "true")
 
+-- whether nothing is to be asked
+abbrev pub run_in : List Row → Bool
+run_in rows = bytes_eq (text_in (codes "run") rows) (codes "true")
+
+abbrev pub runs_in : Option (Text × List Row) → Bool
+runs_in None = false
+runs_in (Some p) = run_in p.1
+
 -- the member, the sector and the number of sectors that a command names
 abbrev pub member_in : List Row → ℕ
 member_in rows = number_in 32 (codes "member") rows
@@ -85,6 +93,10 @@ images_in (Some p) = unwrap_or (all_of (codes "image") p.1) []
 -- what the words ask for
 unfoldable pub asked : List Text → Ask
 asked words = asks_in (subcommand_of mdcli words)
+
+-- whether nothing is to be asked by the words
+unfoldable pub runs : List Text → Bool
+runs words = runs_in (subcommand_of mdcli words)
 
 -- the image words
 unfoldable pub image_words : List Text → List Text

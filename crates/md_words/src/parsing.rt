@@ -2,7 +2,7 @@
 ghost use Rattle.std.specs.Prelude.{◌≡◌, IfOk, [], codes, map, option_map, unwrap_or};
 ghost use Rattle.clap.specs.Words.{FailsBy, fault_of, first_of, found_of, matched_of, raw_values, rows_of, subcommand_of, subcommand_rows_of};
 ghost use Rattle.md_words.specs.Words.{mdcli};
-ghost use Rattle.md_words.specs.Asked.{asked, asks_in, asks_of, image_words, images_in, member_in, number_in, number_of, options_in, readonly_in, text_in};
+ghost use Rattle.md_words.specs.Asked.{asked, asks_in, asks_of, image_words, images_in, member_in, number_in, number_of, options_in, readonly_in, run_in, runs, runs_in, text_in};
 ghost use Rattle.md_words.specs.Asks.{ask_of, options_of};
 
 use crate::command::Command;
@@ -79,6 +79,13 @@ fn is_readonly(found: &ArgMatches<'_>) -> bool
     ensures { result ≡ readonly_in (rows_of (found_of found.now)) }
 {
     text_of(found, "readonly") == "true"
+}
+
+// Whether nothing is to be asked.
+fn is_run(found: &ArgMatches<'_>) -> bool
+    ensures { result ≡ run_in (rows_of (found_of found.now)) }
+{
+    text_of(found, "run") == "true"
 }
 
 // The number that an option has, 0 where it has none.
@@ -167,17 +174,20 @@ fn requested<'a>(alloc: Global, matches: &ArgMatches<'a>) -> Result<Request<'a>,
     ensures asks { IfOk result (λ r. ask_of r.command ≡ asks_in (subcommand_rows_of matches.now)) }
     ensures images { IfOk result
         (λ r. map (λ s. s.now) r.images.items ≡ images_in (subcommand_rows_of matches.now)) }
+    ensures run { IfOk result (λ r. r.run ≡ runs_in (subcommand_rows_of matches.now)) }
 {
     let Some((name, found)) = matches.subcommand() else {
         return Ok(Request {
             command: Command::Examine,
             images: Vec::new(alloc),
+            run: false,
         });
     };
     let images = image_list(alloc, found)?;
     Ok(Request {
         command: command_of(name, found),
         images,
+        run: is_run(found),
     })
 }
 
@@ -193,10 +203,11 @@ fn image_list<'a>(alloc: Global, found: &ArgMatches<'a>) -> Result<Vec<&'a str>,
 }
 
 /// What the words ask for, or why the words are not taken.
-#[tactic(auto, unfolding(crate::specs::Asked::image_words, crate::specs::Asked::asked))]
+#[tactic(auto, unfolding(crate::specs::Asked::image_words, crate::specs::Asked::asked, crate::specs::Asked::runs))]
 pub fn parse<'a>(alloc: Global, words: &'a [&'a str]) -> Result<Request<'a>, Error>
     ensures asks { IfOk result (λ r. ask_of r.command ≡ asked (map (λ s. s.now) words.entry.now)) }
     ensures images { IfOk result (λ r. map (λ s. s.now) r.images.items ≡ image_words (map (λ s. s.now) words.entry.now)) }
+    ensures run { IfOk result (λ r. r.run ≡ runs (map (λ s. s.now) words.entry.now)) }
     ensures fails { FailsBy (fault_of mdcli (map (λ s. s.now) words.entry.now)) result }
 {
     let matches = matches(alloc, words)?;

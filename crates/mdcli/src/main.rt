@@ -44,9 +44,9 @@ fn main(rt: HostRuntime) -> ExitCode {
     };
     let words = words.as_slice();
     let parsed = parse(rt.alloc(), words);
-    let task = match &parsed {
-        Ok(request) => watched_task(request.command),
-        Err(_) => None,
+    let (task, run_told) = match &parsed {
+        Ok(request) => (watched_task(request.command), request.run),
+        Err(_) => (None, false),
     };
     let err = rt.stderr();
     let (messages, task) = if err.is_terminal() {
@@ -54,7 +54,7 @@ fn main(rt: HostRuntime) -> ExitCode {
     } else {
         (Messages::Plain, None)
     };
-    let asks = err.is_terminal() && rt.stdin().is_terminal();
+    let asks = err.is_terminal() && rt.stdin().is_terminal() && !run_told;
     let questions = Questions::new(messages, asks);
     let progress = Progress::new(&rt, task, questions);
     // Output that goes elsewhere leaves the line as it is.
