@@ -8,6 +8,8 @@ const FIRST: [u8; 512] = [0x11; 512];
 
 const SECOND: [u8; 512] = [0x22; 512];
 
+const UNNAMED: &str = "mdcli: device 0 in role 0 is not among the images\n";
+
 const LIFE: [Command; 9] = [
     Command {
         words: &[
@@ -63,11 +65,13 @@ const LIFE: [Command; 9] = [
     // Of the one that was taken back alone.
     Command {
         words: &["mdcli", "read", "--sector", "8", "--count", "1", "b"],
+        says: UNNAMED,
         shows: Shows::Bytes(&FIRST),
         ..DONE
     },
     Command {
         words: &["mdcli", "read", "--sector", "16", "--count", "1", "b"],
+        says: UNNAMED,
         shows: Shows::Bytes(&SECOND),
         ..DONE
     },

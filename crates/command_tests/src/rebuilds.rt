@@ -8,6 +8,7 @@ use std::test::Fail;
 const ADDED: Command = Command {
     words: &["mdcli", "add", "--device", "b", "a"],
     messages: Messages::Plain,
+    says: "mdcli: device 1 in role 1 is not among the images\n",
     shows: Shows::All("in sync 1 of 2, events 11, marked 1\n"),
     ..DONE
 };

@@ -122,7 +122,8 @@ fn a_write_goes_on_after_an_interrupted_read(rt: HostRuntime) -> Result<(), Fail
         Step::Gives(&SECTOR),
         Step::IsInterrupted,
     ];
-    let written = ends_with(&rt, alloc, &mut images, &steps, 0, "");
+    let said = "mdcli: device 1 in role 1 is not among the images\n";
+    let written = ends_with(&rt, alloc, &mut images, &steps, 0, said);
     drop(images);
     written
 }
