@@ -13,8 +13,9 @@ _mdcli_options() {
     plan) printf '%s\n' --member= --readonly ;;
     read) printf '%s\n' --sector= --count= --readonly ;;
     write) printf '%s\n' --sector= ;;
-    fail | remove | rebuild) printf '%s\n' --member= ;;
-    add | re-add) printf '%s\n' --device= ;;
+    fail | remove) printf '%s\n' --member= ;;
+    add | re-add) printf '%s\n' --device= --run ;;
+    rebuild) printf '%s\n' --member= --run ;;
   esac
 }
 

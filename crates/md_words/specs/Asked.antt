@@ -65,6 +65,14 @@ member_at images text = if is_number_of 32 text then Some (number_of 32 text) el
 abbrev pub member_of : List Row → Option ℕ
 member_of rows = member_at (listed_in rows) (text_in (codes "member") rows)
 
+-- whether nothing is to be asked
+abbrev pub run_in : List Row → Bool
+run_in rows = bytes_eq (text_in (codes "run") rows) (codes "true")
+
+abbrev pub runs_in : Option (Text × List Row) → Bool
+runs_in None = false
+runs_in (Some p) = run_in p.1
+
 -- the member, the sector and the number of sectors that a command names
 abbrev pub member_in : List Row → ℕ
 member_in rows = unwrap_or (member_of rows) 0
@@ -115,6 +123,10 @@ verbose_in (Some p) = verbose_of p.1
 -- what the words ask for
 unfoldable pub asked : List Text → Ask
 asked words = asks_in (subcommand_of mdcli words)
+
+-- whether nothing is to be asked by the words
+unfoldable pub runs : List Text → Bool
+runs words = runs_in (subcommand_of mdcli words)
 
 -- the image words
 unfoldable pub image_words : List Text → List Text

@@ -63,9 +63,17 @@ member_app name = completed (with_member (new_app name))
 abbrev pub with_device : App → App
 with_device a = with_rule a (required (value_rule (codes "device")))
 
+-- an option by which nothing is asked
+abbrev pub with_run : App → App
+with_run a = with_rule a (flag_rule (codes "run"))
+
 -- a command by which a device joins an array
 abbrev pub device_app : Text → App
-device_app name = completed (with_device (new_app name))
+device_app name = completed (with_run (with_device (new_app name)))
+
+-- one by which a member gets the data that it lacks
+abbrev pub rebuild_app : App
+rebuild_app = completed (with_run (with_member (new_app (codes "rebuild"))))
 
 -- an option that is a sector of the array
 abbrev pub with_sector : App → App
@@ -137,7 +145,7 @@ with_member_commands a =
 
 -- the commands by which a member gets the data that it lacks
 abbrev pub with_rebuild_commands : App → App
-with_rebuild_commands a = with_subcommand (with_subcommand a (device_app (codes "re-add")).top) (member_app (codes "rebuild")).top
+with_rebuild_commands a = with_subcommand (with_subcommand a (device_app (codes "re-add")).top) rebuild_app.top
 
 -- the whole command line
 unfoldable pub mdcli : App

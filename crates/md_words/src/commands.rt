@@ -156,6 +156,15 @@ const ASSUME_CLEAN: OptionWords = OptionWords {
     default: None,
 };
 
+const RUN: OptionWords = OptionWords {
+    name: "run",
+    value: "",
+    help: "Asks nothing at a terminal, and goes on",
+    kind: Kind::Flag,
+    required: false,
+    default: None,
+};
+
 /// The commands on one image.
 pub(crate) const EXAMINE_COMMANDS: [CommandWords; 3] = [
     CommandWords {
@@ -268,7 +277,7 @@ pub(crate) const MEMBER_COMMANDS: [CommandWords; 3] = [
         name: "add",
         about: "Adds an image to the array as a spare, and stops it; what the image held is lost",
         after_help: help::ADD,
-        options: &[DEVICE],
+        options: &[DEVICE, RUN],
     },
 ];
 
@@ -278,12 +287,12 @@ pub(crate) const REBUILD_COMMANDS: [CommandWords; 2] = [
         name: "re-add",
         about: "Takes an image back that left the array, rebuilds what it lacks, and stops the array",
         after_help: help::RE_ADD,
-        options: &[DEVICE],
+        options: &[DEVICE, RUN],
     },
     CommandWords {
         name: "rebuild",
         about: "Rebuilds a member from all others at once by its plan, and stops the array",
         after_help: help::REBUILD,
-        options: &[MEMBER],
+        options: &[MEMBER, RUN],
     },
 ];

@@ -3,7 +3,7 @@ ghost use Rattle.std.specs.Prelude.{◌≡◌, IfOk, [], codes, map, option_map,
 ghost use Rattle.std.specs.Str.{bytes_eq};
 ghost use Rattle.clap.specs.Words.{FailsBy, fault_of, first_of, found_of, matched_of, raw_values, rows_of, subcommand_of, subcommand_rows_of};
 ghost use Rattle.md_words.specs.Words.{mdcli};
-ghost use Rattle.md_words.specs.Asked.{asked, asks_in, asks_of, image_words, images_in, is_verbose, member_at, member_fault, member_in, member_of, names_no_member, number_in, number_of, options_in, place_in, readonly_in, text_in, verbose_in, verbose_of, words_fault};
+ghost use Rattle.md_words.specs.Asked.{asked, asks_in, asks_of, image_words, images_in, is_verbose, member_at, member_fault, member_in, member_of, names_no_member, number_in, number_of, options_in, place_in, readonly_in, run_in, runs, runs_in, text_in, verbose_in, verbose_of, words_fault};
 ghost use Rattle.md_words.specs.Asks.{ask_of, options_of};
 
 use crate::command::Command;
@@ -81,6 +81,13 @@ fn is_readonly(found: &ArgMatches<'_>) -> bool
     ensures { result ≡ readonly_in (rows_of (found_of found.now)) }
 {
     text_of(found, "readonly") == "true"
+}
+
+// Whether nothing is to be asked.
+fn is_run(found: &ArgMatches<'_>) -> bool
+    ensures { result ≡ run_in (rows_of (found_of found.now)) }
+{
+    text_of(found, "run") == "true"
 }
 
 // The number that an option has, 0 where it has none.
@@ -224,12 +231,14 @@ fn requested<'a>(alloc: Global, matches: &ArgMatches<'a>) -> Result<Request<'a>,
     ensures images { IfOk result
         (λ r. map (λ s. s.now) r.images.items ≡ images_in (subcommand_rows_of matches.now)) }
     ensures verbose { IfOk result (λ r. r.verbose ≡ verbose_in (subcommand_rows_of matches.now)) }
+    ensures run { IfOk result (λ r. r.run ≡ runs_in (subcommand_rows_of matches.now)) }
 {
     let Some((name, found)) = matches.subcommand() else {
         return Ok(Request {
             command: Command::Examine,
             images: Vec::new(alloc),
             verbose: false,
+            run: false,
         });
     };
     let images = image_list(alloc, found)?;
@@ -237,6 +246,7 @@ fn requested<'a>(alloc: Global, matches: &ArgMatches<'a>) -> Result<Request<'a>,
         command: command_of(name, found),
         images,
         verbose: is_verbose(found),
+        run: is_run(found),
     })
 }
 
@@ -267,12 +277,13 @@ fn check_member(alloc: Global, matches: &ArgMatches<'_>) -> Result<(), Error>
 }
 
 /// What the words ask for, or why the words are not taken.
-#[tactic(auto, unfolding(crate::specs::Asked::image_words, crate::specs::Asked::asked, crate::specs::Asked::is_verbose, crate::specs::Asked::words_fault))]
+#[tactic(auto, unfolding(crate::specs::Asked::image_words, crate::specs::Asked::asked, crate::specs::Asked::is_verbose, crate::specs::Asked::runs, crate::specs::Asked::words_fault))]
 pub fn parse<'a>(alloc: Global, words: &'a [&'a str]) -> Result<Request<'a>, Error>
     ensures asks { IfOk result (λ r. ask_of r.command ≡ asked (map (λ s. s.now) words.entry.now)) }
     ensures images { IfOk result
         (λ r. map (λ s. s.now) r.images.items ≡ image_words (map (λ s. s.now) words.entry.now)) }
     ensures verbose { IfOk result (λ r. r.verbose ≡ is_verbose (map (λ s. s.now) words.entry.now)) }
+    ensures run { IfOk result (λ r. r.run ≡ runs (map (λ s. s.now) words.entry.now)) }
     ensures fails { FailsBy (words_fault (map (λ s. s.now) words.entry.now)) result }
 {
     let matches = match matches(alloc, words) {

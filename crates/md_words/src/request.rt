@@ -1,10 +1,13 @@
 // What the words ask for.
 use crate::command::Command;
 
-/// A command, and the image words. `verbose` says that more is to be said of a refusal.
+/// A command, the image words, and what holds of any command.
 #[derive(Drop)]
 pub struct Request<'a> {
     pub command: Command<'a>,
     pub images: Vec<&'a str>,
+    /// More is to be said of a refusal.
     pub verbose: bool,
+    /// Nothing is to be asked.
+    pub run: bool,
 }

@@ -44,9 +44,9 @@ fn main(rt: HostRuntime) -> ExitCode {
     };
     let words = words.as_slice();
     let parsed = parse(rt.alloc(), words);
-    let (task, is_verbose) = match &parsed {
-        Ok(request) => (watched_task(request.command), request.verbose),
-        Err(_) => (None, false),
+    let (task, is_verbose, is_run) = match &parsed {
+        Ok(request) => (watched_task(request.command), request.verbose, request.run),
+        Err(_) => (None, false, false),
     };
     let err = rt.stderr();
     let is_terminal = err.is_terminal();
@@ -56,7 +56,7 @@ fn main(rt: HostRuntime) -> ExitCode {
     } else {
         Messages::Plain
     };
-    let asks = is_terminal && rt.stdin().is_terminal();
+    let asks = is_terminal && rt.stdin().is_terminal() && !is_run;
     let questions = Questions::new(messages, asks);
     let progress = Progress::new(&rt, task, questions);
     // Output that goes elsewhere leaves the line as it is.
