@@ -1,5 +1,5 @@
 -- The member that a command names.
-use Rattle.std.proofs.Common.{◌≡◌, ◌∙◌, ℕ, ◌+◌, Bool, true, false, cond, not, List, [], ◌∷◌, length, map, min, Option, Some, None, Result, Ok, Err, inl, inr, refl, sym, ap, ap₂, subst, option_map, position}
+use Rattle.std.proofs.Common.{◌≡◌, ◌∙◌, ℕ, ◌+◌, Bool, true, false, cond, not, List, [], ◌∷◌, length, map, min, Option, Some, Result, Ok, Err, inl, inr, refl, sym, ap, subst, option_map, position}
 use Rattle.std.specs.List.{prefix_len, position_or_len}
 use Rattle.std.specs.Result.{result_unwrap_or}
 use Rattle.std.specs.Str.{bytes_eq}

@@ -1,4 +1,4 @@
-use Rattle.std.proofs.Common.{◌≡◌, ◌∙◌, rules}
+use Rattle.std.proofs.Common.{◌∙◌, rules}
 use Rattle.std.specs.Str.Parse.{ParsesUnsigned}
 use Rattle.md_words.proofs.Members.{named, numbered}
 use Rattle.md_words.proofs.parsing.member_at.Goals as goal

@@ -1,4 +1,4 @@
-use Rattle.std.proofs.Common.{◌≡◌, ◌∙◌, [], List, Option, ap, ap₂, codes, unwrap_or}
+use Rattle.std.proofs.Common.{◌∙◌, [], List, Option, ap, ap₂, codes, unwrap_or}
 use Rattle.clap.proofs.WalkLemmas.{raw_values-rows}
 use Rattle.clap.specs.Words.{Text, found_of}
 use Rattle.md_words.specs.Asked.{member_at}

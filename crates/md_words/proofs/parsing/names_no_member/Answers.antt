@@ -1,4 +1,4 @@
-use Rattle.std.proofs.Common.{◌≡◌, ◌∙◌, Option, Some, None, ap, ap₂, codes, is_none, rules, ℕ}
+use Rattle.std.proofs.Common.{◌≡◌, ◌∙◌, Option, ap, ap₂, codes, is_none, rules}
 use Rattle.clap.proofs.WalkLemmas.{first_value-rows}
 use Rattle.clap.specs.Words.{Text, found_of, rows_of}
 use Rattle.md_words.specs.Asked.{is_unknown, member_of}
