@@ -30,6 +30,8 @@ pub record HaltsOn (k : ℕ) (mid new : MirrorView) : Type 0 where
   pub write : Write
   pub tried : IsTried k write mid.disks new.disks
   pub members : new.array.members ≡ mid.array.members
+  pub marks : new.array.marks ≡ mid.array.marks
+  pub resynced : new.array.resynced ≡ mid.array.resynced
   pub halted : new.array.halted ≡ true
   pub failed : AtDevice k mid.disks new.disks (λ d e. d.honest ≡ true → d.failures < e.failures)
   pub keeps : (m : MemberView) → IsMember mid.array k m → AtDevice k mid.disks new.disks (KeepsDataBut m m)
@@ -52,6 +54,8 @@ halts_on k mid new sound (Event.RecordFails j) of is h =
       write = super_write mid.array h.member;
       tried = h.halts.disks.tried;
       members = ap (λ (a : ArrayView). a.members) h.halts.array.array;
+      marks = ap (λ (a : ArrayView). a.marks) h.halts.array.array;
+      resynced = ap (λ (a : ArrayView). a.resynced) h.halts.array.array;
       halted = storing_halted mid new (λ n. None) (Event.RecordFails j) tt h;
       failed = h.halts.disks.failed;
       keeps = λ m at d e at_d at_e.
@@ -63,6 +67,8 @@ halts_on k mid new sound (Event.StoreMarksFails j b) of is h =
       write = h.write;
       tried = h.halts.disks.tried;
       members = ap (λ (a : ArrayView). a.members) h.halts.array.array;
+      marks = ap (λ (a : ArrayView). a.marks) h.halts.array.array;
+      resynced = ap (λ (a : ArrayView). a.resynced) h.halts.array.array;
       halted = storing_halted mid new (λ n. None) (Event.StoreMarksFails j b) tt h;
       failed = h.halts.disks.failed;
       keeps = λ m at d e at_d at_e.
@@ -76,6 +82,8 @@ halts_on k mid new sound e of is h = absurd of
 pub lasts_halted : (target k : ℕ) (mid new : MirrorView) → k ≢ target → HaltsOn k mid new → Lasts target (MetadataFault k) mid new
 lasts_halted target k mid new other h = record {
   members = h.members;
+  marks = h.marks;
+  resynced = h.resynced;
   disk_then = λ j d at. (let low = slice_get_within mid.disks j d at in let many = h.tried.as_many in got_within new.disks j (omega (arith, low, many)));
   counted = λ j d e at_d at_e. elim (cases_eq j k) [
     | inl here ↦
