@@ -1,16 +1,16 @@
 -- A write failed that was to store marks or a superblock, and halted the mirror: what is kept is as before, and so are the data.
-use Rattle.std.proofs.Common.{◌≡◌, ◌≢◌, ◌∙◌, ℕ, ◌+◌, ◌*◌, true, None, length, slice_get, sym, ap, subst, arith, inl, inr}
+use Rattle.std.proofs.Common.{◌≡◌, ◌≢◌, ◌∙◌, ◌⊎◌, ℕ, ◌+◌, ◌*◌, ◌<◌, ◌≤◌, true, false, None, List, length, slice_get, Some, refl, sym, ap, subst, arith, inl, inr}
 use Rattle.std.proofs.lemmas.Bool.{both_ways, cases_eq}
 use Rattle.std.proofs.lemmas.Option.{same_Some, slice_get_within}
 use Rattle.md_assembly.proofs.Indices.{got_within}
 use Rattle.md_bitmap.proofs.Blocks.{length-bitmap_sector}
-use Rattle.md_device.specs.Splice.{SameOutside}
+use Rattle.md_device.specs.Splice.{SameOutside, part}
 use Rattle.md_device.proofs.Splices.{part_after, part_before}
 use Rattle.md_kept_members.specs.View.{MemberView}
 use Rattle.md_model.specs.Events.{Event}
 use Rattle.md_writes.specs.Writes.{Write}
 use Rattle.md_state.specs.DiskWrites.{AtDevice, IsTried}
-use Rattle.md_state.specs.Members.{IsMember}
+use Rattle.md_state.specs.Members.{IsInSync, IsMember}
 use Rattle.md_state.specs.StoringMarks.{IsMarkWrite}
 use Rattle.md_state.specs.View.{ArrayView, Disk, MirrorView}
 use Rattle.md_array.specs.Consistency.{IsConsistent}
@@ -18,8 +18,9 @@ use Rattle.md_array.specs.Enrolling.{KeepsData}
 use Rattle.md_array.specs.InTurn.{HaltsAt}
 use Rattle.md_array.specs.Recording.{super_write}
 use Rattle.md_metadata.specs.Storing.{IsFailureOf, IsStoring}
+use Rattle.md_copy.specs.declared.fault.RebuildFault.{RebuildFault}
 use Rattle.md_copy.specs.declared.fault.RebuildFault.TheVariants.{MetadataFault}
-use Rattle.md_copy.specs.Refused.{KeepsDataBut}
+use Rattle.md_copy.specs.Refused.{IsFromMarks, KeepsDataBeside, KeepsDataBut}
 use Rattle.md_copy.proofs.ReadyStill.{storing_halted}
 use Rattle.md_copy.proofs.Refused.{Lasts}
 use Rattle.md_copy.proofs.StoringKeeps.{beside_super_of, places_of}
@@ -29,6 +30,8 @@ pub record HaltsOn (k : ℕ) (mid new : MirrorView) : Type 0 where
   pub write : Write
   pub tried : IsTried k write mid.disks new.disks
   pub members : new.array.members ≡ mid.array.members
+  pub marks : new.array.marks ≡ mid.array.marks
+  pub resynced : new.array.resynced ≡ mid.array.resynced
   pub halted : new.array.halted ≡ true
   pub failed : AtDevice k mid.disks new.disks (λ d e. d.honest ≡ true → d.failures < e.failures)
   pub keeps : (m : MemberView) → IsMember mid.array k m → AtDevice k mid.disks new.disks (KeepsDataBut m m)
@@ -51,6 +54,8 @@ halts_on k mid new sound (Event.RecordFails j) of is h =
       write = super_write mid.array h.member;
       tried = h.halts.disks.tried;
       members = ap (λ (a : ArrayView). a.members) h.halts.array.array;
+      marks = ap (λ (a : ArrayView). a.marks) h.halts.array.array;
+      resynced = ap (λ (a : ArrayView). a.resynced) h.halts.array.array;
       halted = storing_halted mid new (λ n. None) (Event.RecordFails j) tt h;
       failed = h.halts.disks.failed;
       keeps = λ m at d e at_d at_e.
@@ -62,6 +67,8 @@ halts_on k mid new sound (Event.StoreMarksFails j b) of is h =
       write = h.write;
       tried = h.halts.disks.tried;
       members = ap (λ (a : ArrayView). a.members) h.halts.array.array;
+      marks = ap (λ (a : ArrayView). a.marks) h.halts.array.array;
+      resynced = ap (λ (a : ArrayView). a.resynced) h.halts.array.array;
       halted = storing_halted mid new (λ n. None) (Event.StoreMarksFails j b) tt h;
       failed = h.halts.disks.failed;
       keeps = λ m at d e at_d at_e.
@@ -75,6 +82,8 @@ halts_on k mid new sound e of is h = absurd of
 pub lasts_halted : (target k : ℕ) (mid new : MirrorView) → k ≢ target → HaltsOn k mid new → Lasts target (MetadataFault k) mid new
 lasts_halted target k mid new other h = record {
   members = h.members;
+  marks = h.marks;
+  resynced = h.resynced;
   disk_then = λ j d at. (let low = slice_get_within mid.disks j d at in let many = h.tried.as_many in got_within new.disks j (omega (arith, low, many)));
   counted = λ j d e at_d at_e. elim (cases_eq j k) [
     | inl here ↦

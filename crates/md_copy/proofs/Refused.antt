@@ -1,10 +1,10 @@
 -- What the steps of a rebuild leave as it was, until the target comes into sync.
-use Rattle.std.proofs.Common.{◌≡◌, ◌≢◌, ◌∙◌, ◌⊎◌, ◌↔◌, ℕ, ◌*◌, ◌<◌, ◌≤◌, true, false, List, ◌++◌, length, get_or, slice_get, Some, refl, sym, ap, subst, arith, inl, inr}
+use Rattle.std.proofs.Common.{◌≡◌, ◌≢◌, ◌∙◌, ◌⊎◌, ◌↔◌, ℕ, ◌+◌, ◌*◌, ◌<◌, ◌≤◌, true, false, List, ◌++◌, length, count_by, get_or, slice_get, Some, refl, sym, ap, subst, arith, inl, inr}
 use Rattle.std.proofs.lemmas.Bool.{cases_eq}
 use Rattle.std.proofs.lemmas.Option.{same_Some, slice_get-get_or, slice_get_within}
 use Rattle.md_assembly.specs.declared.state.MemberState.TheVariants.{Faulty}
 use Rattle.md_assembly.proofs.Indices.{got_within}
-use Rattle.md_assembly.specs.States.{is_recovering, is_spare}
+use Rattle.md_assembly.specs.States.{is_in_sync_as, is_recovering, is_spare}
 use Rattle.md_badblocks.specs.declared.run.Run.{Run}
 use Rattle.md_badblocks.specs.Runs.{IsBad}
 use Rattle.md_bitmap.specs.declared.chunks.Chunks.{Chunks}
@@ -13,6 +13,7 @@ use Rattle.md_cert.specs.declared.slots.Slot.{Slot}
 use Rattle.md_collect.specs.Reading.{Fails}
 use Rattle.md_device.specs.Splice.{SameOutside, part}
 use Rattle.md_kept_members.specs.View.{MemberView}
+use Rattle.md_pass.specs.Readings.{is_of}
 use Rattle.md_passes.specs.Listed.{IsOfFailed}
 use Rattle.md_state.specs.DiskWrites.{AtDevice, IsTried}
 use Rattle.md_state.specs.Members.{IsMember}
@@ -21,7 +22,7 @@ use Rattle.md_state.specs.View.{ArrayView, Disk, MirrorView, of_disks}
 use Rattle.md_super.specs.declared.superblock.Superblock.{Superblock}
 use Rattle.md_array.specs.Consistency.{IsConsistent}
 use Rattle.md_array.specs.Enrolling.{KeepsData}
-use Rattle.md_array.specs.Lending.{IsBesideChunk}
+use Rattle.md_array.specs.Lending.{IsBesideChunk, IsBesideMissing}
 use Rattle.md_array.specs.Recording.{super_write}
 use Rattle.md_copy.specs.Filling.{CountsFailed}
 use Rattle.md_copy.specs.declared.fault.RebuildFault.{RebuildFault}
@@ -29,7 +30,7 @@ use Rattle.md_copy.specs.declared.fault.RebuildFault.TheVariants.{MetadataFault}
 use Rattle.md_copy.specs.Rebuilt.{KeepStates, ListsGrow, OthersKeepData, failed_of}
 use Rattle.md_copy.specs.Refused.{Ending, EndsSo, HasEnded, HasMade, IsBesideLacking, StatesStay}
 use Rattle.md_copy.proofs.StartedAs.{StartsAs}
-use Rattle.md_copy.proofs.StoringKeeps.{HavePlaces, KeepsAll, beside_super_of, device_before, device_then, member_then, places_of}
+use Rattle.md_copy.proofs.StoringKeeps.{HasPlace, HavePlaces, KeepsAll, beside_super_of, device_before, device_then, member_then, places_of}
 
 -- ---- the target
 pub record StaysTarget (m n : MemberView) : Type 0 where
@@ -393,6 +394,8 @@ module _ (target : ℕ) (listed failed : List Slot) (old mid new : MirrorView) (
 -- The last step: nothing; or a write to another member failed that halted the mirror, so that its data are not spoken of here.
 pub record Lasts (target : ℕ) (fault : RebuildFault) (last new : MirrorView) : Type 0 where
   pub members : new.array.members ≡ last.array.members
+  pub marks : new.array.marks ≡ last.array.marks
+  pub resynced : new.array.resynced ≡ last.array.resynced
   pub disk_then : (k : ℕ) (d : Disk) → slice_get last.disks k ≡ Some d → (e : Disk) × (slice_get new.disks k ≡ Some e)
   pub counted : (k : ℕ) (d e : Disk) → slice_get last.disks k ≡ Some d → slice_get new.disks k ≡ Some e → (d.failures ≤ e.failures) × (e.honest ≡ d.honest)
   pub own : slice_get new.disks target ≡ slice_get last.disks target
@@ -401,18 +404,30 @@ pub record Lasts (target : ℕ) (fault : RebuildFault) (last new : MirrorView) :
 pub lasts_none : (target : ℕ) (fault : RebuildFault) (v : MirrorView) → Lasts target fault v v
 lasts_none target fault v = record {
   members = refl;
+  marks = refl;
+  resynced = refl;
   disk_then = λ k d at. (d, at);
   counted = λ k d e at_d at_e. (let same = same_Some e d (sym at_e ∙ at_d) in (let is = ap (λ (z : Disk). z.failures) same in omega (arith, is), ap (λ (z : Disk). z.honest) same));
   own = refl;
   keeps = λ k other runs. refl;
 }
 
--- no member is in another state
-pub states_same : (target : ℕ) (fault : RebuildFault) (a b : ArrayView) → b ≡ a → StatesStay target fault a b
-states_same target fault a b is k m n other apart at there = ap (λ (z : MemberView). z.state) (same_Some n m (sym there ∙ ap (λ (v : ArrayView). slice_get v.members k) is ∙ at))
+-- the states of members, and what is kept of the array, are as before
+pub record StaysSo (target : ℕ) (fault : RebuildFault) (a b : ArrayView) : Type 0 where
+  pub states : StatesStay target fault a b
+  pub marks : b.marks ≡ a.marks
+  pub resynced : b.resynced ≡ a.resynced
+
+pub stays_same : (target : ℕ) (fault : RebuildFault) (a b : ArrayView) → b ≡ a → StaysSo target fault a b
+stays_same target fault a b is = record {
+  states = λ k m n other apart at there. ap (λ (z : MemberView). z.state) (same_Some n m (sym there ∙ ap (λ (v : ArrayView). slice_get v.members k) is ∙ at));
+  marks = ap (λ (v : ArrayView). v.marks) is;
+  resynced = ap (λ (v : ArrayView). v.resynced) is;
+}
 
 module _ (target : ℕ) (fault : RebuildFault) (s : Ending) (old mid last new : MirrorView) (at : IsMember old.array target s.member) (x : Preserves target old mid)
-    (grows : GrowsSo target (failed_of s.listed ++ s.noted) (failed_of (s.listed ++ s.last)) old mid) (y : KeepsRest target mid last) (z : Lasts target fault last new) (same : StatesStay target fault mid.array last.array) where
+    (grows : GrowsSo target (failed_of s.listed ++ s.noted) (failed_of (s.listed ++ s.last)) old mid) (y : KeepsRest target mid last) (z : Lasts target fault last new) (same : StaysSo target fault mid.array last.array)
+    (resynced : mid.array.resynced ≡ old.array.resynced) where
   was_last : (k : ℕ) (n : MemberView) → IsMember new.array k n → IsMember last.array k n
   was_last k n there = sym (ap (λ (xs : List MemberView). slice_get xs k) z.members) ∙ there
 
@@ -472,6 +487,8 @@ module _ (target : ℕ) (fault : RebuildFault) (s : Ending) (old mid last new : 
                     (omega (arith, once, second), λ role in_role. (let more = less.1 role in_role in omega (arith, more, second)))),
               )
         ];
-        still = λ k m n other apart at_m at_n. (let o = x.then k m at_m in same k o.0 n other apart o.1 (was_last k n at_n) ∙ grows.states k m o.0 other at_m o.1);
+        still = λ k m n other apart at_m at_n. (let o = x.then k m at_m in same.states k o.0 n other apart o.1 (was_last k n at_n) ∙ grows.states k m o.0 other at_m o.1);
+        marks = z.marks ∙ same.marks ∙ x.marks;
+        resynced = z.resynced ∙ same.resynced ∙ resynced;
         so = so now.0 there;
       }

@@ -1,6 +1,7 @@
 -- What a rebuild that is refused leaves as it was.
 use Rattle.std.proofs.Common.{◌≡◌, ◌≢◌, ◌∙◌, ◌⊎◌, ℕ, suc, zero, ◌+◌, ◌==◌, ◌<◌, ◌≤◌, ◌&&◌, Bool, true, false, List, [], ◌∷◌, ◌++◌, append-nil, append_assoc, All, cond, filter, length, not, length-append, slice_get, Some, refl, sym, ap, subst, arith, inl, inr}
 use Rattle.std.proofs.lemmas.Bool.{both_ways, cases_Bool, cases_eq, eqb-true}
+use Rattle.std.specs.List.{Any}
 use Rattle.std.proofs.lemmas.List.Folds.{Any-from_list_any}
 use Rattle.std.proofs.lemmas.Option.{same_Some, slice_get_within}
 use Rattle.md_assembly.proofs.Indices.{got_within}
@@ -24,7 +25,7 @@ use Rattle.md_pass.specs.Copied.{AreJoined}
 use Rattle.md_passes.proofs.ArrayPasses.{copies_add, passes_go_on}
 use Rattle.md_passes.proofs.Listing.{lists_add}
 use Rattle.md_passes.specs.Listed.{AreCopiedBy, IsArrayPass, IsOfFailed, ListsFailed, MayServe, ServesAs, most_failures}
-use Rattle.md_passes.specs.Passes.{PassView, ServesAtMost, failed_chunks, slots_of}
+use Rattle.md_passes.specs.Passes.{Copies, PassView, ServesAtMost, failed_chunks, slots_of}
 use Rattle.md_state.specs.DiskWrites.{AtDevice}
 use Rattle.md_state.specs.Enrolling.{HasFullLog}
 use Rattle.md_state.specs.Members.{IsInSync, IsMember}
@@ -44,7 +45,7 @@ use Rattle.md_copy.specs.Passing.{AreListedPasses, BreaksOff, CopiesAll, EndsBet
 use Rattle.md_copy.specs.Enrolled.{LacksOwnRoom}
 use Rattle.md_copy.specs.Rebuilding.{Begins, EndsFilled, LacksMemory, LacksRoom, LosesTarget, RefusesAtOnce, RefusesRebuild}
 use Rattle.md_copy.specs.Rebuilt.{failed_of}
-use Rattle.md_copy.specs.Refused.{AreListed, Ending, EndsSo, HasCopied, HasEnded, HasHalted, HasMade, IsAdmitted, IsAsBefore, IsLost, IsRebuiltSoFar, IsRebuiltTo, KeepsDataBut, LacksOwnRoomFor, LacksRoomFor, ListsStand, NotesSome, StatesStay, offset_of}
+use Rattle.md_copy.specs.Refused.{AreListed, Ending, EndsSo, HasCopied, HasEnded, HasHalted, HasMade, IsAdmitted, IsAsBefore, IsLost, IsRebuiltSoFar, IsKnown, IsRebuiltTo, KeepsDataBut, LacksOwnRoomFor, LacksRoomFor, ListsStand, ListsStandWithin, NotesSome, offset_of}
 use Rattle.md_copy.specs.Sources.{missing_chunks}
 use Rattle.md_copy.proofs.BegunAs.{permits_both, same_missing, serves_both, serves_most}
 use Rattle.md_copy.proofs.Halting.{data_but}
@@ -59,9 +60,9 @@ use Rattle.md_copy.proofs.Readied.{admitted_is, after_so, ready_of, spare_is}
 use Rattle.md_copy.proofs.ReadyStill.{ready_noted}
 use Rattle.md_copy.proofs.RebuildLeads.{same_beside}
 use Rattle.md_copy.proofs.RebuiltTo.{RebuiltTo, begins_to, grown_to, kept_to, same_to}
-use Rattle.md_copy.proofs.Refused.{GrowsSo, KeepsRest, Lasts, Preserves, grows_rest, has_ended, lasts_none, preserves_none, preserves_on, preserves_rest, preserves_same, rest_none, rest_on, states_same, target_same}
-use Rattle.md_copy.proofs.RefusedSteps.{HaltsBy, StaysStill, StopsSo, checkpointed_many, grows_as, grows_from, grows_none, halted_left, halts_list, list_chunks, list_marks, list_missing, own_is, preserves_admitted, preserves_begun, preserves_recorded, rest_left, rest_list, rest_stores, rest_unadmitted, rest_unenrolled, rest_unrecordable, rest_unrecorded, starts_after, states_admitted, states_begun, still_same, still_stored, still_unadmitted, still_unrecorded, stops_so, was_spare}
-use Rattle.md_copy.proofs.Stands.{stand_filled, stand_left, stand_listing, stand_none, stand_noted, stand_recorded, stand_unenrolled, stand_unrecorded, within_exact}
+use Rattle.md_copy.proofs.Refused.{GrowsSo, KeepsRest, Lasts, Preserves, StaysSo, grows_rest, has_ended, lasts_none, preserves_none, preserves_on, preserves_rest, preserves_same, rest_none, rest_on, stays_same, target_same}
+use Rattle.md_copy.proofs.RefusedSteps.{HaltsBy, StaysStill, StopsSo, checkpointed_many, grows_as, grows_from, grows_none, halted_left, halts_list, list_chunks, list_marks, list_missing, list_resynced, own_is, preserves_admitted, preserves_begun, preserves_recorded, rest_left, rest_list, rest_stores, rest_unadmitted, rest_unenrolled, rest_unrecordable, rest_unrecorded, starts_after, states_admitted, states_begun, still_same, still_stored, still_unadmitted, still_unrecorded, stops_so, was_spare}
+use Rattle.md_copy.proofs.Stands.{Knows, listed_exact, more_failed, stand_filled, stand_left, stand_listing, stand_none, stand_noted, stand_recorded, stand_unenrolled, stand_unrecorded, within_left, within_none}
 use Rattle.md_copy.proofs.StartedAs.{StartsAs}
 use Rattle.md_copy.proofs.StartsReadied.{starts_of}
 
@@ -337,6 +338,22 @@ own_with target s old new h = record {
 list_with : (q : Chunks) (offset : ℕ) (m : MemberView) (kept orphans : Bitmap) (list : List Run) → IsListAfter q m kept orphans list → IsListAfter q (record (with_offset offset m) { due = false }) kept orphans list
 list_with q offset m kept orphans list h = record { canonical = h.canonical; bad = h.bad }
 
+-- one of these, and others
+any_left : {X : Type 0} (P : X → Type 0) (xs ys : List X) → Any P xs → Any P (xs ++ ys)
+any_left P [] ys (i, x, low, is, holds) = absurd (omega (arith, low))
+any_left P (y ∷ xs) ys (zero, x, low, is, holds) = (zero, x, omega arith, is, holds)
+any_left P (y ∷ xs) ys (suc i, x, low, is, holds) =
+    let r = any_left P xs ys (i, x, omega (arith, low), is, holds) in
+    let within = r.2 in
+    (suc r.0, r.1, omega (arith, within), r.3, r.4)
+
+any_right : {X : Type 0} (P : X → Type 0) (xs ys : List X) → Any P ys → Any P (xs ++ ys)
+any_right P [] ys one = one
+any_right P (x ∷ xs) ys one =
+    let r = any_right P xs ys one in
+    let within = r.2 in
+    (suc r.0, r.1, omega (arith, within), r.3, r.4)
+
 has_same : (s : Ending) → HasCopied s → HasCopied (with_copied s.copied s)
 has_same s h = record { listed = h.listed; only = h.only }
 
@@ -355,6 +372,7 @@ pub record EndsAt (target : ℕ) (s : Ending) (old v : MirrorView) : Type 0 wher
   pub sound : IsConsistent v
   pub running : v.array.halted ≡ false
   pub recovers : (n : MemberView) → IsMember v.array target n → is_recovering n.state ≡ true
+  pub resynced : v.array.resynced ≡ old.array.resynced
   pub stand : ListsStand target (failed_of s.listed) old.array v
   pub to : RebuiltTo target old.array s.member v s.copied
 
@@ -427,9 +445,9 @@ module _ (target : ℕ) (old ready : MirrorView) (none : Bitmap) (b : Begins tar
       let stand : ListsStand target fs old.array filled =
       λ k m n e other at has at_n in_sync at_e honest.
       (let own = of_state fs m.state n.state (sym (grown.states k m n other at at_n)) has in
-      within_exact (λ sector. IsBad m.bad sector ⊎ IsOfFailed old.array.chunks fs m sector) n e.content
+      listed_exact (IsKnown old.array fs m) n e.content
       (list_on n e (lists_all target k other b.now passes none copied ready filled h n at_n own n e at_n at_e in_sync honest))
-      (λ sector. (grown.lists k m n other at at_n sector).1)) in
+      (grown.lists k m n other at at_n)) in
       record {
         at = b.at;
         pre = preserves_on target old ready filled begun
@@ -438,6 +456,7 @@ module _ (target : ℕ) (old ready : MirrorView) (none : Bitmap) (b : Begins tar
         grows = grows_as target fs (failed_of h.listed ++ []) fs (failed_of (h.listed ++ h.last ∷ [])) old filled (append-nil (failed_of h.listed) ∙ sym is) (ap failed_of (sym h.passes_are)) grown;
         sound = h.records.sound;
         running = may.goes.idle.running;
+        resynced = may.goes.resynced ∙ sym b.may.settled.resynced;
         recovers = may.recovering;
         stand = subst (λ xs. ListsStand target xs old.array filled) is stand;
         to = pass_to target old b.sound b.member b.at h.left h.last h.mid copied h.now filled h.records then
@@ -469,9 +488,9 @@ module _ (target : ℕ) (old ready : MirrorView) (none : Bitmap) (b : Begins tar
     stand_now k m n d other at has at_n in_sync at_d honest =
         let own = of_state fs m.state n.state (sym (grown.states k m n other at at_n)) has in
         let none_yet : (z : MemberView) → IsMember ready.array k z → HasFailed [] z → AtInSync IsRecordedOn k ready = λ z at_z failed. (let low = failed.2 in absurd (omega (arith, low))) in
-        within_exact (λ sector. IsBad m.bad sector ⊎ IsOfFailed old.array.chunks fs m sector) n d.content
+        listed_exact (IsKnown old.array fs m) n d.content
         (list_on n d (lists_chain target k other e.passes [] chunks e.left none e.copied ready e.now e.passed none_yet n at_n own n d at_n at_d in_sync honest))
-        (λ sector. (grown.lists k m n other at at_n sector).1)
+        (grown.lists k m n other at at_n)
 
     to_now : RebuiltTo target old.array b.member e.now e.copied
     to_now = chain_to target old b.sound b.member b.at e.passes chunks e.left none e.copied ready e.now e.passed so begun start_to
@@ -487,6 +506,7 @@ module _ (target : ℕ) (old ready : MirrorView) (none : Bitmap) (b : Begins tar
       grows = grows_as target fs (fs ++ []) fs (failed_of (e.passes ++ [])) old e.now (append-nil fs) (ap failed_of (append-nil e.passes)) grown;
       sound = so_far.ready.sound;
       running = so_far.ready.goes.idle.running;
+      resynced = so_far.ready.goes.resynced ∙ sym b.may.settled.resynced;
       recovers = so_far.ready.recovering;
       stand = stand_now;
       to = to_now;
@@ -506,6 +526,7 @@ module _ (target : ℕ) (old ready : MirrorView) (none : Bitmap) (b : Begins tar
           (filled_counted target m (slots_of p) e.now w f));
       sound = sound;
       running = ap (λ (a : ArrayView). a.halted) f.array ∙ so_far.ready.goes.idle.running;
+      resynced = ap (λ (a : ArrayView). a.resynced) f.array ∙ so_far.ready.goes.resynced ∙ sym b.may.settled.resynced;
       recovers = λ n at_n. so_far.ready.recovering n (ap (λ (a : ArrayView). slice_get a.members target) (sym f.array) ∙ at_n);
       stand = stand_filled target fs old.array m (slots_of p) e.now w f stand_now;
       to = array_to target old b.sound b.member b.at e.now w e.copied f.array to_now;
@@ -530,6 +551,7 @@ module _ (target : ℕ) (old ready : MirrorView) (none : Bitmap) (b : Begins tar
               (grows_from target old ready starts (states_begun target old ready none b) ((fs ++ []) ++ taken) ((fs ++ p.failed) ++ []) none after z all);
           sound = notes.goes.sound;
           running = may.goes.idle.running;
+          resynced = may.goes.resynced ∙ sym b.may.settled.resynced;
           recovers = may.recovering;
           stand = stand_noted target fs old.array taken x z notes
               (stand_recorded target fs old.array after records.filled x records.makes.sound records.checkpoints
@@ -542,19 +564,25 @@ module _ (target : ℕ) (old ready : MirrorView) (none : Bitmap) (b : Begins tar
     by_more : (after : Bitmap) (p : PassView) (x : MirrorView) → RecordsPass target e.left p e.copied after e.now x → AreCopiedBy (e.passes ++ p ∷ []) after
     by_more after p x records = copies_add.more e.passes p e.copied after by_now records.makes.copies.joined records.makes.failed records.makes.uncopied
 
-    has_more : (last : List PassView) (noted : List Slot) (p : PassView) (after : Bitmap) → last ≡ p ∷ [] → AreJoined (slots_of p) e.copied after → HasCopied (ended e.passes last noted after)
-    has_more last noted p after is joined = subst (λ ps. HasCopied (ended e.passes ps noted after)) (sym is) (record {
+    -- one more was broken off
+    has_more : (noted : List Slot) (p : PassView) (after : Bitmap) → AreJoined (slots_of p) e.copied after → HasCopied (ended e.passes (bare p ∷ []) noted after)
+    has_more noted p after joined = record {
       listed = λ c copies. joined.kept c ((by_now c).1 copies);
       only = λ c set. elim (cases_Bool (has_chunk (slots_of p) c)) [
-        | inr none ↦ inl ((by_now c).0 (sym (joined.planned c none) ∙ set))
+        | inr none ↦ any_left (Copies c) e.passes (bare p ∷ []) ((by_now c).0 (sym (joined.planned c none) ∙ set))
         | inl planned ↦
             let hit = Any-from_list_any (λ (slot : Slot). slot.chunk == c) (slots_of p) planned in
-            inr (zero, p, omega arith, refl, (hit.0, hit.1, hit.2, hit.3, eqb-true hit.1.chunk c hit.4))
+            any_right (Copies c) e.passes (bare p ∷ [])
+            (zero, bare p, omega arith, refl, (hit.0, hit.1, hit.2, hit.3, (eqb-true hit.1.chunk c hit.4, λ fails. (let low = fails.1 in absurd (omega (arith, low))))))
       ];
-    })
+    }
+
+    -- or it was made
+    has_all : (p : PassView) (noted : List Slot) (after : Bitmap) → AreJoined (slots_of p) e.copied after → AreCopiedBy (e.passes ++ p ∷ []) after → HasCopied (ended e.passes (p ∷ []) noted after)
+    has_all p noted after joined by = record { listed = λ c copies. joined.kept c ((by_now c).1 copies); only = λ c set. (by c).0 set }
 
     has_now : (last : List PassView) (noted : List Slot) → HasCopied (ended e.passes last noted e.copied)
-    has_now last noted = record { listed = λ c copies. (by_now c).1 copies; only = λ c set. inl ((by_now c).0 set) }
+    has_now last noted = record { listed = λ c copies. (by_now c).1 copies; only = λ c set. any_left (Copies c) e.passes last ((by_now c).0 set) }
 
   -- ---- why it ended
   -- of what was copied this is left to be recorded: more than was recorded, or no more
@@ -594,7 +622,7 @@ module _ (target : ℕ) (old ready : MirrorView) (none : Bitmap) (b : Begins tar
         ends = ends_filled Why e e.why.pass e.why.is e.why.member e.why.at stopped e.why.breaks.filling e.why.sound;
         noted = inl refl;
         has = has_now Why e (p ∷ []) [];
-        left = inl (λ c low set. e.why.breaks.joined.kept c set, has_more Why e (p ∷ []) [] p after refl e.why.breaks.joined, (so_far Why e).held.chunks ∙ ap (λ (b : Bitmap). b.chunks) (there Why e).marks);
+        left = inl (λ c low set. e.why.breaks.joined.kept c set, has_more Why e [] e.why.pass after e.why.breaks.joined, (so_far Why e).held.chunks ∙ ap (λ (b : Bitmap). b.chunks) (there Why e).marks);
       }
   lacks_memory after stopped (inr (inr (inl e))) =
       let Why : List ℕ → Bitmap → MirrorView → Type 0 = λ left copied now. FailsListing target NoMemory left copied after now stopped in
@@ -603,7 +631,7 @@ module _ (target : ℕ) (old ready : MirrorView) (none : Bitmap) (b : Begins tar
         s = ended e.passes (f.pass ∷ []) f.fails.taken after;
         ends = ends_noted Why e after f.pass f.recorded f.records f.fails.taken (f.fails.next ∷ f.fails.rest) f.fails.slots stopped f.fails.notes;
         noted = inr (record { pass = f.pass; last = refl; next = f.fails.next; rest = f.fails.rest; slots = f.fails.slots; why = tt });
-        has = has_more Why e (f.pass ∷ []) f.fails.taken f.pass after refl f.records.makes.copies.joined;
+        has = has_all Why e f.pass f.fails.taken after f.records.makes.copies.joined (by_more Why e after f.pass f.recorded f.records);
         left = inr (λ many c low set. set);
       }
   lacks_memory after stopped (inr (inr (inr e))) =
@@ -612,7 +640,7 @@ module _ (target : ℕ) (old ready : MirrorView) (none : Bitmap) (b : Begins tar
         s = ended c.listed (c.last ∷ []) [] e.copied;
         ends = ends_copied e.passes e.copied stopped c;
         noted = inl refl;
-        has = has_more (λ left mid now. Unit {0}) (between_all e.passes e.copied stopped c) (c.last ∷ []) [] c.last e.copied refl c.records.makes.copies.joined;
+        has = has_all (λ left mid now. Unit {0}) (between_all e.passes e.copied stopped c) c.last [] e.copied c.records.makes.copies.joined (by_all e.passes e.copied stopped c);
         left = inr (λ many. e.left);
       }
 
@@ -706,6 +734,12 @@ module _ (target : ℕ) (old ready : MirrorView) (none : Bitmap) (b : Begins tar
   left_still copied stopped new sound (inr (inr f)) =
       (λ j other. ap (λ (a : ArrayView). slice_get a.members j) f.array, ap (λ (a : ArrayView). a.chunks) f.array, ap (λ (a : ArrayView). length a.members) f.array)
 
+  -- and the marks
+  left_array : (copied : Bitmap) (stopped new : MirrorView) → Leaves target copied stopped new → (new.array.marks ≡ stopped.array.marks) × (new.array.resynced ≡ stopped.array.resynced)
+  left_array copied stopped new (inl same) = (ap (λ (v : MirrorView). v.array.marks) same.1, ap (λ (v : MirrorView). v.array.resynced) same.1)
+  left_array copied stopped new (inr (inl r)) = (ap (λ (a : ArrayView). a.marks) r.array, ap (λ (a : ArrayView). a.resynced) r.array)
+  left_array copied stopped new (inr (inr f)) = (ap (λ (a : ArrayView). a.marks) f.array, ap (λ (a : ArrayView). a.resynced) f.array)
+
   target_before : (copied : Bitmap) (stopped new : MirrorView) → (stopped.array.halted ≡ false → IsConsistent stopped) → Leaves target copied stopped new
       → (n : MemberView) → IsMember new.array target n → (m : MemberView) × IsMember stopped.array target m
   target_before copied stopped new sound leaves n at =
@@ -725,10 +759,14 @@ module _ (target : ℕ) (old ready : MirrorView) (none : Bitmap) (b : Begins tar
     stand_then = stand_left target (failed_of s.listed) old.array copied stopped new (λ running. z.sound) leaves (λ running. z.stand) runs_then
 
     ended_leaving : (c : Bitmap) → ((now : MemberView) → IsMember new.array target now → EndsSo target fault (with_copied c s) now old new) → HasEnded target fault old new
-    ended_leaving c = has_ended target fault (with_copied c s) old stopped new new z.at z.pre z.grows rest_then (lasts_none target fault new) states_then (made_with c s old.array z.made)
+    ended_leaving c = has_ended target fault (with_copied c s) old stopped new new z.at z.pre z.grows rest_then (lasts_none target fault new) stays_then z.resynced (made_with c s old.array z.made)
       where
-        states_then : StatesStay target fault stopped.array new.array
-        states_then j x y other apart at_x at_y = ap (λ (l : MemberView). l.state) (same_Some y x (sym at_y ∙ (left_still copied stopped new (λ running. z.sound) leaves).0 j other ∙ at_x))
+        stays_then : StaysSo target fault stopped.array new.array
+        stays_then = record {
+          states = λ j x y other apart at_x at_y. ap (λ (l : MemberView). l.state) (same_Some y x (sym at_y ∙ (left_still copied stopped new (λ running. z.sound) leaves).0 j other ∙ at_x));
+          marks = (left_array copied stopped new leaves).0;
+          resynced = (left_array copied stopped new leaves).1;
+        }
 
     -- how far it is rebuilt: as far as it was, or by what was copied since
     left_to : (stopped.array.marks.chunks ≡ copied.chunks → IsWithin copied s.copied) → RebuiltTo target old.array s.member new s.copied
@@ -848,11 +886,18 @@ module _ (target : ℕ) (old ready : MirrorView) (none : Bitmap) (b : Begins tar
     rest_lost : KeepsRest target noted new
     rest_lost = rest_on target noted stopped new (rest_list target k f.pass.failed noted stopped z_noted.recovers stops) (rest_left target copied stopped new sound_lost leaves)
 
-    stand_lost : new.array.halted ≡ false → ListsStand target (failed_of e.passes) old.array new
+    knows_lost : Knows target (failed_of e.passes) old.array noted
+    knows_lost j m z other at at_z sector is =
+        (z_noted.grows.lists j m z other at at_z sector).1 (elim is [
+          | inl was ↦ inl was
+          | inr of ↦ inr (more_failed old.array.chunks (failed_of e.passes) f.pass.failed m sector of)
+        ])
+
+    stand_lost : new.array.halted ≡ false → ListsStandWithin target (failed_of e.passes) old.array new
     stand_lost =
-        stand_left target (failed_of e.passes) old.array copied stopped new sound_lost leaves (λ running. elim stops.ends [
+        within_left target (failed_of e.passes) old.array copied stopped new sound_lost leaves (λ running. elim stops.ends [
           | inl lost ↦
-              stand_listing target (failed_of e.passes) old.array f.pass.failed k noted stopped stops lost.loses.goes.array.as_many z_noted.stand
+              stand_listing target (failed_of e.passes) old.array f.pass.failed k noted stopped stops lost.loses.goes.array.as_many z_noted.stand knows_lost
               (λ n at in_sync. both_ways (is_in_sync n.state) (ap (λ (x : MemberView). is_in_sync x.state) (same_Some n lost.faulty.member (sym at ∙ lost.faulty.at)) ∙ ap is_in_sync lost.faulty.faulty) in_sync)
           | inr at ↦ absurd (both_ways stopped.array.halted running (halts_list k noted stopped at))
         ])
@@ -919,13 +964,17 @@ module _ (target : ℕ) (old ready : MirrorView) (none : Bitmap) (b : Begins tar
             (λ c low set. absurd (both_ways (is_set copied.bytes c) (nothing c low) set))
         by (inr (inr g)) = array_to target old b.sound b.member b.at stopped new e.why.0 g.array to_stopped
 
-    states_lost : StatesStay target (MetadataFault k) noted.array new.array
-    states_lost j x y other apart at_x at_y =
-        (stops.members j x y at_x (sym ((left_still copied stopped new sound_lost leaves).0 j other) ∙ at_y)).1 (λ same. apart (ap (λ i. MetadataFault i) (sym same)))
+    stays_lost : StaysSo target (MetadataFault k) noted.array new.array
+    stays_lost = record {
+      states = λ j x y other apart at_x at_y.
+          (stops.members j x y at_x (sym ((left_still copied stopped new sound_lost leaves).0 j other) ∙ at_y)).1 (λ same. apart (ap (λ i. MetadataFault i) (sym same)));
+      marks = (left_array copied stopped new leaves).0 ∙ list_marks target k f.pass.failed noted stopped stops;
+      resynced = (left_array copied stopped new leaves).1 ∙ list_resynced target k f.pass.failed noted stopped stops;
+    }
 
     ended_source : HasEnded target (MetadataFault k) old new
     ended_source =
-        has_ended target (MetadataFault k) s old noted new new b.at z_noted.pre z_noted.grows rest_lost (lasts_none target (MetadataFault k) new) states_lost z_noted.made
+        has_ended target (MetadataFault k) s old noted new new b.at z_noted.pre z_noted.grows rest_lost (lasts_none target (MetadataFault k) new) stays_lost z_noted.resynced z_noted.made
         (λ now there. record {
           other = other_lost;
           lost = lost_so;
@@ -947,7 +996,7 @@ module _ (target : ℕ) (old ready : MirrorView) (none : Bitmap) (b : Begins tar
       let f = e.why.1 in
       let z = ends_filled _ e f.pass f.is f.member f.at new f.breaks.filling f.sound in
       has_ended target TargetFault (ended e.passes (bare f.pass ∷ []) [] e.copied) old new new new b.at z.pre z.grows (rest_none target new) (lasts_none target TargetFault new)
-      (states_same target TargetFault new.array new.array refl) z.made
+      (stays_same target TargetFault new.array new.array refl) z.resynced z.made
       (λ now at_now. record {
         running = z.running;
         failed = fails_after target target (failed_of e.passes) (failed_of e.passes) old e.now new (there _ e) (grown _ e) f.breaks.failed;
@@ -959,7 +1008,7 @@ module _ (target : ℕ) (old ready : MirrorView) (none : Bitmap) (b : Begins tar
       let f = e.why in
       let z = ends_filled _ e f.pass f.makes.is f.makes.member f.makes.at f.filled f.makes.copies.filling f.makes.sound in
       has_ended target TargetFault (ended e.passes (bare f.pass ∷ []) [] e.copied) old f.filled new new b.at z.pre z.grows (rest_unrecordable target f.after f.filled new f.makes.sound f.fails) (lasts_none target TargetFault new)
-      (states_same target TargetFault f.filled.array new.array f.fails.array) z.made
+      (stays_same target TargetFault f.filled.array new.array f.fails.array) z.resynced z.made
       (λ now at_now. record {
         running = ap (λ (a : ArrayView). a.halted) f.fails.array ∙ z.running;
         failed = fails_after target target (failed_of e.passes ++ []) (failed_of (e.passes ++ bare f.pass ∷ [])) old f.filled new z.pre z.grows f.fails.disks.failed;
@@ -973,7 +1022,7 @@ module _ (target : ℕ) (old ready : MirrorView) (none : Bitmap) (b : Begins tar
       let c = e.fills.copies in
       let z = ends_copied e.passes e.copied e.filled c in
       has_ended target TargetFault (ended c.listed (c.last ∷ []) [] e.copied) old e.filled new new b.at z.pre z.grows (rest_unenrolled target e.kept e.orphans e.filled new e.why) (lasts_none target TargetFault new)
-      (states_same target TargetFault e.filled.array new.array e.why.array) z.made
+      (stays_same target TargetFault e.filled.array new.array e.why.array) z.resynced z.made
       (λ now at_now. record {
         running = ap (λ (a : ArrayView). a.halted) e.why.array ∙ z.running;
         failed = fails_after target target (failed_of c.listed ++ []) (failed_of (c.listed ++ c.last ∷ [])) old e.filled new z.pre z.grows (λ d g at_d at_g. (e.why.disks.change d g at_d at_g).0.failed);
@@ -989,26 +1038,30 @@ module _ (target : ℕ) where
   ended_at_once : (fault : RebuildFault) (old new : MirrorView) → (h : RefusesAtOnce target fault old new) → ((now : MemberView) → EndsSo target fault (none_made old.array h.member) now old new) → HasEnded target fault old new
   ended_at_once fault old new h so =
       has_ended target fault (none_made old.array h.member) old old old new h.at (preserves_none target old) (grows_none target old) (rest_none target old)
-      (subst (λ (v : MirrorView). Lasts target fault old v) (sym h.unchanged) (lasts_none target fault old)) (states_same target fault old.array old.array refl) (made_none old.array h.member) (λ now there. so now)
+      (subst (λ (v : MirrorView). Lasts target fault old v) (sym h.unchanged) (lasts_none target fault old)) (stays_same target fault old.array old.array refl) refl (made_none old.array h.member) (λ now there. so now)
 
   -- nothing was copied
-  ended_rest : (fault : RebuildFault) (old new : MirrorView) (m : MemberView) → IsMember old.array target m → KeepsRest target old new → StatesStay target fault old.array new.array
+  ended_rest : (fault : RebuildFault) (old new : MirrorView) (m : MemberView) → IsMember old.array target m → KeepsRest target old new → StaysSo target fault old.array new.array
       → ((now : MemberView) → IsMember new.array target now → EndsSo target fault (none_made old.array m) now old new) → HasEnded target fault old new
   ended_rest fault old new m at rest states =
-      has_ended target fault (none_made old.array m) old old new new at (preserves_none target old) (grows_none target old) rest (lasts_none target fault new) states (made_none old.array m)
+      has_ended target fault (none_made old.array m) old old new new at (preserves_none target old) (grows_none target old) rest (lasts_none target fault new) states refl (made_none old.array m)
 
   -- what is due was stored, and then no state changed
-  states_stored : (fault : RebuildFault) (old mid new : MirrorView) → Stores IsStoring old mid → new.array ≡ mid.array → StatesStay target fault old.array new.array
-  states_stored fault old mid new s is k m n other apart at there =
-      (let x = s.ready.each k n (ap (λ (a : ArrayView). slice_get a.members k) (sym is) ∙ there) in
-      ap (λ (z : MemberView). z.state) x.same ∙ ap (λ (z : MemberView). z.state) (same_Some x.before m (sym x.member ∙ at)))
+  stays_stored : (fault : RebuildFault) (old mid new : MirrorView) → Stores IsStoring old mid → new.array ≡ mid.array → StaysSo target fault old.array new.array
+  stays_stored fault old mid new s is = record {
+    states = λ k m n other apart at there.
+        (let x = s.ready.each k n (ap (λ (a : ArrayView). slice_get a.members k) (sym is) ∙ there) in
+        ap (λ (z : MemberView). z.state) x.same ∙ ap (λ (z : MemberView). z.state) (same_Some x.before m (sym x.member ∙ at)));
+    marks = ap (λ (a : ArrayView). a.marks) is ∙ s.goes.array.marks;
+    resynced = ap (λ (a : ArrayView). a.resynced) is ∙ s.goes.array.resynced;
+  }
 
   -- the target stays what it was
   as_before : (old new : MirrorView) (m now : MemberView) → IsMember old.array target m → IsMember new.array target now → StaysStill target old new → IsAsBefore (none_made old.array m) now
   as_before old new m now at there still = (let is = still m now at there in record { listed = refl; last = refl; state = is.0; offset = is.1 })
 
   -- a member failed before a pass
-  module _ (old a new : MirrorView) (k : ℕ) (m : MemberView) (at : IsMember old.array target m) (pre : Preserves target old a) (grows : GrowsSo target [] [] old a) (st : StopsSo target k a new) (other : k ≢ target)
+  module _ (old a new : MirrorView) (k : ℕ) (m : MemberView) (at : IsMember old.array target m) (pre : Preserves target old a) (grows : GrowsSo target [] [] old a) (resynced : a.array.resynced ≡ old.array.resynced) (st : StopsSo target k a new) (other : k ≢ target)
       (when : (now : MemberView) → IsMember st.last.array target now → IsAsBefore (none_made old.array m) now ⊎ IsAdmitted (none_made old.array m) now) where
     data_last : (n : MemberView) → IsMember old.array k n → AtDevice k old.disks st.last.disks (KeepsData n)
     data_last n at_n d x at_d at_x i l from to =
@@ -1038,8 +1091,12 @@ module _ (target : ℕ) where
       | inr h ↦ subst (λ (z : MemberView). KeepsDataBut x z d g) (same_Some h.member n (sym h.in_sync.member ∙ at_n)) (data_stopped x at_x h d g at_d at_g)
     ]
 
-    states_before : StatesStay target (MetadataFault k) a.array st.last.array
-    states_before j x y beside apart at_x at_y = st.states j x y (λ same. apart (ap (λ i. MetadataFault i) (sym same))) at_x at_y
+    stays_before : StaysSo target (MetadataFault k) a.array st.last.array
+    stays_before = record {
+      states = λ j x y beside apart at_x at_y. st.states j x y (λ same. apart (ap (λ i. MetadataFault i) (sym same))) at_x at_y;
+      marks = st.marks;
+      resynced = st.resynced;
+    }
 
     lost_before : IsLost k old.array new.array ⊎ HasHalted k old new
     lost_before = elim st.lost [
@@ -1063,12 +1120,12 @@ module _ (target : ℕ) where
 
     ended_before : HasEnded target (MetadataFault k) old new
     ended_before =
-        has_ended target (MetadataFault k) (none_made old.array m) old a st.last new at pre grows st.rest st.lasts states_before (made_none old.array m)
+        has_ended target (MetadataFault k) (none_made old.array m) old a st.last new at pre grows st.rest st.lasts stays_before resynced (made_none old.array m)
         (λ now there. record {
           other = other;
           lost = lost_before;
           when = inl (record { target_is = when now (sym (ap (λ (xs : List MemberView). slice_get xs target) st.lasts.members) ∙ there); noted = refl; kept = data_before });
-          stand = λ running. stand_none target old.array new;
+          stand = λ running. within_none target old.array new;
         })
 
   pub refused_ended : (old new : MirrorView) → IsConsistent old → (fault : RebuildFault) → RefusesRebuild target old new fault → HasEnded target fault old new
@@ -1079,7 +1136,7 @@ module _ (target : ℕ) where
   refused_ended old new sound EventsFull h = ended_at_once EventsFull old new h (λ now. record { unchanged = h.unchanged; halted_is = h.cannot.settled.has_target.running })
   refused_ended old new sound (MetadataFault k) (inl h) =
       (let st = stops_so target k old new h.may.settled.has_target.running h.why in
-      ended_before old old new k h.member h.at (preserves_none target old) (grows_none target old) st h.why.other (λ now there. inl (as_before old st.last h.member now h.at there st.still)))
+      ended_before old old new k h.member h.at (preserves_none target old) (grows_none target old) refl st h.why.other (λ now there. inl (as_before old st.last h.member now h.at there st.still)))
   refused_ended old new sound (MetadataFault k) (inr (inl h)) =
       let a = h.why.admitted in
       let after = h.why.after in
@@ -1087,7 +1144,8 @@ module _ (target : ℕ) where
       let st = stops_so target k a new runs h.why.stops in
       let marks = a.array.marks in
       ended_before old a new k h.member h.at (preserves_admitted target old a sound h.member h.at h.may after)
-      (grows_from target old a (starts_after target old a sound h.member h.at h.may after) (states_admitted target old a after) [] [] marks marks a (keeps_none target marks a)) st h.why.stops.other
+      (grows_from target old a (starts_after target old a sound h.member h.at h.may after) (states_admitted target old a after) [] [] marks marks a (keeps_none target marks a))
+      ((after_so target old a after h.member (was_spare target old a sound h.member h.at h.may after) h.may).resynced ∙ sym h.may.settled.resynced) st h.why.stops.other
       (λ now there.
       let then = admitted_is target old a after in
       let is = st.still (admitted_member after.admits.role after.admits.may.member) now then there in
@@ -1103,7 +1161,7 @@ module _ (target : ℕ) where
   refused_ended old new sound TargetFault (inl h) =
       let f = h.why in
       let runs = f.stores.ready.halted ∙ h.may.settled.has_target.running in
-      ended_rest TargetFault old new h.member h.at (rest_unrecorded target old new f) (states_stored TargetFault old f.mid new f.stores f.fails.array)
+      ended_rest TargetFault old new h.member h.at (rest_unrecorded target old new f) (stays_stored TargetFault old f.mid new f.stores f.fails.array)
       (λ now there. record {
         running = ap (λ (a : ArrayView). a.halted) f.fails.array ∙ runs;
         failed = fails_rest target target old f.mid new (rest_stores target old f.mid f.stores) f.fails.disks.failed;
@@ -1114,7 +1172,7 @@ module _ (target : ℕ) where
   refused_ended old new sound TargetFault (inr (inl h)) =
       let f = h.why in
       let runs = f.first.stores.ready.halted ∙ h.may.settled.has_target.running in
-      ended_rest TargetFault old new h.member h.at (rest_unadmitted target old new f) (states_stored TargetFault old f.stored new f.first.stores f.fails.array)
+      ended_rest TargetFault old new h.member h.at (rest_unadmitted target old new f) (stays_stored TargetFault old f.stored new f.first.stores f.fails.array)
       (λ now there. record {
         running = ap (λ (a : ArrayView). a.halted) f.fails.array ∙ runs;
         failed = fails_rest target target old f.stored new (rest_stores target old f.stored f.first.stores) f.fails.disks.failed;
@@ -1125,7 +1183,7 @@ module _ (target : ℕ) where
   refused_ended old new sound TargetFault (inr (inr e)) = ended_target target old e.ready e.none e.begins new e.why
   refused_ended old new sound NoMemory (inl h) = elim h.why [
     | inl same ↦
-        ended_rest NoMemory old new h.member h.at (subst (KeepsRest target old) (sym same) (rest_none target old)) (states_same target NoMemory old.array new.array (ap (λ (v : MirrorView). v.array) same))
+        ended_rest NoMemory old new h.member h.at (subst (KeepsRest target old) (sym same) (rest_none target old)) (stays_same target NoMemory old.array new.array (ap (λ (v : MirrorView). v.array) same))
         (λ now there. record {
           running = ap (λ (v : MirrorView). v.array.halted) same ∙ h.may.settled.has_target.running;
           target_is = inl (as_before old new h.member now h.at there (still_same target old new (ap (λ (v : MirrorView). v.array) same)));
@@ -1133,7 +1191,7 @@ module _ (target : ℕ) where
           stand = stand_none target old.array new;
         })
     | inr lacks ↦
-        ended_rest NoMemory old new h.member h.at (rest_stores target old new lacks.first.stores) (states_stored NoMemory old new new lacks.first.stores refl)
+        ended_rest NoMemory old new h.member h.at (rest_stores target old new lacks.first.stores) (stays_stored NoMemory old new new lacks.first.stores refl)
         (λ now there. record {
           running = lacks.first.stores.ready.halted ∙ h.may.settled.has_target.running;
           target_is = inl (as_before old new h.member now h.at there (still_stored target old new lacks.first.stores));

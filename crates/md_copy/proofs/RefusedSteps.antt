@@ -1,5 +1,5 @@
 -- What a rebuild leaves as it was before a pass, and once it has stopped.
-use Rattle.std.proofs.Common.{◌≡◌, ◌≢◌, ◌∙◌, ◌⊎◌, ◌↔◌, ℕ, ◌+◌, ◌*◌, ◌≤◌, ◌||◌, leb, true, false, List, [], length, length-set, get_or, slice_get, None, refl, sym, ap, subst, arith, inl, inr}
+use Rattle.std.proofs.Common.{◌≡◌, ◌≢◌, ◌∙◌, ◌⊎◌, ◌↔◌, ℕ, ◌+◌, ◌*◌, ◌<◌, ◌≤◌, ◌||◌, leb, max, true, false, List, [], length, length-set, count_by, get_or, slice_get, Some, None, refl, sym, ap, subst, arith, inl, inr}
 use Rattle.std.proofs.lemmas.Bool.{both_ways, cases_eq}
 use Rattle.std.proofs.lemmas.Option.{same_Some, slice_get-get_or, slice_get_within}
 use Rattle.std.proofs.Math.Nat.{le-max_left}
@@ -14,6 +14,7 @@ use Rattle.md_device.specs.Splice.{part}
 use Rattle.md_kept_members.specs.Enrolling.{IsOfChunk}
 use Rattle.md_kept_members.specs.TakingBack.{admitted_member, with_offset}
 use Rattle.md_kept_members.specs.View.{MemberView}
+use Rattle.md_pass.specs.Readings.{is_of}
 use Rattle.md_passes.specs.Listed.{IsOfFailed}
 use Rattle.md_model.specs.Events.{Event}
 use Rattle.md_model.specs.Rebuilding.{lacks}
@@ -40,7 +41,7 @@ use Rattle.md_copy.specs.Storing.{FailsOnTarget, StopsAt}
 use Rattle.md_copy.proofs.Halting.{HaltsOn, halts_on, lasts_halted}
 use Rattle.md_copy.proofs.HeldRecorded.{chunks_is, data_kept, lacked, marks_is, other_is, out_of_sync, target_same as checkpointed_is}
 use Rattle.md_copy.proofs.PassesKeep.{PassesKeep}
-use Rattle.md_copy.proofs.Readied.{ready_of, recovering_admitted, spare_is, spare_twice, stored_so}
+use Rattle.md_copy.proofs.Readied.{after_so, ready_of, recovering_admitted, spare_is, spare_twice, stored_so}
 use Rattle.md_copy.proofs.ReadyStill.{list_halted, storing_states}
 use Rattle.md_copy.proofs.Refused.{GrowsSo, IsSameOrLost, KeepsRest, Lasts, Preserves, StaysTarget, lasts_none, preserves_rest, preserves_started, rest_alone, rest_none, rest_on, rest_stored, rest_super, target_same}
 use Rattle.md_copy.proofs.StartedAs.{IsAs, StartsAs, starts_on}
@@ -100,6 +101,8 @@ pub record StopsSo (target k : ℕ) (old new : MirrorView) : Type 0 where
   pub lasts : Lasts target (MetadataFault k) last new
   pub lost : IsLost k old.array new.array ⊎ HaltsBy k last new
   pub states : (j : ℕ) (m n : MemberView) → j ≢ k → IsMember old.array j m → IsMember last.array j n → n.state ≡ m.state
+  pub marks : last.array.marks ≡ old.array.marks
+  pub resynced : last.array.resynced ≡ old.array.resynced
 
 pub stops_so : (target k : ℕ) (old new : MirrorView) → old.array.halted ≡ false → StopsAt target k old new → StopsSo target k old new
 stops_so target k old new running h = elim h.ends [
@@ -120,6 +123,8 @@ stops_so target k old new running h = elim h.ends [
           faulty = lost.faulty.faulty;
         });
         states = λ j m n apart at there. (let x = storing_states j k old new (λ same. apart (sym same)) lost n there in x.2 ∙ ap (λ (z : MemberView). z.state) (same_Some x.0 m (sym x.1 ∙ at)));
+        marks = goes.array.marks;
+        resynced = goes.array.resynced;
       }
   | inr at ↦
       let on = halts_on k at.mid new at.stores.goes.sound at.failing at.of at.named (at.halts (λ n. None)) in
@@ -130,6 +135,8 @@ stops_so target k old new running h = elim h.ends [
         lasts = lasts_halted target k at.mid new h.other on;
         lost = inr (record { on = on; member = at.member; in_sync = at.in_sync; alone = at.alone });
         states = λ j m n apart at_m there. ap (λ (z : MemberView). z.state) (as_was target old at.mid at.stores j m n at_m there);
+        marks = at.stores.goes.array.marks;
+        resynced = at.stores.goes.array.resynced;
       }
 ]
 
@@ -395,13 +402,14 @@ halted_array mid new (Event.StoreLog j listed) of h = absurd h
 halted_array mid new e of h = absurd of
 
 -- whether it is stored or not, what the mirror keeps of chunks and marks is as before
-list_same : (k : ℕ) (failed : List Slot) (v w : MirrorView) → StopsAtList failed k v w → (w.array.chunks ≡ v.array.chunks) × (w.array.marks ≡ v.array.marks)
+list_same : (k : ℕ) (failed : List Slot) (v w : MirrorView) → StopsAtList failed k v w
+    → (w.array.chunks ≡ v.array.chunks) × (w.array.marks ≡ v.array.marks) × (w.array.resynced ≡ v.array.resynced)
 list_same k failed v w h = elim h.ends [
-  | inl lost ↦ (lost.loses.goes.array.chunks, lost.loses.goes.array.marks)
+  | inl lost ↦ (lost.loses.goes.array.chunks, lost.loses.goes.array.marks, lost.loses.goes.array.resynced)
   | inr at ↦
       let s = at.halts.halts in
       let is = halted_array s.mid w s.failing s.of (s.halts (λ n. None)) in
-      (ap (λ (a : ArrayView). a.chunks) is ∙ s.goes.array.chunks, ap (λ (a : ArrayView). a.marks) is ∙ s.goes.array.marks)
+      (ap (λ (a : ArrayView). a.chunks) is ∙ s.goes.array.chunks, ap (λ (a : ArrayView). a.marks) is ∙ s.goes.array.marks, ap (λ (a : ArrayView). a.resynced) is ∙ s.goes.array.resynced)
 ]
 
 pub list_chunks : (target k : ℕ) (failed : List Slot) (v w : MirrorView) → StopsAtList failed k v w → w.array.chunks ≡ v.array.chunks
@@ -409,6 +417,9 @@ list_chunks target k failed v w h = (list_same k failed v w h).0
 
 pub list_marks : (target k : ℕ) (failed : List Slot) (v w : MirrorView) → StopsAtList failed k v w → w.array.marks ≡ v.array.marks
 list_marks target k failed v w h = (list_same k failed v w h).1
+
+pub list_resynced : (target k : ℕ) (failed : List Slot) (v w : MirrorView) → StopsAtList failed k v w → w.array.resynced ≡ v.array.resynced
+list_resynced target k failed v w h = (list_same k failed v w h).2
 
 -- and so is what a member lacks
 pub list_missing : (target k : ℕ) (failed : List Slot) (v w : MirrorView) → StopsAtList failed k v w → (n : MemberView) (c : ℕ) → is_missing w.array n c ≡ is_missing v.array n c

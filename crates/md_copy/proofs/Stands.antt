@@ -1,12 +1,15 @@
 -- What was listed of passes that were stored stands on the devices, whatever comes after them.
-use Rattle.std.proofs.Common.{◌≡◌, ◌≢◌, ◌∙◌, ◌⊎◌, ℕ, true, false, List, [], length, slice_get, Some, refl, sym, ap, subst, arith, inl, inr}
+use Rattle.std.proofs.Common.{◌≡◌, ◌≢◌, ◌∙◌, ◌⊎◌, ◌↔◌, ℕ, ◌<◌, true, false, List, [], ◌∷◌, ◌++◌, append-nil, length, get_or, slice_get, Some, refl, sym, ap, subst, arith, inl, inr}
 use Rattle.std.proofs.lemmas.Bool.{both_ways, cases_eq}
-use Rattle.std.proofs.lemmas.Option.{same_Some, slice_get_within}
+use Rattle.std.proofs.lemmas.List.Elements.{Contains-append_left}
+use Rattle.std.proofs.lemmas.Option.{same_Some, slice_get-get_or, slice_get_within}
 use Rattle.md_assembly.specs.States.{is_in_sync}
 use Rattle.md_assembly.proofs.Indices.{got_within}
 use Rattle.md_badblocks.specs.Runs.{IsBad}
 use Rattle.md_bitmap.specs.Marks.{Bitmap}
+use Rattle.md_bitmap.specs.declared.chunks.Chunks.{Chunks}
 use Rattle.md_cert.specs.declared.slots.Slot.{Slot}
+use Rattle.md_cert.specs.Plans.{SlotsRise}
 use Rattle.md_kept_members.specs.View.{MemberView}
 use Rattle.md_passes.specs.Listed.{IsOfFailed}
 use Rattle.md_state.specs.Members.{IsMember}
@@ -19,24 +22,31 @@ use Rattle.md_array.specs.Worlds.{is_listed}
 use Rattle.md_copy.specs.Filling.{IsFilling}
 use Rattle.md_copy.specs.Leaving.{Leaves}
 use Rattle.md_copy.specs.Listing.{HasFailed, HasListOn, NotesLists, StopsAtList}
-use Rattle.md_copy.specs.Refused.{HasListWithin, ListsStand}
+use Rattle.md_copy.specs.Refused.{HasListWithin, HasListed, IsKnown, ListsStand, ListsStandWithin}
 use Rattle.md_copy.proofs.HeldRecorded.{other_is}
+use Rattle.md_copy.proofs.PassesKeep.{disk_then}
 
 -- ---- nothing was listed
 pub stand_none : (target : ℕ) (old : ArrayView) (v : MirrorView) → ListsStand target [] old v
 stand_none target old v k m n e other at has = (let low = has.2 in absurd (omega (arith, low)))
 
--- a list that stands there exactly
-pub within_exact : (Known : ℕ → Type 0) (n : MemberView) (content : List ℕ) → HasListOn n.bad content → ((sector : ℕ) → Known sector → IsBad n.bad sector) → HasListWithin Known n.bad content
-within_exact Known n content on known = record {
+pub within_none : (target : ℕ) (old : ArrayView) (v : MirrorView) → ListsStandWithin target [] old v
+within_none target old v k m n e other at has = (let low = has.2 in absurd (omega (arith, low)))
+
+-- what a member lists stands there
+pub listed_exact : (Known : ℕ → Type 0) (n : MemberView) (content : List ℕ) → HasListOn n.bad content → ((sector : ℕ) → IsBad n.bad sector ↔ Known sector) → HasListed Known content
+listed_exact Known n content on known = record {
   super = on.super;
   read = on.read;
-  known = λ sector is. (on.listed sector).1 (known sector is);
-  only = λ sector. (on.listed sector).0;
+  listed = λ sector. (λ is. (known sector).0 ((on.listed sector).0 is), λ is. (on.listed sector).1 ((known sector).1 is));
 }
 
+-- slots more
+pub more_failed : (q : Chunks) (xs ys : List Slot) (m : MemberView) (sector : ℕ) → IsOfFailed q xs m sector → IsOfFailed q (xs ++ ys) m sector
+more_failed q xs ys m sector of = record { slot = of.slot; there = Contains-append_left xs ys of.slot of.there; own = of.own; of_chunk = of.of_chunk }
+
 -- ---- what leaves them there
--- who is in sync now was so, on the same bytes, and its list is no shorter
+-- who is in sync now was so, on the same bytes
 pub record WasOn (k : ℕ) (v : MirrorView) (n : MemberView) (e : Disk) : Type 0 where
   pub member : MemberView
   pub device : Disk
@@ -45,7 +55,6 @@ pub record WasOn (k : ℕ) (v : MirrorView) (n : MemberView) (e : Disk) : Type 0
   pub in_sync : is_in_sync member.state ≡ true
   pub honest : device.honest ≡ true
   pub content : e.content ≡ device.content
-  pub bad : (sector : ℕ) → IsBad member.bad sector → IsBad n.bad sector
 
 module _ (target : ℕ) (stored : List Slot) (old : ArrayView) where
   abbrev Stand : MirrorView → Type 0
@@ -59,8 +68,8 @@ module _ (target : ℕ) (stored : List Slot) (old : ArrayView) where
       record {
         super = h.super;
         read = subst (λ (c : List ℕ). IsSuperOn c h.super) (sym x.content) h.read;
-        known = λ sector is. ap (λ (c : List ℕ). is_listed h.super c sector) x.content ∙ h.known sector is;
-        only = λ sector is. x.bad sector (h.only sector (sym (ap (λ (c : List ℕ). is_listed h.super c sector) x.content) ∙ is));
+        listed = λ sector.
+            (let same = ap (λ (c : List ℕ). is_listed h.super c sector) x.content in (λ is. (h.listed sector).0 (sym same ∙ is), λ is. same ∙ (h.listed sector).1 is));
       }
 
   -- no other member and no other device changed
@@ -75,7 +84,6 @@ module _ (target : ℕ) (stored : List Slot) (old : ArrayView) where
         in_sync = in_sync;
         honest = honest;
         content = refl;
-        bad = λ sector is. is;
       })
 
   -- the target is filled
@@ -94,7 +102,6 @@ module _ (target : ℕ) (stored : List Slot) (old : ArrayView) where
         in_sync = in_sync;
         honest = sym read.honest_kept ∙ honest;
         content = read.content_kept;
-        bad = λ sector is. is;
       })
 
   -- how far it is rebuilt is recorded, or is not
@@ -109,6 +116,26 @@ module _ (target : ℕ) (stored : List Slot) (old : ArrayView) where
       absurd (both_ways v.array.halted (ap (λ (x : MirrorView). x.array.halted) (sym same.1) ∙ running) same.0)
   stand_left copied v w sound (inr (inl r)) so running = stand_recorded copied v w (sound r.may.idle.running) r (so r.may.idle.running)
   stand_left copied v w sound (inr (inr f)) so running = stand_unrecorded copied v w f (so f.running)
+
+  -- so it is where lists of the last pass may be stored
+  abbrev Within : MirrorView → Type 0
+  Within = ListsStandWithin target stored old
+
+  within_same : (v w : MirrorView) → ((k : ℕ) → k ≢ target → slice_get w.array.members k ≡ slice_get v.array.members k) → ((k : ℕ) → k ≢ target → slice_get w.disks k ≡ slice_get v.disks k)
+      → Within v → Within w
+  within_same v w members disks so k m n e other at has there in_sync at_e = so k m n e other at has (sym (members k other) ∙ there) in_sync (sym (disks k other) ∙ at_e)
+
+  pub within_left : (copied : Bitmap) (v w : MirrorView) → (v.array.halted ≡ false → IsConsistent v) → Leaves target copied v w → (v.array.halted ≡ false → Within v) → w.array.halted ≡ false → Within w
+  within_left copied v w sound (inl same) so running =
+      absurd (both_ways v.array.halted (ap (λ (x : MirrorView). x.array.halted) (sym same.1) ∙ running) same.0)
+  within_left copied v w sound (inr (inl r)) so running =
+      within_same v w (other_is target copied v w (sound r.may.idle.running) r) r.disks.tried.others (so r.may.idle.running)
+  within_left copied v w sound (inr (inr f)) so running =
+      within_same v w (λ k other. ap (λ (a : ArrayView). slice_get a.members k) f.array) f.disks.tried.others (so f.running)
+
+  -- the mirror lists these sectors
+  abbrev pub Knows : MirrorView → Type 0
+  Knows v = (k : ℕ) (m z : MemberView) → k ≢ target → IsMember old k m → IsMember v.array k z → (sector : ℕ) → IsKnown old stored m sector → IsBad z.bad sector
 
   -- it does not come into sync
   pub stand_unenrolled : (kept orphans : Bitmap) (v w : MirrorView) → FailsToEnrol target kept orphans v w → Stand v → Stand w
@@ -127,33 +154,39 @@ module _ (target : ℕ) (stored : List Slot) (old : ArrayView) where
         in_sync = ap is_in_sync (sym b.2.state) ∙ in_sync;
         honest = honest;
         content = refl;
-        bad = λ sector is. (b.2.bad sector).1 (inl is);
       })
 
   -- A list of member i is not stored. Of another one in sync the list is stored, or its device is as it was.
-  module _ (failed : List Slot) (i : ℕ) (v w : MirrorView) (h : StopsAtList failed i v w) (many : length w.array.members ≡ length v.array.members) (so : Stand v) where
+  module _ (failed : List Slot) (i : ℕ) (v w : MirrorView) (h : StopsAtList failed i v w) (many : length w.array.members ≡ length v.array.members) (so : Stand v) (knows : Knows v) where
     stand_other : (k : ℕ) (m z n : MemberView) (d e : Disk) → k ≢ target → k ≢ i → IsMember old k m → HasFailed stored m → IsMember v.array k z → IsMember w.array k n → is_in_sync n.state ≡ true
-        → slice_get v.disks k ≡ Some d → slice_get w.disks k ≡ Some e → e.honest ≡ true → HasListWithin (λ sector. IsBad m.bad sector ⊎ IsOfFailed old.chunks stored m sector) n.bad e.content
+        → slice_get v.disks k ≡ Some d → slice_get w.disks k ≡ Some e → e.honest ≡ true → HasListWithin (IsKnown old stored m) n.bad e.content
     stand_other k m z n d e other apart at has at_z at_n in_sync at_d at_e honest =
         let kept = h.members k z n at_z at_n in
         let was : is_in_sync z.state ≡ true = ap is_in_sync (sym (kept.1 apart)) ∙ in_sync in
         let before = so k m z d other at has at_z was at_d (sym (h.writes.stays k d e at_d at_e).honest ∙ honest) in
         let same = kept.0.bad in
         elim (h.others k z apart at_z was) [
-          | inl on ↦
-              within_exact (λ sector. IsBad m.bad sector ⊎ IsOfFailed old.chunks stored m sector) n e.content (subst (λ runs. HasListOn runs e.content) (sym same) (on e at_e honest))
-              (λ sector is. subst (λ runs. IsBad runs sector) (sym same) (before.only sector (before.known sector is)))
+          | inl stores ↦
+              let on = stores e at_e honest in
+              record {
+                super = on.super;
+                read = on.read;
+                known = λ sector is. (on.listed sector).1 (knows k m z other at at_z sector is);
+                only = λ sector is. subst (λ runs. IsBad runs sector) (sym same) ((on.listed sector).0 is);
+              }
           | inr still ↦
               let content : e.content ≡ d.content = ap (λ (x : Disk). x.content) (same_Some e d (sym at_e ∙ still ∙ at_d)) in
               record {
                 super = before.super;
                 read = subst (λ (c : List ℕ). IsSuperOn c before.super) (sym content) before.read;
-                known = λ sector is. ap (λ (c : List ℕ). is_listed before.super c sector) content ∙ before.known sector is;
-                only = λ sector is. subst (λ runs. IsBad runs sector) (sym same) (before.only sector (sym (ap (λ (c : List ℕ). is_listed before.super c sector) content) ∙ is));
+                known = λ sector is. ap (λ (c : List ℕ). is_listed before.super c sector) content ∙ (before.listed sector).1 is;
+                only = λ sector is.
+                    subst (λ runs. IsBad runs sector) (sym same)
+                    (knows k m z other at at_z sector ((before.listed sector).0 (sym (ap (λ (c : List ℕ). is_listed before.super c sector) content) ∙ is)));
               }
         ]
 
-    pub stand_listing : ((n : MemberView) → IsMember w.array i n → is_in_sync n.state ≡ true → ⊥) → Stand w
+    pub stand_listing : ((n : MemberView) → IsMember w.array i n → is_in_sync n.state ≡ true → ⊥) → Within w
     stand_listing out k m n e other at has at_n in_sync at_e honest = elim (cases_eq k i) [
       | inl here ↦ absurd (out n (sym (ap (slice_get w.array.members) here) ∙ at_n) in_sync)
       | inr apart ↦

@@ -1,6 +1,5 @@
 -- What stands after a rebuild that is refused, fault by fault, in plain terms, whatever the steps were (this project's own).
 use Rattle.std.specs.Prelude.{◌≡◌, ◌≢◌, ◌⊎◌, ◌↔◌, ℕ, ◌+◌, ◌*◌, ◌<◌, ◌≤◌, Bool, true, false, List, [], ◌∷◌, ◌++◌, cond, length, max, slice_get, All, Some}
-use Rattle.std.specs.List.{Any}
 use Rattle.md_assembly.specs.declared.state.MemberState.TheVariants.{Faulty}
 use Rattle.md_assembly.specs.States.{is_in_sync, is_in_sync_as, is_recorded, is_recovering, is_spare}
 use Rattle.md_badblocks.specs.declared.run.Run.{Run}
@@ -23,7 +22,7 @@ use Rattle.md_array.specs.Lending.{IsBesideMissing}
 use Rattle.md_array.specs.ReadAsKept.{IsSuperOn}
 use Rattle.md_array.specs.Worlds.{is_listed}
 use Rattle.md_passes.specs.Listed.{AreCopiedBy, IsArrayPass, IsOfFailed, ListsFailed, MayServe, ServesAs, most_failures}
-use Rattle.md_passes.specs.Passes.{IsCopiedIn, PassView, failed_chunks, slots_of}
+use Rattle.md_passes.specs.Passes.{IsCopiedIn, PassView, failed_chunks}
 use Rattle.md_copy.specs.declared.fault.RebuildFault.{RebuildFault}
 use Rattle.md_copy.specs.declared.fault.RebuildFault.TheVariants.{Halted, NotSpare, Dirty, InFlight, LogFull, NoMemory, TargetFault, MetadataFault, EventsFull}
 use Rattle.md_copy.specs.Filling.{CountsFailed}
@@ -101,24 +100,40 @@ pub record IsRebuiltSoFar (a : ArrayView) (s : Ending) (now : MemberView) : Type
   pub recovering : is_recovering now.state ≡ true
   pub to : IsRebuiltTo a s.member s.copied now.superblock.recovery_offset
 
--- what the passes copied that were listed, and some of what the last one was to copy, which may have been broken off
+-- what the passes copied that were listed, and no more than the last one copied too; of one that was broken off, than it was to copy
 pub record HasCopied (s : Ending) : Type 0 where
   pub listed : (c : ℕ) → IsCopiedIn s.listed c → is_set s.copied.bytes c ≡ true
-  pub only : (c : ℕ) → is_set s.copied.bytes c ≡ true → IsCopiedIn s.listed c ⊎ Any (λ p. Any (λ slot. slot.chunk ≡ c) (slots_of p)) s.last
+  pub only : (c : ℕ) → is_set s.copied.bytes c ≡ true → IsCopiedIn (s.listed ++ s.last) c
 
 -- ---- the lists
--- An opening reads a superblock there. The log that this names lists these sectors, and none that is not in the list.
+-- An opening reads a superblock there, and in the log that this names are these sectors listed, and no others.
+pub record HasListed (Known : ℕ → Type 0) (content : List ℕ) : Type 0 where
+  pub super : Superblock
+  pub read : IsSuperOn content super
+  pub listed : (sector : ℕ) → (is_listed super content sector ≡ true) ↔ Known sector
+
+-- Or these, and none that is not in the list.
 pub record HasListWithin (Known : ℕ → Type 0) (list : List Run) (content : List ℕ) : Type 0 where
   pub super : Superblock
   pub read : IsSuperOn content super
   pub known : (sector : ℕ) → Known sector → is_listed super content sector ≡ true
   pub only : (sector : ℕ) → is_listed super content sector ≡ true → IsBad list sector
 
+-- the sector is in the member's list, or of a slot of it that failed
+abbrev pub IsKnown : ArrayView → List Slot → MemberView → ℕ → Type 0
+IsKnown old stored m sector = IsBad m.bad sector ⊎ IsOfFailed old.chunks stored m sector
+
 -- So it is of each other member in sync of which one of these slots failed: its list before, and the chunks of these slots.
 abbrev pub ListsStand : ℕ → List Slot → ArrayView → MirrorView → Type 0
 ListsStand target stored old new =
     (k : ℕ) (m n : MemberView) (e : Disk) → k ≢ target → IsMember old k m → HasFailed stored m → IsMember new.array k n → is_in_sync n.state ≡ true
-    → slice_get new.disks k ≡ Some e → e.honest ≡ true → HasListWithin (λ sector. IsBad m.bad sector ⊎ IsOfFailed old.chunks stored m sector) n.bad e.content
+    → slice_get new.disks k ≡ Some e → e.honest ≡ true → HasListed (IsKnown old stored m) e.content
+
+-- Or these, and no more than its list in memory: lists of the last pass may be stored.
+abbrev pub ListsStandWithin : ℕ → List Slot → ArrayView → MirrorView → Type 0
+ListsStandWithin target stored old new =
+    (k : ℕ) (m n : MemberView) (e : Disk) → k ≢ target → IsMember old k m → HasFailed stored m → IsMember new.array k n → is_in_sync n.state ≡ true
+    → slice_get new.disks k ≡ Some e → e.honest ≡ true → HasListWithin (IsKnown old stored m) n.bad e.content
 
 -- Of the slots of the last pass that failed the first are listed in memory, and this one is not, for this reason.
 pub record NotesSome (s : Ending) (Why : Slot → Type 0) : Type 0 where
@@ -240,7 +255,7 @@ pub record EndsWithMember (target k : ℕ) (s : Ending) (now : MemberView) (old 
   pub other : k ≢ target
   pub lost : IsLost k old.array new.array ⊎ HasHalted k old new
   pub when : LosesBefore k s now old new ⊎ LosesSource k s now old new
-  pub stand : new.array.halted ≡ false → ListsStand target (failed_of s.listed) old.array new
+  pub stand : new.array.halted ≡ false → ListsStandWithin target (failed_of s.listed) old.array new
 
 abbrev pub EndsSo : ℕ → RebuildFault → Ending → MemberView → MirrorView → MirrorView → Type 0
 EndsSo target Halted s now old new = IsUntouched true old new
@@ -268,7 +283,7 @@ StatesStay target fault old new =
 -- Whatever the fault is: the target is in the state in which it was, or it was a spare and is recovering. How far it is rebuilt is no less than before,
 -- its list is as before, and so are its data beside what it lacked. The data of all other members are as before, their lists grew by slots that
 -- failed alone, which the devices have counted, and their states are as before, but for the one that the fault names where a write to it failed. A mirror
--- that was halted on the way is spoken of as it is.
+-- that was halted on the way is spoken of as it is. The marks in memory are as before.
 pub record HasEnded (target : ℕ) (fault : RebuildFault) (old new : MirrorView) : Type 0 where
   pub ending : Ending
   pub at : IsMember old.array target ending.member
@@ -285,4 +300,6 @@ pub record HasEnded (target : ℕ) (fault : RebuildFault) (old new : MirrorView)
   pub counted : CountsFailed (failed_of (ending.listed ++ ending.last)) old new
   pub states : KeepStates target (failed_of (ending.listed ++ ending.last)) old new
   pub still : StatesStay target fault old.array new.array
+  pub marks : new.array.marks ≡ old.array.marks
+  pub resynced : new.array.resynced ≡ old.array.resynced
   pub so : EndsSo target fault ending now old new
