@@ -40,7 +40,7 @@ complete -c mdcli -n '__fish_seen_subcommand_from plan fail remove rebuild' -l m
 complete -c mdcli -n '__fish_seen_subcommand_from read write' -l sector -x -d "The first sector of the array, from 0; a sector has 512 bytes"
 complete -c mdcli -n '__fish_seen_subcommand_from read' -l count -x -d "The number of sectors"
 complete -c mdcli -n '__fish_seen_subcommand_from add re-add' -l device -r -F -d "The image that joins the array: a file or a block device, none of those listed"
-complete -c mdcli -n '__fish_seen_subcommand_from examine examine-bitmap examine-badblocks create assemble detail plan read write check resync stop fail remove add re-add rebuild' -s v -l verbose -d "Says more of a refusal: the image that it is about, and what to do"
 complete -c mdcli -n '__fish_seen_subcommand_from add re-add rebuild' -l run -d "Asks nothing at a terminal, and goes on"
+complete -c mdcli -n '__fish_seen_subcommand_from examine examine-bitmap examine-badblocks create assemble detail plan read write check resync stop fail remove add re-add rebuild' -s v -l verbose -d "Says more of a refusal: the image that it is about, and what to do"
 
 complete -c mdcli -n '__fish_seen_subcommand_from create' -a missing -d 'A member that is not there'
