@@ -168,6 +168,15 @@ class Found:
             return "stale"
         return "recovering" if member.superblock.feature_map & RECOVERY_BIT else "in sync"
 
+    def unnamed(self):
+        """What is noticed of devices that have a role by the freshest superblock and are none of these images: of the first in each role."""
+        numbers = {member.number for member in self.members if member}
+        lines = []
+        for role in range(self.freshest.superblock.raid_disks):
+            missing = [number for number, own in enumerate(self.freshest.roles) if own == role and number not in numbers]
+            lines += ["mdcli: device %d in role %d is not among the images\n" % (number, role) for number in missing[:1]]
+        return "".join(lines)
+
     def lacks(self, place):
         """The chunks that the member at this place lacks: a recovering one those that are marked, and those that its offset has not
         passed; one in sync none, and any other each. An offset from before marks were last cleared tells nothing."""

@@ -1,5 +1,7 @@
 """The arrays on which commands are stopped, and what each command has to say where nothing stops it."""
 
+import uuid
+
 import members
 from members import SECTOR
 
@@ -13,21 +15,25 @@ MANY_AT = 4093
 MOST_CALLS = 1000
 
 
-def add_case(scratch, name, contents, summary):
+def add_case(scratch, name, contents, summary, notices=""):
     """The last image is added to the array that the others make."""
     joins = len(contents) - 1
-    case = Case("add, " + name, "add", contents, summary, images=list(range(joins)), joins=joins)
+    case = Case("add, " + name, "add", contents, summary, images=list(range(joins)), joins=joins, notices=notices)
     case.words = ["add", "--device", scratch.path(joins)]
     return case
 
 
 class Case:
-    def __init__(self, name, command, contents, summary, images=None, first=0, given=b"", resyncs_first=False, joins=None):
+    def __init__(
+        self, name, command, contents, summary, images=None, first=0, given=b"", resyncs_first=False, joins=None, notices=""
+    ):
         self.name = name
         self.command = command
         self.words = [command] + (["--sector", first] if command == "write" else [])
         self.contents = contents
         self.summary = summary
+        # What standard error gets where nothing stops it.
+        self.notices = notices
         self.images = list(range(len(contents))) if images is None else images
         # The number of the image that is added, which is the last.
         self.joins = joins
@@ -108,7 +114,8 @@ def made_cases(scratch):
         return write_case("one of two members", clean([0, None]), "in sync 1 of 2, events 3, marked 3\n")
 
     def write_beside_one_left_out():
-        return write_case("a member left out", clean([0, 1, 2]), "in sync 2 of 3, events 3, marked 3\n", images=[0, 1])
+        notices = "mdcli: device 2 in role 2 is not among the images\n"
+        return write_case("a member left out", clean([0, 1, 2]), "in sync 2 of 3, events 3, marked 3\n", images=[0, 1], notices=notices)
 
     def write_in_two_sectors_of_marks():
         contents = scratch.created([0, 1], MANY_SECTORS, 1, CLEAN)
@@ -163,6 +170,10 @@ def made_cases(scratch):
             answer = scratch.run(words, images)
             if answer.status != 0:
                 raise ValueError("%s: %s" % (words[0], answer.errors))
-        return add_case(scratch, "one that failed and left", scratch.take(2), "in sync 1 of 2, events 3, marked 0\n")
+        left = scratch.take(2)
+        # By its own superblock, which was not told.
+        words = (scratch.path(1), uuid.UUID(bytes=left[1][4096 + 16 : 4096 + 32]))
+        notices = "mdcli: %s: is device 1 in role 1 of array %s, in sync there\n" % words
+        return add_case(scratch, "one that failed and left", left, "in sync 1 of 2, events 3, marked 0\n", notices)
 
     return [make for name, make in locals().items() if name.startswith(("write_", "resync_", "stop_", "add_"))]
