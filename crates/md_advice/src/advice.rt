@@ -153,7 +153,7 @@ fn re_add_advice(fault: ReAddFault) -> &'static str {
         ReAddFault::Member(fault) => member_advice(fault),
         ReAddFault::Full => REMOVE_ONE,
         ReAddFault::NotReAddable => {
-            "if it was being rebuilt, as after a `re-add` that was interrupted, name it among the images and run `rebuild` on it; else make a spare of it by `add`, which wipes what it holds, and run `rebuild`"
+            "if it was being rebuilt, as after a `re-add` that was interrupted, name it among the images and run `rebuild` on it; else see by `examine` whether it has more events than the others, and so holds what they lack; only if not, make a spare of it by `add`, which wipes what it holds, and run `rebuild`"
         }
         ReAddFault::NoRole => {
             "`detail` shows which member has its role; `add` makes a spare of it, and wipes what it holds"

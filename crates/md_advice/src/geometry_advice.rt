@@ -21,7 +21,7 @@ const MANY_CHUNKS: &str =
     "an array has at most 1,048,576 chunks: choose a larger `--bitmap-chunk`, or a smaller `--size`";
 
 const SMALL_IMAGE: &str =
-    "each image holds 1 MiB more than the array: choose a smaller `--size`, or larger images";
+    "each image has to hold 1 MiB more than the array: choose a smaller `--size`, or larger images";
 
 /// Where the words alone don't show it: of the images it is the smallest that counts.
 pub(crate) const SMALLEST_IMAGE: &str =
