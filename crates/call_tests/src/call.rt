@@ -76,7 +76,7 @@ pub(crate) enum Answer {
     NotRebuilt(RebuildFault),
     // There is no such member or device.
     NotCalled,
-    // Nothing was found out, for want of memory.
+    // Nothing was found out: there was no memory.
     NotTold,
     Counting(u64),
     Shows(Shown),

@@ -18,7 +18,7 @@ pub fn read_map(alloc: Global, text: &[u8], size: u64) -> Result<BadSet, MapFaul
     ensures ok { IfOk result (λ missing. IsReadAs size text.now missing) }
     ensures err { IfErr result (λ fault. IsRefused size text.now fault) }
 
-    // No map is refused but for want of memory.
+    // A map is refused only where there is no memory.
     ensures exact { IfErr result (λ fault. (blocks : List Block) → IsMap size text.now blocks → fault ≡ NoMemory) }
 {
     let mut reading = Reading {
