@@ -1,7 +1,8 @@
 -- A sector of a member's bitmap is stored, as the marks in memory are.
-use Rattle.std.specs.Prelude.{◌≡◌, ℕ, false, ◌⊎◌, set}
+use Rattle.std.specs.Prelude.{◌≡◌, ◌<◌, ℕ, false, ◌⊎◌, set}
 use Rattle.md_bitmap.specs.declared.header.BitmapHeader.{BitmapHeader}
 use Rattle.md_bitmap.specs.Marks.{Bitmap}
+use Rattle.md_members.specs.Areas.{bitmap_sectors}
 use Rattle.md_members.specs.Reading.{BitmapStartsAt}
 use Rattle.md_writes.specs.Bitmaps.{bitmap_write}
 use Rattle.md_writes.specs.Writes.{Write}
@@ -30,8 +31,9 @@ pub record HasStoredOf (k block : ℕ) (m : MemberView) (old new : ArrayView) : 
   pub has_stored : HasStored old.marks m.stored block stored
   pub array : new ≡ record old { members = set old.members k (record m { stored = stored }) }
 
--- member k's marks may be stored by this write
+-- member k's marks may be stored by this write, of a sector that the bitmap has
 pub record MayStoreMarks (k block : ℕ) (a : ArrayView) (m : MemberView) (w : Write) : Type 0 where
+  pub inside : block < bitmap_sectors a.marks.chunks
   pub running : a.halted ≡ false
   pub in_sync : IsInSync a k m
   pub write : IsMarkWrite a m block w

@@ -37,10 +37,11 @@ fits g c =
 alike : (g : given.Over) (c : After-index_mut g) (m : MemberView) → IsMember c.self.inside.array c.args.k m → m.stored.chunks ≡ c.self.inside.array.marks.chunks
 alike g c m at = let sound = subst IsConsistent (sym c.self.view_is) c.requires.sound in sound.chunks.member_count c.args.k m at
 
+in_bitmap : (g : given.Over) (c : After-index_mut g) → c.args.block < bitmap_sectors c.self.inside.array.marks.chunks
+in_bitmap g c = subst (λ (v : MirrorView). c.args.block < bitmap_sectors v.array.marks.chunks) (sym c.self.view_is) c.requires.block
+
 inside : (g : given.Over) (c : After-index_mut g) → c.args.block < bitmap_sectors c.index-member.result.now.stored.chunks
-inside g c =
-    let below : c.args.block < bitmap_sectors c.self.inside.array.marks.chunks = subst (λ (v : MirrorView). c.args.block < bitmap_sectors v.array.marks.chunks) (sym c.self.view_is) c.requires.block in
-    subst (λ n. c.args.block < bitmap_sectors n) (sym (alike g c c.index-member.result.now (member g c))) below
+inside g c = subst (λ n. c.args.block < bitmap_sectors n) (sym (alike g c c.index-member.result.now (member g c))) (in_bitmap g c)
 
 pub store_block-requires-clause-fits : goal.store_block-requires-clause-fits
 store_block-requires-clause-fits g c = fits g (goal.at.store_block-requires-clause-fits g c).After-index_mut
@@ -65,7 +66,7 @@ may : (g : given.Over) (c : After-store_block g) (w : Write) → IsMarkWrite c.s
 may g c w write =
     let serving : IsServing c.args.k c.self.inside.array = c.in_ok-check_in_sync.ensures in
     let at : After-index_mut g = c.before in
-    record { running = serving.running; in_sync = record { member = member g at; in_sync = serving.in_sync c.index-member.result.now (member g at) }; write = write }
+    record { inside = in_bitmap g at; running = serving.running; in_sync = record { member = member g at; in_sync = serving.in_sync c.index-member.result.now (member g at) }; write = write }
 
 pub returns : goal.returns
 returns g c =
