@@ -1,5 +1,6 @@
 -- The list of a member in sync grows in memory, and then its log is stored.
 use Rattle.std.specs.Prelude.{◌≡◌, ◌⊎◌, ⊤, ℕ, ◌+◌, ◌^◌, ◌<◌, false, List, [], ◌∷◌, set, Result, MatchResult}
+use Rattle.md_badblocks.specs.Runs.{IsCanonical}
 use Rattle.md_bitmap.specs.Chunks.{InChunk}
 use Rattle.md_kept_members.specs.Enrolling.{HasRoomFor}
 use Rattle.md_kept_members.specs.View.{MemberView}
@@ -56,6 +57,7 @@ pub record HaltsStoringLog (k : ℕ) (old new : MirrorView) : Type 0 where
   pub running : old.array.halted ≡ false
   pub member : MemberView
   pub in_sync : IsInSync old.array k member
+  pub canonical : IsCanonical member.bad
   pub room : HasRoomFor member.superblock member.bad
   pub write : Write
   pub among : log_writes member.superblock member.bad ≡ write ∷ []

@@ -398,12 +398,12 @@ module _ (k : ℕ) (old new : MirrorView) (c : IsConsistent old) where
   log_refused_happens NotActive r = tt
   log_refused_happens (MemberFailed j) r = store_log_fails_happens k old new c r.1
 
-pub log_failed : (k : ℕ) (old new : MirrorView) (m : MemberView) (fault : StoreFault) → old.array.halted ≡ false → IsInSync old.array k m → HasRoomFor m.superblock m.bad → has_bad_block_log m.superblock ≡ true
+pub log_failed : (k : ℕ) (old new : MirrorView) (m : MemberView) (fault : StoreFault) → old.array.halted ≡ false → IsInSync old.array k m → IsCanonical m.bad → HasRoomFor m.superblock m.bad → has_bad_block_log m.superblock ≡ true
     → IsFailed k (log_of m) old.disks new.disks → AnswersStore k old.array new.array fault → RefusesLog k old new fault
-log_failed k old new m Halted running in_sync room there disks halts =
-    inr (record { running = running; member = m; in_sync = in_sync; room = room; write = log_of m; among = ap (λ (b : Bool). if b then log_of m ∷ [] else []) there; halts = record { disks = disks; array = halts } })
-log_failed k old new m NotActive running in_sync room there disks never = absurd never
-log_failed k old new m (MemberFailed j) running in_sync room there disks fails =
+log_failed k old new m Halted running in_sync canonical room there disks halts =
+    inr (record { running = running; member = m; in_sync = in_sync; canonical = canonical; room = room; write = log_of m; among = ap (λ (b : Bool). if b then log_of m ∷ [] else []) there; halts = record { disks = disks; array = halts } })
+log_failed k old new m NotActive running in_sync canonical room there disks never = absurd never
+log_failed k old new m (MemberFailed j) running in_sync canonical room there disks fails =
     (fails.0, record { running = running; member = m; in_sync = in_sync; room = room; write = log_of m; among = ap (λ (b : Bool). if b then log_of m ∷ [] else []) there; fails = record { disks = disks; array = fails.1 } })
 
 -- ---- what was written, by what the call tells

@@ -80,7 +80,7 @@ returns-then-is_err g c =
     let fails = is_unwritten g.D.Device devices c.args.k c.index_mut.result.now c.index_mut.ensures.value c.store_log.new.device (on_device g at) m (room g at) c.store_log.ensures.outside c.store_log.ensures.untouched
     (err_of c.store_log.result _ _ c.if-is_err.ensures.value c.store_log.ensures.writes) in
     let refused : RefusesLog c.args.k was new c.store_failed.result =
-    log_failed c.args.k was new m c.store_failed.result (running g (goal.at.returns-then-is_err g c).After-store_log) (in_sync g at) (room g at) fails.0 fails.1 c.store_failed.ensures in
+    log_failed c.args.k was new m c.store_failed.result (running g (goal.at.returns-then-is_err g c).After-store_log) (in_sync g at) c.store_log.ensures.canonical (room g at) fails.0 fails.1 c.store_failed.ensures in
     rw (← c.self.view_is) (record {
       gives = refused;
       event = λ _. log_refused_happens c.args.k was new sound c.store_failed.result refused;
