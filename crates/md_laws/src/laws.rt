@@ -57,8 +57,8 @@ pub fn opening()
 /// decoded: a premise, unless the write is done and neither superblock has more than 128 roles. A device that comes in
 /// counts as left only where it is as after the call. Of one that comes back it is enough that its superblock reads so. A member that is
 /// rebuilt counts as left at any moment of its filling, and of `enrol` where its superblock stands as before or as after. One within a write of
-/// marks, of a copy or of a log that fails is one after that failure, over other bytes (`whole_calls::stopped_calls`). Nothing is said of one
-/// within an `enrol` that fails to store the bitmap or the log.
+/// marks, of a copy or of a log that fails is one after that failure, over other bytes (`whole_calls::stopped_calls`). One
+/// within an `enrol` that fails before its superblock is a matter of rebuilds (`unfinished_enrols` of `md_rebuild_laws`).
 ///
 /// A member that is rebuilt is spoiled where `enrol`, `admit` or `checkpoint` could not write its superblock, whatever stands there then, or
 /// where a stop came within that write (`SpoilTarget`, `stops_at_steps`). Its mirror goes on. It is spoiled until its superblock is stored, and

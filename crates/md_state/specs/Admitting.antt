@@ -1,7 +1,6 @@
 -- A spare is admitted: it takes a role, and is recovering from then on (remove_and_add_spares and md_start_sync in the kernel's md driver;
 -- which role it gets, that the count rises at once, and that its superblock is stored before any other, are this project's own).
 use Rattle.std.specs.Prelude.{◌≡◌, ◌⊎◌, ℕ, ◌<◌, ◌≤◌, true, false, map, set}
-use Rattle.md_assembly.specs.States.{is_spare}
 use Rattle.md_kept_members.specs.Members.{made_due}
 use Rattle.md_kept_members.specs.TakingBack.{admitted_member}
 use Rattle.md_kept_members.specs.View.{MemberView}

@@ -1,6 +1,6 @@
 -- A member that was rebuilt comes into sync (raid1_spare_active of the kernel's md driver; that the count rises at once, and what is
 -- stored of it before, are this project's own).
-use Rattle.std.specs.Prelude.{◌≡◌, ℕ, ◌+◌, ◌<◌, ◌≤◌, ⊤, Bool, true, false, not, cond, List, map, set}
+use Rattle.std.specs.Prelude.{◌≡◌, ℕ, ◌+◌, ⊤, Bool, true, false, not, cond, List, map, set}
 use Rattle.md_bitmap.specs.Marks.{Bitmap}
 use Rattle.md_badblocks.specs.declared.run.Run.{Run}
 use Rattle.md_assembly.specs.declared.state.MemberState.TheVariants.{Recovering}

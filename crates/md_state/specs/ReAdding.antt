@@ -1,13 +1,15 @@
 -- A device that left is taken back in its former role (super_1_validate and hot_add_disk in the kernel's md driver, which let it by
 -- events_cleared; the other conditions and their order are this project's own).
-use Rattle.std.specs.Prelude.{◌≡◌, ◌⊎◌, ℕ, ◌≤◌, ◌<◌, ◌/◌, Bool, true, false, Some}
+use Rattle.std.specs.Prelude.{◌≡◌, ◌⊎◌, ℕ, ◌≤◌, ◌<◌, ◌/◌, ◌==◌, Bool, true, false, not, Some}
 use Rattle.std.specs.List.{list_any}
 use Rattle.md_super.specs.declared.superblock.Superblock.{Superblock}
 use Rattle.md_bitmap.specs.declared.header.BitmapHeader.{BitmapHeader}
 use Rattle.md_bitmap.specs.Marks.{Bitmap, is_set}
 use Rattle.md_members.specs.Members.{IsAccepted}
 use Rattle.md_members.specs.declared.info.MemberInfo.{MemberInfo}
-use Rattle.md_assembly.specs.States.{has_recovery_offset, takes_role}
+use Rattle.md_assembly.specs.declared.state.MemberState.{MemberState}
+use Rattle.md_assembly.specs.declared.state.MemberState.TheVariants.{InSync, Recovering, Stale, Spare, Faulty}
+use Rattle.md_assembly.specs.States.{has_recovery_offset, role_in, takes_role}
 use Rattle.md_kept_members.specs.TakingBack.{IsTakenBack, own_role}
 use Rattle.md_kept_members.specs.View.{MemberView}
 use Rattle.md_faults.specs.declared.re_add_fault.ReAddFault.{ReAddFault}
@@ -53,11 +55,32 @@ pub record MayReAdd (a : ArrayView) (info : MemberInfo) : Type 0 where
   pub free : is_taken a (own_role info.superblock) ≡ false
   pub unspent : HasSpentEvents a → ⊥
 
--- Its bitmap is accepted, and each chunk that it marks is marked in the array: nothing tells that it was written to alone since it left.
+-- a device that is in sync, whose number and state these are, is in another role by the superblock, or in none
+abbrev pub is_elsewhere : Superblock → ℕ → MemberState → Bool
+is_elsewhere v number (InSync role) = not (role_in v number == role)
+is_elsewhere v number (Recovering role) = false
+is_elsewhere v number (Stale role) = false
+is_elsewhere v number Spare = false
+is_elsewhere v number Faulty = false
+
+-- by the superblock some member in sync is in another role, or in none
+abbrev pub has_elsewhere : ArrayView → Superblock → Bool
+has_elsewhere a v = list_any (λ m. is_elsewhere v m.superblock.dev_number m.state) a.members
+
+-- Nothing tells that marks were cleared on the device alone since it left, or in the array without it (events_cleared of md-bitmap.h: the
+-- count at which the array was last full, when marks are cleared). They were last cleared at the same count; or on the device earlier, as
+-- where the array's count was stored after it left, and by its superblock each member in sync is in its role.
+abbrev pub HasNoOtherClearing : ArrayView → Superblock → BitmapHeader → Type 0
+HasNoOtherClearing a v h =
+    (h.events_cleared ≡ a.events_cleared) ⊎ ((h.events_cleared < a.events_cleared) × (has_elsewhere a v ≡ false))
+
+-- Its bitmap is accepted, and each chunk that it marks is marked in the array; nor were marks cleared on one of them alone: nothing tells
+-- that it was written to alone since it left.
 pub record HasNoOtherMarks (a : ArrayView) (info : MemberInfo) : Type 0 where
   pub header : BitmapHeader
   pub has_header : info.header ≡ Some header
   pub accepted : IsAccepted info.superblock header
+  pub cleared : HasNoOtherClearing a info.superblock header
   pub marks : Bitmap
   pub has_marks : info.marks ≡ Some marks
   pub among : (c : ℕ) → c < a.marks.chunks → is_set marks.bytes c ≡ true → is_set a.marks.bytes c ≡ true

@@ -2,14 +2,25 @@
 ghost use Rattle.std.specs.Prelude.{◌≡◌, ◌↔◌, ◌<◌, ◌≤◌, ℕ, IsTrue, MatchResult, Some, true};
 ghost use Rattle.md_bitmap.specs.Marks.{Bitmap, is_set};
 ghost use Rattle.md_kept_members.specs.Remembering.{IsWhole};
-ghost use Rattle.md_state.specs.ReAdding.{HasNoOtherMarks, IsOffsetBack, IsOfArray, IsReAddable, LeftInTime, LeftItsRole, MayReAdd, RefusesToTakeBack, is_taken};
+ghost use Rattle.md_state.specs.ReAdding.{HasNoOtherClearing, HasNoOtherMarks, IsOffsetBack, IsOfArray, IsReAddable, LeftInTime, LeftItsRole, MayReAdd, RefusesToTakeBack, has_elsewhere, is_elsewhere, is_taken};
 
 use crate::array::Array;
 use crate::joining::MOST_MEMBERS;
+use md_assembly::MemberState;
 use md_bitmap::{BitmapHeader, Marks};
 use md_faults::ReAddFault;
 use md_members::{MemberInfo, accepted};
 use md_super::{FEATURE_RECOVERY_OFFSET, Superblock};
+
+// Whether the superblock has a device that is in sync, of this number and state, in another role, or in none.
+fn is_elsewhere(own: &Superblock, number: u32, state: MemberState) -> bool
+    ensures { result ≡ is_elsewhere own.now number state }
+{
+    match state {
+        MemberState::InSync(role) => own.role_of(number) != role,
+        _ => false,
+    }
+}
 
 impl Array {
     /// Whether a device that was read as this may be taken back.
@@ -56,7 +67,31 @@ impl Array {
         let Some(marks) = &info.marks else {
             return false;
         };
+        if !self.has_no_other_clearing(&info.superblock, header) {
+            return false;
+        }
         accepted(&info.superblock, header) && self.has_all_of(marks)
+    }
+
+    // Whether nothing tells that marks were cleared on the device alone since it left, or in the array without it.
+    fn has_no_other_clearing(&self, own: &Superblock, header: &BitmapHeader) -> bool
+        ensures { IsTrue result ↔ HasNoOtherClearing self.now own.now header.now }
+    {
+        if header.events_cleared == self.events_cleared {
+            return true;
+        }
+        header.events_cleared < self.events_cleared && !self.has_elsewhere(own)
+    }
+
+    // Whether by the superblock some member in sync is in another role, or in none.
+    fn has_elsewhere(&self, own: &Superblock) -> bool
+        ensures { result ≡ has_elsewhere self.now own.now }
+    {
+        self.members.iter().any(|member| is_elsewhere(
+            own,
+            member.superblock.dev_number,
+            member.state,
+        ))
     }
 
     // Whether each chunk that is marked in these is marked in memory.

@@ -1,6 +1,5 @@
-use Rattle.std.proofs.Common.{◌≡◌, ◌∙◌, ◌<◌, ◌+◌, ◌*◌, ℕ, refl, ap, sym, subst, inl, inr, arith}
+use Rattle.std.proofs.Common.{refl, ap, subst, inl, inr, arith}
 use Rattle.md_kept_members.proofs.Members.Indices.{cases_more}
-use Rattle.md_kept_members.specs.View.{MemberView}
 use Rattle.md_state.specs.Checkpoints.{Stops}
 use Rattle.md_state.specs.View.{ArrayView}
 use Rattle.md_state.proofs.array.Array.first_stop.Goals as goal

@@ -1,4 +1,4 @@
-use Rattle.std.proofs.Common.{◌≡◌, ◌∙◌, ◌<◌, ℕ, true, Some, refl, sym, ap, subst}
+use Rattle.std.proofs.Common.{◌≡◌, ◌<◌, ℕ, true, refl, subst}
 use Rattle.md_bitmap.specs.Marks.{Bitmap, is_set}
 use Rattle.md_state.proofs.array.Array.has_no_other_marks.Goals as goal
 
@@ -8,6 +8,7 @@ returns-then-accepted c = (
     header = c.in-Some.header;
     has_header = c.in-Some.is;
     accepted = c.if-accepted.ensures.0 refl;
+    cleared = c.if-not-has_no_other_clearing.ensures.0 refl;
     marks = c.in-Some-marks.marks;
     has_marks = c.in-Some-marks.is;
     among = c.has_all_of.ensures.0 all;

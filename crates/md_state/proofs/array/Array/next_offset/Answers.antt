@@ -1,4 +1,4 @@
-use Rattle.std.proofs.Common.{◌≡◌, ◌∙◌, max, ap}
+use Rattle.std.proofs.Common.{◌∙◌, max, ap}
 use Rattle.md_kept_members.specs.View.{MemberView}
 use Rattle.md_state.proofs.Members.At.{read_member}
 use Rattle.md_state.proofs.array.Array.next_offset.Goals as goal

@@ -1,4 +1,4 @@
-use Rattle.std.proofs.Common.{◌≡◌, ◌∙◌, map, set, ap, sym, subst}
+use Rattle.std.proofs.Common.{◌∙◌, set, ap, sym, subst}
 use Rattle.md_kept_members.specs.Members.{made_due}
 use Rattle.md_kept_members.specs.TakingBack.{admitted_member}
 use Rattle.md_kept_members.proofs.Kept.Offsets.{mapped_there}
