@@ -136,23 +136,8 @@ module _ {R S : Type 0} (r : SourceGhosts R) (s : SinkGhosts S) (before after : 
 
 -- one that is to join comes last
 pub joins_last : (ask : Ask) → is_some (device_of ask) ≡ true → leaving_of ask ≡ None
-joins_last examines e = refl
-joins_last examines_bitmap e = refl
-joins_last examines_badblocks e = refl
-joins_last (creates o) e = refl
-joins_last (assembles readonly) e = refl
-joins_last (details readonly) e = refl
-joins_last (plans k readonly) e = refl
-joins_last (reads sector count readonly) e = refl
-joins_last (checks readonly) e = refl
-joins_last (writes sector) e = refl
-joins_last resyncs e = refl
-joins_last stops e = refl
-joins_last (fails k) e = refl
 joins_last (removes k) e = absurd (true≢false (sym e))
-joins_last (adds name) e = refl
-joins_last (re_adds name) e = refl
-joins_last (rebuilds k) e = refl
+joins_last _ e = refl
 
 -- where the members make no array, the device that was to join comes back too
 pub refused_back : (ask : Ask) (before after : List Disk) (was : Option Disk) → is_some was ≡ is_some (device_of ask) → length after ≡ length before → AllBack ask before after was was

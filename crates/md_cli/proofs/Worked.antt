@@ -1,6 +1,7 @@
 -- Devices that are taken out of their images, worked on and put back.
 use Rattle.md_device.specs.declared.device.Device.{Ghosts}
-use Rattle.std.proofs.Common.{◌≡◌, ◌∙◌, ℕ, Bool, true, false, List, length, Option, Result, subst, inl, ap, sym, true≢false}
+use Rattle.std.proofs.Common.{◌≡◌, ◌∙◌, ℕ, Bool, true, false, List, length, Option, Result, subst, inl, ap}
+use Rattle.std.specs.Prelude.{if◌then◌else◌}
 use Rattle.clap.specs.Words.{Text}
 use Rattle.md_state.specs.View.{Disk}
 use Rattle.md_array.specs.Refusals.{RefusesOpen}
@@ -8,10 +9,11 @@ use Rattle.md_array.specs.declared.fault.OpenFault.{OpenFault}
 use Rattle.md_array.specs.declared.fault.OpenFault.TheVariants as opening
 use Rattle.md_advice.specs.declared.fault.CommandFault.{CommandFault}
 use Rattle.md_images.specs.declared.access.Access.{Access}
+use Rattle.md_images.specs.declared.access.Access.TheVariants.{Look}
 use Rattle.md_images.specs.declared.images.Images.{Ghosts as ImagesGhosts}
 use Rattle.md_images.specs.Images.{asks}
 use Rattle.md_images.specs.Taking.{AreOut, ArePut, TakesImages, Word, names_of}
-use Rattle.md_words.specs.Asks.{Ask, access_of, is_readonly, marking, examines, examines_bitmap, examines_badblocks, creates, assembles, details, plans, reads, checks, writes, resyncs, stops, fails, removes, adds, re_adds, rebuilds}
+use Rattle.md_words.specs.Asks.{Ask, access_of, full_access_of, is_readonly}
 use Rattle.md_cli.specs.Arrays.{UsesImages, Work, disks, may}
 
 module _ {D : Type 0} where
@@ -35,23 +37,7 @@ module _ {D : Type 0} where
 
 -- a command that is to change no image opens none so that it might be changed
 pub only_looks : (ask : Ask) → is_readonly ask ≡ true → asks (access_of ask) ≡ false
-only_looks (assembles readonly) e = ap (λ (b : Bool). asks (marking b)) e
-only_looks (details readonly) e = ap (λ (b : Bool). asks (marking b)) e
-only_looks (plans k readonly) e = ap (λ (b : Bool). asks (marking b)) e
-only_looks (reads sector count readonly) e = ap (λ (b : Bool). asks (marking b)) e
-only_looks (checks readonly) e = ap (λ (b : Bool). asks (marking b)) e
-only_looks examines e = absurd (true≢false (sym e))
-only_looks examines_bitmap e = absurd (true≢false (sym e))
-only_looks examines_badblocks e = absurd (true≢false (sym e))
-only_looks (creates o) e = absurd (true≢false (sym e))
-only_looks (writes sector) e = absurd (true≢false (sym e))
-only_looks resyncs e = absurd (true≢false (sym e))
-only_looks stops e = absurd (true≢false (sym e))
-only_looks (fails k) e = absurd (true≢false (sym e))
-only_looks (removes k) e = absurd (true≢false (sym e))
-only_looks (adds name) e = absurd (true≢false (sym e))
-only_looks (re_adds name) e = absurd (true≢false (sym e))
-only_looks (rebuilds k) e = absurd (true≢false (sym e))
+only_looks ask e = ap (λ (b : Bool). asks (if b then Look else full_access_of ask)) e
 
 -- no device is lost or won by an opening that is refused
 pub refused_as_many : (before after : List Disk) (fault : OpenFault) → RefusesOpen before after fault → length after ≡ length before

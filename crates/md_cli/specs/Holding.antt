@@ -6,7 +6,8 @@ use Rattle.md_notices.specs.Parting.{WasApart}
 use Rattle.md_signatures.specs.Bearing.{bears}
 use Rattle.md_signatures.specs.Reading.{OnlyRead}
 use Rattle.md_state.specs.View.{ArrayView, Disk, of_disks}
-use Rattle.md_words.specs.Asks.{Ask, adds, re_adds}
+use Rattle.md_words.specs.declared.overwritten.Overwritten.{Overwritten}
+use Rattle.md_words.specs.declared.overwritten.Overwritten.TheVariants.{NewDevice, ReturningDevice}
 use Rattle.md_cli.specs.declared.held.Held.{Held}
 use Rattle.md_cli.specs.declared.held.Held.TheVariants.{Nothing, Member, Signed}
 use Rattle.md_cli.specs.declared.notices.Notices.{Notices}
@@ -24,10 +25,10 @@ Holds d (Signed s) = d.honest ≡ true → bears d.content s ≡ true
 
 -- The device is one of the array: where it is to be added, it is in sync there, and where it is to come back, it was used without
 -- the members that are in sync.
-abbrev pub IsOwn : Ask → ArrayView → Held → Type 0
-IsOwn (adds name) a (Member v) = IsForgotten a.shared v
-IsOwn (re_adds name) a (Member v) = WasApart a v
-IsOwn ask a held = ⊥
+abbrev pub IsOwn : Overwritten → ArrayView → Held → Type 0
+IsOwn NewDevice a (Member v) = IsForgotten a.shared v
+IsOwn ReturningDevice a (Member v) = WasApart a v
+IsOwn overwritten a held = ⊥
 
 -- a device was looked at: it was only read, and what it holds is noted
 pub record Looks (d e : Disk) (old new : Notices) : Type 0 where

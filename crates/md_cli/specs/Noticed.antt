@@ -5,7 +5,9 @@ use Rattle.md_kept_members.specs.View.{MemberView}
 use Rattle.md_notices.specs.declared.noticing.Asked.{Asked}
 use Rattle.md_notices.specs.Noticing.{AreUnnamed, all_dropped, all_parted, all_states, in_sync_count}
 use Rattle.md_notices.specs.Parting.{IsFirstInSync, NoneInSync}
-use Rattle.md_words.specs.Asks.{Ask, leaving_of, examines, examines_bitmap, examines_badblocks, creates, assembles, details, plans, reads, checks, writes, resyncs, stops, fails, removes, adds, re_adds, rebuilds}
+use Rattle.md_words.specs.Asks.{Ask, failing_of, leaving_of, overwritten_by, tells_parted}
+use Rattle.md_words.specs.declared.overwritten.Overwritten.{Overwritten}
+use Rattle.md_words.specs.declared.overwritten.Overwritten.TheVariants as overwritten
 use Rattle.md_cli.specs.declared.notices.Notices.{Notices}
 use Rattle.md_cli.specs.declared.held.Held.TheVariants.{Nothing}
 use Rattle.md_cli.specs.Holding.{IsOwn, is_known}
@@ -27,15 +29,7 @@ nothing = record {
   own = false;
 }
 
--- the commands that say which members were used without those in sync: they show the array, or rebuild
-abbrev pub tells_parted : Ask → Bool
-tells_parted (assembles readonly) = true
-tells_parted (details readonly) = true
-tells_parted (plans k readonly) = true
-tells_parted (re_adds name) = true
-tells_parted (rebuilds k) = true
-tells_parted _ = false
-
+-- of the members of an array, where the command says which were used without those in sync
 abbrev pub parted_members : Ask → List MemberView → List Bool
 parted_members ask members = if tells_parted ask then all_parted members else replicate 64 false
 
@@ -46,12 +40,7 @@ pub record NotesOpening (ask : Ask) (a : ArrayView) (old n : Notices) : Type 0 w
   pub unnamed : AreUnnamed a n.unnamed
   pub states : n.states ≡ all_states a.members
   pub held : n.held ≡ old.held
-  pub own : IsTrue n.own ↔ IsOwn ask a n.held
-
--- the member that the command itself makes faulty
-abbrev pub failing_of : Ask → Option ℕ
-failing_of (fails k) = Some k
-failing_of _ = None
+  pub own : IsTrue n.own ↔ IsOwn (overwritten_by ask) a n.held
 
 -- what the command was asked to do with a member, of which it is known whether it left
 abbrev pub asked_of : Ask → Bool → Asked
@@ -69,10 +58,13 @@ with_dropped ask o n = record n {
 abbrev pub without_stored : Notices → Notices
 without_stored n = record n { marked = replicate 64 false; dropped = replicate 64 false }
 
--- A command is asked of before it is done: it would overwrite what a device holds that is to join, or what was written to a member or
--- to a device that comes back, and not to the others.
+-- What is overwritten is asked of before, where what it holds is known, or it was written to without the others.
+abbrev pub asks_of : Overwritten → Notices → Bool
+asks_of overwritten.NewDevice n = is_known n.held
+asks_of overwritten.ReturningDevice n = n.own
+asks_of (overwritten.Member k) n = unwrap_or (slice_get n.parted k) false
+asks_of overwritten.Nothing n = false
+
+-- a command is asked of before it is done
 abbrev pub asks_first : Ask → Notices → Bool
-asks_first (adds name) n = is_known n.held
-asks_first (re_adds name) n = n.own
-asks_first (rebuilds k) n = unwrap_or (slice_get n.parted k) false
-asks_first _ n = false
+asks_first ask n = asks_of (overwritten_by ask) n

@@ -101,20 +101,7 @@ fn show<D: Device, S: Sink>(
         Command::Examine => show_superblock(alloc, device, out),
         Command::ExamineBitmap => show_bitmap(alloc, device, out),
         Command::ExamineBadblocks => show_badblocks(alloc, device, out),
-        Command::Create(_)
-        | Command::Assemble { .. }
-        | Command::Detail { .. }
-        | Command::Plan { .. }
-        | Command::Read { .. }
-        | Command::Check { .. }
-        | Command::Write { .. }
-        | Command::Resync
-        | Command::Stop
-        | Command::Fail { .. }
-        | Command::Remove { .. }
-        | Command::Add { .. }
-        | Command::ReAdd { .. }
-        | Command::Rebuild { .. } => unreachable!(),
+        _ => unreachable!(),
     }
 }
 

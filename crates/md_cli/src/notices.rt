@@ -3,7 +3,7 @@ ghost use Rattle.std.specs.Prelude.{◌≡◌, ◌↔◌, IsTrue};
 ghost use Rattle.md_words.specs.Asks.{ask_of};
 ghost use Rattle.md_state.specs.View.{disk_of};
 ghost use Rattle.md_cli.specs.Holding.{IsOwn, Looks};
-ghost use Rattle.md_cli.specs.Noticed.{NotesOpening, asked_of, asks_first, failing_of, nothing, parted_members, tells_parted, with_dropped, without_stored};
+ghost use Rattle.md_cli.specs.Noticed.{NotesOpening, asked_of, asks_first, nothing, parted_members, with_dropped, without_stored};
 ghost use Rattle.md_cli.specs.Opened.{seen};
 
 use crate::held::{Held, held_on};
@@ -18,7 +18,7 @@ use md_notices::{
     in_sync_count, is_forgotten, members_dropped, members_parted, parted_line, roles_unnamed,
     standing_line, states_of, unnamed_line, was_apart,
 };
-use md_words::Command;
+use md_words::{Command, Overwritten};
 use std::alloc::Global;
 use std::io::Write;
 
@@ -73,7 +73,7 @@ impl Notices {
     pub(crate) fn note<D: Device + Drop>(&mut self, command: Command<'_>, mirror: &Mirror<D>)
         ensures { NotesOpening (ask_of command.entry) mirror.now.array self.old self.new }
     {
-        self.own = is_own(command, mirror, &self.held);
+        self.own = is_own(command.overwrites(), mirror, &self.held);
         self.marked = members_marked(mirror);
         self.alone = alone_in_sync(mirror);
         self.parted = parted_members(command, mirror);
@@ -121,28 +121,15 @@ impl Notices {
     pub(crate) fn asks_first(&self, command: Command<'_>) -> bool
         ensures { result ≡ asks_first (ask_of command.entry) self.now }
     {
-        match command {
-            Command::Add { .. } => self.held.is_known(),
-            Command::ReAdd { .. } => self.own,
-            Command::Rebuild { member } => self
+        match command.overwrites() {
+            Overwritten::NewDevice => self.held.is_known(),
+            Overwritten::ReturningDevice => self.own,
+            Overwritten::Member(member) => self
                 .parted
                 .get(member as usize)
                 .copied()
                 .unwrap_or(false),
-            Command::Examine
-            | Command::ExamineBitmap
-            | Command::ExamineBadblocks
-            | Command::Create(_)
-            | Command::Assemble { .. }
-            | Command::Detail { .. }
-            | Command::Plan { .. }
-            | Command::Read { .. }
-            | Command::Check { .. }
-            | Command::Write { .. }
-            | Command::Resync
-            | Command::Stop
-            | Command::Fail { .. }
-            | Command::Remove { .. } => false,
+            Overwritten::Nothing => false,
         }
     }
 
@@ -176,7 +163,7 @@ impl Notices {
             return Ok(());
         }
         match &self.held {
-            Held::Member(own) if matches!(command, Command::Add { .. }) => {
+            Held::Member(own) if matches!(command.overwrites(), Overwritten::NewDevice) => {
                 if self.own {
                     forgotten_line(out, name)
                 } else {
@@ -194,8 +181,8 @@ impl Notices {
         names: &[&'a str],
         out: &mut S,
     ) -> Result<(), SinkFault> {
-        let first = match command {
-            Command::Rebuild { member } => Some(member as usize),
+        let first = match command.overwrites() {
+            Overwritten::Member(member) => Some(member as usize),
             _ => None,
         };
         for (k, (parted, name)) in self.parted.iter().zip(names).enumerate() {
@@ -240,36 +227,12 @@ impl Notices {
     }
 }
 
-// Whether a command says which members were used without those in sync.
-fn tells_parted(command: Command<'_>) -> bool
-    ensures { result ≡ tells_parted (ask_of command.entry) }
-{
-    match command {
-        Command::Assemble { .. }
-        | Command::Detail { .. }
-        | Command::Plan { .. }
-        | Command::ReAdd { .. }
-        | Command::Rebuild { .. } => true,
-        Command::Examine
-        | Command::ExamineBitmap
-        | Command::ExamineBadblocks
-        | Command::Create(_)
-        | Command::Read { .. }
-        | Command::Check { .. }
-        | Command::Write { .. }
-        | Command::Resync
-        | Command::Stop
-        | Command::Fail { .. }
-        | Command::Remove { .. }
-        | Command::Add { .. } => false,
-    }
-}
-
 // The image that a command overwrites, as far as it is asked of it.
 fn target_of<'a>(command: Command<'a>, names: &[&'a str]) -> Option<&'a str> {
-    match command {
-        Command::Rebuild { member } => names.get(member as usize).copied(),
-        _ => command.device(),
+    match command.overwrites() {
+        Overwritten::Member(member) => names.get(member as usize).copied(),
+        Overwritten::NewDevice | Overwritten::ReturningDevice => command.device(),
+        Overwritten::Nothing => None,
     }
 }
 
@@ -277,7 +240,7 @@ fn target_of<'a>(command: Command<'a>, names: &[&'a str]) -> Option<&'a str> {
 fn parted_members<D: Device + Drop>(command: Command<'_>, mirror: &Mirror<D>) -> [bool; MAX_MEMBERS]
     ensures { result ≡ parted_members (ask_of command.entry) mirror.now.array.members }
 {
-    if !tells_parted(command) {
+    if !command.tells_parted() {
         return [false; MAX_MEMBERS];
     }
     members_parted(mirror)
@@ -285,55 +248,16 @@ fn parted_members<D: Device + Drop>(command: Command<'_>, mirror: &Mirror<D>) ->
 
 // Whether the device that is to join is one of the array: in sync there, where it is to be added, and used without the
 // members in sync, where it is to come back.
-fn is_own<D: Device + Drop>(command: Command<'_>, mirror: &Mirror<D>, held: &Held) -> bool
-    ensures { IsTrue result ↔ IsOwn (ask_of command.entry) mirror.now.array held.now }
+fn is_own<D: Device + Drop>(overwritten: Overwritten, mirror: &Mirror<D>, held: &Held) -> bool
+    ensures { IsTrue result ↔ IsOwn overwritten mirror.now.array held.now }
 {
     let Held::Member(own) = held else {
         return false;
     };
-    match command {
-        Command::Add { .. } => is_forgotten(mirror.shared(), own),
-        Command::ReAdd { .. } => was_apart(mirror, own),
-        Command::Examine
-        | Command::ExamineBitmap
-        | Command::ExamineBadblocks
-        | Command::Create(_)
-        | Command::Assemble { .. }
-        | Command::Detail { .. }
-        | Command::Plan { .. }
-        | Command::Read { .. }
-        | Command::Check { .. }
-        | Command::Write { .. }
-        | Command::Resync
-        | Command::Stop
-        | Command::Fail { .. }
-        | Command::Remove { .. }
-        | Command::Rebuild { .. } => false,
-    }
-}
-
-// The member that a command itself makes faulty.
-fn failing(command: Command<'_>) -> Option<usize>
-    ensures { result ≡ failing_of (ask_of command.entry) }
-{
-    match command {
-        Command::Fail { member } => Some(member as usize),
-        Command::Examine
-        | Command::ExamineBitmap
-        | Command::ExamineBadblocks
-        | Command::Create(_)
-        | Command::Assemble { .. }
-        | Command::Detail { .. }
-        | Command::Plan { .. }
-        | Command::Read { .. }
-        | Command::Check { .. }
-        | Command::Write { .. }
-        | Command::Resync
-        | Command::Stop
-        | Command::Remove { .. }
-        | Command::Add { .. }
-        | Command::ReAdd { .. }
-        | Command::Rebuild { .. } => None,
+    match overwritten {
+        Overwritten::NewDevice => is_forgotten(mirror.shared(), own),
+        Overwritten::ReturningDevice => was_apart(mirror, own),
+        Overwritten::Nothing | Overwritten::Member(_) => false,
     }
 }
 
@@ -345,10 +269,11 @@ fn asked_of(command: Command<'_>, has_left: bool) -> Asked
         Some(member) if has_left => Some(member as usize),
         _ => None,
     };
-    Asked {
-        left,
-        failed: failing(command),
-    }
+    let failed = match command.failing() {
+        Some(member) => Some(member as usize),
+        None => None,
+    };
+    Asked { left, failed }
 }
 
 fn members_marked<D: Device + Drop>(mirror: &Mirror<D>) -> [bool; MAX_MEMBERS] {

@@ -100,30 +100,10 @@ fn act<
     if command.opens_array() {
         return with_array(session, command, images, names, notices);
     }
-    let alloc = session.alloc;
-    match command {
-        Command::Examine => examine_images(alloc, command, images, names, &mut session.out),
-        Command::ExamineBitmap => examine_images(alloc, command, images, names, &mut session.out),
-        Command::ExamineBadblocks => {
-            examine_images(alloc, command, images, names, &mut session.out)
-        }
-        Command::Create(options) => {
-            create_array(alloc, options, images, names, &mut session.out)
-        }
-        Command::Assemble { .. }
-        | Command::Detail { .. }
-        | Command::Plan { .. }
-        | Command::Read { .. }
-        | Command::Check { .. }
-        | Command::Write { .. }
-        | Command::Resync
-        | Command::Stop
-        | Command::Fail { .. }
-        | Command::Remove { .. }
-        | Command::Add { .. }
-        | Command::ReAdd { .. }
-        | Command::Rebuild { .. } => unreachable!(),
+    if let Command::Create(options) = command {
+        return create_array(session.alloc, options, images, names, &mut session.out);
     }
+    examine_images(session.alloc, command, images, names, &mut session.out)
 }
 
 // Makes an array. No image is touched before the options are accepted.

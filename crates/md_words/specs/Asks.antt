@@ -6,6 +6,8 @@ use Rattle.md_images.specs.declared.access.Access.TheVariants.{Change, ChangeOrL
 use Rattle.md_words.specs.declared.options.CreateOptions.{CreateOptions}
 use Rattle.md_words.specs.declared.command.Command.{Command}
 use Rattle.md_words.specs.declared.command.Command.TheVariants as command
+use Rattle.md_words.specs.declared.overwritten.Overwritten.{Overwritten}
+use Rattle.md_words.specs.declared.overwritten.Overwritten.TheVariants as overwritten
 
 -- the options of `create`
 pub record Options : Type 0 where
@@ -39,30 +41,6 @@ pub data Ask : Type 0 where
   re_adds : Text → Ask  -- the image under this name, which left it, comes back and gets what it lacks
   rebuilds : ℕ → Ask  -- the member with this index gets what it lacks
 
--- how images are opened to show what they make: opening their array may store marks, unless none may be changed
-abbrev pub marking : Bool → Access
-marking readonly = if readonly then Look else ChangeOrLook
-
--- how the images are opened: what writes to them needs all of them to be changed
-abbrev pub access_of : Ask → Access
-access_of examines = Look
-access_of examines_bitmap = Look
-access_of examines_badblocks = Look
-access_of (creates o) = Change
-access_of (assembles readonly) = marking readonly
-access_of (details readonly) = marking readonly
-access_of (plans k readonly) = marking readonly
-access_of (reads sector count readonly) = marking readonly
-access_of (checks readonly) = marking readonly
-access_of (writes sector) = Change
-access_of resyncs = Change
-access_of stops = Change
-access_of (fails k) = Change
-access_of (removes k) = Change
-access_of (adds name) = Change
-access_of (re_adds name) = Change
-access_of (rebuilds k) = Change
-
 -- whether no image may be changed, by a command that else might change some
 abbrev pub is_readonly : Ask → Bool
 is_readonly (assembles readonly) = readonly
@@ -71,6 +49,23 @@ is_readonly (plans k readonly) = readonly
 is_readonly (reads sector count readonly) = readonly
 is_readonly (checks readonly) = readonly
 is_readonly _ = false
+
+-- How images are opened where they may be changed: opening an array to show what it is may store marks, and what writes to
+-- images needs all of them to be changed.
+abbrev pub full_access_of : Ask → Access
+full_access_of examines = Look
+full_access_of examines_bitmap = Look
+full_access_of examines_badblocks = Look
+full_access_of (assembles readonly) = ChangeOrLook
+full_access_of (details readonly) = ChangeOrLook
+full_access_of (plans k readonly) = ChangeOrLook
+full_access_of (reads sector count readonly) = ChangeOrLook
+full_access_of (checks readonly) = ChangeOrLook
+full_access_of _ = Change
+
+-- how the images are opened
+abbrev pub access_of : Ask → Access
+access_of ask = if is_readonly ask then Look else full_access_of ask
 
 -- whether the images are opened as an array
 abbrev pub opens_array : Ask → Bool
@@ -90,6 +85,27 @@ device_of _ = None
 abbrev pub leaving_of : Ask → Option ℕ
 leaving_of (removes k) = Some k
 leaving_of _ = None
+
+-- the member that it makes faulty itself
+abbrev pub failing_of : Ask → Option ℕ
+failing_of (fails k) = Some k
+failing_of _ = None
+
+-- whether it says which members were used without those in sync: it shows the array, or rebuilds
+abbrev pub tells_parted : Ask → Bool
+tells_parted (assembles readonly) = true
+tells_parted (details readonly) = true
+tells_parted (plans k readonly) = true
+tells_parted (re_adds name) = true
+tells_parted (rebuilds k) = true
+tells_parted _ = false
+
+-- what it overwrites that perhaps should stay
+abbrev pub overwritten_by : Ask → Overwritten
+overwritten_by (adds name) = overwritten.NewDevice
+overwritten_by (re_adds name) = overwritten.ReturningDevice
+overwritten_by (rebuilds k) = overwritten.Member k
+overwritten_by _ = overwritten.Nothing
 
 -- the same of a command as it was parsed
 abbrev pub options_of : CreateOptions → Options

@@ -1,8 +1,9 @@
 // A command, and what it may do with the images.
 ghost use Rattle.std.specs.Prelude.{◌≡◌, option_map};
-ghost use Rattle.md_words.specs.Asks.{access_of, ask_of, device_of, is_readonly, leaving_of, marking, opens_array};
+ghost use Rattle.md_words.specs.Asks.{access_of, ask_of, device_of, failing_of, is_readonly, leaving_of, opens_array, overwritten_by, tells_parted};
 
 use crate::options::CreateOptions;
+use crate::overwritten::Overwritten;
 use md_images::Access;
 
 /// A command, with the values of its options. `readonly` says that no image may be changed.
@@ -70,29 +71,22 @@ pub enum Command<'a> {
     },
 }
 
-// How images are opened to show what they make: opening their array may store marks, unless none may be changed.
-fn marking(readonly: bool) -> Access
-    ensures { result ≡ marking readonly }
-{
-    if readonly {
-        Access::Look
-    } else {
-        Access::ChangeOrLook
-    }
-}
-
 impl<'a> Command<'a> {
     /// How its images are opened: whether they may be changed.
     pub fn access(self) -> Access
         ensures { result ≡ access_of (ask_of self.entry) }
     {
+        if self.is_readonly() {
+            return Access::Look;
+        }
         match self {
             Command::Examine | Command::ExamineBitmap | Command::ExamineBadblocks => Access::Look,
-            Command::Assemble { readonly } => marking(readonly),
-            Command::Detail { readonly } => marking(readonly),
-            Command::Plan { readonly, .. } => marking(readonly),
-            Command::Read { readonly, .. } => marking(readonly),
-            Command::Check { readonly } => marking(readonly),
+            // Opening the array may store marks.
+            Command::Assemble { .. }
+            | Command::Detail { .. }
+            | Command::Plan { .. }
+            | Command::Read { .. }
+            | Command::Check { .. } => Access::ChangeOrLook,
             Command::Create(_)
             | Command::Write { .. }
             | Command::Resync
@@ -202,6 +196,81 @@ impl<'a> Command<'a> {
             | Command::Add { .. }
             | Command::ReAdd { .. }
             | Command::Rebuild { .. } => None,
+        }
+    }
+
+    /// The index of the member that it makes faulty itself.
+    pub fn failing(self) -> Option<u32>
+        ensures { result ≡ failing_of (ask_of self.entry) }
+    {
+        match self {
+            Command::Fail { member } => Some(member),
+            Command::Examine
+            | Command::ExamineBitmap
+            | Command::ExamineBadblocks
+            | Command::Create(_)
+            | Command::Assemble { .. }
+            | Command::Detail { .. }
+            | Command::Plan { .. }
+            | Command::Read { .. }
+            | Command::Check { .. }
+            | Command::Write { .. }
+            | Command::Resync
+            | Command::Stop
+            | Command::Remove { .. }
+            | Command::Add { .. }
+            | Command::ReAdd { .. }
+            | Command::Rebuild { .. } => None,
+        }
+    }
+
+    /// Whether it says which members were used without those in sync.
+    pub fn tells_parted(self) -> bool
+        ensures { result ≡ tells_parted (ask_of self.entry) }
+    {
+        match self {
+            Command::Assemble { .. }
+            | Command::Detail { .. }
+            | Command::Plan { .. }
+            | Command::ReAdd { .. }
+            | Command::Rebuild { .. } => true,
+            Command::Examine
+            | Command::ExamineBitmap
+            | Command::ExamineBadblocks
+            | Command::Create(_)
+            | Command::Read { .. }
+            | Command::Check { .. }
+            | Command::Write { .. }
+            | Command::Resync
+            | Command::Stop
+            | Command::Fail { .. }
+            | Command::Remove { .. }
+            | Command::Add { .. } => false,
+        }
+    }
+
+    /// What it overwrites that perhaps should stay: it may be asked of that first.
+    pub fn overwrites(self) -> Overwritten
+        ensures { result ≡ overwritten_by (ask_of self.entry) }
+    {
+        match self {
+            Command::Add { .. } => Overwritten::NewDevice,
+            Command::ReAdd { .. } => Overwritten::ReturningDevice,
+            Command::Rebuild { member } => Overwritten::Member(member),
+            Command::Examine
+            | Command::ExamineBitmap
+            | Command::ExamineBadblocks
+            | Command::Create(_)
+            | Command::Assemble { .. }
+            | Command::Detail { .. }
+            | Command::Plan { .. }
+            | Command::Read { .. }
+            | Command::Check { .. }
+            | Command::Write { .. }
+            | Command::Resync
+            | Command::Stop
+            | Command::Fail { .. }
+            | Command::Remove { .. } => Overwritten::Nothing,
         }
     }
 }

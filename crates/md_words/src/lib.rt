@@ -7,10 +7,12 @@ mod command_line;
 mod commands;
 mod help;
 mod options;
+mod overwritten;
 mod parsing;
 mod request;
 
 pub use command::Command;
 pub use options::CreateOptions;
+pub use overwritten::Overwritten;
 pub use parsing::parse;
 pub use request::Request;

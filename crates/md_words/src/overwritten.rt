@@ -1,0 +1,14 @@
+// What a command overwrites.
+
+/// What a command overwrites that perhaps should stay.
+#[derive(Clone, Copy, Debug)]
+pub enum Overwritten {
+    /// Nothing of the kind.
+    Nothing,
+    /// Whatever the image holds that is to join the array.
+    NewDevice,
+    /// What was written to the image that comes back, and not to the others.
+    ReturningDevice,
+    /// The same of the member with this index.
+    Member(u32),
+}
