@@ -19,6 +19,8 @@ impl Model for Count {
 // It owns nothing.
 unsafe impl Send for Count {}
 
+unsafe impl Sync for Count {}
+
 impl Count {
     pub(crate) fn zero() -> Count
         ensures { result.number ≡ 0 }

@@ -1,7 +1,8 @@
-//! A device over another one that does not give some of its sectors: those of a copy that the disk behind it did not give.
+//! A disk as its copy has it: a device over the copy that does not give the sectors which the disk did not give.
 #![tactic(auto)]
 
 mod count;
+mod hidden;
 mod masked;
 
 pub use masked::MaskedDevice;
