@@ -52,6 +52,26 @@ impl<D> MaskedDevice<D> {
         }
     }
 
+    /// The same mask over another device, and the copy that was below it. Takes no memory.
+    pub fn moved_over<E>(self, inner: E) -> (MaskedDevice<E>, D)
+        ensures moved { result.0 ≡ record { inner = inner; mask = self.mask; disk = self.disk; refused = self.refused } }
+        ensures copy { result.1 ≡ self.inner }
+    {
+        let MaskedDevice {
+            inner: copy,
+            mask,
+            disk,
+            refused,
+        } = self;
+        let moved = MaskedDevice {
+            inner,
+            mask,
+            disk,
+            refused,
+        };
+        (moved, copy)
+    }
+
     /// The copy. Takes no memory.
     pub fn into_inner(self) -> D
         ensures { result ≡ self.inner }

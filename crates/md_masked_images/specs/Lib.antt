@@ -1,0 +1,2 @@
+-- Images under their masks.
+pub mod Masks
