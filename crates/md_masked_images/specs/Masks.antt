@@ -1,7 +1,10 @@
 -- Images under their masks.
-use Rattle.std.specs.Prelude.{◌∷◌, ℕ, List, [], Option, Some, None, true, false}
+use Rattle.md_device.specs.declared.device.Device.{Ghosts}
+use Rattle.std.specs.Prelude.{◌≡◌, ◌∷◌, ◌++◌, ℕ, List, [], length, Option, Some, None, true, false}
 use Rattle.md_badblocks.specs.declared.run.Run.{Run}
 use Rattle.md_images.specs.MemImages.{Named}
+use Rattle.md_images.specs.declared.images.Images.{Ghosts as ImagesGhosts}
+use Rattle.md_maps.specs.Map.{IsReadAs}
 use Rattle.md_masked_device.specs.Masked.{Masked}
 
 -- The masks are kept by name, each over a device without sectors.
@@ -24,3 +27,23 @@ mask_of mask disk = record { inner = []; mask = mask; disk = disk; refused = 0 }
 -- one more mask
 abbrev pub named_mask : List ℕ → Masked (List ℕ) → Named (Masked (List ℕ))
 named_mask name mask = record { name = name; device = Some mask; changeable = true; asked = false }
+
+-- there is a device of this many bytes
+abbrev pub HasSize : {D : Type 0} → Ghosts D → Option D → ℕ → Type 0
+HasSize g device size = (d : _) × (device ≡ Some d) × (length (g.content d) ≡ size)
+
+-- Where it is known which devices there are, each name has what it had, and none was had so that it might have been changed.
+pub record KeepsAll {I D : Type 0} (i : ImagesGhosts I D) (before after : I) : Type 0 where
+  pub known : i.known after ≡ i.known before
+  pub holds : i.known before ≡ true → (n : List ℕ) → i.holds after n ≡ i.holds before n
+  pub devices : i.known before ≡ true → (n : List ℕ) → i.device_at after n ≡ i.device_at before n
+  pub rights : i.known before ≡ true → (n : List ℕ) → i.changeable after n ≡ i.changeable before n
+  pub asked : i.known before ≡ true → (n : List ℕ) → i.asked after n ≡ i.asked before n
+
+-- The image under a name is had as a copy of a disk that has these bytes, and its mask is what the map says that it lacks.
+pub record AddsCopy {I D : Type 0} (i : ImagesGhosts I D) (g : Ghosts D) (disk : List ℕ) (name map : List ℕ) (images : I) (old new : Masks) : Type 0 where
+  pub mask : List Run
+  pub size : ℕ
+  pub sized : i.known images ≡ true → HasSize g (i.device_at images name) size
+  pub lacks : IsReadAs size map mask
+  pub added : new ≡ old ++ named_mask name (mask_of mask disk) ∷ []

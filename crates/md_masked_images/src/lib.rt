@@ -1,6 +1,14 @@
 //! Images that are copies of disks, by the maps of what each lacks: what a copy lacks is not read of it.
 #![tactic(auto)]
 
+mod advice;
+mod copies;
+mod fault;
 mod masked_images;
+mod words;
 
+pub use advice::map_advice;
+pub use copies::{MapText, mask_images};
+pub use fault::{CopyFault, MapRefusal, MapsFault};
 pub use masked_images::MaskedImages;
+pub use words::{MapWord, map_list};

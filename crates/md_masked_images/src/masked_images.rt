@@ -1,13 +1,15 @@
 // Images under their masks.
-ghost use Rattle.std.specs.Prelude.{◌≡◌, ◌&&◌, ◌++◌, ◌∷◌, [], is_some};
+ghost use Rattle.std.specs.Prelude.{◌≡◌, ◌≤◌, ◌^◌, ◌&&◌, ◌++◌, ◌∷◌, ℕ, List, [], true, is_some, IfOk, OnOk, OnErr};
 ghost use Rattle.md_images.specs.MemImages.{device_in};
-ghost use Rattle.md_masked_images.specs.Masks.{mask_of, masked};
+ghost use Rattle.md_masked_images.specs.Masks.{AddsCopy, HasSize, KeepsAll, mask_of, masked, named_mask};
 
+use crate::fault::CopyFault;
 use md_badblocks::BadSet;
-use md_device::MemDevice;
+use md_device::{Device, MemDevice};
 use md_images::{Access, ImageFault, Images, MemImages};
+use md_maps::read_map;
 use md_masked_device::MaskedDevice;
-use std::alloc::Global;
+use std::alloc::{AllocError, Global};
 
 /// Images of which some are copies of disks: what a copy lacks is not read of it. An image is had under a name that was
 /// added; its mask goes with its device, and is kept with it when the device is put back. Only in memory: an image has no
@@ -46,6 +48,52 @@ impl<I> MaskedImages<I> {
             masks: MemImages::new(alloc),
         }
     }
+}
+
+impl<I: Images> MaskedImages<I> {
+    /// The image under a name is whole: nothing of it is masked. Of two of one name the first counts.
+    pub fn add(&mut self, name: &str) -> Result<(), AllocError>
+        ensures ok { OnOk result (self.new.masks ≡ self.old.masks ++ named_mask name.now (mask_of [] []) ∷ []) }
+        ensures err { OnErr result (self.new.masks ≡ self.old.masks) }
+        ensures images { self.new.images ≡ self.old.images }
+    {
+        self.masks.add(name, no_mask(self.alloc))
+    }
+
+    /// The image under a name is a copy of a disk, and lacks what its map says. It is looked at. Of two of one name the
+    /// first counts.
+    pub fn add_copy(&mut self, name: &str, map: &[u8]) -> Result<(), CopyFault>
+        ghost disk: { List ℕ }
+        ensures ok { OnOk result (AddsCopy I.Images I.Dev.Device disk name.now map.now self.old.images self.old.masks self.new.masks) }
+        ensures err { OnErr result (self.new.masks ≡ self.old.masks) }
+        ensures images { KeepsAll I.Images self.old.images self.new.images }
+    {
+        let size = match size_of(&mut self.images, name) {
+            Ok(size) => size,
+            Err(fault) => return Err(CopyFault::Image(fault)),
+        };
+        let mask = match read_map(self.alloc, map, size) {
+            Ok(mask) => mask,
+            Err(fault) => return Err(CopyFault::Map(fault)),
+        };
+        let mask = MaskedDevice::new(no_device(self.alloc), mask);
+        match self.masks.add(name, mask) {
+            Ok(()) => Ok(()),
+            Err(_) => Err(CopyFault::NoMemory),
+        }
+    }
+}
+
+// How many bytes an image has. It is looked at.
+fn size_of<I: Images>(images: &mut I, name: &str) -> Result<u64, ImageFault>
+    ensures limit { IfOk result (λ size. size ≤ 2 ^ 63) }
+    ensures size { IfOk result (λ size. I.known images.old ≡ true → HasSize I.Dev.Device (I.device_at images.old name.now) size) }
+    ensures kept { KeepsAll I.Images images.old images.new }
+{
+    let device = images.get(name, Access::Look)?;
+    let size = 512 * device.sectors();
+    images.put(name, device);
+    Ok(size)
 }
 
 impl<I: Images> Images for MaskedImages<I> {

@@ -14,7 +14,7 @@ use Rattle.clap.specs.declared.builder.range.ValueRange.{ValueRange}
 use Rattle.std.specs.Borrow.{Bor}
 use Rattle.clap.specs.declared.builder.texts.Texts.TheVariants.{One}
 use Rattle.md_words.specs.Words.{mdcli}
-use Rattle.md_words.specs.Asked.{asks_in, asks_of, images_in, verbose_in, verbose_of}
+use Rattle.md_words.specs.Asked.{asks_in, asks_of, images_in, maps_in, verbose_in, verbose_of}
 
 pub some_is : {X : Type 0} (o : Option X) (x : X) → IsSomeAnd o (λ r. r ≡ x) → o ≡ Some x
 some_is None x h = absurd h
@@ -72,6 +72,11 @@ no_subcommand m none = no_pair (subcommand_rows_of m) (sym (name_is m) ∙ none)
 pub images_read : (m : ArgMatches) (name : Text) (f : Found) → subcommand_rows_of m ≡ Some (name, rows_of f) → unwrap_or (option_map raw_values (matched_of f (codes "image"))) [] ≡ images_in (subcommand_rows_of m)
 images_read m name f is =
     ap (λ (o : Option (List Text)). unwrap_or o []) (raw_values-rows f (codes "image")) ∙ sym (ap images_in is)
+
+-- the maps that they name
+pub maps_read : (m : ArgMatches) (name : Text) (f : Found) → subcommand_rows_of m ≡ Some (name, rows_of f) → unwrap_or (option_map raw_values (matched_of f (codes "map"))) [] ≡ maps_in (subcommand_rows_of m)
+maps_read m name f is =
+    ap (λ (o : Option (List Text)). unwrap_or o []) (raw_values-rows f (codes "map")) ∙ sym (ap maps_in is)
 
 -- what a subcommand's name and matches ask for
 pub asks_read : (m : ArgMatches) (name : Text) (f : Found) → subcommand_rows_of m ≡ Some (name, rows_of f) → asks_of name (rows_of f) ≡ asks_in (subcommand_rows_of m)

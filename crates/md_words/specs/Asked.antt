@@ -54,6 +54,14 @@ readonly_in rows = bytes_eq (text_in (codes "readonly") rows) (codes "true")
 abbrev pub listed_in : List Row → List Text
 listed_in rows = unwrap_or (all_of (codes "image") rows) []
 
+-- the maps that it names
+abbrev pub maps_of : List Row → List Text
+maps_of rows = unwrap_or (all_of (codes "map") rows) []
+
+abbrev pub maps_in : Option (Text × List Row) → List Text
+maps_in None = []
+maps_in (Some p) = maps_of p.1
+
 -- the place among images of the first of this name; 2^32 - 1 stands for all that are greater, at which no array has a member
 abbrev pub place_in : List Text → Text → Option ℕ
 place_in images name = option_map (λ place. min place 4294967295) (position (λ image. bytes_eq image name) images)
@@ -131,6 +139,10 @@ runs words = runs_in (subcommand_of mdcli words)
 -- the image words
 unfoldable pub image_words : List Text → List Text
 image_words words = images_in (subcommand_of mdcli words)
+
+-- the maps of images that lack sectors
+unfoldable pub map_words : List Text → List Text
+map_words words = maps_in (subcommand_of mdcli words)
 
 -- whether the words ask that more is said of a refusal
 unfoldable pub is_verbose : List Text → Bool

@@ -3,7 +3,7 @@ use Rattle.std.specs.Prelude.{◌∷◌, [], Option, Some, None}
 use Rattle.std.specs.List.{fold}
 use Rattle.std.specs.Borrow.{Bor}
 use Rattle.clap.specs.Words.{App, Rule, Text, new_app, with_rule, with_subcommand}
-use Rattle.md_words.specs.Words.{completed, flag_rule, u32_rule, u64_rule, value_rule}
+use Rattle.md_words.specs.Words.{completed, flag_rule, u32_rule, texts_rule, u64_rule, value_rule}
 use Rattle.md_words.specs.declared.commands.CommandWords.{CommandWords}
 use Rattle.md_words.specs.declared.commands.Kind.{Kind}
 use Rattle.md_words.specs.declared.commands.Kind.TheVariants as kind
@@ -14,6 +14,7 @@ abbrev pub rule_of_kind : Kind → Text → Rule
 rule_of_kind kind.Text = value_rule
 rule_of_kind kind.U32 = u32_rule
 rule_of_kind kind.U64 = u64_rule
+rule_of_kind kind.Texts = texts_rule
 rule_of_kind kind.Flag = flag_rule
 
 abbrev pub with_default : Option (Bor Text) → Rule → Rule

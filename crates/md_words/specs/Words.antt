@@ -2,7 +2,7 @@
 use Rattle.std.specs.Prelude.{true, ◌∷◌, [], Some, codes, pos}
 use Rattle.clap.specs.Lexer.{usize_max}
 use Rattle.clap.specs.Words.{App, Rule, Text, new_app, new_rule, with_rule, with_subcommand}
-use Rattle.clap.specs.declared.builder.action.ArgAction.TheVariants.{SetTrue}
+use Rattle.clap.specs.declared.builder.action.ArgAction.TheVariants.{Append, SetTrue}
 use Rattle.clap.specs.declared.builder.value_parser.ValueParser.TheVariants.{Signed, Unsigned}
 
 -- any number of images, listed last
@@ -18,6 +18,10 @@ u32_rule name = record (value_rule name) { parser = Some (Signed (pos 0) (pos 42
 
 abbrev pub u64_rule : Text → Rule
 u64_rule name = record (value_rule name) { parser = Some (Unsigned 0 18446744073709551615) }
+
+-- an option with a value, which may be given more than once
+abbrev pub texts_rule : Text → Rule
+texts_rule name = record (value_rule name) { action = Some Append }
 
 -- an option without a value
 abbrev pub flag_rule : Text → Rule
@@ -41,12 +45,27 @@ completed a = with_rule (with_rule a verbose_rule) image_rule
 abbrev pub bare_app : Text → App
 bare_app name = completed (new_app name)
 
--- one that shows an array, the plan of a rebuild, or sectors, or compares the members, and that may be asked to change no image
+-- an option that says of an image which sectors it lacks
+abbrev pub with_map : App → App
+with_map a = with_rule a (texts_rule (codes "map"))
+
+-- one that may be asked to change no image
+abbrev pub with_readonly : App → App
+with_readonly a = with_rule a (flag_rule (codes "readonly"))
+
+-- one that shows an array, the plan of a rebuild, or sectors, or compares the members
 abbrev pub with_images : App → App
-with_images a = completed (with_rule a (flag_rule (codes "readonly")))
+with_images a = completed (with_map (with_readonly a))
+
+abbrev pub assemble_app : App
+assemble_app = completed (with_readonly (new_app (codes "assemble")))
 
 abbrev pub array_app : Text → App
 array_app name = with_images (new_app name)
+
+-- one that makes the members agree
+abbrev pub resync_app : App
+resync_app = completed (with_map (new_app (codes "resync")))
 
 -- an option that is a member of the array, by its place or its image
 abbrev pub with_member : App → App
@@ -73,7 +92,7 @@ device_app name = completed (with_run (with_device (new_app name)))
 
 -- one by which a member gets the data that it lacks
 abbrev pub rebuild_app : App
-rebuild_app = completed (with_run (with_member (new_app (codes "rebuild"))))
+rebuild_app = completed (with_map (with_run (with_member (new_app (codes "rebuild")))))
 
 -- an option that is a sector of the array
 abbrev pub with_sector : App → App
@@ -125,7 +144,7 @@ abbrev pub with_array_commands : App → App
 with_array_commands a =
     with_subcommand
     (with_subcommand
-    (with_subcommand (with_subcommand a create_app.top) (array_app (codes "assemble")).top)
+    (with_subcommand (with_subcommand a create_app.top) assemble_app.top)
     (array_app (codes "detail")).top)
     plan_app.top
 
@@ -134,7 +153,7 @@ with_data_commands a =
     with_subcommand
     (with_subcommand
     (with_subcommand (with_subcommand (with_subcommand a read_app.top) write_app.top) (array_app (codes "check")).top)
-    (bare_app (codes "resync")).top)
+    resync_app.top)
     (bare_app (codes "stop")).top
 
 abbrev pub with_member_commands : App → App

@@ -4,7 +4,7 @@ ghost use Rattle.std.specs.List.{fold};
 ghost use Rattle.clap.specs.Words.{app_of, rule_of};
 ghost use Rattle.clap.specs.declared.builder.command.Command.TheViews.{out-Command as fields_of};
 ghost use Rattle.md_words.specs.Commands.{app_in, rule_in, with_command, with_option};
-ghost use Rattle.md_words.specs.Words.{flag_rule, image_rule, mdcli, u32_rule, u64_rule, value_rule, verbose_rule, with_array_commands, with_data_commands, with_examine_commands, with_member_commands, with_rebuild_commands};
+ghost use Rattle.md_words.specs.Words.{flag_rule, image_rule, mdcli, texts_rule, u32_rule, u64_rule, value_rule, verbose_rule, with_array_commands, with_data_commands, with_examine_commands, with_member_commands, with_rebuild_commands};
 
 use crate::commands::{
     ARRAY_COMMANDS, CommandWords, DATA_COMMANDS, EXAMINE_COMMANDS, Kind, MEMBER_COMMANDS,
@@ -52,6 +52,14 @@ fn u64_arg<'a>(alloc: Global, name: &'a str, value: &'a str, help: &'a str) -> A
     value_arg(alloc, name, value, help).value_parser(u64::value_parser())
 }
 
+// An option with a value, which may be given more than once.
+fn texts_arg<'a>(alloc: Global, name: &'a str, value: &'a str, help: &'a str) -> Arg<'a>
+    ensures rule { rule_of result ≡ texts_rule name.entry.now }
+    ensures local { result.global ≡ false }
+{
+    value_arg(alloc, name, value, help).action(ArgAction::Append)
+}
+
 // An option without a value.
 fn flag_arg<'a>(alloc: Global, name: &'a str, help: &'a str) -> Arg<'a>
     ensures rule { rule_of result ≡ flag_rule name.entry.now }
@@ -81,6 +89,7 @@ fn option_arg<'a>(alloc: Global, option: &OptionWords<'a>) -> Arg<'a>
         Kind::Text => value_arg(alloc, option.name, option.value, option.help),
         Kind::U32 => u32_arg(alloc, option.name, option.value, option.help),
         Kind::U64 => u64_arg(alloc, option.name, option.value, option.help),
+        Kind::Texts => texts_arg(alloc, option.name, option.value, option.help),
         Kind::Flag => flag_arg(alloc, option.name, option.help),
     };
     let arg = arg.required(option.required);

@@ -6,6 +6,8 @@ pub(crate) enum Kind {
     Text,
     U32,
     U64,
+    /// Any text, and the option may be given more than once.
+    Texts,
     /// It has no value.
     Flag,
 }
@@ -165,6 +167,15 @@ const RUN: OptionWords = OptionWords {
     default: None,
 };
 
+const MAP: OptionWords = OptionWords {
+    name: "map",
+    value: "IMAGE=FILE",
+    help: "The image is a copy of a disk, and FILE ddrescue's map of it: what it lacks is not read; of each image one",
+    kind: Kind::Texts,
+    required: false,
+    default: None,
+};
+
 /// The commands on one image.
 pub(crate) const EXAMINE_COMMANDS: [CommandWords; 3] = [
     CommandWords {
@@ -215,13 +226,13 @@ pub(crate) const ARRAY_COMMANDS: [CommandWords; 4] = [
         name: "detail",
         about: "Shows the array that the images make; may store marks",
         after_help: help::ARRAY,
-        options: &[READONLY],
+        options: &[READONLY, MAP],
     },
     CommandWords {
         name: "plan",
         about: "Shows the plan of a member's rebuild, in the fewest rounds; may store marks",
         after_help: help::PLAN,
-        options: &[MEMBER, READONLY],
+        options: &[MEMBER, READONLY, MAP],
     },
 ];
 
@@ -231,7 +242,7 @@ pub(crate) const DATA_COMMANDS: [CommandWords; 5] = [
         name: "read",
         about: "Writes sectors of the array to standard output; may change images",
         after_help: help::READ,
-        options: &[SECTOR, COUNT, READONLY],
+        options: &[SECTOR, COUNT, READONLY, MAP],
     },
     CommandWords {
         name: "write",
@@ -243,13 +254,13 @@ pub(crate) const DATA_COMMANDS: [CommandWords; 5] = [
         name: "check",
         about: "Counts the chunks in which members in sync differ; may store marks",
         after_help: help::CHECK,
-        options: &[READONLY],
+        options: &[READONLY, MAP],
     },
     CommandWords {
         name: "resync",
         about: "Makes the members in sync agree where they may differ, and stops the array",
         after_help: help::RESYNC,
-        options: &[],
+        options: &[MAP],
     },
     CommandWords {
         name: "stop",
@@ -293,6 +304,6 @@ pub(crate) const REBUILD_COMMANDS: [CommandWords; 2] = [
         name: "rebuild",
         about: "Rebuilds a member from all others at once by its plan, and stops the array",
         after_help: help::REBUILD,
-        options: &[MEMBER, RUN],
+        options: &[MEMBER, RUN, MAP],
     },
 ];

@@ -3,7 +3,7 @@ ghost use Rattle.std.specs.Prelude.{◌≡◌, IfOk, [], codes, map, option_map,
 ghost use Rattle.std.specs.Str.{bytes_eq};
 ghost use Rattle.clap.specs.Words.{FailsBy, fault_of, first_of, found_of, matched_of, raw_values, rows_of, subcommand_of, subcommand_rows_of};
 ghost use Rattle.md_words.specs.Words.{mdcli};
-ghost use Rattle.md_words.specs.Asked.{asked, asks_in, asks_of, image_words, images_in, is_verbose, member_at, member_fault, member_in, member_of, names_no_member, number_in, number_of, options_in, place_in, readonly_in, run_in, runs, runs_in, text_in, verbose_in, verbose_of, words_fault};
+ghost use Rattle.md_words.specs.Asked.{asked, asks_in, asks_of, image_words, images_in, is_verbose, map_words, maps_in, member_at, member_fault, member_in, member_of, names_no_member, number_in, number_of, options_in, place_in, readonly_in, run_in, runs, runs_in, text_in, verbose_in, verbose_of, words_fault};
 ghost use Rattle.md_words.specs.Asks.{ask_of, options_of};
 
 use crate::command::Command;
@@ -230,6 +230,8 @@ fn requested<'a>(alloc: Global, matches: &ArgMatches<'a>) -> Result<Request<'a>,
     ensures asks { IfOk result (λ r. ask_of r.command ≡ asks_in (subcommand_rows_of matches.now)) }
     ensures images { IfOk result
         (λ r. map (λ s. s.now) r.images.items ≡ images_in (subcommand_rows_of matches.now)) }
+    ensures maps { IfOk result
+        (λ r. map (λ s. s.now) r.maps.items ≡ maps_in (subcommand_rows_of matches.now)) }
     ensures verbose { IfOk result (λ r. r.verbose ≡ verbose_in (subcommand_rows_of matches.now)) }
     ensures run { IfOk result (λ r. r.run ≡ runs_in (subcommand_rows_of matches.now)) }
 {
@@ -237,28 +239,35 @@ fn requested<'a>(alloc: Global, matches: &ArgMatches<'a>) -> Result<Request<'a>,
         return Ok(Request {
             command: Command::Examine,
             images: Vec::new(alloc),
+            maps: Vec::new(alloc),
             verbose: false,
             run: false,
         });
     };
-    let images = image_list(alloc, found)?;
+    let images = values_of(alloc, found, "image")?;
+    let maps = values_of(alloc, found, "map")?;
     Ok(Request {
         command: command_of(name, found),
         images,
+        maps,
         verbose: is_verbose(found),
         run: is_run(found),
     })
 }
 
-// The images that a command's matches name.
-fn image_list<'a>(alloc: Global, found: &ArgMatches<'a>) -> Result<Vec<&'a str>, AllocError>
-    ensures { IfOk result (λ images. map (λ s. s.now) images.items
-        ≡ unwrap_or (option_map raw_values (matched_of (found_of found.now) (codes "image"))) []) }
+// All values of an option, or the images.
+fn values_of<'a>(
+    alloc: Global,
+    found: &ArgMatches<'a>,
+    name: &str,
+) -> Result<Vec<&'a str>, AllocError>
+    ensures { IfOk result (λ values. map (λ s. s.now) values.items
+        ≡ unwrap_or (option_map raw_values (matched_of (found_of found.now) name.now)) []) }
 {
-    let Some(images) = found.get_strs("image") else {
+    let Some(values) = found.get_strs(name) else {
         return Ok(Vec::new(alloc));
     };
-    Vec::from_slice(alloc, images)
+    Vec::from_slice(alloc, values)
 }
 
 // Refuses a member that is neither a number nor listed, as the parser refuses a value.
@@ -277,11 +286,13 @@ fn check_member(alloc: Global, matches: &ArgMatches<'_>) -> Result<(), Error>
 }
 
 /// What the words ask for, or why the words are not taken.
-#[tactic(auto, unfolding(crate::specs::Asked::image_words, crate::specs::Asked::asked, crate::specs::Asked::is_verbose, crate::specs::Asked::runs, crate::specs::Asked::words_fault))]
+#[tactic(auto, unfolding(crate::specs::Asked::image_words, crate::specs::Asked::map_words, crate::specs::Asked::asked, crate::specs::Asked::is_verbose, crate::specs::Asked::runs, crate::specs::Asked::words_fault))]
 pub fn parse<'a>(alloc: Global, words: &'a [&'a str]) -> Result<Request<'a>, Error>
     ensures asks { IfOk result (λ r. ask_of r.command ≡ asked (map (λ s. s.now) words.entry.now)) }
     ensures images { IfOk result
         (λ r. map (λ s. s.now) r.images.items ≡ image_words (map (λ s. s.now) words.entry.now)) }
+    ensures maps { IfOk result
+        (λ r. map (λ s. s.now) r.maps.items ≡ map_words (map (λ s. s.now) words.entry.now)) }
     ensures verbose { IfOk result (λ r. r.verbose ≡ is_verbose (map (λ s. s.now) words.entry.now)) }
     ensures run { IfOk result (λ r. r.run ≡ runs (map (λ s. s.now) words.entry.now)) }
     ensures fails { FailsBy (words_fault (map (λ s. s.now) words.entry.now)) result }

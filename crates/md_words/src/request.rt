@@ -6,6 +6,8 @@ use crate::command::Command;
 pub struct Request<'a> {
     pub command: Command<'a>,
     pub images: Vec<&'a str>,
+    /// The maps of images that lack sectors, each as `IMAGE=FILE`.
+    pub maps: Vec<&'a str>,
     /// More is to be said of a refusal.
     pub verbose: bool,
     /// Nothing is to be asked.

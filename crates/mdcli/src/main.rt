@@ -5,6 +5,7 @@ mod cleared;
 mod comparing;
 mod copying;
 mod files;
+mod maps;
 mod pace;
 mod progress;
 mod questions;
@@ -12,11 +13,13 @@ mod watched;
 
 use crate::cleared::Cleared;
 use crate::files::FileImages;
+use crate::maps::{masked_images, tell_refusal};
 use crate::progress::{Progress, WatchedTask};
 use crate::questions::Questions;
 use md_cli::{Messages, Session, run};
 use md_commands::Input;
 use md_examine::{Buffered, Output};
+use md_masked_images::MaskedImages;
 use md_words::{Command, parse};
 use std::alloc::{AllocError, Global};
 use std::fs::File;
@@ -24,8 +27,9 @@ use std::io::{self, IsTerminal};
 use std::process::ExitCode;
 use std::rt::Files;
 
-// The status of words that are not taken.
+// The status of words that are not taken, and that of a command that is refused.
 const WORDS_NOT_TAKEN: u8 = 2;
+const REFUSED: u8 = 1;
 
 fn main(rt: HostRuntime) -> ExitCode {
     let _standard_streams = filled_streams(&rt);
@@ -69,14 +73,22 @@ fn main(rt: HostRuntime) -> ExitCode {
         out: Buffered::new(rt.alloc(), Output::new(out)),
         watch: &progress,
     };
-    let status = run(
-        &mut session,
-        words,
-        parsed,
-        &mut FileImages::new(&rt, &progress),
-        &mut Cleared::new(err, &progress, true),
-        messages,
-    );
+    let mut err = Cleared::new(err, &progress, true);
+    let files = FileImages::new(&rt, &progress);
+    let masked = match &parsed {
+        Ok(request) => masked_images(&rt, request, files),
+        Err(_) => Ok(MaskedImages::new(rt.alloc(), files)),
+    };
+    let mut images = match masked {
+        Ok(images) => images,
+        Err(fault) => {
+            if let Ok(request) = &parsed {
+                tell_refusal(fault, request, messages, &mut err);
+            }
+            return ExitCode::from(REFUSED);
+        }
+    };
+    let status = run(&mut session, words, parsed, &mut images, &mut err, messages);
     progress.clear();
     ExitCode::from(status)
 }

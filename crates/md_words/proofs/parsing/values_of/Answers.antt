@@ -2,7 +2,7 @@ use Rattle.std.proofs.Common.{ap, ◌∙◌, map, List, Option, [], unwrap_or}
 use Rattle.std.proofs.lemmas.Result.{IfOk-weaker}
 use Rattle.std.specs.Borrow.{Bor}
 use Rattle.clap.specs.Words.{Text}
-use Rattle.md_words.proofs.parsing.image_list.Goals as goal
+use Rattle.md_words.proofs.parsing.values_of.Goals as goal
 
 abbrev texts : List (Bor Text) → List Text
 texts = map (λ s. s.now)

@@ -1,0 +1,53 @@
+// Why maps are refused. A message is the fault's name and its values, one space between them.
+use md_images::{ImageFault, ImageRefusal};
+use md_maps::MapFault;
+use std::io;
+use thiserror::Error;
+
+/// Why a map is refused.
+#[derive(Debug, Drop, Error)]
+pub enum MapRefusal {
+    /// It is not named as the map of an image that is listed.
+    #[error("NotListed")]
+    NotListed,
+    /// An earlier map is of the same image.
+    #[error("Repeated")]
+    Repeated,
+    /// Its file can't be read.
+    #[error("Unread")]
+    Unread(io::Error),
+    /// Its file is longer than the program takes.
+    #[error("TooLong")]
+    TooLong,
+    /// Its text is no map of the image.
+    #[error("{0}")]
+    Map(MapFault),
+}
+
+/// Why an image is not had as a copy that lacks what its map says.
+#[derive(Debug, Drop, Error)]
+pub enum CopyFault {
+    /// The image can't be looked at.
+    #[error("{0}")]
+    Image(ImageFault),
+    /// The text is no map of it.
+    #[error("{0}")]
+    Map(MapFault),
+    /// There was no memory for its name.
+    #[error("NoMemory")]
+    NoMemory,
+}
+
+/// Why images are not had under their maps.
+#[derive(Debug, Drop, Error)]
+pub enum MapsFault {
+    /// The map with this index, counted from 0.
+    #[error("BadMap {0} {1}")]
+    BadMap(usize, MapRefusal),
+    /// The image word with this index, counted from 0, has a map, and can't be opened to look at it.
+    #[error("BadImage {0}")]
+    BadImage(usize, ImageRefusal),
+    /// There was no memory for the maps.
+    #[error("NoMemory")]
+    NoMemory,
+}
