@@ -11,6 +11,7 @@ TABLES = support.TOP / "docs" / "FAULTS.md"
 CRATES = support.TOP / "crates"
 
 ADVICE = CRATES / "md_advice" / "src" / "advice.rt"
+MAPS = CRATES / "md_masked_images" / "src" / "advice.rt"
 LIMITS = CRATES / "md_advice" / "src" / "geometry_advice.rt"
 
 TEXT = re.compile(r'const (\w+): &str =\s*"((?:[^"\\]|\\.)*)"')
@@ -54,6 +55,8 @@ OF_REQUESTS_IN_FLIGHT = {"InFlight #", "NumbersSpent", "Overlaps #"}
 def declared():
     """The names of all faults that a command may be refused for, each with the variants that it is made of."""
     names = names_of("CommandFault", enums())
+    for fault in ("MapsFault", "MapRefusal", "LineFault"):
+        names.update(names_of(fault, enums()))
     # Wherever memory runs out, the command answers `NoMemory' alone.
     found = {"NoMemory" if name.endswith(" NoMemory") else name: path for name, path in names.items()}
     return {name: path for name, path in found.items() if name not in OF_REQUESTS_IN_FLIGHT}
@@ -81,7 +84,7 @@ def limits_tabled():
 
 def advice():
     """What the program says to do, by variant."""
-    text = ADVICE.read_text()
+    text = ADVICE.read_text() + MAPS.read_text()
     named = constants()
     found = {}
     for pattern, words, constant in re.findall(r'([\w:()_,|\s]+?)=>\s*\{?\s*(?:"((?:[^"\\]|\\.)*)"|([A-Z_]+)\b)', text):

@@ -40,10 +40,8 @@ pub record KeepsAll {I D : Type 0} (i : ImagesGhosts I D) (before after : I) : T
   pub rights : i.known before ≡ true → (n : List ℕ) → i.changeable after n ≡ i.changeable before n
   pub asked : i.known before ≡ true → (n : List ℕ) → i.asked after n ≡ i.asked before n
 
--- The image under a name is had as a copy of a disk that has these bytes, and its mask is what the map says that it lacks.
-pub record AddsCopy {I D : Type 0} (i : ImagesGhosts I D) (g : Ghosts D) (disk : List ℕ) (name map : List ℕ) (images : I) (old new : Masks) : Type 0 where
-  pub mask : List Run
+-- the map of the image under a name says that it lacks these sectors
+pub record IsLacking {I D : Type 0} (i : ImagesGhosts I D) (g : Ghosts D) (name map : List ℕ) (images : I) (missing : List Run) : Type 0 where
   pub size : ℕ
   pub sized : i.known images ≡ true → HasSize g (i.device_at images name) size
-  pub lacks : IsReadAs size map mask
-  pub added : new ≡ old ++ named_mask name (mask_of mask disk) ∷ []
+  pub lacks : IsReadAs size map missing

@@ -1,6 +1,9 @@
 // Images as copies of disks, by their maps.
+ghost use Rattle.std.specs.Prelude.{◌<◌, length};
+
 use crate::fault::{CopyFault, MapRefusal, MapsFault};
-use crate::masked_images::MaskedImages;
+use crate::masked_images::{MaskedImages, mask_of};
+use md_badblocks::BadSet;
 use md_images::{ImageRefusal, Images};
 use md_maps::MapFault;
 use std::alloc::Global;
@@ -25,32 +28,33 @@ where
 {
     let mut masked = MaskedImages::new(alloc, images);
     for (image, name) in names.iter().enumerate() {
-        let place = maps.iter().position(|map| map.image == image);
-        let added = match place {
-            Some(place) => add_copy(&mut masked, image, name, place, maps),
-            None => masked.add(name).map_err(|_| MapsFault::NoMemory),
+        let missing = match maps.iter().position(|map| map.image == image) {
+            Some(place) => lacking(&mut masked, image, name, place, maps)?,
+            None => BadSet::new(alloc),
         };
-        added?;
+        if masked.add(name, mask_of(alloc, missing)).is_err() {
+            return Err(MapsFault::NoMemory);
+        }
     }
     Ok(masked)
 }
 
-// Adds an image with the map at this place.
-fn add_copy<I: Images>(
+// What an image lacks by the map at this place.
+fn lacking<I: Images>(
     masked: &mut MaskedImages<I>,
     image: usize,
     name: &str,
     place: usize,
     maps: &[MapText],
-) -> Result<(), MapsFault> {
-    match masked.add_copy(name, maps[place].text.as_slice()) {
-        Ok(()) => Ok(()),
+) -> Result<BadSet, MapsFault>
+    requires { place < length maps.now }
+{
+    match masked.lacking(name, maps[place].text.as_slice()) {
+        Ok(missing) => Ok(missing),
         Err(CopyFault::Image(fault)) => {
             Err(MapsFault::BadImage(image, ImageRefusal::Unopened(fault)))
         }
-        Err(CopyFault::Map(MapFault::NoMemory)) | Err(CopyFault::NoMemory) => {
-            Err(MapsFault::NoMemory)
-        }
+        Err(CopyFault::Map(MapFault::NoMemory)) => Err(MapsFault::NoMemory),
         Err(CopyFault::Map(fault)) => Err(MapsFault::BadMap(place, MapRefusal::Map(fault))),
     }
 }

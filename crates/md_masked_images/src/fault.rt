@@ -24,7 +24,7 @@ pub enum MapRefusal {
     Map(MapFault),
 }
 
-/// Why an image is not had as a copy that lacks what its map says.
+/// Why it is not known what a copy lacks.
 #[derive(Debug, Drop, Error)]
 pub enum CopyFault {
     /// The image can't be looked at.
@@ -33,9 +33,6 @@ pub enum CopyFault {
     /// The text is no map of it.
     #[error("{0}")]
     Map(MapFault),
-    /// There was no memory for its name.
-    #[error("NoMemory")]
-    NoMemory,
 }
 
 /// Why images are not had under their maps.

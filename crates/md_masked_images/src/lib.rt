@@ -10,5 +10,5 @@ mod words;
 pub use advice::map_advice;
 pub use copies::{MapText, mask_images};
 pub use fault::{CopyFault, MapRefusal, MapsFault};
-pub use masked_images::MaskedImages;
+pub use masked_images::{MaskedImages, mask_of};
 pub use words::{MapWord, map_list};

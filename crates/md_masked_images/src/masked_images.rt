@@ -1,7 +1,7 @@
 // Images under their masks.
 ghost use Rattle.std.specs.Prelude.{◌≡◌, ◌≤◌, ◌^◌, ◌&&◌, ◌++◌, ◌∷◌, ℕ, List, [], true, is_some, IfOk, OnOk, OnErr};
 ghost use Rattle.md_images.specs.MemImages.{device_in};
-ghost use Rattle.md_masked_images.specs.Masks.{AddsCopy, HasSize, KeepsAll, mask_of, masked, named_mask};
+ghost use Rattle.md_masked_images.specs.Masks.{HasSize, IsLacking, KeepsAll, mask_of, masked, named_mask};
 
 use crate::fault::CopyFault;
 use md_badblocks::BadSet;
@@ -29,11 +29,19 @@ fn no_device(alloc: Global) -> MemDevice
     MemDevice::from_bytes(Vec::new(alloc))
 }
 
+/// The mask of a copy that lacks these sectors, of which the disk has any bytes.
+pub fn mask_of(alloc: Global, missing: BadSet) -> MaskedDevice<MemDevice>
+    ghost disk: { List ℕ }
+    ensures { result ≡ mask_of missing disk }
+{
+    MaskedDevice::new(no_device(alloc), missing)
+}
+
 // A mask that hides nothing.
 fn no_mask(alloc: Global) -> MaskedDevice<MemDevice>
     ensures { result ≡ mask_of [] [] }
 {
-    MaskedDevice::new(no_device(alloc), BadSet::new(alloc))
+    mask_of(alloc, BadSet::new(alloc))
 }
 
 impl<I> MaskedImages<I> {
@@ -51,35 +59,28 @@ impl<I> MaskedImages<I> {
 }
 
 impl<I: Images> MaskedImages<I> {
-    /// The image under a name is whole: nothing of it is masked. Of two of one name the first counts.
-    pub fn add(&mut self, name: &str) -> Result<(), AllocError>
-        ensures ok { OnOk result (self.new.masks ≡ self.old.masks ++ named_mask name.now (mask_of [] []) ∷ []) }
+    /// The image under a name has this mask. Of two of one name the first counts.
+    pub fn add(&mut self, name: &str, mask: MaskedDevice<MemDevice>) -> Result<(), AllocError>
+        ensures ok { OnOk result (self.new.masks ≡ self.old.masks ++ named_mask name.now mask ∷ []) }
         ensures err { OnErr result (self.new.masks ≡ self.old.masks) }
         ensures images { self.new.images ≡ self.old.images }
     {
-        self.masks.add(name, no_mask(self.alloc))
+        self.masks.add(name, mask)
     }
 
-    /// The image under a name is a copy of a disk, and lacks what its map says. It is looked at. Of two of one name the
-    /// first counts.
-    pub fn add_copy(&mut self, name: &str, map: &[u8]) -> Result<(), CopyFault>
-        ghost disk: { List ℕ }
-        ensures ok { OnOk result (AddsCopy I.Images I.Dev.Device disk name.now map.now self.old.images self.old.masks self.new.masks) }
-        ensures err { OnErr result (self.new.masks ≡ self.old.masks) }
+    /// What the image under a name lacks by its map, of the whole of it. It is looked at.
+    pub fn lacking(&mut self, name: &str, map: &[u8]) -> Result<BadSet, CopyFault>
+        ensures ok { IfOk result (IsLacking I.Images I.Dev.Device name.now map.now self.old.images) }
+        ensures masks { self.new.masks ≡ self.old.masks }
         ensures images { KeepsAll I.Images self.old.images self.new.images }
     {
         let size = match size_of(&mut self.images, name) {
             Ok(size) => size,
             Err(fault) => return Err(CopyFault::Image(fault)),
         };
-        let mask = match read_map(self.alloc, map, size) {
-            Ok(mask) => mask,
-            Err(fault) => return Err(CopyFault::Map(fault)),
-        };
-        let mask = MaskedDevice::new(no_device(self.alloc), mask);
-        match self.masks.add(name, mask) {
-            Ok(()) => Ok(()),
-            Err(_) => Err(CopyFault::NoMemory),
+        match read_map(self.alloc, map, size) {
+            Ok(missing) => Ok(missing),
+            Err(fault) => Err(CopyFault::Map(fault)),
         }
     }
 }
