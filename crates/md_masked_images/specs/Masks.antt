@@ -1,6 +1,6 @@
 -- Images under their masks.
 use Rattle.md_device.specs.declared.device.Device.{Ghosts}
-use Rattle.std.specs.Prelude.{◌≡◌, ◌∷◌, ◌++◌, ℕ, List, [], length, Option, Some, None, true, false}
+use Rattle.std.specs.Prelude.{◌≡◌, ℕ, List, [], length, Option, Some, None, true, false}
 use Rattle.md_badblocks.specs.declared.run.Run.{Run}
 use Rattle.md_images.specs.MemImages.{Named}
 use Rattle.md_images.specs.declared.images.Images.{Ghosts as ImagesGhosts}

@@ -5,12 +5,11 @@ use md_maps::{LineFault, MapFault};
 /// What to do about a map that is refused.
 pub fn map_advice(refusal: &MapRefusal) -> &'static str {
     match refusal {
-        MapRefusal::NotListed => {
-            "name it as IMAGE=FILE, with the image as it is listed"
-        }
+        MapRefusal::NotListed => { "name it as IMAGE=FILE, with the image as it is listed" }
         MapRefusal::Repeated => "name one map of each image",
         MapRefusal::Unread(_) => "check the path of the map, and its permissions",
-        MapRefusal::TooLong => "it is perhaps no map: name the file in which ddrescue keeps its map",
+        MapRefusal::TooLong =>
+            "it is perhaps no map: name the file in which ddrescue keeps its map",
         MapRefusal::Map(fault) => text_advice(*fault),
     }
 }
@@ -31,11 +30,15 @@ fn text_advice(fault: MapFault) -> &'static str {
 fn line_advice(fault: LineFault) -> &'static str {
     match fault {
         LineFault::Cut => "the map was cut: wait until ddrescue has ended, or copy the map again",
-        LineFault::Fields => "it is no map, or is damaged: name the file in which ddrescue keeps its map",
-        LineFault::Number => "it is no map, or is damaged: name the file in which ddrescue keeps its map",
-        LineFault::Status => "it is no map, or is damaged: name the file in which ddrescue keeps its map",
+        LineFault::Fields =>
+            "it is no map, or is damaged: name the file in which ddrescue keeps its map",
+        LineFault::Number =>
+            "it is no map, or is damaged: name the file in which ddrescue keeps its map",
+        LineFault::Status =>
+            "it is no map, or is damaged: name the file in which ddrescue keeps its map",
         LineFault::Overlap => "the map is damaged: take ddrescue's backup of it (FILE.bak)",
-        LineFault::Gap => "the map is damaged, or is of a part of the disk: take ddrescue's backup of it (FILE.bak), or a map of the whole",
+        LineFault::Gap =>
+            "the map is damaged, or is of a part of the disk: take ddrescue's backup of it (FILE.bak), or a map of the whole",
         LineFault::PastEnd => {
             "it is of a larger image: name the map that ddrescue kept of this very copy, and of the whole of it"
         }

@@ -29,6 +29,7 @@ use std::rt::Files;
 
 // The status of words that are not taken, and that of a command that is refused.
 const WORDS_NOT_TAKEN: u8 = 2;
+
 const REFUSED: u8 = 1;
 
 fn main(rt: HostRuntime) -> ExitCode {

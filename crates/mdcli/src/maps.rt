@@ -96,7 +96,12 @@ pub fn tell_refusal<E: Write>(
             advise(&fault, &request.images, request.command, err);
         }
         MapsFault::NoMemory => {
-            advise(&CommandFault::NoMemory, &request.images, request.command, err);
+            advise(
+                &CommandFault::NoMemory,
+                &request.images,
+                request.command,
+                err,
+            );
         }
     }
 }

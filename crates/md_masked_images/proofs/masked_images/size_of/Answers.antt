@@ -1,6 +1,5 @@
-use Rattle.std.proofs.Common.{◌≡◌, ◌∙◌, ◌≢◌, ◌⊎◌, List, ℕ, Bool, true, inl, inr, refl, sym, ap, subst}
+use Rattle.std.proofs.Common.{◌≡◌, ◌∙◌, List, ℕ, true, inl, inr, refl, sym, ap}
 use Rattle.md_images.proofs.Taken.{same_text}
-use Rattle.md_masked_images.specs.Masks.{KeepsAll}
 use Rattle.md_masked_images.proofs.masked_images.size_of.Goals as goal
 
 pub returns-clause-kept : goal.returns-clause-kept
