@@ -9,13 +9,15 @@ _mdcli_commands() {
 _mdcli_options() {
   case $1 in
     create) printf '%s\n' --level= --raid-devices= --uuid= --name= --bitmap-chunk= --size= --time= --write-mostly= --assume-clean ;;
-    assemble | detail | check) printf '%s\n' --readonly ;;
-    plan) printf '%s\n' --member= --readonly ;;
-    read) printf '%s\n' --sector= --count= --readonly ;;
+    assemble) printf '%s\n' --readonly ;;
+    detail | check) printf '%s\n' --readonly --map= ;;
+    plan) printf '%s\n' --member= --readonly --map= ;;
+    read) printf '%s\n' --sector= --count= --readonly --map= ;;
     write) printf '%s\n' --sector= ;;
+    resync) printf '%s\n' --map= ;;
     fail | remove) printf '%s\n' --member= ;;
     add | re-add) printf '%s\n' --device= --run ;;
-    rebuild) printf '%s\n' --member= --run ;;
+    rebuild) printf '%s\n' --member= --run --map= ;;
   esac
 }
 

@@ -36,6 +36,7 @@ complete -c mdcli -n '__fish_seen_subcommand_from create' -l time -x -d "The tim
 complete -c mdcli -n '__fish_seen_subcommand_from create' -l write-mostly -x -d "The role of a member that is read only where no other can serve"
 complete -c mdcli -n '__fish_seen_subcommand_from create' -l assume-clean -d "Takes the members for equal, so that nothing is to be copied"
 complete -c mdcli -n '__fish_seen_subcommand_from assemble detail plan read check' -l readonly -d "Changes no image: what would be stored is kept in memory"
+complete -c mdcli -n '__fish_seen_subcommand_from detail plan read check resync rebuild' -l map -x -d "The image is a copy of a disk, and FILE ddrescue's map of it: what it lacks is not read; of each image one"
 complete -c mdcli -n '__fish_seen_subcommand_from plan fail remove rebuild' -l member -x -d "The member: its place among the images, from 0, or its image as it is listed"
 complete -c mdcli -n '__fish_seen_subcommand_from read write' -l sector -x -d "The first sector of the array, from 0; a sector has 512 bytes"
 complete -c mdcli -n '__fish_seen_subcommand_from read' -l count -x -d "The number of sectors"
