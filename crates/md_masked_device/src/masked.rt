@@ -157,7 +157,8 @@ impl<D: SharedRead> SharedRead for MaskedDevice<D> {
         // A masked sector is never read.
         ensures masked { Touches self.now.mask sector (length buf.old) → IsErr result × (buf.new ≡ buf.old) }
     {
-        if self.mask.meets(sector, buf.len() as u64 / 512) {
+        let sectors = buf.len() as u64 / 512;
+        if self.mask.meets(sector, sectors) {
             return Err(ReadFault);
         }
         self.inner.read_shared(sector, buf)

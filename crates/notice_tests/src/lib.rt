@@ -8,4 +8,6 @@ mod maps;
 #[cfg(test)]
 mod masked_devices;
 #[cfg(test)]
+mod masked_images;
+#[cfg(test)]
 mod signatures;
