@@ -63,13 +63,13 @@ module _ (t : Moment) (at : IsSoundAt t) (new : MirrorView) (left : List Disk) (
   by_halt : (failing : Event) (h : HaltsAt t.mirror t.requests failing new) → IsLeftByHalt failing t.mirror new t.requests h left → IsData failing ⊎ (IsLeft t left ⊎ GoesInstead failing t left)
   by_halt (Event.RecordFails k) h asked = inr (inl (inr (inr (inr (inl (record { on = k; next = new; call = inr (inr (inl h)); within = within; super = asked }))))))
   by_halt (Event.WriteMemberFails n k) h asked = inl tt
-  by_halt (Event.StoreMarksFails k b) h asked = elim (stops_at_halted_marks k b t.mirror new (contents_of left) at.sound at.honest asked.0 h within asked.1) [
+  by_halt (Event.StoreMarksFails k b) h asked = elim (stops_at_halted_marks k b t.mirror new (contents_of left) at.sound at.honest h.may.inside h within asked) [
     | inl same ↦ inr (inl (inl same))
     | inr after ↦ inr (inr (one_step (Event.StoreMarksFails k b) (Event.StoreMarks k b) refl after.0 after.1.1 after.2))
   ]
-  by_halt (Event.StoreLogFails k) h asked = elim (stops_at_halted_log k t.mirror new (contents_of left) at.sound at.honest h asked.0 within asked.2) [
+  by_halt (Event.StoreLogFails k) h asked = elim (stops_at_halted_log k t.mirror new (contents_of left) at.sound at.honest h h.canonical within asked.1) [
     | inl same ↦ inr (inl (inl same))
-    | inr after ↦ inr (inr (one_step (Event.StoreLogFails k) (Event.StoreLog k (listed_on after.0 k)) (listed_on after.0 k, refl) after.0 (after.1.1 asked.1) after.2))
+    | inr after ↦ inr (inr (one_step (Event.StoreLogFails k) (Event.StoreLog k (listed_on after.0 k)) (listed_on after.0 k, refl) after.0 (after.1.1 asked.0) after.2))
   ]
   by_halt (Event.CopyFails k c) h asked =
       let part = stops_at_halted_copies k c t.mirror new (contents_of left) at.sound at.honest h within asked in

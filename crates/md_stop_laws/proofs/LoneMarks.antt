@@ -85,7 +85,7 @@ module _ (t : Moment) (at : IsSoundAt t) (left : List Disk) (l : IsLeftByLoneMar
   has_parts d was = parts_of t.mirror at.sound k d m was is_member
 
   low : (d : Disk) → slice_get t.mirror.disks k ≡ Some d → l.block < bitmap_sectors m.stored.chunks
-  low d was = subst (λ (n : ℕ). l.block < bitmap_sectors n) (sym (has_parts d was).count) l.inside
+  low d was = subst (λ (n : ℕ). l.block < bitmap_sectors n) (sym (has_parts d was).count) l.call.may.inside
 
   pub sound_torn : IsSoundAt (halted_over t disks)
   sound_torn = sound_over t at k w disks tried m is_member

@@ -137,7 +137,7 @@ module _ (old new : MirrorView) where
   told_at (Event.CopyFails k chunk) p requests h =
       record { sector = h.sector; bytes = h.bytes; copy = h.copy; in_chunk = h.in_chunk; halts = told_halts k (run_write h.copy.may.target h.sector h.bytes) old new p h.halts }
   told_at (Event.StoreLogFails k) p requests h =
-      record { running = h.running; member = h.member; in_sync = h.in_sync; room = h.room; write = h.write; among = h.among; halts = told_halts k h.write old new p h.halts }
+      record { running = h.running; member = h.member; in_sync = h.in_sync; canonical = h.canonical; room = h.room; write = h.write; among = h.among; halts = told_halts k h.write old new p h.halts }
   told_at e p requests h = absurd h
 
   pub told_asked : (failing : Event) (p : HasPair (member_of failing) old.disks new.disks) (requests : Requests) (h : HaltsAt old requests failing new) (left : List Disk)

@@ -1,7 +1,5 @@
 -- What a stop leaves within and after a write that halts a whole call, where that write was left done or not done: each kind of write in one place.
-use Rattle.std.specs.Prelude.{◌≡◌, ◌⊎◌, ℕ, ◌+◌, ◌%◌, ◌<◌, Bool, List, [], ◌∷◌, ◌++◌, Option, length, None}
-use Rattle.md_badblocks.specs.Runs.{IsCanonical}
-use Rattle.md_members.specs.Areas.{bitmap_sectors}
+use Rattle.std.specs.Prelude.{◌≡◌, ◌⊎◌, ℕ, ◌+◌, ◌%◌, Bool, List, [], ◌∷◌, ◌++◌, Option, length, None}
 use Rattle.md_model.specs.Events.{Event}
 use Rattle.md_state.specs.Requests.{AreInFlight, among}
 use Rattle.md_state.specs.View.{Disk, MirrorView}
@@ -29,8 +27,8 @@ IsLeftSince before after left = MayAllBeLeft before after (contents_of left) ⊎
 abbrev pub IsLeftByHalt : (failing : Event) (old new : MirrorView) (requests : Requests) → HaltsAt old requests failing new → List Disk → Type 0
 IsLeftByHalt (Event.RecordFails k) old new requests h left = LeavesSuperWhole k old left
 IsLeftByHalt (Event.WriteMemberFails n k) old new requests h left = Unit {0}
-IsLeftByHalt (Event.StoreMarksFails k b) old new requests h left = (b < bitmap_sectors old.array.marks.chunks) × IsDoneOrNot k h.write old.disks (contents_of left)
-IsLeftByHalt (Event.StoreLogFails k) old new requests h left = IsCanonical h.member.bad × HasNoShift k old × IsDoneOrNot k h.write old.disks (contents_of left)
+IsLeftByHalt (Event.StoreMarksFails k b) old new requests h left = IsDoneOrNot k h.write old.disks (contents_of left)
+IsLeftByHalt (Event.StoreLogFails k) old new requests h left = HasNoShift k old × IsDoneOrNot k h.write old.disks (contents_of left)
 IsLeftByHalt (Event.CopyFails k c) old new requests h left =
     IsLeftInSectors k (h.copy.may.target.superblock.data_offset + h.sector) h.bytes old.disks (contents_of left)
 IsLeftByHalt e old new requests h left = ⊥

@@ -2,7 +2,6 @@
 use Rattle.std.specs.Prelude.{◌≡◌, ◌⊎◌, ℕ, ◌<◌, true, false, List, slice_get, Some, None}
 use Rattle.md_assembly.specs.States.{is_in_sync}
 use Rattle.md_kept_members.specs.View.{MemberView}
-use Rattle.md_members.specs.Areas.{bitmap_sectors}
 use Rattle.md_model.specs.Content.{Content, BecomesAtOpening, Holds}
 use Rattle.md_model.specs.Events.{Event}
 use Rattle.md_model.specs.Sectors.{chunk_of}
@@ -82,7 +81,6 @@ ContentAfterCopy =
 pub record IsLeftByLoneMarks (t : Moment) (left : List Disk) : Type 0 where
   pub on : ℕ
   pub block : ℕ
-  pub inside : block < bitmap_sectors t.mirror.array.marks.chunks
   pub new : MirrorView
   pub call : HaltsStoringMarks on block t.mirror new
   pub alone : (j : ℕ) (m : MemberView) → IsInSync t.mirror.array j m → j ≡ on
