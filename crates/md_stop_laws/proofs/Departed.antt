@@ -1,37 +1,51 @@
 -- A member that has no role leaves: the mirror is then as one that was opened by the superblock that it keeps, and the number is one that no member
 -- had since.
 use Rattle.std.proofs.Common.{◌≡◌, ◌∙◌, ◌⊎◌, inl, inr, ℕ, zero, suc, ◌<◌, ◌≤◌, Bool, true, false, true≢false, ◌||◌, ◌&&◌, cond, eqb, eq-eqb, nat_lt, List, [], ◌∷◌, refl, sym, ap, subst, arith}
-use Rattle.std.specs.Prelude.{not}
+use Rattle.std.specs.Prelude.{◌+◌, not, slice_get, Some, None}
 use Rattle.std.proofs.Math.Bool.{and-false}
-use Rattle.std.proofs.lemmas.Bool.{eqb-true}
+use Rattle.std.proofs.lemmas.Bool.{eqb-true, not-true, or_right}
 use Rattle.md_assembly.specs.States.{state_of}
 use Rattle.md_assembly.specs.declared.state.MemberState.{MemberState}
-use Rattle.md_assembly.specs.declared.state.MemberState.TheVariants.{Faulty, Spare}
+use Rattle.md_assembly.specs.declared.state.MemberState.TheVariants.{Faulty, Spare, Stale}
 use Rattle.md_kept_members.specs.View.{MemberView}
 use Rattle.md_model.specs.Assembly.{state_by}
 use Rattle.md_model.specs.Counts.{role_at_rise}
-use Rattle.md_model.specs.Devices.{Super}
+use Rattle.md_model.specs.Devices.{Stored, Super}
 use Rattle.md_model.specs.Events.{Event, Happens}
 use Rattle.md_model.specs.Membership.{is_spare, removed}
 use Rattle.md_model.specs.Openings.{IsWithinLimits}
-use Rattle.md_model.specs.Runs.{History}
+use Rattle.md_model.specs.Runs.{History, away_after}
 use Rattle.md_model.specs.Sectors.{Geometry}
 use Rattle.md_model.specs.States as model
 use Rattle.md_model.specs.Worlds.{World}
-use Rattle.md_model.proofs.Cases.{by_option, by_test, is_below, not_below}
+use Rattle.md_model.proofs.Cases.{by_test, is_below, not_below}
 use Rattle.md_model.proofs.Steps.Keeps.{IsKept, kept_run}
 use Rattle.md_model.proofs.Table.{found_says, has_role}
+use Rattle.md_state.specs.Members.{IsMember}
 use Rattle.md_state.specs.View.{Disk, MirrorView, geometry_of}
-use Rattle.md_array.specs.Worlds.{kind_of, super_of, world_of}
+use Rattle.md_array.specs.Worlds.{block_on, kind_of, super_in, super_of, world_of}
+use Rattle.md_array.proofs.Steps.OneMember.{stored_there}
 use Rattle.md_array.proofs.Worlds.InSync.{number_at}
 use Rattle.md_array.proofs.Worlds.Shown.{at_is}
 use Rattle.md_array.proofs.Worlds.States.{same_in_sync, same_state}
+use Rattle.md_laws.specs.Lives.{IsCalledOut}
 use Rattle.md_laws.specs.Runs.{IsStart, MirrorRun, Moment, history_of, opened_as, then_as}
-use Rattle.md_laws.proofs.Runs.MirrorLives.{final_geometry, keeps_geometry, life_kept, out_when_called, was_in_sync}
+use Rattle.md_laws.proofs.Runs.MirrorLives.{final_geometry, keeps_geometry, life_kept}
 use Rattle.md_laws.proofs.Runs.MirrorRuns.{model_run, starts}
 use Rattle.md_laws.proofs.Runs.Moments.{IsSoundAt, geometry_kept, life_keeps, run_keeps, sound_when_opened}
 use Rattle.md_laws.proofs.Runs.Rests.{at_rest, rests_does}
-use Rattle.md_stop_laws.specs.Departed.{CallsDepartedOut, FindsCalledOut, FindsInSyncSince, HasNoRole, LeavesAt, StandsSince, after_leaving}
+use Rattle.md_stop_laws.specs.Departed.{FindsOutSince, GivesOut, HasNoRole, IsBehind, IsStale, LeavesAt, LeavesOut, StaleIsBehind, StandsSince, StartsSince, StaysAway, StaysOutSince, after_leaving}
+use Rattle.md_stop_laws.proofs.Beside as beside
+use Rattle.md_stop_laws.proofs.Beside.{shut_out_since}
+
+-- a device is not found in sync whose number has no role,
+no_role_out : (g : Geometry) (first own : Super) → (first.role own.number < g.raid_disks → ⊥) → model.is_in_sync (state_by g first own) ≡ false
+no_role_out g first own out = by_test (model.is_in_sync (state_by g first own)) (λ on. absurd (out (found_says g first own on).role)) (λ off. off)
+
+-- and by two superblocks with the same count and the same role for it, it is found alike
+same_row : (g : Geometry) (first other own : Super) → first.role own.number ≡ other.role own.number → first.events ≡ other.events
+    → model.is_in_sync (state_by g first own) ≡ model.is_in_sync (state_by g other own)
+same_row g first other own role count = λ i. model.is_in_sync (state_by g (record other { role = λ _. role i; events = count i }) own)
 
 -- ---- of the model: as if it had been opened now
 module _ (g : Geometry) (small : IsWithinLimits g) (opened anew : Super) (h : History) (d : ℕ) (t : IsKept g opened h) (count : anew.events ≡ h.now.events)
@@ -96,6 +110,22 @@ module _ (g : Geometry) (small : IsWithinLimits g) (opened anew : Super) (h : Hi
         alone = λ n p e flight off low. elim (either e off) [ inl was ↦ t.alone n p e flight was low | inr same ↦ out (subst (λ x. h.now.role x < g.raid_disks) same low) ];
       }
 
+  -- what the superblock of the opening calls out of sync, the one that is kept now does too, as long as the number is away
+  pub still_out : (own : Super) → h.away own.number ≡ true → model.is_in_sync (state_by g opened own) ≡ false → model.is_in_sync (state_by g anew own) ≡ false
+  still_out own off was_out =
+      let r = t.recorded in
+      by_test (nat_lt opened.events h.now.events)
+      (λ newer. no_role_out g anew own (λ low. r.out_memory own.number off (is_below opened.events h.now.events newer) (subst (λ x. x < g.raid_disks) (roles own.number) low)))
+      (λ old.
+      let same : h.now.events ≤ opened.events = not_below opened.events h.now.events old in
+      let later = r.later in
+      let role_is : anew.role own.number ≡ opened.role own.number = roles own.number ∙ r.unrisen same own.number in
+      let count_is : anew.events ≡ opened.events = count ∙ omega arith in
+      same_row g anew opened own role_is count_is ∙ was_out)
+
+  pub tried_out : (own : Super) → h.tried ≡ true → h.away own.number ≡ true → model.is_in_sync (state_by g anew own) ≡ false
+  tried_out own tried off = no_role_out g anew own (λ low. none_tried tried own.number (inl off) (subst (λ x. x < g.raid_disks) (roles own.number) low))
+
 -- ---- a member that has no role leaves
 removed_absent : (g : Geometry) (w : World) (k : ℕ) (spare full : Bool) → (removed g w k spare full).present (w.number k) ≡ false
 removed_absent g w k true full = ap (λ b. w.present (w.number k) && not b) (eq-eqb (w.number k) (w.number k) refl) ∙ and-false (w.present (w.number k))
@@ -115,6 +145,21 @@ no_role : (s : MemberState) → HasNoRole s → has_role (kind_of s) ≡ false
 no_role Faulty is = refl
 no_role Spare is = refl
 no_role s is = absurd is
+
+stale_kind : (s : MemberState) → IsStale s → kind_of s ≡ model.State.Stale
+stale_kind (Stale role) is = refl
+stale_kind s is = absurd is
+
+-- what is said of a device by the table of the model, and by a mirror's superblock
+called_by : (g : Geometry) (v : MirrorView) (n : MemberView) → geometry_of v.array ≡ g → model.is_in_sync (state_by g (super_of v.array.shared) (super_of n.superblock)) ≡ false → IsCalledOut v n
+called_by g v n same off =
+    sym (same_in_sync (state_of v.array.shared n.superblock)) ∙ ap model.is_in_sync (same_state v.array n.superblock)
+    ∙ subst (λ x. model.is_in_sync (state_by x (super_of v.array.shared) (super_of n.superblock)) ≡ false) (sym same) off
+
+by_called : (g : Geometry) (v : MirrorView) (n : MemberView) → geometry_of v.array ≡ g → IsCalledOut v n → model.is_in_sync (state_by g (super_of v.array.shared) (super_of n.superblock)) ≡ false
+by_called g v n same out =
+    subst (λ x. model.is_in_sync (state_by x (super_of v.array.shared) (super_of n.superblock)) ≡ false) same
+    (sym (ap model.is_in_sync (same_state v.array n.superblock)) ∙ same_in_sync (state_of v.array.shared n.superblock) ∙ out)
 
 -- ---- where a mirror stands since an opening, or since a member left
 record IsKeptSince (opened : MirrorView) (t : Moment) : Type 0 where
@@ -206,26 +251,86 @@ module _ (before : List Disk) (m : MirrorView) (start : IsStart before m) where
   stands (suc n) opened last s =
       subst (λ (v : MirrorView). IsKeptSince v last) (sym s.7) (kept_there s.0 s.1 (stands n s.0 s.1 s.2) s.3 s.4 s.5 last s.6)
 
-pub finds_called_out : FindsCalledOut
-finds_called_out before m start count opened last s found next devices others opens fit j n is none out =
-    let x = stands before m start count opened last s in
-    out_when_called last x.at next found devices opens opened x.same x.small x.kept others fit j n is none out
+-- what is kept of each moment since
+module _ (before : List Disk) (m : MirrorView) (start : IsStart before m) (count : ℕ) (opened : MirrorView) (t : Moment) (s : StandsSince m count opened t) where
+  here : IsKeptSince opened t
+  here = stands before m start count opened t s
 
-pub finds_in_sync_since : FindsInSyncSince
-finds_in_sync_since before m start count opened last s next again i n on =
-    let x = stands before m start count opened last s in
-    by_option (again.devices.from i)
-    (λ none. absurd (true≢false (sym on.in_sync ∙ again.out i n on.member none)))
-    (λ from is. let was = was_in_sync last x.at next again.found again.devices again.opens opened x.same x.small x.kept again.others again.fit i from n on is in (from, is, was.0, was.1))
+  -- ---- what keeps a device out
+  leaves_called_out : (k : ℕ) (l : LeavesAt t k) (n : MemberView) → n.superblock.dev_number ≡ l.member.superblock.dev_number → IsCalledOut l.mirror n
+  leaves_called_out k l n same = called_by (geometry_of l.mirror.array) l.mirror n refl
+      (no_role_out (geometry_of l.mirror.array) (super_of l.mirror.array.shared) (super_of n.superblock)
+      (λ low. out_then opened t here k l
+      (subst (λ y. (super_of l.mirror.array.shared).role y < (geometry_of t.mirror.array).raid_disks) same
+      (subst (λ y. (super_of l.mirror.array.shared).role n.superblock.dev_number < y.raid_disks) (same_now opened t here k l) low))))
 
-pub calls_departed_out : CallsDepartedOut
-calls_departed_out before m start count opened t s k l n same =
-    let x = stands before m start count opened t s in
-    let g = geometry_of l.mirror.array in
-    let first = super_of l.mirror.array.shared in
-    sym (same_in_sync (state_of l.mirror.array.shared n.superblock)) ∙ ap model.is_in_sync (same_state l.mirror.array n.superblock)
-    ∙ by_test (model.is_in_sync (state_by g first (super_of n.superblock)))
-    (λ on. absurd (out_then opened t x k l
-    (subst (λ y. first.role y < (geometry_of t.mirror.array).raid_disks) same
-    (subst (λ y. first.role n.superblock.dev_number < y.raid_disks) (same_now opened t x k l) (found_says g first (super_of n.superblock) on).role))))
-    (λ off. off)
+  stays_away_there : (k : ℕ) (l : LeavesAt t k) (d : ℕ) → t.away d ≡ true → (after_leaving t k l).away d ≡ true
+  stays_away_there k l d off = ap (λ b. b || eqb d l.member.superblock.dev_number) off
+
+  -- the superblock that is kept after another one left
+  by_kept_now : (k : ℕ) (l : LeavesAt t k) (n : MemberView) → model.is_in_sync (state_by (geometry_of t.mirror.array) (super_of l.mirror.array.shared) (super_of n.superblock)) ≡ false
+      → IsCalledOut l.mirror n
+  by_kept_now k l n = called_by (geometry_of t.mirror.array) l.mirror n (same_now opened t here k l)
+
+  called_still : (k : ℕ) (l : LeavesAt t k) (n : MemberView) → t.away n.superblock.dev_number ≡ true → IsCalledOut opened n → IsCalledOut l.mirror n
+  called_still k l n off out = by_kept_now k l n
+      (still_out (geometry_of t.mirror.array) here.small (super_of opened.array.shared) (super_of l.mirror.array.shared) (history_of (then_as t (Event.Remove k) l.mirror l.requests))
+      l.member.superblock.dev_number (kept_now opened t here k l) refl (λ e. refl) (absent opened t here k l) (out_then opened t here k l) (super_of n.superblock) off
+      (by_called (geometry_of t.mirror.array) opened n here.same out))
+
+  tried_called : (k : ℕ) (l : LeavesAt t k) (n : MemberView) → t.away n.superblock.dev_number ≡ true → t.tried ≡ true → IsCalledOut l.mirror n
+  tried_called k l n off tried = by_kept_now k l n
+      (tried_out (geometry_of t.mirror.array) here.small (super_of opened.array.shared) (super_of l.mirror.array.shared) (history_of (then_as t (Event.Remove k) l.mirror l.requests))
+      l.member.superblock.dev_number (kept_now opened t here k l) refl (λ e. refl) (absent opened t here k l) (out_then opened t here k l) (super_of n.superblock) tried off)
+
+  still_behind : (k : ℕ) (l : LeavesAt t k) (n : MemberView) → IsBehind opened n → IsBehind l.mirror n
+  still_behind k l n late = let later = (kept_now opened t here k l).recorded.later in omega (arith, later, late)
+
+  stale_behind : (k : ℕ) (m : MemberView) → IsMember t.mirror.array k m → IsStale m.state → t.spoiled k ≡ false
+      → (d : Disk) → slice_get t.mirror.disks k ≡ Some d → (own : Super) → super_in (block_on d.content) ≡ Some own → own.events + 1 < opened.array.shared.events
+  stale_behind k m is stale known d at own read =
+      here.kept.recorded.stale k own
+      (ap (λ b. cond b None ((world_of t.mirror t.requests).stored k).super) known ∙ ap (λ (x : Stored). x.super) (stored_there t.mirror.disks t.mirror.array k m d is at) ∙ read)
+      (at_is t.mirror.array k model.State.Faulty (λ (x : MemberView). kind_of x.state) m is ∙ stale_kind m.state stale)
+
+pub leaves_out : LeavesOut
+leaves_out before m start count opened t s k l n same =
+    inl (
+      or_right ((then_as t (Event.Remove k) l.mirror l.requests).away n.superblock.dev_number) (eqb n.superblock.dev_number l.member.superblock.dev_number) (eq-eqb n.superblock.dev_number l.member.superblock.dev_number same),
+      leaves_called_out before m start count opened t s k l n same,
+    )
+
+pub stale_is_behind : StaleIsBehind
+stale_is_behind before m start count opened t s k x is stale known d at own read n no_newer =
+    let late = stale_behind before m start count opened t s k x is stale known d at own read in omega (arith, late, no_newer)
+
+pub stays_out_since : StaysOutSince
+stays_out_since before m start count opened t s k l n why = elim why [
+  | inl (inl (off, out)) ↦ inl (stays_away_there before m start count opened t s k l n.superblock.dev_number off, called_still before m start count opened t s k l n off out)
+  | inl (inr late) ↦ inr (still_behind before m start count opened t s k l n late)
+  | inr (off, tried) ↦ inl (stays_away_there before m start count opened t s k l n.superblock.dev_number off, tried_called before m start count opened t s k l n off tried)
+]
+
+-- ---- a number stays away
+still_away : (d : ℕ) (e : Event) (away : ℕ → Bool) → (GivesOut d e → ⊥) → away d ≡ true → away_after e away d ≡ true
+still_away d (Event.Add number left) away no off = ap (λ b. b && not (eqb d number)) off ∙ ap not (not-true (eqb d number) (λ at. no (sym (eqb-true d number at))))
+still_away d (Event.ReAdd own device left) away no off = ap (λ b. b && not (eqb d own.number)) off ∙ ap not (not-true (eqb d own.number) (λ at. no (sym (eqb-true d own.number at))))
+still_away d e away no off = off
+
+pub stays_away : StaysAway
+stays_away d [] t last r none off = ap (λ (x : Moment). x.away d) r.is ∙ off
+stays_away d (e ∷ es) t last r none off = stays_away d es (then_as t e r.0 r.1) last r.3 none.1 (still_away d e t.away none.0 off)
+
+-- ---- at an opening
+pub finds_out_since : FindsOutSince
+finds_out_since before m start count opened last s found next devices others opens fit =
+    let x = stands before m start count opened last s in
+    shut_out_since last x.at next found devices opens opened x.same x.small x.kept others fit
+
+pub starts_since : StartsSince
+starts_since before m start count opened last s next again =
+    let x = stands before m start count opened last s in
+    record {
+      start = beside.start last x.at next again.found again.devices again.opens opened x.same x.small x.kept again.others again.fit again.out;
+      among = beside.among last x.at next again.found again.devices again.opens opened x.same x.small x.kept again.others again.fit again.out;
+    }

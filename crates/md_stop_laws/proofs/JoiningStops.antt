@@ -1,10 +1,13 @@
 -- What a stop leaves within `add` and `re_add`, before they are done.
-use Rattle.std.proofs.Common.{◌≡◌, ◌∙◌, inl, inr, ℕ, ◌+◌, ◌*◌, ◌≤◌, List, [], ◌∷◌, ◌++◌, length, slice_get, Some, None, refl, sym, ap, subst, arith}
+use Rattle.std.proofs.Common.{◌≡◌, ◌∙◌, ◌⊎◌, inl, inr, ℕ, ◌+◌, ◌*◌, ◌≤◌, eqb, false, drop, take, take-take, List, [], ◌∷◌, ◌++◌, length, slice_get, Some, None, refl, sym, ap, subst, arith}
+use Rattle.std.proofs.lemmas.Bool.{eqb-true, not-true}
 use Rattle.std.proofs.lemmas.List.{length-map, length-replicate, length_push, map-append}
 use Rattle.std.proofs.lemmas.Option.{none-some, same_Some, slice_get_within}
 use Rattle.md_create.specs.Layout.{wipe}
 use Rattle.md_device.specs.Stops.{IsMixed}
+use Rattle.md_device.specs.Splice.{part}
 use Rattle.md_format.specs.Fields.{number_at}
+use Rattle.md_format.proofs.Places.{little_from-part}
 use Rattle.md_model.specs.Devices.{Stored}
 use Rattle.md_model.specs.Events.{Event}
 use Rattle.md_model.proofs.Puts.{by_same}
@@ -33,7 +36,7 @@ use Rattle.md_laws.proofs.Stops.ReadAs.{reads_at_add, reads_at_re_add}
 use Rattle.md_laws.proofs.Stops.WithinAdd.{stops_at_failed_add, stops_at_refused_add}
 use Rattle.md_laws.proofs.Stops.WithinReAdd.{stops_at_failed_re_add, stops_at_refused_re_add}
 use Rattle.md_assembly.proofs.Indices.{got_within}
-use Rattle.md_stop_laws.specs.JoiningStops.{IsGivenOrNone, IsLeftBeside, NoneIsOpened, StopsInAdd, StopsInFailedAdd, StopsInFailedReAdd, StopsInReAdd, StopsInRefusedAdd, StopsInRefusedReAdd}
+use Rattle.md_stop_laws.specs.JoiningStops.{HasOtherMagic, IsGivenOrNone, IsLeftBeside, NoneIsOpened, StopsInAdd, StopsInFailedAdd, StopsInFailedReAdd, StopsInReAdd, StopsInRefusedAdd, StopsInRefusedReAdd}
 
 -- ---- the mirror's devices, and the one behind them
 -- what stands on the last one
@@ -89,6 +92,9 @@ no_magic : number_at 4 0 zeros ≡ 0
 unfolding number_at
 no_magic = refl
 
+zero_is_none : ◌≡◌ {A = ℕ} 0 0xa92b4efc → ⊥
+zero_is_none at = omega (arith, at)
+
 no_roles : number_at 4 220 zeros ≡ 0
 unfolding number_at
 no_roles = refl
@@ -104,15 +110,52 @@ none_in_zeros = rw refused refl
 zeros_short : EndsInFirstSector zeros
 zeros_short = let none = no_roles in omega arith
 
+-- ---- another magic number is none
+magic_first : (bytes : List ℕ) → number_at 4 0 (take 512 bytes) ≡ number_at 4 0 bytes
+unfolding number_at
+magic_first bytes = little_from-part 4 0 0 512 bytes (omega arith)
+
+refused_by_magic : (block : List ℕ) → eqb (number_at 4 0 block) 0xa92b4efc ≡ false → fault_of block ≡ Some Magic
+unfolding fault_of
+refused_by_magic block off = rw off refl
+
+none_of_fault : (block : List ℕ) → fault_of block ≡ Some Magic → super_in block ≡ None
+unfolding super_in
+none_of_fault block is = rw is refl
+
+none_by_magic : (block : List ℕ) → HasOtherMagic block → super_in block ≡ None
+none_by_magic block other = none_of_fault block (refused_by_magic block (not-true (eqb (number_at 4 0 block) 0xa92b4efc) (λ at. other (eqb-true (number_at 4 0 block) 0xa92b4efc at))))
+
+first_part : (bytes : List ℕ) → part bytes (512 * 0) 512 ≡ take 512 bytes
+unfolding part
+first_part bytes = refl
+
+first_sector : (content : List ℕ) → take 512 (block_on content) ≡ part content (512 * 8) 512
+unfolding part
+first_sector content = take-take 512 4096 (drop 4096 content) (omega arith)
+
+-- the magic number of what stands in the superblock's place is that of its first sector
+magic_on : (c : List ℕ) → number_at 4 0 (block_on c) ≡ number_at 4 0 (part c (512 * 8) 512)
+magic_on c = sym (magic_first (block_on c)) ∙ ap (number_at 4 0) (first_sector c)
+
 -- ---- a device that comes in
-module _ (device : Disk) (room : 512 * 8 + 4096 ≤ length device.content) (ends : EndsInFirstSector (block_on device.content)) where
-  wiped : (c : List ℕ) → IsMixed 8 zeros device.content c → IsGivenOrNone device c
-  wiped c mixed =
+module _ (device : Disk) (room : 512 * 8 + 4096 ≤ length device.content) where
+  wiped_short : EndsInFirstSector (block_on device.content) → (c : List ℕ) → IsMixed 8 zeros device.content c → IsGivenOrNone device c
+  wiped_short ends c mixed =
       let cut : IsCutShort device.content (record { sector = 8; bytes = zeros } ∷ []) c = record { done = []; rest = record { sector = 8; bytes = zeros } ∷ []; order = refl; mixed = mixed } in
       elim (cut_reads device.content c zeros (length-replicate {A = ℕ} 4096 0) room ends zeros_short cut) [
         | inl was ↦ inl was
         | inr none ↦ inr (none.decoded ∙ none_in_zeros)
       ]
+
+  wiped_other : HasOtherMagic (block_on device.content) → (c : List ℕ) → IsMixed 8 zeros device.content c → super_in (block_on c) ≡ None
+  wiped_other other c mixed = none_by_magic (block_on c) (elim (mixed.each 0 (let long = length-replicate {A = ℕ} 4096 0 in omega arith)) [
+    | inl old ↦ λ at. other (magic_on device.content ∙ ap (number_at 4 0) (sym old) ∙ sym (magic_on c) ∙ at)
+    | inr new ↦ λ at. zero_is_none (sym no_magic ∙ sym (magic_first zeros) ∙ ap (number_at 4 0) (sym (first_part zeros)) ∙ ap (number_at 4 0) (sym new) ∙ sym (magic_on c) ∙ at)
+  ])
+
+  wiped : EndsInFirstSector (block_on device.content) ⊎ HasOtherMagic (block_on device.content) → (c : List ℕ) → IsMixed 8 zeros device.content c → IsGivenOrNone device c
+  wiped stood c mixed = elim stood [ inl ends ↦ wiped_short ends c mixed | inr other ↦ inr (wiped_other other c mixed) ]
 
 -- an event that was done
 module _ (t : Moment) (e : Event) (new : MirrorView) (reaches : (last : Moment) × MirrorRun t (e ∷ []) last × ((last.mirror ≡ new) × (last.requests ≡ t.requests))) where
@@ -123,7 +166,7 @@ module _ (t : Moment) (e : Event) (new : MirrorView) (reaches : (last : Moment) 
   run = subst (MirrorRun t (e ∷ [])) (λ i. record reaches.0 { mirror = reaches.2.0 i; requests = reaches.2.1 i }) reaches.1
 
 pub stops_in_add : StopsInAdd
-stops_in_add before m start events rest final t life k device new honest r old_ends new_ends left within =
+stops_in_add before m start events rest final t life k device new honest r old new_ends left within =
     let at = life_keeps m events rest final t (sound_when_opened before m start.honest start.opened) life in
     let e = add_event k device t.mirror new r in
     let leads = add_is_a_call k device t.mirror new at.sound honest r None t.requests at.in_flight in
@@ -133,7 +176,7 @@ stops_in_add before m start events rest final t life k device new honest r old_e
       | inl done ↦ inl (record { at = then t e new reaches; run = run t e new reaches; is_left = inl done })
       | inr but ↦
           inr (beside_more t left _ (IsGivenOrNone device)
-          (λ c stands. elim stands [ inl mixed ↦ wiped device (omega arith) old_ends c mixed | inr none ↦ inr (ap super_in none.0 ∙ none_in_zeros) ])
+          (λ c stands. elim stands [ inl mixed ↦ wiped device (omega arith) old c mixed | inr none ↦ inr (ap super_in none.0 ∙ none_in_zeros) ])
           (leaves_beside t device left _ but))
     ]
 

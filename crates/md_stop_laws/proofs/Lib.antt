@@ -18,5 +18,7 @@ pub mod LoneMarks
 pub mod LoneLog
 -- What a stop leaves within `add` and `re_add`, before they are done.
 pub mod JoiningStops
+-- An opening with devices beside those that were left, no newer than the opening before.
+pub mod Beside
 -- A member that has no role leaves, and counts as one that an opening left out.
 pub mod Departed

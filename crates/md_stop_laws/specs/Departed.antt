@@ -1,17 +1,19 @@
 -- Devices that left by `remove`, at an opening after a later stop.
-use Rattle.std.specs.Prelude.{◌≡◌, ℕ, zero, suc, false, ◌||◌, eqb, List, Option, Some, None}
+use Rattle.std.specs.Prelude.{◌≡◌, ◌⊎◌, ℕ, zero, suc, ◌+◌, ◌<◌, ◌≤◌, true, false, ◌||◌, eqb, List, slice_get, Option, Some, None}
 use Rattle.md_assembly.specs.States.{is_in_sync}
 use Rattle.md_assembly.specs.declared.state.MemberState.{MemberState}
-use Rattle.md_assembly.specs.declared.state.MemberState.TheVariants.{Faulty, Spare}
+use Rattle.md_assembly.specs.declared.state.MemberState.TheVariants.{Faulty, Spare, Stale}
 use Rattle.md_kept_members.specs.View.{MemberView}
+use Rattle.md_model.specs.Devices.{Super}
 use Rattle.md_model.specs.Events.{Event}
 use Rattle.md_model.specs.Stops.{IsFit}
 use Rattle.md_model.specs.Worlds.{Request}
 use Rattle.md_state.specs.Members.{IsInSync, IsMember}
 use Rattle.md_state.specs.View.{Disk, MirrorView}
+use Rattle.md_array.specs.InTurn.{AllOf}
 use Rattle.md_array.specs.Opening.{IsOpenedFrom}
-use Rattle.md_array.specs.Worlds.{super_of}
-use Rattle.md_laws.specs.Lives.{AreFoundAgain, AreFurther, IsCalledOut, MirrorLife}
+use Rattle.md_array.specs.Worlds.{block_on, super_in, super_of}
+use Rattle.md_laws.specs.Lives.{AreFoundAgain, IsCalledOut, IsShutOut, MirrorLife}
 use Rattle.md_laws.specs.Runs.{IsStart, MirrorRun, Moment, RestsThenDoes, then_as}
 
 -- it failed, or is a spare: no role is its own
@@ -19,6 +21,10 @@ abbrev pub HasNoRole : MemberState → Type 0
 HasNoRole Faulty = Unit {0}
 HasNoRole Spare = Unit {0}
 HasNoRole s = ⊥
+
+abbrev pub IsStale : MemberState → Type 0
+IsStale (Stale role) = Unit {0}
+IsStale s = ⊥
 
 -- Member k, which has no role, leaves at this moment.
 pub record LeavesAt (t : Moment) (k : ℕ) : Type 0 where
@@ -36,7 +42,7 @@ after_leaving t k l =
 
 -- A mirror that was opened as m has come to this moment: by a life of which `opened` is the last mirror that was opened; or, after so many members
 -- left since, by a run from right after the last of these, when the mirror was `opened`. So what is said of devices that an opening left out
--- (`IsFurther`) is said of those that left, too.
+-- is said of those that left, too. (A stale member that leaves is an event of such a run: its superblock says enough.)
 abbrev pub StandsSince : MirrorView → ℕ → MirrorView → Moment → Type 0
 StandsSince m zero opened last = (es : List Event) × (rest : List (List Event)) × MirrorLife m es rest opened last
 StandsSince m (suc n) opened last =
@@ -46,32 +52,78 @@ StandsSince m (suc n) opened last =
 abbrev pub OfDepartures : ((opened : MirrorView) (last : Moment) → Type 0) → Type 0
 OfDepartures Holds = (before : List Disk) (m : MirrorView) → IsStart before m → (n : ℕ) (opened : MirrorView) (last : Moment) → StandsSince m n opened last → Holds opened last
 
--- An opening after a stop, by a superblock that is as new as the array was then, finds no further device in sync that the superblock which was
--- kept then calls out of sync,
-abbrev pub FindsCalledOut : Type 0
-FindsCalledOut =
+-- ---- what keeps a device out
+-- by its superblock it is two events or more behind the array as that was opened
+abbrev pub IsBehind : MirrorView → MemberView → Type 0
+IsBehind opened n = n.superblock.events + 1 < opened.array.shared.events
+
+-- No member has had its number, and the superblock that was kept calls it out of sync; or it is behind.
+abbrev pub IsOutSince : MirrorView → Moment → MemberView → Type 0
+IsOutSince opened t n = ((t.away n.superblock.dev_number ≡ true) × IsCalledOut opened n) ⊎ IsBehind opened n
+
+-- So it is of the one that leaves without a role, right after that;
+abbrev pub LeavesOut : Type 0
+LeavesOut =
+    OfDepartures (λ opened t.
+    ((k : ℕ) (l : LeavesAt t k) (n : MemberView) → n.superblock.dev_number ≡ l.member.superblock.dev_number → IsOutSince l.mirror (after_leaving t k l) n))
+
+-- of a stale member, whenever it leaves, as long as its superblock is no newer than the one that its device has then;
+abbrev pub StaleIsBehind : Type 0
+StaleIsBehind =
+    OfDepartures (λ opened t.
+    ((k : ℕ) (m : MemberView) → IsMember t.mirror.array k m → IsStale m.state → t.spoiled k ≡ false
+    → (d : Disk) → slice_get t.mirror.disks k ≡ Some d → (own : Super) → super_in (block_on d.content) ≡ Some own
+    → (n : MemberView) → n.superblock.events ≤ own.events → IsBehind opened n))
+
+-- and of each of which it was so, after another one left. So it is of one whose number is away, where data was let through since.
+abbrev pub StaysOutSince : Type 0
+StaysOutSince =
+    OfDepartures (λ opened t.
+    ((k : ℕ) (l : LeavesAt t k) (n : MemberView) → IsOutSince opened t n ⊎ ((t.away n.superblock.dev_number ≡ true) × (t.tried ≡ true))
+    → IsOutSince l.mirror (after_leaving t k l) n))
+
+-- A number stays away until an event gives it out.
+abbrev pub GivesOut : ℕ → Event → Type 0
+GivesOut d (Event.Add number left) = number ≡ d
+GivesOut d (Event.ReAdd own device left) = own.number ≡ d
+GivesOut d e = ⊥
+
+abbrev pub StaysAway : Type 0
+StaysAway = (d : ℕ) (es : List Event) (t last : Moment) → MirrorRun t es last → AllOf (λ e. (GivesOut d e → ⊥)) es → t.away d ≡ true → last.away d ≡ true
+
+-- ---- at an opening
+-- devices beside those that were left: no superblock of theirs is newer than the array as it was opened
+abbrev pub NoneIsNewer : (opened : MirrorView) (t : Moment) (found : List Disk) → AreFoundAgain t found → MirrorView → Type 0
+NoneIsNewer opened t found devices next =
+    (j : ℕ) (n : MemberView) → IsMember next.array j n → devices.from j ≡ None → n.superblock.events ≤ opened.array.shared.events
+
+-- Why one of them is not found in sync: as of a device that an opening left out, data was let through and a member that was in sync is there, or
+-- it is called out of sync; or it is behind.
+abbrev pub IsShutOutSince : (opened : MirrorView) (t : Moment) (found : List Disk) → AreFoundAgain t found → MemberView → Type 0
+IsShutOutSince opened t found devices n = ((t.away n.superblock.dev_number ≡ true) × IsShutOut opened t found devices n) ⊎ IsBehind opened n
+
+-- An opening after a stop, by a superblock that is as new as the array was, and that has recorded the last failure, finds no such device in sync.
+abbrev pub FindsOutSince : Type 0
+FindsOutSince =
     OfDepartures (λ opened last.
-    ((found : List Disk) (next : MirrorView) (devices : AreFoundAgain last found) → AreFurther opened last found devices next → IsOpenedFrom found next
+    ((found : List Disk) (next : MirrorView) (devices : AreFoundAgain last found) → NoneIsNewer opened last found devices next → IsOpenedFrom found next
     → IsFit (super_of opened.array.shared) (super_of next.array.shared) last.failed_at
-    → (j : ℕ) (n : MemberView) → IsMember next.array j n → devices.from j ≡ None → IsCalledOut opened n → is_in_sync n.state ≡ false))
+    → (j : ℕ) (n : MemberView) → IsMember next.array j n → devices.from j ≡ None → IsShutOutSince opened last found devices n → is_in_sync n.state ≡ false))
 
--- as it does the one that left.
-abbrev pub CallsDepartedOut : Type 0
-CallsDepartedOut =
-    OfDepartures (λ opened t. ((k : ℕ) (l : LeavesAt t k) (n : MemberView) → n.superblock.dev_number ≡ l.member.superblock.dev_number → IsCalledOut l.mirror n))
-
--- An opening after a stop, as in a life (`IsReopened`), of which no further device is found in sync. Of those that are called out it is said above.
+-- such an opening, of which no device beside those that were left is found in sync
 pub record IsOpenedSince (opened : MirrorView) (last : Moment) (next : MirrorView) : Type 0 where
   pub found : List Disk
   pub devices : AreFoundAgain last found
-  pub others : AreFurther opened last found devices next
+  pub others : NoneIsNewer opened last found devices next
   pub opens : IsOpenedFrom found next
   pub fit : IsFit (super_of opened.array.shared) (super_of next.array.shared) last.failed_at
   pub out : (j : ℕ) (n : MemberView) → IsMember next.array j n → devices.from j ≡ None → is_in_sync n.state ≡ false
 
--- Each member in sync of the mirror that is opened was in sync at the stop, on the same device.
-abbrev pub FindsInSyncSince : Type 0
-FindsInSyncSince =
-    OfDepartures (λ opened last.
-    ((next : MirrorView) (again : IsOpenedSince opened last next)
-    → (k : ℕ) (n : MemberView) → IsInSync next.array k n → (i : ℕ) × (again.devices.from k ≡ Some i) × (o : MemberView) × IsInSync last.mirror.array i o))
+-- It begins another life: the stored marks cover what the members in sync differ in. And each of these was in sync at the stop, on the same
+-- device.
+pub record BeginsSince (opened : MirrorView) (last : Moment) (next : MirrorView) (again : IsOpenedSince opened last next) : Type 0 where
+  pub start : IsStart again.found next
+  pub among : (k : ℕ) (n : MemberView) → IsInSync next.array k n → (i : ℕ) × (again.devices.from k ≡ Some i) × (o : MemberView) × IsInSync last.mirror.array i o
+
+abbrev pub StartsSince : Type 0
+StartsSince = OfDepartures (λ opened last. ((next : MirrorView) (again : IsOpenedSince opened last next) → BeginsSince opened last next again))

@@ -2,6 +2,7 @@
 -- was coming it is said what an opening reads.
 use Rattle.std.specs.Prelude.{◌≡◌, ◌≢◌, ◌⊎◌, ℕ, true, List, [], ◌∷◌, ◌++◌, slice_get, Some, None}
 use Rattle.md_model.specs.Events.{Event}
+use Rattle.md_format.specs.Fields.{number_at}
 use Rattle.md_super.specs.Encoding.{super_bytes}
 use Rattle.md_faults.specs.declared.add_fault.AddFault.{AddFault}
 use Rattle.md_faults.specs.declared.add_fault.AddFault.TheVariants.{WriteFault}
@@ -39,13 +40,17 @@ pub record IsLeftBeside (t : Moment) (left : List Disk) (Stands : List ℕ → T
 abbrev pub IsGivenOrNone : Disk → List ℕ → Type 0
 IsGivenOrNone device c = ReadsAs (block_on c) (block_on device.content) ⊎ (super_in (block_on c) ≡ None)
 
--- Within an `add` that answers `Ok`, where the superblocks end within their first sectors: what stands on the device, if anything, and what is
--- written.
+-- no superblock stands there, but another magic number (md_p.h), as on a disk that never was of an array
+abbrev pub HasOtherMagic : List ℕ → Type 0
+HasOtherMagic block = number_at 4 0 block ≢ 0xa92b4efc
+
+-- Within an `add` that answers `Ok`, where the superblocks end within their first sectors: the one that stands on the device, if there is one, and
+-- the one that is written.
 abbrev pub StopsInAdd : Type 0
 StopsInAdd =
     AtMoments (λ t.
     ((k : ℕ) (device : Disk) (new : MirrorView) → device.honest ≡ true → (r : Adds k device t.mirror new)
-    → EndsInFirstSector (block_on device.content) → EndsInFirstSector (super_bytes r.comes.laid.superblock)
+    → EndsInFirstSector (block_on device.content) ⊎ HasOtherMagic (block_on device.content) → EndsInFirstSector (super_bytes r.comes.laid.superblock)
     → (left : List Disk) → MayAllBeLeft (t.mirror.disks ++ device ∷ []) new.disks (contents_of left)
     → IsStopJoined (add_event k device t.mirror new r) t left ⊎ IsLeftBeside t left (IsGivenOrNone device)))
 

@@ -2,7 +2,7 @@
 
 ghost use Rattle.md_laws.specs.Lives.{AtEachMoment};
 ghost use Rattle.md_stop_laws.specs.Agreement.{AgreesAtRest, ResyncsAgree};
-ghost use Rattle.md_stop_laws.specs.Departed.{CallsDepartedOut, FindsCalledOut, FindsInSyncSince};
+ghost use Rattle.md_stop_laws.specs.Departed.{FindsOutSince, LeavesOut, StaleIsBehind, StartsSince, StaysAway, StaysOutSince};
 ghost use Rattle.md_stop_laws.specs.HaltedCalls.{StopsAtEachHalt, StopsAtHaltedResync, StopsAtHaltedStop, StopsAtHaltedWrite};
 ghost use Rattle.md_stop_laws.specs.JoiningStops.{NoneIsOpened, StopsInAdd, StopsInFailedAdd, StopsInFailedReAdd, StopsInReAdd, StopsInRefusedAdd, StopsInRefusedReAdd};
 ghost use Rattle.md_stop_laws.specs.TornWrites.{ContentAfterCopy, ContentAfterLoneLog, ContentAfterLoneMarks, StartsAfterCopy, StartsAfterLoneLog, StartsAfterLoneMarks};
@@ -41,7 +41,8 @@ pub fn torn_writes()
 /// A stop within an `add` or a `re_add`, before it is done, is one at the moment before: of the mirror's devices, which are as
 /// they were, whatever comes of the call. Where it answers `Ok`, the device that was coming has a superblock that reads as when
 /// it was given, so that an opening reads there what it would have read; or, within `add`, none, and then no mirror is
-/// opened with it. Superblocks of at most 128 roles are meant, which end within their first sectors.
+/// opened with it. Superblocks of at most 128 roles are meant, which end within their first sectors; or, of a disk that `add`
+/// is given, another magic number in that place.
 pub fn joining_stops()
     ensures add { StopsInAdd }
     ensures failed_add { StopsInFailedAdd }
@@ -52,11 +53,15 @@ pub fn joining_stops()
     ensures unread { NoneIsOpened }
 {}
 
-/// A member that failed, or a spare, leaves by `remove`. To an opening after a later stop that is as new as the array was
-/// right after that, its device is one that the opening before left out: it is not found in sync, and each member that is
-/// was so at the stop. So it is until its number is given out again.
+/// A member leaves by `remove`. Of one that failed, or that was a spare, the superblock that is kept then says that it is out of
+/// sync, and so does each that is kept later, until its number is given out again; a stale one is behind by its own superblock.
+/// An opening after a later stop, that is as new as the array was, does not find its device in sync. Where it finds none in sync
+/// but of devices that the stop left, it begins another life, whose members in sync were so at the stop.
 pub fn departed_devices()
-    ensures finds_out { FindsCalledOut }
-    ensures called_out { CallsDepartedOut }
-    ensures finds_in_sync { FindsInSyncSince }
+    ensures leaves { LeavesOut }
+    ensures stale { StaleIsBehind }
+    ensures stays { StaysOutSince }
+    ensures away { StaysAway }
+    ensures finds_out { FindsOutSince }
+    ensures starts { StartsSince }
 {}
