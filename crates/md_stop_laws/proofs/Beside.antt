@@ -1,6 +1,6 @@
 -- An opening of devices that a stop left, with others beside them that are no newer than the opening before: who of those is not found in sync;
 -- and where none is, that another life begins.
-use Rattle.std.proofs.Common.{◌≡◌, ◌∙◌, inl, inr, ℕ, ◌+◌, ◌<◌, ◌≤◌, true, false, true≢false, List, Option, Some, None, sym, ap, subst, arith}
+use Rattle.std.proofs.Common.{◌≡◌, ◌∙◌, ◌⊎◌, inl, inr, ℕ, ◌+◌, ◌<◌, ◌≤◌, true, false, true≢false, List, Option, Some, None, refl, sym, ap, subst, arith}
 use Rattle.md_assembly.specs.States as assembly
 use Rattle.md_assembly.specs.States.{state_of}
 use Rattle.md_kept_members.specs.View.{MemberView}
@@ -32,17 +32,17 @@ use Rattle.md_laws.specs.Lives.{AreFoundAgain, IsCalledOut, IsShutOut, IsThereIn
 use Rattle.md_laws.specs.Runs.{IsStart, Moment, history_of}
 use Rattle.md_laws.proofs.Openings.OpenedFrom.{super_was}
 use Rattle.md_laws.proofs.Openings.Reopened.{read_alike, same_geometry}
-use Rattle.md_laws.proofs.Runs.MirrorLives.{at_none, at_some, left, made_of, opens}
+use Rattle.md_laws.proofs.Runs.MirrorLives.{at_none, at_some, made_of, opens}
 use Rattle.md_laws.proofs.Runs.MirrorRuns.{model_run}
 use Rattle.md_laws.proofs.Runs.Moments.{IsSoundAt}
-use Rattle.md_laws.proofs.Stops.LeftAtStops.{sorted_writing}
+use Rattle.md_laws.proofs.Stops.LeftAtStops.{IsSorted, sorted, sorted_writing}
 use Rattle.md_laws.proofs.Stops.LeftContents.{read_in}
 use Rattle.md_stop_laws.specs.Departed.{IsBehind, IsShutOutSince, NoneIsNewer}
 
 module _ (t : Moment) (at_t : IsSoundAt t) (next : MirrorView) (found : List Disk) (devices : AreFoundAgain t found) (from_these : IsOpenedFrom found next) (opened : MirrorView)
     (same : geometry_of opened.array ≡ geometry_of t.mirror.array) (small : IsWithinLimits (geometry_of t.mirror.array))
     (kept : IsKept (geometry_of t.mirror.array) (super_of opened.array.shared) (history_of t)) (others : NoneIsNewer opened t found devices next)
-    (fit : IsFit (super_of opened.array.shared) (super_of next.array.shared) t.failed_at) where
+    (fit : IsFit (super_of opened.array.shared) (super_of next.array.shared) t.failed_at) (l : IsSorted t devices.left) where
   abbrev g : Geometry
   g = geometry_of t.mirror.array
 
@@ -57,7 +57,7 @@ module _ (t : Moment) (at_t : IsSoundAt t) (next : MirrorView) (found : List Dis
 
   -- the moment of which the stop leaves devices, or a torn write
   abbrev stop : Moment
-  stop = (left t at_t next found devices from_these).moment
+  stop = l.moment
 
   -- those that were left, as the next mirror has them
   abbrev made : ℕ → Stored
@@ -66,9 +66,8 @@ module _ (t : Moment) (at_t : IsSoundAt t) (next : MirrorView) (found : List Dis
   abbrev it : openings.IsOpenedFrom g (read_in next.array found) first w
   it = opens t at_t next found devices from_these
 
-  left_at : (k j : ℕ) → devices.at k ≡ Some j → stops.IsHalfOpened g ((left t at_t next found devices from_these).cut k) (made k) ⊎ ((made k).super ≡ None)
+  left_at : (k j : ℕ) → devices.at k ≡ Some j → stops.IsHalfOpened g (l.cut k) (made k) ⊎ ((made k).super ≡ None)
   left_at k j is =
-      let l = left t at_t next found devices from_these in
       let half = subst (stops.IsHalfOpened g (read_in t.mirror.array devices.left k)) (sym (at_some t at_t next found devices from_these k j is)) (read_alike t at_t found next.array devices from_these.array k j is) in
       elim (l.read k) [
         | inl alike ↦ inl (subst (λ (x : Stored). stops.IsHalfOpened g x (made k)) alike half)
@@ -79,8 +78,7 @@ module _ (t : Moment) (at_t : IsSoundAt t) (next : MirrorView) (found : List Dis
   gone k is = ap (λ (x : Stored). x.super) (at_none t at_t next found devices from_these k is)
 
   is_left : stops.IsLeft g (history_of stop) made
-  is_left =
-      let l = left t at_t next found devices from_these in (
+  is_left = (
         l.cut,
         l.is_cut,
         λ k. by_option (devices.at k) (λ none. inr (gone k none)) (left_at k),
@@ -90,11 +88,10 @@ module _ (t : Moment) (at_t : IsSoundAt t) (next : MirrorView) (found : List Dis
 
   kept_there : IsKept g was (history_of stop)
   kept_there =
-      let l = left t at_t next found devices from_these in
       kept_run g small was l.events (history_of t) (history_of stop) kept (model_run g l.events t stop refl l.run)
 
   fit_there : IsFit was first stop.failed_at
-  fit_there = subst (λ (n : ℕ). IsFit was first n) (sym (left t at_t next found devices from_these).counted) fit
+  fit_there = subst (λ (n : ℕ). IsFit was first n) (sym l.counted) fit
 
   freshest : stops.IsFreshestWithAbsent was made first
   freshest =
@@ -128,7 +125,7 @@ module _ (t : Moment) (at_t : IsSoundAt t) (next : MirrorView) (found : List Dis
 
   is_absent : (j : ℕ) (n : MemberView) (is : IsMember next.array j n) → devices.from j ≡ None → t.away n.superblock.dev_number ≡ true → stops.IsAbsent was stop.away (read_of j n is)
   is_absent j n is none away =
-      record { no_newer = others j n is none; away = (left t at_t next found devices from_these).away n.superblock.dev_number ∙ away }
+      record { no_newer = others j n is none; away = l.away n.superblock.dev_number ∙ away }
 
   called_out : (j : ℕ) (n : MemberView) → IsMember next.array j n → devices.from j ≡ None → t.away n.superblock.dev_number ≡ true → IsCalledOut opened n → assembly.is_in_sync n.state ≡ false
   called_out j n is none away out =
@@ -138,7 +135,7 @@ module _ (t : Moment) (at_t : IsSoundAt t) (next : MirrorView) (found : List Dis
       sym (state_here j n is)
       ∙ stays_out g small was (history_of stop) kept_there (read_of j n is) (is_absent j n is none away) by_super made is_left first freshest fit_there
 
-  pub shut_out_beside : stops.WasTried g (history_of stop) → IsThereInSync t devices.at → (j : ℕ) (n : MemberView) → IsMember next.array j n → devices.from j ≡ None
+  shut_out_beside : stops.WasTried g (history_of stop) → IsThereInSync t devices.at → (j : ℕ) (n : MemberView) → IsMember next.array j n → devices.from j ≡ None
       → t.away n.superblock.dev_number ≡ true → assembly.is_in_sync n.state ≡ false
   shut_out_beside tried beside j n is none away =
       let f = devices.again beside.device beside.place beside.there in
@@ -148,7 +145,7 @@ module _ (t : Moment) (at_t : IsSoundAt t) (next : MirrorView) (found : List Dis
       let x = it.opened.members.filled beside.place (omega arith) in
       let own = ap (λ (d : Stored). d.super) (at_some t at_t next found devices from_these beside.device beside.place beside.there)
           ∙ super_was found next devices.honest from_these beside.place x.0 x.1 in
-      let in_then = ap is_in_sync ((left t at_t next found devices from_these).memory.state beside.device)
+      let in_then = ap is_in_sync (l.memory.state beside.device)
           ∙ in_sync_there t.mirror.disks t.mirror.array t.requests beside.device beside.member beside.in_sync in
       sym (state_here j n is)
       ∙ keeps_out g small was (history_of stop) kept_there tried made is_left beside.device x.0 in_then own (read_of j n is) (is_absent j n is none away) first freshest fit_there
@@ -187,11 +184,11 @@ module _ (t : Moment) (at_t : IsSoundAt t) (next : MirrorView) (found : List Dis
           in_sync = sym (ap is_in_sync (it.opened.states.by_table k x.0 x.1)) ∙ on;
         }
 
-    pub among : (k : ℕ) (n : MemberView) → IsInSync next.array k n → (i : ℕ) × (devices.from k ≡ Some i) × (o : MemberView) × IsInSync t.mirror.array i o
-    among k n on =
+    were_in_sync : (k : ℕ) (n : MemberView) → IsInSync next.array k n → (i : ℕ) × (devices.from k ≡ Some i) × (o : MemberView) × IsInSync t.mirror.array i o
+    were_in_sync k n on =
         let from = from_left k n on in
         let was_in = safe.among from.0 (found_there k from.0 from.1 (in_sync_there next.disks next.array none_in_flight k n on)) in
-        let o = in_sync_is t.mirror.disks t.mirror.array t.requests from.0 (sym (ap is_in_sync ((left t at_t next found devices from_these).memory.state from.0)) ∙ was_in) in
+        let o = in_sync_is t.mirror.disks t.mirror.array t.requests from.0 (sym (ap is_in_sync (l.memory.state from.0)) ∙ was_in) in
         (from.0, from.1, o.0, o.1)
 
     covered_next : Covered g (read_in next.array found) (worlds.IsInSync w)
@@ -203,8 +200,8 @@ module _ (t : Moment) (at_t : IsSoundAt t) (next : MirrorView) (found : List Dis
         (safe.covered x.0 y.0 z.0 s low (found_there i x.0 x.1 a) (found_there j y.0 y.1 b) (found_there k z.0 z.1 c)
         (ap (λ (d : Stored). is_marked d (chunk_of g s)) (placed i x.0 x.1) ∙ off)))
 
-    pub start : IsStart found next
-    start = record {
+    starts : IsStart found next
+    starts = record {
       honest = devices.honest;
       opened = from_these;
       covered = subst (λ x. Covered x (read_in next.array found) (worlds.IsInSync w)) (sym (same_geometry t at_t found next.array devices from_these.array)) covered_next;
@@ -212,23 +209,29 @@ module _ (t : Moment) (at_t : IsSoundAt t) (next : MirrorView) (found : List Dis
 
 -- ---- a stop within a write of data
 within_write : (t : Moment) (found : List Disk) (devices : AreFoundAgain t found) → IsLeftWriting t devices.left → AreFoundAgain t found
-within_write t found devices l = record devices { is_left = inr (inr (inl l)) }
+within_write t found devices w = record devices { is_left = inr (inr (inl w)) }
 
-pub shut_out_since : (t : Moment) (at_t : IsSoundAt t) (next : MirrorView) (found : List Disk) (devices : AreFoundAgain t found) (from_these : IsOpenedFrom found next) (opened : MirrorView)
-    → geometry_of opened.array ≡ geometry_of t.mirror.array → IsWithinLimits (geometry_of t.mirror.array) → IsKept (geometry_of t.mirror.array) (super_of opened.array.shared) (history_of t)
-    → NoneIsNewer opened t found devices next → IsFit (super_of opened.array.shared) (super_of next.array.shared) t.failed_at
-    → (j : ℕ) (n : MemberView) → IsMember next.array j n → devices.from j ≡ None → IsShutOutSince opened t found devices n → assembly.is_in_sync n.state ≡ false
-unfolding within_write left
-shut_out_since t at_t next found devices from_these opened same small kept others fit j n is none why = elim why [
-  | inl (away, inl beside) ↦
-      elim beside.0 [
-        | inl tried ↦
-            shut_out_beside t at_t next found devices from_these opened same small kept others fit (inl ((left t at_t next found devices from_these).tried ∙ tried)) beside.1 j n is none away
-        | inr l ↦
-            let b = beside.1 in
-            shut_out_beside t at_t next found (within_write t found devices l) from_these opened same small kept others fit (sorted_writing t at_t devices.left l)
-            (record { device = b.device; member = b.member; in_sync = b.in_sync; place = b.place; there = b.there }) j n is none away
-      ]
-  | inl (away, inr out) ↦ called_out t at_t next found devices from_these opened same small kept others fit j n is none away out
-  | inr late ↦ behind t at_t next found devices from_these opened same small kept others fit j n is late
-]
+module _ (t : Moment) (at_t : IsSoundAt t) (next : MirrorView) (found : List Disk) (devices : AreFoundAgain t found) (from_these : IsOpenedFrom found next) (opened : MirrorView)
+    (same : geometry_of opened.array ≡ geometry_of t.mirror.array) (small : IsWithinLimits (geometry_of t.mirror.array))
+    (kept : IsKept (geometry_of t.mirror.array) (super_of opened.array.shared) (history_of t)) (others : NoneIsNewer opened t found devices next)
+    (fit : IsFit (super_of opened.array.shared) (super_of next.array.shared) t.failed_at) where
+  of_stop : IsSorted t devices.left
+  of_stop = sorted t at_t devices.left devices.is_left
+
+  pub shut_out_since : (j : ℕ) (n : MemberView) → IsMember next.array j n → devices.from j ≡ None → IsShutOutSince opened t found devices n → assembly.is_in_sync n.state ≡ false
+  unfolding within_write
+  shut_out_since j n is none why = elim why [
+    | inl (away, inl (inl tried, beside)) ↦ shut_out_beside t at_t next found devices from_these opened same small kept others fit of_stop (inl (of_stop.tried ∙ tried)) beside j n is none away
+    | inl (away, inl (inr w, beside)) ↦
+        shut_out_beside t at_t next found (within_write t found devices w) from_these opened same small kept others fit (sorted t at_t devices.left (inr (inr (inl w)))) (sorted_writing t at_t devices.left w)
+        (record { device = beside.device; member = beside.member; in_sync = beside.in_sync; place = beside.place; there = beside.there }) j n is none away
+    | inl (away, inr out) ↦ called_out t at_t next found devices from_these opened same small kept others fit of_stop j n is none away out
+    | inr late ↦ behind t at_t next found devices from_these opened same small kept others fit of_stop j n is late
+  ]
+
+  module _ (out : (j : ℕ) (n : MemberView) → IsMember next.array j n → devices.from j ≡ None → assembly.is_in_sync n.state ≡ false) where
+    pub start : IsStart found next
+    start = starts t at_t next found devices from_these opened same small kept others fit of_stop out
+
+    pub among : (k : ℕ) (n : MemberView) → IsInSync next.array k n → (i : ℕ) × (devices.from k ≡ Some i) × (o : MemberView) × IsInSync t.mirror.array i o
+    among = were_in_sync t at_t next found devices from_these opened same small kept others fit of_stop out

@@ -3,7 +3,7 @@
 use Rattle.std.proofs.Common.{◌≡◌, ◌∙◌, ◌⊎◌, inl, inr, ℕ, zero, suc, ◌<◌, ◌≤◌, Bool, true, false, true≢false, ◌||◌, ◌&&◌, cond, eqb, eq-eqb, nat_lt, List, [], ◌∷◌, refl, sym, ap, subst, arith}
 use Rattle.std.specs.Prelude.{◌+◌, not, slice_get, Some, None}
 use Rattle.std.proofs.Math.Bool.{and-false}
-use Rattle.std.proofs.lemmas.Bool.{eqb-true, not-true, or_right}
+use Rattle.std.proofs.lemmas.Bool.{eqb-true, or_right}
 use Rattle.md_assembly.specs.States.{state_of}
 use Rattle.md_assembly.specs.declared.state.MemberState.{MemberState}
 use Rattle.md_assembly.specs.declared.state.MemberState.TheVariants.{Faulty, Spare, Stale}
@@ -313,9 +313,9 @@ stays_out_since before m start count opened t s k l n why = elim why [
 
 -- ---- a number stays away
 still_away : (d : ℕ) (e : Event) (away : ℕ → Bool) → (GivesOut d e → ⊥) → away d ≡ true → away_after e away d ≡ true
-still_away d (Event.Add number left) away no off = ap (λ b. b && not (eqb d number)) off ∙ ap not (not-true (eqb d number) (λ at. no (sym (eqb-true d number at))))
-still_away d (Event.ReAdd own device left) away no off = ap (λ b. b && not (eqb d own.number)) off ∙ ap not (not-true (eqb d own.number) (λ at. no (sym (eqb-true d own.number at))))
-still_away d e away no off = off
+still_away d (Event.Add number left) away given off = ap (λ b. b && not (eqb d number)) off ∙ ap not (by_test (eqb d number) (λ at. absurd (given (sym (eqb-true d number at)))) (λ apart. apart))
+still_away d (Event.ReAdd own device left) away given off = ap (λ b. b && not (eqb d own.number)) off ∙ ap not (by_test (eqb d own.number) (λ at. absurd (given (sym (eqb-true d own.number at)))) (λ apart. apart))
+still_away d e away given off = off
 
 pub stays_away : StaysAway
 stays_away d [] t last r none off = ap (λ (x : Moment). x.away d) r.is ∙ off

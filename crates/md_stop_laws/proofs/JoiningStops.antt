@@ -1,6 +1,6 @@
 -- What a stop leaves within `add` and `re_add`, before they are done.
 use Rattle.std.proofs.Common.{◌≡◌, ◌∙◌, ◌⊎◌, inl, inr, ℕ, ◌+◌, ◌*◌, ◌≤◌, eqb, false, drop, take, take-take, List, [], ◌∷◌, ◌++◌, length, slice_get, Some, None, refl, sym, ap, subst, arith}
-use Rattle.std.proofs.lemmas.Bool.{eqb-true, not-true}
+use Rattle.std.proofs.lemmas.Bool.{eqb-true}
 use Rattle.std.proofs.lemmas.List.{length-map, length-replicate, length_push, map-append}
 use Rattle.std.proofs.lemmas.Option.{none-some, same_Some, slice_get_within}
 use Rattle.md_create.specs.Layout.{wipe}
@@ -10,6 +10,7 @@ use Rattle.md_format.specs.Fields.{number_at}
 use Rattle.md_format.proofs.Places.{little_from-part}
 use Rattle.md_model.specs.Devices.{Stored}
 use Rattle.md_model.specs.Events.{Event}
+use Rattle.md_model.proofs.Cases.{by_test}
 use Rattle.md_model.proofs.Puts.{by_same}
 use Rattle.md_super.specs.Faults.{fault_of}
 use Rattle.md_super.specs.declared.fault.SuperFault.TheVariants.{Magic}
@@ -124,7 +125,8 @@ unfolding super_in
 none_of_fault block is = rw is refl
 
 none_by_magic : (block : List ℕ) → HasOtherMagic block → super_in block ≡ None
-none_by_magic block other = none_of_fault block (refused_by_magic block (not-true (eqb (number_at 4 0 block) 0xa92b4efc) (λ at. other (eqb-true (number_at 4 0 block) 0xa92b4efc at))))
+none_by_magic block other = none_of_fault block (refused_by_magic block
+    (by_test (eqb (number_at 4 0 block) 0xa92b4efc) (λ at. absurd (other (eqb-true (number_at 4 0 block) 0xa92b4efc at))) (λ off. off)))
 
 first_part : (bytes : List ℕ) → part bytes (512 * 0) 512 ≡ take 512 bytes
 unfolding part
