@@ -22,3 +22,5 @@ pub mod JoiningStops
 pub mod Beside
 -- A member that has no role leaves, and counts as one that an opening left out.
 pub mod Departed
+-- A first opening that was interrupted.
+pub mod FirstOpening

@@ -8,3 +8,5 @@ pub mod TornWrites
 pub mod JoiningStops
 -- Devices that left by `remove`, at an opening after a later stop.
 pub mod Departed
+-- What a first opening leaves that was interrupted.
+pub mod FirstOpening

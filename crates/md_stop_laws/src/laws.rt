@@ -3,6 +3,7 @@
 ghost use Rattle.md_laws.specs.Lives.{AtEachMoment};
 ghost use Rattle.md_stop_laws.specs.Agreement.{AgreesAtRest, ResyncsAgree};
 ghost use Rattle.md_stop_laws.specs.Departed.{FindsOutSince, LeavesOut, StaleIsBehind, StartsSince, StaysAway, StaysOutSince};
+ghost use Rattle.md_stop_laws.specs.FirstOpening.{IsFoundAsOpened, LeavesAsOpened};
 ghost use Rattle.md_stop_laws.specs.HaltedCalls.{StopsAtEachHalt, StopsAtHaltedResync, StopsAtHaltedStop, StopsAtHaltedWrite};
 ghost use Rattle.md_stop_laws.specs.JoiningStops.{NoneIsOpened, StopsInAdd, StopsInFailedAdd, StopsInFailedReAdd, StopsInReAdd, StopsInRefusedAdd, StopsInRefusedReAdd};
 ghost use Rattle.md_stop_laws.specs.TornWrites.{ContentAfterCopy, ContentAfterLoneLog, ContentAfterLoneMarks, StartsAfterCopy, StartsAfterLoneLog, StartsAfterLoneMarks};
@@ -64,4 +65,13 @@ pub fn departed_devices()
     ensures away { StaysAway }
     ensures finds_out { FindsOutSince }
     ensures starts { StartsSince }
+{}
+
+/// A first opening, of any devices whose stored marks cover what they differ in, that was stopped before its end, or of which a
+/// write failed that left the header of the bitmap. What it left of each is as the whole opening leaves it, but for the marks of a
+/// bitmap that is not accepted. So it may be opened as after a stop right after that opening, and what is said of lives is said
+/// of it.
+pub fn first_openings()
+    ensures leaves { LeavesAsOpened }
+    ensures found { IsFoundAsOpened }
 {}
