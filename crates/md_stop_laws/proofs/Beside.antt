@@ -79,12 +79,12 @@ module _ (t : Moment) (at_t : IsSoundAt t) (next : MirrorView) (found : List Dis
 
   is_left : stops.IsLeft g (history_of stop) made
   is_left = (
-        l.cut,
-        l.is_cut,
-        λ k. by_option (devices.at k) (λ none. inr (gone k none)) (left_at k),
-        λ k spoiled. by_option (devices.at k) (gone k)
-            (λ j is. absurd (true≢false (sym spoiled ∙ l.spoiled k (devices.unspoiled k j is)))),
-      )
+    l.cut,
+    l.is_cut,
+    λ k. by_option (devices.at k) (λ none. inr (gone k none)) (left_at k),
+    λ k spoiled. by_option (devices.at k) (gone k)
+        (λ j is. absurd (true≢false (sym spoiled ∙ l.spoiled k (devices.unspoiled k j is)))),
+  )
 
   kept_there : IsKept g was (history_of stop)
   kept_there =
@@ -144,9 +144,9 @@ module _ (t : Moment) (at_t : IsSoundAt t) (next : MirrorView) (found : List Dis
       let members_many = from_these.array.remembered.as_many in
       let x = it.opened.members.filled beside.place (omega arith) in
       let own = ap (λ (d : Stored). d.super) (at_some t at_t next found devices from_these beside.device beside.place beside.there)
-          ∙ super_was found next devices.honest from_these beside.place x.0 x.1 in
+      ∙ super_was found next devices.honest from_these beside.place x.0 x.1 in
       let in_then = ap is_in_sync (l.memory.state beside.device)
-          ∙ in_sync_there t.mirror.disks t.mirror.array t.requests beside.device beside.member beside.in_sync in
+      ∙ in_sync_there t.mirror.disks t.mirror.array t.requests beside.device beside.member beside.in_sync in
       sym (state_here j n is)
       ∙ keeps_out g small was (history_of stop) kept_there tried made is_left beside.device x.0 in_then own (read_of j n is) (is_absent j n is none away) first freshest fit_there
 

@@ -56,6 +56,31 @@ fn try_pairs(rt: &impl Abort, alloc: Global, disk: &mut Disk) -> Result<(), Fail
     Ok(())
 }
 
+// The one at each of its edges, the other at its least and at its greatest number.
+fn try_ends(
+    rt: &impl Abort,
+    alloc: Global,
+    disk: &mut Disk,
+    field: &Field,
+    other: &Field,
+) -> Result<(), Fail> {
+    for value in [0, u64::MAX] {
+        let mut image = roomy();
+        image.set(other, value);
+        try_alone(rt, alloc, disk, &image, field)?;
+    }
+    Ok(())
+}
+
+fn try_others(rt: &impl Abort, alloc: Global, disk: &mut Disk) -> Result<(), Fail> {
+    for (k, field) in OTHERS.iter().enumerate() {
+        for other in GEOMETRY.iter().chain(OTHERS.iter().take(k)) {
+            try_ends(rt, alloc, disk, field, other)?;
+        }
+    }
+    Ok(())
+}
+
 #[test]
 fn alone(rt: HostRuntime) -> Result<(), Fail> {
     let mut disk = Disk::new(rt.alloc())?;
@@ -68,6 +93,14 @@ fn alone(rt: HostRuntime) -> Result<(), Fail> {
 fn two_together(rt: HostRuntime) -> Result<(), Fail> {
     let mut disk = Disk::new(rt.alloc())?;
     let tried = try_pairs(&rt, rt.alloc(), &mut disk);
+    drop(disk);
+    tried
+}
+
+#[test]
+fn others_together(rt: HostRuntime) -> Result<(), Fail> {
+    let mut disk = Disk::new(rt.alloc())?;
+    let tried = try_others(&rt, rt.alloc(), &mut disk);
     drop(disk);
     tried
 }
