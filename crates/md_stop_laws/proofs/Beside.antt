@@ -1,6 +1,6 @@
 -- An opening of devices that a stop left, with others beside them that are no newer than the opening before: who of those is not found in sync;
 -- and where none is, that another life begins.
-use Rattle.std.proofs.Common.{◌≡◌, ◌∙◌, ◌⊎◌, inl, inr, ℕ, ◌+◌, ◌<◌, ◌≤◌, true, false, true≢false, List, Option, Some, None, refl, sym, ap, subst, arith}
+use Rattle.std.proofs.Common.{◌≡◌, ◌∙◌, ◌⊎◌, inl, inr, ℕ, ◌+◌, ◌<◌, ◌≤◌, true, false, true≢false, List, Some, None, refl, sym, ap, subst, arith}
 use Rattle.md_assembly.specs.States as assembly
 use Rattle.md_assembly.specs.States.{state_of}
 use Rattle.md_kept_members.specs.View.{MemberView}
@@ -28,7 +28,7 @@ use Rattle.md_array.proofs.Worlds.InSync.{in_sync_is, in_sync_there}
 use Rattle.md_array.proofs.Worlds.Shown.{as_read, own_is, state_at, super_at}
 use Rattle.md_array.proofs.Worlds.States.{same_in_sync, same_state}
 use Rattle.md_laws.specs.Left.{IsLeftWriting}
-use Rattle.md_laws.specs.Lives.{AreFoundAgain, IsCalledOut, IsShutOut, IsThereInSync}
+use Rattle.md_laws.specs.Lives.{AreFoundAgain, IsCalledOut, IsThereInSync}
 use Rattle.md_laws.specs.Runs.{IsStart, Moment, history_of}
 use Rattle.md_laws.proofs.Openings.OpenedFrom.{super_was}
 use Rattle.md_laws.proofs.Openings.Reopened.{read_alike, same_geometry}
@@ -127,6 +127,22 @@ module _ (t : Moment) (at_t : IsSoundAt t) (next : MirrorView) (found : List Dis
   is_absent j n is none away =
       record { no_newer = others j n is none; away = l.away n.superblock.dev_number ∙ away }
 
+  -- by the next superblock, too, of a device that need not be there
+  called_out_next : (n : MemberView) → n.superblock.events ≤ opened.array.shared.events → t.away n.superblock.dev_number ≡ true → IsCalledOut opened n
+      → is_in_sync (state_by g first (super_of n.superblock)) ≡ false
+  called_out_next n no_newer away out =
+      let by_super : is_in_sync (state_by g was (super_of n.superblock)) ≡ false =
+      subst (λ x. is_in_sync (state_by x was (super_of n.superblock)) ≡ false) same
+      (sym (ap is_in_sync (same_state opened.array n.superblock)) ∙ same_in_sync (state_of opened.array.shared n.superblock) ∙ out) in
+      stays_out g small was (history_of stop) kept_there (super_of n.superblock) (record { no_newer = no_newer; away = l.away n.superblock.dev_number ∙ away }) by_super made is_left first
+      freshest fit_there
+
+  no_less : opened.array.shared.events ≤ next.array.shared.events
+  no_less = elim fit.newer [
+    | inl newer ↦ let up : opened.array.shared.events < next.array.shared.events = newer in omega (arith, up)
+    | inr alike ↦ let up : next.array.shared.events ≡ opened.array.shared.events = alike.0 in omega (arith, up)
+  ]
+
   called_out : (j : ℕ) (n : MemberView) → IsMember next.array j n → devices.from j ≡ None → t.away n.superblock.dev_number ≡ true → IsCalledOut opened n → assembly.is_in_sync n.state ≡ false
   called_out j n is none away out =
       let by_super : is_in_sync (state_by g was (read_of j n is)) ≡ false =
@@ -155,11 +171,9 @@ module _ (t : Moment) (at_t : IsSoundAt t) (next : MirrorView) (found : List Dis
       sym (state_here j n is)
       ∙ by_test (is_in_sync (state_by g first (read_of j n is)))
       (λ on.
-      let says : first.events ≤ n.superblock.events + 1 = (found_says g first (read_of j n is) on).fresh in
-      elim fit.newer [
-        | inl newer ↦ let up : opened.array.shared.events < next.array.shared.events = newer in absurd (omega (arith, says, up, late))
-        | inr alike ↦ let up : next.array.shared.events ≡ opened.array.shared.events = alike.0 in absurd (omega (arith, says, up, late))
-      ])
+      let says : next.array.shared.events ≤ n.superblock.events + 1 = (found_says g first (read_of j n is) on).fresh in
+      let up = no_less in
+      absurd (omega (arith, says, up, late)))
       (λ off. off)
 
   -- ---- where none of them is
@@ -228,6 +242,16 @@ module _ (t : Moment) (at_t : IsSoundAt t) (next : MirrorView) (found : List Dis
     | inl (away, inr out) ↦ called_out t at_t next found devices from_these opened same small kept others fit of_stop j n is none away out
     | inr late ↦ behind t at_t next found devices from_these opened same small kept others fit of_stop j n is late
   ]
+
+  pub out_next : (n : MemberView) → n.superblock.events ≤ opened.array.shared.events → t.away n.superblock.dev_number ≡ true → IsCalledOut opened n → IsCalledOut next n
+  out_next n no_newer away out =
+      let off = called_out_next t at_t next found devices from_these opened same small kept others fit of_stop n no_newer away out in
+      let chunks = same_geometry t at_t found next.array devices from_these.array in
+      sym (same_in_sync (state_of next.array.shared n.superblock)) ∙ ap is_in_sync (same_state next.array n.superblock)
+      ∙ subst (λ x. is_in_sync (state_by x (super_of next.array.shared) (super_of n.superblock)) ≡ false) (sym chunks) off
+
+  pub behind_next : (n : MemberView) → IsBehind opened n → IsBehind next n
+  behind_next n late = let up = no_less t at_t next found devices from_these opened same small kept others fit of_stop in omega (arith, up, late)
 
   module _ (out : (j : ℕ) (n : MemberView) → IsMember next.array j n → devices.from j ≡ None → assembly.is_in_sync n.state ≡ false) where
     pub start : IsStart found next

@@ -34,9 +34,9 @@ use Rattle.md_laws.proofs.Runs.MirrorLives.{final_geometry, keeps_geometry, life
 use Rattle.md_laws.proofs.Runs.MirrorRuns.{model_run, starts}
 use Rattle.md_laws.proofs.Runs.Moments.{IsSoundAt, geometry_kept, life_keeps, run_keeps, sound_when_opened}
 use Rattle.md_laws.proofs.Runs.Rests.{at_rest, rests_does}
-use Rattle.md_stop_laws.specs.Departed.{FindsOutSince, GivesOut, HasNoRole, IsBehind, IsStale, LeavesAt, LeavesOut, StaleIsBehind, StandsSince, StartsSince, StaysAway, StaysOutSince, after_leaving}
+use Rattle.md_stop_laws.specs.Departed.{FindsOutSince, GivesOut, HasNoRole, IsBehind, IsStale, LeavesAt, LeavesOut, StaleIsBehind, StandsSince, StartsSince, StaysAway, StaysOutNext, StaysOutSince, after_leaving}
 use Rattle.md_stop_laws.proofs.Beside as beside
-use Rattle.md_stop_laws.proofs.Beside.{shut_out_since}
+use Rattle.md_stop_laws.proofs.Beside.{behind_next, out_next, shut_out_since}
 
 -- a device is not found in sync whose number has no role,
 no_role_out : (g : Geometry) (first own : Super) → (first.role own.number < g.raid_disks → ⊥) → model.is_in_sync (state_by g first own) ≡ false
@@ -326,6 +326,14 @@ pub finds_out_since : FindsOutSince
 finds_out_since before m start count opened last s found next devices others opens fit =
     let x = stands before m start count opened last s in
     shut_out_since last x.at next found devices opens opened x.same x.small x.kept others fit
+
+pub stays_out_next : StaysOutNext
+stays_out_next before m start count opened last s found next devices others opens fit n no_newer why =
+    let x = stands before m start count opened last s in
+    elim why [
+      | inl (off, out) ↦ inl (out_next last x.at next found devices opens opened x.same x.small x.kept others fit n no_newer off out)
+      | inr late ↦ inr (behind_next last x.at next found devices opens opened x.same x.small x.kept others fit n late)
+    ]
 
 pub starts_since : StartsSince
 starts_since before m start count opened last s next again =

@@ -110,6 +110,14 @@ FindsOutSince =
     → IsFit (super_of opened.array.shared) (super_of next.array.shared) last.failed_at
     → (j : ℕ) (n : MemberView) → IsMember next.array j n → devices.from j ≡ None → IsShutOutSince opened last found devices n → is_in_sync n.state ≡ false))
 
+-- Of one that it has not, and that was out, the superblock that it keeps says so, or it is still behind: so it is out at the openings after it.
+abbrev pub StaysOutNext : Type 0
+StaysOutNext =
+    OfDepartures (λ opened last.
+    ((found : List Disk) (next : MirrorView) (devices : AreFoundAgain last found) → NoneIsNewer opened last found devices next → IsOpenedFrom found next
+    → IsFit (super_of opened.array.shared) (super_of next.array.shared) last.failed_at
+    → (n : MemberView) → n.superblock.events ≤ opened.array.shared.events → IsOutSince opened last n → IsCalledOut next n ⊎ IsBehind next n))
+
 -- such an opening, of which no device beside those that were left is found in sync
 pub record IsOpenedSince (opened : MirrorView) (last : Moment) (next : MirrorView) : Type 0 where
   pub found : List Disk

@@ -2,7 +2,7 @@
 
 ghost use Rattle.md_laws.specs.Lives.{AtEachMoment};
 ghost use Rattle.md_stop_laws.specs.Agreement.{AgreesAtRest, ResyncsAgree};
-ghost use Rattle.md_stop_laws.specs.Departed.{FindsOutSince, LeavesOut, StaleIsBehind, StartsSince, StaysAway, StaysOutSince};
+ghost use Rattle.md_stop_laws.specs.Departed.{FindsOutSince, LeavesOut, StaleIsBehind, StartsSince, StaysAway, StaysOutNext, StaysOutSince};
 ghost use Rattle.md_stop_laws.specs.FirstOpening.{IsFoundAsOpened, LeavesAsOpened};
 ghost use Rattle.md_stop_laws.specs.HaltedCalls.{StopsAtEachHalt, StopsAtHaltedResync, StopsAtHaltedStop, StopsAtHaltedWrite};
 ghost use Rattle.md_stop_laws.specs.JoiningStops.{NoneIsOpened, StopsInAdd, StopsInFailedAdd, StopsInFailedReAdd, StopsInReAdd, StopsInRefusedAdd, StopsInRefusedReAdd};
@@ -64,6 +64,7 @@ pub fn departed_devices()
     ensures stays { StaysOutSince }
     ensures away { StaysAway }
     ensures finds_out { FindsOutSince }
+    ensures out_next { StaysOutNext }
     ensures starts { StartsSince }
 {}
 
