@@ -73,7 +73,7 @@ module _ (t : Moment) (left disks : List Disk) (same : contents_of disks ≡ con
       found = again.found;
       devices = devices_over again.found again.devices again.of_these;
       of_these = again.of_these ∙ sym same;
-      others = λ j m is none. let o = again.others j m is none in record { no_newer = o.no_newer; away = o.away };
+      others = again.others;
       opens = again.opens;
       fit = again.fit;
       out = again.out;
@@ -174,7 +174,7 @@ module _ (t : Moment) (disks : List Disk) (at : IsSoundAt (halted_over t disks))
       let x = own_is found next devices.honest from_these fresh.at first fresh.is in
       record {
         whose = by_option (devices.from fresh.at)
-            (λ none. inr (subst (λ (v : Super). v.events ≤ opened.array.shared.events) x.2 (again.others fresh.at x.0 x.1 none).no_newer))
+            (λ none. inr (subst (λ (v : Super). v.events ≤ opened.array.shared.events) x.2 (again.others fresh.at x.0 x.1 none)))
             (λ k is. inl (
               k,
               same_super k ∙ ap (λ (d : Stored). d.super) (at_some then at next found devices from_these k fresh.at (devices.found fresh.at k is))

@@ -17,21 +17,22 @@ use Rattle.md_array.specs.Opening.{IsOpenedFrom}
 use Rattle.md_array.specs.ReadAsKept.{HasWidth}
 use Rattle.md_array.specs.Worlds.{none_in_flight, super_of, world_of}
 use Rattle.md_laws.specs.Left.{contents_of}
-use Rattle.md_laws.specs.Lives.{AreFoundAgain, AreFurther, MirrorLife, MirrorLifeWith}
+use Rattle.md_laws.specs.Lives.{AreFoundAgain, MirrorLife, MirrorLifeWith}
 use Rattle.md_laws.specs.Runs.{IsStart, Moment}
+use Rattle.md_stop_laws.specs.Departed.{NoneIsNewer}
 use Rattle.md_stop_laws.specs.HaltedCalls.{IsLeftSince}
 
 -- the mirror of a moment, halted, over devices that a stop left
 abbrev pub halted_over : Moment → List Disk → Moment
 halted_over t disks = record t { mirror = record { disks = disks; array = record t.mirror.array { halted = true } } }
 
--- An opening after a stop that left these: of some of them, in any order, and perhaps of further devices, which the opening before left out and
--- of which none is found in sync. Its superblock is fit. (So it is of each opening of a life: `IsReopened`.)
+-- An opening after a stop that left these: of some of them, in any order, and perhaps of further devices, which are no newer than the array was at
+-- the opening before, and of which none is found in sync. Its superblock is fit. (So it is of each opening of a life: `IsReopened`.)
 pub record IsOpenedAfter (opened : MirrorView) (t : Moment) (left : List Disk) (next : MirrorView) : Type 0 where
   pub found : List Disk
   pub devices : AreFoundAgain (halted_over t left) found
   pub of_these : contents_of devices.left ≡ contents_of left
-  pub others : AreFurther opened (halted_over t left) found devices next
+  pub others : NoneIsNewer opened (halted_over t left) found devices next
   pub opens : IsOpenedFrom found next
   pub fit : IsFit (super_of opened.array.shared) (super_of next.array.shared) t.failed_at
   pub out : (j : ℕ) (m : MemberView) → IsMember next.array j m → devices.from j ≡ None → is_in_sync m.state ≡ false
