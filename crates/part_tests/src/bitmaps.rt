@@ -1,26 +1,16 @@
 // Write-intent bitmaps: the chunks, and which bit marks which.
 use crate::checks::same;
-use md_bitmap::{BitmapHeader, Chunks, Marks};
+use example_members::bitmap;
+use md_bitmap::{BitmapFault, BitmapHeader, Chunks, Marks};
 use std::alloc::Global;
 use std::process::Abort;
 use std::test::Fail;
-use uuid::Uuid;
 
-// Of an array of 64 sectors in chunks of 4096 bytes.
-fn header() -> BitmapHeader {
-    BitmapHeader {
-        uuid: Uuid::from_u128(0x0011_2233_4455_6677_8899_aabb_ccdd_eeff),
-        events: 10,
-        events_cleared: 10,
-        sync_size: 64,
-        state: 0,
-        chunksize: 4096,
-        daemon_sleep: 5,
-        write_behind: 0,
-        sectors_reserved: 0,
-        nodes: 0,
-        cluster_name: [0; 64],
-    }
+// That of the example member: of 64 sectors in chunks of 4096 bytes.
+fn header() -> Result<BitmapHeader, BitmapFault> {
+    let mut bytes = [0; 256];
+    bytes.copy_from_slice(&bitmap()[..256]);
+    BitmapHeader::decode(&bytes)
 }
 
 #[test]
@@ -34,18 +24,26 @@ fn chunk_geometry(rt: HostRuntime) {
 }
 
 // With this chunk marked, the byte of block 0 with its bit.
-fn expect_mark(rt: &impl Abort, marks: &mut Marks, chunk: u32, at: usize, byte: u8) {
+fn expect_mark(
+    rt: &impl Abort,
+    header: &BitmapHeader,
+    marks: &mut Marks,
+    chunk: u32,
+    at: usize,
+    byte: u8,
+) {
     same(rt, "none is marked", marks.next_marked(0), None);
     if chunk < marks.chunks() && at < 512 {
         marks.mark(chunk);
         same(rt, "the next", marks.next_marked(0), Some(chunk));
-        same(rt, "the byte", marks.block(&header(), 0)[at], byte);
+        same(rt, "the byte", marks.block(header, 0)[at], byte);
     }
 }
 
 fn marks_one(
     rt: &impl Abort,
     alloc: Global,
+    header: &BitmapHeader,
     chunks: u32,
     chunk: u32,
     at: usize,
@@ -53,30 +51,31 @@ fn marks_one(
 ) -> Result<(), Fail> {
     let mut marks = Marks::none(alloc, chunks)?;
     same(rt, "the chunks", marks.chunks(), chunks);
-    expect_mark(rt, &mut marks, chunk, at, byte);
+    expect_mark(rt, header, &mut marks, chunk, at, byte);
     drop(marks);
     Ok(())
 }
 
-fn expect_unmarked(rt: &impl Abort, marks: &mut Marks) {
+fn expect_unmarked(rt: &impl Abort, header: &BitmapHeader, marks: &mut Marks) {
     same(rt, "the count", marks.count(), 3);
     same(rt, "none past the last", marks.next_marked(3), None);
     if marks.chunks() == 3 {
         marks.unmark(0);
     }
     same(rt, "the count after it", marks.count(), 2);
-    same(rt, "the byte", marks.block(&header(), 0)[256], 0xfe);
+    same(rt, "the byte", marks.block(header, 0)[256], 0xfe);
 }
 
 #[test]
 fn marks_bytes(rt: HostRuntime) -> Result<(), Fail> {
-    marks_one(&rt, rt.alloc(), 8, 1, 256, 2)?;
-    marks_one(&rt, rt.alloc(), 5000, 9, 257, 2)?;
+    let header = header()?;
+    marks_one(&rt, rt.alloc(), &header, 8, 1, 256, 2)?;
+    marks_one(&rt, rt.alloc(), &header, 5000, 9, 257, 2)?;
     let all = Marks::all(rt.alloc(), 8)?;
     same(&rt, "all", all.count(), 8);
     drop(all);
     let mut marks = Marks::from_bytes(rt.alloc(), 3, &[0xff])?;
-    expect_unmarked(&rt, &mut marks);
+    expect_unmarked(&rt, &header, &mut marks);
     drop(marks);
     Ok(())
 }

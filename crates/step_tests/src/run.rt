@@ -6,7 +6,7 @@ ghost use Rattle.md_state.specs.Requests.{IsPending};
 
 use crate::images::{Image, Testing, device_of, new_device, used_device};
 use crate::opening::open;
-use crate::shown::{listed_in, stored_on, what_shows};
+use crate::shown::{Shown, listed_in, stored_on, what_shows};
 use crate::step::{Answer, Step};
 use md_array::{AddFault, Mirror, Pending, ReAddFault};
 use md_kept_members::log_room;
@@ -79,8 +79,8 @@ impl Run {
         })
     }
 
-    pub(crate) fn mirror(&self) -> &Mirror<Testing> {
-        &self.mirror
+    pub(crate) fn shown(&self) -> Shown {
+        what_shows(&self.mirror)
     }
 
     pub(crate) fn into_devices(self) -> Vec<Testing> {
@@ -111,7 +111,7 @@ impl Run {
             Step::Admit => Ok(self.admit_last(alloc)),
             Step::NoteBad(k, chunk) => Ok(self.note_bad(alloc, k, chunk)),
             Step::StoreLog(k) => Ok(self.store_log(k)),
-            Step::Show => Ok(Answer::Shows(what_shows(&self.mirror))),
+            Step::Show => Ok(Answer::Shows(self.shown())),
             Step::Member(k) => Ok(self.member(k)),
             Step::Lack(k) => Ok(self.lack(alloc, k)),
             Step::List(k) => Ok(self.list(k)),
@@ -336,7 +336,7 @@ impl Run {
         }
     }
 
-    fn member(&self, k: usize) -> Answer {
+    pub(crate) fn member(&self, k: usize) -> Answer {
         let mirror = &self.mirror;
         if k >= mirror.members() {
             return Answer::NotCalled;
