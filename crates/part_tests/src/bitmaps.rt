@@ -1,15 +1,17 @@
 // Write-intent bitmaps: the chunks, and which bit marks which.
 use crate::checks::same;
-use example_members::bitmap;
 use md_bitmap::{BitmapFault, BitmapHeader, Chunks, Marks};
 use std::alloc::Global;
 use std::process::Abort;
 use std::test::Fail;
 
-// That of the example member: of 64 sectors in chunks of 4096 bytes.
+// Of an array of 64 sectors in chunks of 4096 bytes.
 fn header() -> Result<BitmapHeader, BitmapFault> {
     let mut bytes = [0; 256];
-    bytes.copy_from_slice(&bitmap()[..256]);
+    bytes[..4].copy_from_slice(b"bitm");
+    bytes[4] = 4;
+    bytes[40] = 64;
+    bytes[53] = 0x10;
     BitmapHeader::decode(&bytes)
 }
 
