@@ -865,6 +865,53 @@ CASES = [
 ]
 
 
+def of_set(number, events, roles, raid_disks=2, **fields):
+    """The example member with another number and count, and these roles by its superblock."""
+    return members.with_superblock(
+        VAULT, dict(enumerate(roles)), dev_number=number, events=events, raid_disks=raid_disks, max_dev=len(roles), **fields
+    )
+
+
+def shows(words, *lines, **answer):
+    return Step("detail --readonly " + words, list(lines), **answer)
+
+
+FIRST_IN_SYNC = "     0      0      0 in sync"
+
+# What the images make of each other: none of them is changed. No call for memory is refused in these: tests/refused_memory plays CASES.
+ASSEMBLED = [
+    (
+        "stale by its events",
+        {name: of_set(number, 10 - number, [0, 1, 2], raid_disks=3) for number, name in enumerate("abc")},
+        [shows("a b c", FIRST_IN_SYNC, "     1      1      1 in sync", "     2      2      2 stale")],
+    ),
+    (
+        "faulty by the freshest",
+        {"a": of_set(0, 11, [0, 0xFFFE]), "b": of_set(1, 10, [0, 1])},
+        [shows("a b", FIRST_IN_SYNC, "     1      1      - faulty")],
+    ),
+    (
+        "no array",
+        {"a": VAULT, "b": VAULT, "c": members.with_superblock(VAULT, set_uuid=bytes(16))},
+        [
+            Step("assemble a b", fault="Assemble DoubleNumber 0 1"),
+            Step("assemble a c", fault="Assemble Stranger 1"),
+            Step("assemble", fault="Assemble Empty"),
+        ],
+    ),
+    (
+        "a number past the roles is a spare's",
+        {"a": VAULT, "b": of_set(2**32 - 1, 10, [0, 1])},
+        [shows("a b", FIRST_IN_SYNC, "     1 4294967295      - spare", told=UNNAMED % (1, 1))],
+    ),
+    (
+        "a member whose recovery is not done takes its role all the same",
+        {"a": of_set(0, 10, [0, 1, 0]), "b": of_set(2, 10, [0, 1, 0], feature_map=members.BITMAP_BIT | members.RECOVERY_BIT)},
+        [Step("assemble a b", fault="Assemble DoubleRole 0")],
+    ),
+]
+
+
 def write_images(folder, images):
     for name, content in images.items():
         (folder / name).write_bytes(content)

@@ -12,6 +12,7 @@ import support
 # compiler makes without a call for memory where little is read beside it, as in `examine'.
 WITHIN = {
     "md_array::Mirror::enrol": "md_copy::rebuild",
+    "md_assembly::assemble": "md_array::Mirror::open",
     "md_create::new_spare": "md_array::Mirror::add",
     "md_images::lay_over": "md_cli::run",
     "md_kept_members::united_marks": "md_array::Mirror::open",
@@ -57,13 +58,12 @@ AGAIN = {
 # A test that makes the call, and fails where that is refused its memory: the words with which it fails.
 FAILS = {
     "md_array::Mirror::open": ("step_tests", "openings::mirrors_are_opened", "NoMemory"),
-    "md_assembly::assemble": ("part_tests", "assembly::stale_by_events", "NoMemory"),
     "md_badblocks::BadSet::from_log": ("part_tests", "bad_block_logs::reads_and_writes_a_log", "NoMemory"),
     "md_badblocks::BadSet::add": ("part_tests", "bad_block_logs::adds_and_removes", "AllocError"),
     "md_badblocks::BadSet::remove": ("part_tests", "bad_block_logs::adds_and_removes", "AllocError"),
-    "md_bitmap::Marks::from_bytes": ("part_tests", "bitmaps::bits_past_the_last_chunk", "AllocError"),
-    "md_bitmap::Marks::none": ("part_tests", "bitmaps::marks_of_eight_chunks", "AllocError"),
-    "md_bitmap::Marks::all": ("part_tests", "bitmaps::marks_of_eight_chunks", "AllocError"),
+    "md_bitmap::Marks::from_bytes": ("part_tests", "bitmaps::marks_bytes", "AllocError"),
+    "md_bitmap::Marks::none": ("part_tests", "bitmaps::marks_bytes", "AllocError"),
+    "md_bitmap::Marks::all": ("part_tests", "bitmaps::marks_bytes", "AllocError"),
     "md_cert::Table::push": ("part_tests", "plans::verdicts::checker_refusals", "NoMemory"),
     "md_check::check_array": ("call_tests", "array_checks::check_counts", "no memory: check_array"),
     "md_collect::read_chunk": ("part_tests", "collector_reports::what_is_read_is_taken", "AllocError"),
@@ -71,14 +71,12 @@ FAILS = {
     "md_collect::Collector::new": ("part_tests", "collector_reports::each_planned_chunk_is_taken_once", "AllocError"),
     "md_copy::table": ("call_tests", "rebuilds::rebuild_with_orphan", "no memory: table"),
     "md_copy::rebuild": ("call_tests", "rebuilds::rebuild_with_orphan", "no memory: rebuild"),
-    "md_create::create": ("part_tests", "new_members::new_members_say", "NoMemory"),
     "md_device::MemDevice::new": ("stop_tests", "fuses::data_are_torn", "AllocError"),
     "md_images::MemImages::add": ("command_tests", "faults_in_memory::images_that_fail", "AllocError"),
     "md_images::MemImages::add_protected": ("command_tests", "faults_in_memory::images_that_fail", "AllocError"),
     "md_inflight::Inflight::push_back": ("part_tests", "requests::removed_in_any_order", "NoMemory"),
     "md_maps::read_map": ("notice_tests", "maps::maps_are_read", "NoMemory"),
     "md_maps::write_map": ("notice_tests", "maps::a_map_is_written", "AllocError"),
-    "md_members::read_member": ("part_tests", "damaged::rows::answers", "no memory"),
     "md_plan::plan": ("part_tests", "plans::small_tables::plan_needs_a_move", "NoMemory"),
     "md_signatures::find_signatures": ("notice_tests", "signatures::all_are_found_in_order", "AllocError"),
     "md_stop_device::Fuse::new": ("stop_tests", "fuses::metadata_stay", "AllocError"),
@@ -97,8 +95,10 @@ ANSWERS = {
     "md_commands::resync_array": "resync",
     "md_commands::stop_array": "stop",
     "md_commands::write_array": "write",
+    "md_create::create": "create",
     "md_images::take_images": "assemble",
     "md_images::image_list": "assemble",
+    "md_members::read_member": "examine-bitmap",
 }
 
 # These take no memory: they say so where a count is spent.

@@ -15,8 +15,6 @@ mod everywhere;
 #[cfg(test)]
 mod failing_reads;
 #[cfg(test)]
-mod faults;
-#[cfg(test)]
 mod gates;
 #[cfg(test)]
 mod left;

@@ -6,6 +6,7 @@ use example_members::zeros;
 use md_device::{Device, FaultDevice, MemDevice};
 use md_signatures::{Signature, find_signatures};
 use std::alloc::Global;
+use std::fmt::Debug;
 use std::process::Abort;
 use std::test::Fail;
 
@@ -327,6 +328,49 @@ const BOOT_SECTORS: [Row; 5] = [
     },
 ];
 
+const IN_ORDER: Row = Row {
+    place: 0,
+    bytes: b"",
+    found: &[Signature::Gpt, Signature::Ext],
+};
+
+// How many sectors a device has. One without the sector has nothing there, and one that ends within the first places has what stands
+// before its end: the last 8 KiB of 16 sectors begin with the first.
+const SHORT: [(u64, Row); 4] = [
+    (
+        0,
+        Row {
+            place: 0,
+            bytes: b"XFSB",
+            found: &[],
+        },
+    ),
+    (
+        1,
+        Row {
+            place: 0,
+            bytes: b"XFSB",
+            found: &[Signature::Xfs],
+        },
+    ),
+    (
+        16,
+        Row {
+            place: 0,
+            bytes: MD,
+            found: &[Signature::Md10, Signature::Md11],
+        },
+    ),
+    (
+        128,
+        Row {
+            place: 0,
+            bytes: MD,
+            found: &[Signature::Md090, Signature::Md11],
+        },
+    ),
+];
+
 // Puts bytes at a place, as far as there is room.
 fn place_at(all: &mut [u8], place: usize, bytes: &[u8]) {
     for (k, b) in bytes.iter().enumerate() {
@@ -336,13 +380,14 @@ fn place_at(all: &mut [u8], place: usize, bytes: &[u8]) {
     }
 }
 
-// A device of zeros but for these bytes.
+// A device of zeros but for these bytes, of whole sectors.
 fn device_with(alloc: Global, sectors: u64, place: usize, bytes: &[u8]) -> Result<MemDevice, Fail>
     requires { sectors ≤ 2 ^ 54 }
 {
     let zeros = zeros(alloc, sectors)?;
-    let mut all = zeros.bytes().to_vec(alloc)?;
+    let copy = zeros.bytes().to_vec(alloc);
     drop(zeros);
+    let mut all = copy?;
     place_at(&mut all, place, bytes);
     if all.len() % 512 != 0 {
         drop(all);
@@ -355,39 +400,54 @@ fn device_with(alloc: Global, sectors: u64, place: usize, bytes: &[u8]) -> Resul
 fn finds<D: Device>(
     rt: &impl Abort,
     alloc: Global,
-    at: usize,
+    at: &impl Debug,
     device: &mut D,
     wanted: &[Signature],
 ) -> Result<(), Fail> {
     let found = find_signatures(alloc, device)?;
-    same_at(rt, &at, found.as_slice() == wanted, true);
+    same_at(rt, at, found.as_slice() == wanted, true);
     drop(found);
     Ok(())
+}
+
+fn finds_with(
+    rt: &impl Abort,
+    alloc: Global,
+    sectors: u64,
+    row: &Row,
+    bytes: &[u8],
+) -> Result<(), Fail> {
+    if sectors > SECTORS {
+        return Err(Fail::new("more sectors than there are"));
+    }
+    let mut device = device_with(alloc, sectors, row.place, bytes)?;
+    let judged = finds(rt, alloc, row, &mut device, row.found);
+    drop(device);
+    judged
 }
 
 #[test]
 fn magic_numbers(rt: HostRuntime) -> Result<(), Fail> {
     for row in &ROWS {
-        let mut device = device_with(rt.alloc(), SECTORS, row.place, row.bytes)?;
-        let judged = finds(&rt, rt.alloc(), row.place, &mut device, row.found);
-        drop(device);
-        judged?;
+        finds_with(&rt, rt.alloc(), SECTORS, row, row.bytes)?;
     }
     Ok(())
 }
 
 // A boot sector of a file system has the mark of a partition table at its end, and what stands there is no table.
+fn boot_sector(row: &Row) -> [u8; 512] {
+    let mut bytes = [0u8; 512];
+    place_at(&mut bytes, row.place, row.bytes);
+    place_at(&mut bytes, 462, b"\x80\0\0\0\x83");
+    place_at(&mut bytes, 510, b"\x55\xaa");
+    bytes
+}
+
 #[test]
 fn boot_sectors_have_no_partition_table(rt: HostRuntime) -> Result<(), Fail> {
     for row in &BOOT_SECTORS {
-        let mut bytes = [0u8; 512];
-        place_at(&mut bytes, row.place, row.bytes);
-        place_at(&mut bytes, 462, b"\x80\0\0\0\x83");
-        place_at(&mut bytes, 510, b"\x55\xaa");
-        let mut device = device_with(rt.alloc(), SECTORS, 0, &bytes)?;
-        let judged = finds(&rt, rt.alloc(), row.place, &mut device, row.found);
-        drop(device);
-        judged?;
+        let whole = Row { place: 0, ..*row };
+        finds_with(&rt, rt.alloc(), SECTORS, &whole, &boot_sector(row))?;
     }
     Ok(())
 }
@@ -400,67 +460,31 @@ fn all_are_found_in_order(rt: HostRuntime) -> Result<(), Fail> {
     place_at(&mut bytes, 510, b"\x55\xaa");
     place_at(&mut bytes, 512, b"EFI PART");
     place_at(&mut bytes, 1080, b"\x53\xef");
-    let mut device = device_with(rt.alloc(), SECTORS, 0, &bytes)?;
-    let judged = finds(
-        &rt,
-        rt.alloc(),
-        0,
-        &mut device,
-        &[Signature::Gpt, Signature::Ext],
-    );
-    drop(device);
-    judged
+    finds_with(&rt, rt.alloc(), SECTORS, &IN_ORDER, &bytes)
 }
 
-// A device without the sector has nothing there, and one that ends within the first places has what stands before its end.
 #[test]
 fn short_devices(rt: HostRuntime) -> Result<(), Fail> {
-    let mut none = device_with(rt.alloc(), 0, 0, b"XFSB")?;
-    let judged = finds(&rt, rt.alloc(), 0, &mut none, &[]);
-    drop(none);
-    judged?;
-    let mut one = device_with(rt.alloc(), 1, 0, b"XFSB")?;
-    let judged = finds(&rt, rt.alloc(), 1, &mut one, &[Signature::Xfs]);
-    drop(one);
-    judged?;
-    // The last 8 KiB of 16 sectors begin with the first.
-    let mut sixteen = device_with(rt.alloc(), 16, 0, MD)?;
-    let judged = finds(
-        &rt,
-        rt.alloc(),
-        16,
-        &mut sixteen,
-        &[Signature::Md10, Signature::Md11],
-    );
-    drop(sixteen);
-    judged?;
-    let mut most = device_with(rt.alloc(), 128, 0, MD)?;
-    let judged = finds(
-        &rt,
-        rt.alloc(),
-        128,
-        &mut most,
-        &[Signature::Md090, Signature::Md11],
-    );
-    drop(most);
-    judged
+    for (sectors, row) in &SHORT {
+        finds_with(&rt, rt.alloc(), *sectors, row, row.bytes)?;
+    }
+    Ok(())
 }
 
 // A sector that is not given has nothing on it, and the others are told.
-#[test]
-fn sectors_that_fail(rt: HostRuntime) -> Result<(), Fail> {
+fn failing(alloc: Global) -> Result<FaultDevice<MemDevice>, Fail> {
+    let bad = vec![in alloc; 0u64; 1]?;
     let mut bytes = [0u8; 1536];
     place_at(&mut bytes, 0, b"XFSB");
     place_at(&mut bytes, 1080, b"\x53\xef");
-    let inner = device_with(rt.alloc(), SECTORS, 0, &bytes)?;
-    let mut bad = Vec::new(rt.alloc());
-    if bad.push(0u64).is_err() {
-        drop(inner);
-        drop(bad);
-        return Err(Fail::new("no memory"));
-    }
-    let mut device = FaultDevice::new(inner, bad, 0, 0, false);
-    let judged = finds(&rt, rt.alloc(), 0, &mut device, &[Signature::Ext]);
+    let inner = device_with(alloc, SECTORS, 0, &bytes)?;
+    Ok(FaultDevice::new(inner, bad, 0, 0, false))
+}
+
+#[test]
+fn sectors_that_fail(rt: HostRuntime) -> Result<(), Fail> {
+    let mut device = failing(rt.alloc())?;
+    let judged = finds(&rt, rt.alloc(), &"a sector", &mut device, &[Signature::Ext]);
     drop(device);
     judged
 }

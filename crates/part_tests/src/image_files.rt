@@ -30,56 +30,82 @@ fn four_sectors<R: Files<File = File> + AllocGlobal + Abort>(
     Ok(device)
 }
 
+fn write_one<R: Files<File = File> + AllocGlobal + Abort>(rt: &R, path: &str) -> Result<(), Fail> {
+    let mut device = four_sectors(rt, path, Access::Change)?;
+    let written = device.write(2, &[7; 512]);
+    drop(device);
+    same(rt, "write", written, Ok(()));
+    Ok(())
+}
+
+fn expect_kept(rt: &impl Abort, device: &mut FileDevice)
+    requires { device.old.sectors ≡ 4 }
+{
+    let mut back = [1; 1536];
+    holds(rt, "read", device.read(1, &mut back).is_ok());
+    same(rt, "before", back[511], 0);
+    same(rt, "first byte", back[512], 7);
+    same(rt, "last byte", back[1023], 7);
+    same(rt, "after", back[1024], 0);
+    same(rt, "look", device.write(0, &[6; 512]), Err(WriteFault));
+}
+
+fn keeps<R: Files<File = File> + AllocGlobal + Abort>(rt: &R, path: &str) -> Result<(), Fail> {
+    fs::write(rt, path, [0; 2048].as_slice())?;
+    write_one(rt, path)?;
+    let mut device = four_sectors(rt, path, Access::Look)?;
+    expect_kept(rt, &mut device);
+    drop(device);
+    fs::remove_file(rt, path)?;
+    Ok(())
+}
+
 #[test]
 fn keeps_what_is_written(rt: HostRuntime) -> Result<(), Fail> {
     let path = path_of(&rt, "written")?;
-    fs::write(&rt, path.as_str(), [0; 2048].as_slice())?;
-    let mut device = four_sectors(&rt, path.as_str(), Access::Change)?;
-    same(&rt, "write", device.write(2, &[7; 512]), Ok(()));
-    drop(device);
+    let kept = keeps(&rt, path.as_str());
+    drop(path);
+    kept
+}
 
-    let mut device = four_sectors(&rt, path.as_str(), Access::Look)?;
-    let mut back = [1; 1536];
-    same(&rt, "read", device.read(1, &mut back).is_ok(), true);
-    same(&rt, "before", back[511], 0);
-    same(&rt, "first byte", back[512], 7);
-    same(&rt, "last byte", back[1023], 7);
-    same(&rt, "after", back[1024], 0);
-    same(&rt, "look", device.write(0, &[6; 512]), Err(WriteFault));
+fn cut<R: Files<File = File> + AllocGlobal + Abort>(rt: &R, path: &str) -> Result<(), Fail> {
+    let file = fs::OpenOptions::new().write(true).open(rt, path)?;
+    let is_cut = file.set_len(1500);
+    drop(file);
+    is_cut?;
+    Ok(())
+}
+
+fn expect_cut(rt: &impl Abort, device: &mut FileDevice)
+    requires { device.old.sectors ≡ 4 }
+{
+    same(rt, "whole sector", device.write(1, &[7; 512]), Ok(()));
+    let (cut, lost) = (device.write(2, &[7; 512]), device.write(3, &[7; 512]));
+    same(rt, "cut sector", cut, Err(WriteFault));
+    same(rt, "lost sector", lost, Err(WriteFault));
+    let mut back = [0; 512];
+    holds(rt, "read", device.read(3, &mut back).is_err());
+}
+
+fn is_not_grown<R: Files<File = File> + AllocGlobal + Abort>(
+    rt: &R,
+    path: &str,
+) -> Result<(), Fail> {
+    fs::write(rt, path, [0; 2048].as_slice())?;
+    let mut device = four_sectors(rt, path, Access::Change)?;
+    let is_cut = cut(rt, path);
+    expect_cut(rt, &mut device);
     drop(device);
-    fs::remove_file(&rt, path.as_str())?;
+    is_cut?;
+    same(rt, "length", fs::metadata(rt, path)?.len(), 1500);
+    fs::remove_file(rt, path)?;
     Ok(())
 }
 
 #[test]
 fn a_file_that_was_cut_is_not_grown_again(rt: HostRuntime) -> Result<(), Fail> {
     let path = path_of(&rt, "cut")?;
-    fs::write(&rt, path.as_str(), [0; 2048].as_slice())?;
-    let mut device = four_sectors(&rt, path.as_str(), Access::Change)?;
-    let file = fs::OpenOptions::new().write(true).open(&rt, path.as_str())?;
-    file.set_len(1500)?;
-
-    same(&rt, "whole sector", device.write(1, &[7; 512]), Ok(()));
-    same(
-        &rt,
-        "cut sector",
-        device.write(2, &[7; 512]),
-        Err(WriteFault),
-    );
-    same(
-        &rt,
-        "lost sector",
-        device.write(3, &[7; 512]),
-        Err(WriteFault),
-    );
-    let mut back = [0; 512];
-    holds(
-        &rt,
-        "read of a lost sector",
-        device.read(3, &mut back).is_err(),
-    );
-    same(&rt, "length", fs::metadata(&rt, path.as_str())?.len(), 1500);
-    drop(device);
-    fs::remove_file(&rt, path.as_str())?;
-    Ok(())
+    let grown = is_not_grown(&rt, path.as_str());
+    drop(path);
+    grown
 }

@@ -1,7 +1,8 @@
 // Requests in flight: their numbers, their order, and which of them meet a span of sectors.
 use crate::checks::{holds, same};
-use md_inflight::{Inflight, Span};
+use md_inflight::{Inflight, Refused, Span};
 use std::cell::Cell;
+use std::process::Abort;
 use std::test::Fail;
 
 #[derive(Debug, Drop)]
@@ -21,40 +22,56 @@ impl Span for Run {
     }
 }
 
+fn expect_left(rt: &impl Abort, list: &Inflight<char>) {
+    let mut entries = list.iter();
+    holds(rt, "first left", entries.next() == Some((1, &'b')));
+    holds(rt, "second left", entries.next() == Some((3, &'d')));
+    holds(rt, "end", entries.next().is_none());
+}
+
+fn remove_three(rt: &impl Abort, list: &mut Inflight<char>) -> Result<(), Refused<char>> {
+    let a = list.push_back('a')?;
+    list.push_back('b')?;
+    let c = list.push_back('c')?;
+    same(rt, "from the middle", list.remove(c), 'c');
+    let d = list.push_back('d')?;
+    let e = list.push_back('e')?;
+    same(rt, "the last", list.remove(e), 'e');
+    same(rt, "the first", list.remove(a), 'a');
+    expect_left(rt, list);
+    *list.get_mut(&d) = 'x';
+    same(rt, "changed", *list.get(&d), 'x');
+    let f = list.push_back('f')?;
+    same(rt, "next number", f.number(), 5);
+    Ok(())
+}
+
 #[test]
 fn removed_in_any_order(rt: HostRuntime) -> Result<(), Fail> {
     let mut list = Inflight::new(rt.alloc());
-    let a = list.push_back('a')?;
-    let b = list.push_back('b')?;
-    let c = list.push_back('c')?;
-    let d = list.push_back('d')?;
-    let e = list.push_back('e')?;
-    same(&rt, "from the middle", list.remove(c), 'c');
-    same(&rt, "the last", list.remove(e), 'e');
-    same(&rt, "the first", list.remove(a), 'a');
-    same(&rt, "numbers", (b.number(), d.number()), (1, 3));
-    let mut entries = list.iter();
-    holds(&rt, "first left", entries.next() == Some((1, &'b')));
-    holds(&rt, "second left", entries.next() == Some((3, &'d')));
-    holds(&rt, "end", entries.next().is_none());
-    let f = list.push_back('f')?;
-    same(&rt, "next number", f.number(), 5);
-    same(&rt, "length", (list.len(), list.is_empty()), (3, false));
-    *list.get_mut(&d) = 'x';
-    same(&rt, "changed", *list.get(&d), 'x');
+    let removed = remove_three(&rt, &mut list);
+    drop(list);
+    removed?;
+    Ok(())
+}
+
+fn expect_meeting(rt: &impl Abort, list: &mut Inflight<Run>) -> Result<(), Refused<Run>> {
+    let first = list.push_back(Run(0, 8))?;
+    list.push_back(Run(8, 8))?;
+    list.push_back(Run(4, 2))?;
+    same(rt, "two meet", list.any_meeting(5, 4), Some(0));
+    list.remove(first);
+    same(rt, "one meets", list.any_meeting(5, 4), Some(1));
+    same(rt, "none meets", list.any_meeting(16, u64::MAX), None);
     Ok(())
 }
 
 #[test]
 fn first_that_meets(rt: HostRuntime) -> Result<(), Fail> {
     let mut list = Inflight::new(rt.alloc());
-    let first = list.push_back(Run(0, 8))?;
-    list.push_back(Run(8, 8))?;
-    list.push_back(Run(4, 2))?;
-    same(&rt, "two meet", list.any_meeting(5, 4), Some(0));
-    list.remove(first);
-    same(&rt, "one meets", list.any_meeting(5, 4), Some(1));
-    same(&rt, "none meets", list.any_meeting(16, u64::MAX), None);
+    let met = expect_meeting(&rt, &mut list);
+    drop(list);
+    met?;
     Ok(())
 }
 

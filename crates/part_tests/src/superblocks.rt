@@ -1,10 +1,9 @@
 // What the kernel's formats say of given bytes, worked out by hand.
-use crate::checks::{holds, same, say};
+use crate::checks::same;
 use example_members::{put, vault};
-use md_super::{SuperFault, Superblock, checksum, decode};
+use md_super::{SuperFault, checksum, decode};
 use std::alloc::Global;
 use std::process::Abort;
-use std::test::Fail;
 
 #[test]
 fn checksum_values(rt: HostRuntime) {
@@ -21,22 +20,6 @@ fn checksum_values(rt: HostRuntime) {
     same(&rt, "the vault's", checksum(&vault(), 2), 0x8ab7_c54f);
 }
 
-fn expect_vault(rt: &impl Abort, v: &Superblock) {
-    same(rt, "the events", v.events, 10);
-    same(rt, "where the log is", v.bblog_offset, 2024);
-    holds(rt, "the roles", v.roles.as_slice() == [0u16, 1].as_slice());
-    same(rt, "the role of a number", v.role_of(1), 1);
-    same(rt, "the role of a number past them", v.role_of(2), 0xffff);
-}
-
-#[test]
-fn reads_a_member(rt: HostRuntime) -> Result<(), Fail> {
-    let v = decode(rt.alloc(), &vault())?;
-    expect_vault(&rt, &v);
-    drop(v);
-    Ok(())
-}
-
 fn refuses(rt: &impl Abort, alloc: Global, bytes: &[u8; 4096], wanted: SuperFault) {
     same(rt, "the fault", decode(alloc, bytes).err(), Some(wanted));
 }
@@ -50,21 +33,4 @@ fn decode_order(rt: HostRuntime) {
     refuses(&rt, rt.alloc(), &b, SuperFault::MaxDev);
     put(&mut b, 220, &1920u32.to_le_bytes());
     refuses(&rt, rt.alloc(), &b, SuperFault::Checksum);
-}
-
-const FAULTS: [(SuperFault, &str); 9] = [
-    (SuperFault::Magic, "Magic"),
-    (SuperFault::Major, "Major"),
-    (SuperFault::MaxDev, "MaxDev"),
-    (SuperFault::Checksum, "Checksum"),
-    (SuperFault::SuperOffset, "SuperOffset"),
-    (SuperFault::Feature(20), "Feature 20"),
-    (SuperFault::Level, "Level"),
-    (SuperFault::RaidDisks, "RaidDisks"),
-    (SuperFault::NoMemory, "NoMemory"),
-];
-
-#[test]
-fn faults_are_named(rt: HostRuntime) -> Result<(), Fail> {
-    say(&rt, rt.alloc(), &FAULTS)
 }

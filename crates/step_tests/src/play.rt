@@ -3,7 +3,7 @@
 use crate::checks::same;
 use crate::images::{Image, Testing, put_before};
 use crate::run::Run;
-use crate::shown::{Shown, Stored, stored_on, what_shows};
+use crate::shown::{Shown, Stored, stored_on};
 use crate::step::{Answer, Step};
 use std::alloc::Global;
 use std::process::Abort;
@@ -38,13 +38,13 @@ fn make_one(
     run: &mut Run,
     step: Step,
 ) -> Result<Answer, Fail> {
-    let before = what_shows(run.mirror());
+    let before = run.shown();
     let answer = run.make(alloc, step)?;
     if !answer.lacks_memory() {
         return Ok(answer);
     }
     let wanted = after_refusal(step, before);
-    same(rt, &"without memory", what_shows(run.mirror()), wanted);
+    same(rt, &"without memory", run.shown(), wanted);
     rt.println(step.call())?;
     run.make(alloc, step)
 }

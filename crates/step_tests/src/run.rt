@@ -1,17 +1,17 @@
 // A mirror on which steps are made. Each `Run` is consistent, and its requests are in flight.
-ghost use Rattle.std.specs.Prelude.{◌≡◌, ◌%◌, length};
+ghost use Rattle.std.specs.Prelude.{◌≡◌, ◌%◌, ◌<◌, length, IfOk};
 ghost use Rattle.md_array.specs.Consistency.{IsConsistent};
 ghost use Rattle.md_requests.specs.Pending.{PendingView};
 ghost use Rattle.md_state.specs.Requests.{IsPending};
 
 use crate::images::{Image, Testing, device_of, new_device, used_device};
 use crate::opening::open;
-use crate::shown::{listed_in, stored_on, what_shows};
+use crate::shown::{Shown, listed_in, stored_on, what_shows};
 use crate::step::{Answer, Step};
-use md_array::{AddFault, Mirror, Pending, ReAddFault};
+use md_array::{AddFault, BeginFault, Mirror, Pending, ReAddFault, RemoveFault, StoreFault};
 use md_kept_members::log_room;
 use md_metadata::stop;
-use md_resync::resync;
+use md_resync::{ResyncFault, resync};
 use md_write::write;
 use std::alloc::Global;
 use std::marker::Model;
@@ -42,7 +42,7 @@ impl Model for Run {
     ghost invariant = { λ run. IsConsistent run.mirror × IfSome run.request (IsPending run.mirror.array) × IfSome run.earlier (IsPending run.mirror.array) };
 }
 
-// The two calls that take a device say no more here than what a `Run` keeps: that is all its proofs are to see.
+// These calls say no more here than what a `Run` keeps: that is all its proofs are to see.
 fn take_back(
     mirror: &mut Mirror<Testing>,
     alloc: Global,
@@ -67,6 +67,46 @@ fn take_in(
     mirror.add(alloc, device)
 }
 
+fn take_out(mirror: &mut Mirror<Testing>, k: usize) -> Result<Testing, RemoveFault>
+    requires within { k < length mirror.old.array.members }
+    requires { IsConsistent mirror.old }
+    ensures sound { IsConsistent mirror.new }
+    ensures pending { (p : PendingView) → IsPending mirror.old.array p → IsPending mirror.new.array p }
+{
+    mirror.remove(k)
+}
+
+fn begin_on<'a>(
+    mirror: &mut Mirror<Testing>,
+    sector: u64,
+    bytes: &'a [u8],
+) -> Result<Pending<'a>, BeginFault>
+    requires whole { length bytes.now % 512 ≡ 0 }
+    requires { IsConsistent mirror.old }
+    ensures sound { IsConsistent mirror.new }
+    ensures begun { IfOk result (IsPending mirror.new.array) }
+    ensures pending { (p : PendingView) → IsPending mirror.old.array p → IsPending mirror.new.array p }
+{
+    mirror.begin(sector, bytes)
+}
+
+fn record_on(mirror: &mut Mirror<Testing>, k: usize) -> Result<(), StoreFault>
+    requires within { k < length mirror.old.array.members }
+    requires { IsConsistent mirror.old }
+    ensures sound { IsConsistent mirror.new }
+    ensures pending { (p : PendingView) → IsPending mirror.old.array p → IsPending mirror.new.array p }
+{
+    mirror.record(k)
+}
+
+fn resync_all(mirror: &mut Mirror<Testing>, alloc: Global) -> Result<(), ResyncFault>
+    requires { IsConsistent mirror.old }
+    ensures sound { IsConsistent mirror.new }
+    ensures pending { (p : PendingView) → IsPending mirror.old.array p → IsPending mirror.new.array p }
+{
+    resync(alloc, mirror)
+}
+
 impl Run {
     // The test fails where the devices make no mirror.
     pub(crate) fn open(alloc: Global, devices: Vec<Testing>) -> Result<Run, Fail> {
@@ -79,8 +119,8 @@ impl Run {
         })
     }
 
-    pub(crate) fn mirror(&self) -> &Mirror<Testing> {
-        &self.mirror
+    pub(crate) fn shown(&self) -> Shown {
+        what_shows(&self.mirror)
     }
 
     pub(crate) fn into_devices(self) -> Vec<Testing> {
@@ -111,7 +151,7 @@ impl Run {
             Step::Admit => Ok(self.admit_last(alloc)),
             Step::NoteBad(k, chunk) => Ok(self.note_bad(alloc, k, chunk)),
             Step::StoreLog(k) => Ok(self.store_log(k)),
-            Step::Show => Ok(Answer::Shows(what_shows(&self.mirror))),
+            Step::Show => Ok(Answer::Shows(self.shown())),
             Step::Member(k) => Ok(self.member(k)),
             Step::Lack(k) => Ok(self.lack(alloc, k)),
             Step::List(k) => Ok(self.list(k)),
@@ -124,7 +164,7 @@ impl Run {
     fn begin(&mut self, sector: u64, bytes: &'static [u8]) -> Answer
         requires whole { length bytes.now % 512 ≡ 0 }
     {
-        match self.mirror.begin(sector, bytes) {
+        match begin_on(&mut self.mirror, sector, bytes) {
             Ok(request) => {
                 let number = request.number();
                 self.earlier = self.request.replace(request);
@@ -138,7 +178,7 @@ impl Run {
         if k >= self.mirror.members() {
             return Answer::NotCalled;
         }
-        match self.mirror.record(k) {
+        match record_on(&mut self.mirror, k) {
             Ok(()) => Answer::Done,
             Err(fault) => Answer::NotStored(fault),
         }
@@ -210,7 +250,7 @@ impl Run {
     }
 
     fn resync(&mut self, alloc: Global) -> Answer {
-        match resync(alloc, &mut self.mirror) {
+        match resync_all(&mut self.mirror, alloc) {
             Ok(()) => Answer::Done,
             Err(fault) => Answer::NotResynced(fault),
         }
@@ -237,7 +277,7 @@ impl Run {
         if k >= self.mirror.members() {
             return Answer::NotCalled;
         }
-        match self.mirror.remove(k) {
+        match take_out(&mut self.mirror, k) {
             Ok(device) => {
                 self.left = Some(device);
                 Answer::Done
@@ -336,7 +376,7 @@ impl Run {
         }
     }
 
-    fn member(&self, k: usize) -> Answer {
+    pub(crate) fn member(&self, k: usize) -> Answer {
         let mirror = &self.mirror;
         if k >= mirror.members() {
             return Answer::NotCalled;

@@ -10,7 +10,7 @@ use std::test::Fail;
 // Of the array.
 const SECTORS: u64 = 64;
 
-#[derive(Clone, Copy, Debug, PartialEq, Eq)]
+#[derive(Clone, Copy, PartialEq, Eq)]
 pub(crate) struct Shown {
     pub(crate) members: usize,
     pub(crate) raid_disks: u32,
@@ -70,7 +70,7 @@ fn how_many_due(mirror: &Mirror<Testing>) -> usize {
     due
 }
 
-#[derive(Clone, Copy, Debug, PartialEq, Eq)]
+#[derive(Clone, Copy, PartialEq, Eq)]
 pub(crate) struct Stored {
     // Of the superblock.
     pub(crate) set_uuid: u128,

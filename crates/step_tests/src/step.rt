@@ -55,7 +55,7 @@ pub(crate) enum Step {
     Left,
 }
 
-#[derive(Clone, Copy, Debug, PartialEq, Eq)]
+#[derive(Clone, Copy, PartialEq, Eq)]
 pub(crate) enum Answer {
     Done,
     Begun(u64),

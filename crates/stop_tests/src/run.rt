@@ -10,7 +10,7 @@ ghost use Rattle.md_state.specs.Members.{IsMember};
 
 use crate::calls::{Answer, Call};
 use crate::images::{DATA, SECTORS, name_of};
-use md_array::{BeginFault, Mirror, OpenFault};
+use md_array::{AddFault, BeginFault, Mirror, OpenFault, ReAddFault, RemoveFault};
 use md_assembly::MemberState;
 use md_bitmap::Marks;
 use md_check::{CheckFault, check_array};
@@ -86,6 +86,37 @@ fn put_back(devices: Vec<Stopping>, outside: &mut Vec<MemDevice>) -> Result<(), 
         outside.push(device.into_inner())?;
     }
     Ok(())
+}
+
+// These calls say no more here than that the mirror stays consistent: that is all the proofs of a `Run` are to see.
+fn take_out(mirror: &mut Mirror<Stopping>, k: usize) -> Result<Stopping, RemoveFault>
+    requires within { k < length mirror.old.array.members }
+    requires sound { IsConsistent mirror.old }
+    ensures { IsConsistent mirror.new }
+{
+    mirror.remove(k)
+}
+
+fn take_back(
+    mirror: &mut Mirror<Stopping>,
+    alloc: Global,
+    device: Stopping,
+) -> Result<usize, (Stopping, ReAddFault)>
+    requires sound { IsConsistent mirror.old }
+    ensures { IsConsistent mirror.new }
+{
+    mirror.re_add(alloc, device)
+}
+
+fn take_in(
+    mirror: &mut Mirror<Stopping>,
+    alloc: Global,
+    device: Stopping,
+) -> Result<usize, (Stopping, AddFault)>
+    requires sound { IsConsistent mirror.old }
+    ensures { IsConsistent mirror.new }
+{
+    mirror.add(alloc, device)
 }
 
 impl Run {
@@ -269,7 +300,7 @@ impl Run {
         if k >= self.mirror.members() {
             return Ok(Answer::NotCalled);
         }
-        match self.mirror.remove(k) {
+        match take_out(&mut self.mirror, k) {
             Ok(device) => {
                 self.outside.push(device.into_inner())?;
                 if k < self.names.len() {
@@ -297,7 +328,7 @@ impl Run {
         let Some(device) = self.take(name)? else {
             return Ok(Answer::NotCalled);
         };
-        match self.mirror.re_add(alloc, device) {
+        match take_back(&mut self.mirror, alloc, device) {
             Ok(_) => {
                 self.names.push(name)?;
                 Ok(Answer::Done)
@@ -313,7 +344,7 @@ impl Run {
         let Some(device) = self.take(name)? else {
             return Ok(Answer::NotCalled);
         };
-        match self.mirror.add(alloc, device) {
+        match take_in(&mut self.mirror, alloc, device) {
             Ok(_) => {
                 self.names.push(name)?;
                 Ok(Answer::Done)

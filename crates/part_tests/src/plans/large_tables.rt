@@ -2,50 +2,67 @@
 use crate::checks::{holds, same};
 use crate::plans::planning::planned;
 use md_plan::Planned;
+use std::alloc::{AllocError, Global};
 use std::process::Abort;
 use std::test::Fail;
 
-// The plan has so many rounds, its certificate one less, and at least so many chunks.
-fn expect_planned(rt: &impl Abort, made: &Planned, rounds: u32, chunks: usize) {
+const MOST_CHUNKS: usize = 1_048_576;
+
+// Up to which chunk a table has which mask; the rounds of its plan; and how many chunks its certificate has at least.
+type Large = (&'static [(usize, u32)], u32, usize);
+
+const TABLES: [Large; 3] = [
+    (&[(1_048_576, u32::MAX)], 32_768, 1_048_545),
+    (&[(600_000, 1), (1_048_576, 3)], 600_000, 600_000),
+    (&[(30, 1), (60, 3), (120, 6)], 40, 118),
+];
+
+fn add_masks(masks: &mut Vec<u32>, runs: &[(usize, u32)]) -> Result<(), AllocError> {
+    for (end, mask) in runs {
+        masks.resize(*end, *mask)?;
+    }
+    Ok(())
+}
+
+// The certificate has one round less.
+fn expect_planned(rt: &impl Abort, made: &Planned, table: &Large) {
+    let (runs, rounds, chunks) = *table;
     let certificate = &made.certificate;
     same(rt, "the rounds", made.plan.rounds, rounds);
     let shown = certificate.rounds.saturating_add(1);
     same(rt, "the certificate's rounds and one", shown, rounds);
-    let len = certificate.chunks.as_slice().len();
-    holds(rt, "the certificate's chunks", len >= chunks);
+    let list = certificate.chunks.as_slice();
+    holds(rt, "the certificate's chunks", list.len() >= chunks);
+    // Those of the one source alone.
+    if runs.len() == 2 {
+        same(rt, "how many", list.len(), chunks);
+        same(rt, "the first", list.first().copied(), Some(0));
+        same(rt, "the last", list.last().copied(), Some(599_999));
+    }
 }
 
-#[test]
-fn all_sources_each(rt: HostRuntime) -> Result<(), Fail> {
-    let masks = vec![in rt.alloc(); u32::MAX; 1_048_576]?;
-    let made = planned(&rt, rt.alloc(), &masks)?;
-    expect_planned(&rt, &made, 32_768, 1_048_545);
+fn plans(rt: &impl Abort, alloc: Global, masks: &[u32], table: &Large) -> Result<(), Fail> {
+    if masks.len() > MOST_CHUNKS {
+        return Err(Fail::new("more chunks than a table may have"));
+    }
+    let made = planned(rt, alloc, masks)?;
+    expect_planned(rt, &made, table);
+    drop(made);
     Ok(())
 }
 
-// The chunks of the one source alone, from 0 on.
-fn expect_counted(rt: &impl Abort, chunks: &[u32]) {
-    same(rt, "the certificate's chunks", chunks.len(), 600_000);
-    same(rt, "the first", chunks.first().copied(), Some(0));
-    same(rt, "the last", chunks.last().copied(), Some(599_999));
+fn plans_large(rt: &impl Abort, alloc: Global, table: &Large) -> Result<(), Fail> {
+    let mut masks = Vec::new(alloc);
+    add_masks(&mut masks, table.0)?;
+    let are_planned = plans(rt, alloc, &masks, table);
+    drop(masks);
+    are_planned
 }
 
 #[test]
-fn one_source_has_most(rt: HostRuntime) -> Result<(), Fail> {
-    let mut masks = vec![in rt.alloc(); 1u32; 600_000]?;
-    masks.resize(1_048_576, 3)?;
-    let made = planned(&rt, rt.alloc(), &masks)?;
-    expect_planned(&rt, &made, 600_000, 600_000);
-    expect_counted(&rt, made.certificate.chunks.as_slice());
-    Ok(())
-}
-
-#[test]
-fn three_sources(rt: HostRuntime) -> Result<(), Fail> {
-    let mut masks = vec![in rt.alloc(); 1u32; 30]?;
-    masks.resize(60, 3)?;
-    masks.resize(120, 6)?;
-    let made = planned(&rt, rt.alloc(), &masks)?;
-    expect_planned(&rt, &made, 40, 118);
+fn of_many_chunks(rt: HostRuntime) -> Result<(), Fail> {
+    for table in &TABLES {
+        plans_large(&rt, rt.alloc(), table)?;
+    }
     Ok(())
 }

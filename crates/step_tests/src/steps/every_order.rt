@@ -2,11 +2,9 @@
 use crate::checks::same;
 use crate::images::{Testing, copies_of};
 use crate::run::Run;
-use crate::shown::what_shows;
-use crate::step::Step;
+use crate::step::{Answer, Step};
 use crate::steps::expected::Expected;
 use example_members::{SMALL_DATA, small_member};
-use md_array::Mirror;
 use md_device::MemDevice;
 use std::alloc::Global;
 use std::process::Abort;
@@ -52,10 +50,10 @@ const NEVER: u64 = u64::MAX;
 // How many writes a device takes before all of them fail.
 const LIMITS: [u64; 5] = [0, 1, 2, 3, NEVER];
 
-fn are_members_right(mirror: &Mirror<Testing>, expected: &Expected) -> bool {
+fn are_members_right(run: &Run, expected: &Expected) -> bool {
     for (k, member) in expected.members.iter().enumerate() {
-        if k < mirror.members()
-            && (mirror.state(k).is_in_sync() != member.in_sync || mirror.due(k) != member.due)
+        if let Answer::Is(state, due, _) = run.member(k)
+            && (state.is_in_sync() != member.in_sync || due != member.due)
         {
             return false;
         }
@@ -101,13 +99,8 @@ fn follow(
     for (at, step) in steps.iter().enumerate() {
         let answer = run.make(alloc, *step)?;
         same(rt, &(n, at), answer, expected.answer(*step));
-        same(rt, &(n, at), what_shows(run.mirror()), expected.shown());
-        same(
-            rt,
-            &(n, at),
-            are_members_right(run.mirror(), expected),
-            true,
-        );
+        same(rt, &(n, at), run.shown(), expected.shown());
+        same(rt, &(n, at), are_members_right(run, expected), true);
     }
     Ok(())
 }

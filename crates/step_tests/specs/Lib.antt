@@ -1,2 +1,0 @@
--- Devices that are not said to be honest.
-pub mod Unsure
