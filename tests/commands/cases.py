@@ -260,6 +260,17 @@ TWO_LONG = {"a": bytes((2048 + LONG) * SECTOR), "b": bytes((2048 + LONG) * SECTO
 THREE = {"a": ZEROS, "b": ZEROS, "c": ZEROS}
 
 
+def lacks(sector):
+    """ddrescue's map of a small image that lacks this sector of its data."""
+    at = (2048 + sector) * SECTOR
+    blocks = (0, at, "+"), (at, SECTOR, "-"), (at + SECTOR, len(ZEROS) - at - SECTOR, "+")
+    return ("0 + 1\n" + "".join("0x%x 0x%x %s\n" % block for block in blocks)).encode()
+
+
+# The maps are files beside the images.
+TWO_MAPPED = dict(TWO, early=lacks(8), late=lacks(9), cut=b"0 + 1\n0 4096 +")
+
+
 def create(level, devices, chunk, images, **answer):
     words = "create --level %s --raid-devices %s --uuid %s --bitmap-chunk %s %s" % (level, devices, SET, chunk, images)
     return Step(words, **answer)
@@ -487,6 +498,22 @@ CASES = [
             Step("read --sector 0 --count %d a b" % LONG, NUMBERED[: LOST * SECTOR], fault="Unreadable %d" % LOST),
             # So many are put out whole or not at all.
             Step("read --sector 8 --count %d a b" % PIECE, fault="Unreadable %d" % LOST),
+        ],
+    ),
+    (
+        "copies that lack what other disks give",
+        TWO_MAPPED,
+        [
+            create("raid1", 2, 4, "--assume-clean a b", output=CLEAN, changes="a b"),
+            Made("a", "a", lambda image: members.with_data(image, 8, DATA)),
+            Step("read --sector 8 --count 2 --map a=late --map b=early a b", DATA[:SECTOR].decode() + BLANK[SECTOR:]),
+            Step("read --readonly --sector 8 --count 2 --map b=late a b", DATA.decode()),
+            Step("read --sector 8 --count 2 --map a=late --map b=late a b", fault="Unreadable 9"),
+            Step("check --map b=late a b", fault="ReadFault 1 1"),
+            Step("detail --map a=cut a b", fault="BadMap 0 Line 2 Cut"),
+            Step("detail --map a=late --map c=late a b", fault="BadMap 1 NotListed"),
+            Step("detail --map a=late --map a=late a b", fault="BadMap 1 Repeated"),
+            Step("detail --map a=none a b", fault="BadMap 0 Unread"),
         ],
     ),
     (

@@ -35,11 +35,10 @@ fn map_texts(alloc: Global, text: &[u8]) -> Result<Vec<MapText>, AllocError> {
 }
 
 // The second image is under a map.
-fn masked(alloc: Global, text: &[u8]) -> Result<Masked, MapsFault> {
-    let (Ok(images), Ok(maps)) = (images(alloc), map_texts(alloc, text)) else {
-        return Err(MapsFault::NoMemory);
-    };
-    mask_images(alloc, images, &NAMES, &maps)
+fn masked(alloc: Global, text: &[u8]) -> Result<Result<Masked, MapsFault>, AllocError> {
+    let images = images(alloc)?;
+    let maps = map_texts(alloc, text)?;
+    Ok(mask_images(alloc, images, &NAMES, &maps))
 }
 
 // Whether a sector of an image is given. Its device is put back.
@@ -71,8 +70,8 @@ fn shows(rt: &impl Abort, images: &mut Masked, wanted: &[(&str, u64, bool)]) {
 
 #[test]
 fn a_mask_is_kept_with_its_image(rt: HostRuntime) -> Result<(), Fail> {
-    let Ok(mut images) = masked(rt.alloc(), MAP) else {
-        return Err(Fail::new("no memory"));
+    let Ok(mut images) = masked(rt.alloc(), MAP)? else {
+        return Err(Fail::new("no memory: mask_images"));
     };
     shows(
         &rt,
@@ -93,58 +92,83 @@ fn a_mask_is_kept_with_its_image(rt: HostRuntime) -> Result<(), Fail> {
 }
 
 // The name of a refusal.
-fn refused(alloc: Global, text: &[u8]) -> &'static str {
-    match masked(alloc, text) {
+fn refused(alloc: Global, text: &[u8]) -> Result<&'static str, Fail> {
+    match masked(alloc, text)? {
         Ok(images) => {
             drop(images);
-            "taken"
+            Ok("taken")
         }
-        Err(MapsFault::BadMap(0, MapRefusal::Map(MapFault::EndsAt(4096)))) => "ends",
-        Err(MapsFault::BadMap(
-            0,
-            MapRefusal::Map(MapFault::Line {
-                number: 2,
-                fault: LineFault::PastEnd,
-            }),
-        )) => "past the end",
-        Err(_) => "another fault",
+        Err(MapsFault::BadMap(0, MapRefusal::Map(MapFault::EndsAt(4096)))) => Ok("ends"),
+        Err(
+            MapsFault::BadMap(
+                0,
+                MapRefusal::Map(
+                    MapFault::Line {
+                        number: 2,
+                        fault: LineFault::PastEnd,
+                    },
+                ),
+            ),
+        ) => Ok("past the end"),
+        Err(MapsFault::NoMemory) => Err(Fail::new("no memory: mask_images")),
+        Err(_) => Ok("another fault"),
     }
 }
 
 #[test]
 fn a_map_is_of_the_whole_image(rt: HostRuntime) -> Result<(), Fail> {
     let alloc = rt.alloc();
-    same_at(&rt, &"the map", refused(alloc, MAP), "taken");
-    same_at(&rt, &"a short one", refused(alloc, b"0x0 + 1\n0 4096 +\n"), "ends");
-    same_at(&rt, &"a long one", refused(alloc, b"0x0 + 1\n0 8704 +\n"), "past the end");
+    same_at(&rt, &"the map", refused(alloc, MAP)?, "taken");
+    same_at(
+        &rt,
+        &"a short one",
+        refused(alloc, b"0x0 + 1\n0 4096 +\n")?,
+        "ends",
+    );
+    same_at(
+        &rt,
+        &"a long one",
+        refused(alloc, b"0x0 + 1\n0 8704 +\n")?,
+        "past the end",
+    );
     Ok(())
 }
 
 // What words name: the image and the file of the last, or the name of a refusal and the word that it is about.
-fn named<'a>(alloc: Global, words: &[&'a str]) -> (&'a str, usize) {
+fn named<'a>(alloc: Global, words: &[&'a str]) -> Result<(&'a str, usize), Fail> {
     match map_list(alloc, &NAMES, words) {
         Ok(list) => match list.last() {
-            Some(word) => (word.file, word.image),
-            None => ("", 0),
+            Some(word) => Ok((word.file, word.image)),
+            None => Ok(("", 0)),
         },
-        Err(MapsFault::BadMap(word, MapRefusal::NotListed)) => ("not listed", word),
-        Err(MapsFault::BadMap(word, MapRefusal::Repeated)) => ("repeated", word),
-        Err(_) => ("another fault", 0),
+        Err(MapsFault::BadMap(word, MapRefusal::NotListed)) => Ok(("not listed", word)),
+        Err(MapsFault::BadMap(word, MapRefusal::Repeated)) => Ok(("repeated", word)),
+        Err(_) => Err(Fail::new("no memory: map_list")),
     }
 }
 
 #[test]
 fn words_name_maps(rt: HostRuntime) -> Result<(), Fail> {
     let alloc = rt.alloc();
-    same_at(&rt, &"one", named(alloc, &["b.img=f=g"]), ("f=g", 1));
-    same_at(&rt, &"two", named(alloc, &["b.img=f", "a.img="]), ("", 0));
-    same_at(&rt, &"none", named(alloc, &[]), ("", 0));
-    same_at(&rt, &"another image", named(alloc, &["a.img=f", "c.img=f"]), ("not listed", 1));
-    same_at(&rt, &"no file", named(alloc, &["a.img"]), ("not listed", 0));
+    same_at(&rt, &"one", named(alloc, &["b.img=f=g"])?, ("f=g", 1));
+    same_at(&rt, &"two", named(alloc, &["b.img=f", "a.img="])?, ("", 0));
+    same_at(&rt, &"none", named(alloc, &[])?, ("", 0));
+    same_at(
+        &rt,
+        &"another image",
+        named(alloc, &["a.img=f", "c.img=f"])?,
+        ("not listed", 1),
+    );
+    same_at(
+        &rt,
+        &"no file",
+        named(alloc, &["a.img"])?,
+        ("not listed", 0),
+    );
     same_at(
         &rt,
         &"the same image",
-        named(alloc, &["b.img=f", "a.img=f", "b.img=g"]),
+        named(alloc, &["b.img=f", "a.img=f", "b.img=g"])?,
         ("repeated", 2),
     );
     Ok(())
