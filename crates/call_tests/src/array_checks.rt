@@ -19,26 +19,6 @@ const OTHER: Member = Member {
     ..SECOND
 };
 
-// Of three roles. The first lists a sector.
-const FIRST_OF_THREE: Member = Member {
-    raid_disks: 3,
-    third: Some(2),
-    listed: (20, 1),
-    ..ONE
-};
-
-const SECOND_OF_THREE: Member = Member {
-    number: 1,
-    listed: (0, 0),
-    ..FIRST_OF_THREE
-};
-
-const THIRD_OF_THREE: Member = Member {
-    number: 2,
-    data: Data(Filling::Same(7), (20, 1, 8), (41, 1, 8)),
-    ..SECOND_OF_THREE
-};
-
 const CHECK_COUNTS: [Row; 2] = [
     Row {
         members: &[ONE, OTHER],
@@ -69,59 +49,7 @@ fn check_counts(rt: HostRuntime) -> Result<(), Fail> {
     play(&rt, rt.alloc(), &CHECK_COUNTS)
 }
 
-const ROWS: [Row; 11] = [
-    // Two sectors of one chunk count once, those of two chunks twice.
-    Row {
-        members: &[
-            ONE,
-            Member {
-                data: Data(Filling::Same(7), (8, 1, 8), (15, 1, 8)),
-                ..OTHER
-            },
-        ],
-        calls: &[(Call::Check, Answer::Counts(1))],
-        ..ROW
-    },
-    Row {
-        members: &[
-            ONE,
-            Member {
-                data: Data(Filling::Same(7), (7, 1, 8), (8, 1, 8)),
-                ..OTHER
-            },
-        ],
-        calls: &[(Call::Check, Answer::Counts(2))],
-        ..ROW
-    },
-    Row {
-        members: &[
-            ONE,
-            Member {
-                data: Data(Filling::Same(7), (0, 1, 8), (63, 1, 8)),
-                ..OTHER
-            },
-        ],
-        calls: &[(Call::Check, Answer::Counts(2))],
-        ..ROW
-    },
-    // Any two of three members: the last two where the first lists the sector, and the first and the last.
-    Row {
-        members: &[FIRST_OF_THREE, SECOND_OF_THREE, THIRD_OF_THREE],
-        calls: &[(Call::Check, Answer::Counts(2))],
-        ..ROW
-    },
-    Row {
-        members: &[
-            FIRST_OF_THREE,
-            Member {
-                listed: (20, 22),
-                ..SECOND_OF_THREE
-            },
-            THIRD_OF_THREE,
-        ],
-        calls: &[(Call::Check, Answer::Counts(1))],
-        ..ROW
-    },
+const ROWS: [Row; 6] = [
     // With one member in sync nothing differs, and nothing is read.
     Row {
         members: &[Member { bad: (0, 1), ..ONE }],

@@ -11,8 +11,6 @@ mod checks;
 #[cfg(test)]
 mod data;
 #[cfg(test)]
-mod everywhere;
-#[cfg(test)]
 mod failing_reads;
 #[cfg(test)]
 mod gates;

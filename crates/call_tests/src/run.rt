@@ -1,5 +1,6 @@
 // A mirror on which whole calls are made. Each `Run` is consistent.
 ghost use Rattle.std.specs.Prelude.{◌≡◌, ◌%◌, length};
+ghost use Rattle.md_array.specs.Consistency.{IsConsistent};
 
 use crate::call::{Answer, Call, NOT_MISSING, Shown};
 use crate::data::{Data, WHOLE};
@@ -12,7 +13,7 @@ use md_cert::Table;
 use md_check::{CheckFault, check_array};
 use md_copy::{Gate, RebuildFault, Rebuilt, rebuild, table};
 use md_metadata::stop;
-use md_read::{read, read_unresynced};
+use md_read::{UnresyncedFault, read, read_unresynced};
 use md_resync::resync;
 use md_write::write;
 use std::alloc::Global;
@@ -39,6 +40,19 @@ impl Model for Run {
     ghost view = { λ _. tt };
 
     ghost invariant = { λ run. IsConsistent run.mirror };
+}
+
+// It says no more here than that the mirror stays consistent: that is all the proofs of a `Run` are to see.
+fn give_unresynced(
+    mirror: &mut Mirror<Testing>,
+    sector: u64,
+    bytes: &mut [u8],
+) -> Result<(), UnresyncedFault>
+    requires whole { length bytes.old % 512 ≡ 0 }
+    requires sound { IsConsistent mirror.old }
+    ensures { IsConsistent mirror.new }
+{
+    read_unresynced(mirror, sector, bytes)
 }
 
 impl Run {
@@ -125,7 +139,7 @@ impl Run {
         let Some(bytes) = bytes.get_mut(..count.min(64) * 512) else {
             return Answer::NotCalled;
         };
-        let answer = match read_unresynced(&mut self.mirror, sector, bytes) {
+        let answer = match give_unresynced(&mut self.mirror, sector, bytes) {
             Ok(()) => Answer::Done,
             Err(fault) => Answer::NotReadUnresynced(fault),
         };

@@ -132,19 +132,9 @@ const SECOND_FAILS: Row = Row {
 };
 
 // A member's writes are its mark, the bitmap's first sector again and the superblock, and the bytes.
-const ROWS: [Row; 8] = [
+const ROWS: [Row; 4] = [
     READ_BACK,
     LAST_EVENT,
-    Row {
-        numbers: (1, 2),
-        left: &[Left(10, 0, OLD, Also::Nothing), OTHER],
-        ..FIRST_FAILS
-    },
-    Row {
-        numbers: (2, 4),
-        left: &[Left(10, 1, OLD, Also::Nothing), OTHER],
-        ..FIRST_FAILS
-    },
     Row {
         numbers: (4, 5),
         left: &[Left(11, 1, OLD, Also::Nothing), OTHER],
@@ -153,16 +143,6 @@ const ROWS: [Row; 8] = [
     Row {
         numbers: (1, 2),
         left: &[OTHER, Left(10, 0, OLD, Also::Nothing)],
-        ..SECOND_FAILS
-    },
-    Row {
-        numbers: (2, 4),
-        left: &[OTHER, Left(10, 1, OLD, Also::Nothing)],
-        ..SECOND_FAILS
-    },
-    Row {
-        numbers: (4, 5),
-        left: &[OTHER, Left(11, 1, OLD, Also::Nothing)],
         ..SECOND_FAILS
     },
 ];

@@ -69,7 +69,7 @@ fn take_in(
 
 fn take_out(mirror: &mut Mirror<Testing>, k: usize) -> Result<Testing, RemoveFault>
     requires within { k < length mirror.old.array.members }
-    requires { IsConsistent mirror.old }
+    requires sound { IsConsistent mirror.old }
     ensures sound { IsConsistent mirror.new }
     ensures pending { (p : PendingView) → IsPending mirror.old.array p → IsPending mirror.new.array p }
 {
@@ -82,7 +82,7 @@ fn begin_on<'a>(
     bytes: &'a [u8],
 ) -> Result<Pending<'a>, BeginFault>
     requires whole { length bytes.now % 512 ≡ 0 }
-    requires { IsConsistent mirror.old }
+    requires sound { IsConsistent mirror.old }
     ensures sound { IsConsistent mirror.new }
     ensures begun { IfOk result (IsPending mirror.new.array) }
     ensures pending { (p : PendingView) → IsPending mirror.old.array p → IsPending mirror.new.array p }
@@ -92,7 +92,7 @@ fn begin_on<'a>(
 
 fn record_on(mirror: &mut Mirror<Testing>, k: usize) -> Result<(), StoreFault>
     requires within { k < length mirror.old.array.members }
-    requires { IsConsistent mirror.old }
+    requires sound { IsConsistent mirror.old }
     ensures sound { IsConsistent mirror.new }
     ensures pending { (p : PendingView) → IsPending mirror.old.array p → IsPending mirror.new.array p }
 {
@@ -100,7 +100,7 @@ fn record_on(mirror: &mut Mirror<Testing>, k: usize) -> Result<(), StoreFault>
 }
 
 fn resync_all(mirror: &mut Mirror<Testing>, alloc: Global) -> Result<(), ResyncFault>
-    requires { IsConsistent mirror.old }
+    requires sound { IsConsistent mirror.old }
     ensures sound { IsConsistent mirror.new }
     ensures pending { (p : PendingView) → IsPending mirror.old.array p → IsPending mirror.new.array p }
 {
