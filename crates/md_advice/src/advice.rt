@@ -1,11 +1,9 @@
 // What to do about a fault. The texts are those of docs/FAULTS.md, which a test compares with them.
-use crate::fault::CommandFault;
 use crate::geometry_advice::SMALLEST_IMAGE;
-use crate::option_fault::OptionFault;
 use md_array::{AddFault, BeginFault, FailFault, OpenFault, ReAddFault, RemoveFault};
 use md_assembly::AssembleFault;
 use md_check::CheckFault;
-use md_commands::DataFault;
+use md_commands::{CommandFault, OptionFault};
 use md_copy::RebuildFault;
 use md_create::CreateFault;
 use md_members::MemberFault;
@@ -33,14 +31,29 @@ pub(crate) fn advice(fault: &CommandFault) -> &'static str {
         CommandFault::MetadataFault(_) | CommandFault::Open(OpenFault::MetadataFault(_)) => {
             BEGIN_ANEW
         }
-        CommandFault::Rebuild(fault) => rebuild_advice(*fault),
-        CommandFault::Data(fault) => data_advice(*fault),
         CommandFault::Declined => {
             "nothing was overwritten: name another image, or answer `yes`, which `--run` does"
         }
+        CommandFault::InputFault => "see why its file or program fails; nothing was written",
+        CommandFault::BadLength => "give it a multiple of 512 bytes",
+        CommandFault::OutOfRange => WITHIN_ARRAY,
+        CommandFault::BadMember => {
+            "count the images from 0, in the order in which they are named, or give `--member` an image as it is listed"
+        }
+        CommandFault::Fail(fault) => fail_advice(*fault),
+        CommandFault::Remove(fault) => remove_advice(*fault),
+        CommandFault::Add(fault) => add_advice(*fault),
+        CommandFault::ReAdd(fault) => re_add_advice(*fault),
+        CommandFault::Rebuild(fault) => rebuild_advice(*fault),
+        CommandFault::Resync(fault) => resync_advice(*fault),
+        CommandFault::Check(fault) => check_advice(*fault),
+        CommandFault::Read(fault) => read_advice(*fault),
+        CommandFault::Write(fault) => write_advice(*fault),
+        CommandFault::Stop(fault) => stop_advice(*fault),
         CommandFault::OutputFault => ANOTHER_OUTPUT,
         CommandFault::Create(CreateFault::NoMemory)
         | CommandFault::Open(OpenFault::NoMemory)
+        | CommandFault::NoPieceMemory
         | CommandFault::NoMemory => MORE_MEMORY,
     }
 }
@@ -90,29 +103,6 @@ const NEW_ARRAY: &str = "make a new array, and copy the data to it";
 
 // Of faults that no command gives: no request is in flight in an array that was just opened.
 const AGAIN: &str = "run the command again";
-
-fn data_advice(fault: DataFault) -> &'static str {
-    match fault {
-        DataFault::InputFault => "see why its file or program fails; nothing was written",
-        DataFault::BadLength => "give it a multiple of 512 bytes",
-        DataFault::OutOfRange => WITHIN_ARRAY,
-        DataFault::BadMember => {
-            "count the images from 0, in the order in which they are named, or give `--member` an image as it is listed"
-        }
-        DataFault::Fail(fault) => fail_advice(fault),
-        DataFault::Remove(fault) => remove_advice(fault),
-        DataFault::Add(fault) => add_advice(fault),
-        DataFault::ReAdd(fault) => re_add_advice(fault),
-        DataFault::Rebuild(fault) => rebuild_advice(fault),
-        DataFault::Resync(fault) => resync_advice(fault),
-        DataFault::Check(fault) => check_advice(fault),
-        DataFault::Read(fault) => read_advice(fault),
-        DataFault::Write(fault) => write_advice(fault),
-        DataFault::Stop(fault) => stop_advice(fault),
-        DataFault::NoMemory => MORE_MEMORY,
-        DataFault::OutputFault => ANOTHER_OUTPUT,
-    }
-}
 
 fn fail_advice(fault: FailFault) -> &'static str {
     match fault {

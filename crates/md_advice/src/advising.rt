@@ -1,11 +1,10 @@
 // The line for people after a fault.
 use crate::advice::{LEAVE_SOURCE_OUT, WRITE_IN_PARTS, advice};
-use crate::fault::CommandFault;
 use crate::geometry_advice::geometry_advice;
 use md_array::{AddFault, BeginFault, OpenFault, ReAddFault};
 use md_assembly::AssembleFault;
 use md_check::CheckFault;
-use md_commands::DataFault;
+use md_commands::CommandFault;
 use md_copy::RebuildFault;
 use md_create::CreateFault;
 use md_images::{ImageFault, ImageRefusal, is_missing};
@@ -33,8 +32,16 @@ fn culprit_of(fault: &CommandFault) -> Option<Culprit> {
         CommandFault::MetadataFault(word) => Some(Culprit::Word(*word)),
         CommandFault::Member(_) | CommandFault::NoBitmap => Some(Culprit::Word(0)),
         CommandFault::Open(fault) => culprit_of_opening(*fault),
-        CommandFault::Rebuild(RebuildFault::NotSpare) => Some(Culprit::Named),
-        CommandFault::Data(fault) => culprit_of_data(*fault),
+        CommandFault::Resync(ResyncFault::ReadFault(device, _)) => Some(Culprit::Device(*device)),
+        CommandFault::Resync(ResyncFault::MemberFailed(device)) => Some(Culprit::Device(*device)),
+        CommandFault::Check(CheckFault::ReadFault(device, _)) => Some(Culprit::Device(*device)),
+        CommandFault::Stop(StopFault::MemberFailed(device)) => Some(Culprit::Staying(*device)),
+        CommandFault::Fail(_) => Some(Culprit::Named),
+        CommandFault::Remove(_) => Some(Culprit::Named),
+        CommandFault::Add(AddFault::TooSmall) => Some(Culprit::Named),
+        CommandFault::Add(AddFault::WriteFault) => Some(Culprit::Named),
+        CommandFault::ReAdd(fault) => culprit_of_re_add(*fault),
+        CommandFault::Rebuild(fault) => culprit_of_rebuild(*fault),
         _ => None,
     }
 }
@@ -49,22 +56,6 @@ fn culprit_of_opening(fault: OpenFault) -> Option<Culprit> {
         }
         OpenFault::Assemble(AssembleFault::NoBitmap(device)) => Some(Culprit::Device(device)),
         OpenFault::Assemble(AssembleFault::Geometry(device)) => Some(Culprit::Device(device)),
-        _ => None,
-    }
-}
-
-fn culprit_of_data(fault: DataFault) -> Option<Culprit> {
-    match fault {
-        DataFault::Resync(ResyncFault::ReadFault(device, _)) => Some(Culprit::Device(device)),
-        DataFault::Resync(ResyncFault::MemberFailed(device)) => Some(Culprit::Device(device)),
-        DataFault::Check(CheckFault::ReadFault(device, _)) => Some(Culprit::Device(device)),
-        DataFault::Stop(StopFault::MemberFailed(device)) => Some(Culprit::Staying(device)),
-        DataFault::Fail(_) => Some(Culprit::Named),
-        DataFault::Remove(_) => Some(Culprit::Named),
-        DataFault::Add(AddFault::TooSmall) => Some(Culprit::Named),
-        DataFault::Add(AddFault::WriteFault) => Some(Culprit::Named),
-        DataFault::ReAdd(fault) => culprit_of_re_add(fault),
-        DataFault::Rebuild(fault) => culprit_of_rebuild(fault),
         _ => None,
     }
 }
@@ -143,23 +134,23 @@ fn target_of(command: Command<'_>, names: &[&str]) -> Option<usize> {
 // and for the want of memory on whether an input is held there.
 fn what_to_do(fault: &CommandFault, names: &[&str], command: Command<'_>) -> &'static str {
     match fault {
-        CommandFault::Data(DataFault::Rebuild(RebuildFault::LogFull(device)))
+        CommandFault::Rebuild(RebuildFault::LogFull(device))
             if target_of(command, names) != Some(*device) => { LEAVE_SOURCE_OUT }
         CommandFault::Create(CreateFault::BadGeometry) => match command {
             Command::Create(options) => geometry_advice(&options, names),
             _ => advice(fault),
         },
-        CommandFault::Data(fault) if is_unheld_input(*fault, command) => WRITE_IN_PARTS,
+        fault if is_unheld_input(fault, command) => WRITE_IN_PARTS,
         _ => advice(fault),
     }
 }
 
 // Whether `write` had no memory for its input, or while it wrote it.
-fn is_unheld_input(fault: DataFault, command: Command<'_>) -> bool {
+fn is_unheld_input(fault: &CommandFault, command: Command<'_>) -> bool {
     matches!(command, Command::Write { .. })
         && matches!(
             fault,
-            DataFault::NoMemory | DataFault::Write(BeginFault::NoMemory)
+            CommandFault::NoPieceMemory | CommandFault::Write(BeginFault::NoMemory)
         )
 }
 

@@ -1,6 +1,5 @@
 // What is said where the content of an image is lost.
-use crate::fault::CommandFault;
-use md_commands::DataFault;
+use md_commands::CommandFault;
 use md_words::Command;
 use std::io::Write;
 
@@ -8,9 +7,7 @@ use std::io::Write;
 fn has_added(outcome: &Result<(), CommandFault>) -> bool {
     matches!(
         outcome,
-        Ok(())
-            | Err(CommandFault::Data(DataFault::Stop(_)))
-            | Err(CommandFault::Data(DataFault::OutputFault))
+        Ok(()) | Err(CommandFault::Stop(_)) | Err(CommandFault::OutputFault)
     )
 }
 

@@ -6,7 +6,7 @@ use Rattle.md_commands.specs.declared.source.Source.{Ghosts as SourceGhosts}
 use Rattle.md_examine.specs.declared.sink.Sink.{Ghosts as SinkGhosts}
 use Rattle.md_images.specs.declared.images.Images.{Ghosts as ImagesGhosts}
 use Rattle.md_words.specs.Asks.{Ask, opens_array, examines, examines_bitmap, examines_badblocks, creates}
-use Rattle.md_advice.specs.declared.fault.CommandFault.{CommandFault}
+use Rattle.md_commands.specs.declared.fault.CommandFault.{CommandFault}
 use Rattle.md_cli.specs.Running.{Does, OpensArray}
 use Rattle.md_cli.specs.Streams.{Told}
 

@@ -1,16 +1,14 @@
 -- Reports whose last call passes on what the output holds back.
-use Rattle.std.proofs.Common.{◌≡◌, ◌∙◌, Bool, true, ℕ, List, [], Option, Some, None, Result, Ok, Err, IfOk, MatchResult, sym, subst, inr}
+use Rattle.std.proofs.Common.{◌≡◌, ◌∙◌, Bool, true, ℕ, List, [], Option, Some, None, Result, Ok, Err, IfOk, MatchResult, sym, subst}
 use Rattle.std.specs.Io.KnownBytes.{Appends}
 use Rattle.std.proofs.lemmas.List.{append-nil}
 use Rattle.md_examine.specs.declared.sink.Sink.{Ghosts}
 use Rattle.md_examine.specs.Sink.{Flushes, Puts}
-use Rattle.md_state.specs.View.{ArrayView}
-use Rattle.md_advice.specs.declared.fault.CommandFault.{CommandFault}
-use Rattle.md_advice.specs.declared.fault.CommandFault.TheVariants.{OutputFault}
+use Rattle.md_commands.specs.Output.{ShowsText}
+use Rattle.md_commands.specs.declared.fault.CommandFault.{CommandFault}
+use Rattle.md_commands.specs.declared.fault.CommandFault.TheVariants.{OutputFault}
 use Rattle.md_words.specs.Asks.{Ask}
 use Rattle.md_cli.specs.Examining.{Examines, RefusesOrFails, ShownBy}
-use Rattle.md_cli.specs.RebuildPlans.{IsPlanText}
-use Rattle.md_cli.specs.Reports.{ShowsPlan}
 use Rattle.md_cli.specs.Running.{status_of}
 
 appends_none : (a b c : Option (List ℕ)) (text : List ℕ) → Appends a b text → Appends b c [] → Appends a c text
@@ -35,12 +33,11 @@ module _ {S : Type 0} (contents : S → Option (List ℕ)) (failed : S → Bool)
   flushed_at (Ok v) q = q.flushed
   flushed_at (Err f) q = tt
 
--- a plan of a rebuild that was put out
-module _ {S : Type 0} (s : Ghosts S) (a b c : S) (text : List ℕ) where
-  pub plan_shown : (array : ArrayView) (k : ℕ) (result : Result (Unit {0}) CommandFault) → IsPlanText array k text → Puts s.contents s.failed a b text
-      → PassesOn s.contents s.failed s.is_flushed a b c text result → ShowsPlan s array k a c result
-  plan_shown array k (Ok v) is p q = (text, is, put_all s.contents s.failed s.is_flushed a b c text p q.puts)
-  plan_shown array k (Err f) is p q = inr q
+-- a report on an array that was put out
+module _ {S : Type 0} (s : Ghosts S) (text : List ℕ) (a b : S) where
+  pub shown_flushed : (result : Result (Unit {0}) CommandFault) → ShowsText s text a b result → IfOk result (λ _. s.is_flushed b)
+  shown_flushed (Ok v) h = h.flushed
+  shown_flushed (Err f) h = tt
 
 -- a command that is done answers 0
 pub when_done : {P : Type 0} (result : Result (Unit {0}) CommandFault) (status : ℕ) → status ≡ status_of result → status ≡ 0 → IfOk result (λ _. P) → P

@@ -9,42 +9,18 @@ use Rattle.std.proofs.Math.Nat.{le_refl}
 use Rattle.std.proofs.lemmas.Option.{slice_get_within}
 use Rattle.md_commands.proofs.DeviceCounts.{AsMany, checks_as_many, done_check, done_fail, done_read, done_readonly, done_resync, done_write, fails_as_many, reads_as_many, reads_readonly_as_many, resyncs_as_many, stops_as_many, writes_as_many, stopped}
 use Rattle.md_commands.proofs.RebuildCounts.{done_rebuild, rebuilds_as_many}
-use Rattle.md_commands.specs.declared.fault.DataFault.{DataFault}
 use Rattle.md_commands.specs.declared.source.Source.{Ghosts as SourceGhosts}
 use Rattle.md_commands.specs.Adding.{KeepsDevice}
-use Rattle.md_commands.specs.Checking.{RefusesToCheck}
-use Rattle.md_commands.specs.Failing.{RefusesToFail}
-use Rattle.md_commands.specs.Reading.{RefusesReadonly, RefusesToRead}
-use Rattle.md_commands.specs.Rebuilding.{RefusesToRebuild}
 use Rattle.md_commands.specs.Removing.{HandsBack}
-use Rattle.md_commands.specs.Resyncing.{RefusesToResync}
-use Rattle.md_commands.specs.Stopping.{RefusesToStop}
-use Rattle.md_commands.specs.Writing.{RefusesToWrite}
 use Rattle.md_examine.specs.declared.sink.Sink.{Ghosts as SinkGhosts}
 use Rattle.md_state.specs.View.{Disk, disk_of}
 use Rattle.md_words.specs.Asks.{Ask, device_of, leaving_of, examines, examines_bitmap, examines_badblocks, creates, assembles, details, plans, reads, checks, writes, resyncs, stops, fails, removes, adds, re_adds, rebuilds}
-use Rattle.md_advice.specs.declared.fault.CommandFault.{CommandFault}
-use Rattle.md_advice.specs.declared.fault.CommandFault.TheVariants as fault
+use Rattle.md_commands.specs.declared.fault.CommandFault.{CommandFault}
 use Rattle.md_cli.specs.declared.notices.Notices.{Notices}
 use Rattle.md_cli.specs.Asking.{Answers}
 use Rattle.md_cli.specs.Opened.{OpenedView, count, moves_device, place_of, with_beside}
-use Rattle.md_cli.specs.Performing.{OfData, Performs}
+use Rattle.md_cli.specs.Performing.{Performs}
 use Rattle.md_cli.specs.Streams.{Streams}
-
-of_data : {X : Type 0} (P : DataFault → Type 0) (f : CommandFault) → OfData P f → ((d : DataFault) → P d → X) → X
-of_data P (fault.Data d) h f = f d h
-of_data P fault.BadCount h f = absurd h
-of_data P (fault.BadImage index why) h f = absurd h
-of_data P (fault.Options d) h f = absurd h
-of_data P (fault.Member d) h f = absurd h
-of_data P fault.NoBitmap h f = absurd h
-of_data P (fault.Create d) h f = absurd h
-of_data P (fault.MetadataFault index) h f = absurd h
-of_data P (fault.Open d) h f = absurd h
-of_data P (fault.Rebuild d) h f = absurd h
-of_data P fault.Declined h f = absurd h
-of_data P fault.OutputFault h f = absurd h
-of_data P fault.NoMemory h f = absurd h
 
 -- Where there was a device beside the array only if the command brought one: as many devices as before come back, the one beside
 -- the array has its place among them, and there is one only where one may leave or join.
@@ -94,29 +70,29 @@ module _ {R S : Type 0} (r : SourceGhosts R) (s : SinkGhosts S) (before after : 
   all_kept (reads sector count false) (Ok v) brings h =
       kept _ before after brings h.0 (done_read s before.mirror after.mirror old.output new.output sector count h.2)
   all_kept (reads sector count false) (Err f) brings h =
-      kept _ before after brings h.0 (of_data (RefusesToRead s sector count before.mirror after.mirror old.output new.output) f h.2 (reads_as_many s before.mirror after.mirror old.output new.output sector count))
+      kept _ before after brings h.0 (reads_as_many s before.mirror after.mirror old.output new.output sector count f h.2)
   all_kept (reads sector count true) (Ok v) brings h =
       kept _ before after brings h.0 (done_readonly s before.mirror after.mirror old.output new.output sector count h.2)
   all_kept (reads sector count true) (Err f) brings h =
-      kept _ before after brings h.0 (of_data (RefusesReadonly s sector count before.mirror after.mirror old.output new.output) f h.2 (reads_readonly_as_many s before.mirror after.mirror old.output new.output sector count))
+      kept _ before after brings h.0 (reads_readonly_as_many s before.mirror after.mirror old.output new.output sector count f h.2)
   all_kept (checks readonly) (Ok v) brings h = kept _ before after brings h.0 (done_check s before.mirror after.mirror old.output new.output h.2)
   all_kept (checks readonly) (Err f) brings h =
-      kept _ before after brings h.0 (of_data (RefusesToCheck s before.mirror after.mirror old.output new.output) f h.2 (checks_as_many s before.mirror after.mirror old.output new.output))
+      kept _ before after brings h.0 (checks_as_many s before.mirror after.mirror old.output new.output f h.2)
   all_kept (writes sector) (Ok v) brings h = kept _ before after brings h.0 (done_write sector h.1.bytes before.mirror after.mirror h.1.done)
   all_kept (writes sector) (Err f) brings h =
-      kept _ before after brings h.0 (of_data (RefusesToWrite r s sector before.mirror after.mirror old.input new.input old.output new.output) f h.1 (writes_as_many s before.mirror after.mirror old.output new.output r sector old.input new.input))
+      kept _ before after brings h.0 (writes_as_many s before.mirror after.mirror old.output new.output r sector old.input new.input f h.1)
   all_kept resyncs (Ok v) brings h = kept _ before after brings h.0 (done_resync before.mirror after.mirror h.2.stops)
   all_kept resyncs (Err f) brings h =
-      kept _ before after brings h.0 (of_data (RefusesToResync s before.mirror after.mirror old.output new.output) f h.2 (resyncs_as_many s before.mirror after.mirror old.output new.output))
+      kept _ before after brings h.0 (resyncs_as_many s before.mirror after.mirror old.output new.output f h.2)
   all_kept stops (Ok v) brings h = kept _ before after brings h.0 (stopped before.mirror after.mirror h.2.stops)
   all_kept stops (Err f) brings h =
-      kept _ before after brings h.0 (of_data (RefusesToStop s before.mirror after.mirror old.output new.output) f h.2 (stops_as_many s before.mirror after.mirror old.output new.output))
+      kept _ before after brings h.0 (stops_as_many s before.mirror after.mirror old.output new.output f h.2)
   all_kept (fails k) (Ok v) brings h = kept _ before after brings h.0 (done_fail s k before.mirror after.mirror old.output new.output h.2)
   all_kept (fails k) (Err f) brings h =
-      kept _ before after brings h.0 (of_data (RefusesToFail s k before.mirror after.mirror old.output new.output) f h.2 (fails_as_many s k before.mirror after.mirror old.output new.output))
+      kept _ before after brings h.0 (fails_as_many s k before.mirror after.mirror old.output new.output f h.2)
   all_kept (rebuilds k) (Ok v) brings h = kept _ before after brings h.0 (done_rebuild s k before.mirror after.mirror old.output new.output h.2)
   all_kept (rebuilds k) (Err f) brings h =
-      kept _ before after brings h.0 (of_data (RefusesToRebuild s k before.mirror after.mirror old.output new.output) f h.2 (rebuilds_as_many s k before.mirror after.mirror old.output new.output))
+      kept _ before after brings h.0 (rebuilds_as_many s k before.mirror after.mirror old.output new.output f h.2)
   all_kept (removes k) result brings h = record {
     as_many = left_place k before.mirror.disks after.mirror.disks after.beside h.1.handed_back
         ∙ omega (arith, ap (λ o. count o) (none_there before.beside brings));

@@ -8,6 +8,7 @@ use Rattle.md_array.specs.Opening.{IsOpenedFrom}
 use Rattle.md_array.specs.Refusals.{RefusesOpen}
 use Rattle.md_array.specs.declared.fault.OpenFault.{OpenFault}
 use Rattle.md_array.specs.declared.fault.OpenFault.TheVariants.{MetadataFault}
+use Rattle.md_commands.specs.Output.{ShowsText}
 use Rattle.md_commands.specs.declared.source.Source.{Ghosts as SourceGhosts}
 use Rattle.md_examine.specs.declared.sink.Sink.{Ghosts as SinkGhosts}
 use Rattle.md_report.specs.SummaryReport.{summary_text}
@@ -17,15 +18,14 @@ use Rattle.md_images.specs.declared.images.Images.{Ghosts as ImagesGhosts}
 use Rattle.md_images.specs.Images.{allows}
 use Rattle.md_images.specs.Taking.{ArePut, AreUnder, IsDistinct, IsThere, RefusesImages, Word, names_of}
 use Rattle.md_words.specs.Asks.{Ask, device_of, is_readonly}
-use Rattle.md_advice.specs.Faults.{of_images}
-use Rattle.md_advice.specs.declared.fault.CommandFault.{CommandFault}
-use Rattle.md_advice.specs.declared.fault.CommandFault.TheVariants.{NoMemory, Open}
+use Rattle.md_commands.specs.Faults.{of_images}
+use Rattle.md_commands.specs.declared.fault.CommandFault.{CommandFault}
+use Rattle.md_commands.specs.declared.fault.CommandFault.TheVariants.{NoMemory, Open}
 use Rattle.md_cli.specs.declared.notices.Notices.{Notices}
 use Rattle.md_cli.specs.Asking.{Answers}
 use Rattle.md_cli.specs.Holding.{LooksAt}
 use Rattle.md_cli.specs.Noticed.{NotesOpening, with_dropped, without_stored}
 use Rattle.md_cli.specs.Opened.{OpenedView, moves_device, with_beside, with_last}
-use Rattle.md_cli.specs.Reports.{ShowsText}
 use Rattle.md_cli.specs.Streams.{Told}
 
 -- a device that is only looked at, and over which what is written is kept in memory: no call on it has failed yet, and no

@@ -3,8 +3,8 @@ use Rattle.std.specs.Prelude.{◌≡◌, ◌⊎◌, true, Result, Err}
 use Rattle.md_commands.specs.declared.source.Source.{Ghosts as SourceGhosts}
 use Rattle.md_examine.specs.declared.sink.Sink.{Ghosts as SinkGhosts}
 use Rattle.md_words.specs.Asks.{Ask}
-use Rattle.md_advice.specs.declared.fault.CommandFault.{CommandFault}
-use Rattle.md_advice.specs.declared.fault.CommandFault.TheVariants.{Declined}
+use Rattle.md_commands.specs.declared.fault.CommandFault.{CommandFault}
+use Rattle.md_commands.specs.declared.fault.CommandFault.TheVariants.{Declined}
 use Rattle.md_cli.specs.declared.notices.Notices.{Notices}
 use Rattle.md_cli.specs.Noticed.{asks_first}
 use Rattle.md_cli.specs.Opened.{OpenedView}

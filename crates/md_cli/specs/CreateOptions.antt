@@ -5,8 +5,8 @@ use Rattle.uuid.specs.Text.{parsed}
 use Rattle.clap.specs.Words.{Text}
 use Rattle.md_format.specs.FirstFault.{check, first_fault}
 use Rattle.md_create.specs.declared.params.CreateParams.{CreateParams}
-use Rattle.md_advice.specs.declared.option_fault.OptionFault.{OptionFault}
-use Rattle.md_advice.specs.declared.option_fault.OptionFault.TheVariants.{BadLevel, BadUuid, BadName, BadCount, BadChunk, BadSize}
+use Rattle.md_commands.specs.declared.option_fault.OptionFault.{OptionFault}
+use Rattle.md_commands.specs.declared.option_fault.OptionFault.TheVariants.{BadLevel, BadUuid, BadName, BadCount, BadChunk, BadSize}
 use Rattle.md_words.specs.Asks.{Options}
 
 -- the names of RAID 1

@@ -10,8 +10,8 @@ use Rattle.md_create.specs.declared.params.NewMember.{NewMember}
 use Rattle.md_create.specs.declared.fault.CreateFault.TheVariants.{BadGeometry, NoMemory}
 use Rattle.md_state.specs.View.{Disk, of_disks}
 use Rattle.md_examine.specs.declared.sink.Sink.{Ghosts}
-use Rattle.md_advice.specs.declared.fault.CommandFault.{CommandFault}
-use Rattle.md_advice.specs.declared.fault.CommandFault.TheVariants as fault
+use Rattle.md_commands.specs.declared.fault.CommandFault.{CommandFault}
+use Rattle.md_commands.specs.declared.fault.CommandFault.TheVariants as fault
 use Rattle.md_cli.specs.Arrays.{ShowsDevices}
 use Rattle.md_images.specs.Taking.{image_list, is_missing}
 

@@ -13,9 +13,9 @@ use Rattle.md_examine.specs.BitmapReport.{bitmap_report}
 use Rattle.md_examine.specs.BadblocksReport.{badblocks_report}
 use Rattle.md_words.specs.Asks.{Ask, examines, examines_badblocks, examines_bitmap}
 use Rattle.md_images.specs.declared.image_fault.ImageFault.{ImageFault}
-use Rattle.md_advice.specs.declared.fault.CommandFault.{CommandFault}
+use Rattle.md_commands.specs.declared.fault.CommandFault.{CommandFault}
 use Rattle.md_images.specs.declared.image_refusal.ImageRefusal.TheVariants.{Unopened}
-use Rattle.md_advice.specs.declared.fault.CommandFault.TheVariants.{BadImage, Member, NoBitmap, OutputFault}
+use Rattle.md_commands.specs.declared.fault.CommandFault.TheVariants.{BadImage, Member, NoBitmap, OutputFault}
 
 -- whether a command shows one image
 abbrev pub examines_image : Ask → Bool

@@ -16,10 +16,6 @@ pub mod Noticed
 pub mod Opened
 -- What commands do with an opened array.
 pub mod Performing
--- The plan of a rebuild of one member of an array, and its report.
-pub mod RebuildPlans
--- The reports on a whole array, as they are put out.
-pub mod Reports
 -- What one run gives.
 pub mod Running
 -- The input and the output of a run.

@@ -1,10 +1,11 @@
 -- What commands do with an opened array.
 use Rattle.std.specs.Prelude.{◌≡◌, ℕ, Bool, true, false, Some, Result, MatchResult}
-use Rattle.md_commands.specs.declared.fault.DataFault.{DataFault}
 use Rattle.md_commands.specs.declared.source.Source.{Ghosts as SourceGhosts}
 use Rattle.md_commands.specs.Adding.{AddsDevice, KeepsDevice, RefusesToAdd}
 use Rattle.md_commands.specs.Checking.{ChecksMembers, RefusesToCheck}
 use Rattle.md_commands.specs.Failing.{RefusesToFail}
+use Rattle.md_commands.specs.Output.{ShowsText}
+use Rattle.md_commands.specs.Planning.{RefusesToPlan, ShowsPlan}
 use Rattle.md_commands.specs.ReAdding.{ReAddsDevice, RefusesToReAdd}
 use Rattle.md_commands.specs.Reading.{ReadsArray, ReadsReadonly, RefusesReadonly, RefusesToRead}
 use Rattle.md_commands.specs.Rebuilding.{RebuildsArray, RefusesToRebuild}
@@ -18,16 +19,9 @@ use Rattle.md_report.specs.SummaryReport.{summary_text}
 use Rattle.md_state.specs.FailingMembers.{FailsMember}
 use Rattle.md_state.specs.View.{Disk}
 use Rattle.md_words.specs.Asks.{Ask, assembles, details, plans, reads, checks, writes, resyncs, stops, fails, removes, adds, re_adds, rebuilds}
-use Rattle.md_advice.specs.declared.fault.CommandFault.{CommandFault}
-use Rattle.md_advice.specs.declared.fault.CommandFault.TheVariants.{Data}
+use Rattle.md_commands.specs.declared.fault.CommandFault.{CommandFault}
 use Rattle.md_cli.specs.Opened.{OpenedView}
-use Rattle.md_cli.specs.Reports.{ShowsPlan, ShowsText}
 use Rattle.md_cli.specs.Streams.{Streams}
-
--- a fault of the commands that md_commands has
-abbrev pub OfData : (DataFault → Type 0) → CommandFault → Type 0
-OfData Refuses (Data fault) = Refuses fault
-OfData Refuses fault = ⊥
 
 module _ {S : Type 0} (s : SinkGhosts S) where
   -- Sectors of the array are put out: after a resync where one is needed or, where no image may be changed, as they would be after it.
@@ -35,18 +29,18 @@ module _ {S : Type 0} (s : SinkGhosts S) where
   ShowsSectors sector count false before after old new result =
       MatchResult result
       (λ _. ReadsArray s sector count before.mirror after.mirror old new)
-      (OfData (RefusesToRead s sector count before.mirror after.mirror old new))
+      (RefusesToRead s sector count before.mirror after.mirror old new)
   ShowsSectors sector count true before after old new result =
       MatchResult result
       (λ _. ReadsReadonly s sector count before.mirror after.mirror old new)
-      (OfData (RefusesReadonly s sector count before.mirror after.mirror old new))
+      (RefusesReadonly s sector count before.mirror after.mirror old new)
 
   -- Member k leaves, and then the array is stopped and shown. Its device stands beside the array then.
   pub record Removes (k : ℕ) (before after : OpenedView) (old new : S) (result : Result (Unit {0}) CommandFault) : Type 0 where
     pub handed_back : HandsBack k before.mirror.disks after.mirror.disks after.beside
     pub removes : MatchResult result
         (λ _. StopsArrayAfter s (RemovesMember k before.mirror) after.mirror old new)
-        (OfData (RefusesToRemove s k before.mirror after.mirror old new))
+        (RefusesToRemove s k before.mirror after.mirror old new)
 
   -- The device beside the array joins it, and then the array is stopped and shown. If it does not join, it stands there again.
   pub record Adds (before after : OpenedView) (old new : S) (result : Result (Unit {0}) CommandFault) : Type 0 where
@@ -55,7 +49,7 @@ module _ {S : Type 0} (s : SinkGhosts S) where
     pub kept : KeepsDevice before.mirror.disks after.mirror.disks after.beside
     pub adds : MatchResult result
         (λ _. StopsArrayAfter s (AddsDevice device before.mirror) after.mirror old new)
-        (OfData (RefusesToAdd s device after.beside before.mirror after.mirror old new))
+        (RefusesToAdd s device after.beside before.mirror after.mirror old new)
 
   -- it comes back, and gets what it lacks
   pub record ReAdds (before after : OpenedView) (old new : S) (result : Result (Unit {0}) CommandFault) : Type 0 where
@@ -64,7 +58,7 @@ module _ {S : Type 0} (s : SinkGhosts S) where
     pub kept : KeepsDevice before.mirror.disks after.mirror.disks after.beside
     pub re_adds : MatchResult result
         (λ _. StopsArrayAfter s (ReAddsDevice device before.mirror) after.mirror old new)
-        (OfData (RefusesToReAdd s device after.beside before.mirror after.mirror old new))
+        (RefusesToReAdd s device after.beside before.mirror after.mirror old new)
 
 module _ {R S : Type 0} (r : SourceGhosts R) (s : SinkGhosts S) where
   -- The array as it was opened and as it is left, and the streams before and after. A report leaves the array as it is. The
@@ -75,34 +69,37 @@ module _ {R S : Type 0} (r : SourceGhosts R) (s : SinkGhosts S) where
   Performs (details readonly) before after old new result =
       (after ≡ before) × (new.input ≡ old.input) × ShowsText s (detail_text before.mirror.array) old.output new.output result
   Performs (plans k readonly) before after old new result =
-      (after ≡ before) × (new.input ≡ old.input) × ShowsPlan s before.mirror.array k old.output new.output result
+      (after ≡ before) × (new.input ≡ old.input)
+      × MatchResult result
+      (λ _. ShowsPlan s before.mirror.array k old.output new.output)
+      (RefusesToPlan s before.mirror.array k old.output new.output)
   Performs (reads sector count readonly) before after old new result =
       (after.beside ≡ before.beside) × (new.input ≡ old.input) × ShowsSectors s sector count readonly before after old.output new.output result
   Performs (checks readonly) before after old new result =
       (after.beside ≡ before.beside) × (new.input ≡ old.input)
       × MatchResult result
       (λ _. ChecksMembers s before.mirror after.mirror old.output new.output)
-      (OfData (RefusesToCheck s before.mirror after.mirror old.output new.output))
+      (RefusesToCheck s before.mirror after.mirror old.output new.output)
   Performs (writes sector) before after old new result =
       (after.beside ≡ before.beside)
       × MatchResult result
       (λ _. WritesArray r s sector before.mirror after.mirror old.input new.input old.output new.output)
-      (OfData (RefusesToWrite r s sector before.mirror after.mirror old.input new.input old.output new.output))
+      (RefusesToWrite r s sector before.mirror after.mirror old.input new.input old.output new.output)
   Performs resyncs before after old new result =
       (after.beside ≡ before.beside) × (new.input ≡ old.input)
       × MatchResult result
       (λ _. ResyncsArray s before.mirror after.mirror old.output new.output)
-      (OfData (RefusesToResync s before.mirror after.mirror old.output new.output))
+      (RefusesToResync s before.mirror after.mirror old.output new.output)
   Performs stops before after old new result =
       (after.beside ≡ before.beside) × (new.input ≡ old.input)
       × MatchResult result
       (λ _. StopsArray s before.mirror after.mirror old.output new.output)
-      (OfData (RefusesToStop s before.mirror after.mirror old.output new.output))
+      (RefusesToStop s before.mirror after.mirror old.output new.output)
   Performs (fails k) before after old new result =
       (after.beside ≡ before.beside) × (new.input ≡ old.input)
       × MatchResult result
       (λ _. StopsArrayAfter s (FailsMember k before.mirror) after.mirror old.output new.output)
-      (OfData (RefusesToFail s k before.mirror after.mirror old.output new.output))
+      (RefusesToFail s k before.mirror after.mirror old.output new.output)
   Performs (removes k) before after old new result = (new.input ≡ old.input) × Removes s k before after old.output new.output result
   Performs (adds name) before after old new result = (new.input ≡ old.input) × Adds s before after old.output new.output result
   Performs (re_adds name) before after old new result = (new.input ≡ old.input) × ReAdds s before after old.output new.output result
@@ -110,6 +107,6 @@ module _ {R S : Type 0} (r : SourceGhosts R) (s : SinkGhosts S) where
       (after.beside ≡ before.beside) × (new.input ≡ old.input)
       × MatchResult result
       (λ _. RebuildsArray s k before.mirror after.mirror old.output new.output)
-      (OfData (RefusesToRebuild s k before.mirror after.mirror old.output new.output))
+      (RefusesToRebuild s k before.mirror after.mirror old.output new.output)
   -- the others open no array
   Performs _ before after old new result = ⊥

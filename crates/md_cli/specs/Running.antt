@@ -5,9 +5,9 @@ use Rattle.clap.specs.Words.{Text}
 use Rattle.md_images.specs.declared.access.Access.TheVariants.{Change}
 use Rattle.md_images.specs.declared.images.Images.{Ghosts as ImagesGhosts}
 use Rattle.md_create.specs.declared.params.CreateParams.{CreateParams}
-use Rattle.md_advice.specs.declared.fault.CommandFault.{CommandFault}
-use Rattle.md_advice.specs.declared.fault.CommandFault.TheVariants as fault
-use Rattle.md_advice.specs.declared.option_fault.OptionFault.{OptionFault}
+use Rattle.md_commands.specs.declared.fault.CommandFault.{CommandFault}
+use Rattle.md_commands.specs.declared.fault.CommandFault.TheVariants as fault
+use Rattle.md_commands.specs.declared.option_fault.OptionFault.{OptionFault}
 use Rattle.md_words.specs.Asks.{Ask, Options, access_of, creates, examines, examines_badblocks, examines_bitmap, is_readonly}
 use Rattle.md_commands.specs.declared.source.Source.{Ghosts as SourceGhosts}
 use Rattle.md_examine.specs.declared.sink.Sink.{Ghosts as SinkGhosts}

@@ -4,7 +4,7 @@ ghost use Rattle.uuid.specs.Text.{parsed};
 ghost use Rattle.md_words.specs.Asks.{options_of};
 ghost use Rattle.md_cli.specs.CreateOptions.{IsPlan, bytes_of, is_raid1, option_fault, sectors_of, set_name_of};
 
-use md_advice::OptionFault;
+use md_commands::OptionFault;
 use md_create::CreateParams;
 use md_words::CreateOptions;
 use uuid::Uuid;

@@ -7,7 +7,7 @@ ghost use Rattle.md_images.specs.Taking.{image_list, word_of};
 use crate::laying_out::lay_out_each;
 use crate::showing::show_devices;
 use crate::sizing::sizes_of;
-use md_advice::CommandFault;
+use md_commands::CommandFault;
 use md_create::{CreateParams, create};
 use md_device::Device;
 use md_examine::Sink;

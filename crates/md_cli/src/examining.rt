@@ -5,7 +5,7 @@ ghost use Rattle.md_cli.specs.Arrays.{texts};
 ghost use Rattle.md_cli.specs.Examining.{Examines, ExaminesOne, examines_image};
 
 use crate::output::pass_on;
-use md_advice::CommandFault;
+use md_commands::CommandFault;
 use md_device::Device;
 use md_examine::{Sink, examine, examine_badblocks, examine_bitmap};
 use md_images::{Access, ImageRefusal, Images};

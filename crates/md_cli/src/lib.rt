@@ -15,7 +15,6 @@ mod notices;
 mod opened;
 mod output;
 mod performing;
-mod rebuild_plan;
 mod running;
 mod session;
 mod showing;

@@ -2,7 +2,7 @@
 ghost use Rattle.std.specs.Prelude.{◌≡◌, true, MatchResult};
 ghost use Rattle.md_examine.specs.Sink.{Flushes};
 
-use md_advice::CommandFault;
+use md_commands::CommandFault;
 use md_examine::Sink;
 
 /// Passes on what the output holds back of a report.

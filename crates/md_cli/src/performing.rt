@@ -8,11 +8,10 @@ ghost use Rattle.md_cli.specs.Streams.{streams_of};
 
 use crate::opened::Opened;
 use crate::session::Session;
-use crate::showing::{show_detail, show_plan, show_summary};
-use md_advice::CommandFault;
 use md_commands::{
-    Source, Watch, add_device, check_members, fail_member, re_add_device, read_array,
-    read_array_readonly, rebuild_member, remove_member, resync_array, stop_array, write_array,
+    CommandFault, Source, Watch, add_device, check_members, fail_member, re_add_device, read_array,
+    read_array_readonly, rebuild_member, remove_member, resync_array, show_detail, show_plan,
+    show_summary, stop_array, write_array,
 };
 use md_device::Device;
 use md_examine::Sink;
@@ -48,10 +47,10 @@ pub(crate) fn perform<
         | Command::ExamineBitmap
         | Command::ExamineBadblocks
         | Command::Create(_) => unreachable!(),
-        Command::Assemble { .. } => show_summary(&opened.mirror, &mut session.out),
-        Command::Detail { .. } => show_detail(&opened.mirror, &mut session.out),
+        Command::Assemble { .. } => Ok(show_summary(&opened.mirror, &mut session.out)?),
+        Command::Detail { .. } => Ok(show_detail(&opened.mirror, &mut session.out)?),
         Command::Plan { member, .. } => {
-            show_plan(alloc, member, &opened.mirror, &mut session.out)
+            Ok(show_plan(alloc, &opened.mirror, member, &mut session.out)?)
         }
         Command::Read {
             sector,

@@ -41,8 +41,8 @@ use Rattle.md_resync.specs.Resyncing.{GoesOn, GoesUnresynced, IsOfResync, Refuse
 use Rattle.md_write.specs.Progress.{IsOfRequest}
 use Rattle.md_write.specs.Writing.{RefusesWrite, Writes, events_of}
 use Rattle.md_examine.specs.declared.sink.Sink.{Ghosts as SinkGhosts}
-use Rattle.md_commands.specs.declared.fault.DataFault.{DataFault}
-use Rattle.md_commands.specs.declared.fault.DataFault.TheVariants.{BadLength, BadMember, Check, Fail, InputFault, NoMemory, OutOfRange, OutputFault, Read, Remove, Resync, Stop, Write}
+use Rattle.md_commands.specs.declared.fault.CommandFault.{CommandFault}
+use Rattle.md_commands.specs.declared.fault.CommandFault.TheVariants.{BadLength, BadMember, Check, Fail, InputFault, NoPieceMemory, OutOfRange, OutputFault, Read, Remove, Resync, Stop, Write}
 use Rattle.md_commands.specs.declared.source.Source.{Ghosts as SourceGhosts}
 use Rattle.md_commands.specs.declared.way.Way.{Way}
 use Rattle.md_commands.specs.declared.way.Way.TheVariants.{Resynced}
@@ -252,16 +252,16 @@ pieces_read way sector (piece ∷ pieces) old new h =
 sectors_read : (way : Way) (sector : ℕ) (bytes : List ℕ) (old new : MirrorView) → ReadsSectors way sector bytes old new → AsMany old new
 sectors_read way sector bytes old new h = pieces_read way sector h.pieces old new h.each
 
-read_up_to : (way : Way) (sector count s : ℕ) (reason : DataFault) (bytes : List ℕ) (old new : MirrorView) → ReadsUpTo way sector count s reason bytes old new → AsMany old new
+read_up_to : (way : Way) (sector count s : ℕ) (reason : CommandFault) (bytes : List ℕ) (old new : MirrorView) → ReadsUpTo way sector count s reason bytes old new → AsMany old new
 read_up_to way sector count s reason bytes old new h =
     (ends_rest way _ s h.piece h.mid new reason h.ends).disks.same.as_many ∙ sectors_read way sector h.done old h.mid h.reads
 
 some_read : (way : Way) (sector count : ℕ) (old new : MirrorView) → ReadsSome way sector count old new → AsMany old new
 some_read way sector count old new h = ⊎_elim (λ r. sectors_read way sector r.0 old new r.2) (λ r. read_up_to way sector count r.0 r.1 r.2 old new r.3) h
 
-sectors_refused : {S : Type 0} (s : SinkGhosts S) (way : Way) (sector count : ℕ) (old new : MirrorView) (before after : S) (fault : DataFault)
+sectors_refused : {S : Type 0} (s : SinkGhosts S) (way : Way) (sector count : ℕ) (old new : MirrorView) (before after : S) (fault : CommandFault)
     → RefusesSectors s way sector count old new before after fault → AsMany old new
-sectors_refused s way sector count old new before after NoMemory h = same old new h.0
+sectors_refused s way sector count old new before after NoPieceMemory h = same old new h.0
 sectors_refused s way sector count old new before after OutputFault h = some_read way sector count old new h.0
 sectors_refused s way sector count old new before after reason h = read_up_to way sector count h.0 reason h.1.bytes old new h.1.reads
 
@@ -275,12 +275,12 @@ wrote_readied : (sector : ℕ) (bytes : List ℕ) (old new : MirrorView) → Wri
 wrote_readied sector bytes old new w = wrote sector bytes w.ready new w.writes ∙ readied old w.ready w.readied
 
 module _ {S : Type 0} (s : SinkGhosts S) (old new : MirrorView) (before after : S) where
-  pub stops_as_many : (fault : DataFault) → RefusesToStop s old new before after fault → AsMany old new
+  pub stops_as_many : (fault : CommandFault) → RefusesToStop s old new before after fault → AsMany old new
   stops_as_many (Stop fault) h = not_stopped fault old new h.0
   stops_as_many OutputFault h = stopped old new h.0
   stops_as_many fault h = absurd h
 
-  pub resyncs_as_many : (fault : DataFault) → RefusesToResync s old new before after fault → AsMany old new
+  pub resyncs_as_many : (fault : CommandFault) → RefusesToResync s old new before after fault → AsMany old new
   resyncs_as_many (Resync fault) h = not_resynced fault old new h.0
   resyncs_as_many (Stop fault) h = fails_after (Resyncs old) old new fault (resynced old) h.0
   resyncs_as_many OutputFault h = stopped_after (Resyncs old) old new (resynced old) h.0
@@ -290,47 +290,47 @@ module _ {S : Type 0} (s : SinkGhosts S) (old new : MirrorView) (before after : 
     pub done_read : ReadsArray s sector count old new before after → AsMany old new
     done_read h = sectors_read Resynced sector h.puts.bytes h.ready new h.puts.reads ∙ readied old h.ready h.readied.readied
 
-    fails_readied : (fault : DataFault) → FailsReadied s sector count old new before after fault → AsMany old new
+    fails_readied : (fault : CommandFault) → FailsReadied s sector count old new before after fault → AsMany old new
     fails_readied fault h = sectors_refused s Resynced sector count h.ready new before after fault h.refused ∙ readied old h.ready h.readied.readied
 
-    pub reads_as_many : (fault : DataFault) → RefusesToRead s sector count old new before after fault → AsMany old new
+    pub reads_as_many : (fault : CommandFault) → RefusesToRead s sector count old new before after fault → AsMany old new
     reads_as_many (Read unread.Halted) h = refused old new _ h.0
     reads_as_many (Read unread.OutOfRange) h = refused old new _ h.0
     reads_as_many (Read unread.NotResynced) h = refused old new _ h.0
     reads_as_many (Read (unread.Unreadable x)) h = fails_readied (Read (unread.Unreadable x)) h
     reads_as_many (Resync fault) h = not_readied fault old new h.1
-    reads_as_many NoMemory h = fails_readied NoMemory h
+    reads_as_many NoPieceMemory h = fails_readied NoPieceMemory h
     reads_as_many OutputFault h = fails_readied OutputFault h
     reads_as_many fault h = absurd h
 
     pub done_readonly : ReadsReadonly s sector count old new before after → AsMany old new
     done_readonly h = sectors_read h.way sector h.puts.bytes old new h.puts.reads
 
-    fails_readonly : (fault : DataFault) → FailsReadonly s sector count old new before after fault → AsMany old new
+    fails_readonly : (fault : CommandFault) → FailsReadonly s sector count old new before after fault → AsMany old new
     fails_readonly fault h = sectors_refused s h.way sector count old new before after fault h.refused
 
-    pub reads_readonly_as_many : (fault : DataFault) → RefusesReadonly s sector count old new before after fault → AsMany old new
+    pub reads_readonly_as_many : (fault : CommandFault) → RefusesReadonly s sector count old new before after fault → AsMany old new
     reads_readonly_as_many (Read unread.Halted) h = refused old new _ h.0
     reads_readonly_as_many (Read unread.OutOfRange) h = refused old new _ h.0
     reads_readonly_as_many (Read unread.NotResynced) h = refused old new _ h.0
     reads_readonly_as_many (Read (unread.Unreadable x)) h = fails_readonly (Read (unread.Unreadable x)) h
     reads_readonly_as_many (Resync (resync.ReadFault k c)) h = fails_readonly (Resync (resync.ReadFault k c)) h
-    reads_readonly_as_many NoMemory h = fails_readonly NoMemory h
+    reads_readonly_as_many NoPieceMemory h = fails_readonly NoPieceMemory h
     reads_readonly_as_many OutputFault h = fails_readonly OutputFault h
     reads_readonly_as_many fault h = absurd h
 
   pub done_check : ChecksMembers s old new before after → AsMany old new
   done_check h = h.checks.rests.disks.same.as_many
 
-  pub checks_as_many : (fault : DataFault) → RefusesToCheck s old new before after fault → AsMany old new
+  pub checks_as_many : (fault : CommandFault) → RefusesToCheck s old new before after fault → AsMany old new
   checks_as_many (Check fault) h = not_checked fault old new h.0
   checks_as_many OutputFault h = h.checks.rests.disks.same.as_many
   checks_as_many fault h = absurd h
 
   module _ {I : Type 0} (i : SourceGhosts I) (sector : ℕ) (input rest : I) where
-    pub writes_as_many : (fault : DataFault) → RefusesToWrite i s sector old new input rest before after fault → AsMany old new
+    pub writes_as_many : (fault : CommandFault) → RefusesToWrite i s sector old new input rest before after fault → AsMany old new
     writes_as_many InputFault h = same old new h.unchanged
-    writes_as_many NoMemory h = same old new h.unchanged
+    writes_as_many NoPieceMemory h = same old new h.unchanged
     writes_as_many OutOfRange h = same old new h.unchanged
     writes_as_many BadLength h = same old new h.unchanged
     writes_as_many (Resync fault) h = not_readied fault old new h.refused
@@ -363,10 +363,10 @@ module _ {S : Type 0} (s : SinkGhosts S) (k : ℕ) (old new : MirrorView) (befor
   pub done_fail : StopsArrayAfter s (FailsMember k old) new before after → AsMany old new
   done_fail h = stopped h.mid new h.stops.stops ∙ failed k old h.mid h.through
 
-  not_stopped_after : (fault : DataFault) → FailsToStopArray s (FailsMember k old) new before after fault → AsMany old new
+  not_stopped_after : (fault : CommandFault) → FailsToStopArray s (FailsMember k old) new before after fault → AsMany old new
   not_stopped_after fault h = stops_as_many s h.mid new before after fault h.refused ∙ failed k old h.mid h.through
 
-  pub fails_as_many : (fault : DataFault) → RefusesToFail s k old new before after fault → AsMany old new
+  pub fails_as_many : (fault : CommandFault) → RefusesToFail s k old new before after fault → AsMany old new
   fails_as_many BadMember h = refused old new _ h.0
   fails_as_many (Fail fault) h = not_failed fault k old new h.0.1
   fails_as_many fault h = not_stopped_after fault h
@@ -377,18 +377,18 @@ not_removed remove.Halted k old new h = refused old new _ h
 not_removed remove.StillActive k old new h = refused old new _ h
 not_removed remove.EventsFull k old new h = refused old new _ h
 
-pub stays : (k : ℕ) (old new : MirrorView) (fault : DataFault) → RefusesRemoving k old new fault → AsMany old new
+pub stays : (k : ℕ) (old new : MirrorView) (fault : CommandFault) → RefusesRemoving k old new fault → AsMany old new
 stays k old new BadMember h = refused old new _ h
 stays k old new (Remove fault) h = not_removed fault k old new h.1
 stays k old new fault h = absurd h
 
 -- the array is stopped after it, or not
-as_many_stopped : {S : Type 0} (s : SinkGhosts S) (old new : MirrorView) (before after : S) (result : Result (Unit {0}) DataFault)
+as_many_stopped : {S : Type 0} (s : SinkGhosts S) (old new : MirrorView) (before after : S) (result : Result (Unit {0}) CommandFault)
     → MatchResult result (λ _. StopsArray s old new before after) (RefusesToStop s old new before after) → AsMany old new
 as_many_stopped s old new before after (Ok x) h = stopped old new h.stops
 as_many_stopped s old new before after (Err fault) h = stops_as_many s old new before after fault h
 
-pub leaves : {S : Type 0} (s : SinkGhosts S) (k : ℕ) (d : Disk) (old mid new : MirrorView) (before after : S) (result : Result (Unit {0}) DataFault)
+pub leaves : {S : Type 0} (s : SinkGhosts S) (k : ℕ) (d : Disk) (old mid new : MirrorView) (before after : S) (result : Result (Unit {0}) CommandFault)
     → Removes k d old mid → MatchResult result (λ _. StopsArray s mid new before after) (RefusesToStop s mid new before after) → HandsBack k old.disks new.disks (Some d)
 leaves s k d old mid new before after result r h = (
   r.device,
@@ -407,7 +407,7 @@ not_added add.EventsFull device given old new h = same old new h.unchanged
 not_added add.WriteFault device given old new h = same old new h.fails.unchanged
 not_added add.NoMemory device given old new h = same old new h.unchanged
 
-pub joins : {S : Type 0} (s : SinkGhosts S) (k : ℕ) (device : Disk) (old mid new : MirrorView) (before after : S) (result : Result (Unit {0}) DataFault)
+pub joins : {S : Type 0} (s : SinkGhosts S) (k : ℕ) (device : Disk) (old mid new : MirrorView) (before after : S) (result : Result (Unit {0}) CommandFault)
     → Adds k device old mid → MatchResult result (λ _. StopsArray s mid new before after) (RefusesToStop s mid new before after) → KeepsDevice old.disks new.disks None
 joins s k device old mid new before after result a h = as_many_stopped s mid new before after result h ∙ added k device old mid a
 

@@ -3,6 +3,7 @@ pub mod Checked
 pub mod DeviceCounts
 pub mod PiecesPut
 pub mod PiecesRead
+pub mod Planned
 pub mod ReadReadied
 pub mod RebuildCounts
 pub mod RebuildPending

@@ -6,8 +6,8 @@ use Rattle.md_examine.specs.declared.sink.Sink.{Ghosts}
 use Rattle.md_examine.specs.Sink.{Flushes, Puts}
 use Rattle.md_examine.proofs.Puts.{puts_nothing, puts_then}
 use Rattle.md_state.specs.View.{MirrorView}
-use Rattle.md_commands.specs.declared.fault.DataFault.{DataFault}
-use Rattle.md_commands.specs.declared.fault.DataFault.TheVariants.{OutputFault}
+use Rattle.md_commands.specs.declared.fault.CommandFault.{CommandFault}
+use Rattle.md_commands.specs.declared.fault.CommandFault.TheVariants.{OutputFault}
 use Rattle.md_commands.specs.declared.way.Way.{Way}
 use Rattle.md_commands.specs.Output.{FailsOutput, PutsOut}
 use Rattle.md_commands.specs.Pieces.{PutsFront, PutsPiece, PutsPieceUpTo, PutsSectors, ReadsSectors, ReadsUpTo, RefusesPiece, RefusesSectors, piece_sectors}
@@ -27,13 +27,13 @@ module _ {S : Type 0} (o : Ghosts S) (way : Way) (sector : ℕ) where
   puts_first v out = record { bytes = []; many = refl; reads = nothing_read way sector v; puts = puts_nothing o.contents o.failed out }
 
   -- a sector of the range was not read
-  pub ends_early : (count s : ℕ) (old new : MirrorView) (before after : S) (at : ℕ) (piece : List ℕ) (mid : MirrorView) (reason : DataFault) → EndsBy way at s piece mid new reason
+  pub ends_early : (count s : ℕ) (old new : MirrorView) (before after : S) (at : ℕ) (piece : List ℕ) (mid : MirrorView) (reason : CommandFault) → EndsBy way at s piece mid new reason
       → PutsFront o way sector count s reason old new before after → RefusesSectors o way sector count old new before after reason
   ends_early count s old new before after at piece mid reason ends =
       by_reason (λ f. PutsFront o way sector count s f old new before after → RefusesSectors o way sector count old new before after f) (λ t h. (s, h)) (λ k c h. (s, h))
       way at s piece mid new reason ends
 
-  pub piece_ends : (at s : ℕ) (piece : List ℕ) (old new : MirrorView) (before after : S) (reason : DataFault) (ends : EndsBy way at s piece old new reason)
+  pub piece_ends : (at s : ℕ) (piece : List ℕ) (old new : MirrorView) (before after : S) (reason : CommandFault) (ends : EndsBy way at s piece old new reason)
       → PutsOut o before after (take (512 * (s - at)) piece) → RefusesPiece o way at piece old new before after reason
   piece_ends at s piece old new before after reason ends shown =
       by_reason (λ f. PutsPieceUpTo o way at s f piece old new before after → RefusesPiece o way at piece old new before after f) (λ t h. (s, h)) (λ k c h. (s, h))
@@ -83,11 +83,11 @@ module _ {S : Type 0} (o : Ghosts S) (way : Way) (sector : ℕ) where
       fits : length b + length piece ≤ 512 * count
       fits = let many = so_far.many in omega arith
 
-      up_to : (s : ℕ) (reason : DataFault) → EndsBy way (sector + done) s piece mid new reason
+      up_to : (s : ℕ) (reason : CommandFault) → EndsBy way (sector + done) s piece mid new reason
           → ReadsUpTo way sector count s reason (b ++ take (512 * (s - (sector + length b / 512))) piece) old new
       up_to s reason ends = read_up_to way old mid new sound sector still count s reason b piece so_far.reads whole (subst (λ (x : ℕ). EndsBy way x s piece mid new reason) here ends) fits
 
-      front_put : (s : ℕ) (reason : DataFault) → PutsPieceUpTo o way (sector + done) s reason piece mid new between after → RefusesSectors o way sector count old new before after reason
+      front_put : (s : ℕ) (reason : CommandFault) → PutsPieceUpTo o way (sector + done) s reason piece mid new between after → RefusesSectors o way sector count old new before after reason
       front_put s reason h = ends_early count s old new before after (sector + done) piece mid reason h.ends (record {
         bytes = b ++ take (512 * (s - (sector + length b / 512))) piece;
         reads = up_to s reason h.ends;
@@ -98,7 +98,7 @@ module _ {S : Type 0} (o : Ghosts S) (way : Way) (sector : ℕ) where
         };
       })
 
-      pub refuses_more : (fault : DataFault) → RefusesPiece o way (sector + done) piece mid new between after fault → RefusesSectors o way sector count old new before after fault
+      pub refuses_more : (fault : CommandFault) → RefusesPiece o way (sector + done) piece mid new between after fault → RefusesSectors o way sector count old new before after fault
       refuses_more OutputFault h = (
         ⊎_elim
             (λ (reads : ReadsBy way (sector + done) piece mid new). inl (b ++ piece, let long = length-append b piece in let all = fits in omega arith, more reads))
@@ -113,13 +113,13 @@ module _ {S : Type 0} (o : Ghosts S) (way : Way) (sector : ℕ) where
     one : ReadsBy way sector piece old new → ReadsSectors way sector piece old new
     one reads = one_read way sector piece old new (record { whole = whole; few = omega arith; reads = reads })
 
-    pub put_or_not : ReadsBy way sector piece old new → (after : S) (result : Result (Unit {0}) DataFault) → MatchResult result (λ _. PutsOut o before after piece) (FailsOutput o after)
+    pub put_or_not : ReadsBy way sector piece old new → (after : S) (result : Result (Unit {0}) CommandFault) → MatchResult result (λ _. PutsOut o before after piece) (FailsOutput o after)
         → MatchResult result (λ _. PutsSectors o way sector (length piece / 512) old new before after) (RefusesSectors o way sector (length piece / 512) old new before after)
     put_or_not reads after (Ok x) shown = record { bytes = piece; many = omega arith; reads = one reads; shown = shown }
     put_or_not reads after (Err fault) fails =
-        subst (λ (f : DataFault). RefusesSectors o way sector (length piece / 512) old new before after f) (sym fails.is) (inl (piece, omega arith, one reads), fails.failed)
+        subst (λ (f : CommandFault). RefusesSectors o way sector (length piece / 512) old new before after f) (sym fails.is) (inl (piece, omega arith, one reads), fails.failed)
 
-    pub one_unread : (s : ℕ) (reason : DataFault) → EndsBy way sector s piece old new reason → RefusesSectors o way sector (length piece / 512) old new before before reason
+    pub one_unread : (s : ℕ) (reason : CommandFault) → EndsBy way sector s piece old new reason → RefusesSectors o way sector (length piece / 512) old new before before reason
     one_unread s reason ends = ends_early (length piece / 512) s old new before before sector piece old reason ends (record {
       bytes = take (512 * (s - sector)) piece;
       reads =

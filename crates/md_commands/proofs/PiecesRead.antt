@@ -4,7 +4,7 @@ use Rattle.std.specs.List.{concat}
 use Rattle.std.proofs.lemmas.Bool.{cases_lt}
 use Rattle.md_array.specs.Consistency.{IsConsistent}
 use Rattle.md_state.specs.View.{MirrorView}
-use Rattle.md_commands.specs.declared.fault.DataFault.{DataFault}
+use Rattle.md_commands.specs.declared.fault.CommandFault.{CommandFault}
 use Rattle.md_commands.specs.declared.way.Way.{Way}
 use Rattle.md_commands.specs.Pieces.{ReadsPiece, ReadsPieces, ReadsSectors, ReadsUpTo}
 use Rattle.md_commands.specs.Ways.{EndsBy, ReadsBy}
@@ -65,7 +65,7 @@ module _ (way : Way) where
       as_one = λ some. then_read bytes piece so_far whole reads.reads;
     }
 
-    module _ (still : IsConsistent mid) (count s : ℕ) (reason : DataFault) (bytes piece : List ℕ) (so_far : ReadsSectors way sector bytes old mid) (whole : length bytes % 512 ≡ 0)
+    module _ (still : IsConsistent mid) (count s : ℕ) (reason : CommandFault) (bytes piece : List ℕ) (so_far : ReadsSectors way sector bytes old mid) (whole : length bytes % 512 ≡ 0)
         (ends : EndsBy way (sector + length bytes / 512) s piece mid new reason) where
       abbrev at : ℕ
       at = sector + length bytes / 512

@@ -6,8 +6,8 @@ use Rattle.md_read.specs.declared.fault.UnreadFault.TheVariants.{Unreadable}
 use Rattle.md_state.specs.Members.{is_degraded}
 use Rattle.md_state.specs.Trying.{Refuses}
 use Rattle.md_state.specs.View.{ArrayView, MirrorView}
-use Rattle.md_commands.specs.declared.fault.DataFault.{DataFault}
-use Rattle.md_commands.specs.declared.fault.DataFault.TheVariants.{NoMemory, OutputFault, Read}
+use Rattle.md_commands.specs.declared.fault.CommandFault.{CommandFault}
+use Rattle.md_commands.specs.declared.fault.CommandFault.TheVariants.{NoPieceMemory, OutputFault, Read}
 use Rattle.md_commands.specs.Pieces.{PutsSectors, RefusesSectors}
 use Rattle.md_commands.specs.Reading.{IsReadied, MayReadArray, MustBeResynced, ReadsArray, RefusesToRead}
 use Rattle.md_commands.specs.Resyncing.{ResyncsIfNeeded, needs_resync}
@@ -58,13 +58,13 @@ module _ (old ready : MirrorView) (readied : ResyncsIfNeeded old ready) where
       is_readied : IsReadied sector count old ready
       is_readied = record { may = may; readied = readied; resynced = resynced }
 
-      refuses_readied : (fault : DataFault) → RefusesSectors o Resynced sector count ready new before after fault → RefusesToRead o sector count old new before after fault
-      refuses_readied NoMemory h = record { ready = ready; readied = is_readied; refused = h }
+      refuses_readied : (fault : CommandFault) → RefusesSectors o Resynced sector count ready new before after fault → RefusesToRead o sector count old new before after fault
+      refuses_readied NoPieceMemory h = record { ready = ready; readied = is_readied; refused = h }
       refuses_readied (Read (Unreadable s)) h = record { ready = ready; readied = is_readied; refused = h }
       refuses_readied OutputFault h = record { ready = ready; readied = is_readied; refused = h }
       refuses_readied fault h = absurd h.1.reads.ends
 
-      pub read_or_not : (result : Result (Unit {0}) DataFault)
+      pub read_or_not : (result : Result (Unit {0}) CommandFault)
           → MatchResult result (λ _. PutsSectors o Resynced sector count ready new before after) (RefusesSectors o Resynced sector count ready new before after)
           → MatchResult result (λ _. ReadsArray o sector count old new before after) (RefusesToRead o sector count old new before after)
       read_or_not (Ok x) puts = record { ready = ready; readied = is_readied; puts = puts }

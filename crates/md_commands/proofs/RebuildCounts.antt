@@ -24,8 +24,8 @@ use Rattle.md_copy.specs.Rebuilding.{Begins, EndsFilled, EndsReadied, FillsBy, L
 use Rattle.md_copy.specs.Sources.{missing_chunks}
 use Rattle.md_copy.specs.Storing.{HaltsSettling, Settles, StopsAt}
 use Rattle.md_examine.specs.declared.sink.Sink.{Ghosts}
-use Rattle.md_commands.specs.declared.fault.DataFault.{DataFault}
-use Rattle.md_commands.specs.declared.fault.DataFault.TheVariants.{BadMember, OutputFault, Rebuild, Resync, Stop}
+use Rattle.md_commands.specs.declared.fault.CommandFault.{CommandFault}
+use Rattle.md_commands.specs.declared.fault.CommandFault.TheVariants.{BadMember, OutputFault, Rebuild, Resync, Stop}
 use Rattle.md_commands.specs.Adding.{KeepsDevice}
 use Rattle.md_commands.specs.ReAdding.{ComesBackReadied, RebuildsMember, RefusesRebuilding}
 use Rattle.md_commands.specs.Rebuilding.{RebuildsArray, RebuildsReadied, RefusesToRebuild}
@@ -202,7 +202,7 @@ module _ {S : Type 0} (s : Ghosts S) (k : ℕ) (old new : MirrorView) (before af
   pub done_rebuild : RebuildsArray s k old new before after → AsMany old new
   done_rebuild h = stopped_after (RebuildsReadied k h.told old) old new (rebuilt_readied k h.told old) h.done
 
-  pub rebuilds_as_many : (fault : DataFault) → RefusesToRebuild s k old new before after fault → AsMany old new
+  pub rebuilds_as_many : (fault : CommandFault) → RefusesToRebuild s k old new before after fault → AsMany old new
   rebuilds_as_many BadMember h = same old new h.0.unchanged
   rebuilds_as_many (Resync fault) h = not_readied fault old new h.refused
   rebuilds_as_many (Rebuild fault) h = not_rebuilt fault k h.refused.ready new h.refused.refused ∙ readied old h.refused.ready h.refused.readied
@@ -226,14 +226,14 @@ not_re_added re_add.WriteFault device given old new h = same old new h.fails.unc
 not_re_added re_add.NoMemory device given old new h = same old new h.unchanged
 
 -- a member was rebuilt, or not, and the array stopped after it, or not
-shown_as_many : {S : Type 0} (s : Ghosts S) (k : ℕ) (old new : MirrorView) (before after : S) (result : Result (Unit {0}) DataFault)
+shown_as_many : {S : Type 0} (s : Ghosts S) (k : ℕ) (old new : MirrorView) (before after : S) (result : Result (Unit {0}) CommandFault)
     → MatchResult result (λ _. StopsArrayAfter s (RebuildsMember k old) new before after) (RefusesRebuilding s k old new before after) → AsMany old new
 shown_as_many s k old new before after (Ok x) h = stopped h.mid new h.stops.stops ∙ rebuilt k h.through.0 old h.mid h.through.1
 shown_as_many s k old new before after (Err (Rebuild fault)) h = not_rebuilt fault k old new h.0
 shown_as_many s k old new before after (Err fault) h =
     stops_as_many s h.mid new before after fault h.refused ∙ rebuilt k h.through.0 old h.mid h.through.1
 
-pub joins_rebuilt : {S : Type 0} (s : Ghosts S) (k : ℕ) (device : Disk) (old joined new : MirrorView) (before after : S) (result : Result (Unit {0}) DataFault)
+pub joins_rebuilt : {S : Type 0} (s : Ghosts S) (k : ℕ) (device : Disk) (old joined new : MirrorView) (before after : S) (result : Result (Unit {0}) CommandFault)
     → ComesBackReadied k device old joined
     → MatchResult result (λ _. StopsArrayAfter s (RebuildsMember k joined) new before after) (RefusesRebuilding s k joined new before after)
     → KeepsDevice old.disks new.disks None

@@ -4,8 +4,8 @@ use Rattle.md_copy.specs.declared.rebuilt.Rebuilt.{Rebuilt}
 use Rattle.md_examine.specs.declared.sink.Sink.{Ghosts}
 use Rattle.md_report.specs.RebuiltReport.{rebuilt_text}
 use Rattle.md_state.specs.View.{Disk, MirrorView}
-use Rattle.md_commands.specs.declared.fault.DataFault.{DataFault}
-use Rattle.md_commands.specs.declared.fault.DataFault.TheVariants.{ReAdd, Rebuild, Resync, Stop}
+use Rattle.md_commands.specs.declared.fault.CommandFault.{CommandFault}
+use Rattle.md_commands.specs.declared.fault.CommandFault.TheVariants.{ReAdd, Rebuild, Resync, Stop}
 use Rattle.md_commands.specs.Failing.{HasMember}
 use Rattle.md_commands.specs.Output.{FailsOutput, PutsOut}
 use Rattle.md_commands.specs.ReAdding.{ComesBackReadied, RebuildsMember, ReAddsDevice, RefusesRebuilding, RefusesToReAdd}
@@ -13,22 +13,22 @@ use Rattle.md_commands.specs.Rebuilding.{RebuildsArray, RebuildsReadied, Refuses
 use Rattle.md_commands.specs.Stopping.{RefusesToStop, StopsAfter, StopsArray, StopsArrayAfter}
 
 module _ {S : Type 0} (s : Ghosts S) (k : ℕ) (old new : MirrorView) (before : S) where
-  pub not_rebuilt : HasMember old.array k → (fault : DataFault) → RefusesReadied k old new fault → RefusesToRebuild s k old new before before fault
+  pub not_rebuilt : HasMember old.array k → (fault : CommandFault) → RefusesReadied k old new fault → RefusesToRebuild s k old new before before fault
   not_rebuilt member (Resync fault) h = record { member = member; refused = h; unwritten = refl }
   not_rebuilt member (Rebuild fault) h = record { member = member; refused = h; unwritten = refl }
   not_rebuilt member (Stop fault) h = record { member = member; refused = h; unwritten = refl }
   not_rebuilt member fault h = absurd h
 
-  pub rebuilt_or_not : (after : S) (told : Rebuilt) → StopsAfter (RebuildsReadied k told old) new → (result : Result (Unit {0}) DataFault)
+  pub rebuilt_or_not : (after : S) (told : Rebuilt) → StopsAfter (RebuildsReadied k told old) new → (result : Result (Unit {0}) CommandFault)
       → MatchResult result (λ _. PutsOut s before after (rebuilt_text k told.passes told.plans.items (length told.orphans.items))) (FailsOutput s after)
       → MatchResult result (λ _. RebuildsArray s k old new before after) (RefusesToRebuild s k old new before after)
   rebuilt_or_not after told done (Ok x) shown = record { told = told; done = done; shown = shown }
   rebuilt_or_not after told done (Err fault) fails =
-      subst (λ (f : DataFault). RefusesToRebuild s k old new before after f) (sym fails.is) (record { told = told; done = done; failed = fails.failed })
+      subst (λ (f : CommandFault). RefusesToRebuild s k old new before after f) (sym fails.is) (record { told = told; done = done; failed = fails.failed })
 
 -- a member that came back is rebuilt, and the array stopped, or not
 module _ {S : Type 0} (s : Ghosts S) (k : ℕ) (old mid new : MirrorView) (before after : S) where
-  pub shown_or_not : RebuildsMember k old mid → (result : Result (Unit {0}) DataFault)
+  pub shown_or_not : RebuildsMember k old mid → (result : Result (Unit {0}) CommandFault)
       → MatchResult result (λ _. StopsArray s mid new before after) (RefusesToStop s mid new before after)
       → MatchResult result (λ _. StopsArrayAfter s (RebuildsMember k old) new before after) (RefusesRebuilding s k old new before after)
   shown_or_not rebuilds (Ok x) h = record { mid = mid; through = rebuilds; stops = h }
@@ -36,7 +36,7 @@ module _ {S : Type 0} (s : Ghosts S) (k : ℕ) (old mid new : MirrorView) (befor
   shown_or_not rebuilds (Err fault) h = record { mid = mid; through = rebuilds; refused = h }
 
 module _ {S : Type 0} (s : Ghosts S) (k : ℕ) (device : Disk) (given : Option Disk) (old joined new : MirrorView) (before after : S) where
-  pub re_added_or_not : ComesBackReadied k device old joined → (result : Result (Unit {0}) DataFault)
+  pub re_added_or_not : ComesBackReadied k device old joined → (result : Result (Unit {0}) CommandFault)
       → MatchResult result (λ _. StopsArrayAfter s (RebuildsMember k joined) new before after) (RefusesRebuilding s k joined new before after)
       → MatchResult result (λ _. StopsArrayAfter s (ReAddsDevice device old) new before after) (RefusesToReAdd s device given old new before after)
   re_added_or_not comes (Ok x) h = record {

@@ -4,22 +4,22 @@ use Rattle.std.specs.Prelude.{MatchResult, Option, Result, Ok, Err}
 use Rattle.md_examine.specs.declared.sink.Sink.{Ghosts}
 use Rattle.md_state.specs.FailingMembers.{FailsMember}
 use Rattle.md_state.specs.View.{Disk, MirrorView}
-use Rattle.md_commands.specs.declared.fault.DataFault.{DataFault}
-use Rattle.md_commands.specs.declared.fault.DataFault.TheVariants.{Add, BadMember, Fail, Remove}
+use Rattle.md_commands.specs.declared.fault.CommandFault.{CommandFault}
+use Rattle.md_commands.specs.declared.fault.CommandFault.TheVariants.{Add, BadMember, Fail, Remove}
 use Rattle.md_commands.specs.Adding.{AddsDevice, RefusesToAdd}
 use Rattle.md_commands.specs.Failing.{RefusesFailing, RefusesToFail}
 use Rattle.md_commands.specs.Removing.{RefusesRemoving, RefusesToRemove, RemovesMember}
 use Rattle.md_commands.specs.Stopping.{RefusesToStop, StopsArray, StopsArrayAfter}
 
 module _ {S : Type 0} (s : Ghosts S) (k : ℕ) (old mid new : MirrorView) (before after : S) where
-  pub failed_or_not : FailsMember k old mid → (result : Result (Unit {0}) DataFault) → MatchResult result (λ _. StopsArray s mid new before after) (RefusesToStop s mid new before after)
+  pub failed_or_not : FailsMember k old mid → (result : Result (Unit {0}) CommandFault) → MatchResult result (λ _. StopsArray s mid new before after) (RefusesToStop s mid new before after)
       → MatchResult result (λ _. StopsArrayAfter s (FailsMember k old) new before after) (RefusesToFail s k old new before after)
   failed_or_not fails (Ok x) h = record { mid = mid; through = fails; stops = h }
   failed_or_not fails (Err BadMember) h = absurd h
   failed_or_not fails (Err (Fail fault)) h = absurd h
   failed_or_not fails (Err fault) h = record { mid = mid; through = fails; refused = h }
 
-  pub removed_or_not : RemovesMember k old mid → (result : Result (Unit {0}) DataFault) → MatchResult result (λ _. StopsArray s mid new before after) (RefusesToStop s mid new before after)
+  pub removed_or_not : RemovesMember k old mid → (result : Result (Unit {0}) CommandFault) → MatchResult result (λ _. StopsArray s mid new before after) (RefusesToStop s mid new before after)
       → MatchResult result (λ _. StopsArrayAfter s (RemovesMember k old) new before after) (RefusesToRemove s k old new before after)
   removed_or_not leaves (Ok x) h = record { mid = mid; through = leaves; stops = h }
   removed_or_not leaves (Err BadMember) h = absurd h
@@ -28,7 +28,7 @@ module _ {S : Type 0} (s : Ghosts S) (k : ℕ) (old mid new : MirrorView) (befor
 
 -- the device joined
 module _ {S : Type 0} (s : Ghosts S) (device : Disk) (given : Option Disk) (old mid new : MirrorView) (before after : S) where
-  pub added_or_not : AddsDevice device old mid → (result : Result (Unit {0}) DataFault) → MatchResult result (λ _. StopsArray s mid new before after) (RefusesToStop s mid new before after)
+  pub added_or_not : AddsDevice device old mid → (result : Result (Unit {0}) CommandFault) → MatchResult result (λ _. StopsArray s mid new before after) (RefusesToStop s mid new before after)
       → MatchResult result (λ _. StopsArrayAfter s (AddsDevice device old) new before after) (RefusesToAdd s device given old new before after)
   added_or_not joins (Ok x) h = record { mid = mid; through = joins; stops = h }
   added_or_not joins (Err (Add fault)) h = absurd h
@@ -36,12 +36,12 @@ module _ {S : Type 0} (s : Ghosts S) (device : Disk) (given : Option Disk) (old 
 
 -- the member is not changed
 module _ {S : Type 0} (s : Ghosts S) (k : ℕ) (old new : MirrorView) (before : S) where
-  pub not_failed : (fault : DataFault) → RefusesFailing k old new fault → RefusesToFail s k old new before before fault
+  pub not_failed : (fault : CommandFault) → RefusesFailing k old new fault → RefusesToFail s k old new before before fault
   not_failed BadMember h = (h, refl)
   not_failed (Fail fault) h = (h, refl)
   not_failed fault h = absurd h
 
-  pub not_removed : (fault : DataFault) → RefusesRemoving k old new fault → RefusesToRemove s k old new before before fault
+  pub not_removed : (fault : CommandFault) → RefusesRemoving k old new fault → RefusesToRemove s k old new before before fault
   not_removed BadMember h = (h, refl)
   not_removed (Remove fault) h = (h, refl)
   not_removed fault h = absurd h

@@ -4,7 +4,7 @@ use Rattle.std.specs.Prelude.{MatchResult, Result, Ok, Err}
 use Rattle.md_examine.specs.declared.sink.Sink.{Ghosts as SinkGhosts}
 use Rattle.md_state.specs.View.{MirrorView}
 use Rattle.md_report.specs.SummaryReport.{summary_text}
-use Rattle.md_commands.specs.declared.fault.DataFault.{DataFault}
+use Rattle.md_commands.specs.declared.fault.CommandFault.{CommandFault}
 use Rattle.md_commands.specs.declared.source.Source.{Ghosts as SourceGhosts}
 use Rattle.md_commands.specs.Output.{FailsOutput, PutsOut}
 use Rattle.md_commands.specs.ReadingInput.{IsInput}
@@ -13,8 +13,8 @@ use Rattle.md_commands.specs.Writing.{RefusesToWrite, WritesArray, WritesReadied
 
 pub written_or_not : {I S : Type 0} (i : SourceGhosts I) (s : SinkGhosts S) (sector : ℕ) (old new : MirrorView) (input rest : I) (before after : S) (bytes : List ℕ)
     → IsInput i old.array.chunks.size input rest bytes → StopsAfter (WritesReadied sector bytes old) new
-    → (result : Result (Unit {0}) DataFault) → MatchResult result (λ _. PutsOut s before after (summary_text new.array)) (FailsOutput s after)
+    → (result : Result (Unit {0}) CommandFault) → MatchResult result (λ _. PutsOut s before after (summary_text new.array)) (FailsOutput s after)
     → MatchResult result (λ _. WritesArray i s sector old new input rest before after) (RefusesToWrite i s sector old new input rest before after)
 written_or_not i s sector old new input rest before after bytes is done (Ok x) shown = record { bytes = bytes; is = is; done = done; shown = shown }
 written_or_not i s sector old new input rest before after bytes is done (Err fault) fails =
-    subst (λ (f : DataFault). RefusesToWrite i s sector old new input rest before after f) (sym fails.is) (record { bytes = bytes; is = is; done = done; failed = fails.failed })
+    subst (λ (f : CommandFault). RefusesToWrite i s sector old new input rest before after f) (sym fails.is) (record { bytes = bytes; is = is; done = done; failed = fails.failed })

@@ -4,8 +4,8 @@ use Rattle.md_examine.specs.declared.sink.Sink.{Ghosts}
 use Rattle.md_array.specs.Adding.{Adds, RefusesAdd}
 use Rattle.md_faults.specs.declared.add_fault.AddFault.{AddFault}
 use Rattle.md_state.specs.View.{Disk, MirrorView}
-use Rattle.md_commands.specs.declared.fault.DataFault.{DataFault}
-use Rattle.md_commands.specs.declared.fault.DataFault.TheVariants.{Add}
+use Rattle.md_commands.specs.declared.fault.CommandFault.{CommandFault}
+use Rattle.md_commands.specs.declared.fault.CommandFault.TheVariants.{Add}
 use Rattle.md_commands.specs.Stopping.{FailsToStopArray}
 
 -- the device joins as the last member
@@ -25,6 +25,6 @@ KeepsDevice old new (Some d) = length new ≡ length old
 
 module _ {S : Type 0} (s : Ghosts S) where
   -- it does not join, and nothing is put out; or it does, and then the array is not stopped, or not shown
-  abbrev pub RefusesToAdd : Disk → Option Disk → MirrorView → MirrorView → S → S → DataFault → Type 0
+  abbrev pub RefusesToAdd : Disk → Option Disk → MirrorView → MirrorView → S → S → CommandFault → Type 0
   RefusesToAdd device given old new before after (Add fault) = HandsBackUnadded device given old new fault × (after ≡ before)
   RefusesToAdd device given old new before after fault = FailsToStopArray s (AddsDevice device old) new before after fault

@@ -4,8 +4,8 @@ use Rattle.md_check.specs.Checking.{Checks, RefusesCheck}
 use Rattle.md_examine.specs.declared.sink.Sink.{Ghosts}
 use Rattle.md_report.specs.CheckReport.{check_text}
 use Rattle.md_state.specs.View.{MirrorView}
-use Rattle.md_commands.specs.declared.fault.DataFault.{DataFault}
-use Rattle.md_commands.specs.declared.fault.DataFault.TheVariants.{Check, OutputFault}
+use Rattle.md_commands.specs.declared.fault.CommandFault.{CommandFault}
+use Rattle.md_commands.specs.declared.fault.CommandFault.TheVariants.{Check, OutputFault}
 use Rattle.md_commands.specs.Output.{PutsOut}
 
 module _ {S : Type 0} (s : Ghosts S) where
@@ -22,7 +22,7 @@ module _ {S : Type 0} (s : Ghosts S) where
     pub failed : s.failed after ≡ true
 
   -- they are not compared, and nothing is put out; or they are, and the output failed
-  abbrev pub RefusesToCheck : MirrorView → MirrorView → S → S → DataFault → Type 0
+  abbrev pub RefusesToCheck : MirrorView → MirrorView → S → S → CommandFault → Type 0
   RefusesToCheck old new before after (Check fault) = RefusesCheck old new fault × (after ≡ before)
   RefusesToCheck old new before after OutputFault = ChecksInVain old new after
   RefusesToCheck old new before after fault = ⊥

@@ -4,8 +4,8 @@ use Rattle.md_examine.specs.declared.sink.Sink.{Ghosts}
 use Rattle.md_state.specs.FailingMembers.{FailsMember, RefusesFail}
 use Rattle.md_state.specs.Trying.{Refuses}
 use Rattle.md_state.specs.View.{ArrayView, MirrorView}
-use Rattle.md_commands.specs.declared.fault.DataFault.{DataFault}
-use Rattle.md_commands.specs.declared.fault.DataFault.TheVariants.{BadMember, Fail}
+use Rattle.md_commands.specs.declared.fault.CommandFault.{CommandFault}
+use Rattle.md_commands.specs.declared.fault.CommandFault.TheVariants.{BadMember, Fail}
 use Rattle.md_commands.specs.Stopping.{FailsToStopArray}
 
 -- the array has a member with this index, or it has none
@@ -16,14 +16,14 @@ abbrev pub LacksMember : ArrayView → ℕ → Type 0
 LacksMember a k = length a.members ≤ k
 
 -- why member k is not failed
-abbrev pub RefusesFailing : ℕ → MirrorView → MirrorView → DataFault → Type 0
+abbrev pub RefusesFailing : ℕ → MirrorView → MirrorView → CommandFault → Type 0
 RefusesFailing k old new BadMember = Refuses old new (LacksMember old.array k)
 RefusesFailing k old new (Fail fault) = HasMember old.array k × RefusesFail k old new fault
 RefusesFailing k old new fault = ⊥
 
 module _ {S : Type 0} (s : Ghosts S) where
   -- it is not, and nothing is put out; or it is, and then the array is not stopped, or not shown
-  abbrev pub RefusesToFail : ℕ → MirrorView → MirrorView → S → S → DataFault → Type 0
+  abbrev pub RefusesToFail : ℕ → MirrorView → MirrorView → S → S → CommandFault → Type 0
   RefusesToFail k old new before after BadMember = RefusesFailing k old new BadMember × (after ≡ before)
   RefusesToFail k old new before after (Fail fault) = RefusesFailing k old new (Fail fault) × (after ≡ before)
   RefusesToFail k old new before after fault = FailsToStopArray s (FailsMember k old) new before after fault

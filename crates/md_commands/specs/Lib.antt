@@ -6,12 +6,16 @@ pub mod AsResynced
 pub mod Checking
 -- The command that fails a member.
 pub mod Failing
+-- What a command answers where images are not opened.
+pub mod Faults
 -- What callers see of a reader as a source.
 pub mod Input
 -- What a command puts out.
 pub mod Output
 -- Sectors of the array are read and put out piece by piece.
 pub mod Pieces
+-- The command that plans the rebuild of a member.
+pub mod Planning
 -- The command that takes a device back.
 pub mod ReAdding
 -- The command that reads an array.

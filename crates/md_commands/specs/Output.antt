@@ -1,9 +1,9 @@
 -- What a command puts out.
-use Rattle.std.specs.Prelude.{◌≡◌, ℕ, true, List}
+use Rattle.std.specs.Prelude.{◌≡◌, ℕ, true, List, Result, MatchResult}
 use Rattle.md_examine.specs.declared.sink.Sink.{Ghosts}
 use Rattle.md_examine.specs.Sink.{Puts}
-use Rattle.md_commands.specs.declared.fault.DataFault.{DataFault}
-use Rattle.md_commands.specs.declared.fault.DataFault.TheVariants.{OutputFault}
+use Rattle.md_commands.specs.declared.fault.CommandFault.{CommandFault}
+use Rattle.md_commands.specs.declared.fault.CommandFault.TheVariants.{OutputFault}
 
 -- the output took the bytes, and holds none back
 pub record PutsOut {S : Type 0} (s : Ghosts S) (old new : S) (bytes : List ℕ) : Type 0 where
@@ -11,6 +11,10 @@ pub record PutsOut {S : Type 0} (s : Ghosts S) (old new : S) (bytes : List ℕ) 
   pub flushed : s.is_flushed new
 
 -- it failed
-pub record FailsOutput {S : Type 0} (s : Ghosts S) (new : S) (fault : DataFault) : Type 0 where
+pub record FailsOutput {S : Type 0} (s : Ghosts S) (new : S) (fault : CommandFault) : Type 0 where
   pub is : fault ≡ OutputFault
   pub failed : s.failed new ≡ true
+
+-- a text is put out, or the output failed
+abbrev pub ShowsText : {S : Type 0} → Ghosts S → List ℕ → S → S → Result (Unit {0}) CommandFault → Type 0
+ShowsText s text old new result = MatchResult result (λ _. PutsOut s old new text) (FailsOutput s new)

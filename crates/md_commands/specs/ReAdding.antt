@@ -8,8 +8,8 @@ use Rattle.md_examine.specs.declared.sink.Sink.{Ghosts}
 use Rattle.md_faults.specs.declared.re_add_fault.ReAddFault.{ReAddFault}
 use Rattle.md_resync.specs.declared.fault.ResyncFault.{ResyncFault}
 use Rattle.md_state.specs.View.{Disk, MirrorView}
-use Rattle.md_commands.specs.declared.fault.DataFault.{DataFault}
-use Rattle.md_commands.specs.declared.fault.DataFault.TheVariants.{ReAdd, Rebuild, Resync}
+use Rattle.md_commands.specs.declared.fault.CommandFault.{CommandFault}
+use Rattle.md_commands.specs.declared.fault.CommandFault.TheVariants.{ReAdd, Rebuild, Resync}
 use Rattle.md_commands.specs.Resyncing.{RefusesNeededResync, ResyncsIfNeeded}
 use Rattle.md_commands.specs.Stopping.{FailsToStopArray}
 
@@ -52,13 +52,13 @@ pub record FailsToRebuildJoined (device : Disk) (old new : MirrorView) (fault : 
 
 module _ {S : Type 0} (s : Ghosts S) where
   -- member k is not rebuilt; or it is, and then the array is not stopped, or not shown
-  abbrev pub RefusesRebuilding : ℕ → MirrorView → MirrorView → S → S → DataFault → Type 0
+  abbrev pub RefusesRebuilding : ℕ → MirrorView → MirrorView → S → S → CommandFault → Type 0
   RefusesRebuilding k old new before after (Rebuild fault) = RefusesRebuild k old new fault × (after ≡ before)
   RefusesRebuilding k old new before after fault = FailsToStopArray s (RebuildsMember k old) new before after fault
 
   -- the device does not come back, or is not rebuilt, and nothing is put out; or it is, and then the array is not stopped, or not
   -- shown
-  abbrev pub RefusesToReAdd : Disk → Option Disk → MirrorView → MirrorView → S → S → DataFault → Type 0
+  abbrev pub RefusesToReAdd : Disk → Option Disk → MirrorView → MirrorView → S → S → CommandFault → Type 0
   RefusesToReAdd device given old new before after (Resync fault) = HandsBackUntried device given old new fault × (after ≡ before)
   RefusesToReAdd device given old new before after (ReAdd fault) = HandsBackUnjoined device given old new fault × (after ≡ before)
   RefusesToReAdd device given old new before after (Rebuild fault) = FailsToRebuildJoined device old new fault × (after ≡ before)

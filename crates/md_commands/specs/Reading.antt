@@ -8,8 +8,8 @@ use Rattle.md_state.specs.Beginning.{IsInRange, IsOutOfRange}
 use Rattle.md_state.specs.Members.{is_degraded}
 use Rattle.md_state.specs.Trying.{Refuses, RefusesHalted}
 use Rattle.md_state.specs.View.{ArrayView, MirrorView}
-use Rattle.md_commands.specs.declared.fault.DataFault.{DataFault}
-use Rattle.md_commands.specs.declared.fault.DataFault.TheVariants.{NoMemory, OutputFault, Read, Resync}
+use Rattle.md_commands.specs.declared.fault.CommandFault.{CommandFault}
+use Rattle.md_commands.specs.declared.fault.CommandFault.TheVariants.{NoPieceMemory, OutputFault, Read, Resync}
 use Rattle.md_commands.specs.Pieces.{PutsSectors, RefusesSectors}
 use Rattle.md_commands.specs.Resyncing.{RefusesNeededResync, ResyncsIfNeeded, needs_resync}
 use Rattle.md_commands.specs.declared.way.Way.{Way}
@@ -49,17 +49,17 @@ module _ {S : Type 0} (o : Ghosts S) (sector count : ℕ) (old new : MirrorView)
     pub puts : PutsSectors o Resynced sector count ready new before after
 
   -- it is ready, and not all sectors are read or put out
-  pub record FailsReadied (fault : DataFault) : Type 0 where
+  pub record FailsReadied (fault : CommandFault) : Type 0 where
     pub ready : MirrorView
     pub readied : IsReadied sector count old ready
     pub refused : RefusesSectors o Resynced sector count ready new before after fault
 
-  abbrev pub RefusesToRead : DataFault → Type 0
+  abbrev pub RefusesToRead : CommandFault → Type 0
   RefusesToRead (Read Halted) = RefusesRange sector count old new Halted × (after ≡ before)
   RefusesToRead (Read OutOfRange) = RefusesRange sector count old new OutOfRange × (after ≡ before)
   RefusesToRead (Resync fault) = MayReadArray old.array sector count × RefusesNeededResync old new fault × (after ≡ before)
   RefusesToRead (Read NotResynced) = Refuses old new (MustBeResynced old.array sector count) × (after ≡ before)
-  RefusesToRead NoMemory = FailsReadied NoMemory
+  RefusesToRead NoPieceMemory = FailsReadied NoPieceMemory
   RefusesToRead (Read (Unreadable s)) = FailsReadied (Read (Unreadable s))
   RefusesToRead OutputFault = FailsReadied OutputFault
   RefusesToRead fault = ⊥
@@ -72,17 +72,17 @@ module _ {S : Type 0} (o : Ghosts S) (sector count : ℕ) (old new : MirrorView)
     pub puts : PutsSectors o way sector count old new before after
 
   -- not all sectors are read or put out
-  pub record FailsReadonly (fault : DataFault) : Type 0 where
+  pub record FailsReadonly (fault : CommandFault) : Type 0 where
     pub may : MayReadArray old.array sector count
     pub way : Way
     pub chosen : IsWayFor old.array way
     pub refused : RefusesSectors o way sector count old new before after fault
 
-  abbrev pub RefusesReadonly : DataFault → Type 0
+  abbrev pub RefusesReadonly : CommandFault → Type 0
   RefusesReadonly (Read Halted) = RefusesRange sector count old new Halted × (after ≡ before)
   RefusesReadonly (Read OutOfRange) = RefusesRange sector count old new OutOfRange × (after ≡ before)
   RefusesReadonly (Read NotResynced) = Refuses old new (MustBeResynced old.array sector count) × (after ≡ before)
-  RefusesReadonly NoMemory = FailsReadonly NoMemory
+  RefusesReadonly NoPieceMemory = FailsReadonly NoPieceMemory
   RefusesReadonly (Read (Unreadable s)) = FailsReadonly (Read (Unreadable s))
   RefusesReadonly (Resync (ReadFault k chunk)) = FailsReadonly (Resync (ReadFault k chunk))
   RefusesReadonly OutputFault = FailsReadonly OutputFault

@@ -2,8 +2,8 @@
 use Rattle.std.specs.Prelude.{◌≡◌, ◌≢◌, ℕ, ◌+◌, ◌*◌, ◌%◌, ◌<◌, ◌≤◌, true, List, ◌++◌, length}
 use Rattle.std.specs.Io.KnownBytes.{IsAtEnd}
 use Rattle.md_commands.specs.declared.source.Source.{Ghosts}
-use Rattle.md_commands.specs.declared.fault.DataFault.{DataFault}
-use Rattle.md_commands.specs.declared.fault.DataFault.TheVariants.{BadLength, InputFault, NoMemory, OutOfRange}
+use Rattle.md_commands.specs.declared.fault.CommandFault.{CommandFault}
+use Rattle.md_commands.specs.declared.fault.CommandFault.TheVariants.{BadLength, InputFault, NoPieceMemory, OutOfRange}
 use Rattle.md_commands.specs.Source.{Gives}
 
 -- so many bytes are whole sectors, and no more than an array of so many sectors has
@@ -11,7 +11,7 @@ pub record HasGoodLength (size len : ℕ) : Type 0 where
   pub few : len ≤ 512 * size
   pub whole : len % 512 ≡ 0
 
-abbrev pub RefusesLength : ℕ → ℕ → DataFault → Type 0
+abbrev pub RefusesLength : ℕ → ℕ → CommandFault → Type 0
 RefusesLength size len OutOfRange = 512 * size < len
 RefusesLength size len BadLength = (len ≤ 512 * size) × (len % 512 ≢ 0)
 RefusesLength size len fault = ⊥
@@ -44,12 +44,12 @@ module _ {I : Type 0} (i : Ghosts I) where
     pub uneven : length bytes % 512 ≢ 0
 
   -- It failed, or there was no memory. That memory was short is not said.
-  abbrev pub ReadingFails : I → DataFault → Type 0
+  abbrev pub ReadingFails : I → CommandFault → Type 0
   ReadingFails new InputFault = i.failed new ≡ true
-  ReadingFails new NoMemory = Unit {0}
+  ReadingFails new NoPieceMemory = Unit {0}
   ReadingFails new fault = ⊥
 
-  abbrev pub RefusesInput : ℕ → I → I → DataFault → Type 0
+  abbrev pub RefusesInput : ℕ → I → I → CommandFault → Type 0
   RefusesInput size old new OutOfRange = IsTooLong size old new
   RefusesInput size old new BadLength = IsUneven size old new
   RefusesInput size old new fault = ReadingFails new fault

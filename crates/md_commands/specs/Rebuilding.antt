@@ -7,8 +7,8 @@ use Rattle.md_examine.specs.declared.sink.Sink.{Ghosts}
 use Rattle.md_report.specs.RebuiltReport.{rebuilt_text}
 use Rattle.md_state.specs.Trying.{Refuses}
 use Rattle.md_state.specs.View.{MirrorView}
-use Rattle.md_commands.specs.declared.fault.DataFault.{DataFault}
-use Rattle.md_commands.specs.declared.fault.DataFault.TheVariants.{BadMember, OutputFault, Rebuild, Resync, Stop}
+use Rattle.md_commands.specs.declared.fault.CommandFault.{CommandFault}
+use Rattle.md_commands.specs.declared.fault.CommandFault.TheVariants.{BadMember, OutputFault, Rebuild, Resync, Stop}
 use Rattle.md_commands.specs.Failing.{HasMember, LacksMember}
 use Rattle.md_commands.specs.Output.{PutsOut}
 use Rattle.md_commands.specs.Resyncing.{RefusesNeededResync, ResyncsIfNeeded}
@@ -27,7 +27,7 @@ pub record FailsToRebuild (k : ℕ) (old new : MirrorView) (fault : RebuildFault
   pub refused : RefusesRebuild k ready new fault
 
 -- it is not, or the array is not stopped after it
-abbrev pub RefusesReadied : ℕ → MirrorView → MirrorView → DataFault → Type 0
+abbrev pub RefusesReadied : ℕ → MirrorView → MirrorView → CommandFault → Type 0
 RefusesReadied k old new (Resync fault) = RefusesNeededResync old new fault
 RefusesReadied k old new (Rebuild fault) = FailsToRebuild k old new fault
 RefusesReadied k old new (Stop fault) = FailsToStop (λ mid. (told : Rebuilt) × RebuildsReadied k told old mid) new fault
@@ -47,12 +47,12 @@ module _ {S : Type 0} (s : Ghosts S) (k : ℕ) (old new : MirrorView) (before af
     pub failed : s.failed after ≡ true
 
   -- the array has a member k, it is not rebuilt or the array not stopped, and nothing is put out
-  pub record FailsUnshown (fault : DataFault) : Type 0 where
+  pub record FailsUnshown (fault : CommandFault) : Type 0 where
     pub member : HasMember old.array k
     pub refused : RefusesReadied k old new fault
     pub unwritten : after ≡ before
 
-  abbrev pub RefusesToRebuild : DataFault → Type 0
+  abbrev pub RefusesToRebuild : CommandFault → Type 0
   RefusesToRebuild BadMember = Refuses old new (LacksMember old.array k) × (after ≡ before)
   RefusesToRebuild (Resync fault) = FailsUnshown (Resync fault)
   RefusesToRebuild (Rebuild fault) = FailsUnshown (Rebuild fault)

@@ -4,8 +4,8 @@ use Rattle.md_examine.specs.declared.sink.Sink.{Ghosts}
 use Rattle.md_state.specs.Removing.{RefusesRemove, Removes}
 use Rattle.md_state.specs.Trying.{Refuses}
 use Rattle.md_state.specs.View.{Disk, MirrorView}
-use Rattle.md_commands.specs.declared.fault.DataFault.{DataFault}
-use Rattle.md_commands.specs.declared.fault.DataFault.TheVariants.{BadMember, Remove}
+use Rattle.md_commands.specs.declared.fault.CommandFault.{CommandFault}
+use Rattle.md_commands.specs.declared.fault.CommandFault.TheVariants.{BadMember, Remove}
 use Rattle.md_commands.specs.Failing.{HasMember, LacksMember}
 use Rattle.md_commands.specs.Stopping.{FailsToStopArray}
 
@@ -14,7 +14,7 @@ abbrev pub RemovesMember : ℕ → MirrorView → MirrorView → Type 0
 RemovesMember k old new = (d : Disk) × Removes k d old new
 
 -- why it does not
-abbrev pub RefusesRemoving : ℕ → MirrorView → MirrorView → DataFault → Type 0
+abbrev pub RefusesRemoving : ℕ → MirrorView → MirrorView → CommandFault → Type 0
 RefusesRemoving k old new BadMember = Refuses old new (LacksMember old.array k)
 RefusesRemoving k old new (Remove fault) = HasMember old.array k × RefusesRemove k old new fault
 RefusesRemoving k old new fault = ⊥
@@ -26,7 +26,7 @@ HandsBack k old new (Some d) = (slice_get old k ≡ Some d) × (length new + 1 �
 
 module _ {S : Type 0} (s : Ghosts S) where
   -- it does not leave, and nothing is put out; or it does, and then the array is not stopped, or not shown
-  abbrev pub RefusesToRemove : ℕ → MirrorView → MirrorView → S → S → DataFault → Type 0
+  abbrev pub RefusesToRemove : ℕ → MirrorView → MirrorView → S → S → CommandFault → Type 0
   RefusesToRemove k old new before after BadMember = RefusesRemoving k old new BadMember × (after ≡ before)
   RefusesToRemove k old new before after (Remove fault) = RefusesRemoving k old new (Remove fault) × (after ≡ before)
   RefusesToRemove k old new before after fault = FailsToStopArray s (RemovesMember k old) new before after fault

@@ -6,8 +6,8 @@ use Rattle.md_state.specs.View.{ArrayView, MirrorView}
 use Rattle.md_resync.specs.declared.fault.ResyncFault.{ResyncFault}
 use Rattle.md_resync.specs.Resyncing.{RefusesResync, Resyncs}
 use Rattle.md_report.specs.SummaryReport.{summary_text}
-use Rattle.md_commands.specs.declared.fault.DataFault.{DataFault}
-use Rattle.md_commands.specs.declared.fault.DataFault.TheVariants.{OutputFault, Resync, Stop}
+use Rattle.md_commands.specs.declared.fault.CommandFault.{CommandFault}
+use Rattle.md_commands.specs.declared.fault.CommandFault.TheVariants.{OutputFault, Resync, Stop}
 use Rattle.md_commands.specs.Output.{PutsOut}
 use Rattle.md_commands.specs.Stopping.{FailsToStop, StopsAfter}
 
@@ -30,7 +30,7 @@ module _ {S : Type 0} (s : Ghosts S) where
     pub stops : StopsAfter (Resyncs old) new
     pub shown : PutsOut s before after (summary_text new.array)
 
-  abbrev pub RefusesToResync : MirrorView → MirrorView → S → S → DataFault → Type 0
+  abbrev pub RefusesToResync : MirrorView → MirrorView → S → S → CommandFault → Type 0
   RefusesToResync old new before after (Resync fault) = RefusesResync old new fault × (after ≡ before)
   RefusesToResync old new before after (Stop fault) = FailsToStop (Resyncs old) new fault × (after ≡ before)
   RefusesToResync old new before after OutputFault = StopsAfter (Resyncs old) new × (s.failed after ≡ true)

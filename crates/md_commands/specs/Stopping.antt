@@ -5,8 +5,8 @@ use Rattle.md_state.specs.View.{MirrorView}
 use Rattle.md_metadata.specs.declared.stop_fault.StopFault.{StopFault}
 use Rattle.md_metadata.specs.Stopping.{RefusesStop, Stops}
 use Rattle.md_report.specs.SummaryReport.{summary_text}
-use Rattle.md_commands.specs.declared.fault.DataFault.{DataFault}
-use Rattle.md_commands.specs.declared.fault.DataFault.TheVariants.{OutputFault, Stop}
+use Rattle.md_commands.specs.declared.fault.CommandFault.{CommandFault}
+use Rattle.md_commands.specs.declared.fault.CommandFault.TheVariants.{OutputFault, Stop}
 use Rattle.md_commands.specs.Output.{PutsOut}
 
 -- something was done to the mirror, and then the array was stopped
@@ -27,7 +27,7 @@ module _ {S : Type 0} (s : Ghosts S) where
     pub stops : Stops old new
     pub shown : PutsOut s before after (summary_text new.array)
 
-  abbrev pub RefusesToStop : MirrorView → MirrorView → S → S → DataFault → Type 0
+  abbrev pub RefusesToStop : MirrorView → MirrorView → S → S → CommandFault → Type 0
   RefusesToStop old new before after (Stop fault) = RefusesStop old new fault × (after ≡ before)
   RefusesToStop old new before after OutputFault = Stops old new × (s.failed after ≡ true)
   RefusesToStop old new before after fault = ⊥
@@ -39,7 +39,7 @@ module _ {S : Type 0} (s : Ghosts S) where
     pub stops : StopsArray mid new before after
 
   -- it was not
-  pub record FailsToStopArray (Through : MirrorView → Type 0) (new : MirrorView) (before after : S) (fault : DataFault) : Type 0 where
+  pub record FailsToStopArray (Through : MirrorView → Type 0) (new : MirrorView) (before after : S) (fault : CommandFault) : Type 0 where
     pub mid : MirrorView
     pub through : Through mid
     pub refused : RefusesToStop mid new before after fault

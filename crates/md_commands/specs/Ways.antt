@@ -7,8 +7,8 @@ use Rattle.md_read.specs.Reading.{Reads, RefusesRead}
 use Rattle.md_read.specs.Unresynced.{MayReadSectors, ReadsUnresynced, RefusesUnresynced}
 use Rattle.md_resync.specs.declared.fault.ResyncFault.TheVariants.{ReadFault}
 use Rattle.md_state.specs.View.{ArrayView, MirrorView}
-use Rattle.md_commands.specs.declared.fault.DataFault.{DataFault}
-use Rattle.md_commands.specs.declared.fault.DataFault.TheVariants.{Read, Resync}
+use Rattle.md_commands.specs.declared.fault.CommandFault.{CommandFault}
+use Rattle.md_commands.specs.declared.fault.CommandFault.TheVariants.{Read, Resync}
 use Rattle.md_commands.specs.declared.way.Way.{Way}
 use Rattle.md_commands.specs.declared.way.Way.TheVariants.{Resynced, Unresynced}
 
@@ -28,7 +28,7 @@ ReadsBy Unresynced = ReadsUnresynced
 
 -- The read ended at sector s, for this reason. Where the member that a resync copies the sector from can't be read, it is the fault of a
 -- resync, with the sector's chunk.
-abbrev pub EndsBy : Way → ℕ → ℕ → List ℕ → MirrorView → MirrorView → DataFault → Type 0
+abbrev pub EndsBy : Way → ℕ → ℕ → List ℕ → MirrorView → MirrorView → CommandFault → Type 0
 EndsBy Resynced sector s bytes old new (Read (Unreadable t)) = (t ≡ s) × RefusesRead sector bytes old new (Unreadable s)
 EndsBy Unresynced sector s bytes old new (Read (Unreadable t)) = (t ≡ s) × RefusesUnresynced sector bytes old new (unresynced.Unreadable s)
 EndsBy Unresynced sector s bytes old new (Resync (ReadFault k c)) =

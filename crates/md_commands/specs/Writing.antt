@@ -7,8 +7,8 @@ use Rattle.md_state.specs.Trying.{RefusesHalted}
 use Rattle.md_state.specs.View.{MirrorView}
 use Rattle.md_write.specs.Writing.{RefusesWrite, Writes}
 use Rattle.md_report.specs.SummaryReport.{summary_text}
-use Rattle.md_commands.specs.declared.fault.DataFault.{DataFault}
-use Rattle.md_commands.specs.declared.fault.DataFault.TheVariants.{BadLength, InputFault, NoMemory, OutOfRange, OutputFault, Resync, Stop, Write}
+use Rattle.md_commands.specs.declared.fault.CommandFault.{CommandFault}
+use Rattle.md_commands.specs.declared.fault.CommandFault.TheVariants.{BadLength, InputFault, NoPieceMemory, OutOfRange, OutputFault, Resync, Stop, Write}
 use Rattle.md_commands.specs.declared.source.Source.{Ghosts as SourceGhosts}
 use Rattle.md_commands.specs.Output.{PutsOut}
 use Rattle.md_commands.specs.ReadingInput.{IsInput, RefusesInput}
@@ -27,7 +27,7 @@ pub record FailsReadied (sector : ℕ) (bytes : List ℕ) (old new : MirrorView)
   pub readied : ResyncsIfNeeded old ready
   pub refused : RefusesWrite sector bytes ready new fault
 
-abbrev pub RefusesBytes : ℕ → List ℕ → MirrorView → MirrorView → DataFault → Type 0
+abbrev pub RefusesBytes : ℕ → List ℕ → MirrorView → MirrorView → CommandFault → Type 0
 RefusesBytes sector bytes old new (Resync fault) = RefusesNeededResync old new fault
 RefusesBytes sector bytes old new (Write fault) = FailsReadied sector bytes old new fault
 RefusesBytes sector bytes old new (Stop fault) = FailsToStop (WritesReadied sector bytes old) new fault
@@ -49,14 +49,14 @@ module _ {I S : Type 0} (i : SourceGhosts I) (s : SinkGhosts S) (sector : ℕ) (
     pub unwritten : after ≡ before
 
   -- the input is refused, and nothing else is done
-  pub record RefusesAnyInput (fault : DataFault) : Type 0 where
+  pub record RefusesAnyInput (fault : CommandFault) : Type 0 where
     pub running : old.array.halted ≡ false
     pub refused : RefusesInput i old.array.chunks.size input rest fault
     pub unchanged : new ≡ old
     pub unwritten : after ≡ before
 
   -- its bytes are not written, or the array is not stopped
-  pub record RefusesItsBytes (fault : DataFault) : Type 0 where
+  pub record RefusesItsBytes (fault : CommandFault) : Type 0 where
     pub running : old.array.halted ≡ false
     pub bytes : List ℕ
     pub is : IsInput i old.array.chunks.size input rest bytes
@@ -70,9 +70,9 @@ module _ {I S : Type 0} (i : SourceGhosts I) (s : SinkGhosts S) (sector : ℕ) (
     pub done : StopsAfter (WritesReadied sector bytes old) new
     pub failed : s.failed after ≡ true
 
-  abbrev pub RefusesToWrite : DataFault → Type 0
+  abbrev pub RefusesToWrite : CommandFault → Type 0
   RefusesToWrite InputFault = RefusesAnyInput InputFault
-  RefusesToWrite NoMemory = RefusesAnyInput NoMemory
+  RefusesToWrite NoPieceMemory = RefusesAnyInput NoPieceMemory
   RefusesToWrite OutOfRange = RefusesAnyInput OutOfRange
   RefusesToWrite BadLength = RefusesAnyInput BadLength
   RefusesToWrite (Resync fault) = RefusesItsBytes (Resync fault)

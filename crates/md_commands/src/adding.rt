@@ -7,7 +7,7 @@ ghost use Rattle.md_array.specs.Consistency.{IsConsistent};
 ghost use Rattle.md_commands.specs.Adding.{AddsDevice, KeepsDevice, RefusesToAdd};
 ghost use Rattle.md_commands.specs.Stopping.{StopsArrayAfter};
 
-use crate::fault::DataFault;
+use crate::fault::CommandFault;
 use crate::stopping::stop_array;
 use md_array::Mirror;
 use md_device::Device;
@@ -27,7 +27,7 @@ pub fn add_device<D: Device + Drop, S: Sink>(
     mirror: &mut Mirror<D>,
     device: D,
     out: &mut S,
-) -> (Option<D>, Result<(), DataFault>)
+) -> (Option<D>, Result<(), CommandFault>)
     requires sound { IsConsistent mirror.old }
     ensures gives { MatchResult result.1
         (λ _. StopsArrayAfter S.Sink (AddsDevice (disk_of D.Device device) mirror.old) mirror.new out.old
@@ -43,6 +43,6 @@ pub fn add_device<D: Device + Drop, S: Sink>(
             let stopped = stop_array(mirror, out);
             (None, stopped)
         }
-        Err((device, fault)) => (Some(device), Err(DataFault::Add(fault))),
+        Err((device, fault)) => (Some(device), Err(CommandFault::Add(fault))),
     }
 }

@@ -5,7 +5,7 @@ ghost use Rattle.md_state.specs.Requests.{IsPending};
 ghost use Rattle.md_array.specs.Consistency.{IsConsistent};
 ghost use Rattle.md_commands.specs.Checking.{ChecksMembers, RefusesToCheck};
 
-use crate::fault::DataFault;
+use crate::fault::CommandFault;
 use crate::output::put_checked;
 use crate::watch::Watch;
 use md_array::Mirror;
@@ -27,7 +27,7 @@ pub fn check_members<D: Device + Drop + Send, W: Watch + Sync, S: Sink, T: Threa
     mirror: &mut Mirror<D>,
     watch: &W,
     out: &mut S,
-) -> Result<(), DataFault>
+) -> Result<(), CommandFault>
     requires sound { IsConsistent mirror.old }
     ensures gives { MatchResult result
         (λ _. ChecksMembers S.Sink mirror.old mirror.new out.old out.new)

@@ -7,7 +7,7 @@ ghost use Rattle.md_array.specs.Consistency.{IsConsistent};
 ghost use Rattle.md_commands.specs.Failing.{RefusesFailing, RefusesToFail};
 ghost use Rattle.md_commands.specs.Stopping.{StopsArrayAfter};
 
-use crate::fault::DataFault;
+use crate::fault::CommandFault;
 use crate::named_member::named_member;
 use crate::stopping::stop_array;
 use md_array::Mirror;
@@ -25,7 +25,7 @@ pub fn fail_member<D: Device + Drop, S: Sink>(
     mirror: &mut Mirror<D>,
     member: u32,
     out: &mut S,
-) -> Result<(), DataFault>
+) -> Result<(), CommandFault>
     requires sound { IsConsistent mirror.old }
     ensures gives { MatchResult result
         (λ _. StopsArrayAfter S.Sink (FailsMember member mirror.old) mirror.new out.old out.new)
@@ -38,7 +38,7 @@ pub fn fail_member<D: Device + Drop, S: Sink>(
 }
 
 // Fails the member with this index, in memory alone.
-fn fail_named<D: Device + Drop>(mirror: &mut Mirror<D>, member: u32) -> Result<(), DataFault>
+fn fail_named<D: Device + Drop>(mirror: &mut Mirror<D>, member: u32) -> Result<(), CommandFault>
     requires sound { IsConsistent mirror.old }
     ensures gives { MatchResult result
         (λ _. FailsMember member mirror.old mirror.new)

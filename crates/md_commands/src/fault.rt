@@ -1,25 +1,62 @@
-// Why a command on an opened array is refused.
+// Why a command is refused. A message is the fault's name and its values, one space between them: the program shows it after
+// its own name.
+use crate::option_fault::OptionFault;
 use crate::source::SourceFault;
-use md_array::{AddFault, BeginFault, FailFault, ReAddFault, RemoveFault};
+use md_array::{AddFault, BeginFault, FailFault, OpenFault, ReAddFault, RemoveFault};
 use md_check::CheckFault;
 use md_copy::RebuildFault;
+use md_create::CreateFault;
 use md_examine::SinkFault;
+use md_images::{ImageRefusal, ImagesFault};
+use md_members::MemberFault;
 use md_metadata::StopFault;
 use md_read::UnreadFault;
 use md_resync::ResyncFault;
 use std::alloc::AllocError;
 use thiserror::Error;
 
-/// Why a command on an opened array is refused. The calls that it makes have faults of their own, which are
-/// shown as they are. A message is the fault's name and its values, one space between them.
-#[derive(Clone, Copy, Debug, PartialEq, Eq, Error)]
-pub enum DataFault {
+/// Why a command whose words were taken is refused. The calls that it makes have faults of their own, which are shown as they
+/// are. Those on an opened array come after `Open`.
+#[derive(Debug, Drop, Error)]
+pub enum CommandFault {
+    /// A command on one image is given another number of them.
+    #[error("BadCount")]
+    BadCount,
+    /// The image word with this index, counted from 0, is the same as an earlier one, or its image
+    /// can't be opened in the way that the command needs.
+    #[error("BadImage {0}")]
+    BadImage(usize, ImageRefusal),
+    /// The options of `create` are refused.
+    #[error("{0}")]
+    Options(OptionFault),
+    /// An image is not read as a member.
+    #[error("{0}")]
+    Member(MemberFault),
+    /// The member has no bitmap.
+    #[error("NoBitmap")]
+    NoBitmap,
+    /// No array can be made of the images.
+    #[error("{0}")]
+    Create(CreateFault),
+    /// A write failed while a new member was laid out on the image of the word with this index,
+    /// counted from 0.
+    #[error("MetadataFault {0}")]
+    MetadataFault(usize),
+    /// There was no memory for the command's own lists.
+    #[error("NoMemory")]
+    NoMemory,
+    /// It was asked whether to go on, and the answer was not yes.
+    #[error("Declined")]
+    Declined,
+    /// The images are not opened as an array.
+    #[error("{0}")]
+    Open(OpenFault),
     /// A read of the input failed.
     #[error("InputFault")]
     InputFault,
     /// There was no memory for the input, or for a piece of the sectors that are read.
     #[error("NoMemory")]
-    NoMemory,
+    NoPieceMemory,
     /// The input is longer than the array.
     #[error("OutOfRange")]
     OutOfRange,
@@ -41,7 +78,7 @@ pub enum DataFault {
     /// The device is not taken back.
     #[error("{0}")]
     ReAdd(ReAddFault),
-    /// The member is not rebuilt.
+    /// The member is not rebuilt, or no rebuild of it is planned.
     #[error("{0}")]
     Rebuild(RebuildFault),
     /// The array is not resynchronised.
@@ -64,123 +101,137 @@ pub enum DataFault {
     OutputFault,
 }
 
-impl From<SourceFault> for DataFault {
+impl From<ImagesFault> for CommandFault {
     ghost use Rattle.std.specs.Prelude.{◌≡◌};
-    ghost use Rattle.md_commands.specs.declared.fault.DataFault.TheVariants.{InputFault};
+    ghost use Rattle.md_commands.specs.Faults.{of_images};
+
+    ghost from_gives = { λ f e. e ≡ of_images f };
+
+    fn from(fault: ImagesFault) -> CommandFault {
+        match fault {
+            ImagesFault::BadImage(word, refusal) => CommandFault::BadImage(word, refusal),
+            ImagesFault::NoMemory => CommandFault::NoMemory,
+        }
+    }
+}
+
+impl From<SourceFault> for CommandFault {
+    ghost use Rattle.std.specs.Prelude.{◌≡◌};
+    ghost use Rattle.md_commands.specs.declared.fault.CommandFault.TheVariants.{InputFault};
 
     ghost from_gives = { λ _ e. e ≡ InputFault };
 
-    fn from(_: SourceFault) -> DataFault {
-        DataFault::InputFault
+    fn from(_: SourceFault) -> CommandFault {
+        CommandFault::InputFault
     }
 }
 
-impl From<AllocError> for DataFault {
+impl From<AllocError> for CommandFault {
     ghost use Rattle.std.specs.Prelude.{◌≡◌};
-    ghost use Rattle.md_commands.specs.declared.fault.DataFault.TheVariants.{NoMemory};
+    ghost use Rattle.md_commands.specs.declared.fault.CommandFault.TheVariants.{NoPieceMemory};
 
-    ghost from_gives = { λ _ e. e ≡ NoMemory };
+    ghost from_gives = { λ _ e. e ≡ NoPieceMemory };
 
-    fn from(_: AllocError) -> DataFault {
-        DataFault::NoMemory
+    fn from(_: AllocError) -> CommandFault {
+        CommandFault::NoPieceMemory
     }
 }
 
-impl From<SinkFault> for DataFault {
+impl From<SinkFault> for CommandFault {
     ghost use Rattle.std.specs.Prelude.{◌≡◌};
-    ghost use Rattle.md_commands.specs.declared.fault.DataFault.TheVariants.{OutputFault};
+    ghost use Rattle.md_commands.specs.declared.fault.CommandFault.TheVariants.{OutputFault};
 
     ghost from_gives = { λ _ e. e ≡ OutputFault };
 
-    fn from(_: SinkFault) -> DataFault {
-        DataFault::OutputFault
+    fn from(_: SinkFault) -> CommandFault {
+        CommandFault::OutputFault
     }
 }
 
-impl From<FailFault> for DataFault {
+impl From<FailFault> for CommandFault {
     ghost use Rattle.std.specs.Prelude.{◌≡◌};
-    ghost use Rattle.md_commands.specs.declared.fault.DataFault.TheVariants.{Fail};
+    ghost use Rattle.md_commands.specs.declared.fault.CommandFault.TheVariants.{Fail};
 
     ghost from_gives = { λ fault e. e ≡ Fail fault };
 
-    fn from(fault: FailFault) -> DataFault {
-        DataFault::Fail(fault)
+    fn from(fault: FailFault) -> CommandFault {
+        CommandFault::Fail(fault)
     }
 }
 
-impl From<RemoveFault> for DataFault {
+impl From<RemoveFault> for CommandFault {
     ghost use Rattle.std.specs.Prelude.{◌≡◌};
-    ghost use Rattle.md_commands.specs.declared.fault.DataFault.TheVariants.{Remove};
+    ghost use Rattle.md_commands.specs.declared.fault.CommandFault.TheVariants.{Remove};
 
     ghost from_gives = { λ fault e. e ≡ Remove fault };
 
-    fn from(fault: RemoveFault) -> DataFault {
-        DataFault::Remove(fault)
+    fn from(fault: RemoveFault) -> CommandFault {
+        CommandFault::Remove(fault)
     }
 }
 
-impl From<RebuildFault> for DataFault {
+impl From<RebuildFault> for CommandFault {
     ghost use Rattle.std.specs.Prelude.{◌≡◌};
-    ghost use Rattle.md_commands.specs.declared.fault.DataFault.TheVariants.{Rebuild};
+    ghost use Rattle.md_commands.specs.declared.fault.CommandFault.TheVariants.{Rebuild};
 
     ghost from_gives = { λ fault e. e ≡ Rebuild fault };
 
-    fn from(fault: RebuildFault) -> DataFault {
-        DataFault::Rebuild(fault)
+    fn from(fault: RebuildFault) -> CommandFault {
+        CommandFault::Rebuild(fault)
     }
 }
 
-impl From<ResyncFault> for DataFault {
+impl From<ResyncFault> for CommandFault {
     ghost use Rattle.std.specs.Prelude.{◌≡◌};
-    ghost use Rattle.md_commands.specs.declared.fault.DataFault.TheVariants.{Resync};
+    ghost use Rattle.md_commands.specs.declared.fault.CommandFault.TheVariants.{Resync};
 
     ghost from_gives = { λ fault e. e ≡ Resync fault };
 
-    fn from(fault: ResyncFault) -> DataFault {
-        DataFault::Resync(fault)
+    fn from(fault: ResyncFault) -> CommandFault {
+        CommandFault::Resync(fault)
     }
 }
 
-impl From<CheckFault> for DataFault {
+impl From<CheckFault> for CommandFault {
     ghost use Rattle.std.specs.Prelude.{◌≡◌};
-    ghost use Rattle.md_commands.specs.declared.fault.DataFault.TheVariants.{Check};
+    ghost use Rattle.md_commands.specs.declared.fault.CommandFault.TheVariants.{Check};
 
     ghost from_gives = { λ fault e. e ≡ Check fault };
 
-    fn from(fault: CheckFault) -> DataFault {
-        DataFault::Check(fault)
+    fn from(fault: CheckFault) -> CommandFault {
+        CommandFault::Check(fault)
     }
 }
 
-impl From<UnreadFault> for DataFault {
+impl From<UnreadFault> for CommandFault {
     ghost use Rattle.std.specs.Prelude.{◌≡◌};
-    ghost use Rattle.md_commands.specs.declared.fault.DataFault.TheVariants.{Read};
+    ghost use Rattle.md_commands.specs.declared.fault.CommandFault.TheVariants.{Read};
 
     ghost from_gives = { λ fault e. e ≡ Read fault };
 
-    fn from(fault: UnreadFault) -> DataFault {
-        DataFault::Read(fault)
+    fn from(fault: UnreadFault) -> CommandFault {
+        CommandFault::Read(fault)
     }
 }
 
-impl From<BeginFault> for DataFault {
+impl From<BeginFault> for CommandFault {
     ghost use Rattle.std.specs.Prelude.{◌≡◌};
-    ghost use Rattle.md_commands.specs.declared.fault.DataFault.TheVariants.{Write};
+    ghost use Rattle.md_commands.specs.declared.fault.CommandFault.TheVariants.{Write};
 
     ghost from_gives = { λ fault e. e ≡ Write fault };
 
-    fn from(fault: BeginFault) -> DataFault {
-        DataFault::Write(fault)
+    fn from(fault: BeginFault) -> CommandFault {
+        CommandFault::Write(fault)
     }
 }
 
-impl From<StopFault> for DataFault {
+impl From<StopFault> for CommandFault {
     ghost use Rattle.std.specs.Prelude.{◌≡◌};
-    ghost use Rattle.md_commands.specs.declared.fault.DataFault.TheVariants.{Stop};
+    ghost use Rattle.md_commands.specs.declared.fault.CommandFault.TheVariants.{Stop};
 
     ghost from_gives = { λ fault e. e ≡ Stop fault };
 
-    fn from(fault: StopFault) -> DataFault {
-        DataFault::Stop(fault)
+    fn from(fault: StopFault) -> CommandFault {
+        CommandFault::Stop(fault)
     }
 }

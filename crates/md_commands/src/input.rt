@@ -3,7 +3,7 @@ ghost use Rattle.std.specs.Prelude.{◌≡◌, ◌+◌, ◌*◌, ◌-◌, ◌<�
 ghost use Rattle.md_commands.specs.ReadingInput.{AppendsPiece, HasGoodLength, IsInput, ReadingFails, ReadsUpTo, RefusesInput, RefusesLength};
 
 use crate::buffer::buffer;
-use crate::fault::DataFault;
+use crate::fault::CommandFault;
 use crate::source::Source;
 use std::alloc::Global;
 
@@ -15,7 +15,7 @@ pub(crate) fn whole_input<I: Source>(
     alloc: Global,
     input: &mut I,
     size: u64,
-) -> Result<Vec<u8>, DataFault>
+) -> Result<Vec<u8>, CommandFault>
     ensures { MatchResult result
         (λ bytes. IsInput I.Source size input.old input.new bytes.items)
         (RefusesInput I.Source size input.old input.new) }
@@ -26,7 +26,7 @@ pub(crate) fn whole_input<I: Source>(
 }
 
 // Reads an input to its end, or to one byte more than an array of so many sectors has.
-fn read_input<I: Source>(alloc: Global, input: &mut I, size: u64) -> Result<Vec<u8>, DataFault>
+fn read_input<I: Source>(alloc: Global, input: &mut I, size: u64) -> Result<Vec<u8>, CommandFault>
     ensures { MatchResult result
         (λ bytes. ReadsUpTo I.Source (512 * size + 1) input.old input.new bytes.items)
         (ReadingFails I.Source input.new) }
@@ -41,7 +41,7 @@ fn read_pieces<I: Source>(
     input: &mut I,
     size: u64,
     piece: &mut [u8],
-) -> Result<Vec<u8>, DataFault>
+) -> Result<Vec<u8>, CommandFault>
     requires some { 0 < length piece.old }
     ensures { MatchResult result
         (λ bytes. ReadsUpTo I.Source (512 * size + 1) input.old input.new bytes.items)
@@ -72,7 +72,7 @@ fn append_piece<I: Source>(
     input: &mut I,
     piece: &mut [u8],
     bytes: &mut Vec<u8>,
-) -> Result<usize, DataFault>
+) -> Result<usize, CommandFault>
     ensures { MatchResult result
         (AppendsPiece I.Source (length piece.old) input.old input.new bytes.old.items bytes.new.items)
         (ReadingFails I.Source input.new) }
@@ -83,16 +83,16 @@ fn append_piece<I: Source>(
 }
 
 // Whether so many bytes are whole sectors, and no more than an array of so many sectors has.
-fn check_length(len: usize, size: u64) -> Result<(), DataFault>
+fn check_length(len: usize, size: u64) -> Result<(), CommandFault>
     ensures { MatchResult result (λ _. HasGoodLength size len) (RefusesLength size len) }
 {
     let sectors = len as u64 / 512;
     let rest = len % 512;
     if sectors > size || (sectors == size && rest > 0) {
-        return Err(DataFault::OutOfRange);
+        return Err(CommandFault::OutOfRange);
     }
     if rest > 0 {
-        return Err(DataFault::BadLength);
+        return Err(CommandFault::BadLength);
     }
     Ok(())
 }

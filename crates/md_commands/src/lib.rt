@@ -1,5 +1,6 @@
-//! What commands do with an opened array: stop it, read it, write to it, compare its members, resynchronise it,
-//! fail, remove, add, re-add or rebuild a member. Images, names and words are no matter of this crate: it has a mirror, an input and an output.
+//! What commands do with an opened array: show it, plan a rebuild, stop it, read it, write to it, compare its members,
+//! resynchronise it, fail, remove, add, re-add or rebuild a member. Images, names and words are no matter of this crate: it has
+//! a mirror, an input and an output. And why a command is refused, whatever it is done with.
 #![tactic(auto)]
 
 mod adding;
@@ -10,13 +11,16 @@ mod fault;
 mod input;
 pub mod laws;
 mod named_member;
+mod option_fault;
 mod output;
 mod pieces;
+mod planning;
 mod re_adding;
 mod reading;
 mod rebuilding;
 mod removing;
 mod resyncing;
+mod showing;
 mod source;
 mod stopping;
 mod watch;
@@ -26,13 +30,16 @@ mod writing;
 pub use adding::add_device;
 pub use checking::check_members;
 pub use failing::fail_member;
-pub use fault::DataFault;
+pub use fault::CommandFault;
 pub use md_copy::Gate;
+pub use option_fault::OptionFault;
+pub use planning::show_plan;
 pub use re_adding::re_add_device;
 pub use reading::{read_array, read_array_readonly};
 pub use rebuilding::rebuild_member;
 pub use removing::remove_member;
 pub use resyncing::resync_array;
+pub use showing::{show_detail, show_summary};
 pub use source::{Input, Source, SourceFault};
 pub use stopping::stop_array;
 pub use watch::Watch;

@@ -1,8 +1,8 @@
 // The member that a command names.
 ghost use Rattle.std.specs.Prelude.{◌≡◌, ◌<◌, ◌≤◌, MatchResult, length};
-ghost use Rattle.md_commands.specs.declared.fault.DataFault.TheVariants.{BadMember};
+ghost use Rattle.md_commands.specs.declared.fault.CommandFault.TheVariants.{BadMember};
 
-use crate::fault::DataFault;
+use crate::fault::CommandFault;
 use md_array::Mirror;
 use md_device::Device;
 
@@ -10,14 +10,14 @@ use md_device::Device;
 pub(crate) fn named_member<D: Device + Drop>(
     mirror: &Mirror<D>,
     member: u32,
-) -> Result<usize, DataFault>
+) -> Result<usize, CommandFault>
     ensures { MatchResult result
         (λ k. (k ≡ member) × (k < length mirror.now.array.members))
         (λ fault. (fault ≡ BadMember) × (length mirror.now.array.members ≤ member)) }
 {
     let k = member as usize;
     if k >= mirror.members() {
-        return Err(DataFault::BadMember);
+        return Err(CommandFault::BadMember);
     }
     Ok(k)
 }

@@ -1,19 +1,21 @@
 // What a command puts out.
 ghost use Rattle.std.specs.Prelude.{MatchResult, length};
 ghost use Rattle.md_report.specs.CheckReport.{check_text};
-ghost use Rattle.md_report.specs.RebuiltReport.{rebuilt_text};
+ghost use Rattle.md_report.specs.DetailReport.{detail_text};
+ghost use Rattle.md_report.specs.RebuiltReport.{planned_text, rebuilt_text};
 ghost use Rattle.md_report.specs.SummaryReport.{summary_text};
 ghost use Rattle.md_commands.specs.Output.{FailsOutput, PutsOut};
 
-use crate::fault::DataFault;
+use crate::fault::CommandFault;
 use md_array::Mirror;
 use md_copy::Rebuilt;
 use md_device::Device;
 use md_examine::Sink;
-use md_report::{check_report, rebuilt_report, summary};
+use md_plan::Planned;
+use md_report::{check_report, detail, plan_report, rebuilt_report, summary};
 
 /// Puts out these bytes, and passes on what the output holds back.
-pub(crate) fn put_out<S: Sink>(out: &mut S, bytes: &[u8]) -> Result<(), DataFault>
+pub(crate) fn put_out<S: Sink>(out: &mut S, bytes: &[u8]) -> Result<(), CommandFault>
     ensures { MatchResult result
         (λ _. PutsOut S.Sink out.old out.new bytes.now)
         (FailsOutput S.Sink out.new) }
@@ -27,7 +29,7 @@ pub(crate) fn put_out<S: Sink>(out: &mut S, bytes: &[u8]) -> Result<(), DataFaul
 pub(crate) fn put_summary<D: Device + Drop, S: Sink>(
     mirror: &Mirror<D>,
     out: &mut S,
-) -> Result<(), DataFault>
+) -> Result<(), CommandFault>
     ensures { MatchResult result
         (λ _. PutsOut S.Sink out.old out.new (summary_text mirror.now.array))
         (FailsOutput S.Sink out.new) }
@@ -37,12 +39,38 @@ pub(crate) fn put_summary<D: Device + Drop, S: Sink>(
     Ok(())
 }
 
+/// Puts out an array with the state of each member.
+pub(crate) fn put_detail<D: Device + Drop, S: Sink>(
+    mirror: &Mirror<D>,
+    out: &mut S,
+) -> Result<(), CommandFault>
+    ensures { MatchResult result
+        (λ _. PutsOut S.Sink out.old out.new (detail_text mirror.now.array))
+        (FailsOutput S.Sink out.new) }
+{
+    detail(out, mirror)?;
+    out.flush()?;
+    Ok(())
+}
+
+/// Puts out a plan.
+pub(crate) fn put_plan<S: Sink>(planned: &Planned, out: &mut S) -> Result<(), CommandFault>
+    ensures { MatchResult result
+        (λ _. PutsOut S.Sink out.old out.new (planned_text planned.now))
+        (FailsOutput S.Sink out.new) }
+{
+    let orphans = planned.orphans.as_slice();
+    plan_report(out, &planned.plan, &planned.certificate, orphans)?;
+    out.flush()?;
+    Ok(())
+}
+
 /// Puts out what was rebuilt: the plan of each pass, and a line on the member with this index.
 pub(crate) fn put_rebuilt<S: Sink>(
     rebuilt: &Rebuilt,
     member: u32,
     out: &mut S,
-) -> Result<(), DataFault>
+) -> Result<(), CommandFault>
     ensures { MatchResult result
         (λ _. PutsOut S.Sink out.old out.new
         (rebuilt_text member rebuilt.now.passes rebuilt.now.plans.items
@@ -56,7 +84,7 @@ pub(crate) fn put_rebuilt<S: Sink>(
 }
 
 /// Puts out in how many chunks members in sync differ.
-pub(crate) fn put_checked<S: Sink>(mismatched: u32, out: &mut S) -> Result<(), DataFault>
+pub(crate) fn put_checked<S: Sink>(mismatched: u32, out: &mut S) -> Result<(), CommandFault>
     ensures { MatchResult result
         (λ _. PutsOut S.Sink out.old out.new (check_text mismatched))
         (FailsOutput S.Sink out.new) }

@@ -7,7 +7,7 @@ ghost use Rattle.md_commands.specs.Pieces.{PutsPiece, PutsSectors, RefusesPiece,
 ghost use Rattle.md_commands.specs.Ways.{MayReadBy};
 
 use crate::buffer::buffer;
-use crate::fault::DataFault;
+use crate::fault::CommandFault;
 use crate::output::put_out;
 use crate::way::{Unread, Way, read_by};
 use md_array::Mirror;
@@ -27,7 +27,7 @@ pub(crate) fn put_sectors<D: Device + Drop, S: Sink>(
     sector: u64,
     count: u64,
     out: &mut S,
-) -> Result<(), DataFault>
+) -> Result<(), CommandFault>
     requires may { MayReadBy way mirror.old.array sector count }
     requires fits { sector + count < 2 ^ 64 }
     requires sound { IsConsistent mirror.old }
@@ -51,7 +51,7 @@ fn put_whole<D: Device + Drop, S: Sink>(
     sector: u64,
     piece: &mut [u8],
     out: &mut S,
-) -> Result<(), DataFault>
+) -> Result<(), CommandFault>
     requires whole { length piece.old % 512 ≡ 0 }
     requires few { length piece.old / 512 ≤ piece_sectors }
     requires may { MayReadBy way mirror.old.array sector (length piece.old / 512) }
@@ -76,7 +76,7 @@ fn put_pieces<D: Device + Drop, S: Sink>(
     count: u64,
     buffer: &mut [u8],
     out: &mut S,
-) -> Result<(), DataFault>
+) -> Result<(), CommandFault>
     requires room { length buffer.old ≡ 512 * piece_sectors }
     requires more { piece_sectors < count }
     requires may { MayReadBy way mirror.old.array sector count }
@@ -111,7 +111,7 @@ fn put_piece<D: Device + Drop, S: Sink>(
     sector: u64,
     piece: &mut [u8],
     out: &mut S,
-) -> Result<(), DataFault>
+) -> Result<(), CommandFault>
     requires whole { length piece.old % 512 ≡ 0 }
     requires may { MayReadBy way mirror.old.array sector (length piece.old / 512) }
     requires sound { IsConsistent mirror.old }

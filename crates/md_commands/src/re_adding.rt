@@ -8,7 +8,7 @@ ghost use Rattle.md_commands.specs.Adding.{KeepsDevice};
 ghost use Rattle.md_commands.specs.ReAdding.{ReAddsDevice, RebuildsMember, RefusesRebuilding, RefusesToReAdd};
 ghost use Rattle.md_commands.specs.Stopping.{StopsArrayAfter};
 
-use crate::fault::DataFault;
+use crate::fault::CommandFault;
 use crate::rebuilding::rebuild_watched;
 use crate::resyncing::resync_if_needed;
 use crate::stopping::stop_array;
@@ -36,7 +36,7 @@ pub fn re_add_device<D: Device + Drop + Send, W: Watch + Sync, S: Sink, T: Threa
     device: D,
     watch: &W,
     out: &mut S,
-) -> (Option<D>, Result<(), DataFault>)
+) -> (Option<D>, Result<(), CommandFault>)
     requires sound { IsConsistent mirror.old }
     ensures gives { MatchResult result.1
         (λ _. StopsArrayAfter S.Sink (ReAddsDevice (disk_of D.Device device) mirror.old) mirror.new out.old
@@ -48,14 +48,14 @@ pub fn re_add_device<D: Device + Drop + Send, W: Watch + Sync, S: Sink, T: Threa
     ensures pending { (p : PendingView) → IsPending mirror.old.array p → IsPending mirror.new.array p }
 {
     if let Err(fault) = resync_if_needed(alloc, mirror) {
-        return (Some(device), Err(DataFault::Resync(fault)));
+        return (Some(device), Err(CommandFault::Resync(fault)));
     }
     match mirror.re_add(alloc, device) {
         Ok(k) => {
             let shown = rebuild_and_show(rt, alloc, mirror, k, watch, out);
             (None, shown)
         }
-        Err((device, fault)) => (Some(device), Err(DataFault::ReAdd(fault))),
+        Err((device, fault)) => (Some(device), Err(CommandFault::ReAdd(fault))),
     }
 }
 
@@ -67,7 +67,7 @@ fn rebuild_and_show<D: Device + Drop + Send, W: Watch + Sync, S: Sink, T: Thread
     k: usize,
     watch: &W,
     out: &mut S,
-) -> Result<(), DataFault>
+) -> Result<(), CommandFault>
     requires member { k < length mirror.old.array.members }
     requires sound { IsConsistent mirror.old }
     ensures gives { MatchResult result

@@ -5,7 +5,7 @@ ghost use Rattle.md_state.specs.Requests.{IsPending};
 ghost use Rattle.md_array.specs.Consistency.{IsConsistent};
 ghost use Rattle.md_commands.specs.Reading.{MayReadArray, ReadsArray, ReadsReadonly, RefusesRange, RefusesReadonly, RefusesToRead};
 
-use crate::fault::DataFault;
+use crate::fault::CommandFault;
 use crate::pieces::put_sectors;
 use crate::resyncing::resync_if_needed;
 use crate::way::Way;
@@ -33,7 +33,7 @@ pub fn read_array<D: Device + Drop, S: Sink>(
     sector: u64,
     count: u64,
     out: &mut S,
-) -> Result<(), DataFault>
+) -> Result<(), CommandFault>
     requires sound { IsConsistent mirror.old }
     ensures gives { MatchResult result
         (λ _. ReadsArray S.Sink sector count mirror.old mirror.new out.old out.new)
@@ -44,7 +44,7 @@ pub fn read_array<D: Device + Drop, S: Sink>(
     check_range(mirror, sector, count)?;
     resync_if_needed(alloc, mirror)?;
     if !mirror.resynced() {
-        return Err(DataFault::Read(UnreadFault::NotResynced));
+        return Err(CommandFault::Read(UnreadFault::NotResynced));
     }
     put_sectors(alloc, mirror, Way::Resynced, sector, count, out)
 }
@@ -65,7 +65,7 @@ pub fn read_array_readonly<D: Device + Drop, S: Sink>(
     sector: u64,
     count: u64,
     out: &mut S,
-) -> Result<(), DataFault>
+) -> Result<(), CommandFault>
     requires sound { IsConsistent mirror.old }
     ensures gives { MatchResult result
         (λ _. ReadsReadonly S.Sink sector count mirror.old mirror.new out.old out.new)
@@ -78,7 +78,7 @@ pub fn read_array_readonly<D: Device + Drop, S: Sink>(
         return put_sectors(alloc, mirror, Way::Resynced, sector, count, out);
     }
     if !mirror.degraded() {
-        return Err(DataFault::Read(UnreadFault::NotResynced));
+        return Err(CommandFault::Read(UnreadFault::NotResynced));
     }
     put_sectors(alloc, mirror, Way::Unresynced, sector, count, out)
 }

@@ -7,7 +7,7 @@ ghost use Rattle.md_copy.specs.Rebuilding.{Rebuilds, RefusesRebuild};
 ghost use Rattle.md_commands.specs.Rebuilding.{RebuildsArray, RebuildsReadied, RefusesReadied, RefusesToRebuild};
 ghost use Rattle.md_commands.specs.Stopping.{StopsAfter};
 
-use crate::fault::DataFault;
+use crate::fault::CommandFault;
 use crate::named_member::named_member;
 use crate::output::put_rebuilt;
 use crate::resyncing::resync_if_needed;
@@ -36,7 +36,7 @@ pub fn rebuild_member<D: Device + Drop + Send, W: Watch + Sync, S: Sink, T: Thre
     member: u32,
     watch: &W,
     out: &mut S,
-) -> Result<(), DataFault>
+) -> Result<(), CommandFault>
     requires sound { IsConsistent mirror.old }
     ensures gives { MatchResult result
         (λ _. RebuildsArray S.Sink member mirror.old mirror.new out.old out.new)
@@ -56,7 +56,7 @@ fn rebuild_and_stop<D: Device + Drop + Send, W: Watch + Sync, T: Threads + Wait 
     mirror: &mut Mirror<D>,
     k: usize,
     watch: &W,
-) -> Result<Rebuilt, DataFault>
+) -> Result<Rebuilt, CommandFault>
     requires member { k < length mirror.old.array.members }
     requires sound { IsConsistent mirror.old }
     ensures gives { MatchResult result

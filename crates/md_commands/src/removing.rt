@@ -8,7 +8,7 @@ ghost use Rattle.md_array.specs.Consistency.{IsConsistent};
 ghost use Rattle.md_commands.specs.Removing.{HandsBack, RefusesRemoving, RefusesToRemove, RemovesMember};
 ghost use Rattle.md_commands.specs.Stopping.{StopsArrayAfter};
 
-use crate::fault::DataFault;
+use crate::fault::CommandFault;
 use crate::named_member::named_member;
 use crate::stopping::stop_array;
 use md_array::Mirror;
@@ -28,7 +28,7 @@ pub fn remove_member<D: Device + Drop, S: Sink>(
     mirror: &mut Mirror<D>,
     member: u32,
     out: &mut S,
-) -> (Option<D>, Result<(), DataFault>)
+) -> (Option<D>, Result<(), CommandFault>)
     requires sound { IsConsistent mirror.old }
     ensures gives { MatchResult result.1
         (λ _. StopsArrayAfter S.Sink (RemovesMember member mirror.old) mirror.new out.old out.new)
@@ -48,7 +48,7 @@ pub fn remove_member<D: Device + Drop, S: Sink>(
 }
 
 // Removes the member with this index, and hands its device back.
-fn remove_named<D: Device + Drop>(mirror: &mut Mirror<D>, member: u32) -> Result<D, DataFault>
+fn remove_named<D: Device + Drop>(mirror: &mut Mirror<D>, member: u32) -> Result<D, CommandFault>
     requires sound { IsConsistent mirror.old }
     ensures gives { MatchResult result
         (λ d. Removes member (disk_of D.Device d) mirror.old mirror.new)

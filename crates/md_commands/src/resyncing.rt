@@ -5,7 +5,7 @@ ghost use Rattle.md_state.specs.Requests.{IsPending};
 ghost use Rattle.md_array.specs.Consistency.{IsConsistent};
 ghost use Rattle.md_commands.specs.Resyncing.{RefusesNeededResync, RefusesToResync, ResyncsArray, ResyncsIfNeeded};
 
-use crate::fault::DataFault;
+use crate::fault::CommandFault;
 use crate::output::put_summary;
 use md_array::Mirror;
 use md_device::Device;
@@ -19,7 +19,7 @@ pub fn resync_array<D: Device + Drop, S: Sink>(
     alloc: Global,
     mirror: &mut Mirror<D>,
     out: &mut S,
-) -> Result<(), DataFault>
+) -> Result<(), CommandFault>
     requires sound { IsConsistent mirror.old }
     ensures gives { MatchResult result
         (λ _. ResyncsArray S.Sink mirror.old mirror.new out.old out.new)

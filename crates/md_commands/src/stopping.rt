@@ -5,7 +5,7 @@ ghost use Rattle.md_state.specs.Requests.{IsPending};
 ghost use Rattle.md_array.specs.Consistency.{IsConsistent};
 ghost use Rattle.md_commands.specs.Stopping.{RefusesToStop, StopsArray};
 
-use crate::fault::DataFault;
+use crate::fault::CommandFault;
 use crate::output::put_summary;
 use md_array::Mirror;
 use md_device::Device;
@@ -16,7 +16,7 @@ use md_metadata::stop;
 pub fn stop_array<D: Device + Drop, S: Sink>(
     mirror: &mut Mirror<D>,
     out: &mut S,
-) -> Result<(), DataFault>
+) -> Result<(), CommandFault>
     requires sound { IsConsistent mirror.old }
     ensures gives { MatchResult result
         (λ _. StopsArray S.Sink mirror.old mirror.new out.old out.new)

@@ -6,7 +6,7 @@ ghost use Rattle.md_array.specs.Consistency.{IsConsistent};
 ghost use Rattle.md_commands.specs.declared.way.Way.TheVariants.{Resynced, Unresynced};
 ghost use Rattle.md_commands.specs.Ways.{EndsBy, MayReadBy, ReadsBy};
 
-use crate::fault::DataFault;
+use crate::fault::CommandFault;
 use md_array::Mirror;
 use md_device::Device;
 use md_read::{UnreadFault, UnresyncedFault, read, read_unresynced};
@@ -22,10 +22,10 @@ pub(crate) enum Way {
 }
 
 /// The first sector of a piece that was not read, and why.
-#[derive(Clone, Copy, Debug, PartialEq, Eq)]
+#[derive(Debug, Drop)]
 pub(crate) struct Unread {
     pub(crate) sector: u64,
-    pub(crate) fault: DataFault,
+    pub(crate) fault: CommandFault,
 }
 
 /// Reads a piece of the array in this way. Where it is not read whole the sectors before the first that was not stand in it.
@@ -69,7 +69,7 @@ fn read_resynced<D: Device + Drop>(
         Ok(()) => Ok(()),
         Err(UnreadFault::Unreadable(s)) => Err(Unread {
             sector: s,
-            fault: DataFault::Read(UnreadFault::Unreadable(s)),
+            fault: CommandFault::Read(UnreadFault::Unreadable(s)),
         }),
         Err(_) => unreachable!(),
     }
@@ -94,11 +94,11 @@ fn read_marked_too<D: Device + Drop>(
         Ok(()) => Ok(()),
         Err(UnresyncedFault::Unreadable(s)) => Err(Unread {
             sector: s,
-            fault: DataFault::Read(UnreadFault::Unreadable(s)),
+            fault: CommandFault::Read(UnreadFault::Unreadable(s)),
         }),
         Err(UnresyncedFault::ReadFault(k, s)) => Err(Unread {
             sector: s,
-            fault: DataFault::Resync(ResyncFault::ReadFault(k, mirror.chunks().chunk_of(s))),
+            fault: CommandFault::Resync(ResyncFault::ReadFault(k, mirror.chunks().chunk_of(s))),
         }),
         Err(_) => unreachable!(),
     }

@@ -6,7 +6,7 @@ ghost use Rattle.md_array.specs.Consistency.{IsConsistent};
 ghost use Rattle.md_commands.specs.Stopping.{StopsAfter};
 ghost use Rattle.md_commands.specs.Writing.{RefusesBytes, RefusesToWrite, WritesArray, WritesReadied};
 
-use crate::fault::DataFault;
+use crate::fault::CommandFault;
 use crate::input::whole_input;
 use crate::output::put_summary;
 use crate::resyncing::resync_if_needed;
@@ -36,7 +36,7 @@ pub fn write_array<D: Device + Drop, I: Source, S: Sink>(
     sector: u64,
     input: &mut I,
     out: &mut S,
-) -> Result<(), DataFault>
+) -> Result<(), CommandFault>
     requires sound { IsConsistent mirror.old }
     ensures gives { MatchResult result
         (λ _. WritesArray I.Source S.Sink sector mirror.old mirror.new input.old input.new out.old out.new)
@@ -45,7 +45,7 @@ pub fn write_array<D: Device + Drop, I: Source, S: Sink>(
     ensures pending { (p : PendingView) → IsPending mirror.old.array p → IsPending mirror.new.array p }
 {
     if mirror.halted() {
-        return Err(DataFault::Write(BeginFault::Halted));
+        return Err(CommandFault::Write(BeginFault::Halted));
     }
     let bytes = whole_input(alloc, input, mirror.chunks().size)?;
     write_and_stop(alloc, mirror, sector, &bytes)?;
@@ -58,7 +58,7 @@ fn write_and_stop<D: Device + Drop>(
     mirror: &mut Mirror<D>,
     sector: u64,
     bytes: &[u8],
-) -> Result<(), DataFault>
+) -> Result<(), CommandFault>
     requires whole { length bytes.now % 512 ≡ 0 }
     requires sound { IsConsistent mirror.old }
     ensures gives { MatchResult result

@@ -1,6 +1,6 @@
 use Rattle.std.proofs.Common.{◌≡◌, ◌∙◌, ◌<◌, Bool, true, false, List, Option, Err, length, map, ap, subst, sym, inr, refl, rules}
 use Rattle.std.proofs.lemmas.List.{length-map}
-use Rattle.md_advice.specs.Faults.{of_images}
+use Rattle.md_commands.specs.Faults.{of_images}
 use Rattle.md_images.specs.declared.access.Access.{Access}
 use Rattle.md_images.specs.declared.fault.ImagesFault.{ImagesFault}
 use Rattle.md_images.specs.declared.fault.ImagesFault.TheVariants.{BadImage, NoMemory}

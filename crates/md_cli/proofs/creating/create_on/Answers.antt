@@ -2,7 +2,7 @@ use Rattle.std.proofs.Common.{◌≡◌, ◌∙◌, ◌<◌, List, [], length, m
 use Rattle.std.specs.Prelude.{slice_get, slice_index_or}
 use Rattle.std.proofs.lemmas.List.{length-map}
 use Rattle.md_state.specs.View.{disk_of}
-use Rattle.md_advice.specs.declared.fault.CommandFault.TheVariants.{MetadataFault}
+use Rattle.md_commands.specs.declared.fault.CommandFault.TheVariants.{MetadataFault}
 use Rattle.md_cli.specs.Arrays.{ShowsDevices}
 use Rattle.md_cli.specs.Creating.{AreLaidOut, FailsToLayOut, sizes_of}
 use Rattle.md_images.specs.Taking.{Word, word_of}

@@ -1,7 +1,7 @@
 use Rattle.std.proofs.Common.{rules, ◌≡◌, ◌<◌, ℕ, length, refl, subst}
 use Rattle.std.specs.Prelude.{Err}
 use Rattle.md_state.specs.FailingMembers.{RefusesFail}
-use Rattle.md_commands.specs.declared.fault.DataFault.TheVariants.{BadMember, Fail}
+use Rattle.md_commands.specs.declared.fault.CommandFault.TheVariants.{BadMember, Fail}
 use Rattle.md_commands.proofs.failing.fail_named.Goals as goal
 
 pub returns-in_err-k-clause-gives : goal.returns-in_err-k-clause-gives

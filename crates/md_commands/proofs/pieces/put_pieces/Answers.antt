@@ -1,7 +1,7 @@
 use Rattle.std.proofs.Common.{rules, Err, ◌≡◌, ◌∙◌, ◌+◌, ◌*◌, ◌-◌, ◌/◌, ◌<◌, ◌≤◌, ℕ, List, length, drop, take, min, refl, sym, subst, arith, length-append, length-drop}
 use Rattle.std.proofs.lemmas.List.{length-take-le}
 use Rattle.md_state.specs.View.{ArrayView}
-use Rattle.md_commands.specs.declared.fault.DataFault.TheVariants.{OutputFault}
+use Rattle.md_commands.specs.declared.fault.CommandFault.TheVariants.{OutputFault}
 use Rattle.md_commands.specs.declared.way.Way.{Way}
 use Rattle.md_commands.specs.Pieces.{piece_sectors}
 use Rattle.md_commands.specs.Ways.{MayReadBy}

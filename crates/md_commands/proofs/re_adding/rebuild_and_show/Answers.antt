@@ -1,6 +1,6 @@
 use Rattle.std.proofs.Common.{rules, ◌≡◌, refl}
 use Rattle.std.specs.Prelude.{Err}
-use Rattle.md_commands.specs.declared.fault.DataFault.TheVariants.{Rebuild}
+use Rattle.md_commands.specs.declared.fault.CommandFault.TheVariants.{Rebuild}
 use Rattle.md_commands.proofs.Rebuilt.{shown_or_not}
 use Rattle.md_commands.proofs.re_adding.rebuild_and_show.Goals as goal
 

@@ -1,6 +1,6 @@
 use Rattle.std.proofs.Common.{rules, ◌≡◌}
 use Rattle.std.specs.Prelude.{Err}
-use Rattle.md_commands.specs.declared.fault.DataFault.TheVariants.{Rebuild, Stop}
+use Rattle.md_commands.specs.declared.fault.CommandFault.TheVariants.{Rebuild, Stop}
 use Rattle.md_commands.proofs.rebuilding.rebuild_and_stop.Goals as goal
 
 pub returns-in_err-rebuilt-clause-gives : goal.returns-in_err-rebuilt-clause-gives

@@ -1,6 +1,6 @@
 use Rattle.std.proofs.Common.{rules, ◌≡◌, refl}
 use Rattle.std.specs.Prelude.{Err}
-use Rattle.md_commands.specs.declared.fault.DataFault.TheVariants.{Stop}
+use Rattle.md_commands.specs.declared.fault.CommandFault.TheVariants.{Stop}
 use Rattle.md_resync.specs.Resyncing.{Resyncs}
 use Rattle.md_commands.specs.Stopping.{StopsAfter}
 use Rattle.md_commands.proofs.Resynced.{resynced_or_not}

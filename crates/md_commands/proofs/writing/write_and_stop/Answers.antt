@@ -1,6 +1,6 @@
 use Rattle.std.proofs.Common.{rules, ◌≡◌}
 use Rattle.std.specs.Prelude.{Err}
-use Rattle.md_commands.specs.declared.fault.DataFault.TheVariants.{Stop, Write}
+use Rattle.md_commands.specs.declared.fault.CommandFault.TheVariants.{Stop, Write}
 use Rattle.md_commands.proofs.writing.write_and_stop.Goals as goal
 
 pub returns-in_err-write-clause-gives : goal.returns-in_err-write-clause-gives

@@ -1,5 +1,5 @@
--- The plan of a rebuild of one member of an array, and its report.
-use Rattle.std.specs.Prelude.{◌≡◌, ℕ, ◌≤◌, List, length}
+-- The command that plans the rebuild of a member.
+use Rattle.std.specs.Prelude.{◌≡◌, ℕ, true, List}
 use Rattle.md_cert.specs.declared.table.Row.{Row}
 use Rattle.md_cert.specs.declared.verdict.Verdict.{Verdict}
 use Rattle.md_cert.specs.declared.verdict.Verdict.TheVariants.{Yes}
@@ -15,10 +15,12 @@ use Rattle.md_copy.specs.Sources.{IsTableOf}
 use Rattle.md_copy.specs.Targets.{IsTarget}
 use Rattle.md_copy.specs.declared.fault.RebuildFault.{RebuildFault}
 use Rattle.md_copy.specs.Beginning.{RefusesTable}
-use Rattle.md_commands.specs.declared.fault.DataFault.TheVariants.{BadMember}
-use Rattle.md_report.specs.PlanReport.{plan_text}
-use Rattle.md_advice.specs.declared.fault.CommandFault.{CommandFault}
-use Rattle.md_advice.specs.declared.fault.CommandFault.TheVariants.{Data, Rebuild}
+use Rattle.md_examine.specs.declared.sink.Sink.{Ghosts}
+use Rattle.md_report.specs.RebuiltReport.{planned_text}
+use Rattle.md_commands.specs.declared.fault.CommandFault.{CommandFault}
+use Rattle.md_commands.specs.declared.fault.CommandFault.TheVariants.{BadMember, OutputFault, Rebuild}
+use Rattle.md_commands.specs.Failing.{LacksMember}
+use Rattle.md_commands.specs.Output.{PutsOut}
 
 -- A plan of the table of the chunks that the member lacks, in the fewest rounds, with a certificate for them. Whatever the
 -- checker may answer to it is `Yes`.
@@ -37,17 +39,23 @@ pub record IsRebuildPlan (a : ArrayView) (k : ℕ) (planned : Planned) : Type 0 
   pub target : IsTarget a member
   pub plans : PlansFor a member planned
 
--- its report
-pub record IsPlanText (a : ArrayView) (k : ℕ) (text : List ℕ) : Type 0 where
-  pub planned : Planned
-  pub is : IsRebuildPlan a k planned
-  pub shown : text ≡ plan_text planned.plan planned.certificate planned.orphans
-
 -- why there is none: the array has no member k; the member may not be rebuilt; or there is no memory
 abbrev pub RefusesTarget : ArrayView → ℕ → RebuildFault → Type 0
 RefusesTarget a k fault = (m : MemberView) × IsMember a k m × RefusesTable a m fault
 
 abbrev pub RefusesPlan : ArrayView → ℕ → CommandFault → Type 0
-RefusesPlan a k (Data BadMember) = length a.members ≤ k
+RefusesPlan a k BadMember = LacksMember a k
 RefusesPlan a k (Rebuild fault) = RefusesTarget a k fault
-RefusesPlan a k _ = ⊥
+RefusesPlan a k fault = ⊥
+
+module _ {S : Type 0} (s : Ghosts S) (a : ArrayView) (k : ℕ) (before after : S) where
+  -- the plan is put out
+  pub record ShowsPlan : Type 0 where
+    pub planned : Planned
+    pub is : IsRebuildPlan a k planned
+    pub shown : PutsOut s before after (planned_text planned)
+
+  -- there is none, and nothing is put out; or the output failed
+  abbrev pub RefusesToPlan : CommandFault → Type 0
+  RefusesToPlan OutputFault = s.failed after ≡ true
+  RefusesToPlan fault = RefusesPlan a k fault × (after ≡ before)

@@ -1,6 +1,6 @@
 use Rattle.std.proofs.Common.{rules, ◌≡◌, Err}
 use Rattle.md_copy.specs.declared.fault.RebuildFault.TheVariants.{NoMemory}
-use Rattle.md_cli.proofs.rebuild_plan.plan_target.Goals as goal
+use Rattle.md_commands.proofs.planning.plan_target.Goals as goal
 use Rattle.md_assembly.proofs.Indices.{got_within}
 
 pub returns-in_err-missing : goal.returns-in_err-missing

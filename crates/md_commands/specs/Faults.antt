@@ -1,8 +1,8 @@
 -- What a command says of images that are not opened.
 use Rattle.md_images.specs.declared.fault.ImagesFault.{ImagesFault}
 use Rattle.md_images.specs.declared.fault.ImagesFault.TheVariants as images
-use Rattle.md_advice.specs.declared.fault.CommandFault.{CommandFault}
-use Rattle.md_advice.specs.declared.fault.CommandFault.TheVariants.{BadImage, NoMemory}
+use Rattle.md_commands.specs.declared.fault.CommandFault.{CommandFault}
+use Rattle.md_commands.specs.declared.fault.CommandFault.TheVariants.{BadImage, NoMemory}
 
 -- what a command answers where devices are not taken out of their images
 abbrev pub of_images : ImagesFault → CommandFault

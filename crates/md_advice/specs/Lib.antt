@@ -1,2 +1,0 @@
--- What a command says of images that are not opened.
-pub mod Faults

@@ -1,0 +1,14 @@
+use Rattle.std.proofs.Common.{rules, ◌≡◌}
+use Rattle.std.specs.Prelude.{Err}
+use Rattle.md_commands.proofs.Planned.{not_planned, planned_or_not}
+use Rattle.md_commands.proofs.planning.show_plan.Goals as goal
+
+pub returns-in_err-planned : goal.returns-in_err-planned
+returns-in_err-planned g c =
+    let fault = c.in_err-planned.field-0.0 in
+    let is : c.from_residual.result ≡ Err fault = search rules in
+    rw is (not_planned g.S.Sink c.args.mirror.now.array c.args.member c.args.out.now fault c.in_err-planned.ensures)
+
+pub returns : goal.returns
+returns g c =
+    planned_or_not g.S.Sink c.args.mirror.now.array c.args.member c.args.out.now c.put_plan.new.out c.in_ok-planned.planned c.in_ok-planned.ensures c.put_plan.result c.put_plan.ensures
