@@ -1,8 +1,8 @@
 """The tests of the crates *_tests, each with each of its calls for memory refused in turn. A test passes, or fails in order; it
 never faults, hangs, or leaves memory that it does not free.
 
-The blocks that are left are counted in part_tests: no proof speaks of what is not freed. In the other crates some tests start threads,
-for which the C library keeps blocks of its own."""
+The blocks that are left are counted in part_tests and step_tests: no proof speaks of what is not freed. In others some tests start
+threads, for which the C library keeps blocks of its own."""
 
 import concurrent.futures
 import os
@@ -26,7 +26,7 @@ SUITES = {
     "notice_tests": None,
     "command_tests": None,
 }
-COUNTS_BLOCKS = ("part_tests",)
+COUNTS_BLOCKS = ("part_tests", "step_tests")
 
 # In these a call that finds no memory is made again, or ends the test, and so no comparison may fail; see their src/play.rt.
 NEVER_DIFFER = ("step_tests", "call_tests")
