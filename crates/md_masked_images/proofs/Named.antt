@@ -1,13 +1,13 @@
 -- Which map is of which image: one word after another.
-use Rattle.std.proofs.Common.{◌≡◌, ◌≢◌, ◌⊎◌, ◌∙◌, ◌+◌, ◌<◌, ◌||◌, ℕ, zero, suc, Bool, true, false, List, [], ◌∷◌, ◌++◌, length, map, Some, None, refl, sym, ap, subst, inl, inr, arith, true≢false}
+use Rattle.std.proofs.Common.{◌≡◌, ◌≢◌, ◌⊎◌, ◌∙◌, ◌+◌, ◌<◌, ◌||◌, ℕ, zero, suc, Bool, true, false, List, [], ◌∷◌, ◌++◌, length, map, Some, refl, sym, ap, subst, inl, inr, arith, true≢false}
 use Rattle.std.specs.Prelude.{◌==◌, slice_get, slice_index_or}
 use Rattle.std.specs.List.{list_any}
 use Rattle.std.specs.Borrow.{Bor}
 use Rattle.std.proofs.lemmas.Bool.{eq-eqb}
 use Rattle.std.proofs.lemmas.Option.{slice_get_within}
-use Rattle.std.proofs.lemmas.List.{length-append, length-map, get_or-map}
+use Rattle.std.proofs.lemmas.List.{length-append, get_or-map}
 use Rattle.md_images.specs.Taking.{Text, name_at}
-use Rattle.md_images.proofs.Taken.{below_next, get_before, get_last}
+use Rattle.md_images.proofs.Taken.{get_before, get_last}
 use Rattle.md_masked_images.specs.declared.words.MapWord.{MapWord}
 use Rattle.md_masked_images.specs.Words.{AreMaps, IsMapOf, NamesNone, as_map}
 
@@ -19,6 +19,9 @@ no_word = record { ref_ptr = (0, 0); now = [] }
 
 pub text_at : (words : List (Bor Text)) (i : ℕ) → i < length words → name_at (texts words) i ≡ (slice_index_or words i no_word).now
 text_at words i lt = get_or-map (λ s. s.now) words i no_word [] lt
+
+below_next : (i k : ℕ) → i < k + 1 → (i < k) ⊎ (i ≡ k)
+below_next i k lt = grind arith
 
 pub names_none : (names : List Text) (word : Text) → NamesNone names 0 word
 names_none names word i lt = absurd (omega (arith, lt))
@@ -44,11 +47,11 @@ neither : (a b : Bool) → (a || b) ≡ false → (a ≡ false) × (b ≡ false)
 neither true b e = absurd (true≢false e)
 neither false b e = (refl, e)
 
-abbrev is_of : ℕ → MapWord → Bool
+abbrev pub is_of : ℕ → MapWord → Bool
 is_of image other = other.image == image
 
 not_among : (maps : List MapWord) (image i : ℕ) (a : MapWord) → list_any (is_of image) maps ≡ false → slice_get maps i ≡ Some a → a.image ≢ image
-not_among [] image i a e at same = let lt : i < length {MapWord} [] = slice_get_within [] i a at in absurd (omega (arith, lt))
+not_among [] image i a e at same = let lt : i < 0 = slice_get_within [] i a at in absurd (omega (arith, lt))
 not_among (m ∷ maps) image zero a e at same =
     let is : m ≡ a = same_some m a at in
     true≢false (sym (eq-eqb m.image image (ap (λ (x : MapWord). x.image) is ∙ same)) ∙ (neither _ _ e).0)
@@ -63,14 +66,14 @@ maps_next names words n maps now m word is so found fresh grows =
       each = λ k x at. elim (place k x at) [
         | inl less ↦ so.each k x (sym (get_before maps (m ∷ []) k less) ∙ at)
         | inr last ↦
-          let here : k ≡ n = last ∙ so.many in
-          subst (λ (y : MapWord). IsMapOf names (name_at words k) y) (same_some m x (sym (get_last maps m k last) ∙ at))
-          (subst (λ (t : Text). IsMapOf names t m) (sym (ap (λ (j : ℕ). name_at words j) here ∙ is)) found)
+            let here : k ≡ n = last ∙ so.many in
+            subst (λ (y : MapWord). IsMapOf names (name_at words k) y) (same_some m x (sym (get_last maps m k last) ∙ at))
+            (subst (λ (t : Text). IsMapOf names t m) (sym (ap (λ (j : ℕ). name_at words j) here ∙ is)) found)
       ];
       distinct = λ i k a b before at_i at_k. elim (place k b at_k) [
         | inl less ↦ so.distinct i k a b before (sym (get_before maps (m ∷ []) i (omega (arith, before, less))) ∙ at_i) (sym (get_before maps (m ∷ []) k less) ∙ at_k)
         | inr last ↦ (λ same. not_among maps m.image i a fresh (sym (get_before maps (m ∷ []) i (omega (arith, before, last))) ∙ at_i)
-          (same ∙ ap (λ (x : MapWord). x.image) (sym (same_some m b (sym (get_last maps m k last) ∙ at_k)))))
+            (same ∙ ap (λ (x : MapWord). x.image) (sym (same_some m b (sym (get_last maps m k last) ∙ at_k)))))
       ];
     })
   where

@@ -1,5 +1,5 @@
 -- Which map is of which image.
-use Rattle.std.specs.Prelude.{◌≡◌, ◌≢◌, ◌<◌, ◌++◌, ◌∷◌, ℕ, List, [], length, Some, slice_get}
+use Rattle.std.specs.Prelude.{◌≡◌, ◌≢◌, ◌<◌, ◌++◌, ◌∷◌, ℕ, List, length, Some, slice_get}
 use Rattle.md_images.specs.Taking.{Text, name_at}
 use Rattle.md_masked_images.specs.declared.words.MapWord.{MapWord}
 
