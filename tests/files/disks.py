@@ -254,6 +254,22 @@ class Disks:
             finally:
                 tool("swapoff", device)
 
+    def swap_file(self, name):
+        """A file that is swapped on without a loop device. The system's list has its name with the spaces escaped."""
+        image = self.image("a file that is swapped on.img", bytes(8192 * SECTOR), mode=0o600)
+        tool("mkswap", image)
+        tool("swapon", image)
+        try:
+            self.refused_in_use(name, image)
+            link = self.scratch / "link to a swap file.img"
+            os.link(str(image), str(link))
+            self.refused_in_use(name + ": another link to it", link)
+            link.unlink()
+            self.not_added(name, image)
+        finally:
+            tool("swapoff", image)
+        self.judge(name + ", no more", self.run(create([image]))[0], 0)
+
     def held(self, name):
         backing = self.image("held backing.img")
         with loop_device(backing) as device, holder_of(device, 4096):
@@ -329,6 +345,7 @@ class Disks:
         self.attempt("a disk below a mounted one", self.mounted_above)
         self.attempt("a file below two loop devices", self.stacked)
         self.attempt("a disk that is swapped on", self.swapped_on)
+        self.attempt("a file that is swapped on", self.swap_file)
         self.attempt("a disk that device mapper holds", self.held)
         self.attempt("a disk with a mounted partition", self.partitioned)
         self.attempt("two nodes of one disk", self.two_nodes)

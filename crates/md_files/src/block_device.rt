@@ -1,4 +1,5 @@
 // What the system tells of a block device.
+use std::alloc::{AllocError, Global};
 use std::fs::{Files, Metadata};
 use std::io::ErrorKind;
 use std::os::unix::fs::{FileTypeExt, MetadataExt};
@@ -154,6 +155,51 @@ pub(crate) fn backs_device_in_use<R: Files + AllocGlobal>(
         }
     }
     Ok(false)
+}
+
+/// Whether the system swaps on the file with this metadata. It names its swap files by paths.
+pub(crate) fn is_swap_file<R: Files + AllocGlobal>(rt: &R, file: &Metadata) -> io::Result<bool> {
+    let swaps = read(rt, "/proc/swaps")?;
+    for line in swaps.split(|byte| *byte == b'\n') {
+        let path = line.split(|byte| byte.is_ascii_whitespace()).next();
+        if let Some(path) = path
+            && is_path_of(rt, path, file)?
+        {
+            return Ok(true);
+        }
+    }
+    Ok(false)
+}
+
+// Whether a path of the system's lists names the file with this metadata.
+fn is_path_of<R: Files + AllocGlobal>(rt: &R, path: &[u8], file: &Metadata) -> io::Result<bool> {
+    let name = unescaped(rt.alloc(), path)?;
+    let Ok(name) = str::from_utf8(name.as_slice()) else {
+        return Ok(false);
+    };
+    Ok(told(fs::metadata(rt, name))?
+        .is_some_and(|named| named.dev() == file.dev() && named.ino() == file.ino()))
+}
+
+// A path of the system's lists as it is: there each byte that would end a word is a backslash and three octal digits.
+fn unescaped(alloc: Global, path: &[u8]) -> Result<Vec<u8>, AllocError> {
+    let mut name = Vec::new(alloc);
+    let mut parts = path.split(|byte| *byte == b'\\');
+    if let Some(first) = parts.next() {
+        name.extend_from_slice(first)?;
+    }
+    for part in parts {
+        let digits = &part[..part.len().min(3)];
+        if let Some(byte) = octal(digits) {
+            name.push(byte)?;
+        }
+        name.extend_from_slice(&part[digits.len()..])?;
+    }
+    Ok(name)
+}
+
+fn octal(digits: &[u8]) -> Option<u8> {
+    u8::from_str_radix(str::from_utf8(digits).ok()?, 8).ok()
 }
 
 // The loop devices that have a size, so a backing file.

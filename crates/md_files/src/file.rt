@@ -3,7 +3,7 @@ ghost use Rattle.std.specs.Prelude.{◌≡◌, ◌≢◌, ◌+◌, ◌*◌, ◌^
 ghost use Rattle.std.specs.Fs.{file_type, IsDir, IsFile};
 ghost use Rattle.md_images.specs.declared.access.Access.TheVariants.{Look, Change};
 
-use crate::block_device::{BlockDevice, backs_device_in_use};
+use crate::block_device::{BlockDevice, backs_device_in_use, is_swap_file};
 use md_device::{Device, ReadFault, WriteFault};
 use md_images::{Access, ImageFault};
 use std::fs::{File, Files, Metadata, OpenOptions, TryLockError};
@@ -55,8 +55,9 @@ impl FileDevice {
     /// file have a lock each, and so have two nodes where there is no /sys. Where the file system
     /// can't lock it answers `Io`: without the lock nothing would stop two writers.
     ///
-    /// A block device that the system uses is not opened to be changed, nor is what lies below a loop device
-    /// that it uses, its backing file or that of a loop device between, as far as /proc and /sys tell: what they
+    /// A block device that the system uses is not opened to be changed, nor is a file that it swaps on, nor what lies
+    /// below a loop device that it uses, its backing file or that of a loop device between, as far as /proc and /sys
+    /// tell: what they
     /// don't tell, as where they are absent, counts as not in use. They tell of the mounts of this process's own
     /// mount namespace, and of a backing file by the path at which it was opened.
     ///
@@ -227,7 +228,9 @@ fn open_to_change<R: Files<File = File> + AllocGlobal>(
     if let Some(device) = block_device {
         check_unused(rt, device)?;
     }
-    if backs_device_in_use(rt, &metadata).map_err(ImageFault::Io)? {
+    if is_swap_file(rt, &metadata).map_err(ImageFault::Io)?
+        || backs_device_in_use(rt, &metadata).map_err(ImageFault::Io)?
+    {
         return Err(ImageFault::InUse);
     }
     match OpenOptions::new().read(true).write(true).open(rt, path) {

@@ -3,7 +3,7 @@ use Rattle.std.proofs.Common.{◌≡◌, ◌≢◌, ℕ, List, map, refl, ◌∙
 use Rattle.std.specs.List.{list_any}
 use Rattle.md_signatures.specs.declared.magic.Magic.{Magic}
 use Rattle.md_signatures.specs.declared.signature.Signature.{Signature}
-use Rattle.md_signatures.specs.declared.signature.Signature.TheVariants.{Md090, Md10, Md11, Luks, Lvm2, Bcache, Gpt, Mbr, Swap, Ext, Xfs, Btrfs, F2fs, Jfs, Reiserfs, Ntfs, Exfat, Fat, Squashfs, Iso9660}
+use Rattle.md_signatures.specs.declared.signature.Signature.TheVariants.{Md090, Md10, Md11, Md12, Luks, Lvm2, Bcache, Gpt, Mbr, Swap, Ext, Xfs, Btrfs, F2fs, Jfs, Reiserfs, Ntfs, Exfat, Fat, Squashfs, Iso9660}
 use Rattle.md_signatures.specs.Bearing.{bears, has_magic}
 use Rattle.md_signatures.specs.Magics.{has_sign, sign_of}
 use Rattle.md_signatures.specs.Table.{magics}
@@ -15,6 +15,7 @@ by_magics content Md090 a b c = absurd (a refl)
 by_magics content Md10 a b c = absurd (b refl)
 by_magics content Mbr a b c = absurd (c refl)
 by_magics content Md11 a b c = refl
+by_magics content Md12 a b c = refl
 by_magics content Luks a b c = refl
 by_magics content Lvm2 a b c = refl
 by_magics content Bcache a b c = refl

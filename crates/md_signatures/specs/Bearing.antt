@@ -3,7 +3,7 @@ use Rattle.std.specs.Prelude.{ℕ, ◌*◌, ◌-◌, ◌/◌, Bool, false, List,
 use Rattle.std.specs.List.{list_any}
 use Rattle.md_device.specs.Device.{held}
 use Rattle.md_signatures.specs.declared.signature.Signature.{Signature}
-use Rattle.md_signatures.specs.declared.signature.Signature.TheVariants.{Md090, Md10, Md11, Luks, Lvm2, Bcache, Gpt, Mbr, Swap, Ext, Xfs, Btrfs, F2fs, Jfs, Reiserfs, Ntfs, Exfat, Fat, Squashfs, Iso9660}
+use Rattle.md_signatures.specs.declared.signature.Signature.TheVariants.{Md090, Md10, Md11, Md12, Luks, Lvm2, Bcache, Gpt, Mbr, Swap, Ext, Xfs, Btrfs, F2fs, Jfs, Reiserfs, Ntfs, Exfat, Fat, Squashfs, Iso9660}
 use Rattle.md_signatures.specs.Magics.{has_sign, sign}
 use Rattle.md_signatures.specs.Partitions.{is_partition_table}
 use Rattle.md_signatures.specs.Table.{magics, md_magic}
@@ -32,6 +32,7 @@ bears content Md090 = has_superblock content (md_090_place (length content / 512
 bears content Md10 = has_superblock content (md_10_place (length content / 512))
 bears content Mbr = is_partition_table (held content 0 512)
 bears content Md11 = has_magic content Md11
+bears content Md12 = has_magic content Md12
 bears content Luks = has_magic content Luks
 bears content Lvm2 = has_magic content Lvm2
 bears content Bcache = has_magic content Bcache

@@ -3,13 +3,13 @@ use Rattle.std.specs.Prelude.{◌≡◌, true, List, [], ◌∷◌}
 use Rattle.std.specs.List.{All, filter}
 use Rattle.md_device.specs.declared.device.Device.{Ghosts}
 use Rattle.md_signatures.specs.declared.signature.Signature.{Signature}
-use Rattle.md_signatures.specs.declared.signature.Signature.TheVariants.{Md090, Md10, Md11, Luks, Lvm2, Bcache, Gpt, Mbr, Swap, Ext, Xfs, Btrfs, F2fs, Jfs, Reiserfs, Ntfs, Exfat, Fat, Squashfs, Iso9660}
+use Rattle.md_signatures.specs.declared.signature.Signature.TheVariants.{Md090, Md10, Md11, Md12, Luks, Lvm2, Bcache, Gpt, Mbr, Swap, Ext, Xfs, Btrfs, F2fs, Jfs, Reiserfs, Ntfs, Exfat, Fat, Squashfs, Iso9660}
 use Rattle.md_signatures.specs.Bearing.{bears}
 
 -- all of them, in the order in which they are told
 abbrev pub signatures : List Signature
 signatures =
-    Md090 ∷ Md10 ∷ Md11 ∷ Luks ∷ Lvm2 ∷ Bcache ∷ Gpt ∷ Mbr ∷ Swap ∷ Ext ∷ Xfs ∷ Btrfs ∷ F2fs ∷ Jfs ∷ Reiserfs ∷ Ntfs ∷ Exfat
+    Md090 ∷ Md10 ∷ Md11 ∷ Md12 ∷ Luks ∷ Lvm2 ∷ Bcache ∷ Gpt ∷ Mbr ∷ Swap ∷ Ext ∷ Xfs ∷ Btrfs ∷ F2fs ∷ Jfs ∷ Reiserfs ∷ Ntfs ∷ Exfat
     ∷ Fat ∷ Squashfs ∷ Iso9660 ∷ []
 
 -- an honest device bears all that was found; where no call failed, these are all that it bears, in their order

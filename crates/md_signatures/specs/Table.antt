@@ -2,7 +2,7 @@
 -- swap and ext of the kernel's headers, and all are in libblkid's tables.
 use Rattle.std.specs.Prelude.{ℕ, List, [], ◌∷◌, codes}
 use Rattle.md_signatures.specs.declared.signature.Signature.{Signature}
-use Rattle.md_signatures.specs.declared.signature.Signature.TheVariants.{Md090, Md10, Md11, Luks, Lvm2, Bcache, Gpt, Mbr, Swap, Ext, Xfs, Btrfs, F2fs, Jfs, Reiserfs, Ntfs, Exfat, Fat, Squashfs, Iso9660}
+use Rattle.md_signatures.specs.declared.signature.Signature.TheVariants.{Md090, Md10, Md11, Md12, Luks, Lvm2, Bcache, Gpt, Mbr, Swap, Ext, Xfs, Btrfs, F2fs, Jfs, Reiserfs, Ntfs, Exfat, Fat, Squashfs, Iso9660}
 use Rattle.md_signatures.specs.Magics.{Sign, sign}
 
 -- the magic number 0xa92b4efc of an md superblock
@@ -14,6 +14,7 @@ abbrev pub magics : Signature → List Sign
 magics Md090 = []
 magics Md10 = []
 magics Md11 = sign 0 md_magic ∷ []
+magics Md12 = sign 4096 md_magic ∷ []
 magics Luks = sign 0 (0x4c ∷ 0x55 ∷ 0x4b ∷ 0x53 ∷ 0xba ∷ 0xbe ∷ []) ∷ []
 magics Lvm2 = sign 24 (codes "LVM2 001") ∷ sign 536 (codes "LVM2 001") ∷ sign 1048 (codes "LVM2 001") ∷ sign 1560 (codes "LVM2 001") ∷ []
 magics Bcache = sign 4120 (0xc6 ∷ 0x85 ∷ 0x73 ∷ 0xf6 ∷ 0x4e ∷ 0x1a ∷ 0x45 ∷ 0xca ∷ 0x82 ∷ 0x65 ∷ 0xf5 ∷ 0x7f ∷ 0x48 ∷ 0xba ∷ 0x6d ∷ 0x81 ∷ []) ∷ []

@@ -1,12 +1,13 @@
 -- What is said of each signature.
 use Rattle.std.specs.Prelude.{ℕ, List, codes}
 use Rattle.md_signatures.specs.declared.signature.Signature.{Signature}
-use Rattle.md_signatures.specs.declared.signature.Signature.TheVariants.{Md090, Md10, Md11, Luks, Lvm2, Bcache, Gpt, Mbr, Swap, Ext, Xfs, Btrfs, F2fs, Jfs, Reiserfs, Ntfs, Exfat, Fat, Squashfs, Iso9660}
+use Rattle.md_signatures.specs.declared.signature.Signature.TheVariants.{Md090, Md10, Md11, Md12, Luks, Lvm2, Bcache, Gpt, Mbr, Swap, Ext, Xfs, Btrfs, F2fs, Jfs, Reiserfs, Ntfs, Exfat, Fat, Squashfs, Iso9660}
 
 abbrev pub text_of : Signature → List ℕ
 text_of Md090 = codes "an md superblock of version 0.90"
 text_of Md10 = codes "an md superblock of version 1.0"
 text_of Md11 = codes "an md superblock of version 1.1"
+text_of Md12 = codes "an md superblock of version 1.2"
 text_of Luks = codes "a LUKS volume"
 text_of Lvm2 = codes "an LVM2 physical volume"
 text_of Bcache = codes "a bcache device"

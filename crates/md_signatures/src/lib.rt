@@ -1,5 +1,5 @@
-//! What a device holds now, as a few of its bytes tell: file systems, partition tables, volumes and md superblocks
-//! of versions other than 1.2, by their magic numbers. A device is only read.
+//! What a device holds now, as a few of its bytes tell: file systems, partition tables, volumes and md superblocks, by
+//! their magic numbers. A device is only read.
 #![tactic(auto)]
 
 mod bearing;

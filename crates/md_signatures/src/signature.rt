@@ -11,6 +11,8 @@ pub enum Signature {
     Md10,
     /// One of version 1.1, at the start of the device.
     Md11,
+    /// One of version 1.2, at byte 4096.
+    Md12,
     /// A LUKS header.
     Luks,
     /// A label of LVM2.
@@ -36,10 +38,11 @@ pub enum Signature {
 }
 
 /// All of them, in the order in which they are told.
-pub const SIGNATURES: [Signature; 20] = [
+pub const SIGNATURES: [Signature; 21] = [
     Signature::Md090,
     Signature::Md10,
     Signature::Md11,
+    Signature::Md12,
     Signature::Luks,
     Signature::Lvm2,
     Signature::Bcache,
@@ -68,6 +71,7 @@ impl Signature {
             Signature::Md090 => "an md superblock of version 0.90",
             Signature::Md10 => "an md superblock of version 1.0",
             Signature::Md11 => "an md superblock of version 1.1",
+            Signature::Md12 => "an md superblock of version 1.2",
             Signature::Luks => "a LUKS volume",
             Signature::Lvm2 => "an LVM2 physical volume",
             Signature::Bcache => "a bcache device",

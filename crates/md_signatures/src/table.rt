@@ -12,6 +12,11 @@ const MD11: [Magic; 1] = [Magic {
     bytes: b"\xfc\x4e\x2b\xa9",
 }];
 
+const MD12: [Magic; 1] = [Magic {
+    place: 4096,
+    bytes: b"\xfc\x4e\x2b\xa9",
+}];
+
 const LUKS: [Magic; 1] = [Magic {
     place: 0,
     bytes: b"LUKS\xba\xbe",
@@ -204,6 +209,7 @@ pub(crate) fn magics(signature: Signature) -> &'static [Magic]
 {
     match signature {
         Signature::Md11 => &MD11,
+        Signature::Md12 => &MD12,
         Signature::Luks => &LUKS,
         Signature::Lvm2 => &LVM2,
         Signature::Bcache => &BCACHE,

@@ -23,7 +23,7 @@ struct Row {
 
 const MD: &[u8] = b"\xfc\x4e\x2b\xa9";
 
-const ROWS: [Row; 54] = [
+const ROWS: [Row; 55] = [
     Row {
         place: 65536,
         bytes: MD,
@@ -54,9 +54,13 @@ const ROWS: [Row; 54] = [
         bytes: MD,
         found: &[],
     },
-    // That of version 1.2 is told by reading the member.
     Row {
         place: 4096,
+        bytes: MD,
+        found: &[Signature::Md12],
+    },
+    Row {
+        place: 4608,
         bytes: MD,
         found: &[],
     },
