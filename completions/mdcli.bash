@@ -8,7 +8,7 @@ _mdcli_commands() {
 # The options of a command, beside --help and --verbose. A value follows one that ends in =.
 _mdcli_options() {
   case $1 in
-    create) printf '%s\n' --level= --raid-devices= --uuid= --name= --bitmap-chunk= --size= --time= --write-mostly= --assume-clean ;;
+    create) printf '%s\n' --level= --raid-devices= --uuid= --name= --bitmap-chunk= --size= --time= --write-mostly= --assume-clean --run ;;
     assemble) printf '%s\n' --readonly ;;
     detail | check) printf '%s\n' --readonly --map= ;;
     plan) printf '%s\n' --member= --readonly --map= ;;

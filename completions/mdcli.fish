@@ -35,13 +35,13 @@ complete -c mdcli -n '__fish_seen_subcommand_from create' -l size -x -d "The siz
 complete -c mdcli -n '__fish_seen_subcommand_from create' -l time -x -d "The time that the array is created at, since 1970"
 complete -c mdcli -n '__fish_seen_subcommand_from create' -l write-mostly -x -d "The role of a member that is read only where no other can serve"
 complete -c mdcli -n '__fish_seen_subcommand_from create' -l assume-clean -d "Takes the members for equal, so that nothing is to be copied"
+complete -c mdcli -n '__fish_seen_subcommand_from create add re-add rebuild' -l run -d "Asks nothing at a terminal, and goes on"
 complete -c mdcli -n '__fish_seen_subcommand_from assemble detail plan read check' -l readonly -d "Changes no image: what would be stored is kept in memory"
 complete -c mdcli -n '__fish_seen_subcommand_from detail plan read check resync rebuild' -l map -x -d "The image is a copy of a disk, and FILE ddrescue's map of it: what it lacks is not read; of each image one"
 complete -c mdcli -n '__fish_seen_subcommand_from plan fail remove rebuild' -l member -x -d "The member: its place among the images, from 0, or its image as it is listed"
 complete -c mdcli -n '__fish_seen_subcommand_from read write' -l sector -x -d "The first sector of the array, from 0; a sector has 512 bytes"
 complete -c mdcli -n '__fish_seen_subcommand_from read' -l count -x -d "The number of sectors"
 complete -c mdcli -n '__fish_seen_subcommand_from add re-add' -l device -r -F -d "The image that joins the array: a file or a block device, none of those listed"
-complete -c mdcli -n '__fish_seen_subcommand_from add re-add rebuild' -l run -d "Asks nothing at a terminal, and goes on"
 complete -c mdcli -n '__fish_seen_subcommand_from examine examine-bitmap examine-badblocks create assemble detail plan read write check resync stop fail remove add re-add rebuild' -s v -l verbose -d "Says more of a refusal: the image that it is about, and what to do"
 
 complete -c mdcli -n '__fish_seen_subcommand_from create' -a missing -d 'A member that is not there'

@@ -876,7 +876,7 @@ CASES = [
             create("raid1", 2, 4, "--assume-clean a b", output=CLEAN, changes="a b"),
             Step("add --device d a b", fault="TooSmall"),
             Step("add --device c a b", "in sync 2 of 2, events 2, marked 0\n", told=EXT % "c", changes="a b c"),
-            Step("add --device b a c", "in sync 1 of 2, events 3, marked 0\n", told=FORGOTTEN % "b" + UNNAMED % (1, 1), changes="a b c"),
+            Step("add --device b a c", "in sync 1 of 2, events 3, marked 0\n", told=FORGOTTEN % "b", changes="a b c"),
         ],
     ),
     ("the plan of a third member", TWO, WITH_A_SPARE + [Step("plan --member 2 a b c", PLAN)]),

@@ -257,17 +257,18 @@ class Disks:
     def swap_file(self, name):
         """A file that is swapped on without a loop device. The system's list has its name with the spaces escaped."""
         image = self.image("a file that is swapped on.img", bytes(8192 * SECTOR), mode=0o600)
+        # The system makes no link to a file that it swaps on.
+        link = self.scratch / "link to a swap file.img"
+        os.link(str(image), str(link))
         tool("mkswap", image)
         tool("swapon", image)
         try:
             self.refused_in_use(name, image)
-            link = self.scratch / "link to a swap file.img"
-            os.link(str(image), str(link))
             self.refused_in_use(name + ": another link to it", link)
-            link.unlink()
             self.not_added(name, image)
         finally:
             tool("swapoff", image)
+        link.unlink()
         self.judge(name + ", no more", self.run(create([image]))[0], 0)
 
     def held(self, name):

@@ -131,7 +131,7 @@ fn target_of(command: Command<'_>, names: &[&str]) -> Option<usize> {
 }
 
 // What to do. Of a log that is full it depends on whether it is the target's, of an array that can't be made on the options,
-// and for the want of memory on whether an input is held there.
+// and where there is no memory on whether an input is held there.
 fn what_to_do(fault: &CommandFault, names: &[&str], command: Command<'_>) -> &'static str {
     match fault {
         CommandFault::Rebuild(RebuildFault::LogFull(device))

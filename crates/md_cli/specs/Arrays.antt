@@ -52,7 +52,7 @@ module _ {S : Type 0} (s : SinkGhosts S) where
   abbrev pub ShowsDevices : List Disk → List Disk → S → S → Result (Unit {0}) CommandFault → Type 0
   ShowsDevices before after old new result = ShowsMirror before after old new result ⊎ RefusesMirror before after old new result
 
--- An overlay refuses a write for want of memory alone: then that is the fault.
+-- An overlay refuses a write only where there is no memory for it: then that is the fault.
 abbrev pub told_of_overlays : Result (Unit {0}) CommandFault → Result (Unit {0}) CommandFault
 told_of_overlays (Err (Open (MetadataFault k))) = Err NoMemory
 told_of_overlays result = result

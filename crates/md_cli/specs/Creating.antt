@@ -12,8 +12,13 @@ use Rattle.md_state.specs.View.{Disk, of_disks}
 use Rattle.md_examine.specs.declared.sink.Sink.{Ghosts}
 use Rattle.md_commands.specs.declared.fault.CommandFault.{CommandFault}
 use Rattle.md_commands.specs.declared.fault.CommandFault.TheVariants as fault
+use Rattle.md_words.specs.Asks.{Ask}
+use Rattle.md_cli.specs.declared.notices.Notices.{Notices}
 use Rattle.md_cli.specs.Arrays.{ShowsDevices}
-use Rattle.md_images.specs.Taking.{image_list, is_missing}
+use Rattle.md_cli.specs.Holding.{LooksAtAll}
+use Rattle.md_cli.specs.Noticed.{asks_first}
+use Rattle.md_cli.specs.Streams.{Told}
+use Rattle.md_images.specs.Taking.{Word, image_list, is_missing}
 
 -- the sectors of a device
 abbrev pub sectors_on : Disk → ℕ
@@ -56,7 +61,7 @@ pub record AreNewMembers (params : CreateParams) (words : List Text) (disks : Li
   pub are : AreMembers params (sizes_of words disks) size members
   pub as_many : length members ≡ length disks
 
-module _ {S : Type 0} (s : Ghosts S) (params : CreateParams) (words : List Text) where
+module _ (params : CreateParams) (words : List Text) where
   -- Before the first write: the devices make no array, or there is no memory.
   abbrev pub IsRefusal : List Disk → CommandFault → Type 0
   IsRefusal disks (fault.Create BadGeometry) = (size : ℕ) → IsGeometry params (sizes_of words disks) size → ⊥
@@ -64,32 +69,51 @@ module _ {S : Type 0} (s : Ghosts S) (params : CreateParams) (words : List Text)
   IsRefusal disks fault.NoMemory = Unit {0}
   IsRefusal disks _ = ⊥
 
-  pub record RefusesDevices (before after : List Disk) (old new : S) (result : Result (Unit {0}) CommandFault) : Type 0 where
+  pub record RefusesDevices {X : Type 0} (before after : List Disk) (old new : X) (result : Result (Unit {0}) CommandFault) : Type 0 where
     pub why : CommandFault
     pub is : result ≡ Err why
     pub refused : IsRefusal before why
     pub untouched : after ≡ before
     pub unwritten : new ≡ old
 
+module _ {S : Type 0} (s : Ghosts S) (list : List Word) (members : List NewMember) where
   -- A write fails while a member is laid out, which is named by the place of its image word.
   pub record StopsOnDevice (before after : List Disk) (old new : S) (result : Result (Unit {0}) CommandFault) : Type 0 where
-    pub members : List NewMember
-    pub made : AreNewMembers params words before members
     pub place : ℕ
     pub within : place < length before
-    pub is : result ≡ Err (fault.MetadataFault (slice_index_or (image_list true words) place (0, [])).0)
+    pub is : result ≡ Err (fault.MetadataFault (slice_index_or list place (0, [])).0)
     pub laid_out : AreLaidOut before after members place
     pub stopped : At FailsToLayOut before after members place
     pub unwritten : new ≡ old
 
   -- All members are laid out, and the devices are opened and shown in a line.
   pub record LaysOutAll (before after : List Disk) (old new : S) (result : Result (Unit {0}) CommandFault) : Type 0 where
-    pub members : List NewMember
-    pub made : AreNewMembers params words before members
     pub middle : List Disk
     pub laid_out : AreLaidOut before middle members (length before)
     pub opened : ShowsDevices s middle after old new result
 
-  abbrev pub CreatesOn : List Disk → List Disk → S → S → Result (Unit {0}) CommandFault → Type 0
+  abbrev pub LaysOutOn : List Disk → List Disk → S → S → Result (Unit {0}) CommandFault → Type 0
+  LaysOutOn before after old new result = StopsOnDevice before after old new result ⊎ LaysOutAll before after old new result
+
+-- It was asked, and the answer was not yes: nothing is written.
+pub record DeclinesToCreate {X : Type 0} (ask : Ask) (n : Notices) (before after : List Disk) (old new : X) (result : Result (Unit {0}) CommandFault) : Type 0 where
+  pub asked : asks_first ask n ≡ true
+  pub is : result ≡ Err fault.Declined
+  pub same : after ≡ before
+  pub unwritten : new ≡ old
+
+module _ {R S : Type 0} (s : Ghosts S) (ask : Ask) (params : CreateParams) (words : List Text) where
+  -- The devices make an array. What they hold is noted, for which they are only read; then its members are laid out on them, unless
+  -- that is asked first and declined.
+  pub record MakesMembers (before after : List Disk) (old new : Told R S) (result : Result (Unit {0}) CommandFault) : Type 0 where
+    pub members : List NewMember
+    pub made : AreNewMembers params words before members
+    pub seen : List Disk
+    pub looks : LooksAtAll before seen old.notices new.notices
+    pub input : new.streams.input ≡ old.streams.input
+    pub done : LaysOutOn s (image_list true words) members seen after old.streams.output new.streams.output result
+        ⊎ DeclinesToCreate ask new.notices seen after old.streams.output new.streams.output result
+
+  abbrev pub CreatesOn : List Disk → List Disk → Told R S → Told R S → Result (Unit {0}) CommandFault → Type 0
   CreatesOn before after old new result =
-      RefusesDevices before after old new result ⊎ (StopsOnDevice before after old new result ⊎ LaysOutAll before after old new result)
+      RefusesDevices params words before after old new result ⊎ MakesMembers before after old new result

@@ -1,27 +1,16 @@
 -- What a device holds that is to join an array, and what it is to that array.
-use Rattle.std.specs.Prelude.{◌≡◌, Bool, true, false, Option, Some, None}
-use Rattle.md_members.specs.Reading.{ReadsSuper}
+use Rattle.std.specs.Prelude.{◌≡◌, ◌≢◌, ℕ, Bool, false, Global, List, Option, Some, None, Vec}
+use Rattle.std.specs.List.{list_any}
 use Rattle.md_notices.specs.Belonging.{IsForgotten}
 use Rattle.md_notices.specs.Parting.{WasApart}
-use Rattle.md_signatures.specs.Bearing.{bears}
-use Rattle.md_signatures.specs.Reading.{OnlyRead}
-use Rattle.md_state.specs.View.{ArrayView, Disk, of_disks}
+use Rattle.md_held.specs.declared.held.Held.{Held}
+use Rattle.md_held.specs.declared.held.Held.TheVariants.{Member}
+use Rattle.md_held.specs.Holding.{Holds, LooksAtEach, LooksAtOne, is_known}
+use Rattle.md_state.specs.View.{ArrayView, Disk}
+use Rattle.md_super.specs.declared.superblock.Superblock.{Superblock}
 use Rattle.md_words.specs.declared.overwritten.Overwritten.{Overwritten}
 use Rattle.md_words.specs.declared.overwritten.Overwritten.TheVariants.{NewDevice, ReturningDevice}
-use Rattle.md_cli.specs.declared.held.Held.{Held}
-use Rattle.md_cli.specs.declared.held.Held.TheVariants.{Nothing, Member, Signed}
 use Rattle.md_cli.specs.declared.notices.Notices.{Notices}
-
-abbrev pub is_known : Held → Bool
-is_known Nothing = false
-is_known (Member v) = true
-is_known (Signed s) = true
-
--- What is told of a device is so, where it is honest; of another one it is of some bytes that were read.
-abbrev pub Holds : Disk → Held → Type 0
-Holds d Nothing = Unit {0}
-Holds d (Member v) = ReadsSuper d.content d.honest v
-Holds d (Signed s) = d.honest ≡ true → bears d.content s ≡ true
 
 -- The device is one of the array: where it is to be added, it is in sync there, and where it is to come back, it was used without
 -- the members that are in sync.
@@ -32,8 +21,7 @@ IsOwn overwritten a held = ⊥
 
 -- a device was looked at: it was only read, and what it holds is noted
 pub record Looks (d e : Disk) (old new : Notices) : Type 0 where
-  pub only_read : OnlyRead of_disks d e
-  pub holds : Holds d new.held
+  pub looks : LooksAtOne d e new.held
   pub noted : new ≡ record old { held = new.held }
 
 -- the device that is to join, where there is one
@@ -41,3 +29,20 @@ abbrev pub LooksAt : Option Disk → Option Disk → Notices → Notices → Typ
 LooksAt None None old new = new ≡ old
 LooksAt (Some d) (Some e) old new = Looks d e old new
 LooksAt _ _ old new = ⊥
+
+-- each of the devices was looked at of which an array is to be made, and what they hold is noted
+pub record LooksAtAll (before after : List Disk) (old new : Notices) : Type 0 where
+  pub held : Vec Held Global
+  pub looks : LooksAtEach before after held.items
+  pub noted : new ≡ record old { each = Some held }
+
+-- something is known of one of them
+abbrev pub one_is_known : Option (Vec Held Global) → Bool
+one_is_known None = false
+one_is_known (Some held) = list_any is_known held.items
+
+-- the number of the device that is to join, where its superblock is one of the array
+abbrev pub IsJoining : Superblock → Held → Option ℕ → Type 0
+IsJoining shared (Member v) None = v.set_uuid ≢ shared.set_uuid
+IsJoining shared (Member v) (Some number) = (v.set_uuid ≡ shared.set_uuid) × (number ≡ v.dev_number)
+IsJoining shared held joining = joining ≡ None

@@ -1,16 +1,19 @@
 -- What is noticed of an array beside what a command gives: which of its images, and which devices that were not named, get a line.
-use Rattle.std.specs.Prelude.{◌≡◌, ◌↔◌, ℕ, IsTrue, Bool, true, false, List, Option, Some, None, MatchOption, is_some, length, replicate, slice_get, unwrap_or, if◌then◌else◌}
+use Rattle.std.specs.Prelude.{◌≡◌, ◌↔◌, ◌==◌, ◌&&◌, ℕ, IsTrue, Bool, true, false, List, Option, Some, None, MatchOption, is_some, length, replicate, slice_get, unwrap_or, if◌then◌else◌}
 use Rattle.md_state.specs.View.{ArrayView}
 use Rattle.md_kept_members.specs.View.{MemberView}
 use Rattle.md_notices.specs.declared.noticing.Asked.{Asked}
-use Rattle.md_notices.specs.Noticing.{AreUnnamed, all_dropped, all_parted, all_states, in_sync_count}
+use Rattle.md_assembly.specs.declared.state.MemberState.{MemberState}
+use Rattle.md_assembly.specs.States.{is_spare}
+use Rattle.md_notices.specs.Noticing.{AreMarked, AreUnnamed, all_dropped, all_parted, all_states, in_sync_count}
 use Rattle.md_notices.specs.Parting.{IsFirstInSync, NoneInSync}
 use Rattle.md_words.specs.Asks.{Ask, failing_of, leaving_of, overwritten_by, tells_parted}
 use Rattle.md_words.specs.declared.overwritten.Overwritten.{Overwritten}
 use Rattle.md_words.specs.declared.overwritten.Overwritten.TheVariants as overwritten
 use Rattle.md_cli.specs.declared.notices.Notices.{Notices}
-use Rattle.md_cli.specs.declared.held.Held.TheVariants.{Nothing}
-use Rattle.md_cli.specs.Holding.{IsOwn, is_known}
+use Rattle.md_held.specs.declared.held.Held.TheVariants.{Nothing}
+use Rattle.md_held.specs.Holding.{is_known}
+use Rattle.md_cli.specs.Holding.{IsJoining, IsOwn, one_is_known}
 use Rattle.md_cli.specs.Opened.{OpenedView}
 
 -- nothing is noticed
@@ -27,17 +30,23 @@ nothing = record {
   raid_disks = 0;
   held = Nothing;
   own = false;
+  each = None;
 }
 
 -- of the members of an array, where the command says which were used without those in sync
 abbrev pub parted_members : Ask → List MemberView → List Bool
 parted_members ask members = if tells_parted ask then all_parted members else replicate 64 false
 
--- as the array was opened, where what the device holds that is to join it was noted before
+-- As the array was opened, where what the device holds that is to join it was noted before. That is no device which misses, where
+-- it is of the array.
 pub record NotesOpening (ask : Ask) (a : ArrayView) (old n : Notices) : Type 0 where
+  pub marked : AreMarked a.members n.marked
+  pub alone : n.alone ≡ (if in_sync_count a.members == 1 then n.source else None)
   pub parted : n.parted ≡ parted_members ask a.members
   pub source : MatchOption n.source (NoneInSync a.members (length a.members)) (IsFirstInSync a.members)
-  pub unnamed : AreUnnamed a n.unnamed
+  pub joining : Option ℕ
+  pub is_joining : IsJoining a.shared n.held joining
+  pub unnamed : AreUnnamed a joining n.unnamed
   pub states : n.states ≡ all_states a.members
   pub held : n.held ≡ old.held
   pub own : IsTrue n.own ↔ IsOwn (overwritten_by ask) a n.held
@@ -58,11 +67,18 @@ with_dropped ask o n = record n {
 abbrev pub without_stored : Notices → Notices
 without_stored n = record n { marked = replicate 64 false; dropped = replicate 64 false }
 
--- What is overwritten is asked of before, where what it holds is known, or it was written to without the others.
+-- the member was a spare, so that it may be rebuilt
+abbrev pub was_spare : Option MemberState → Bool
+was_spare None = false
+was_spare (Some state) = is_spare state
+
+-- What is overwritten is asked of before, where what it holds is known, or it was written to without the others. A member that can't
+-- be rebuilt is not asked of.
 abbrev pub asks_of : Overwritten → Notices → Bool
+asks_of overwritten.Images n = one_is_known n.each
 asks_of overwritten.NewDevice n = is_known n.held
 asks_of overwritten.ReturningDevice n = n.own
-asks_of (overwritten.Member k) n = unwrap_or (slice_get n.parted k) false
+asks_of (overwritten.Member k) n = unwrap_or (slice_get n.parted k) false && was_spare (unwrap_or (slice_get n.states k) None)
 asks_of overwritten.Nothing n = false
 
 -- a command is asked of before it is done

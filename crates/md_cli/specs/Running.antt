@@ -36,20 +36,22 @@ module _ {I D S : Type 0} (i : ImagesGhosts I D) (g : DeviceGhosts D) (s : SinkG
     pub one : (name : Text) → words ≡ name ∷ []
         → ExaminesOne ask g s.contents s.failed (i.known before) (i.device_at before) (i.device_at after) name old new result
 
-  -- an array is made: the options are refused, or they say what it is made from
-  pub record RefusesOptions (o : Options) (words : List Text) (before after : I) (old new : S) (result : Result (Unit {0}) CommandFault) : Type 0 where
-    pub first : OptionFault
-    pub is_first : option_fault o (length words) ≡ Some first
-    pub refused : result ≡ Err (fault.Options first)
-    pub idle : IsIdle before after old new
+-- the options of `create` are refused
+pub record RefusesOptions {I X : Type 0} (o : Options) (words : List Text) (before after : I) (old new : X) (result : Result (Unit {0}) CommandFault) : Type 0 where
+  pub first : OptionFault
+  pub is_first : option_fault o (length words) ≡ Some first
+  pub refused : result ≡ Err (fault.Options first)
+  pub idle : IsIdle before after old new
 
-  pub record Creates (o : Options) (words : List Text) (before after : I) (old new : S) (result : Result (Unit {0}) CommandFault) : Type 0 where
+module _ {I D R S : Type 0} (i : ImagesGhosts I D) (g : DeviceGhosts D) (s : SinkGhosts S) where
+  -- an array is made: the options are refused, or they say what it is made from
+  pub record Creates (o : Options) (words : List Text) (before after : I) (old new : Told R S) (result : Result (Unit {0}) CommandFault) : Type 0 where
     pub sound : option_fault o (length words) ≡ None
     pub params : CreateParams
     pub planned : IsPlan o params
-    pub done : UsesImages i g (CreatesOn s params words) Change (image_list true words) before after old new result
+    pub done : UsesImages i g (CreatesOn s (creates o) params words) Change (image_list true words) before after old new result
 
-  abbrev pub MakesArray : Options → List Text → I → I → S → S → Result (Unit {0}) CommandFault → Type 0
+  abbrev pub MakesArray : Options → List Text → I → I → Told R S → Told R S → Result (Unit {0}) CommandFault → Type 0
   MakesArray o words before after old new result =
       RefusesOptions o words before after old new result ⊎ Creates o words before after old new result
 
@@ -67,8 +69,7 @@ module _ {I D R S : Type 0} (i : ImagesGhosts I D) (g : DeviceGhosts D) (r : Sou
       (new.streams.input ≡ old.streams.input) × Examines i g s examines_bitmap words before after old.streams.output new.streams.output result
   Does examines_badblocks words before after old new result =
       (new.streams.input ≡ old.streams.input) × Examines i g s examines_badblocks words before after old.streams.output new.streams.output result
-  Does (creates o) words before after old new result =
-      (new.streams.input ≡ old.streams.input) × MakesArray i g s o words before after old.streams.output new.streams.output result
+  Does (creates o) words before after old new result = MakesArray i g s o words before after old new result
   Does ask words before after old new result = OpensArray ask words before after old new result
 
   -- the command's own answer, whose status this is, and what it noticed, which is told beside it

@@ -1,8 +1,10 @@
 // Commands that may be asked first.
-ghost use Rattle.std.specs.Prelude.{◌≡◌, IfOk, is_some, true};
+ghost use Rattle.std.specs.Prelude.{◌≡◌, ◌≢◌, Err, IfOk, false, is_some, true};
 ghost use Rattle.md_array.specs.Consistency.{IsConsistent};
 ghost use Rattle.md_words.specs.Asks.{ask_of, device_of, opens_array};
+ghost use Rattle.md_commands.specs.declared.fault.CommandFault.TheVariants.{Declined};
 ghost use Rattle.md_cli.specs.Asking.{Answers};
+ghost use Rattle.md_cli.specs.Noticed.{asks_first};
 ghost use Rattle.md_cli.specs.Opened.{seen};
 ghost use Rattle.md_cli.specs.Streams.{streams_of};
 
@@ -40,15 +42,33 @@ pub(crate) fn perform_asked<
     ensures answers { Answers R.Source S.Sink (ask_of command.entry) notices.now
         (seen D.Device opened.old) (seen D.Device opened.new)
         (streams_of session.old) (streams_of session.new) result }
+    ensures asked { asks_first (ask_of command.entry) notices.now ≡ true → result ≢ Err Declined
+        → W.Asker.agreed session.old.watch.now }
     ensures flushed { IfOk result (λ _. S.is_flushed session.new.out) }
 {
-    if notices.asks_first(command) {
-        let lines = lines_first(session.alloc, command, notices, names);
-        if !session.watch.goes_on(&lines) {
-            return Err(CommandFault::Declined);
-        }
+    if !goes_on(session.alloc, session.watch, command, notices, names) {
+        return Err(CommandFault::Declined);
     }
     perform(session, command, opened)
+}
+
+/// Whether a command goes on. Where it would overwrite what perhaps should stay, by what was noticed, that is asked. The
+/// names are those of all images.
+pub(crate) fn goes_on<W: Asker>(
+    alloc: Global,
+    watch: &W,
+    command: Command<'_>,
+    notices: &Notices,
+    names: &[&str],
+) -> bool
+    ensures declined { result ≡ false → asks_first (ask_of command.entry) notices.now ≡ true }
+    ensures asked { result ≡ true → asks_first (ask_of command.entry) notices.now ≡ true → W.agreed watch.now }
+{
+    if !notices.asks_first(command) {
+        return true;
+    }
+    let lines = lines_first(alloc, command, notices, names);
+    watch.goes_on(&lines)
 }
 
 // The lines that are said before. Without memory they are cut short.

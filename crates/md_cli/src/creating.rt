@@ -1,44 +1,66 @@
 // The command that makes an array.
-ghost use Rattle.std.specs.Prelude.{◌≡◌, IfOk, length, map, true};
+ghost use Rattle.std.specs.Prelude.{◌≡◌, ◌≢◌, ◌*◌, ◌≤◌, ℕ, Err, IfErr, IfOk, Some, length, map, slice_get, true};
+ghost use Rattle.md_words.specs.Asks.{ask_of};
+ghost use Rattle.md_state.specs.View.{Disk};
 ghost use Rattle.md_cli.specs.Arrays.{UsesImages, disks, texts};
-ghost use Rattle.md_cli.specs.Creating.{CreatesOn};
+ghost use Rattle.md_cli.specs.Creating.{AreNewMembers, CreatesOn, IsRefusal, LaysOutOn};
+ghost use Rattle.md_cli.specs.Streams.{told_of};
 ghost use Rattle.md_images.specs.Taking.{image_list, word_of};
 
+use crate::asker::Asker;
+use crate::asking::goes_on;
 use crate::laying_out::lay_out_each;
+use crate::notices::Notices;
+use crate::session::Session;
 use crate::showing::show_devices;
 use crate::sizing::sizes_of;
 use md_commands::CommandFault;
-use md_create::{CreateParams, create};
+use md_create::{CreateParams, NewMember, create};
 use md_device::Device;
 use md_examine::Sink;
 use md_images::{Access, ImageWord, Images, image_list, put_back, take_images};
+use md_words::Command;
 use std::alloc::Global;
 
-// Makes an array of the devices, opens it and shows it in a line. The devices come back in their
-// order.
-fn create_on<D: Device + Drop, S: Sink>(
+// The members of the array that the devices make.
+fn members_of<D: Device>(
     alloc: Global,
     params: &CreateParams,
     names: &[&str],
+    devices: &[D],
+) -> Result<Vec<NewMember>, CommandFault>
+    requires as_many { length devices.now ≡ length (image_list true (texts names.now)) }
+    ensures members { IfOk result (λ members.
+        AreNewMembers params.now (texts names.now) (disks D.Device devices.now) members.items) }
+    ensures refused { IfErr result (IsRefusal params.now (texts names.now) (disks D.Device devices.now)) }
+{
+    let Ok(sizes) = sizes_of(alloc, names, devices) else {
+        return Err(CommandFault::NoMemory);
+    };
+    match create(alloc, params, sizes.as_slice()) {
+        Ok(members) => Ok(members),
+        Err(fault) => Err(CommandFault::Create(fault)),
+    }
+}
+
+// Lays the members of an array out on its devices, opens it and shows it in a line. The devices come back in their order.
+fn lay_out_on<D: Device + Drop, S: Sink>(
+    alloc: Global,
     words: &[ImageWord<'_>],
     mut devices: Vec<D>,
+    members: &[NewMember],
     out: &mut S,
 ) -> (Vec<D>, Result<(), CommandFault>)
-    requires words { map word_of words.now ≡ image_list true (texts names.now) }
     requires as_many { length devices.items ≡ length words.now }
+    requires members { length members.now ≡ length devices.items }
+    requires room { (k : ℕ) (d : Disk) → slice_get (disks D.Device devices.items) k ≡ Some d
+        → 512 * 2048 ≤ length d.content }
     ensures as_many { length result.0.items ≡ length devices.items }
-    ensures gives { CreatesOn S.Sink params.now (texts names.now)
+    ensures gives { LaysOutOn S.Sink (map word_of words.now) members.now
         (disks D.Device devices.items) (disks D.Device result.0.items) out.old out.new result.1 }
     ensures flushed { IfOk result.1 (λ _. S.is_flushed out.new) }
 {
-    let Ok(sizes) = sizes_of(alloc, names, devices.as_slice()) else {
-        return (devices, Err(CommandFault::NoMemory));
-    };
-    let members = match create(alloc, params, sizes.as_slice()) {
-        Ok(members) => members,
-        Err(fault) => return (devices, Err(CommandFault::Create(fault))),
-    };
-    let place = lay_out_each(devices.as_mut_slice(), members.as_slice());
+    let place = lay_out_each(devices.as_mut_slice(), members);
     if place < devices.len() {
         return (
             devices,
@@ -48,24 +70,65 @@ fn create_on<D: Device + Drop, S: Sink>(
     show_devices(alloc, devices, out)
 }
 
-/// Makes an array of the images, shows it in a line, and puts the images back.
-pub(crate) fn create_images<I: Images, S: Sink>(
-    alloc: Global,
+// Makes an array of the devices, opens it and shows it in a line. What they hold is noted, and may be asked of, before
+// anything is written. The devices come back in their order.
+fn create_on<D: Device + Drop, T, R: Drop, S: Sink + Drop, W: Asker>(
+    session: &mut Session<'_, T, R, S, W>,
+    command: Command<'_>,
+    params: &CreateParams,
+    names: &[&str],
+    words: &[ImageWord<'_>],
+    mut devices: Vec<D>,
+    notices: &mut Notices,
+) -> (Vec<D>, Result<(), CommandFault>)
+    requires words { map word_of words.now ≡ image_list true (texts names.now) }
+    requires as_many { length devices.items ≡ length words.now }
+    ensures as_many { length result.0.items ≡ length devices.items }
+    ensures gives { CreatesOn S.Sink (ask_of command.entry) params.now (texts names.now)
+        (disks D.Device devices.items) (disks D.Device result.0.items)
+        (told_of session.old notices.old) (told_of session.new notices.new) result.1 }
+    ensures flushed { IfOk result.1 (λ _. S.is_flushed session.new.out) }
+{
+    let members = match members_of(session.alloc, params, names, devices.as_slice()) {
+        Ok(members) => members,
+        Err(fault) => return (devices, Err(fault)),
+    };
+    if notices.look_at_each(session.alloc, &mut devices).is_err() {
+        return (devices, Err(CommandFault::NoMemory));
+    }
+    if !goes_on(session.alloc, session.watch, command, notices, names) {
+        return (devices, Err(CommandFault::Declined));
+    }
+    lay_out_on(
+        session.alloc,
+        words,
+        devices,
+        members.as_slice(),
+        &mut session.out,
+    )
+}
+
+/// Makes an array of the images, shows it in a line, and puts the images back. `notices` gets what they held.
+pub(crate) fn create_images<I: Images, T, R: Drop, S: Sink + Drop, W: Asker>(
+    session: &mut Session<'_, T, R, S, W>,
+    command: Command<'_>,
     params: &CreateParams,
     images: &mut I,
     names: &[&str],
-    out: &mut S,
+    notices: &mut Notices,
 ) -> Result<(), CommandFault>
-    ensures gives { UsesImages I.Images I.Dev.Device (CreatesOn S.Sink params.now (texts names.now))
-        Access.Change (image_list true (texts names.now)) images.old images.new out.old out.new result }
-    ensures flushed { IfOk result (λ _. S.is_flushed out.new) }
+    ensures gives { UsesImages I.Images I.Dev.Device
+        (CreatesOn S.Sink (ask_of command.entry) params.now (texts names.now))
+        Access.Change (image_list true (texts names.now))
+        images.old images.new (told_of session.old notices.old) (told_of session.new notices.new) result }
+    ensures flushed { IfOk result (λ _. S.is_flushed session.new.out) }
 {
-    let Ok(list) = image_list(alloc, names, true) else {
+    let Ok(list) = image_list(session.alloc, names, true) else {
         return Err(CommandFault::NoMemory);
     };
     let words = list.as_slice();
-    let devices = take_images(alloc, Access::Change, images, words)?;
-    let (devices, result) = create_on(alloc, params, names, words, devices, out);
+    let devices = take_images(session.alloc, Access::Change, images, words)?;
+    let (devices, result) = create_on(session, command, params, names, words, devices, notices);
     put_back(images, words, devices);
     result
 }

@@ -81,7 +81,7 @@ fn look_at_devices<
     told_of_overlays(result)
 }
 
-// What an answer says of overlays, which refuse a write for want of memory alone.
+// What an answer says of overlays, which refuse a write only where there is no memory for it.
 fn told_of_overlays(answer: Result<(), CommandFault>) -> Result<(), CommandFault>
     ensures told { result ≡ told_of_overlays answer }
     ensures done { IfOk result (λ _. answer ≡ result) }

@@ -8,7 +8,6 @@ mod create_options;
 mod creating;
 mod devices;
 mod examining;
-mod held;
 mod laying_out;
 mod messages;
 mod notices;

@@ -1,25 +1,29 @@
 // What is said beside a report, where a command is done.
-ghost use Rattle.std.specs.Prelude.{◌≡◌, ◌↔◌, IsTrue};
+ghost use Rattle.std.specs.Prelude.{◌≡◌, ◌↔◌, IfErr, IfOk, IsTrue, length};
 ghost use Rattle.md_words.specs.Asks.{ask_of};
 ghost use Rattle.md_state.specs.View.{disk_of};
-ghost use Rattle.md_cli.specs.Holding.{IsOwn, Looks};
-ghost use Rattle.md_cli.specs.Noticed.{NotesOpening, asked_of, asks_first, nothing, parted_members, with_dropped, without_stored};
+ghost use Rattle.md_words.specs.declared.overwritten.Overwritten.TheVariants as overwritten;
+ghost use Rattle.md_cli.specs.Arrays.{disks};
+ghost use Rattle.md_cli.specs.Holding.{IsJoining, IsOwn, Looks, LooksAtAll, one_is_known};
+ghost use Rattle.md_cli.specs.Noticed.{NotesOpening, asked_of, asks_first, asks_of, nothing, parted_members, was_spare, with_dropped, without_stored};
 ghost use Rattle.md_cli.specs.Opened.{seen};
 
-use crate::held::{Held, held_on};
 use crate::messages::Messages;
 use crate::opened::Opened;
 use md_array::Mirror;
 use md_assembly::MemberState;
 use md_device::Device;
 use md_examine::{Output, Sink, SinkFault};
+use md_held::{Held, held_on, held_on_each};
+use md_images::is_missing;
 use md_notices::{
     Asked, MAX_MEMBERS, MAX_ROLES, dropped_line, first_in_sync, forgotten_line, held_line,
-    in_sync_count, is_forgotten, members_dropped, members_parted, parted_line, roles_unnamed,
-    standing_line, states_of, unnamed_line, was_apart,
+    in_sync_count, is_forgotten, members_dropped, members_marked, members_parted, parted_line,
+    roles_unnamed, standing_line, states_of, unnamed_line, was_apart,
 };
+use md_super::Superblock;
 use md_words::{Command, Overwritten};
-use std::alloc::Global;
+use std::alloc::{AllocError, Global};
 use std::io::Write;
 
 /// What is noticed of an array as it is opened, and as a command leaves it, by the places of the images among its
@@ -40,6 +44,7 @@ pub(crate) struct Notices {
     raid_disks: u32,
     held: Held,
     own: bool,
+    each: Option<Vec<Held>>,
 }
 
 impl Notices {
@@ -59,6 +64,7 @@ impl Notices {
             raid_disks: 0,
             held: Held::Nothing,
             own: false,
+            each: None,
         }
     }
 
@@ -69,16 +75,37 @@ impl Notices {
         self.held = held_on(alloc, device);
     }
 
+    /// Notes what each of the devices holds of which an array is to be made. They are only read, and `AllocError` comes
+    /// before any of them is.
+    pub(crate) fn look_at_each<D: Device>(
+        &mut self,
+        alloc: Global,
+        devices: &mut Vec<D>,
+    ) -> Result<(), AllocError>
+        ensures as_many { length devices.new.items ≡ length devices.old.items }
+        ensures looks { IfOk result (λ _. LooksAtAll (disks D.Device devices.old.items)
+            (disks D.Device devices.new.items) self.old self.new) }
+        ensures untouched { IfErr result (λ _.
+            (devices.new.items ≡ devices.old.items) × (self.new ≡ self.old)) }
+    {
+        self.each = Some(held_on_each(alloc, devices.as_mut_slice())?);
+        Ok(())
+    }
+
     /// Notes what the opening of this mirror tells.
     pub(crate) fn note<D: Device + Drop>(&mut self, command: Command<'_>, mirror: &Mirror<D>)
         ensures { NotesOpening (ask_of command.entry) mirror.now.array self.old self.new }
     {
         self.own = is_own(command.overwrites(), mirror, &self.held);
         self.marked = members_marked(mirror);
-        self.alone = alone_in_sync(mirror);
         self.parted = parted_members(command, mirror);
         self.source = first_in_sync(mirror);
-        self.unnamed = roles_unnamed(mirror);
+        self.alone = if in_sync_count(mirror) == 1 {
+            self.source
+        } else {
+            None
+        };
+        self.unnamed = roles_unnamed(mirror, joining(mirror.shared(), &self.held));
         self.states = states_of(mirror);
     }
 
@@ -122,15 +149,22 @@ impl Notices {
         ensures { result ≡ asks_first (ask_of command.entry) self.now }
     {
         match command.overwrites() {
+            Overwritten::Images => one_is_known(&self.each),
             Overwritten::NewDevice => self.held.is_known(),
             Overwritten::ReturningDevice => self.own,
-            Overwritten::Member(member) => self
-                .parted
-                .get(member as usize)
-                .copied()
-                .unwrap_or(false),
+            Overwritten::Member(member) => self.is_parted_spare(member as usize),
             Overwritten::Nothing => false,
         }
+    }
+
+    // Whether a member was used without those in sync, and may be rebuilt.
+    fn is_parted_spare(&self, k: usize) -> bool
+        ensures { result ≡ asks_of (overwritten.Member k) self.now }
+    {
+        if !self.parted.get(k).copied().unwrap_or(false) {
+            return false;
+        }
+        was_spare(self.states.get(k).copied().unwrap_or(None))
     }
 
     /// Says on `err` what was noticed of the array, in a line for each image and for each device that was not named.
@@ -143,7 +177,7 @@ impl Notices {
         err: &mut E,
     ) {
         let mut out = Output::new(err);
-        if messages == Messages::Plain {
+        if messages != Messages::AtTerminal {
             let _ = self.put_first(command, names, &mut out);
         }
         let _ = self.put_lines(command, names, &mut out);
@@ -156,12 +190,12 @@ impl Notices {
         names: &[&'a str],
         out: &mut S,
     ) -> Result<(), SinkFault> {
-        let Some(name) = target_of(command, names) else {
-            return Ok(());
-        };
         if !self.asks_first(command) {
             return Ok(());
         }
+        let Some(name) = target_of(command, names) else {
+            return self.put_each(names, out);
+        };
         match &self.held {
             Held::Member(own) if matches!(command.overwrites(), Overwritten::NewDevice) => {
                 if self.own {
@@ -175,6 +209,22 @@ impl Notices {
         }
     }
 
+    // What each image holds of which an array is to be made. Words that stand for a missing member have none.
+    fn put_each<S: Sink>(&self, names: &[&str], out: &mut S) -> Result<(), SinkFault> {
+        let Some(each) = &self.each else {
+            return Ok(());
+        };
+        let images = names.iter().filter(|name| !is_missing(true, name));
+        for (held, name) in each.iter().zip(images) {
+            match held {
+                Held::Member(own) => standing_line(out, name, own)?,
+                Held::Signed(signature) => held_line(out, name, signature.text())?,
+                Held::Nothing | Held::Unseen => {}
+            }
+        }
+        Ok(())
+    }
+
     fn put_lines<'a, S: Sink>(
         &self,
         command: Command<'a>,
@@ -182,7 +232,7 @@ impl Notices {
         out: &mut S,
     ) -> Result<(), SinkFault> {
         let first = match command.overwrites() {
-            Overwritten::Member(member) => Some(member as usize),
+            Overwritten::Member(member) if self.asks_first(command) => Some(member as usize),
             _ => None,
         };
         for (k, (parted, name)) in self.parted.iter().zip(names).enumerate() {
@@ -232,7 +282,7 @@ fn target_of<'a>(command: Command<'a>, names: &[&'a str]) -> Option<&'a str> {
     match command.overwrites() {
         Overwritten::Member(member) => names.get(member as usize).copied(),
         Overwritten::NewDevice | Overwritten::ReturningDevice => command.device(),
-        Overwritten::Nothing => None,
+        Overwritten::Nothing | Overwritten::Images => None,
     }
 }
 
@@ -257,7 +307,7 @@ fn is_own<D: Device + Drop>(overwritten: Overwritten, mirror: &Mirror<D>, held: 
     match overwritten {
         Overwritten::NewDevice => is_forgotten(mirror.shared(), own),
         Overwritten::ReturningDevice => was_apart(mirror, own),
-        Overwritten::Nothing | Overwritten::Member(_) => false,
+        Overwritten::Nothing | Overwritten::Images | Overwritten::Member(_) => false,
     }
 }
 
@@ -276,24 +326,35 @@ fn asked_of(command: Command<'_>, has_left: bool) -> Asked
     Asked { left, failed }
 }
 
-fn members_marked<D: Device + Drop>(mirror: &Mirror<D>) -> [bool; MAX_MEMBERS] {
-    let mut marked = [false; MAX_MEMBERS];
-    for (k, marked) in marked.iter_mut().enumerate() {
-        *marked = k < mirror.members() && mirror.stored_marks_at_opening(k);
+// Whether something is known of one of the devices.
+fn one_is_known(each: &Option<Vec<Held>>) -> bool
+    ensures { result ≡ one_is_known each.now }
+{
+    match each {
+        Some(each) => each.iter().any(|held| held.is_known()),
+        None => false,
     }
-    marked
 }
 
-// The place of the only member in sync, where there is no other.
-fn alone_in_sync<D: Device + Drop>(mirror: &Mirror<D>) -> Option<usize> {
-    let mut alone = None;
-    for k in 0..mirror.members() {
-        if mirror.state(k).is_in_sync() {
-            if alone.is_some() {
-                return None;
-            }
-            alone = Some(k);
-        }
+// Whether a member was a spare.
+fn was_spare(state: Option<MemberState>) -> bool
+    ensures { result ≡ was_spare state }
+{
+    match state {
+        Some(state) => state.is_spare(),
+        None => false,
     }
-    alone
+}
+
+// The number of the device that is to join, where its superblock is one of the array.
+fn joining(shared: &Superblock, held: &Held) -> Option<u32>
+    ensures { IsJoining shared.now held.now result }
+{
+    let Held::Member(own) = held else {
+        return None;
+    };
+    if own.set_uuid != shared.set_uuid {
+        return None;
+    }
+    Some(own.dev_number)
 }

@@ -101,25 +101,28 @@ fn act<
         return with_array(session, command, images, names, notices);
     }
     if let Command::Create(options) = command {
-        return create_array(session.alloc, options, images, names, &mut session.out);
+        return create_array(session, options, images, names, notices);
     }
     examine_images(session.alloc, command, images, names, &mut session.out)
 }
 
 // Makes an array. No image is touched before the options are accepted.
-fn create_array<I: Images, S: Sink>(
-    alloc: Global,
+fn create_array<I: Images, T, R: Source + Drop, S: Sink + Drop, W: Asker>(
+    session: &mut Session<'_, T, R, S, W>,
     options: CreateOptions<'_>,
     images: &mut I,
     names: &[&str],
-    out: &mut S,
+    notices: &mut Notices,
 ) -> Result<(), CommandFault>
     ensures gives { MakesArray I.Images I.Dev.Device S.Sink (options_of options.entry) (texts names.now)
-        images.old images.new out.old out.new result }
-    ensures flushed { IfOk result (λ _. S.is_flushed out.new) }
+        images.old images.new (told_of session.old notices.old) (told_of session.new notices.new) result }
+    ensures flushed { IfOk result (λ _. S.is_flushed session.new.out) }
 {
     match params_of(&options, names.len()) {
-        Ok(params) => create_images(alloc, &params, images, names, out),
+        Ok(params) => {
+            let command = Command::Create(options);
+            create_images(session, command, &params, images, names, notices)
+        }
         Err(fault) => Err(CommandFault::Options(fault)),
     }
 }
@@ -139,18 +142,18 @@ fn answer<'a, E: Write>(
 {
     if let Err(fault) = &outcome {
         let _ = writeln!(err, "mdcli: {fault}");
-        if messages == Messages::WithAdvice {
+        if messages.has_advice() {
             advise(fault, names, command, err);
         }
     }
-    if outcome.is_ok() || messages == Messages::WithAdvice {
+    if outcome.is_ok() || messages.has_advice() {
         notices.tell_marks(names, err);
         notices.tell(command, names, messages, err);
     }
     if outcome.is_ok() && matches!(command, Command::Check { .. }) {
         notices.tell_uncompared(names, err);
     }
-    if messages == Messages::WithAdvice {
+    if messages.has_advice() {
         tell_lost_content(&outcome, command, err);
     }
     match outcome {

@@ -1,17 +1,19 @@
 -- What is read of the members one by one, and what it makes of all of them.
-use Rattle.std.proofs.Common.{◌≡◌, ℕ, zero, suc, ◌+◌, ◌<◌, ◌==◌, ◌≢◌, eq-eqb, Bool, true, false, ◌&&◌, ◌||◌, List, [], ◌∷◌, length, get_or, take, Some, refl, ap, sym, ◌∙◌, arith}
+use Rattle.std.proofs.Common.{◌≡◌, ℕ, zero, suc, ◌+◌, ◌<◌, ◌==◌, ◌≢◌, inl, inr, set, subst, eq-eqb, Bool, true, false, ◌&&◌, ◌||◌, List, [], ◌∷◌, length, get_or, take, Some, refl, ap, sym, ◌∙◌, arith}
 use Rattle.std.specs.List.{count_by, list_all, slice_get}
 use Rattle.std.specs.Option.{option_map}
 use Rattle.std.proofs.lemmas.Bool.{ne_eqb}
+use Rattle.std.proofs.lemmas.List.{get_or-set_other, get_or-set_same}
 use Rattle.std.proofs.lemmas.Option.{get_or_from_slice_get, same_Some}
 use Rattle.std.proofs.lemmas.List.Sums.{count_by_more_yes, count_by_more_no}
 use Rattle.std.proofs.lemmas.List.Folds.{list_all_more, list_all_at, list_any_more, list_any_at}
 use Rattle.md_super.specs.declared.superblock.Superblock.{Superblock}
 use Rattle.md_assembly.specs.declared.state.MemberState.{MemberState}
 use Rattle.md_assembly.specs.States.{is_in_sync}
+use Rattle.md_kept_members.proofs.Members.Indices.{cases_more}
 use Rattle.md_kept_members.specs.View.{MemberView}
 use Rattle.md_notices.specs.Parting.{is_left_by}
-use Rattle.md_notices.specs.Unnamed.{is_named}
+use Rattle.md_notices.specs.Unnamed.{is_member}
 
 pub there : (ms : List MemberView) (k : ℕ) → k < length ms → (m : MemberView) × (slice_get ms k ≡ Some m)
 there [] k lt = absurd (omega arith)
@@ -39,13 +41,13 @@ pub has_state : (ms : List MemberView) (k : ℕ) (m : MemberView) (state : Membe
 has_state ms k m state listed e = same_Some m.state state (sym (ap (option_map (λ x. x.state)) listed) ∙ e)
 
 -- a device number that was read, and whether it is one
-pub named_there : (number : ℕ) (ms : List MemberView) (k : ℕ) (v : Superblock) → k < length ms → option_map (λ (m : MemberView). m.superblock) (slice_get ms k) ≡ Some v → v.dev_number ≡ number → is_named ms number ≡ true
+pub named_there : (number : ℕ) (ms : List MemberView) (k : ℕ) (v : Superblock) → k < length ms → option_map (λ (m : MemberView). m.superblock) (slice_get ms k) ≡ Some v → v.dev_number ≡ number → is_member ms number ≡ true
 named_there number ms k v lt own e =
     let has = has_own ms k v lt own in
     list_any_at (λ m. m.superblock.dev_number == number) ms k has.member lt
     (ap (λ (m : MemberView). m.superblock.dev_number == number) has.is ∙ ap (λ (w : Superblock). w.dev_number == number) has.own ∙ eq-eqb v.dev_number number e)
 
-pub named_no_more : (number : ℕ) (ms : List MemberView) (k : ℕ) (v : Superblock) → k < length ms → option_map (λ (m : MemberView). m.superblock) (slice_get ms k) ≡ Some v → v.dev_number ≢ number → is_named (take k ms) number ≡ false → is_named (take (k + 1) ms) number ≡ false
+pub named_no_more : (number : ℕ) (ms : List MemberView) (k : ℕ) (v : Superblock) → k < length ms → option_map (λ (m : MemberView). m.superblock) (slice_get ms k) ≡ Some v → v.dev_number ≢ number → is_member (take k ms) number ≡ false → is_member (take (k + 1) ms) number ≡ false
 named_no_more number ms k v lt own other before =
     let has = has_own ms k v lt own in
     list_any_more (λ m. m.superblock.dev_number == number) ms k has.member lt
@@ -93,3 +95,11 @@ pub no_more : (ms : List MemberView) (k : ℕ) (state : MemberState) → k < len
 no_more ms k state lt e is =
     let found = there ms k lt in
     count_by_more_no (λ m. is_in_sync m.state) ms k found.0 lt (ap is_in_sync (state_there ms k found.0 state found.1 e) ∙ is)
+
+-- what is so of each of the first elements, and of one more that is set
+pub so_more : {X : Type 0} (P : ℕ → X → Type 0) (xs : List X) (k : ℕ) (y d : X) → k < length xs → ((i : ℕ) → i < k → P i (get_or xs i d)) → P k y → (i : ℕ) → i < k + 1 → P i (get_or (set xs k y) i d)
+so_more P xs k y d lt before here i less =
+    elim (cases_more i k less) [
+      | inl low ↦ subst (P i) (sym (get_or-set_other xs k i y d (λ same. omega (arith, same, low)))) (before i low)
+      | inr is ↦ subst (λ j. P j (get_or (set xs k y) j d)) (sym is) (subst (P k) (sym (get_or-set_same xs k y d lt)) here)
+    ]

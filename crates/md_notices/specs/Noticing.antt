@@ -1,8 +1,9 @@
 -- What is noticed of all members and roles of an array, by their places.
-use Rattle.std.specs.Prelude.{◌≡◌, ℕ, ◌-◌, ◌<◌, ◌≤◌, ◌==◌, ◌&&◌, not, nat_lt, Bool, true, false, List, length, map, Option, Some, None, MatchOption, option_map, slice_get, get_or, count_by, if◌then◌else◌}
+use Rattle.std.specs.Prelude.{◌≡◌, ◌↔◌, IsTrue, ℕ, ◌-◌, ◌<◌, ◌≤◌, ◌==◌, ◌&&◌, not, nat_lt, Bool, false, List, length, map, Option, Some, None, MatchOption, option_map, slice_get, get_or, count_by, if◌then◌else◌}
 use Rattle.std.specs.List.{range_with_len}
 use Rattle.md_assembly.specs.declared.state.MemberState.{MemberState}
 use Rattle.md_assembly.specs.States.{is_in_sync}
+use Rattle.md_kept_members.specs.Members.{NeedsMarks}
 use Rattle.md_kept_members.specs.View.{MemberView}
 use Rattle.md_state.specs.View.{ArrayView}
 use Rattle.md_notices.specs.declared.noticing.Asked.{Asked}
@@ -19,11 +20,19 @@ so_of holds (Some m) = holds m
 abbrev pub parted_at : List MemberView → ℕ → Bool
 parted_at members k = so_of (is_parted members) (slice_get members k)
 
+-- the bitmap of the member in this place, which is in sync, did not tell of the array as it was opened: marks were stored on it
+pub record IsMarkedAt (members : List MemberView) (k : ℕ) (marked : Bool) : Type 0 where
+  pub there : (m : MemberView) → slice_get members k ≡ Some m → IsTrue marked ↔ NeedsMarks m
+  pub past : length members ≤ k → marked ≡ false
+
+-- of the places of 64 members: an array has no more
+abbrev pub AreMarked : List MemberView → List Bool → Type 0
+AreMarked members marked = (k : ℕ) → k < 64 → IsMarkedAt members k (get_or marked k false)
+
 -- the state of the member in this place
 abbrev pub state_at : List MemberView → ℕ → Option MemberState
 state_at members k = option_map (λ (m : MemberView). m.state) (slice_get members k)
 
--- of the places of 64 members: an array has no more
 abbrev pub all_parted : List MemberView → List Bool
 all_parted members = map (parted_at members) (range_with_len 0 64)
 
@@ -63,10 +72,11 @@ abbrev pub in_sync_count : List MemberView → ℕ
 in_sync_count members = count_by (λ m. is_in_sync m.state) members
 
 -- the first device in this role that is no member, where there is one
-pub record IsUnnamedAt (a : ArrayView) (role : ℕ) (device : Option ℕ) : Type 0 where
-  pub within : role < a.shared.raid_disks → MatchOption device (NoneUnnamed a role (length a.shared.roles)) (IsFirstUnnamed a role)
+pub record IsUnnamedAt (a : ArrayView) (joining : Option ℕ) (role : ℕ) (device : Option ℕ) : Type 0 where
+  pub within : role < a.shared.raid_disks
+      → MatchOption device (NoneUnnamed a joining role (length a.shared.roles)) (IsFirstUnnamed a joining role)
   pub past : a.shared.raid_disks ≤ role → device ≡ None
 
 -- of all roles: an array has no more than 32
-abbrev pub AreUnnamed : ArrayView → List (Option ℕ) → Type 0
-AreUnnamed a devices = (role : ℕ) → role < 32 → IsUnnamedAt a role (get_or devices role None)
+abbrev pub AreUnnamed : ArrayView → Option ℕ → List (Option ℕ) → Type 0
+AreUnnamed a joining devices = (role : ℕ) → role < 32 → IsUnnamedAt a joining role (get_or devices role None)

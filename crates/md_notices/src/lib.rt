@@ -15,8 +15,8 @@ pub use belonging::{is_forgotten, standing};
 pub use dropping_out::dropped_out;
 pub use lines::{dropped_line, forgotten_line, held_line, parted_line, unnamed_line};
 pub use noticing::{
-    Asked, MAX_MEMBERS, MAX_ROLES, in_sync_count, members_dropped, members_parted, roles_unnamed,
-    states_of,
+    Asked, MAX_MEMBERS, MAX_ROLES, in_sync_count, members_dropped, members_marked, members_parted,
+    roles_unnamed, states_of,
 };
 pub use parting::{first_in_sync, is_parted, was_apart};
 pub use standing_lines::standing_line;

@@ -1,6 +1,6 @@
 // What is noticed of all members and roles of an array, by their places.
 ghost use Rattle.std.specs.Prelude.{◌≡◌, ◌<◌};
-ghost use Rattle.md_notices.specs.Noticing.{AreUnnamed, IsUnnamedAt, all_dropped, all_parted, all_states, dropped_at, dropped_from, in_sync_count, is_place, parted_at, place_after, state_at, state_there};
+ghost use Rattle.md_notices.specs.Noticing.{AreMarked, AreUnnamed, IsMarkedAt, IsUnnamedAt, all_dropped, all_parted, all_states, dropped_at, dropped_from, in_sync_count, is_place, parted_at, place_after, state_at, state_there};
 
 use crate::dropping_out::dropped_out;
 use crate::parting::is_parted;
@@ -42,6 +42,26 @@ pub fn members_parted<D: Device + Drop>(mirror: &Mirror<D>) -> [bool; MAX_MEMBER
         parted[k] = is_parted_at(mirror, k);
     }
     parted
+}
+
+fn is_marked_at<D: Device + Drop>(mirror: &Mirror<D>, k: usize) -> bool
+    ensures { IsMarkedAt mirror.now.array.members k result }
+{
+    if k >= mirror.members() {
+        return false;
+    }
+    mirror.stored_marks_at_opening(k)
+}
+
+/// Of each place whether marks were stored on its member as the array was opened. Ask it before any step.
+pub fn members_marked<D: Device + Drop>(mirror: &Mirror<D>) -> [bool; MAX_MEMBERS]
+    ensures { AreMarked mirror.now.array.members result }
+{
+    let mut marked = [false; MAX_MEMBERS];
+    for k in 0..MAX_MEMBERS {
+        marked[k] = is_marked_at(mirror, k);
+    }
+    marked
 }
 
 fn state_at<D: Device + Drop>(mirror: &Mirror<D>, k: usize) -> Option<MemberState>
@@ -154,22 +174,26 @@ pub fn in_sync_count<D: Device + Drop>(mirror: &Mirror<D>) -> usize
     count
 }
 
-fn unnamed_at<D: Device + Drop>(mirror: &Mirror<D>, role: u16) -> Option<u32>
-    ensures { IsUnnamedAt mirror.now.array role result }
+fn unnamed_at<D: Device + Drop>(mirror: &Mirror<D>, joining: Option<u32>, role: u16) -> Option<u32>
+    ensures { IsUnnamedAt mirror.now.array joining role result }
 {
     if u32::from(role) >= mirror.shared().raid_disks {
         return None;
     }
-    unnamed_in(mirror, role)
+    unnamed_in(mirror, joining, role)
 }
 
-/// Of each role the first device that the array has in it, and that is no member.
-pub fn roles_unnamed<D: Device + Drop>(mirror: &Mirror<D>) -> [Option<u32>; MAX_ROLES]
-    ensures { AreUnnamed mirror.now.array result }
+/// Of each role the first device that the array has in it, and that is neither a member nor the device that is to join,
+/// which has this number, where it is of the array.
+pub fn roles_unnamed<D: Device + Drop>(
+    mirror: &Mirror<D>,
+    joining: Option<u32>,
+) -> [Option<u32>; MAX_ROLES]
+    ensures { AreUnnamed mirror.now.array joining result }
 {
     let mut unnamed = [None; MAX_ROLES];
     for role in 0..MAX_ROLES {
-        unnamed[role] = unnamed_at(mirror, role as u16);
+        unnamed[role] = unnamed_at(mirror, joining, role as u16);
     }
     unnamed
 }

@@ -1,20 +1,33 @@
 // Members that were used without those that are in sync now.
-ghost use Rattle.std.specs.Prelude.{◌≡◌, ◌<◌, ◌==◌, ◌↔◌, IsTrue, MatchOption, length};
+ghost use Rattle.std.specs.Prelude.{◌≡◌, ◌<◌, ◌==◌, ◌↔◌, IsTrue, MatchOption, length, take};
 ghost use Rattle.std.specs.List.{list_all, list_any};
 ghost use Rattle.md_kept_members.specs.View.{MemberView};
 ghost use Rattle.md_state.specs.Members.{IsMember};
-ghost use Rattle.md_notices.specs.Parting.{IsFirstInSync, NoneInSync, WasApart, has_role, is_apart, is_left_by, is_parted, was_without};
+ghost use Rattle.md_notices.specs.Parting.{IsFirstInSync, NoneInSync, WasApart, has_role_below, is_apart, is_left_by, is_out, is_parted, was_without};
 
 use md_array::Mirror;
-use md_assembly::MemberState;
+use md_assembly::{MemberState, state_of};
 use md_device::Device;
 use md_super::{FAULTY, Superblock};
 
-// Whether the superblock has a device in the role.
-fn has_role(v: &Superblock, role: u16) -> bool
-    ensures { result ≡ has_role v.now role }
+// The roles of devices of lower numbers by the superblock.
+#[tactic(auto, using(std::proofs::lemmas::List::take_all))]
+fn roles_below(v: &Superblock, number: u32) -> &[u16]
+    ensures { result.now ≡ take number v.now.roles }
 {
-    v.roles.as_slice().iter().any(|other| *other == role)
+    let roles = v.roles.as_slice();
+    let count = number as usize;
+    if count < roles.len() {
+        return &roles[..count];
+    }
+    roles
+}
+
+// Whether the superblock has a device of a lower number in the role.
+fn has_role_below(v: &Superblock, number: u32, role: u16) -> bool
+    ensures { result ≡ has_role_below v.now number role }
+{
+    roles_below(v, number).iter().any(|other| *other == role)
 }
 
 // Whether by the superblock the device with this number, which is in sync in this role, was not in use any more.
@@ -25,7 +38,7 @@ fn was_without(v: &Superblock, number: u32, role: u16) -> bool
     if other == FAULTY {
         return true;
     }
-    u32::from(other) >= v.raid_disks && !has_role(v, role)
+    u32::from(other) >= v.raid_disks && !has_role_below(v, number, role)
 }
 
 // Whether a member is not in sync, or by the superblock was not in use any more.
@@ -60,15 +73,22 @@ fn is_apart<D: Device + Drop>(mirror: &Mirror<D>, v: &Superblock) -> bool
     left_all(mirror, v)
 }
 
-/// Whether member k, which is not in sync, was used without all members that are: its own superblock has it in a role
-/// and has them as failed, or as devices that it does not know in roles that no device had. Ask it before any step,
-/// since a step may change its superblock. It takes no memory.
+// Whether the array has a device in this state in no role any more.
+fn is_out(state: MemberState) -> bool
+    ensures { result ≡ is_out state }
+{
+    matches!(state, MemberState::Spare | MemberState::Faulty)
+}
+
+/// Whether member k, without which the array goes on, was used without all members that are in sync: its own superblock
+/// has it in a role and has them as failed, or in no role, which no device of a lower number has either. Ask it before
+/// any step, since a step may change its superblock. It takes no memory.
 pub fn is_parted<D: Device + Drop>(mirror: &Mirror<D>, k: usize) -> bool
     requires { k < length mirror.now.array.members }
     ensures { (m : MemberView) → IsMember mirror.now.array k m → result ≡ is_parted mirror.now.array.members m }
 {
     let state = mirror.state(k);
-    if state.is_in_sync() {
+    if !is_out(state) {
         return false;
     }
     is_apart(mirror, mirror.own(k))
@@ -79,7 +99,9 @@ pub fn is_parted<D: Device + Drop>(mirror: &Mirror<D>, k: usize) -> bool
 pub fn was_apart<D: Device + Drop>(mirror: &Mirror<D>, own: &Superblock) -> bool
     ensures { IsTrue result ↔ WasApart mirror.now.array own.now }
 {
-    own.set_uuid == mirror.shared().set_uuid && is_apart(mirror, own)
+    own.set_uuid == mirror.shared().set_uuid
+        && is_out(state_of(mirror.shared(), own))
+        && is_apart(mirror, own)
 }
 
 /// The first member that is in sync, where there is one. It takes no memory.

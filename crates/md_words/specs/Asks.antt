@@ -102,6 +102,7 @@ tells_parted _ = false
 
 -- what it overwrites that perhaps should stay
 abbrev pub overwritten_by : Ask → Overwritten
+overwritten_by (creates o) = overwritten.Images
 overwritten_by (adds name) = overwritten.NewDevice
 overwritten_by (re_adds name) = overwritten.ReturningDevice
 overwritten_by (rebuilds k) = overwritten.Member k

@@ -124,7 +124,7 @@ with_optional a =
     (flag_rule (codes "assume-clean"))
 
 abbrev pub create_app : App
-create_app = completed (with_optional (with_required (new_app (codes "create"))))
+create_app = completed (with_run (with_optional (with_required (new_app (codes "create")))))
 
 -- the program itself has a version, and asks for a command
 abbrev pub with_version : App → App

@@ -254,13 +254,13 @@ impl<'a> Command<'a> {
         ensures { result ≡ overwritten_by (ask_of self.entry) }
     {
         match self {
+            Command::Create(_) => Overwritten::Images,
             Command::Add { .. } => Overwritten::NewDevice,
             Command::ReAdd { .. } => Overwritten::ReturningDevice,
             Command::Rebuild { member } => Overwritten::Member(member),
             Command::Examine
             | Command::ExamineBitmap
             | Command::ExamineBadblocks
-            | Command::Create(_)
             | Command::Assemble { .. }
             | Command::Detail { .. }
             | Command::Plan { .. }

@@ -214,6 +214,7 @@ pub(crate) const ARRAY_COMMANDS: [CommandWords; 4] = [
             TIME,
             WRITE_MOSTLY,
             ASSUME_CLEAN,
+            RUN,
         ],
     },
     CommandWords {

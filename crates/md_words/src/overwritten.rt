@@ -5,6 +5,8 @@
 pub enum Overwritten {
     /// Nothing of the kind.
     Nothing,
+    /// Whatever the images hold of which an array is made.
+    Images,
     /// Whatever the image holds that is to join the array.
     NewDevice,
     /// What was written to the image that comes back, and not to the others.

@@ -56,7 +56,9 @@ fn main(rt: HostRuntime) -> ExitCode {
     let err = rt.stderr();
     let is_terminal = err.is_terminal();
     let task = if is_terminal { task } else { None };
-    let messages = if is_terminal || is_verbose {
+    let messages = if is_terminal {
+        Messages::AtTerminal
+    } else if is_verbose {
         Messages::WithAdvice
     } else {
         Messages::Plain

@@ -185,6 +185,8 @@ impl<'a> Gate for Progress<'a> {
 }
 
 impl<'a> Asker for Progress<'a> {
+    ghost agreed = { λ _. ⊤ };
+
     fn goes_on(&self, lines: &[u8]) -> bool {
         self.clear();
         self.questions.goes_on(self.rt, lines)

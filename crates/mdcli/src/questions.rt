@@ -20,9 +20,9 @@ impl Questions {
     /// What is done where standard error is told so much, and where somebody can be asked, and is to be, or not.
     pub fn new(messages: Messages, asks: bool) -> Questions {
         match messages {
-            Messages::Plain => Questions::Silent,
-            Messages::WithAdvice if asks => Questions::Asked,
-            Messages::WithAdvice => Questions::Shown,
+            Messages::Plain | Messages::WithAdvice => Questions::Silent,
+            Messages::AtTerminal if asks => Questions::Asked,
+            Messages::AtTerminal => Questions::Shown,
         }
     }
 

@@ -1,4 +1,4 @@
-use Rattle.std.proofs.Common.{◌≡◌, ℕ, ◌<◌, arith, Bool, false, get_or, length, rules, subst, sym}
+use Rattle.std.proofs.Common.{◌≡◌, ◌<◌, arith, Bool, false, get_or, length, rules, subst, sym}
 use Rattle.std.proofs.lemmas.List.Edits.{fill_by_more}
 use Rattle.std.proofs.lemmas.List.FromFn.{fill_by_all}
 use Rattle.std.proofs.Math.ListN.{set}

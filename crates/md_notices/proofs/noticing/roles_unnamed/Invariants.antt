@@ -5,5 +5,5 @@ use Rattle.md_notices.proofs.noticing.roles_unnamed.Given as goal
 abbrev pub invariant-loop-role : goal.invariant-loop-role
 invariant-loop-role g l = record {
   size : length l.unnamed ≡ 32;
-  so : (i : ℕ) → i < l.role → IsUnnamedAt l.mirror.array i (get_or l.unnamed i None);
+  so : (i : ℕ) → i < l.role → IsUnnamedAt l.mirror.array l.joining i (get_or l.unnamed i None);
 }

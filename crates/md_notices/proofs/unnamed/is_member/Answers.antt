@@ -1,6 +1,6 @@
 use Rattle.std.proofs.Common.{◌<◌, arith, length, sym}
 use Rattle.md_notices.proofs.Members.{named_no_more, named_there}
-use Rattle.md_notices.proofs.unnamed.is_named.Goals as goal
+use Rattle.md_notices.proofs.unnamed.is_member.Goals as goal
 
 pub returns-then-own-number : goal.returns-then-own-number
 returns-then-own-number g c =

@@ -1,0 +1,67 @@
+-- What a device holds, as far as it is told: of bytes that are usual signs of it, and of which this project's own is a superblock
+-- that it takes.
+use Rattle.std.specs.Prelude.{◌≡◌, ◌≢◌, ℕ, ◌<◌, Bool, true, false, List, [], ◌∷◌, length, Some, slice_get}
+use Rattle.std.specs.List.{filter}
+use Rattle.md_super.specs.declared.superblock.Superblock.{Superblock}
+use Rattle.md_members.specs.declared.fault.MemberFault.{MemberFault}
+use Rattle.md_members.specs.declared.fault.MemberFault.TheVariants.{NoMemory}
+use Rattle.md_members.specs.Reading.{ReadsSuper, RefusesSuper}
+use Rattle.md_signatures.specs.declared.signature.Signature.{Signature}
+use Rattle.md_signatures.specs.Bearing.{bears}
+use Rattle.md_signatures.specs.Finding.{signatures}
+use Rattle.md_signatures.specs.Reading.{OnlyRead}
+use Rattle.md_state.specs.View.{Disk, of_disks}
+use Rattle.md_held.specs.declared.held.Held.{Held}
+use Rattle.md_held.specs.declared.held.Held.TheVariants.{Nothing, Unseen, Member, Signed}
+
+abbrev pub is_known : Held → Bool
+is_known Nothing = false
+is_known Unseen = false
+is_known (Member v) = true
+is_known (Signed s) = true
+
+-- no superblock was read on the device, and not because there was no memory
+pub record HasNoSuper (d e : Disk) : Type 0 where
+  pub fault : MemberFault
+  pub no_memory : fault ≢ NoMemory
+  pub refused : RefusesSuper d.content d.honest (d.failures < e.failures) fault
+
+-- the signatures that the device bears, in their order
+abbrev pub borne : Disk → List Signature
+borne d = filter (bears d.content) signatures
+
+-- it bears the signature and, where no call failed, none before that
+pub record BearsFirst (d e : Disk) (s : Signature) : Type 0 where
+  pub bears_it : d.honest ≡ true → bears d.content s ≡ true
+  pub first : d.honest ≡ true → e.failures ≡ d.failures → (rest : List Signature) × (borne d ≡ s ∷ rest)
+
+-- What is told of the signatures of a device is so, where it is honest: it is the first, or where no call failed, there is none.
+abbrev pub HoldsSigned : Disk → Disk → Held → Type 0
+HoldsSigned d e Nothing = d.honest ≡ true → e.failures ≡ d.failures → borne d ≡ []
+HoldsSigned d e Unseen = Unit {0}
+HoldsSigned d e (Member v) = ⊥
+HoldsSigned d e (Signed s) = BearsFirst d e s
+
+-- What is told of a device, before a look at it and after that: its superblock, or where none can be read, its first signature. Of a
+-- device that is not honest it is told of some bytes that were read.
+abbrev pub Holds : Disk → Disk → Held → Type 0
+Holds d e Nothing = HasNoSuper d e × HoldsSigned d e Nothing
+Holds d e Unseen = Unit {0}
+Holds d e (Member v) = ReadsSuper d.content d.honest v
+Holds d e (Signed s) = HasNoSuper d e × HoldsSigned d e (Signed s)
+
+-- a device was looked at: it was only read, and this is what it holds
+pub record LooksAtOne (d e : Disk) (held : Held) : Type 0 where
+  pub only_read : OnlyRead of_disks d e
+  pub holds : Holds d e held
+
+-- the device in this place was looked at
+abbrev pub LooksAtPlace : List Disk → List Disk → List Held → ℕ → Type 0
+LooksAtPlace before after held k =
+    (d e : Disk) (h : Held) → slice_get before k ≡ Some d → slice_get after k ≡ Some e → slice_get held k ≡ Some h → LooksAtOne d e h
+
+-- each of the devices was
+pub record LooksAtEach (before after : List Disk) (held : List Held) : Type 0 where
+  pub as_many : length after ≡ length before
+  pub all : length held ≡ length before
+  pub each : (k : ℕ) → k < length before → LooksAtPlace before after held k

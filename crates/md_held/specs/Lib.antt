@@ -1,0 +1,2 @@
+-- What a device holds.
+pub mod Holding

@@ -1,6 +1,0 @@
-use Rattle.std.proofs.Common.{◌≡◌, take, false}
-use Rattle.md_notices.specs.Unnamed.{is_named}
-use Rattle.md_notices.proofs.unnamed.is_named.Given as goal
-
-abbrev pub invariant-loop-k : goal.invariant-loop-k
-invariant-loop-k g l = record { none : is_named (take l.k l.mirror.array.members) l.number ≡ false }
