@@ -110,9 +110,12 @@ abbrev pub is_later : Bool → ℕ → Bool
 is_later later zero = later
 is_later later (suc i) = true
 
+later_if : (later : Bool) (n : ℕ) → 0 < n → true ≡ is_later later n
+later_if later zero lt = absurd (omega arith)
+later_if later (suc n) lt = refl
+
 pub later_next : (later : Bool) (i : ℕ) → true ≡ is_later later (i + 1)
-later_next later zero = refl
-later_next later (suc i) = refl
+later_next later i = later_if later (i + 1) (omega arith)
 
 always_later : (i : ℕ) → is_later true i ≡ true
 always_later zero = refl

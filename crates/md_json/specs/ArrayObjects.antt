@@ -1,6 +1,5 @@
 -- The objects of a whole array: in short and in detail, and of a check. In each the members come last.
 use Rattle.std.specs.Prelude.{ℕ, not, List, [], ◌∷◌, codes}
-use Rattle.std.specs.Borrow.{Bor}
 use Rattle.uuid.specs.Text.{hyphenated_text, lower}
 use Rattle.serde_json.specs.Data.{Data, boolean, string}
 use Rattle.md_super.specs.declared.superblock.Superblock.{Superblock}
@@ -12,7 +11,7 @@ use Rattle.md_report.specs.SummaryReport.{in_sync_members, marked_chunks}
 use Rattle.md_json.specs.MemberObjects.{member_list}
 use Rattle.md_json.specs.Objects.{Field, field, report_of, whole}
 
-unfoldable pub members_fields : ArrayView → List (Bor (List ℕ)) → List Field
+unfoldable pub members_fields : ArrayView → List (List ℕ) → List Field
 members_fields a images = field (codes "members") (member_list a images) ∷ []
 
 unfoldable pub summary_fields : ArrayView → List Field
@@ -48,11 +47,11 @@ unfoldable pub check_fields : ℕ → List Field
 check_fields mismatched = field (codes "mismatched_chunks") (whole mismatched) ∷ []
 
 -- the whole objects
-abbrev pub summary_object : ArrayView → List (Bor (List ℕ)) → Data
+abbrev pub summary_object : ArrayView → List (List ℕ) → Data
 summary_object a images = report_of (codes "assemble") (summary_fields a ∷ members_fields a images ∷ [])
 
-abbrev pub detail_object : ArrayView → List (Bor (List ℕ)) → Data
+abbrev pub detail_object : ArrayView → List (List ℕ) → Data
 detail_object a images = report_of (codes "detail") (shared_fields a.shared ∷ condition_fields a ∷ members_fields a images ∷ [])
 
-abbrev pub check_object : ℕ → ArrayView → List (Bor (List ℕ)) → Data
+abbrev pub check_object : ℕ → ArrayView → List (List ℕ) → Data
 check_object mismatched a images = report_of (codes "check") (check_fields mismatched ∷ members_fields a images ∷ [])

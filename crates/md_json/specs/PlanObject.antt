@@ -1,6 +1,5 @@
 -- The object of a rebuild's plan.
 use Rattle.std.specs.Prelude.{ℕ, ◌==◌, if◌then◌else◌, List, [], ◌∷◌, codes}
-use Rattle.std.specs.Borrow.{Bor}
 use Rattle.serde_json.specs.Data.{Data, null}
 use Rattle.md_cert.specs.declared.slots.Slot.{Slot}
 use Rattle.md_cert.specs.declared.plan.Plan.{Plan}
@@ -37,6 +36,6 @@ plan_fields plan certificate orphans =
     ∷ []
 
 -- the whole object
-abbrev pub plan_object : Plan → Certificate → List ℕ → ArrayView → List (Bor (List ℕ)) → Data
+abbrev pub plan_object : Plan → Certificate → List ℕ → ArrayView → List (List ℕ) → Data
 plan_object plan certificate orphans a images =
     report_of (codes "plan") (plan_fields plan certificate orphans ∷ members_fields a images ∷ [])

@@ -4,6 +4,7 @@ ghost use Rattle.md_assembly.specs.States.{is_in_sync};
 ghost use Rattle.md_examine.specs.Sink.{PutsOrFails};
 ghost use Rattle.md_report.specs.SummaryReport.{in_sync_members};
 ghost use Rattle.md_json.specs.ArrayObjects.{check_fields, check_object, condition_fields, detail_object, shared_fields, summary_fields, summary_object};
+ghost use Rattle.md_json.specs.MemberObjects.{texts_of};
 ghost use Rattle.md_json.specs.Objects.{later_text, line_of};
 
 use crate::member_objects::members;
@@ -22,7 +23,7 @@ pub fn summary_json<S: Sink, D: Device + Drop>(
     images: &[&str],
 ) -> Result<(), SinkFault>
     ensures { PutsOrFails S.contents S.failed out.old out.new
-        (line_of (summary_object mirror.now.array images.now)) result }
+        (line_of (summary_object mirror.now.array (texts_of images.now))) result }
 {
     open(out, "assemble")?;
     summary(out, mirror)?;
@@ -38,7 +39,7 @@ pub fn detail_json<S: Sink, D: Device + Drop>(
     images: &[&str],
 ) -> Result<(), SinkFault>
     ensures { PutsOrFails S.contents S.failed out.old out.new
-        (line_of (detail_object mirror.now.array images.now)) result }
+        (line_of (detail_object mirror.now.array (texts_of images.now))) result }
 {
     open(out, "detail")?;
     shared(out, mirror.shared())?;
@@ -56,7 +57,7 @@ pub fn check_json<S: Sink, D: Device + Drop>(
     images: &[&str],
 ) -> Result<(), SinkFault>
     ensures { PutsOrFails S.contents S.failed out.old out.new
-        (line_of (check_object mismatched mirror.now.array images.now)) result }
+        (line_of (check_object mismatched mirror.now.array (texts_of images.now))) result }
 {
     open(out, "check")?;
     checked(out, mismatched)?;

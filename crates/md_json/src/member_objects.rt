@@ -1,12 +1,13 @@
 // The members of an array, with the images that they are on.
 ghost use Rattle.std.specs.Prelude.{◌≡◌, ◌++◌, ◌∷◌, codes, nat_lt};
+ghost use Rattle.std.specs.List.{slice_get};
 ghost use Rattle.json.specs.Print.{quoted};
 ghost use Rattle.serde_json.specs.Written.{comma_if, compact_text};
 ghost use Rattle.md_assembly.specs.States.{role_of};
 ghost use Rattle.md_examine.specs.Sink.{PutsOrFails};
 ghost use Rattle.md_report.specs.DetailReport.{standing_text};
 ghost use Rattle.md_json.specs.ArrayObjects.{members_fields};
-ghost use Rattle.md_json.specs.MemberObjects.{image_value, member_object, member_texts, number_or_null};
+ghost use Rattle.md_json.specs.MemberObjects.{image_value, member_object, member_texts, number_or_null, texts_of, word_or_null};
 ghost use Rattle.md_json.specs.Objects.{key_text, later_text, next_text};
 
 use crate::quoting::quoted;
@@ -24,7 +25,7 @@ pub(crate) fn members<S: Sink, D: Device + Drop>(
     images: &[&str],
 ) -> Result<(), SinkFault>
     ensures { PutsOrFails S.contents S.failed out.old out.new
-        (later_text (members_fields mirror.now.array images.now)) result }
+        (later_text (members_fields mirror.now.array (texts_of images.now))) result }
 {
     next_key(out, "members")?;
     out.put(b"[")?;
@@ -39,7 +40,7 @@ fn member_items<S: Sink, D: Device + Drop>(
     images: &[&str],
 ) -> Result<(), SinkFault>
     ensures { PutsOrFails S.contents S.failed out.old out.new
-        (member_texts mirror.now.array images.now 0 mirror.now.array.members) result }
+        (member_texts mirror.now.array (texts_of images.now) 0 mirror.now.array.members) result }
 {
     for k in 0..mirror.members() {
         let own = mirror.own(k);
@@ -70,7 +71,7 @@ fn member_item<S: Sink>(
 ) -> Result<(), SinkFault>
     ensures { PutsOrFails S.contents S.failed out.old out.new
         (comma_if (nat_lt 0 index)
-        ++ compact_text (member_object images.now index dev_number state re_added mostly)) result }
+        ++ compact_text (member_object (texts_of images.now) index dev_number state re_added mostly)) result }
 {
     out.put(comma_if(index > 0))?;
     member(out, images, index, dev_number, state, re_added, mostly)?;
@@ -87,7 +88,7 @@ fn member<S: Sink>(
     mostly: bool,
 ) -> Result<(), SinkFault>
     ensures { PutsOrFails S.contents S.failed out.old out.new
-        (compact_text (member_object images.now index dev_number state re_added mostly)) result }
+        (compact_text (member_object (texts_of images.now) index dev_number state re_added mostly)) result }
 {
     open_member(out, images, index)?;
     next_number(out, "index", index)?;
@@ -102,7 +103,7 @@ fn member<S: Sink>(
 #[tactic(auto, using(md_examine::proofs::Puts::puts_then))]
 fn open_member<S: Sink>(out: &mut S, images: &[&str], index: usize) -> Result<(), SinkFault>
     ensures { PutsOrFails S.contents S.failed out.old out.new
-        (123 ∷ (key_text (codes "image") ++ compact_text (image_value images.now index))) result }
+        (123 ∷ (key_text (codes "image") ++ compact_text (image_value (texts_of images.now) index))) result }
 {
     out.put(b"{")?;
     key(out, "image")?;
@@ -112,10 +113,22 @@ fn open_member<S: Sink>(out: &mut S, images: &[&str], index: usize) -> Result<()
 
 fn image<S: Sink>(out: &mut S, images: &[&str], index: usize) -> Result<(), SinkFault>
     ensures { PutsOrFails S.contents S.failed out.old out.new
-        (compact_text (image_value images.now index)) result }
+        (compact_text (image_value (texts_of images.now) index)) result }
 {
-    match images.get(index).copied() {
-        Some(name) => quoted(out, name.as_bytes()),
+    word_or_null(out, image_at(images, index))
+}
+
+fn image_at<'a>(images: &[&'a str], index: usize) -> Option<&'a str>
+    ensures { result ≡ slice_get images.now index }
+{
+    images.get(index).copied()
+}
+
+fn word_or_null<S: Sink>(out: &mut S, word: Option<&str>) -> Result<(), SinkFault>
+    ensures { PutsOrFails S.contents S.failed out.old out.new (compact_text (word_or_null word.entry)) result }
+{
+    match word {
+        Some(word) => quoted(out, word.as_bytes()),
         None => out.put(b"null"),
     }
 }

@@ -2,6 +2,7 @@
 ghost use Rattle.std.specs.Prelude.{◌≡◌, ◌++◌, codes, decimal, false};
 ghost use Rattle.serde_json.specs.Written.{comma_if, compact_text};
 ghost use Rattle.md_examine.specs.Sink.{PutsOrFails};
+ghost use Rattle.md_json.specs.MemberObjects.{texts_of};
 ghost use Rattle.md_json.specs.Objects.{elements_text, later_text, line_of, list_of, next_text, whole};
 ghost use Rattle.md_json.specs.PlanObject.{certificate_object, certificate_value, plan_fields, plan_object, slot_object};
 
@@ -24,7 +25,7 @@ pub fn plan_json<S: Sink, D: Device + Drop>(
     images: &[&str],
 ) -> Result<(), SinkFault>
     ensures { PutsOrFails S.contents S.failed out.old out.new
-        (line_of (plan_object plan.now certificate.now orphans.now mirror.now.array images.now)) result }
+        (line_of (plan_object plan.now certificate.now orphans.now mirror.now.array (texts_of images.now))) result }
 {
     open(out, "plan")?;
     planned(out, plan, certificate, orphans)?;
@@ -64,7 +65,6 @@ fn certificate_field<S: Sink>(
     }
 }
 
-#[tactic(auto, unfolding(crate::specs::Objects::next_text), using(md_examine::proofs::Puts::puts_then))]
 fn next_certificate<S: Sink>(out: &mut S, certificate: &Certificate) -> Result<(), SinkFault>
     ensures { PutsOrFails S.contents S.failed out.old out.new
         (next_text (codes "certificate") (compact_text (certificate_object certificate.now))) result }

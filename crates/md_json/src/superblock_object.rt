@@ -5,7 +5,7 @@ ghost use Rattle.serde_json.specs.Written.{compact_text};
 ghost use Rattle.md_examine.specs.Lines.{hex8_text};
 ghost use Rattle.md_examine.specs.Sink.{PutsOrFails};
 ghost use Rattle.md_examine.specs.SuperblockReport.{array_state};
-ghost use Rattle.md_json.specs.Objects.{later_text, line_of, next_text};
+ghost use Rattle.md_json.specs.Objects.{later_text, line_of, next_text, signed};
 ghost use Rattle.md_json.specs.SuperblockObject.{array_fields, bitmap_value, device_fields, log_object, log_value, own_role, place_fields, recovery_value, role_value, role_word, size_fields, state_fields, superblock_object};
 
 use crate::values::{
@@ -161,7 +161,6 @@ fn bad_block_log<S: Sink>(out: &mut S, v: &Superblock) -> Result<(), SinkFault>
     }
 }
 
-#[tactic(auto, unfolding(crate::specs::Objects::next_text), using(md_examine::proofs::Puts::puts_then))]
 fn next_log<S: Sink>(out: &mut S, v: &Superblock) -> Result<(), SinkFault>
     ensures { PutsOrFails S.contents S.failed out.old out.new
         (next_text (codes "bad_block_log") (compact_text (log_object v.now))) result }
@@ -175,9 +174,16 @@ fn log<S: Sink>(out: &mut S, v: &Superblock) -> Result<(), SinkFault>
     ensures { PutsOrFails S.contents S.failed out.old out.new (compact_text (log_object v.now)) result }
 {
     open_number(out, "entries", 64 * v.bblog_size as u32)?;
-    next_signed(out, "offset", v.bblog_offset)?;
+    log_place(out, v)?;
     out.put(b"}")?;
     Ok(())
+}
+
+fn log_place<S: Sink>(out: &mut S, v: &Superblock) -> Result<(), SinkFault>
+    ensures { PutsOrFails S.contents S.failed out.old out.new
+        (next_text (codes "offset") (compact_text (signed v.now.bblog_offset))) result }
+{
+    next_signed(out, "offset", v.bblog_offset)
 }
 
 fn roles<S: Sink>(out: &mut S, v: &Superblock) -> Result<(), SinkFault>

@@ -88,6 +88,7 @@ pub(crate) fn next_number<S: Sink, I: Integer>(
 }
 
 /// A signed number.
+#[tactic(auto, using(crate::proofs::Texts::signed_text))]
 pub(crate) fn next_signed<S: Sink>(out: &mut S, name: &str, n: i32) -> Result<(), SinkFault>
     ensures { PutsOrFails S.contents S.failed out.old out.new
         (next_text name.now (compact_text (signed n))) result }

@@ -3,9 +3,10 @@ use crate::checks::same_at;
 use example_members::{put, sealed, small_image, small_metadata, vault};
 use md_array::Mirror;
 use md_badblocks::BadSet;
+use md_cert::{Certificate, ChunkList, Plan, Slot, Slots};
 use md_device::MemDevice;
 use md_examine::Output;
-use md_json::{badblocks_json, detail_json, superblock_json};
+use md_json::{badblocks_json, check_json, detail_json, plan_json, summary_json, superblock_json};
 use md_super::decode;
 use serde_json::Value;
 use std::alloc::Global;
@@ -136,4 +137,85 @@ fn an_array_reads_back(rt: HostRuntime) -> Result<(), Fail> {
     detail_json(&mut out, &mirror, &IMAGES)?;
     drop(mirror);
     holds(&rt, rt.alloc(), out.into_inner(), &OF_AN_ARRAY)
+}
+
+const OF_A_PLAN: [Row; 5] = [
+    ("/report", "\"plan\""),
+    ("/rounds", "1"),
+    (
+        "/chunks",
+        "[{\"chunk\":5,\"round\":0,\"source\":1},{\"chunk\":6,\"round\":0,\"source\":0}]",
+    ),
+    ("/certificate", "{\"chunks\":[5],\"rounds\":0}"),
+    ("/orphans", "[3,1048575]"),
+];
+
+fn slot(chunk: u32, source: u8) -> Slot {
+    Slot {
+        chunk,
+        source,
+        round: 0,
+    }
+}
+
+fn plan(alloc: Global) -> Result<Plan, Fail> {
+    Ok(Plan {
+        slots: Slots::from_vec(vec![in alloc; slot(5, 1), slot(6, 0)]?),
+        rounds: 1,
+    })
+}
+
+fn certificate(alloc: Global) -> Result<Certificate, Fail> {
+    Ok(Certificate {
+        rounds: 0,
+        chunks: ChunkList::from_vec(vec![in alloc; 5]?),
+    })
+}
+
+// What is told is what is handed over.
+#[test]
+fn a_plan_reads_back(rt: HostRuntime) -> Result<(), Fail> {
+    let mirror = two(rt.alloc())?;
+    let plan = plan(rt.alloc())?;
+    let certificate = certificate(rt.alloc())?;
+    let mut out = Output::new(vec![in rt.alloc()]?);
+    plan_json(
+        &mut out,
+        &plan,
+        &certificate,
+        &[3, 1048575],
+        &mirror,
+        &IMAGES,
+    )?;
+    drop(plan);
+    drop(certificate);
+    drop(mirror);
+    holds(&rt, rt.alloc(), out.into_inner(), &OF_A_PLAN)
+}
+
+const IN_SHORT: [Row; 6] = [
+    ("/report", "\"assemble\""),
+    ("/in_sync", "1"),
+    ("/raid_devices", "2"),
+    ("/marked_chunks", "0"),
+    ("/members/0/image", "\"only\""),
+    ("/members/1/image", "null"),
+];
+
+const OF_A_CHECK: [Row; 3] = [
+    ("/report", "\"check\""),
+    ("/mismatched_chunks", "4294967295"),
+    ("/members/1/index", "1"),
+];
+
+#[test]
+fn an_array_in_short_reads_back(rt: HostRuntime) -> Result<(), Fail> {
+    let mirror = two(rt.alloc())?;
+    let mut out = Output::new(vec![in rt.alloc()]?);
+    summary_json(&mut out, &mirror, &["only"])?;
+    holds(&rt, rt.alloc(), out.into_inner(), &IN_SHORT)?;
+    let mut out = Output::new(vec![in rt.alloc()]?);
+    check_json(&mut out, u32::MAX, &mirror, &IMAGES)?;
+    drop(mirror);
+    holds(&rt, rt.alloc(), out.into_inner(), &OF_A_CHECK)
 }

@@ -8,6 +8,7 @@ use Rattle.md_json.proofs.plan_object.short_set.Goals as goal
 pub returns : goal.returns
 unfolding certificate_fields
 returns g c =
-    let all = puts_object g.S.Sink.contents g.S.Sink.failed (codes "rounds") (whole c.args.certificate.now.rounds) (certificate_fields c.args.certificate.now)
-    c.in_ok-open_number.ensures (puts_then g.S.Sink.contents g.S.Sink.failed c.in_ok-number_list.ensures c.in_ok-put.ensures) in
-    rw (c.as_slice.ensures) at all
+    let its = c.in_ok-number_list.ensures in
+    let its = rw (c.as_slice.ensures) at its in
+    puts_object g.S.Sink.contents g.S.Sink.failed (codes "rounds") (whole c.args.certificate.now.rounds) (certificate_fields c.args.certificate.now)
+    c.in_ok-open_number.ensures (puts_then g.S.Sink.contents g.S.Sink.failed its c.in_ok-put.ensures)

@@ -9,4 +9,4 @@ pub returns : goal.returns
 unfolding log_fields
 returns g c =
     puts_object g.S.Sink.contents g.S.Sink.failed (codes "entries") (whole (64 * c.args.v.now.bblog_size)) (log_fields c.args.v.now)
-    c.in_ok-open_number.ensures (puts_then g.S.Sink.contents g.S.Sink.failed c.in_ok-next_signed.ensures c.in_ok-put.ensures)
+    c.in_ok-open_number.ensures (puts_then g.S.Sink.contents g.S.Sink.failed c.in_ok-log_place.ensures c.in_ok-put.ensures)
