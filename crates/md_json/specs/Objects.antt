@@ -2,7 +2,7 @@
 -- escapes.
 use Rattle.std.specs.Prelude.{ℕ, ℤ, pos, negsuc, Bool, true, List, [], ◌∷◌, ◌++◌, codes}
 use Rattle.json.specs.Print.{quoted}
-use Rattle.serde_json.specs.Data.{unsigned, negative, Data, null, number, string, array, object, Items, no_items, item, Members, no_members, member}
+use Rattle.serde_json.specs.Data.{unsigned, negative, Data, number, string, array, object, Items, no_items, item, Members, no_members, member}
 use Rattle.serde_json.specs.Written.{comma_if, compact_text}
 
 -- a name and its value

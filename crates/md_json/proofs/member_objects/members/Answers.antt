@@ -1,4 +1,4 @@
-use Rattle.std.proofs.Common.{ℕ, List, [], ◌∷◌, ◌++◌, codes, subst}
+use Rattle.std.proofs.Common.{ℕ, List, ◌∷◌, ◌++◌, codes, subst}
 use Rattle.md_examine.specs.Sink.{Puts}
 use Rattle.md_json.specs.MemberObjects.{texts_of}
 use Rattle.md_examine.proofs.Puts.{puts_then}

@@ -1,6 +1,5 @@
-use Rattle.std.proofs.Common.{ℕ, Bool, false, List, ◌++◌, ap, refl, subst, arith, rules}
+use Rattle.std.proofs.Common.{ℕ, false, List, ap, refl, subst, arith, rules}
 use Rattle.std.proofs.lemmas.List.{take_all}
-use Rattle.serde_json.specs.Written.{comma_if, compact_text}
 use Rattle.md_examine.specs.Sink.{Puts}
 use Rattle.md_examine.proofs.Puts.{puts_then, puts_nothing}
 use Rattle.md_json.specs.Objects.{elements_text}
