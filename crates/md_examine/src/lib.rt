@@ -25,4 +25,5 @@ pub use log_fields::examine_badblocks_all;
 pub use sink::{Output, Sink, SinkFault};
 pub use super_faults::super_fault_stands;
 pub use super_fields::{Found, examine_all};
-pub use superblock_report::{cleanness, examine};
+pub use superblock_report::{cleanness, examine, state_letters};
+pub use values::{hex_digits, name_len, shown_bytes};
