@@ -62,7 +62,8 @@ pub(crate) fn goes_on<W: Asker>(
     names: &[&str],
 ) -> bool
     ensures declined { result ≡ false → asks_first (ask_of command.entry) notices.now ≡ true }
-    ensures asked { result ≡ true → asks_first (ask_of command.entry) notices.now ≡ true → W.agreed watch.now }
+    ensures asked { result ≡ true → asks_first (ask_of command.entry) notices.now ≡ true
+        → W.agreed watch.now }
 {
     if !notices.asks_first(command) {
         return true;
