@@ -1,5 +1,5 @@
-//! Tests of commands on images in memory: the life of a mirror, a rebuild and a check, images that fail or are protected; of reports,
-//! and of where these go.
+//! Tests of commands on images in memory: the life of a mirror, a rebuild and a check, images that fail or are protected; inputs that
+//! fail; and the report of a plan.
 #![tactic(auto)]
 
 #[cfg(test)]
@@ -22,7 +22,5 @@ mod plan_reports;
 mod rebuilds;
 #[cfg(test)]
 mod silent;
-#[cfg(test)]
-mod sinks;
 #[cfg(test)]
 mod sources;

@@ -1,10 +1,10 @@
-// A source over a reader of which some reads are interrupted, and others fail.
-use crate::checks::{holds, reads};
+// Commands whose input is a reader of which some reads are interrupted, and others fail.
+use crate::checks::holds;
 use crate::commands::runs;
 use crate::images::{HeldImages, MEMBER, expect_kept_under, held};
 use crate::silent::Silent;
 use md_cli::{Messages, Session};
-use md_commands::{Input, Source, SourceFault};
+use md_commands::Input;
 use md_examine::Output;
 use std::alloc::Global;
 use std::io::{Error, ErrorKind, Read, Result as IoResult};
@@ -46,49 +46,6 @@ impl<'a> Read for Steps<'a> {
 }
 
 const SECTOR: [u8; 512] = [7; 512];
-
-fn takes(rt: &impl Abort, source: &mut Input<Steps<'_>>, bytes: &str) -> Result<(), SourceFault> {
-    let mut buf = [0u8; 8];
-    let count = source.take(&mut buf)?;
-    reads(rt, "what it takes", &buf[..count], bytes);
-    Ok(())
-}
-
-#[test]
-fn a_source_takes_what_its_reader_gives(rt: HostRuntime) -> Result<(), Fail> {
-    let steps = [Step::Gives(b"one"), Step::Gives(b" two")];
-    let mut source = Input::new(Steps { steps: &steps });
-    takes(&rt, &mut source, "one")?;
-    takes(&rt, &mut source, " two")?;
-    takes(&rt, &mut source, "")?;
-    Ok(())
-}
-
-#[test]
-fn an_interrupted_read_is_tried_again(rt: HostRuntime) -> Result<(), Fail> {
-    let steps = [
-        Step::IsInterrupted,
-        Step::IsInterrupted,
-        Step::Gives(b"one"),
-        Step::IsInterrupted,
-    ];
-    let mut source = Input::new(Steps { steps: &steps });
-    takes(&rt, &mut source, "one")?;
-    takes(&rt, &mut source, "")?;
-    Ok(())
-}
-
-// A read that fails is not tried again: what the reader would give after it is not asked for.
-#[test]
-fn a_source_fails_with_its_reader(rt: HostRuntime) -> Result<(), Fail> {
-    let steps = [Step::Gives(b"one"), Step::Fails, Step::Gives(b" two")];
-    let mut source = Input::new(Steps { steps: &steps });
-    takes(&rt, &mut source, "one")?;
-    let mut buf = [0u8; 8];
-    holds(&rt, "the read that fails", source.take(&mut buf).is_err());
-    holds(&rt, "what is left", source.into_inner().steps.len() == 1);
-    Ok(())
-}
 
 fn ends_with<R: Abort + Threads + Wait + Sync>(
     rt: &R,

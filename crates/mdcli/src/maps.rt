@@ -2,7 +2,7 @@
 use crate::files::FileImages;
 use md_advice::advise;
 use md_cli::Messages;
-use md_commands::{CommandFault, CommandFault};
+use md_commands::CommandFault;
 use md_masked_images::{
     MapRefusal, MapText, MapWord, MapsFault, MaskedImages, map_advice, map_list, mask_images,
 };
