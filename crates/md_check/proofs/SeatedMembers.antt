@@ -28,7 +28,7 @@ use Rattle.md_array.specs.Worlds as worlds
 use Rattle.md_check.specs.declared.lent.Missed.{Missed}
 use Rattle.md_check.specs.declared.order.Order.{Order}
 use Rattle.md_check.specs.declared.seat.Seat.{Seat}
-use Rattle.md_check.specs.Checking.{Checks, FailsChecking, MarksMembers, UsesInSync}
+use Rattle.md_check.specs.Checking.{Checks, FailsChecking, Finds, MarksMembers, UsesInSync}
 use Rattle.md_check.specs.Differences.{AreDifferent}
 use Rattle.md_check.specs.Mismatches.{Mismatches, Shows}
 use Rattle.md_check.specs.Plans.{AreOrders, IsSeatOf}
@@ -84,15 +84,26 @@ marks_alone v marks alone none = record {
   bits = λ honest c. (λ e. absurd (no_mark (is_set marks.bytes c) e (none c)), λ m. absurd (alone_same v.disks v.array c alone m));
 }
 
--- the set's number is the count
-pub checks : (old new : MirrorView) (before after : Bitmap) (n : ℕ) → IsConsistent old → IsIdle old.array → before.chunks ≡ div_ceil old.array.chunks.size old.array.chunks.sectors → MarksMembers before after old new
-    → n ≡ count_set after.bytes after.chunks → Checks old new n
-checks old new before after n sound idle many marks is = record {
+-- the marks, of which there were none, are the set
+pub finds : (old new : MirrorView) (before after : Bitmap) → IsConsistent old → IsIdle old.array → before.chunks ≡ div_ceil old.array.chunks.size old.array.chunks.sectors → MarksMembers before after old new
+    → Finds old new after
+finds old new before after sound idle many marks = record {
   idle = idle;
   rests = marks.rests;
   uses = marks.uses;
   unfailing = marks.unfailing;
-  counts = λ honest. record { set = after; chunks = marks.chunks ∙ many ∙ sym sound.chunks.count; bits = marks.bits honest; is = is };
+  chunks = marks.chunks ∙ many ∙ sym sound.chunks.count;
+  bits = marks.bits;
+}
+
+-- the set's number is the count
+pub counts_set : (old new : MirrorView) (set : Bitmap) (n : ℕ) → Finds old new set → n ≡ count_set set.bytes set.chunks → Checks old new n
+counts_set old new set n found is = record {
+  idle = found.idle;
+  rests = found.rests;
+  uses = found.uses;
+  unfailing = found.unfailing;
+  counts = λ honest. record { set = set; chunks = found.chunks; bits = found.bits honest; is = is };
 }
 
 pub devices_many : {D : Type 0} (g : Ghosts D) (old : MirrorView) → IsConsistent old → (room : ℕ) (devices : List D) (orders : List Order) → map (disk_of g) devices ≡ old.disks → AreOrders old.array room orders → length devices ≡ length orders

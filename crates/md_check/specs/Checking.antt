@@ -22,6 +22,16 @@ pub record UsesInSync (old new : MirrorView) : Type 0 where
   pub others : (k : ℕ) (m : MemberView) → IsMember old.array k m → is_in_sync m.state ≡ false → slice_get new.disks k ≡ slice_get old.disks k
   pub alone : IsAlone old.array → new ≡ old
 
+-- The set is that of the chunks of the mirror before in which two differ. Nothing was written, nothing was in flight, and no
+-- read failed.
+pub record Finds (old new : MirrorView) (set : Bitmap) : Type 0 where
+  pub idle : IsIdle old.array
+  pub rests : Rests old new
+  pub uses : UsesInSync old new
+  pub unfailing : EachPair (λ _ d e. e.failures ≡ d.failures) old.disks new.disks
+  pub chunks : set.chunks ≡ old.array.marks.chunks
+  pub bits : AreHonest old.disks → (c : ℕ) → (is_set set.bytes c ≡ true) ↔ Mismatches old.disks old.array c
+
 -- The count is that of the mirror before. Nothing was written, nothing was in flight, and no read failed.
 pub record Checks (old new : MirrorView) (count : ℕ) : Type 0 where
   pub idle : IsIdle old.array

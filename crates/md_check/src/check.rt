@@ -8,7 +8,7 @@ ghost use Rattle.md_state.specs.Members.{IsAlone};
 ghost use Rattle.md_state.specs.Rests.{Rests};
 ghost use Rattle.md_array.specs.Consistency.{IsConsistent};
 ghost use Rattle.md_array.specs.Worlds.{AreHonest};
-ghost use Rattle.md_check.specs.Checking.{Checks, MarksMembers, RefusesCheck};
+ghost use Rattle.md_check.specs.Checking.{Checks, Finds, MarksMembers, RefusesCheck};
 
 use crate::fault::CheckFault;
 use crate::lent::{WINDOW, check_lent};
@@ -21,21 +21,21 @@ use md_workers::Gate;
 use std::alloc::Global;
 use std::thread::Threads;
 
-/// Counts the chunks in which two members in sync differ in a sector that neither lists as bad. Listed
-/// sectors are not read, nor is any device where fewer than two members are in sync.
+/// Finds the chunks in which two members in sync differ in a sector that neither lists as bad. Listed sectors are not read,
+/// nor is any device where fewer than two members are in sync.
 ///
 /// Each member in sync is read by a worker of its own, about 1 MiB at a time and each chunk by itself; the
 /// gate is called round each read, `source` being the member's role. All memory is taken before a device
 /// is used. Nothing is written. The first window in which a read fails ends the check: the error names the
 /// first member that could not be read there, and the chunk.
-pub fn check_array<D: Device + Drop + Send, G: Gate + Sync, R: Threads + Sync>(
+pub fn find_mismatches<D: Device + Drop + Send, G: Gate + Sync, R: Threads + Sync>(
     rt: &R,
     alloc: Global,
     mirror: &mut Mirror<D>,
     gate: &G,
-) -> Result<u32, CheckFault>
+) -> Result<Marks, CheckFault>
     requires sound { IsConsistent mirror.old }
-    ensures gives { MatchResult result (Checks mirror.old mirror.new) (RefusesCheck mirror.old mirror.new) }
+    ensures gives { MatchResult result (Finds mirror.old mirror.new) (RefusesCheck mirror.old mirror.new) }
     ensures sound { IsConsistent mirror.new }
 {
     if mirror.halted() {
@@ -48,6 +48,21 @@ pub fn check_array<D: Device + Drop + Send, G: Gate + Sync, R: Threads + Sync>(
     if has_two_in_sync(mirror) {
         mark_mismatches(rt, alloc, mirror, gate, &mut marks)?;
     }
+    Ok(marks)
+}
+
+/// Counts these chunks.
+pub fn check_array<D: Device + Drop + Send, G: Gate + Sync, R: Threads + Sync>(
+    rt: &R,
+    alloc: Global,
+    mirror: &mut Mirror<D>,
+    gate: &G,
+) -> Result<u32, CheckFault>
+    requires sound { IsConsistent mirror.old }
+    ensures gives { MatchResult result (Checks mirror.old mirror.new) (RefusesCheck mirror.old mirror.new) }
+    ensures sound { IsConsistent mirror.new }
+{
+    let marks = find_mismatches(rt, alloc, mirror, gate)?;
     Ok(marks.count())
 }
 

@@ -1,5 +1,5 @@
 //! Whether the members in sync agree: each is read by a worker of its own, and the chunks in which two differ are
-//! counted. Nothing is written.
+//! found. Nothing is written.
 #![tactic(auto)]
 
 mod alike;
@@ -14,6 +14,6 @@ mod seat;
 mod seats;
 mod turn;
 
-pub use check::check_array;
+pub use check::{check_array, find_mismatches};
 pub use fault::CheckFault;
 pub use md_workers::Gate;

@@ -100,10 +100,17 @@ fn act<
     if command.opens_array() {
         return with_array(session, command, images, names, notices);
     }
-    if let Command::Create(options) = command {
-        return create_array(session, options, images, names, notices);
+    let alloc = session.alloc;
+    match command {
+        Command::Create(options) => create_array(session, options, images, names, notices),
+        Command::Examine => examine_images(alloc, command, images, names, &mut session.out),
+        Command::ExamineBitmap => examine_images(alloc, command, images, names, &mut session.out),
+        Command::ExamineBadblocks => {
+            examine_images(alloc, command, images, names, &mut session.out)
+        }
+        // The others open an array.
+        _ => unreachable!(),
     }
-    examine_images(session.alloc, command, images, names, &mut session.out)
 }
 
 // Makes an array. No image is touched before the options are accepted.

@@ -47,7 +47,7 @@ use Rattle.md_commands.specs.declared.source.Source.{Ghosts as SourceGhosts}
 use Rattle.md_commands.specs.declared.way.Way.{Way}
 use Rattle.md_commands.specs.declared.way.Way.TheVariants.{Resynced}
 use Rattle.md_commands.specs.Adding.{KeepsDevice}
-use Rattle.md_commands.specs.Checking.{ChecksMembers, RefusesToCheck}
+use Rattle.md_commands.specs.Checking.{ChecksMembers, ListsMembers, RefusesToCheck, RefusesToList}
 use Rattle.md_commands.specs.Failing.{RefusesToFail}
 use Rattle.md_commands.specs.Pieces.{ReadsPieces, ReadsSectors, ReadsSome, ReadsUpTo, RefusesSectors}
 use Rattle.md_commands.specs.Reading.{FailsReadied, FailsReadonly, ReadsArray, ReadsReadonly, RefusesReadonly, RefusesToRead}
@@ -326,6 +326,14 @@ module _ {S : Type 0} (s : SinkGhosts S) (old new : MirrorView) (before after : 
   checks_as_many (Check fault) h = not_checked fault old new h.0
   checks_as_many OutputFault h = h.checks.rests.disks.same.as_many
   checks_as_many fault h = absurd h
+
+  pub done_list : ListsMembers s old new before after → AsMany old new
+  done_list h = h.finds.rests.disks.same.as_many
+
+  pub lists_as_many : (fault : CommandFault) → RefusesToList s old new before after fault → AsMany old new
+  lists_as_many (Check fault) h = not_checked fault old new h.0
+  lists_as_many OutputFault h = h.finds.rests.disks.same.as_many
+  lists_as_many fault h = absurd h
 
   module _ {I : Type 0} (i : SourceGhosts I) (sector : ℕ) (input rest : I) where
     pub writes_as_many : (fault : CommandFault) → RefusesToWrite i s sector old new input rest before after fault → AsMany old new

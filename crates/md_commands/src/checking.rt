@@ -3,13 +3,13 @@ ghost use Rattle.std.specs.Prelude.{MatchResult};
 ghost use Rattle.md_requests.specs.Pending.{PendingView};
 ghost use Rattle.md_state.specs.Requests.{IsPending};
 ghost use Rattle.md_array.specs.Consistency.{IsConsistent};
-ghost use Rattle.md_commands.specs.Checking.{ChecksMembers, RefusesToCheck};
+ghost use Rattle.md_commands.specs.Checking.{ChecksMembers, ListsMembers, RefusesToCheck, RefusesToList};
 
 use crate::fault::CommandFault;
-use crate::output::put_checked;
+use crate::output::{put_checked, put_listed};
 use crate::watch::Watch;
 use md_array::Mirror;
-use md_check::check_array;
+use md_check::{check_array, find_mismatches};
 use md_device::Device;
 use md_examine::Sink;
 use std::alloc::Global;
@@ -38,6 +38,27 @@ pub fn check_members<D: Device + Drop + Send, W: Watch + Sync, S: Sink, T: Threa
     watch.begins_check(sectors_to_read(mirror));
     let mismatched = check_array(rt, alloc, mirror, watch)?;
     put_checked(mismatched, out)
+}
+
+/// Puts out the same, and before it a line for each of these chunks.
+pub fn list_members<D: Device + Drop + Send, W: Watch + Sync, S: Sink, T: Threads + Sync>(
+    rt: &T,
+    alloc: Global,
+    mirror: &mut Mirror<D>,
+    watch: &W,
+    out: &mut S,
+) -> Result<(), CommandFault>
+    requires sound { IsConsistent mirror.old }
+    ensures gives { MatchResult result
+        (λ _. ListsMembers S.Sink mirror.old mirror.new out.old out.new)
+        (RefusesToList S.Sink mirror.old mirror.new out.old out.new) }
+    ensures sound { IsConsistent mirror.new }
+    ensures pending { (p : PendingView) → IsPending mirror.old.array p → IsPending mirror.new.array p }
+{
+    watch.begins_check(sectors_to_read(mirror));
+    let chunks = mirror.chunks();
+    let set = find_mismatches(rt, alloc, mirror, watch)?;
+    put_listed(chunks, &set, out)
 }
 
 // How many sectors a check reads where none is listed as bad: those of the array, on each member in sync.

@@ -28,7 +28,7 @@ mod way;
 mod writing;
 
 pub use adding::add_device;
-pub use checking::check_members;
+pub use checking::{check_members, list_members};
 pub use failing::fail_member;
 pub use fault::CommandFault;
 pub use md_copy::Gate;

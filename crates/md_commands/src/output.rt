@@ -1,6 +1,7 @@
 // What a command puts out.
-ghost use Rattle.std.specs.Prelude.{MatchResult, length};
-ghost use Rattle.md_report.specs.CheckReport.{check_text};
+ghost use Rattle.std.specs.Prelude.{◌≡◌, MatchResult, length};
+ghost use Rattle.std.specs.Int.{div_ceil};
+ghost use Rattle.md_report.specs.CheckReport.{check_text, list_text};
 ghost use Rattle.md_report.specs.DetailReport.{detail_text};
 ghost use Rattle.md_report.specs.RebuiltReport.{planned_text, rebuilt_text};
 ghost use Rattle.md_report.specs.SummaryReport.{summary_text};
@@ -8,11 +9,12 @@ ghost use Rattle.md_commands.specs.Output.{FailsOutput, PutsOut};
 
 use crate::fault::CommandFault;
 use md_array::Mirror;
+use md_bitmap::{Chunks, Marks};
 use md_copy::Rebuilt;
 use md_device::Device;
 use md_examine::Sink;
 use md_plan::Planned;
-use md_report::{check_report, detail, plan_report, rebuilt_report, summary};
+use md_report::{check_list_report, check_report, detail, plan_report, rebuilt_report, summary};
 
 /// Puts out these bytes, and passes on what the output holds back.
 pub(crate) fn put_out<S: Sink>(out: &mut S, bytes: &[u8]) -> Result<(), CommandFault>
@@ -90,6 +92,22 @@ pub(crate) fn put_checked<S: Sink>(mismatched: u32, out: &mut S) -> Result<(), C
         (FailsOutput S.Sink out.new) }
 {
     check_report(out, mismatched)?;
+    out.flush()?;
+    Ok(())
+}
+
+/// Puts out in which chunks members in sync differ.
+pub(crate) fn put_listed<S: Sink>(
+    chunks: Chunks,
+    set: &Marks,
+    out: &mut S,
+) -> Result<(), CommandFault>
+    requires { set.now.chunks ≡ div_ceil chunks.size chunks.sectors }
+    ensures { MatchResult result
+        (λ _. PutsOut S.Sink out.old out.new (list_text chunks set.now))
+        (FailsOutput S.Sink out.new) }
+{
+    check_list_report(out, chunks, set)?;
     out.flush()?;
     Ok(())
 }

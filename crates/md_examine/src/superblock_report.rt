@@ -147,8 +147,8 @@ fn roles<S: Sink>(out: &mut S, v: &Superblock) -> Result<(), SinkFault>
     line(out, "Array State    ", &letters[..v.raid_disks as usize])
 }
 
-// A letter for each role that an array can have: whether some device has it.
-fn state_letters(roles: &Roles) -> [u8; 32]
+/// A letter for each role that an array can have: whether some device has it.
+pub fn state_letters(roles: &Roles) -> [u8; 32]
     ensures { result ≡ array_state roles.now 32 }
 {
     std::array::from_fn(|r| letter(roles, r as u16))

@@ -3,16 +3,16 @@ ghost use Rattle.std.specs.Prelude.{◌≡◌, ◌≤◌, ◌==◌, not, length,
 ghost use Rattle.std.specs.List.{take_while};
 ghost use Rattle.md_examine.specs.Lines.{shown, hex8_text};
 
-// How many bytes of a name stand before its first zero byte.
-pub(crate) fn name_len(name: &[u8; 32]) -> usize
+/// How many bytes of a name stand before its first zero byte.
+pub fn name_len(name: &[u8; 32]) -> usize
     ensures len { result ≡ length (take_while (λ b. not (b == 0)) name.now) }
     ensures fits { result ≤ 32 }
 {
     name.iter().take_while(|b| **b != 0).count()
 }
 
-// The bytes of a name, `?` for those that can't be shown.
-pub(crate) fn shown_bytes(name: &[u8; 32]) -> [u8; 32]
+/// The bytes of a name, `?` for those that can't be shown.
+pub fn shown_bytes(name: &[u8; 32]) -> [u8; 32]
     ensures { result ≡ map shown name.now }
 {
     name.map(shown_byte)
@@ -24,9 +24,9 @@ fn shown_byte(b: u8) -> u8
     if (0x20..=0x7e).contains(&b) { b } else { b'?' }
 }
 
-// Eight hex digits.
+/// Eight hex digits.
 #[tactic(auto, unfolding(crate::specs::Lines::hex8_text))]
-pub(crate) fn hex_digits(n: u32) -> [u8; 8]
+pub fn hex_digits(n: u32) -> [u8; 8]
     ensures digits { result ≡ hex8_text n }
     ensures len { length result ≡ 8 }
 {

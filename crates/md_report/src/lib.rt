@@ -9,8 +9,8 @@ mod plan_lines;
 mod rebuilt_lines;
 mod summary_report;
 
-pub use check_line::check_report;
+pub use check_line::{check_list_report, check_report};
 pub use detail_report::detail;
 pub use plan_lines::plan_report;
 pub use rebuilt_lines::rebuilt_report;
-pub use summary_report::summary;
+pub use summary_report::{members_in_sync, summary};

@@ -23,7 +23,7 @@ pub fn summary<S: Sink, D: Device + Drop>(out: &mut S, mirror: &Mirror<D>) -> Re
 }
 
 /// How many members are in sync.
-pub(crate) fn members_in_sync<D: Device + Drop>(mirror: &Mirror<D>) -> usize
+pub fn members_in_sync<D: Device + Drop>(mirror: &Mirror<D>) -> usize
     ensures { result ≡ in_sync_members mirror.now.array }
 {
     let mut count = 0;

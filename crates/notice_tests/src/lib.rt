@@ -1,4 +1,5 @@
-//! Tests of what is noticed of images: what a device holds by its magic numbers, and which sectors a copy lacks.
+//! Tests of what is noticed of images: what a device holds by its magic numbers, and which sectors a copy lacks; and of
+//! reports as JSON.
 #![tactic(auto)]
 
 #[cfg(test)]
@@ -9,5 +10,7 @@ mod maps;
 mod masked_devices;
 #[cfg(test)]
 mod masked_images;
+#[cfg(test)]
+mod objects;
 #[cfg(test)]
 mod signatures;

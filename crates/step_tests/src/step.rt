@@ -76,7 +76,7 @@ pub(crate) enum Answer {
     NotNoted(NoteFault),
     // There is no such member, chunk, request or device, or it is of another kind.
     NotCalled,
-    // Nothing was found out, for want of memory.
+    // Nothing was found out: there was no memory.
     NotTold,
     Shows(Shown),
     // A member's state, whether its superblock is due, and whether it is shown as re-added.

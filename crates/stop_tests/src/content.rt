@@ -14,12 +14,12 @@ fn bit(byte: u8) -> u64 {
 // The byte below 64 with which all of it is filled.
 fn filling(bytes: &[u8]) -> Option<u8> {
     let first = *bytes.first()?;
-    let is_filled = bytes.iter().all(|byte| *byte == first);
-    if is_filled && first < 64 {
-        Some(first)
-    } else {
-        None
+    for byte in bytes {
+        if *byte != first {
+            return None;
+        }
     }
+    if first < 64 { Some(first) } else { None }
 }
 
 impl Content {
@@ -42,11 +42,10 @@ impl Content {
     // The first sector that the array can't hold so. Each is filled with its byte.
     pub(crate) fn first_wrong(&self, bytes: &[u8; 512 * SECTORS]) -> Option<usize> {
         for (sector, may) in self.may.iter().enumerate() {
-            let filled = bytes
-                .get(512 * sector..512 * sector + 512)
-                .and_then(filling);
-            if !filled.is_some_and(|byte| bit(byte) & *may != 0) {
-                return Some(sector);
+            let bytes = bytes.get(512 * sector..512 * sector + 512).unwrap_or(&[]);
+            match filling(bytes) {
+                Some(byte) if bit(byte) & *may != 0 => {}
+                _ => return Some(sector),
             }
         }
         None

@@ -25,7 +25,10 @@ fn named(mut device: MemDevice, name: u8) -> Result<MemDevice, Fail>
 }
 
 pub(crate) fn name_of(device: &MemDevice) -> usize {
-    device.bytes().first().map_or(0, |name| *name as usize)
+    match device.bytes().first() {
+        Some(name) => *name as usize,
+        None => 0,
+    }
 }
 
 // A member in sync of a clean array of so many roles, without a mark. Its number and its role are its name.

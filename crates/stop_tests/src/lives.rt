@@ -51,13 +51,12 @@ fn copies_of(alloc: Global, images: &[MemDevice], choice: &Choice) -> Result<Vec
     Ok(copies)
 }
 
-// The images that are chosen, and the others.
-fn parted(
-    alloc: Global,
+fn part(
     images: Vec<MemDevice>,
     choice: &Choice,
-) -> Result<(Vec<MemDevice>, Vec<MemDevice>), Fail> {
-    let (mut chosen, mut others) = (Vec::new(alloc), Vec::new(alloc));
+    chosen: &mut Vec<MemDevice>,
+    others: &mut Vec<MemDevice>,
+) -> Result<(), Fail> {
     for image in images {
         if choice.has(name_of(&image)) {
             chosen.push(image)?;
@@ -65,7 +64,24 @@ fn parted(
             others.push(image)?;
         }
     }
-    Ok((chosen, others))
+    Ok(())
+}
+
+// The images that are chosen, and the others.
+fn parted(
+    alloc: Global,
+    images: Vec<MemDevice>,
+    choice: &Choice,
+) -> Result<(Vec<MemDevice>, Vec<MemDevice>), Fail> {
+    let (mut chosen, mut others) = (Vec::new(alloc), Vec::new(alloc));
+    match part(images, choice, &mut chosen, &mut others) {
+        Ok(()) => Ok((chosen, others)),
+        Err(fail) => {
+            drop(chosen);
+            drop(others);
+            Err(fail)
+        }
+    }
 }
 
 impl Life {

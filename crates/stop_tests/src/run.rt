@@ -1,5 +1,5 @@
 // A mirror of devices that stop together, and the devices that are in no mirror. Each `Run` is consistent.
-ghost use Rattle.std.specs.Prelude.{◌≡◌, ◌<◌, ℕ, length, true, false, IsTrue};
+ghost use Rattle.std.specs.Prelude.{◌≡◌, ◌<◌, ◌%◌, ℕ, length, true, false, IsTrue};
 ghost use Rattle.md_array.specs.Consistency.{IsConsistent};
 ghost use Rattle.md_array.specs.NotingResynced.{AreNoted};
 ghost use Rattle.md_assembly.specs.States.{is_recovering};
@@ -97,6 +97,21 @@ fn take_out(mirror: &mut Mirror<Stopping>, k: usize) -> Result<Stopping, RemoveF
     mirror.remove(k)
 }
 
+fn read_all(mirror: &mut Mirror<Stopping>, bytes: &mut [u8; 512 * SECTORS]) -> bool
+    requires sound { IsConsistent mirror.old }
+    ensures { IsConsistent mirror.new }
+{
+    read(mirror, 0, bytes).is_ok()
+}
+
+fn write_on(mirror: &mut Mirror<Stopping>, first: u64, bytes: &[u8]) -> Result<(), BeginFault>
+    requires whole { length bytes.now % 512 ≡ 0 }
+    requires sound { IsConsistent mirror.old }
+    ensures { IsConsistent mirror.new }
+{
+    write(mirror, first, bytes)
+}
+
 fn take_back(
     mirror: &mut Mirror<Stopping>,
     alloc: Global,
@@ -185,7 +200,10 @@ impl Run {
     // The name of a device that is in no mirror, one of them by this number.
     pub(crate) fn outside_name(&self, number: usize) -> usize {
         let count = self.outside.len().max(1);
-        self.outside.get(number % count).map_or(0, name_of)
+        match self.outside.get(number % count) {
+            Some(image) => name_of(image),
+            None => 0,
+        }
     }
 
     // The first member from this one on that is no part of the array, or this one.
@@ -234,7 +252,7 @@ impl Run {
     }
 
     pub(crate) fn read(&mut self, bytes: &mut [u8; 512 * SECTORS]) -> bool {
-        read(&mut self.mirror, 0, bytes).is_ok()
+        read_all(&mut self.mirror, bytes)
     }
 
     pub(crate) fn check<R: Threads + Sync>(
@@ -271,7 +289,7 @@ impl Run {
         let Some(bytes) = bytes.get(..count.min(8) * 512) else {
             return Answer::NotCalled;
         };
-        match write(&mut self.mirror, first as u64, bytes) {
+        match write_on(&mut self.mirror, first as u64, bytes) {
             Ok(()) => Answer::Done,
             // No device was used.
             Err(BeginFault::NotResynced | BeginFault::OutOfRange) => Answer::NotCalled,

@@ -1,0 +1,68 @@
+-- The report of a bitmap's header as it stands, though it may be refused: every field of `struct bitmap_super_s` of
+-- md-bitmap.h but for the padding.
+use Rattle.std.specs.Prelude.{ℕ, ◌==◌, ◌&&◌, not, nat_le, if◌then◌else◌, Bool, List, [], ◌∷◌, ◌++◌, codes}
+use Rattle.std.specs.List.{flat_map}
+use Rattle.std.specs.Int.{is_power_of_two}
+use Rattle.md_format.specs.Fields.{number_at}
+use Rattle.md_bitmap.specs.Faults.{Stands}
+use Rattle.md_bitmap.specs.Sound.{IsChunkSize, chunk_count}
+use Rattle.md_bitmap.specs.declared.fault.BitmapFault.{BitmapFault}
+use Rattle.md_bitmap.specs.declared.fault.BitmapFault.TheVariants as fault
+use Rattle.md_examine.specs.Lines.{column, line_text}
+use Rattle.md_examine.specs.Fields.{Row, row, row_text}
+use Rattle.md_examine.specs.SuperFaults as super
+use Rattle.md_examine.specs.declared.fields.Kind.TheVariants.{Word, Long, Hex, HexDigits, Id, Name}
+
+-- The fault stands, and can be told: chunks are counted by a size that they may have.
+abbrev pub IsSeen : List ℕ → BitmapFault → Type 0
+IsSeen bytes fault.TooManyChunks = IsChunkSize (number_at 4 52 bytes) × Stands bytes fault.TooManyChunks
+IsSeen bytes f = Stands bytes f
+
+-- a size that chunks may have, as a test
+abbrev pub is_chunk_size : ℕ → Bool
+is_chunk_size size = is_power_of_two size && nat_le 512 size
+
+-- that a fault is seen, as a test
+abbrev pub stands : List ℕ → BitmapFault → Bool
+stands bytes fault.Magic = not (number_at 4 0 bytes == 0x6d746962)
+stands bytes fault.Version = not (number_at 4 4 bytes == 4)
+stands bytes fault.ChunkSize = not (is_chunk_size (number_at 4 52 bytes))
+stands bytes fault.TooManyChunks = is_chunk_size (number_at 4 52 bytes) && not (nat_le (chunk_count (number_at 8 40 bytes) (number_at 4 52 bytes)) 1048576)
+
+-- all faults, in the order in which a header is refused by them
+abbrev pub faults : List BitmapFault
+faults = fault.Magic ∷ fault.Version ∷ fault.ChunkSize ∷ fault.TooManyChunks ∷ []
+
+abbrev pub fault_name : BitmapFault → List ℕ
+fault_name fault.Magic = codes "Magic"
+fault_name fault.Version = codes "Version"
+fault_name fault.ChunkSize = codes "ChunkSize"
+fault_name fault.TooManyChunks = codes "TooManyChunks"
+
+-- a line where it stands
+abbrev pub fault_text : List ℕ → BitmapFault → List ℕ
+fault_text bytes f = if stands bytes f then line_text (column (codes "Fault")) (fault_name f) else []
+
+abbrev pub bitmap_fields : List Row
+bitmap_fields =
+    row (codes "Magic") HexDigits 0 []
+    ∷ row (codes "Version") Word 4 []
+    ∷ row (codes "Array UUID") Id 8 []
+    ∷ row (codes "Events") Long 24 []
+    ∷ row (codes "Events Cleared") Long 32 []
+    ∷ row (codes "Sync Size") Long 40 (codes " sectors")
+    ∷ row (codes "State") Hex 48 []
+    ∷ row (codes "Chunk Size") Word 52 (codes " bytes")
+    ∷ row (codes "Daemon Sleep") Word 56 (codes " seconds")
+    ∷ row (codes "Write Behind") Word 60 []
+    ∷ row (codes "Reserved") Word 64 (codes " sectors")
+    ∷ row (codes "Nodes") Word 68 []
+    ∷ row (codes "Cluster Name") Name 72 []
+    ∷ []
+
+-- the whole report: the faults of the superblock and of the header, and the header's fields
+unfoldable pub bitmap_all_text : List ℕ → List ℕ → List ℕ
+bitmap_all_text superblock sector =
+    flat_map (super.fault_text (column (codes "Super Fault")) superblock) (super.faults_of superblock)
+    ++ flat_map (fault_text sector) faults
+    ++ flat_map (row_text sector) bitmap_fields

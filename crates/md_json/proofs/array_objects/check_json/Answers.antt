@@ -1,0 +1,11 @@
+use Rattle.std.proofs.Common.{[], ◌∷◌, codes}
+use Rattle.md_json.specs.ArrayObjects.{check_fields, members_fields}
+use Rattle.md_json.specs.MemberObjects.{texts_of}
+use Rattle.md_examine.proofs.Puts.{puts_then}
+use Rattle.md_json.proofs.Texts.{puts_report}
+use Rattle.md_json.proofs.array_objects.check_json.Goals as goal
+
+pub returns : goal.returns
+returns g c =
+    puts_report g.S.Sink.contents g.S.Sink.failed (codes "check") (check_fields c.args.mismatched ∷ members_fields c.args.mirror.now.array (texts_of c.args.images.now) ∷ [])
+    c.in_ok-open.ensures (puts_then g.S.Sink.contents g.S.Sink.failed c.in_ok-checked.ensures (puts_then g.S.Sink.contents g.S.Sink.failed c.in_ok-members.ensures c.in_ok-close.ensures))

@@ -1,0 +1,14 @@
+-- Objects as names and values, and their text.
+pub mod Objects
+-- The object of a superblock.
+pub mod SuperblockObject
+-- The object of a bitmap.
+pub mod BitmapObject
+-- The object of a member's bad blocks.
+pub mod BadblocksObject
+-- The members of an array, with the images that they are on.
+pub mod MemberObjects
+-- The objects of a whole array.
+pub mod ArrayObjects
+-- The object of a rebuild's plan.
+pub mod PlanObject

@@ -1,0 +1,2 @@
+-- What was found is found where more calls may have failed.
+mod Found
