@@ -1,5 +1,5 @@
 -- What a device holds that is to join an array, and what it is to that array.
-use Rattle.std.specs.Prelude.{◌≡◌, ◌≢◌, ℕ, Bool, false, Global, List, Option, Some, None, Vec}
+use Rattle.std.specs.Prelude.{◌≡◌, ◌≢◌, ℕ, Bool, true, List, [], Option, Some, None, Vec, is_some}
 use Rattle.std.specs.List.{list_any}
 use Rattle.md_notices.specs.Belonging.{IsForgotten}
 use Rattle.md_notices.specs.Parting.{WasApart}
@@ -30,16 +30,20 @@ LooksAt None None old new = new ≡ old
 LooksAt (Some d) (Some e) old new = Looks d e old new
 LooksAt _ _ old new = ⊥
 
+-- what each of the devices holds of which an array is to be made
+abbrev pub held_each : {Z : Type 0} → Option (Vec Held Z) → List Held
+held_each None = []
+held_each (Some held) = held.items
+
 -- each of the devices was looked at of which an array is to be made, and what they hold is noted
 pub record LooksAtAll (before after : List Disk) (old new : Notices) : Type 0 where
-  pub held : Vec Held Global
-  pub looks : LooksAtEach before after held.items
-  pub noted : new ≡ record old { each = Some held }
+  pub seen : is_some new.each ≡ true
+  pub looks : LooksAtEach before after (held_each new.each)
+  pub noted : new ≡ record old { each = new.each }
 
 -- something is known of one of them
-abbrev pub one_is_known : Option (Vec Held Global) → Bool
-one_is_known None = false
-one_is_known (Some held) = list_any is_known held.items
+abbrev pub one_is_known : {Z : Type 0} → Option (Vec Held Z) → Bool
+one_is_known each = list_any is_known (held_each each)
 
 -- the number of the device that is to join, where its superblock is one of the array
 abbrev pub IsJoining : Superblock → Held → Option ℕ → Type 0
