@@ -177,8 +177,8 @@ fn is_path_of<R: Files + AllocGlobal>(rt: &R, path: &[u8], file: &Metadata) -> i
     let Ok(name) = str::from_utf8(name.as_slice()) else {
         return Ok(false);
     };
-    Ok(told(fs::metadata(rt, name))?
-        .is_some_and(|named| named.dev() == file.dev() && named.ino() == file.ino()))
+    Ok(told(fs::metadata(rt, name))?.is_some_and(|named| named.dev() == file.dev()
+        && named.ino() == file.ino()))
 }
 
 // A path of the system's lists as it is: there each byte that would end a word is a backslash and three octal digits.

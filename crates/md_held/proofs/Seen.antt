@@ -41,7 +41,10 @@ module _ (a b c : Disk) (fault : MemberFault) (first : OnlyRead of_disks a b) (t
   seen_then Nothing h = (no_super, λ is same. as_borne ∙ h (first.honest ∙ is) (late same))
   seen_then Unseen h = h
   seen_then (Member v) h = absurd h
-  seen_then (Signed s) h = (no_super, record {
-    bears_it = λ is. ap (λ (content : List ℕ). bears content s) (sym first.kept) ∙ h.bears_it (first.honest ∙ is);
-    first = λ is same. let so = h.first (first.honest ∙ is) (late same) in (so.0, as_borne ∙ so.1);
-  })
+  seen_then (Signed s) h = (
+    no_super,
+    record {
+      bears_it = λ is. ap (λ (content : List ℕ). bears content s) (sym first.kept) ∙ h.bears_it (first.honest ∙ is);
+      first = λ is same. let so = h.first (first.honest ∙ is) (late same) in (so.0, as_borne ∙ so.1);
+    },
+  )
