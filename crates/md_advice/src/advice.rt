@@ -143,7 +143,7 @@ fn re_add_advice(fault: ReAddFault) -> &'static str {
         ReAddFault::Member(fault) => member_advice(fault),
         ReAddFault::Full => REMOVE_ONE,
         ReAddFault::NotReAddable => {
-            "if it was being rebuilt, as after a `re-add` that was interrupted, name it among the images and run `rebuild` on it; else see by `examine` whether it has more events than the others, and so holds what they lack; only if not, make a spare of it by `add`, which wipes what it holds, and run `rebuild`"
+            "if `examine` shows another Array UUID than the others, it is of another array: leave it out; if it was being rebuilt, as after a `re-add` that was interrupted, name it among the images and run `rebuild` on it; else see by `examine` whether it has more events than the others, and so holds what they lack; only if not, make a spare of it by `add`, which wipes what it holds, and run `rebuild`"
         }
         ReAddFault::NoRole => {
             "`detail` shows which member has its role; `add` makes a spare of it, and wipes what it holds"
@@ -181,7 +181,7 @@ fn rebuild_advice(fault: RebuildFault) -> &'static str {
         }
         RebuildFault::Dirty => RESYNC_FIRST,
         RebuildFault::TargetFault => {
-            "see why the device can't be written (`dmesg`, free space, write protection); `remove` it, after `fail` where it is recovering, and `add` it or another one anew"
+            "see why the device can't be written (`dmesg`, free space, write protection); leave this image out of every later command, and `add` it or another one to the others; don't `re-add` it"
         }
         RebuildFault::MetadataFault(_) => BEGIN_ANEW,
         RebuildFault::LogFull(_) => NEW_LOG,
