@@ -1,4 +1,6 @@
 // A rebuild or a check that nobody watches.
+ghost use Rattle.std.specs.Prelude.{⊤};
+
 use md_cli::Asker;
 use md_commands::{Gate, Watch};
 

@@ -1,4 +1,6 @@
 // What a command that takes long shows of its progress.
+ghost use Rattle.std.specs.Prelude.{⊤};
+
 use crate::comparing::Comparing;
 use crate::copying::Copying;
 use crate::questions::Questions;
