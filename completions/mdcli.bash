@@ -8,12 +8,14 @@ _mdcli_commands() {
 # The options of a command, beside --help and --verbose. A value follows one that ends in =.
 _mdcli_options() {
   case $1 in
+    examine | examine-bitmap | examine-badblocks) printf '%s\n' --all ;;
     create) printf '%s\n' --level= --raid-devices= --uuid= --name= --bitmap-chunk= --size= --time= --write-mostly= --assume-clean --run ;;
     assemble) printf '%s\n' --readonly ;;
-    detail | check) printf '%s\n' --readonly --map= ;;
+    detail) printf '%s\n' --readonly --map= ;;
     plan) printf '%s\n' --member= --readonly --map= ;;
     read) printf '%s\n' --sector= --count= --readonly --map= ;;
     write) printf '%s\n' --sector= ;;
+    check) printf '%s\n' --list --readonly --map= ;;
     resync) printf '%s\n' --map= ;;
     fail | remove) printf '%s\n' --member= ;;
     add | re-add) printf '%s\n' --device= --run ;;

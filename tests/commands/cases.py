@@ -115,6 +115,95 @@ OUT_OF_DATE = members.with_header(VAULT, events=8)
 # The event count can't rise any more.
 SPENT = members.with_header(members.with_superblock(VAULT, events=2**64 - 1), events=2**64 - 1)
 
+# The superblock of a damaged member, and what stands in it.
+DAMAGED = changed(VAULT, (SUPER, "I", 0), (SUPER + 72, "I", 5))
+DAMAGED_REPORT = """\
+Fault           : Magic
+Fault           : Checksum
+Fault           : Level
+Magic           : 00000000
+Major Version   : 1
+Feature Map     : 0x1
+Array UUID      : 00112233-4455-6677-8899-aabbccddeeff
+Name            : vault
+Creation Time   : 1700000000
+Raid Level      : 5
+Layout          : 0
+Used Dev Size   : 64 sectors
+Chunk Size      : 0 sectors
+Raid Devices    : 2
+Bitmap Offset   : 8 sectors from superblock
+New Level       : 0
+Reshape Place   : 0 sectors
+Delta Devices   : 0
+New Layout      : 0
+New Chunk Size  : 0 sectors
+New Offset      : 0 sectors
+Data Offset     : 2048 sectors
+Avail Dev Size  : 64 sectors
+Super Offset    : 8 sectors
+Recovery Offset : 0 sectors
+Device Number   : 0
+Corrected Reads : 0
+Device UUID     : 11111111-1111-1111-1111-111111111111
+Device Flags    : 0x0
+Log Shift       : 0
+Log Size        : 8 sectors
+Log Offset      : 2024 sectors from superblock
+Update Time     : 1700000000
+Events          : 10
+Resync Offset   : 18446744073709551615 sectors
+Role Count      : 2
+Checksum        : 8ab7c54f
+Computed        : e18c7656
+Role            : 0 of device 0
+Role            : 1 of device 1
+"""
+# Every fault of a superblock at once, but for that of the checksum: it has more roles than 1920.
+RUINED = changed(
+    VAULT,
+    (SUPER, "I", 0),
+    (SUPER + 4, "I", 2),
+    (SUPER + 8, "I", 133),
+    (SUPER + 72, "I", 5),
+    (SUPER + 92, "I", 33),
+    (SUPER + 144, "Q", 9),
+    (SUPER + 220, "I", 1921),
+)
+RUINS = "".join("Fault           : %s\n" % fault for fault in ("Magic", "Major", "MaxDev", "SuperOffset", "Feature 132", "Level", "RaidDisks"))
+# Its superblock stands in a first partition, and at the place of one of version 1.0, too.
+TWICE = changed(VAULT, (2056 * SECTOR, "4096s", VAULT[SUPER : SUPER + 4096]), (2096 * SECTOR, "4096s", VAULT[SUPER : SUPER + 4096]))
+ELSEWHERE = "".join("Superblock At   : %d sectors, of array %s\n" % (sector, SET) for sector in (2056, 2096))
+SOUND_REPORT = DAMAGED_REPORT[DAMAGED_REPORT.index("Magic ") :].replace(": 00000000", ": a92b4efc").replace("e18c7656", "8ab7c54f").replace(": 5\n", ": 1\n", 1)
+# The bitmap and the log of one whose superblock has another checksum.
+UNSUMMED_LOGGED = changed(LISTED, (SUPER + 216, "I", 0))
+BROKEN_BITMAP = changed(UNSUMMED_LOGGED, (BITMAP, "I", 1), (BITMAP + 4, "I", 3), (BITMAP + 52, "I", 0))
+RAW_LOG = """\
+Super Fault     : Checksum
+Log Shift       : 1
+Log Size        : 8 sectors
+Log Offset      : 2024 sectors from superblock
+        1000 for 4 units, entry 0
+        1002 for 3 units, entry 1
+           5 for 0 units, entry 2
+"""
+RAW_BITMAP = """\
+Super Fault     : Checksum
+Magic           : 6d746962
+Version         : 4
+Array UUID      : 00112233-4455-6677-8899-aabbccddeeff
+Events          : 10
+Events Cleared  : 10
+Sync Size       : 64 sectors
+State           : 0x0
+Chunk Size      : 4096 bytes
+Daemon Sleep    : 5 seconds
+Write Behind    : 0
+Reserved        : 0 sectors
+Nodes           : 0
+Cluster Name    : 
+"""
+
 BITMAP_REPORT = """\
 Magic           : 6d746962
 Version         : 4
@@ -366,6 +455,31 @@ CASES = [
     ("examine-badblocks", {"a": LISTED}, [Step("examine-badblocks a", "        2000 for 10 sectors\n")]),
     ("examine, a checksum of 0", {"a": UNSUMMED}, [Step("examine a", fault="Super Checksum")]),
     ("examine, a short image", {"a": bytes(15 * SECTOR)}, [Step("examine a", fault="TooShort")]),
+    ("examine --all", {"a": VAULT}, [Step("examine --all a", SOUND_REPORT)]),
+    ("examine --all, a damaged superblock", {"a": DAMAGED}, [Step("examine a", fault="Super Magic"), Step("examine --all a", DAMAGED_REPORT)]),
+    ("examine --all, every fault", {"a": RUINED}, [Step("examine --all a", (RUINS, "Computed        : unknown\nRole            : 0 of device 0\nRole            : 1 of device 1\n" + "".join("Role            : 0 of device %d\n" % k for k in range(2, 1920))))]),
+    ("examine --all, superblocks elsewhere", {"a": TWICE}, [Step("examine --all a", SOUND_REPORT + ELSEWHERE)]),
+    ("examine --all, no member", {"a": ZEROS}, [Step("examine --all a", ["Fault           : Magic", "Magic           : 00000000", "Computed        : 00000000"])]),
+    ("examine --all, a short image", {"a": bytes(15 * SECTOR)}, [Step("examine --all a", fault="TooShort")]),
+    ("examine-bitmap --all", {"a": UNSUMMED_LOGGED}, [Step("examine-bitmap a", fault="Super Checksum"), Step("examine-bitmap --all a", RAW_BITMAP)]),
+    (
+        "examine-bitmap --all, a damaged header",
+        {"a": BROKEN_BITMAP},
+        [Step("examine-bitmap --all a", ["Fault           : Magic", "Fault           : Version", "Fault           : ChunkSize", "Magic           : 00000001"])],
+    ),
+    ("examine-bitmap --all, no bitmap", {"a": WITHOUT_BITMAP}, [Step("examine-bitmap --all a", fault="NoBitmap")]),
+    (
+        "examine-bitmap --all, a place that is not on the device",
+        {"a": changed(VAULT, (SUPER + 96, "i", -9))},
+        [Step("examine-bitmap --all a", fault="Region")],
+    ),
+    ("examine-badblocks --all", {"a": UNSUMMED_LOGGED}, [Step("examine-badblocks --all a", RAW_LOG)]),
+    (
+        "examine-badblocks --all, no log",
+        {"a": changed(VAULT, (SUPER + 186, "H", 0))},
+        [Step("examine-badblocks --all a", ["Super Fault     : Checksum", "Log Size        : 0 sectors"])],
+    ),
+    ("examine-badblocks --all, too long a log", {"a": changed(VAULT, (SUPER + 186, "H", 9))}, [Step("examine-badblocks --all a", fault="Region")]),
     (
         "examine, the images named",
         {"a": VAULT, "b": bytes(SECTOR)},
@@ -553,11 +667,13 @@ CASES = [
             Made("b", "b", lambda image: members.with_data(image, 8, DATA[:SECTOR])),
             Step("check a b", DIFFER),
             Step("check --readonly b a", DIFFER),
+            Step("check --list a b", "           8 for 8 sectors\n" + DIFFER),
             # In a further chunk the member lists the sector that differs as bad.
             Made("b", "b", lambda image: members.with_bad_blocks(members.with_data(image, 43, DATA[:SECTOR]), [(2048 + 43, 1)])),
             Step("check a b", DIFFER),
             Made("b", "b", lambda image: members.with_bad_blocks(image, [(2048 + 8, 1), (2048 + 43, 1)])),
             Step("check a b", AGREE),
+            Step("check --list --readonly a b", AGREE),
             Step("check b", AGREE, told=UNNAMED % (0, 0) + UNCOMPARED % "b"),
         ],
     ),

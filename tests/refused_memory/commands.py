@@ -79,7 +79,7 @@ def play(folder, step, before, settings):
 
 def command_of(step):
     """A command, and whether it may change no image."""
-    return " ".join(step.words[:2]) if step.words[1:2] == ["--readonly"] else step.words[0]
+    return " ".join(step.words[:2]) if step.words[1:2] in (["--readonly"], ["--list"]) else step.words[0]
 
 
 def sweep_step(case, step, folder, library):

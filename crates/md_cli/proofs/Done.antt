@@ -12,8 +12,8 @@ use Rattle.md_cli.specs.Streams.{Told}
 
 module _ {I D R S : Type 0} (i : ImagesGhosts I D) (g : DeviceGhosts D) (r : SourceGhosts R) (s : SinkGhosts S) (words : List Text) (before after : I) (old new : Told R S) (result : Result (Unit {0}) CommandFault) where
   pub does_by : (ask : Ask) → opens_array ask ≡ true → OpensArray i g r s ask words before after old new result → Does i g r s ask words before after old new result
-  does_by examines e h = absurd (true≢false (sym e))
-  does_by examines_bitmap e h = absurd (true≢false (sym e))
-  does_by examines_badblocks e h = absurd (true≢false (sym e))
+  does_by (examines all) e h = absurd (true≢false (sym e))
+  does_by (examines_bitmap all) e h = absurd (true≢false (sym e))
+  does_by (examines_badblocks all) e h = absurd (true≢false (sym e))
   does_by (creates o) e h = absurd (true≢false (sym e))
   does_by _ e h = h

@@ -25,7 +25,7 @@ module _ {S : Type 0} (contents : S → Option (List ℕ)) (failed : S → Bool)
   put_all : Puts contents failed a b text → Puts contents failed b c [] → Puts contents failed a c text
   put_all p q = record { appends = appends_none (contents a) (contents b) (contents c) text p.appends q.appends; well = q.well ∙ p.well }
 
-  pub examined : (ask : Ask) (content : List ℕ) (honest : Bool) (Failed : Type 0) (result : Result (Unit {0}) CommandFault) → ShownBy ask content honest text → Puts contents failed a b text → PassesOn result → Examines ask contents failed a c content honest Failed result
+  pub examined : (ask : Ask) (content : List ℕ) (honest : Bool) (Failed : Type 0) (result : Result (Unit {0}) CommandFault) → ShownBy ask content honest Failed text → Puts contents failed a b text → PassesOn result → Examines ask contents failed a c content honest Failed result
   examined ask content honest Failed (Ok v) shown p q = (text, shown, put_all p q.puts)
   examined ask content honest Failed (Err f) shown p q = subst (λ (e : CommandFault). RefusesOrFails ask failed a c content honest Failed e) (sym q.0) (q.1, text, shown)
 

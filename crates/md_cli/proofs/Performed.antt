@@ -7,7 +7,7 @@ use Rattle.std.proofs.lemmas.List.Edits.{length-insert}
 use Rattle.std.specs.Prelude.{is_some}
 use Rattle.std.proofs.Math.Nat.{le_refl}
 use Rattle.std.proofs.lemmas.Option.{slice_get_within}
-use Rattle.md_commands.proofs.DeviceCounts.{AsMany, checks_as_many, done_check, done_fail, done_read, done_readonly, done_resync, done_write, fails_as_many, reads_as_many, reads_readonly_as_many, resyncs_as_many, stops_as_many, writes_as_many, stopped}
+use Rattle.md_commands.proofs.DeviceCounts.{AsMany, checks_as_many, done_check, done_fail, done_list, done_read, done_readonly, done_resync, done_write, fails_as_many, lists_as_many, reads_as_many, reads_readonly_as_many, resyncs_as_many, stops_as_many, writes_as_many, stopped}
 use Rattle.md_commands.proofs.RebuildCounts.{done_rebuild, rebuilds_as_many}
 use Rattle.md_commands.specs.declared.source.Source.{Ghosts as SourceGhosts}
 use Rattle.md_commands.specs.Adding.{KeepsDevice}
@@ -60,9 +60,9 @@ left_within k before after (Some d) h e = let place = slice_get_within before k 
 
 module _ {R S : Type 0} (r : SourceGhosts R) (s : SinkGhosts S) (before after : OpenedView) (old new : Streams R S) where
   pub all_kept : (ask : Ask) (result : Result (Unit {0}) CommandFault) → is_some before.beside ≡ is_some (device_of ask) → Performs r s ask before after old new result → AllBack ask before.mirror.disks after.mirror.disks before.beside after.beside
-  all_kept examines result brings h = absurd h
-  all_kept examines_bitmap result brings h = absurd h
-  all_kept examines_badblocks result brings h = absurd h
+  all_kept (examines all) result brings h = absurd h
+  all_kept (examines_bitmap all) result brings h = absurd h
+  all_kept (examines_badblocks all) result brings h = absurd h
   all_kept (creates o) result brings h = absurd h
   all_kept (assembles readonly) result brings h = kept _ before after brings (ap (λ (o : OpenedView). o.beside) h.0) (ap (λ (o : OpenedView). length o.mirror.disks) h.0)
   all_kept (details readonly) result brings h = kept _ before after brings (ap (λ (o : OpenedView). o.beside) h.0) (ap (λ (o : OpenedView). length o.mirror.disks) h.0)
@@ -75,8 +75,11 @@ module _ {R S : Type 0} (r : SourceGhosts R) (s : SinkGhosts S) (before after : 
       kept _ before after brings h.0 (done_readonly s before.mirror after.mirror old.output new.output sector count h.2)
   all_kept (reads sector count true) (Err f) brings h =
       kept _ before after brings h.0 (reads_readonly_as_many s before.mirror after.mirror old.output new.output sector count f h.2)
-  all_kept (checks readonly) (Ok v) brings h = kept _ before after brings h.0 (done_check s before.mirror after.mirror old.output new.output h.2)
-  all_kept (checks readonly) (Err f) brings h =
+  all_kept (checks true readonly) (Ok v) brings h = kept _ before after brings h.0 (done_list s before.mirror after.mirror old.output new.output h.2)
+  all_kept (checks true readonly) (Err f) brings h =
+      kept _ before after brings h.0 (lists_as_many s before.mirror after.mirror old.output new.output f h.2)
+  all_kept (checks false readonly) (Ok v) brings h = kept _ before after brings h.0 (done_check s before.mirror after.mirror old.output new.output h.2)
+  all_kept (checks false readonly) (Err f) brings h =
       kept _ before after brings h.0 (checks_as_many s before.mirror after.mirror old.output new.output f h.2)
   all_kept (writes sector) (Ok v) brings h = kept _ before after brings h.0 (done_write sector h.1.bytes before.mirror after.mirror h.1.done)
   all_kept (writes sector) (Err f) brings h =

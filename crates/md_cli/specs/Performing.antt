@@ -2,7 +2,7 @@
 use Rattle.std.specs.Prelude.{◌≡◌, ℕ, Bool, true, false, Some, Result, MatchResult}
 use Rattle.md_commands.specs.declared.source.Source.{Ghosts as SourceGhosts}
 use Rattle.md_commands.specs.Adding.{AddsDevice, KeepsDevice, RefusesToAdd}
-use Rattle.md_commands.specs.Checking.{ChecksMembers, RefusesToCheck}
+use Rattle.md_commands.specs.Checking.{ChecksMembers, ListsMembers, RefusesToCheck, RefusesToList}
 use Rattle.md_commands.specs.Failing.{RefusesToFail}
 use Rattle.md_commands.specs.Output.{ShowsText}
 use Rattle.md_commands.specs.Planning.{RefusesToPlan, ShowsPlan}
@@ -34,6 +34,17 @@ module _ {S : Type 0} (s : SinkGhosts S) where
       MatchResult result
       (λ _. ReadsReadonly s sector count before.mirror after.mirror old new)
       (RefusesReadonly s sector count before.mirror after.mirror old new)
+
+  -- The members in sync are compared, and in how many chunks two differ is put out, or which these are.
+  abbrev pub ShowsMismatches : Bool → OpenedView → OpenedView → S → S → Result (Unit {0}) CommandFault → Type 0
+  ShowsMismatches false before after old new result =
+      MatchResult result
+      (λ _. ChecksMembers s before.mirror after.mirror old new)
+      (RefusesToCheck s before.mirror after.mirror old new)
+  ShowsMismatches true before after old new result =
+      MatchResult result
+      (λ _. ListsMembers s before.mirror after.mirror old new)
+      (RefusesToList s before.mirror after.mirror old new)
 
   -- Member k leaves, and then the array is stopped and shown. Its device stands beside the array then.
   pub record Removes (k : ℕ) (before after : OpenedView) (old new : S) (result : Result (Unit {0}) CommandFault) : Type 0 where
@@ -75,11 +86,8 @@ module _ {R S : Type 0} (r : SourceGhosts R) (s : SinkGhosts S) where
       (RefusesToPlan s before.mirror.array k old.output new.output)
   Performs (reads sector count readonly) before after old new result =
       (after.beside ≡ before.beside) × (new.input ≡ old.input) × ShowsSectors s sector count readonly before after old.output new.output result
-  Performs (checks readonly) before after old new result =
-      (after.beside ≡ before.beside) × (new.input ≡ old.input)
-      × MatchResult result
-      (λ _. ChecksMembers s before.mirror after.mirror old.output new.output)
-      (RefusesToCheck s before.mirror after.mirror old.output new.output)
+  Performs (checks list readonly) before after old new result =
+      (after.beside ≡ before.beside) × (new.input ≡ old.input) × ShowsMismatches s list before after old.output new.output result
   Performs (writes sector) before after old new result =
       (after.beside ≡ before.beside)
       × MatchResult result

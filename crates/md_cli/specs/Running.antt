@@ -63,12 +63,12 @@ module _ {I D R S : Type 0} (i : ImagesGhosts I D) (g : DeviceGhosts D) (r : Sou
 
   -- What each command does with the images that its words name. The input is read by `write` alone.
   abbrev pub Does : Ask → List Text → I → I → Told R S → Told R S → Result (Unit {0}) CommandFault → Type 0
-  Does examines words before after old new result =
-      (new.streams.input ≡ old.streams.input) × Examines i g s examines words before after old.streams.output new.streams.output result
-  Does examines_bitmap words before after old new result =
-      (new.streams.input ≡ old.streams.input) × Examines i g s examines_bitmap words before after old.streams.output new.streams.output result
-  Does examines_badblocks words before after old new result =
-      (new.streams.input ≡ old.streams.input) × Examines i g s examines_badblocks words before after old.streams.output new.streams.output result
+  Does (examines all) words before after old new result =
+      (new.streams.input ≡ old.streams.input) × Examines i g s (examines all) words before after old.streams.output new.streams.output result
+  Does (examines_bitmap all) words before after old new result =
+      (new.streams.input ≡ old.streams.input) × Examines i g s (examines_bitmap all) words before after old.streams.output new.streams.output result
+  Does (examines_badblocks all) words before after old new result =
+      (new.streams.input ≡ old.streams.input) × Examines i g s (examines_badblocks all) words before after old.streams.output new.streams.output result
   Does (creates o) words before after old new result = MakesArray i g s o words before after old new result
   Does ask words before after old new result = OpensArray ask words before after old new result
 

@@ -1,10 +1,11 @@
 // The commands that show a report on one image.
-ghost use Rattle.std.specs.Prelude.{◌≡◌, ◌≢◌, ◌<◌, ℕ, Err, IfOk, List, [], ◌∷◌, length, true};
+ghost use Rattle.std.specs.Prelude.{◌≡◌, ◌≢◌, ◌<◌, ℕ, Err, IfOk, List, [], ◌∷◌, length, false, true};
 ghost use Rattle.md_words.specs.Asks.{ask_of, examines, examines_badblocks, examines_bitmap};
 ghost use Rattle.md_cli.specs.Arrays.{texts};
 ghost use Rattle.md_cli.specs.Examining.{Examines, ExaminesOne, examines_image};
 
 use crate::output::pass_on;
+use crate::raw_examining::{show_raw_badblocks, show_raw_bitmap, show_raw_superblock};
 use md_commands::CommandFault;
 use md_device::Device;
 use md_examine::{Sink, examine, examine_badblocks, examine_bitmap};
@@ -21,7 +22,7 @@ fn show_superblock<D: Device, S: Sink>(
 ) -> Result<(), CommandFault>
     ensures kept { D.content device.new ≡ D.content device.old }
     ensures honest { D.honest device.new ≡ D.honest device.old }
-    ensures gives { Examines examines S.contents S.failed out.old out.new
+    ensures gives { Examines (examines false) S.contents S.failed out.old out.new
         (D.content device.old) (D.honest device.old) (D.failures device.old < D.failures device.new) result }
     ensures flushed { IfOk result (λ _. S.is_flushed out.new) }
 {
@@ -42,7 +43,7 @@ fn show_bitmap<D: Device, S: Sink>(
 ) -> Result<(), CommandFault>
     ensures kept { D.content device.new ≡ D.content device.old }
     ensures honest { D.honest device.new ≡ D.honest device.old }
-    ensures gives { Examines examines_bitmap S.contents S.failed out.old out.new
+    ensures gives { Examines (examines_bitmap false) S.contents S.failed out.old out.new
         (D.content device.old) (D.honest device.old) (D.failures device.old < D.failures device.new) result }
     ensures flushed { IfOk result (λ _. S.is_flushed out.new) }
 {
@@ -70,7 +71,7 @@ fn show_badblocks<D: Device, S: Sink>(
 ) -> Result<(), CommandFault>
     ensures kept { D.content device.new ≡ D.content device.old }
     ensures honest { D.honest device.new ≡ D.honest device.old }
-    ensures gives { Examines examines_badblocks S.contents S.failed out.old out.new
+    ensures gives { Examines (examines_badblocks false) S.contents S.failed out.old out.new
         (D.content device.old) (D.honest device.old) (D.failures device.old < D.failures device.new) result }
     ensures flushed { IfOk result (λ _. S.is_flushed out.new) }
 {
@@ -81,6 +82,63 @@ fn show_badblocks<D: Device, S: Sink>(
     match examine_badblocks(out, &member.bad) {
         Ok(()) => pass_on(out),
         Err(_) => Err(CommandFault::OutputFault),
+    }
+}
+
+fn superblock<D: Device, S: Sink>(
+    alloc: Global,
+    all: bool,
+    device: &mut D,
+    out: &mut S,
+) -> Result<(), CommandFault>
+    ensures kept { D.content device.new ≡ D.content device.old }
+    ensures honest { D.honest device.new ≡ D.honest device.old }
+    ensures gives { Examines (examines all) S.contents S.failed out.old out.new
+        (D.content device.old) (D.honest device.old) (D.failures device.old < D.failures device.new) result }
+    ensures flushed { IfOk result (λ _. S.is_flushed out.new) }
+{
+    if all {
+        show_raw_superblock(device, out)
+    } else {
+        show_superblock(alloc, device, out)
+    }
+}
+
+fn bitmap<D: Device, S: Sink>(
+    alloc: Global,
+    all: bool,
+    device: &mut D,
+    out: &mut S,
+) -> Result<(), CommandFault>
+    ensures kept { D.content device.new ≡ D.content device.old }
+    ensures honest { D.honest device.new ≡ D.honest device.old }
+    ensures gives { Examines (examines_bitmap all) S.contents S.failed out.old out.new
+        (D.content device.old) (D.honest device.old) (D.failures device.old < D.failures device.new) result }
+    ensures flushed { IfOk result (λ _. S.is_flushed out.new) }
+{
+    if all {
+        show_raw_bitmap(device, out)
+    } else {
+        show_bitmap(alloc, device, out)
+    }
+}
+
+fn badblocks<D: Device, S: Sink>(
+    alloc: Global,
+    all: bool,
+    device: &mut D,
+    out: &mut S,
+) -> Result<(), CommandFault>
+    ensures kept { D.content device.new ≡ D.content device.old }
+    ensures honest { D.honest device.new ≡ D.honest device.old }
+    ensures gives { Examines (examines_badblocks all) S.contents S.failed out.old out.new
+        (D.content device.old) (D.honest device.old) (D.failures device.old < D.failures device.new) result }
+    ensures flushed { IfOk result (λ _. S.is_flushed out.new) }
+{
+    if all {
+        show_raw_badblocks(device, out)
+    } else {
+        show_badblocks(alloc, device, out)
     }
 }
 
@@ -98,9 +156,9 @@ fn show<D: Device, S: Sink>(
     ensures flushed { IfOk result (λ _. S.is_flushed out.new) }
 {
     match command {
-        Command::Examine => show_superblock(alloc, device, out),
-        Command::ExamineBitmap => show_bitmap(alloc, device, out),
-        Command::ExamineBadblocks => show_badblocks(alloc, device, out),
+        Command::Examine { all } => superblock(alloc, all, device, out),
+        Command::ExamineBitmap { all } => bitmap(alloc, all, device, out),
+        Command::ExamineBadblocks { all } => badblocks(alloc, all, device, out),
         _ => unreachable!(),
     }
 }

@@ -14,6 +14,7 @@ mod notices;
 mod opened;
 mod output;
 mod performing;
+mod raw_examining;
 mod running;
 mod session;
 mod showing;

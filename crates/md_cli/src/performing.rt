@@ -3,15 +3,15 @@ ghost use Rattle.std.specs.Prelude.{◌≡◌, IfOk, is_some, true};
 ghost use Rattle.md_array.specs.Consistency.{IsConsistent};
 ghost use Rattle.md_words.specs.Asks.{ask_of, device_of, opens_array};
 ghost use Rattle.md_cli.specs.Opened.{seen};
-ghost use Rattle.md_cli.specs.Performing.{Adds, Performs, ReAdds, Removes, ShowsSectors};
+ghost use Rattle.md_cli.specs.Performing.{Adds, Performs, ReAdds, Removes, ShowsMismatches, ShowsSectors};
 ghost use Rattle.md_cli.specs.Streams.{streams_of};
 
 use crate::opened::Opened;
 use crate::session::Session;
 use md_commands::{
-    CommandFault, Source, Watch, add_device, check_members, fail_member, re_add_device, read_array,
-    read_array_readonly, rebuild_member, remove_member, resync_array, show_detail, show_plan,
-    show_summary, stop_array, write_array,
+    CommandFault, Source, Watch, add_device, check_members, fail_member, list_members,
+    re_add_device, read_array, read_array_readonly, rebuild_member, remove_member, resync_array,
+    show_detail, show_plan, show_summary, stop_array, write_array,
 };
 use md_device::Device;
 use md_examine::Sink;
@@ -43,9 +43,9 @@ pub(crate) fn perform<
 {
     let (rt, alloc, watch) = (session.rt, session.alloc, session.watch);
     match command {
-        Command::Examine
-        | Command::ExamineBitmap
-        | Command::ExamineBadblocks
+        Command::Examine { .. }
+        | Command::ExamineBitmap { .. }
+        | Command::ExamineBadblocks { .. }
         | Command::Create(_) => unreachable!(),
         Command::Assemble { .. } => Ok(show_summary(&opened.mirror, &mut session.out)?),
         Command::Detail { .. } => Ok(show_detail(&opened.mirror, &mut session.out)?),
@@ -57,9 +57,7 @@ pub(crate) fn perform<
             count,
             readonly,
         } => { read(alloc, opened, sector, count, readonly, &mut session.out) }
-        Command::Check { .. } => {
-            Ok(check_members(rt, alloc, &mut opened.mirror, watch, &mut session.out)?)
-        }
+        Command::Check { list, .. } => { check(rt, alloc, opened, list, watch, &mut session.out) }
         Command::Write { sector } => {
             let input = &mut session.input;
             Ok(write_array(alloc, &mut opened.mirror, sector, input, &mut session.out)?)
@@ -99,6 +97,28 @@ fn read<D: Device + Drop, S: Sink>(
         return Ok(read_array_readonly(alloc, mirror, sector, count, out)?);
     }
     Ok(read_array(alloc, mirror, sector, count, out)?)
+}
+
+// Compares the members in sync, and puts out in how many chunks two differ, or which these are.
+fn check<D: Device + Drop + Send, T: Threads + Sync, W: Watch + Sync, S: Sink>(
+    rt: &T,
+    alloc: Global,
+    opened: &mut Opened<D>,
+    list: bool,
+    watch: &W,
+    out: &mut S,
+) -> Result<(), CommandFault>
+    requires sound { IsConsistent opened.old.mirror }
+    ensures kept { (seen D.Device opened.new).beside ≡ (seen D.Device opened.old).beside }
+    ensures shows { ShowsMismatches S.Sink list
+        (seen D.Device opened.old) (seen D.Device opened.new) out.old out.new result }
+    ensures flushed { IfOk result (λ _. S.is_flushed out.new) }
+{
+    let mirror = &mut opened.mirror;
+    if list {
+        return Ok(list_members(rt, alloc, mirror, watch, out)?);
+    }
+    Ok(check_members(rt, alloc, mirror, watch, out)?)
 }
 
 // Removes the member with this index. Its device stands beside the array then, if it left.

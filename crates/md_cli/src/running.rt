@@ -103,9 +103,15 @@ fn act<
     let alloc = session.alloc;
     match command {
         Command::Create(options) => create_array(session, options, images, names, notices),
-        Command::Examine => examine_images(alloc, command, images, names, &mut session.out),
-        Command::ExamineBitmap => examine_images(alloc, command, images, names, &mut session.out),
-        Command::ExamineBadblocks => {
+        Command::Examine { .. } => examine_images(alloc, command, images, names, &mut session.out),
+        Command::ExamineBitmap { .. } => examine_images(
+            alloc,
+            command,
+            images,
+            names,
+            &mut session.out,
+        ),
+        Command::ExamineBadblocks { .. } => {
             examine_images(alloc, command, images, names, &mut session.out)
         }
         // The others open an array.

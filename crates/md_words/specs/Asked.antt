@@ -50,6 +50,13 @@ options_in rows = record {
 abbrev pub readonly_in : List Row → Bool
 readonly_in rows = bytes_eq (text_in (codes "readonly") rows) (codes "true")
 
+-- whether what stands in an image is shown though it may be refused, and whether chunks are listed
+abbrev pub all_in : List Row → Bool
+all_in rows = bytes_eq (text_in (codes "all") rows) (codes "true")
+
+abbrev pub list_in : List Row → Bool
+list_in rows = bytes_eq (text_in (codes "list") rows) (codes "true")
+
 -- the images that a command names
 abbrev pub listed_in : List Row → List Text
 listed_in rows = unwrap_or (all_of (codes "image") rows) []
@@ -94,14 +101,14 @@ count_in rows = number_in 64 (codes "count") rows
 -- what the command of a name asks for
 abbrev pub asks_of : Text → List Row → Ask
 asks_of name rows =
-    if bytes_eq name (codes "examine-bitmap") then examines_bitmap
-    else if bytes_eq name (codes "examine-badblocks") then examines_badblocks
+    if bytes_eq name (codes "examine-bitmap") then examines_bitmap (all_in rows)
+    else if bytes_eq name (codes "examine-badblocks") then examines_badblocks (all_in rows)
     else if bytes_eq name (codes "create") then creates (options_in rows)
     else if bytes_eq name (codes "assemble") then assembles (readonly_in rows)
     else if bytes_eq name (codes "detail") then details (readonly_in rows)
     else if bytes_eq name (codes "plan") then plans (member_in rows) (readonly_in rows)
     else if bytes_eq name (codes "read") then reads (sector_in rows) (count_in rows) (readonly_in rows)
-    else if bytes_eq name (codes "check") then checks (readonly_in rows)
+    else if bytes_eq name (codes "check") then checks (list_in rows) (readonly_in rows)
     else if bytes_eq name (codes "write") then writes (sector_in rows)
     else if bytes_eq name (codes "resync") then resyncs
     else if bytes_eq name (codes "stop") then stops
@@ -110,10 +117,10 @@ asks_of name rows =
     else if bytes_eq name (codes "add") then adds (text_in (codes "device") rows)
     else if bytes_eq name (codes "re-add") then re_adds (text_in (codes "device") rows)
     else if bytes_eq name (codes "rebuild") then rebuilds (member_in rows)
-    else examines
+    else examines (all_in rows)
 
 abbrev pub asks_in : Option (Text × List Row) → Ask
-asks_in None = examines
+asks_in None = examines false
 asks_in (Some p) = asks_of p.0 p.1
 
 abbrev pub images_in : Option (Text × List Row) → List Text

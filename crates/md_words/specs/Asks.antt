@@ -23,15 +23,15 @@ pub record Options : Type 0 where
 
 -- What is asked for. A `Bool` says whether no image may be changed.
 pub data Ask : Type 0 where
-  examines : Ask
-  examines_bitmap : Ask
-  examines_badblocks : Ask
+  examines : Bool → Ask  -- whether as it stands, though it may be refused; of the next two too
+  examines_bitmap : Bool → Ask
+  examines_badblocks : Bool → Ask
   creates : Options → Ask
   assembles : Bool → Ask
   details : Bool → Ask
   plans : ℕ → Bool → Ask  -- the rebuild of the member with this index
   reads : ℕ → ℕ → Bool → Ask  -- from a sector on, so many
-  checks : Bool → Ask
+  checks : Bool → Bool → Ask  -- whether the chunks are listed
   writes : ℕ → Ask  -- from a sector on
   resyncs : Ask
   stops : Ask
@@ -47,20 +47,20 @@ is_readonly (assembles readonly) = readonly
 is_readonly (details readonly) = readonly
 is_readonly (plans k readonly) = readonly
 is_readonly (reads sector count readonly) = readonly
-is_readonly (checks readonly) = readonly
+is_readonly (checks list readonly) = readonly
 is_readonly _ = false
 
 -- How images are opened where they may be changed: opening an array to show what it is may store marks, and what writes to
 -- images needs all of them to be changed.
 abbrev pub full_access_of : Ask → Access
-full_access_of examines = Look
-full_access_of examines_bitmap = Look
-full_access_of examines_badblocks = Look
+full_access_of (examines all) = Look
+full_access_of (examines_bitmap all) = Look
+full_access_of (examines_badblocks all) = Look
 full_access_of (assembles readonly) = ChangeOrLook
 full_access_of (details readonly) = ChangeOrLook
 full_access_of (plans k readonly) = ChangeOrLook
 full_access_of (reads sector count readonly) = ChangeOrLook
-full_access_of (checks readonly) = ChangeOrLook
+full_access_of (checks list readonly) = ChangeOrLook
 full_access_of _ = Change
 
 -- how the images are opened
@@ -69,9 +69,9 @@ access_of ask = if is_readonly ask then Look else full_access_of ask
 
 -- whether the images are opened as an array
 abbrev pub opens_array : Ask → Bool
-opens_array examines = false
-opens_array examines_bitmap = false
-opens_array examines_badblocks = false
+opens_array (examines all) = false
+opens_array (examines_bitmap all) = false
+opens_array (examines_badblocks all) = false
 opens_array (creates o) = false
 opens_array _ = true
 
@@ -123,15 +123,15 @@ options_of o = record {
 }
 
 abbrev pub ask_of : Command → Ask
-ask_of command.Examine = examines
-ask_of command.ExamineBitmap = examines_bitmap
-ask_of command.ExamineBadblocks = examines_badblocks
+ask_of (command.Examine all) = examines all
+ask_of (command.ExamineBitmap all) = examines_bitmap all
+ask_of (command.ExamineBadblocks all) = examines_badblocks all
 ask_of (command.Create options) = creates (options_of options)
 ask_of (command.Assemble readonly) = assembles readonly
 ask_of (command.Detail readonly) = details readonly
 ask_of (command.Plan k readonly) = plans k readonly
 ask_of (command.Read sector count readonly) = reads sector count readonly
-ask_of (command.Check readonly) = checks readonly
+ask_of (command.Check list readonly) = checks list readonly
 ask_of (command.Write sector) = writes sector
 ask_of command.Resync = resyncs
 ask_of command.Stop = stops

@@ -41,7 +41,7 @@ by_default value r = record r { defaults = value ∷ [] }
 abbrev pub completed : App → App
 completed a = with_rule (with_rule a verbose_rule) image_rule
 
--- a command with images alone: one that shows an image, and some that change an array
+-- a command with images alone: some that change an array
 abbrev pub bare_app : Text → App
 bare_app name = completed (new_app name)
 
@@ -52,6 +52,10 @@ with_map a = with_rule a (texts_rule (codes "map"))
 -- one that may be asked to change no image
 abbrev pub with_readonly : App → App
 with_readonly a = with_rule a (flag_rule (codes "readonly"))
+
+-- one that shows an image, and may show it as it stands
+abbrev pub examine_app : Text → App
+examine_app name = completed (with_rule (new_app name) (flag_rule (codes "all")))
 
 -- one that shows an array, the plan of a rebuild, or sectors, or compares the members
 abbrev pub with_images : App → App
@@ -70,6 +74,10 @@ resync_app = completed (with_map (new_app (codes "resync")))
 -- an option that is a member of the array, by its place or its image
 abbrev pub with_member : App → App
 with_member a = with_rule a (required (value_rule (codes "member")))
+
+-- the members are compared, and where they differ may be listed
+abbrev pub check_app : App
+check_app = with_images (with_rule (new_app (codes "check")) (flag_rule (codes "list")))
 
 abbrev pub plan_app : App
 plan_app = with_images (with_member (new_app (codes "plan")))
@@ -137,8 +145,8 @@ required_command a = record a { top = record a.top { subcommand_required = true 
 abbrev pub with_examine_commands : App → App
 with_examine_commands a =
     with_subcommand
-    (with_subcommand (with_subcommand a (bare_app (codes "examine")).top) (bare_app (codes "examine-bitmap")).top)
-    (bare_app (codes "examine-badblocks")).top
+    (with_subcommand (with_subcommand a (examine_app (codes "examine")).top) (examine_app (codes "examine-bitmap")).top)
+    (examine_app (codes "examine-badblocks")).top
 
 abbrev pub with_array_commands : App → App
 with_array_commands a =
@@ -152,7 +160,7 @@ abbrev pub with_data_commands : App → App
 with_data_commands a =
     with_subcommand
     (with_subcommand
-    (with_subcommand (with_subcommand (with_subcommand a read_app.top) write_app.top) (array_app (codes "check")).top)
+    (with_subcommand (with_subcommand (with_subcommand a read_app.top) write_app.top) check_app.top)
     resync_app.top)
     (bare_app (codes "stop")).top
 

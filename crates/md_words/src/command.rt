@@ -9,12 +9,18 @@ use md_images::Access;
 /// A command, with the values of its options. `readonly` says that no image may be changed.
 #[derive(Clone, Copy, Debug)]
 pub enum Command<'a> {
-    /// Shows the superblock of the one image.
-    Examine,
-    /// Shows its bitmap.
-    ExamineBitmap,
-    /// Shows its bad blocks.
-    ExamineBadblocks,
+    /// Shows the superblock of the one image, or with `all` what stands in its place, though it may be refused.
+    Examine {
+        all: bool,
+    },
+    /// Shows its bitmap, or the header as it stands.
+    ExamineBitmap {
+        all: bool,
+    },
+    /// Shows its bad blocks, or the log as it stands.
+    ExamineBadblocks {
+        all: bool,
+    },
     /// Makes an array of the images, and shows it in one line.
     Create(CreateOptions<'a>),
     /// Shows the array that the images make in one line.
@@ -36,8 +42,9 @@ pub enum Command<'a> {
         count: u64,
         readonly: bool,
     },
-    /// Counts the chunks in which its members in sync differ.
+    /// Counts the chunks in which its members in sync differ, and with `list` shows which they are.
     Check {
+        list: bool,
         readonly: bool,
     },
     /// Writes the input to it, from this sector on, and stops it.
@@ -80,7 +87,9 @@ impl<'a> Command<'a> {
             return Access::Look;
         }
         match self {
-            Command::Examine | Command::ExamineBitmap | Command::ExamineBadblocks => Access::Look,
+            Command::Examine { .. }
+            | Command::ExamineBitmap { .. }
+            | Command::ExamineBadblocks { .. } => Access::Look,
             // Opening the array may store marks.
             Command::Assemble { .. }
             | Command::Detail { .. }
@@ -108,10 +117,10 @@ impl<'a> Command<'a> {
             Command::Detail { readonly } => readonly,
             Command::Plan { readonly, .. } => readonly,
             Command::Read { readonly, .. } => readonly,
-            Command::Check { readonly } => readonly,
-            Command::Examine
-            | Command::ExamineBitmap
-            | Command::ExamineBadblocks
+            Command::Check { readonly, .. } => readonly,
+            Command::Examine { .. }
+            | Command::ExamineBitmap { .. }
+            | Command::ExamineBadblocks { .. }
             | Command::Create(_)
             | Command::Write { .. }
             | Command::Resync
@@ -129,9 +138,9 @@ impl<'a> Command<'a> {
         ensures { result ≡ opens_array (ask_of self.entry) }
     {
         match self {
-            Command::Examine
-            | Command::ExamineBitmap
-            | Command::ExamineBadblocks
+            Command::Examine { .. }
+            | Command::ExamineBitmap { .. }
+            | Command::ExamineBadblocks { .. }
             | Command::Create(_) => false,
             Command::Assemble { .. }
             | Command::Detail { .. }
@@ -156,9 +165,9 @@ impl<'a> Command<'a> {
         match self {
             Command::Add { device } => Some(device),
             Command::ReAdd { device } => Some(device),
-            Command::Examine
-            | Command::ExamineBitmap
-            | Command::ExamineBadblocks
+            Command::Examine { .. }
+            | Command::ExamineBitmap { .. }
+            | Command::ExamineBadblocks { .. }
             | Command::Create(_)
             | Command::Assemble { .. }
             | Command::Detail { .. }
@@ -180,9 +189,9 @@ impl<'a> Command<'a> {
     {
         match self {
             Command::Remove { member } => Some(member),
-            Command::Examine
-            | Command::ExamineBitmap
-            | Command::ExamineBadblocks
+            Command::Examine { .. }
+            | Command::ExamineBitmap { .. }
+            | Command::ExamineBadblocks { .. }
             | Command::Create(_)
             | Command::Assemble { .. }
             | Command::Detail { .. }
@@ -205,9 +214,9 @@ impl<'a> Command<'a> {
     {
         match self {
             Command::Fail { member } => Some(member),
-            Command::Examine
-            | Command::ExamineBitmap
-            | Command::ExamineBadblocks
+            Command::Examine { .. }
+            | Command::ExamineBitmap { .. }
+            | Command::ExamineBadblocks { .. }
             | Command::Create(_)
             | Command::Assemble { .. }
             | Command::Detail { .. }
@@ -234,9 +243,9 @@ impl<'a> Command<'a> {
             | Command::Plan { .. }
             | Command::ReAdd { .. }
             | Command::Rebuild { .. } => true,
-            Command::Examine
-            | Command::ExamineBitmap
-            | Command::ExamineBadblocks
+            Command::Examine { .. }
+            | Command::ExamineBitmap { .. }
+            | Command::ExamineBadblocks { .. }
             | Command::Create(_)
             | Command::Read { .. }
             | Command::Check { .. }
@@ -258,9 +267,9 @@ impl<'a> Command<'a> {
             Command::Add { .. } => Overwritten::NewDevice,
             Command::ReAdd { .. } => Overwritten::ReturningDevice,
             Command::Rebuild { member } => Overwritten::Member(member),
-            Command::Examine
-            | Command::ExamineBitmap
-            | Command::ExamineBadblocks
+            Command::Examine { .. }
+            | Command::ExamineBitmap { .. }
+            | Command::ExamineBadblocks { .. }
             | Command::Assemble { .. }
             | Command::Detail { .. }
             | Command::Plan { .. }

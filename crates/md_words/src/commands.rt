@@ -41,6 +41,24 @@ const READONLY: OptionWords = OptionWords {
     default: None,
 };
 
+const ALL: OptionWords = OptionWords {
+    name: "all",
+    value: "",
+    help: "Shows what stands there, though it may be refused, with each fault in it",
+    kind: Kind::Flag,
+    required: false,
+    default: None,
+};
+
+const LIST: OptionWords = OptionWords {
+    name: "list",
+    value: "",
+    help: "Shows where members differ too: a line for each such chunk",
+    kind: Kind::Flag,
+    required: false,
+    default: None,
+};
+
 const MEMBER: OptionWords = OptionWords {
     name: "member",
     value: "N",
@@ -182,19 +200,19 @@ pub(crate) const EXAMINE_COMMANDS: [CommandWords; 3] = [
         name: "examine",
         about: "Shows the superblock of a member's image",
         after_help: help::EXAMINE,
-        options: &[],
+        options: &[ALL],
     },
     CommandWords {
         name: "examine-bitmap",
         about: "Shows the write-intent bitmap of a member's image",
         after_help: help::EXAMINE,
-        options: &[],
+        options: &[ALL],
     },
     CommandWords {
         name: "examine-badblocks",
         about: "Shows the bad block log of a member's image",
         after_help: help::EXAMINE,
-        options: &[],
+        options: &[ALL],
     },
 ];
 
@@ -255,7 +273,7 @@ pub(crate) const DATA_COMMANDS: [CommandWords; 5] = [
         name: "check",
         about: "Counts the chunks in which members in sync differ; may store marks",
         after_help: help::CHECK,
-        options: &[READONLY, MAP],
+        options: &[LIST, READONLY, MAP],
     },
     CommandWords {
         name: "resync",

@@ -2,7 +2,7 @@
 
 /// Of a command that shows one image.
 pub(crate) const EXAMINE: &str =
-    "The image is only read.\n\nThe status is 0 where the report is written, 1 where it is refused (standard error names the fault), and 2 where the words are not accepted.\n\nExample:\n  mdcli examine /dev/sda1";
+    "The image is only read.\n\n--all shows what stands on the image though it is damaged, or no member at all: a line for each fault that stands in the superblock, and in the header or the log that it places, and every field as it stands. Of a superblock it also shows the checksum that its bytes have, and at which other places of the image a superblock starts, and of which array.\n\nThe status is 0 where the report is written, 1 where it is refused (standard error names the fault), and 2 where the words are not accepted.\n\nExample:\n  mdcli examine /dev/sda1";
 
 /// Of a command that shows an array.
 pub(crate) const ARRAY: &str =
@@ -26,7 +26,7 @@ pub(crate) const WRITE: &str =
 
 /// Of `check`.
 pub(crate) const CHECK: &str =
-    "Reads the data of all members in sync, at the same time, and shows in how many chunks two of them differ. Sectors that a member lists as bad are left out for it. Chunks that are marked may differ after a crash: where the array is not resynced, count again after `resync`. Others differ where a disk or something else changed one of the members behind the array, and no command repairs these.\n\nName all images of the array, in any order (of those with the most events the first decides which members are in sync). Where the bitmap of a member in sync does not fit the array, all chunks are marked in it: the image is changed. Nothing else is written. --readonly prevents that: the images are only read, and the count is the same.\n\nThe status is 0 where the count is written, whatever it is, 1 where it is refused (standard error names the fault), and 2 where the words are not accepted.\n\nExample:\n  mdcli check --readonly a.img b.img";
+    "Reads the data of all members in sync, at the same time, and shows in how many chunks two of them differ. Sectors that a member lists as bad are left out for it. Chunks that are marked may differ after a crash: where the array is not resynced, count again after `resync`. Others differ where a disk or something else changed one of the members behind the array, and no command repairs these. --list shows them before the count: a line for each, with its first sector in the array and the number of its sectors.\n\nName all images of the array, in any order (of those with the most events the first decides which members are in sync). Where the bitmap of a member in sync does not fit the array, all chunks are marked in it: the image is changed. Nothing else is written. --readonly prevents that: the images are only read, and the count is the same.\n\nThe status is 0 where the count is written, whatever it is, 1 where it is refused (standard error names the fault), and 2 where the words are not accepted.\n\nExample:\n  mdcli check --readonly a.img b.img";
 
 /// Of `resync`.
 pub(crate) const RESYNC: &str =

@@ -3,7 +3,7 @@ ghost use Rattle.std.specs.Prelude.{◌≡◌, IfOk, [], codes, map, option_map,
 ghost use Rattle.std.specs.Str.{bytes_eq};
 ghost use Rattle.clap.specs.Words.{FailsBy, fault_of, first_of, found_of, matched_of, raw_values, rows_of, subcommand_of, subcommand_rows_of};
 ghost use Rattle.md_words.specs.Words.{mdcli};
-ghost use Rattle.md_words.specs.Asked.{asked, asks_in, asks_of, image_words, images_in, is_verbose, map_words, maps_in, member_at, member_fault, member_in, member_of, names_no_member, number_in, number_of, options_in, place_in, readonly_in, run_in, runs, runs_in, text_in, verbose_in, verbose_of, words_fault};
+ghost use Rattle.md_words.specs.Asked.{all_in, asked, asks_in, asks_of, image_words, images_in, is_verbose, list_in, map_words, maps_in, member_at, member_fault, member_in, member_of, names_no_member, number_in, number_of, options_in, place_in, readonly_in, run_in, runs, runs_in, text_in, verbose_in, verbose_of, words_fault};
 ghost use Rattle.md_words.specs.Asks.{ask_of, options_of};
 
 use crate::command::Command;
@@ -83,6 +83,18 @@ fn is_readonly(found: &ArgMatches<'_>) -> bool
     text_of(found, "readonly") == "true"
 }
 
+fn is_all(found: &ArgMatches<'_>) -> bool
+    ensures { result ≡ all_in (rows_of (found_of found.now)) }
+{
+    text_of(found, "all") == "true"
+}
+
+fn is_list(found: &ArgMatches<'_>) -> bool
+    ensures { result ≡ list_in (rows_of (found_of found.now)) }
+{
+    text_of(found, "list") == "true"
+}
+
 // Whether nothing is to be asked.
 fn is_run(found: &ArgMatches<'_>) -> bool
     ensures { result ≡ run_in (rows_of (found_of found.now)) }
@@ -157,9 +169,9 @@ fn command_of<'a>(name: &str, found: &ArgMatches<'a>) -> Command<'a>
     ensures { ask_of result ≡ asks_of name.now (rows_of (found_of found.now)) }
 {
     if name == "examine-bitmap" {
-        Command::ExamineBitmap
+        Command::ExamineBitmap { all: is_all(found) }
     } else if name == "examine-badblocks" {
-        Command::ExamineBadblocks
+        Command::ExamineBadblocks { all: is_all(found) }
     } else if name == "create" {
         Command::Create(create_options(found))
     } else if name == "assemble" {
@@ -185,6 +197,7 @@ fn command_of<'a>(name: &str, found: &ArgMatches<'a>) -> Command<'a>
         }
     } else if name == "check" {
         Command::Check {
+            list: is_list(found),
             readonly: is_readonly(found),
         }
     } else if name == "write" {
@@ -216,7 +229,7 @@ fn command_of<'a>(name: &str, found: &ArgMatches<'a>) -> Command<'a>
             member: member_in(found),
         }
     } else {
-        Command::Examine
+        Command::Examine { all: is_all(found) }
     }
 }
 
@@ -237,7 +250,7 @@ fn requested<'a>(alloc: Global, matches: &ArgMatches<'a>) -> Result<Request<'a>,
 {
     let Some((name, found)) = matches.subcommand() else {
         return Ok(Request {
-            command: Command::Examine,
+            command: Command::Examine { all: false },
             images: Vec::new(alloc),
             maps: Vec::new(alloc),
             verbose: false,
