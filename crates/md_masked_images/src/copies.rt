@@ -1,7 +1,7 @@
 // Images as copies of disks, by their maps.
 ghost use Rattle.std.specs.Prelude.{◌<◌, length};
 
-use crate::fault::{CopyFault, MapRefusal, MapsFault};
+use crate::fault::{LackingFault, MapRefusal, MapsFault};
 use crate::masked_images::{MaskedImages, mask_of};
 use md_badblocks::BadSet;
 use md_images::{ImageRefusal, Images};
@@ -51,10 +51,10 @@ fn lacking<I: Images>(
 {
     match masked.lacking(name, maps[place].text.as_slice()) {
         Ok(missing) => Ok(missing),
-        Err(CopyFault::Image(fault)) => {
+        Err(LackingFault::Image(fault)) => {
             Err(MapsFault::BadImage(image, ImageRefusal::Unopened(fault)))
         }
-        Err(CopyFault::Map(MapFault::NoMemory)) => Err(MapsFault::NoMemory),
-        Err(CopyFault::Map(fault)) => Err(MapsFault::BadMap(place, MapRefusal::Map(fault))),
+        Err(LackingFault::Map(MapFault::NoMemory)) => Err(MapsFault::NoMemory),
+        Err(LackingFault::Map(fault)) => Err(MapsFault::BadMap(place, MapRefusal::Map(fault))),
     }
 }

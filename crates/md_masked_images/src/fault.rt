@@ -26,7 +26,7 @@ pub enum MapRefusal {
 
 /// Why it is not known what a copy lacks.
 #[derive(Debug, Drop, Error)]
-pub enum CopyFault {
+pub enum LackingFault {
     /// The image can't be looked at.
     #[error("{0}")]
     Image(ImageFault),

@@ -9,6 +9,6 @@ mod words;
 
 pub use advice::map_advice;
 pub use copies::{MapText, mask_images};
-pub use fault::{CopyFault, MapRefusal, MapsFault};
+pub use fault::{LackingFault, MapRefusal, MapsFault};
 pub use masked_images::{MaskedImages, mask_of};
 pub use words::{MapWord, map_list};

@@ -3,7 +3,7 @@ ghost use Rattle.std.specs.Prelude.{◌≡◌, ◌≤◌, ◌^◌, ◌&&◌, ◌
 ghost use Rattle.md_images.specs.MemImages.{device_in};
 ghost use Rattle.md_masked_images.specs.Masks.{HasSize, IsLacking, KeepsAll, mask_of, masked, named_mask};
 
-use crate::fault::CopyFault;
+use crate::fault::LackingFault;
 use md_badblocks::BadSet;
 use md_device::{Device, MemDevice};
 use md_images::{Access, ImageFault, Images, MemImages};
@@ -69,18 +69,18 @@ impl<I: Images> MaskedImages<I> {
     }
 
     /// What the image under a name lacks by its map, of the whole of it. It is looked at.
-    pub fn lacking(&mut self, name: &str, map: &[u8]) -> Result<BadSet, CopyFault>
+    pub fn lacking(&mut self, name: &str, map: &[u8]) -> Result<BadSet, LackingFault>
         ensures ok { IfOk result (IsLacking I.Images I.Dev.Device name.now map.now self.old.images) }
         ensures masks { self.new.masks ≡ self.old.masks }
         ensures images { KeepsAll I.Images self.old.images self.new.images }
     {
         let size = match size_of(&mut self.images, name) {
             Ok(size) => size,
-            Err(fault) => return Err(CopyFault::Image(fault)),
+            Err(fault) => return Err(LackingFault::Image(fault)),
         };
         match read_map(self.alloc, map, size) {
             Ok(missing) => Ok(missing),
-            Err(fault) => Err(CopyFault::Map(fault)),
+            Err(fault) => Err(LackingFault::Map(fault)),
         }
     }
 }
