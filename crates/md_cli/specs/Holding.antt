@@ -5,7 +5,7 @@ use Rattle.md_notices.specs.Belonging.{IsForgotten}
 use Rattle.md_notices.specs.Parting.{WasApart}
 use Rattle.md_held.specs.declared.held.Held.{Held}
 use Rattle.md_held.specs.declared.held.Held.TheVariants.{Member}
-use Rattle.md_held.specs.Holding.{Holds, LooksAtEach, LooksAtOne, may_lose}
+use Rattle.md_held.specs.Holding.{Holds, LooksAtEach, LooksAtOne, is_known}
 use Rattle.md_state.specs.View.{ArrayView, Disk}
 use Rattle.md_super.specs.declared.superblock.Superblock.{Superblock}
 use Rattle.md_words.specs.declared.overwritten.Overwritten.{Overwritten}
@@ -41,9 +41,9 @@ pub record LooksAtAll (before after : List Disk) (old new : Notices) : Type 0 wh
   pub looks : LooksAtEach before after (held_each new.each)
   pub noted : new ≡ record old { each = new.each }
 
--- something may be lost on one of them
-abbrev pub one_may_lose : {Z : Type 0} → Option (Vec Held Z) → Bool
-one_may_lose each = list_any may_lose (held_each each)
+-- something is known of one of them
+abbrev pub one_is_known : {Z : Type 0} → Option (Vec Held Z) → Bool
+one_is_known each = list_any is_known (held_each each)
 
 -- the number of the device that is to join, where its superblock is one of the array
 abbrev pub IsJoining : Superblock → Held → Option ℕ → Type 0

@@ -12,8 +12,8 @@ use Rattle.md_words.specs.declared.overwritten.Overwritten.{Overwritten}
 use Rattle.md_words.specs.declared.overwritten.Overwritten.TheVariants as overwritten
 use Rattle.md_cli.specs.declared.notices.Notices.{Notices}
 use Rattle.md_held.specs.declared.held.Held.TheVariants.{Nothing}
-use Rattle.md_held.specs.Holding.{may_lose}
-use Rattle.md_cli.specs.Holding.{IsJoining, IsOwn, one_may_lose}
+use Rattle.md_held.specs.Holding.{is_known}
+use Rattle.md_cli.specs.Holding.{IsJoining, IsOwn, one_is_known}
 use Rattle.md_cli.specs.Opened.{OpenedView}
 
 -- nothing is noticed
@@ -72,11 +72,11 @@ abbrev pub was_spare : Option MemberState → Bool
 was_spare None = false
 was_spare (Some state) = is_spare state
 
--- What is overwritten is asked of before, where something may be lost by it, or it was written to without the others. A member that can't
+-- What is overwritten is asked of before, where what it holds is known, or it was written to without the others. A member that can't
 -- be rebuilt is not asked of.
 abbrev pub asks_of : Overwritten → Notices → Bool
-asks_of overwritten.Images n = one_may_lose n.each
-asks_of overwritten.NewDevice n = may_lose n.held
+asks_of overwritten.Images n = one_is_known n.each
+asks_of overwritten.NewDevice n = is_known n.held
 asks_of overwritten.ReturningDevice n = n.own
 asks_of (overwritten.Member k) n = unwrap_or (slice_get n.parted k) false && was_spare (unwrap_or (slice_get n.states k) None)
 asks_of overwritten.Nothing n = false

@@ -4,7 +4,7 @@ ghost use Rattle.md_words.specs.Asks.{ask_of};
 ghost use Rattle.md_state.specs.View.{disk_of};
 ghost use Rattle.md_words.specs.declared.overwritten.Overwritten.TheVariants as overwritten;
 ghost use Rattle.md_cli.specs.Arrays.{disks};
-ghost use Rattle.md_cli.specs.Holding.{IsJoining, IsOwn, Looks, LooksAtAll, one_may_lose};
+ghost use Rattle.md_cli.specs.Holding.{IsJoining, IsOwn, Looks, LooksAtAll, one_is_known};
 ghost use Rattle.md_cli.specs.Noticed.{NotesOpening, asked_of, asks_first, asks_of, nothing, parted_members, was_spare, with_dropped, without_stored};
 ghost use Rattle.md_cli.specs.Opened.{seen};
 
@@ -149,8 +149,8 @@ impl Notices {
         ensures { result ≡ asks_first (ask_of command.entry) self.now }
     {
         match command.overwrites() {
-            Overwritten::Images => one_may_lose(&self.each),
-            Overwritten::NewDevice => self.held.may_lose(),
+            Overwritten::Images => one_is_known(&self.each),
+            Overwritten::NewDevice => self.held.is_known(),
             Overwritten::ReturningDevice => self.own,
             Overwritten::Member(member) => self.is_parted_spare(member as usize),
             Overwritten::Nothing => false,
@@ -326,12 +326,12 @@ fn asked_of(command: Command<'_>, has_left: bool) -> Asked
     Asked { left, failed }
 }
 
-// Whether something may be lost on one of the devices.
-fn one_may_lose(each: &Option<Vec<Held>>) -> bool
-    ensures { result ≡ one_may_lose each.now }
+// Whether something is known of one of the devices.
+fn one_is_known(each: &Option<Vec<Held>>) -> bool
+    ensures { result ≡ one_is_known each.now }
 {
     match each {
-        Some(each) => each.iter().any(|held| held.may_lose()),
+        Some(each) => each.iter().any(|held| held.is_known()),
         None => false,
     }
 }

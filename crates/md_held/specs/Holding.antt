@@ -14,12 +14,11 @@ use Rattle.md_state.specs.View.{Disk, of_disks}
 use Rattle.md_held.specs.declared.held.Held.{Held}
 use Rattle.md_held.specs.declared.held.Held.TheVariants.{Nothing, Unseen, Member, Signed}
 
--- something may be lost where the device is overwritten: what is known of it, or what nobody could see
-abbrev pub may_lose : Held → Bool
-may_lose Nothing = false
-may_lose Unseen = true
-may_lose (Member v) = true
-may_lose (Signed s) = true
+abbrev pub is_known : Held → Bool
+is_known Nothing = false
+is_known Unseen = false
+is_known (Member v) = true
+is_known (Signed s) = true
 
 -- no superblock was read on the device, and not because there was no memory
 pub record HasNoSuper (d e : Disk) : Type 0 where

@@ -2,7 +2,7 @@
 ghost use Rattle.std.specs.Prelude.{◌≡◌};
 ghost use Rattle.md_signatures.specs.Reading.{OnlyRead};
 ghost use Rattle.md_state.specs.View.{disk_of, of_disks};
-ghost use Rattle.md_held.specs.Holding.{Holds, HoldsSigned, may_lose};
+ghost use Rattle.md_held.specs.Holding.{Holds, HoldsSigned, is_known};
 
 use md_device::Device;
 use md_members::{MemberFault, read_super};
@@ -24,14 +24,13 @@ pub enum Held {
 }
 
 impl Held {
-    /// Whether something may be lost where the device is overwritten: it holds what is known, or what there was no memory to
-    /// see.
-    pub fn may_lose(&self) -> bool
-        ensures { result ≡ may_lose self.now }
+    /// Whether something is known of it.
+    pub fn is_known(&self) -> bool
+        ensures { result ≡ is_known self.now }
     {
         match self {
-            Held::Nothing => false,
-            Held::Unseen | Held::Member(_) | Held::Signed(_) => true,
+            Held::Nothing | Held::Unseen => false,
+            Held::Member(_) | Held::Signed(_) => true,
         }
     }
 }
