@@ -5,7 +5,7 @@ use Rattle.md_create.specs.Layout.{IsHalfLaidOut, IsLaidOut, KeepsOthers, writes
 use Rattle.md_create.specs.ReadBack.{IsReadable}
 use Rattle.md_members.specs.Members.{sectors_of}
 use Rattle.md_model.specs.Events.{Event}
-use Rattle.md_writes.specs.Writes.{DoesWrites, FailsInWrites}
+use Rattle.md_device_writes.specs.Writes.{DoesWrites, FailsInWrites}
 use Rattle.md_kept_members.specs.Spares.{kept_spare}
 use Rattle.md_kept_members.specs.View.{MemberView}
 use Rattle.md_faults.specs.declared.add_fault.AddFault.{AddFault}

@@ -15,8 +15,8 @@ use Rattle.md_members.specs.Members.{sectors_of}
 use Rattle.md_members.specs.Reading.{BitmapStartsAt}
 use Rattle.md_model.specs.Content.{Content}
 use Rattle.md_model.specs.Sectors.{put}
-use Rattle.md_writes.specs.Bitmaps.{bitmap_writes}
-use Rattle.md_writes.specs.Writes.{DoesWrites, FailsInWrites, Write}
+use Rattle.md_device_writes.specs.Bitmaps.{bitmap_writes}
+use Rattle.md_device_writes.specs.Writes.{DoesWrites, FailsInWrites, Write}
 use Rattle.md_kept_members.specs.Enrolling.{HasRoomFor, log_room}
 use Rattle.md_kept_members.specs.View.{MemberView}
 use Rattle.md_faults.specs.declared.enrol_fault.EnrolFault.{EnrolFault}

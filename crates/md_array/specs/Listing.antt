@@ -13,7 +13,7 @@ use Rattle.md_state.specs.Members.{IsInSync, IsMember}
 use Rattle.md_state.specs.NotingBad.{NotesBad, WhyUnlisted, logged}
 use Rattle.md_state.specs.Trying.{FailsWriting, HaltsWriting, Refuses, RefusesHalted}
 use Rattle.md_state.specs.View.{Disk, MirrorView}
-use Rattle.md_writes.specs.Writes.{Write}
+use Rattle.md_device_writes.specs.Writes.{Write}
 use Rattle.md_array.specs.Enrolling.{log_writes}
 use Rattle.md_array.specs.Events.{Happens, listed_on}
 

@@ -47,20 +47,20 @@ pub record ReAdds (k : ℕ) (device : Disk) (old new : MirrorView) : Type 0 wher
   pub recorded : RecordsLast k after_reading info old new
 
 -- the write of its superblock fails, and the mirror is as before
-pub record FailsToRecordLast (device given : Disk) (info : MemberInfo) (old new : MirrorView) : Type 0 where
+pub record FailsToRecordLast (device handed_back : Disk) (info : MemberInfo) (old new : MirrorView) : Type 0 where
   pub unchanged : new ≡ old
   pub member : MemberView
   pub offset : ℕ
   pub offset_is : IsOffsetBack old.array info offset
   pub taken : IsTakenBack offset info member
-  pub failed : IsFailed 0 (write_of (joined_shared old.array member.superblock.dev_number (own_role info.superblock)) member) (device ∷ []) (given ∷ [])
+  pub failed : IsFailed 0 (write_of (joined_shared old.array member.superblock.dev_number (own_role info.superblock)) member) (device ∷ []) (handed_back ∷ [])
 
 abbrev pub RefusesToRecordLast : Disk → Disk → MemberInfo → MirrorView → MirrorView → ReAddFault → Type 0
-RefusesToRecordLast device given info old new WriteFault = FailsToRecordLast device given info old new
-RefusesToRecordLast device given info old new NoMemory = (new ≡ old) × (given ≡ device)
-RefusesToRecordLast device given info old new _ = ⊥
+RefusesToRecordLast device handed_back info old new WriteFault = FailsToRecordLast device handed_back info old new
+RefusesToRecordLast device handed_back info old new NoMemory = (new ≡ old) × (handed_back ≡ device)
+RefusesToRecordLast device handed_back info old new _ = ⊥
 
-pub record FailsToReAdd (device given : Disk) (old new : MirrorView) : Type 0 where
+pub record FailsToReAdd (device handed_back : Disk) (old new : MirrorView) : Type 0 where
   pub running : old.array.halted ≡ false
   pub info : MemberInfo
   pub read : members.IsMember device.content device.honest info
@@ -68,7 +68,7 @@ pub record FailsToReAdd (device given : Disk) (old new : MirrorView) : Type 0 wh
   pub after_reading : Disk
   pub only_read : IsOnlyRead device after_reading
   pub unfailing : after_reading.failures ≡ device.failures
-  pub fails : FailsToRecordLast after_reading given info old new
+  pub fails : FailsToRecordLast after_reading handed_back info old new
 
 -- the answer where a device is not read as a member
 abbrev pub unread_as : MemberFault → ReAddFault
@@ -76,20 +76,20 @@ unread_as member_fault.NoMemory = NoMemory
 unread_as fault = Member fault
 
 -- it is not read as a member
-pub record RefusesDevice (device given : Disk) (old new : MirrorView) (fault : MemberFault) : Type 0 where
+pub record RefusesDevice (device handed_back : Disk) (old new : MirrorView) (fault : MemberFault) : Type 0 where
   pub running : old.array.halted ≡ false
   pub unchanged : new ≡ old
-  pub only_read : IsOnlyRead device given
-  pub unfailing : fault ≢ member_fault.ReadFault → given.failures ≡ device.failures
-  pub refused : members.RefusesMember device.content device.honest (device.failures < given.failures) fault
+  pub only_read : IsOnlyRead device handed_back
+  pub unfailing : fault ≢ member_fault.ReadFault → handed_back.failures ≡ device.failures
+  pub refused : members.RefusesMember device.content device.honest (device.failures < handed_back.failures) fault
   pub memory : fault ≢ member_fault.NoMemory
 
 -- it was read as this, and may not be taken back
-pub record RefusesInfo (device given : Disk) (old new : MirrorView) (fault : ReAddFault) : Type 0 where
+pub record RefusesInfo (device handed_back : Disk) (old new : MirrorView) (fault : ReAddFault) : Type 0 where
   pub running : old.array.halted ≡ false
   pub unchanged : new ≡ old
-  pub only_read : IsOnlyRead device given
-  pub unfailing : given.failures ≡ device.failures
+  pub only_read : IsOnlyRead device handed_back
+  pub unfailing : handed_back.failures ≡ device.failures
   pub info : MemberInfo
   pub read : members.IsMember device.content device.honest info
   pub refused : RefusesToTakeBack old.array info fault
@@ -99,23 +99,23 @@ abbrev pub MayComeBack : Disk → MirrorView → Type 0
 MayComeBack device old = (info : MemberInfo) × members.IsMember device.content device.honest info × MayReAdd old.array info
 
 -- Nothing is written: there was no memory to read it, or it may come back. That memory was short is not said.
-pub record LacksMemory (device given : Disk) (old new : MirrorView) : Type 0 where
+pub record LacksMemory (device handed_back : Disk) (old new : MirrorView) : Type 0 where
   pub running : old.array.halted ≡ false
   pub unchanged : new ≡ old
-  pub only_read : IsOnlyRead device given
-  pub unfailing : given.failures ≡ device.failures
-  pub reason : members.RefusesMember device.content device.honest (device.failures < given.failures) member_fault.NoMemory ⊎ MayComeBack device old
+  pub only_read : IsOnlyRead device handed_back
+  pub unfailing : handed_back.failures ≡ device.failures
+  pub reason : members.RefusesMember device.content device.honest (device.failures < handed_back.failures) member_fault.NoMemory ⊎ MayComeBack device old
 
--- the device is handed back as given
+-- The fault, and what it says of the device that is handed back.
 abbrev pub RefusesReAdd : Disk → Disk → MirrorView → MirrorView → ReAddFault → Type 0
-RefusesReAdd device given old new Halted = Refuses old new (old.array.halted ≡ true) × (given ≡ device)
-RefusesReAdd device given old new (Member fault) = RefusesDevice device given old new fault
-RefusesReAdd device given old new Full = RefusesInfo device given old new Full
-RefusesReAdd device given old new NotReAddable = RefusesInfo device given old new NotReAddable
-RefusesReAdd device given old new NoRole = RefusesInfo device given old new NoRole
-RefusesReAdd device given old new EventsFull = RefusesInfo device given old new EventsFull
-RefusesReAdd device given old new WriteFault = FailsToReAdd device given old new
-RefusesReAdd device given old new NoMemory = LacksMemory device given old new
+RefusesReAdd device handed_back old new Halted = Refuses old new (old.array.halted ≡ true) × (handed_back ≡ device)
+RefusesReAdd device handed_back old new (Member fault) = RefusesDevice device handed_back old new fault
+RefusesReAdd device handed_back old new Full = RefusesInfo device handed_back old new Full
+RefusesReAdd device handed_back old new NotReAddable = RefusesInfo device handed_back old new NotReAddable
+RefusesReAdd device handed_back old new NoRole = RefusesInfo device handed_back old new NoRole
+RefusesReAdd device handed_back old new EventsFull = RefusesInfo device handed_back old new EventsFull
+RefusesReAdd device handed_back old new WriteFault = FailsToReAdd device handed_back old new
+RefusesReAdd device handed_back old new NoMemory = LacksMemory device handed_back old new
 
 -- the event of the model: what the device had, and has, is by the fields that are kept of it
 abbrev pub re_add_event : (k : ℕ) (device : Disk) (old new : MirrorView) → ReAdds k device old new → Event

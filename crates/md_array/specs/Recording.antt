@@ -5,7 +5,7 @@ use Rattle.md_super.specs.Encoding.{super_bytes}
 use Rattle.md_super.specs.Faults.{NoFault}
 use Rattle.md_super.specs.Format.{IsSuper}
 use Rattle.md_super.specs.Merge.{merged}
-use Rattle.md_writes.specs.Writes.{Write}
+use Rattle.md_device_writes.specs.Writes.{Write}
 use Rattle.md_kept_members.specs.View.{MemberView}
 use Rattle.md_assembly.specs.States.{is_recorded}
 use Rattle.md_faults.specs.declared.step_fault.StoreFault.{StoreFault}

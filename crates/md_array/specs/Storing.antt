@@ -6,8 +6,8 @@ use Rattle.md_members.specs.Areas.{bitmap_sectors}
 use Rattle.md_members.specs.Reading.{BitmapStartsAt}
 use Rattle.md_array.specs.declared.fault.OpenFault.{OpenFault}
 use Rattle.md_array.specs.declared.fault.OpenFault.TheVariants.{MetadataFault}
-use Rattle.md_writes.specs.Bitmaps.{bitmap_writes}
-use Rattle.md_writes.specs.Writes.{Write, IsAnyIn, IsCutShort, after}
+use Rattle.md_device_writes.specs.Bitmaps.{bitmap_writes}
+use Rattle.md_device_writes.specs.Writes.{Write, IsAnyIn, IsCutShort, after}
 use Rattle.md_kept_members.specs.View.{MemberView}
 use Rattle.md_kept_members.specs.Members.{NeedsMarks}
 use Rattle.md_state.specs.Members.{IsMember}

@@ -6,7 +6,7 @@ ghost use Rattle.md_super.specs.Log.{has_bad_block_log};
 ghost use Rattle.md_array.specs.Worlds.{from_super};
 ghost use Rattle.md_super.specs.Merge.{merged};
 ghost use Rattle.md_members.specs.Reading.{BitmapStartsAt, LogStartsAt};
-ghost use Rattle.md_writes.specs.Writes.{MakesWrites};
+ghost use Rattle.md_device_writes.specs.Writes.{MakesWrites};
 ghost use Rattle.md_requests.specs.Pending.{PendingView};
 ghost use Rattle.md_state.specs.Requests.{IsPending};
 ghost use Rattle.md_state.specs.View.{disk_of};
@@ -19,10 +19,10 @@ use crate::recording::block_for;
 use crate::storing_needed_marks::bitmap_start;
 use md_bitmap::{BitmapHeader, Marks};
 use md_device::{Device, WriteFault};
+use md_device_writes::{put, store_bitmap};
 use md_faults::EnrolFault;
 use md_kept_members::Member;
 use md_super::{SUPER_SECTOR, Superblock};
-use md_writes::{put, store_bitmap};
 use std::alloc::Global;
 
 impl<D: Device + Drop> Mirror<D> {

@@ -23,9 +23,14 @@ impl<D: Device + Drop> Mirror<D> {
     /// that of the last member. The fault is the first in the order of `ReAddFault`, but that memory is taken
     /// before the write. The device is given back with it, unwritten unless the fault is `WriteFault`.
     ///
-    /// `missing` then names the marked chunks alone, or every chunk where the device was used elsewhere since it
-    /// left: where its own bitmap is not accepted, or marks a chunk that the array does not. In the first case the
-    /// device has all others if it is as its failure left it and some role had no member in sync at each moment since.
+    /// `missing` then names the marked chunks alone, or every chunk where the device may have been used elsewhere
+    /// since it left. In the first case it has all others if it is as its failure left it and some role had no
+    /// member in sync at each moment since. The second case is that of a device
+    ///
+    /// - whose bitmap is not accepted, or marks a chunk that the array does not;
+    /// - whose marks were last cleared at a later event count than the array's;
+    /// - whose superblock has a member that is in sync here in another role, or in none: it was used without it;
+    /// - that the array's superblock has in a role, more than one event ahead of it: it is an older copy.
     pub fn re_add(&mut self, alloc: Global, device: D) -> Result<usize, (D, ReAddFault)>
         requires sound { IsConsistent self.old }
         ensures gives { MatchResult result (λ k. ReAdds k (disk_of D.Device device) self.old self.new)

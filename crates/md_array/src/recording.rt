@@ -3,7 +3,7 @@ ghost use Rattle.std.specs.Prelude.{◌≡◌, ◌<◌, ◌≤◌, ◌*◌, [], 
 ghost use Rattle.md_device.specs.Splice.{SameOutside};
 ghost use Rattle.md_members.specs.Members.{sectors_of};
 ghost use Rattle.md_super.specs.Merge.{merged};
-ghost use Rattle.md_writes.specs.Writes.{MakesWrites};
+ghost use Rattle.md_device_writes.specs.Writes.{MakesWrites};
 ghost use Rattle.md_requests.specs.Pending.{PendingView};
 ghost use Rattle.md_state.specs.Requests.{IsPending};
 ghost use Rattle.md_array.specs.Consistency.{IsConsistent};
@@ -12,10 +12,10 @@ ghost use Rattle.md_array.specs.Recording.{IsReadable, Records, RefusesRecord, o
 
 use crate::mirror::Mirror;
 use md_device::{Device, WriteFault};
+use md_device_writes::put;
 use md_faults::StoreFault;
 use md_kept_members::Member;
 use md_super::{SUPER_SECTOR, Superblock, encode_member};
-use md_writes::put;
 
 impl<D: Device + Drop> Mirror<D> {
     /// Writes member k's superblock: the array's fields, and its own. It takes no memory. The fault is

@@ -2,7 +2,7 @@
 ghost use Rattle.std.specs.Prelude.{◌<◌, ◌*◌, [], ◌∷◌, MatchResult, length};
 ghost use Rattle.md_device.specs.Splice.{SameOutside};
 ghost use Rattle.md_members.specs.Areas.{bitmap_sectors};
-ghost use Rattle.md_writes.specs.Writes.{MakesWrites, Write};
+ghost use Rattle.md_device_writes.specs.Writes.{MakesWrites, Write};
 ghost use Rattle.md_requests.specs.Pending.{PendingView};
 ghost use Rattle.md_state.specs.Requests.{IsPending};
 ghost use Rattle.md_state.specs.StoringMarks.{IsMarkWrite, RefusesMarkSector, StoresMarkSector};
@@ -14,10 +14,10 @@ ghost use Rattle.md_array.specs.Events.{StoreMarksHappens};
 use crate::mirror::Mirror;
 use crate::storing_needed_marks::bitmap_start;
 use md_device::{Device, WriteFault};
+use md_device_writes::store_bitmap_sector;
 use md_faults::StoreFault;
 use md_kept_members::Member;
 use md_state::Array;
-use md_writes::store_bitmap_sector;
 
 impl<D: Device + Drop> Mirror<D> {
     /// Writes sector `block` of member k's bitmap by the marks in memory. Sector 0 holds the header too.

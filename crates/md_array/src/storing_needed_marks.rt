@@ -9,10 +9,10 @@ ghost use Rattle.md_array.specs.Storing.{AreMarked, FailsToStore, IsMarkedBy, Re
 
 use crate::fault::OpenFault;
 use md_device::{Device, WriteFault};
+use md_device_writes::store_bitmap;
 use md_kept_members::{Member, needs_marks};
 use md_state::Array;
 use md_super::{SUPER_SECTOR, Superblock};
-use md_writes::store_bitmap;
 
 /// Stores marks on each member in sync whose bitmap was not accepted, in the order of the members,
 /// up to the first on which a write fails.

@@ -10,9 +10,9 @@ ghost use Rattle.md_array.specs.Events.{WriteMemberHappens};
 
 use crate::mirror::Mirror;
 use md_device::{Device, WriteFault};
+use md_device_writes::put;
 use md_faults::WriteMemberFault;
 use md_requests::Pending;
-use md_writes::put;
 
 impl<D: Device + Drop> Mirror<D> {
     /// Writes a request's bytes to member k. The fault is the first in the order of

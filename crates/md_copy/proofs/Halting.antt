@@ -8,7 +8,7 @@ use Rattle.md_device.specs.Splice.{SameOutside, part}
 use Rattle.md_device.proofs.Splices.{part_after, part_before}
 use Rattle.md_kept_members.specs.View.{MemberView}
 use Rattle.md_model.specs.Events.{Event}
-use Rattle.md_writes.specs.Writes.{Write}
+use Rattle.md_device_writes.specs.Writes.{Write}
 use Rattle.md_state.specs.DiskWrites.{AtDevice, IsTried}
 use Rattle.md_state.specs.Members.{IsInSync, IsMember}
 use Rattle.md_state.specs.StoringMarks.{IsMarkWrite}

@@ -18,7 +18,7 @@ use Rattle.md_model.specs.Events.{Event}
 use Rattle.md_model.proofs.Cases.{by_test}
 use Rattle.md_super.specs.declared.superblock.Superblock.{Superblock}
 use Rattle.md_super.specs.Log.{has_bad_block_log}
-use Rattle.md_writes.specs.Writes.{Write}
+use Rattle.md_device_writes.specs.Writes.{Write}
 use Rattle.md_state.specs.DeviceChanges.{StaysHonest}
 use Rattle.md_state.specs.DiskWrites.{AtDevice, IsTried, IsWritten}
 use Rattle.md_state.specs.Members.{IsInSync, IsMember}

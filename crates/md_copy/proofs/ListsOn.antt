@@ -24,7 +24,7 @@ use Rattle.md_super.specs.Faults.{NoFault}
 use Rattle.md_super.specs.Format.{IsSuper}
 use Rattle.md_super.specs.Log.{has_bad_block_log}
 use Rattle.md_super.specs.Merge.{merged}
-use Rattle.md_writes.specs.Writes.{Write}
+use Rattle.md_device_writes.specs.Writes.{Write}
 use Rattle.md_state.specs.DiskWrites.{IsTried, IsWritten}
 use Rattle.md_state.specs.Members.{IsMember}
 use Rattle.md_state.specs.NotingBad.{logged}

@@ -11,7 +11,7 @@ use Rattle.md_members.specs.declared.area.Area.{Area}
 use Rattle.md_members.specs.Areas.{IsPlaced, bitmap_area, bitmap_sectors, data_area, has_bitmap, super_area}
 use Rattle.md_members.specs.Members.{sectors_of}
 use Rattle.md_model.specs.Events.{Event}
-use Rattle.md_writes.specs.Writes.{Write}
+use Rattle.md_device_writes.specs.Writes.{Write}
 use Rattle.md_kept_members.specs.Members.{made_due}
 use Rattle.md_kept_members.specs.View.{MemberView}
 use Rattle.md_assembly.specs.declared.state.MemberState.TheVariants.{Faulty}

@@ -21,10 +21,10 @@ use Rattle.md_state.specs.Missing.{is_rebuilt}
 use Rattle.md_state.specs.View.{Disk, MirrorView, of_disks}
 use Rattle.md_super.specs.declared.superblock.Superblock.{Superblock}
 use Rattle.md_super.specs.Log.{has_bad_block_log}
-use Rattle.md_writes.specs.Bitmaps.{bitmap_runs, bitmap_write, bitmap_writes, runs_of}
-use Rattle.md_writes.specs.Writes.{FailsInWrites, IsAnyIn, IsCutShort, IsNextMixed, Write, after}
-use Rattle.md_writes.proofs.Frames.{outside_around, outside_none}
-use Rattle.md_writes.proofs.Sectors.{length-bitmap_run, runs_from}
+use Rattle.md_device_writes.specs.Bitmaps.{bitmap_runs, bitmap_write, bitmap_writes, runs_of}
+use Rattle.md_device_writes.specs.Writes.{FailsInWrites, IsAnyIn, IsCutShort, IsNextMixed, Write, after}
+use Rattle.md_device_writes.proofs.Frames.{outside_around, outside_none}
+use Rattle.md_device_writes.proofs.Sectors.{length-bitmap_run, runs_from}
 use Rattle.md_array.specs.Consistency.{IsConsistent}
 use Rattle.md_array.specs.Enrolling.{FailsToEnrol, IsStorable, MayEnrol, log_writes}
 use Rattle.md_array.specs.Enrolments.{FailsAtSuper, Prepares}

@@ -1,15 +1,15 @@
 // Laying a new member out on its device.
 ghost use Rattle.std.specs.Prelude.{◌≡◌, ◌≤◌, ◌*◌, length, true, OnOk};
 ghost use Rattle.md_device.specs.Stops.{LeavesMore};
-ghost use Rattle.md_writes.specs.Writes.{MakesWrites};
+ghost use Rattle.md_device_writes.specs.Writes.{MakesWrites};
 ghost use Rattle.md_create.specs.Layout.{IsHalfLaidOut, IsLaidOut, KeepsOthers, writes_of};
 ghost use Rattle.md_create.specs.ReadBack.{IsReadable};
 
 use crate::params::NewMember;
 use crate::places::{BITMAP_SECTOR, LOG_SECTOR};
 use md_device::{Device, WriteFault};
+use md_device_writes::{put, store_bitmap};
 use md_super::SUPER_SECTOR;
-use md_writes::{put, store_bitmap};
 
 /// Writes a member's bitmap and superblock to a device of at least 2048 sectors, and an empty bad
 /// block log, in at most six writes. The superblock's place is overwritten with zeros first and gets

@@ -7,7 +7,7 @@ use Rattle.md_device.specs.Device.{written}
 use Rattle.md_device.specs.Stops.{IsMixed}
 use Rattle.md_members.specs.Areas.{bitmap_sectors}
 use Rattle.md_model.specs.Events.{Event}
-use Rattle.md_writes.specs.Writes.{Write}
+use Rattle.md_device_writes.specs.Writes.{Write}
 use Rattle.md_state.specs.CopyingData.{HaltsCopying}
 use Rattle.md_state.specs.StoringMarks.{HaltsStoringMarks, StoresMarkSector}
 use Rattle.md_state.specs.View.{Disk, MirrorView}

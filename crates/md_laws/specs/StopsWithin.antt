@@ -5,7 +5,7 @@ use Rattle.md_badblocks.specs.Log.{log_bytes}
 use Rattle.md_bitmap.specs.Marks.{Bitmap}
 use Rattle.md_device.specs.Device.{held, written}
 use Rattle.md_create.specs.Layout.{IsHalfLaidOut}
-use Rattle.md_writes.specs.Writes.{IsAnyIn, IsCutShort, Write, after as content_after}
+use Rattle.md_device_writes.specs.Writes.{IsAnyIn, IsCutShort, Write, after as content_after}
 use Rattle.md_model.specs.Events.{Event}
 use Rattle.md_faults.specs.declared.add_fault.AddFault.{AddFault}
 use Rattle.md_faults.specs.declared.add_fault.AddFault.TheVariants.{WriteFault}

@@ -8,7 +8,7 @@ use Rattle.md_device.specs.Splice.{part}
 use Rattle.md_device.proofs.Splices.{part_after, part_before, part-spliced, part_part}
 use Rattle.md_model.specs.Events.{Event}
 use Rattle.md_model.proofs.Puts.{by_same}
-use Rattle.md_writes.specs.Writes.{Write}
+use Rattle.md_device_writes.specs.Writes.{Write}
 use Rattle.md_kept_members.specs.View.{MemberView}
 use Rattle.md_state.specs.View.{ArrayView, Disk, MirrorView}
 use Rattle.md_state.specs.CopyingData.{CopiesTo, IsCopy, RefusesCopy, copies_of, run_write}

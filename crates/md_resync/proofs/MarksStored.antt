@@ -10,7 +10,7 @@ use Rattle.md_model.proofs.Puts.{by_same}
 use Rattle.md_bitmap.specs.Marks.{Bitmap}
 use Rattle.md_model.specs.Devices.{Stored}
 use Rattle.md_model.specs.Events.{Event}
-use Rattle.md_writes.specs.Writes.{Write}
+use Rattle.md_device_writes.specs.Writes.{Write}
 use Rattle.md_requests.specs.declared.extent.Extent.{Extent}
 use Rattle.md_kept_members.specs.View.{MemberView}
 use Rattle.md_state.specs.CopyingData.{Lists}

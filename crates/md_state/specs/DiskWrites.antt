@@ -2,7 +2,7 @@
 use Rattle.std.specs.Prelude.{◌≡◌, ◌≢◌, ℕ, ◌*◌, ◌<◌, true, List, [], ◌∷◌, length, slice_get, Some}
 use Rattle.md_device.specs.Splice.{SameOutside}
 use Rattle.md_device.specs.Device.{written}
-use Rattle.md_writes.specs.Writes.{IsAnyIn, IsCutShort, Write}
+use Rattle.md_device_writes.specs.Writes.{IsAnyIn, IsCutShort, Write}
 use Rattle.md_state.specs.View.{Disk}
 use Rattle.md_state.specs.DeviceChanges.{LeavesOn, StaysHonest}
 

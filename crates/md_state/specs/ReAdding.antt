@@ -9,7 +9,7 @@ use Rattle.md_members.specs.Members.{IsAccepted}
 use Rattle.md_members.specs.declared.info.MemberInfo.{MemberInfo}
 use Rattle.md_assembly.specs.declared.state.MemberState.{MemberState}
 use Rattle.md_assembly.specs.declared.state.MemberState.TheVariants.{InSync, Recovering, Stale, Spare, Faulty}
-use Rattle.md_assembly.specs.States.{has_recovery_offset, role_in, takes_role}
+use Rattle.md_assembly.specs.States.{has_recovery_offset, role_in, state_of, takes_role}
 use Rattle.md_kept_members.specs.TakingBack.{IsTakenBack, own_role}
 use Rattle.md_kept_members.specs.View.{MemberView}
 use Rattle.md_faults.specs.declared.re_add_fault.ReAddFault.{ReAddFault}
@@ -67,12 +67,20 @@ is_elsewhere v number Faulty = false
 abbrev pub has_elsewhere : ArrayView → Superblock → Bool
 has_elsewhere a v = list_any (λ m. is_elsewhere v m.superblock.dev_number m.state) a.members
 
--- Nothing tells that marks were cleared on the device alone since it left, or in the array without it (events_cleared of md-bitmap.h: the
--- count at which the array was last full, when marks are cleared). They were last cleared at the same count; or on the device earlier, as
--- where the array's count was stored after it left, and by its superblock each member in sync is in its role.
-abbrev pub HasNoOtherClearing : ArrayView → Superblock → BitmapHeader → Type 0
-HasNoOtherClearing a v h =
-    (h.events_cleared ≡ a.events_cleared) ⊎ ((h.events_cleared < a.events_cleared) × (has_elsewhere a v ≡ false))
+-- Its role is given it, but it is more than one event behind.
+abbrev pub is_stale : MemberState → Bool
+is_stale (Stale role) = true
+is_stale (InSync role) = false
+is_stale (Recovering role) = false
+is_stale Spare = false
+is_stale Faulty = false
+
+-- Nothing tells that marks were cleared on the device alone since it left, or in the array without it. (events_cleared of md-bitmap.h is the
+-- count at which the array was last full, when marks are cleared. The kernel's recovery of another device clears marks and leaves it.)
+pub record HasNoOtherClearing (a : ArrayView) (v : Superblock) (h : BitmapHeader) : Type 0 where
+  pub cleared : h.events_cleared ≤ a.events_cleared  -- less where the array's count was stored after the device left
+  pub together : has_elsewhere a v ≡ false  -- by its superblock each member in sync is in its role
+  pub no_copy : is_stale (state_of a.shared v) ≡ false  -- the array has not gone on with it: it is no older copy of its device
 
 -- Its bitmap is accepted, and each chunk that it marks is marked in the array; nor were marks cleared on one of them alone: nothing tells
 -- that it was written to alone since it left.

@@ -4,8 +4,8 @@ use Rattle.md_bitmap.specs.declared.header.BitmapHeader.{BitmapHeader}
 use Rattle.md_bitmap.specs.Marks.{Bitmap}
 use Rattle.md_members.specs.Areas.{bitmap_sectors}
 use Rattle.md_members.specs.Reading.{BitmapStartsAt}
-use Rattle.md_writes.specs.Bitmaps.{bitmap_write}
-use Rattle.md_writes.specs.Writes.{Write}
+use Rattle.md_device_writes.specs.Bitmaps.{bitmap_write}
+use Rattle.md_device_writes.specs.Writes.{Write}
 use Rattle.md_kept_members.specs.View.{MemberView}
 use Rattle.md_kept_members.specs.StoredMarks.{HasStored}
 use Rattle.md_faults.specs.declared.step_fault.StoreFault.{StoreFault}

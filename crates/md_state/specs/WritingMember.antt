@@ -1,7 +1,7 @@
 -- A member gets a request's bytes.
 use Rattle.std.specs.Prelude.{◌≡◌, ◌⊎◌, ℕ, ◌+◌, ◌≤◌, ◌<◌, ◌/◌, true, false, ◌++◌, [], ◌∷◌}
 use Rattle.md_bitmap.specs.Marks.{is_set}
-use Rattle.md_writes.specs.Writes.{Write}
+use Rattle.md_device_writes.specs.Writes.{Write}
 use Rattle.md_requests.specs.Pending.{PendingView, has_written, request_sectors}
 use Rattle.md_kept_members.specs.View.{MemberView}
 use Rattle.md_faults.specs.declared.step_fault.WriteMemberFault.{WriteMemberFault}

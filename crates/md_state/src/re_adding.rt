@@ -2,11 +2,11 @@
 ghost use Rattle.std.specs.Prelude.{◌≡◌, ◌↔◌, ◌<◌, ◌≤◌, ℕ, IsTrue, MatchResult, Some, true};
 ghost use Rattle.md_bitmap.specs.Marks.{Bitmap, is_set};
 ghost use Rattle.md_kept_members.specs.Remembering.{IsWhole};
-ghost use Rattle.md_state.specs.ReAdding.{HasNoOtherClearing, HasNoOtherMarks, IsOffsetBack, IsOfArray, IsReAddable, LeftInTime, LeftItsRole, MayReAdd, RefusesToTakeBack, has_elsewhere, is_elsewhere, is_taken};
+ghost use Rattle.md_state.specs.ReAdding.{HasNoOtherClearing, HasNoOtherMarks, IsOffsetBack, IsOfArray, IsReAddable, LeftInTime, LeftItsRole, MayReAdd, RefusesToTakeBack, has_elsewhere, is_elsewhere, is_stale, is_taken};
 
 use crate::array::Array;
 use crate::joining::MOST_MEMBERS;
-use md_assembly::MemberState;
+use md_assembly::{MemberState, state_of};
 use md_bitmap::{BitmapHeader, Marks};
 use md_faults::ReAddFault;
 use md_members::{MemberInfo, accepted};
@@ -20,6 +20,13 @@ fn is_elsewhere(own: &Superblock, number: u32, state: MemberState) -> bool
         MemberState::InSync(role) => own.role_of(number) != role,
         _ => false,
     }
+}
+
+// Whether its role is given it, but it is more than one event behind.
+fn is_stale(state: MemberState) -> bool
+    ensures { result ≡ is_stale state }
+{
+    matches!(state, MemberState::Stale(_))
 }
 
 impl Array {
@@ -43,7 +50,8 @@ impl Array {
     }
 
     /// The offset that a device comes back with: the array's size where it lacks the marked chunks alone,
-    /// and 0 where it was used elsewhere since it left, so that it lacks every chunk.
+    /// and 0 where it was used elsewhere since it left, or is an older copy of its device, so that it lacks every
+    /// chunk.
     pub fn offset_back(&self, info: &MemberInfo) -> u64
         requires whole { IsWhole info.now }
         requires chunks { (marks : Bitmap) → info.now.marks ≡ Some marks → self.now.marks.chunks ≤ marks.chunks }
@@ -77,10 +85,9 @@ impl Array {
     fn has_no_other_clearing(&self, own: &Superblock, header: &BitmapHeader) -> bool
         ensures { IsTrue result ↔ HasNoOtherClearing self.now own.now header.now }
     {
-        if header.events_cleared == self.events_cleared {
-            return true;
-        }
-        header.events_cleared < self.events_cleared && !self.has_elsewhere(own)
+        header.events_cleared <= self.events_cleared
+            && !self.has_elsewhere(own)
+            && !is_stale(state_of(&self.shared, own))
     }
 
     // Whether by the superblock some member in sync is in another role, or in none.

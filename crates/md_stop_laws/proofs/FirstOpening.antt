@@ -4,7 +4,7 @@ use Rattle.std.proofs.Common.{◌≡◌, ◌∙◌, inl, inr, ℕ, ◌*◌, ◌<
 use Rattle.std.proofs.lemmas.List.{length-map}
 use Rattle.std.proofs.lemmas.Option.{none-some, same_Some, slice_get_within}
 use Rattle.md_device.specs.Splice.{SameOutside}
-use Rattle.md_writes.proofs.Frames.{outside_none}
+use Rattle.md_device_writes.proofs.Frames.{outside_none}
 use Rattle.md_assembly.proofs.Indices.{got_within}
 use Rattle.md_kept_members.specs.Members.{NeedsMarks}
 use Rattle.md_kept_members.specs.View.{MemberView}

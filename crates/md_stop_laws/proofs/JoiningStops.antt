@@ -14,7 +14,7 @@ use Rattle.md_model.proofs.Cases.{by_test}
 use Rattle.md_model.proofs.Puts.{by_same}
 use Rattle.md_super.specs.Faults.{fault_of}
 use Rattle.md_super.specs.declared.fault.SuperFault.TheVariants.{Magic}
-use Rattle.md_writes.specs.Writes.{IsCutShort}
+use Rattle.md_device_writes.specs.Writes.{IsCutShort}
 use Rattle.md_state.specs.DiskWrites.{AtDevice}
 use Rattle.md_state.specs.View.{Disk, MirrorView}
 use Rattle.md_array.specs.Adding.{add_event}

@@ -11,7 +11,7 @@ use Rattle.md_model.specs.Openings.{IsWithinLimits}
 use Rattle.md_model.specs.Sectors.{Geometry}
 use Rattle.md_model.proofs.Puts.{by_same}
 use Rattle.md_model.proofs.Steps.Keeps.{IsKept}
-use Rattle.md_writes.specs.Writes.{Write}
+use Rattle.md_device_writes.specs.Writes.{Write}
 use Rattle.md_state.specs.DiskWrites.{IsTried}
 use Rattle.md_state.specs.Members.{IsMember}
 use Rattle.md_state.specs.View.{ArrayView, Disk, geometry_of}

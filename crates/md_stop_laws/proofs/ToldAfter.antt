@@ -10,7 +10,7 @@ use Rattle.md_device.specs.Stops.{LeavesMore}
 use Rattle.md_kept_members.specs.View.{MemberView}
 use Rattle.md_model.specs.Events.{Event}
 use Rattle.md_model.proofs.Puts.{by_same}
-use Rattle.md_writes.specs.Writes.{IsAnyIn, Write}
+use Rattle.md_device_writes.specs.Writes.{IsAnyIn, Write}
 use Rattle.md_state.specs.CopyingData.{run_write}
 use Rattle.md_state.specs.DeviceChanges.{StaysHonest}
 use Rattle.md_state.specs.DiskWrites.{IsFailed}

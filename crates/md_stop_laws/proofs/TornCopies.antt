@@ -17,7 +17,7 @@ use Rattle.md_model.proofs.Lives.Safe.{unmarked-bits}
 use Rattle.md_model.proofs.Puts.{by_same}
 use Rattle.md_model.proofs.Steps.Keeps.{IsKept}
 use Rattle.md_model.proofs.Steps.Tracked.{agree_as}
-use Rattle.md_writes.specs.Writes.{Write}
+use Rattle.md_device_writes.specs.Writes.{Write}
 use Rattle.md_state.specs.CopyingData.{run_write}
 use Rattle.md_state.specs.DiskWrites.{IsTried}
 use Rattle.md_state.specs.Members.{IsMember}

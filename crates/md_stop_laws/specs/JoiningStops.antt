@@ -21,7 +21,7 @@ use Rattle.md_laws.specs.Runs.{MirrorRun, Moment}
 use Rattle.md_laws.specs.StoppedCalls.{AtMoments}
 use Rattle.md_laws.specs.StopsReadAs.{EndsInFirstSector, ReadsAs}
 use Rattle.md_laws.specs.StopsWithin.{IsLeftFailing, MayAllBeLeft}
-use Rattle.md_writes.specs.Writes.{IsAnyIn}
+use Rattle.md_device_writes.specs.Writes.{IsAnyIn}
 
 -- The device joined: by this event, and from there on a stop leaves that.
 pub record IsStopJoined (e : Event) (t : Moment) (left : List Disk) : Type 0 where

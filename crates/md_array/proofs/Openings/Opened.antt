@@ -10,7 +10,7 @@ use Rattle.md_assembly.specs.declared.fault.AssembleFault.TheVariants.{Empty, To
 use Rattle.md_assembly.specs.Faults.{IsFirstFault}
 use Rattle.md_device.specs.Stops.{IsMixed}
 use Rattle.md_device.proofs.Leaving.{leaves_less, leaves_then, mixed_none}
-use Rattle.md_writes.specs.Writes.{IsAnyIn, IsCutShort, Write, after}
+use Rattle.md_device_writes.specs.Writes.{IsAnyIn, IsCutShort, Write, after}
 use Rattle.md_kept_members.specs.View.{MemberView}
 use Rattle.md_state.specs.View.{Disk, ArrayView}
 use Rattle.md_state.specs.DeviceChanges.{AreSame, EachPair, IsLeftAlone, IsUntouched, LeavesAsWas, LeavesOn, StaysHonest}

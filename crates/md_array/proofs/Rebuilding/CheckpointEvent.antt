@@ -34,7 +34,7 @@ use Rattle.md_array.specs.Events.{Happens, ListsStill, listed_on}
 use Rattle.md_array.specs.Filling.{MayRebuild}
 use Rattle.md_array.specs.Recording.{IsReadable, Records, super_write}
 use Rattle.md_super.specs.Merge.{merged}
-use Rattle.md_writes.specs.Writes.{Write}
+use Rattle.md_device_writes.specs.Writes.{Write}
 use Rattle.md_state.specs.DiskWrites.{IsWritten}
 use Rattle.md_array.specs.Worlds.{AreHonest, is_listed, kind_of, world_of}
 use Rattle.md_array.proofs.General.Indices.{at_set_same}

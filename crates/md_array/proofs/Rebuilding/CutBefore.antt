@@ -13,11 +13,11 @@ use Rattle.md_kept_members.specs.View.{MemberView}
 use Rattle.md_members.specs.Areas.{bitmap_sectors}
 use Rattle.md_state.specs.View.{Disk, MirrorView}
 use Rattle.md_super.specs.Log.{has_bad_block_log}
-use Rattle.md_writes.specs.Bitmaps.{bitmap_writes}
-use Rattle.md_writes.specs.Writes.{IsCutShort, Write, after}
-use Rattle.md_writes.proofs.Frames.{outside_around}
-use Rattle.md_writes.proofs.Runs.{after-append, cut_last}
-use Rattle.md_writes.proofs.Stored.{stored_cut}
+use Rattle.md_device_writes.specs.Bitmaps.{bitmap_writes}
+use Rattle.md_device_writes.specs.Writes.{IsCutShort, Write, after}
+use Rattle.md_device_writes.proofs.Frames.{outside_around}
+use Rattle.md_device_writes.proofs.Runs.{after-append, cut_last}
+use Rattle.md_device_writes.proofs.Stored.{stored_cut}
 use Rattle.md_array.specs.Consistency.{IsConsistent}
 use Rattle.md_array.specs.Enrolling.{Enrols, log_writes}
 use Rattle.md_array.specs.Events.{IsBesideArea, IsBesideMarks, IsSameBesideMarks}

@@ -9,7 +9,7 @@ use Rattle.md_bitmap.specs.declared.header.BitmapHeader.{BitmapHeader}
 use Rattle.md_bitmap.specs.Marks.{Bitmap}
 use Rattle.md_bitmap.specs.Sound.{IsSound}
 use Rattle.md_members.specs.Reading.{BitmapStartsAt}
-use Rattle.md_writes.specs.Writes.{DoesWrites, FailsInWrites, IsKept, Write}
+use Rattle.md_device_writes.specs.Writes.{DoesWrites, FailsInWrites, IsKept, Write}
 use Rattle.md_assembly.proofs.Indices.{got_within}
 use Rattle.md_kept_members.specs.Enrolling.{HasRoomFor}
 use Rattle.md_kept_members.specs.Members.{made_due}

@@ -15,9 +15,9 @@ use Rattle.md_state.specs.Enrolling.{enrolled}
 use Rattle.md_state.specs.Missing.{is_rebuilt}
 use Rattle.md_state.specs.Requests.{AreInFlight}
 use Rattle.md_state.specs.View.{ArrayView, Disk, MirrorView, of_disks}
-use Rattle.md_writes.specs.Bitmaps.{bitmap_writes}
-use Rattle.md_writes.proofs.Frames.{outside_none}
-use Rattle.md_writes.specs.Writes.{DoesWrites, FailsInWrites, IsAnyIn, IsCutShort, Write, after}
+use Rattle.md_device_writes.specs.Bitmaps.{bitmap_writes}
+use Rattle.md_device_writes.proofs.Frames.{outside_none}
+use Rattle.md_device_writes.specs.Writes.{DoesWrites, FailsInWrites, IsAnyIn, IsCutShort, Write, after}
 use Rattle.md_array.specs.Consistency.{IsConsistent}
 use Rattle.md_array.specs.Enrolling.{Enrols, FailsToEnrol, IsStorable, KeepsData, MayEnrol, log_writes}
 use Rattle.md_array.specs.Enrolments.{FailsAtSuper, Prepares, before_last, prepared_only, with_first, writes_before}

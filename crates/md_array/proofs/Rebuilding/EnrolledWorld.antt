@@ -31,9 +31,9 @@ use Rattle.md_state.specs.Rising.{is_absent, risen}
 use Rattle.md_state.specs.View.{ArrayView, Disk, MirrorView, of_disks, geometry_of}
 use Rattle.md_super.specs.declared.superblock.Superblock.{Superblock}
 use Rattle.md_super.specs.Merge.{merged}
-use Rattle.md_writes.specs.Bitmaps.{bitmap_writes}
-use Rattle.md_writes.specs.Writes.{DoesWrites, Write, after}
-use Rattle.md_writes.proofs.Runs.{after-append}
+use Rattle.md_device_writes.specs.Bitmaps.{bitmap_writes}
+use Rattle.md_device_writes.specs.Writes.{DoesWrites, Write, after}
+use Rattle.md_device_writes.proofs.Runs.{after-append}
 use Rattle.md_array.specs.Consistency.{IsConsistent}
 use Rattle.md_array.specs.Enrolling.{Enrols, log_writes}
 use Rattle.md_array.specs.Recording.{write_of}

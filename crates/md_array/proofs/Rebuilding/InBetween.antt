@@ -19,10 +19,10 @@ use Rattle.md_state.specs.Missing.{is_rebuilt}
 use Rattle.md_state.specs.View.{ArrayView, Disk, MirrorView}
 use Rattle.md_super.specs.declared.superblock.Superblock.{Superblock}
 use Rattle.md_super.specs.Log.{has_bad_block_log}
-use Rattle.md_writes.specs.Bitmaps.{bitmap_writes}
-use Rattle.md_writes.specs.Writes.{after}
-use Rattle.md_writes.proofs.Frames.{outside_around}
-use Rattle.md_writes.proofs.Runs.{after-append}
+use Rattle.md_device_writes.specs.Bitmaps.{bitmap_writes}
+use Rattle.md_device_writes.specs.Writes.{after}
+use Rattle.md_device_writes.proofs.Frames.{outside_around}
+use Rattle.md_device_writes.proofs.Runs.{after-append}
 use Rattle.md_array.specs.Consistency.{IsConsistent}
 use Rattle.md_array.specs.Enrolling.{Enrols, IsStorable, MayEnrol, log_writes}
 use Rattle.md_array.specs.Enrolments.{Prepares, first_writes, prepared, with_writes}

@@ -37,7 +37,7 @@ use Rattle.md_state.specs.Requests.{IsPending}
 use Rattle.md_state.specs.View.{ArrayView, Disk, MirrorView, disk_of, geometry_of}
 use Rattle.md_super.specs.declared.superblock.Superblock.{Superblock}
 use Rattle.md_super.specs.Log.{has_bad_block_log}
-use Rattle.md_writes.specs.Writes.{DoesWrites, FailsInWrites, Write}
+use Rattle.md_device_writes.specs.Writes.{DoesWrites, FailsInWrites, Write}
 use Rattle.md_array.specs.Consistency.{HasPlaces, HasSuper, IsConsistent}
 use Rattle.md_array.specs.Enrolling.{log_writes}
 use Rattle.md_array.specs.Events.{Happens, listed_on}

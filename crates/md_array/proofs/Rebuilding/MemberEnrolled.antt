@@ -10,7 +10,7 @@ use Rattle.md_bitmap.specs.declared.header.BitmapHeader.{BitmapHeader}
 use Rattle.md_bitmap.specs.Marks.{Bitmap}
 use Rattle.md_model.proofs.Puts.{by_same, put-miss}
 use Rattle.md_assembly.proofs.Indices.{got_same, got_within}
-use Rattle.md_writes.specs.Writes.{after}
+use Rattle.md_device_writes.specs.Writes.{after}
 use Rattle.md_kept_members.specs.Enrolling.{HasRoomFor}
 use Rattle.md_kept_members.specs.Members.{made_due}
 use Rattle.md_kept_members.specs.View.{MemberView}

@@ -5,7 +5,7 @@ use Rattle.md_model.specs.Devices.{Stored}
 use Rattle.md_model.specs.Worlds.{Request}
 use Rattle.md_model.specs.Failures.{LeftByData}
 use Rattle.md_model.specs.Events.{Event}
-use Rattle.md_writes.specs.Writes.{Write}
+use Rattle.md_device_writes.specs.Writes.{Write}
 use Rattle.md_requests.specs.Pending.{PendingView, request_sectors}
 use Rattle.md_kept_members.specs.View.{MemberView}
 use Rattle.md_state.specs.View.{ArrayView, MirrorView}

@@ -14,7 +14,7 @@ use Rattle.md_bitmap.proofs.Encoded.{length-header_bytes, reads_back}
 use Rattle.md_bitmap.proofs.Padded.{length-padded, slice_index-padded}
 use Rattle.md_members.specs.Areas.{bitmap_sectors}
 use Rattle.md_bitmap.specs.Sectors.{bitmap_sector}
-use Rattle.md_writes.specs.Writes.{Write}
+use Rattle.md_device_writes.specs.Writes.{Write}
 use Rattle.md_bitmap.proofs.Blocks.{length-bitmap_sector}
 use Rattle.md_model.specs.Sectors.{block_of, put}
 use Rattle.md_assembly.specs.States.{is_in_sync}

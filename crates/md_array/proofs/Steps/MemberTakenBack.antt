@@ -27,7 +27,7 @@ use Rattle.md_members.specs.Areas.{BitmapIsPlaced, IsPlaced, LogIsPlaced, bitmap
 use Rattle.md_members.specs.Members.{HasBitmap, reads_log, sectors_of}
 use Rattle.md_assembly.specs.declared.state.MemberState.{MemberState}
 use Rattle.md_assembly.specs.States.{is_in_sync}
-use Rattle.md_writes.specs.Writes.{DoesWrites, FailsInWrites}
+use Rattle.md_device_writes.specs.Writes.{DoesWrites, FailsInWrites}
 use Rattle.md_requests.specs.Pending.{PendingView, has_written}
 use Rattle.md_kept_members.specs.OwnFields.{kept_superblock}
 use Rattle.md_kept_members.specs.TakingBack.{IsTakenBack, own_role, recovering}

@@ -17,7 +17,7 @@ use Rattle.md_model.specs.Sectors.{put}
 use Rattle.md_model.specs.States as model
 use Rattle.md_model.specs.Worlds.{Request, World}
 use Rattle.md_model.proofs.Puts.{by_same, put-at, put-self}
-use Rattle.md_writes.specs.Writes.{Write}
+use Rattle.md_device_writes.specs.Writes.{Write}
 use Rattle.md_requests.specs.Pending.{PendingView}
 use Rattle.md_kept_members.specs.View.{MemberView}
 use Rattle.md_state.specs.View.{ArrayView, Disk, MirrorView}

@@ -6,8 +6,8 @@ use Rattle.std.proofs.lemmas.Option.{slice_get_within}
 use Rattle.md_device.specs.Device.{written}
 use Rattle.md_device.specs.Splice.{SameOutside}
 use Rattle.md_device.specs.declared.device.Device.{Ghosts}
-use Rattle.md_writes.specs.Writes.{DoesWrites, IsAnyIn, IsCutShort, FailsInWrites, Write}
-use Rattle.md_writes.proofs.Runs.{stops_in_one}
+use Rattle.md_device_writes.specs.Writes.{DoesWrites, IsAnyIn, IsCutShort, FailsInWrites, Write}
+use Rattle.md_device_writes.proofs.Runs.{stops_in_one}
 use Rattle.md_kept_members.specs.View.{MemberView}
 use Rattle.md_state.specs.View.{ArrayView, Disk, MirrorView, disk_of}
 use Rattle.md_state.specs.Members.{IsMember}

@@ -15,7 +15,7 @@ use Rattle.md_members.specs.Members.{sectors_of}
 use Rattle.md_create.specs.declared.params.NewMember.{NewMember}
 use Rattle.md_create.specs.Layout.{IsHalfLaidOut, IsLaidOut, KeepsOthers, writes_of}
 use Rattle.md_create.specs.ReadBack.{IsReadable}
-use Rattle.md_writes.specs.Writes.{DoesWrites, IsKept, FailsInWrites}
+use Rattle.md_device_writes.specs.Writes.{DoesWrites, IsKept, FailsInWrites}
 use Rattle.md_create.proofs.Laid.{few_sectors}
 use Rattle.md_create.proofs.Taken.{new_placed}
 use Rattle.md_requests.specs.Pending.{PendingView}

@@ -14,7 +14,7 @@ use Rattle.md_create.specs.declared.params.NewMember.{NewMember}
 use Rattle.md_create.specs.Layout.{IsLaidOut}
 use Rattle.md_create.specs.ReadBack.{IsReadable, sealed}
 use Rattle.md_create.proofs.Laid.{few_sectors}
-use Rattle.md_writes.proofs.Frames.{outside_none}
+use Rattle.md_device_writes.proofs.Frames.{outside_none}
 use Rattle.md_state.specs.Adding.{IsSpareOf, added}
 use Rattle.md_state.specs.View.{ArrayView}
 use Rattle.md_array.specs.Adding.{kept_of}

@@ -6,7 +6,7 @@ use Rattle.md_device.specs.Device.{written}
 use Rattle.md_device.specs.Splice.{SameOutside}
 use Rattle.md_device.specs.Stops.{LeavesMore}
 use Rattle.md_device.proofs.Leaving.{leaves_less, leaves_then, mixed_none}
-use Rattle.md_writes.specs.Writes.{IsCutShort, Write}
+use Rattle.md_device_writes.specs.Writes.{IsCutShort, Write}
 use Rattle.md_kept_members.proofs.Members.Indices.{listed_push}
 use Rattle.md_state.specs.DeviceChanges.{LeavesOn, StaysHonest}
 use Rattle.md_state.specs.DiskWrites.{AtDevice, IsWritten}

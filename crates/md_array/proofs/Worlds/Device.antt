@@ -24,8 +24,8 @@ use Rattle.md_state.specs.DeviceChanges.{IsUnchanged}
 use Rattle.md_array.specs.Consistency.{HasPlaces}
 use Rattle.md_array.specs.ReadAsKept.{HasWidth, IsReadAsKept, chunk_size_on}
 use Rattle.md_array.specs.Storing.{StoresMarks}
-use Rattle.md_writes.specs.Bitmaps.{bitmap_writes}
-use Rattle.md_writes.specs.Writes.{after}
+use Rattle.md_device_writes.specs.Bitmaps.{bitmap_writes}
+use Rattle.md_device_writes.specs.Writes.{after}
 use Rattle.md_array.specs.Worlds.{block_on, from_super, is_listed, is_listed_next, stored_of, super_in, super_of}
 use Rattle.md_array.proofs.Worlds.Listed.{IsLogKept, listed_as_next, listed_kept, listed_kept_of, next_kept, listed_at_offset, next_at_offset}
 use Rattle.md_array.proofs.Worlds.PartsApart.{log_beside_bitmap}

@@ -10,11 +10,11 @@ use Rattle.md_bitmap.specs.Marks.{is_set}
 use Rattle.md_bitmap.proofs.Limits.{div-lt-div_ceil}
 use Rattle.md_members.specs.declared.info.MemberInfo.{MemberInfo}
 use Rattle.md_members.specs.Areas.{bitmap_sectors}
-use Rattle.md_writes.specs.Bitmaps.{bitmap_writes}
+use Rattle.md_device_writes.specs.Bitmaps.{bitmap_writes}
 use Rattle.md_device.proofs.Leaving.{leaves_none}
-use Rattle.md_writes.specs.Writes.{IsAnyIn, IsCutShort, Write, after}
-use Rattle.md_writes.proofs.Frames.{outside_around, outside_none, outside_then}
-use Rattle.md_writes.proofs.Stored.{stored_all, stored_cut}
+use Rattle.md_device_writes.specs.Writes.{IsAnyIn, IsCutShort, Write, after}
+use Rattle.md_device_writes.proofs.Frames.{outside_around, outside_none, outside_then}
+use Rattle.md_device_writes.proofs.Stored.{stored_all, stored_cut}
 use Rattle.md_model.specs.Sectors.{chunk_of}
 use Rattle.md_model.specs.Devices.{accepts, is_accepted, is_marked}
 use Rattle.md_model.proofs.Cases.{by_test}

@@ -1,7 +1,7 @@
 -- A mirror of one member that is opened, has a run of two events and is opened again has a life.
 use Rattle.std.proofs.Common.{◌≡◌, ℕ, ◌<◌, inl, inr, Bool, true, false, cond, eqb, nat_lt, ◌*◌, List, [], ◌∷◌, length, slice_get, Option, Some, None, refl, sym, ap, ◌∙◌, subst, arith, lt-ltb}
 use Rattle.std.proofs.lemmas.Option.{none-some, same_Some, slice_get_within}
-use Rattle.md_writes.proofs.Frames.{outside_none}
+use Rattle.md_device_writes.proofs.Frames.{outside_none}
 use Rattle.md_members.specs.Areas.{bitmap_sectors}
 use Rattle.md_model.specs.Devices.{AgreeAt, Stored}
 use Rattle.md_model.specs.Events.{Event}

@@ -5,7 +5,7 @@ use Rattle.md_assembly.proofs.Indices.{got_within}
 use Rattle.md_device.proofs.Leaving.{leaves_none}
 use Rattle.md_state.specs.DeviceChanges.{LeavesOn, StaysHonest}
 use Rattle.md_state.specs.View.{Disk, MirrorView}
-use Rattle.md_writes.specs.Writes.{IsCutShort, Write}
+use Rattle.md_device_writes.specs.Writes.{IsCutShort, Write}
 use Rattle.md_bitmap.specs.Marks.{Bitmap}
 use Rattle.md_array.specs.Consistency.{IsConsistent}
 use Rattle.md_array.specs.Enrolling.{Enrols, IsUsedAlone, MayEnrol}

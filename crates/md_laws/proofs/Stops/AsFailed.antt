@@ -8,9 +8,9 @@ use Rattle.md_device.specs.Splice.{SameOutside, spliced}
 use Rattle.md_device.specs.Device.{held, written}
 use Rattle.md_device.specs.Stops.{IsMixed}
 use Rattle.md_device.proofs.Leaving.{in_three, leaves_none, three_same}
-use Rattle.md_writes.specs.Writes.{IsAnyIn, IsCutShort, Write}
-use Rattle.md_writes.proofs.Frames.{outside_none, outside_then}
-use Rattle.md_writes.proofs.Runs.{cut_one}
+use Rattle.md_device_writes.specs.Writes.{IsAnyIn, IsCutShort, Write}
+use Rattle.md_device_writes.proofs.Frames.{outside_none, outside_then}
+use Rattle.md_device_writes.proofs.Runs.{cut_one}
 use Rattle.md_model.specs.Events.{Event}
 use Rattle.md_model.proofs.Puts.{by_same}
 use Rattle.md_state.specs.DeviceChanges.{LeavesOn, StaysHonest}

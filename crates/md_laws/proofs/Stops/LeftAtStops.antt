@@ -10,7 +10,7 @@ use Rattle.md_format.specs.Fields.{number_at}
 use Rattle.md_members.specs.Areas.{BitmapIsPlaced, IsPlaced, bitmap_sectors}
 use Rattle.md_members.specs.Members.{sectors_of}
 use Rattle.md_bitmap.proofs.Blocks.{length-bitmap_sector}
-use Rattle.md_writes.specs.Writes.{IsCutShort, Write}
+use Rattle.md_device_writes.specs.Writes.{IsCutShort, Write}
 use Rattle.md_model.specs.Content.{Becomes, Content}
 use Rattle.md_model.specs.Devices.{Stored, Super}
 use Rattle.md_model.specs.Events.{Event}

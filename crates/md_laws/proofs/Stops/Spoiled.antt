@@ -11,8 +11,8 @@ use Rattle.md_state.specs.Members.{IsMember}
 use Rattle.md_state.specs.Missing.{is_rebuilt}
 use Rattle.md_state.specs.View.{Disk, MirrorView, of_disks}
 use Rattle.md_members.specs.Areas.{bitmap_sectors}
-use Rattle.md_writes.specs.Bitmaps.{bitmap_writes}
-use Rattle.md_writes.specs.Writes.{FailsInWrites, IsAnyIn, IsCutShort, Write, after}
+use Rattle.md_device_writes.specs.Bitmaps.{bitmap_writes}
+use Rattle.md_device_writes.specs.Writes.{FailsInWrites, IsAnyIn, IsCutShort, Write, after}
 use Rattle.md_array.specs.Consistency.{IsConsistent}
 use Rattle.md_array.specs.Enrolling.{Enrols, FailsToEnrol, MayEnrol, log_writes}
 use Rattle.md_array.specs.Enrolments.{FailsAtSuper, Prepares, prepared, writes_before}

@@ -9,8 +9,8 @@ use Rattle.md_device.proofs.Splices.{part_after, part_before, spliced_outside}
 use Rattle.md_device.proofs.Leaving.{three_same}
 use Rattle.md_model.specs.Events.{Event}
 use Rattle.md_model.proofs.Puts.{by_same}
-use Rattle.md_writes.specs.Writes.{IsCutShort}
-use Rattle.md_writes.proofs.Runs.{cut_one}
+use Rattle.md_device_writes.specs.Writes.{IsCutShort}
+use Rattle.md_device_writes.proofs.Runs.{cut_one}
 use Rattle.md_kept_members.specs.View.{MemberView}
 use Rattle.md_state.specs.View.{Disk, MirrorView}
 use Rattle.md_state.specs.CopyingData.{CopiesSector, CopiesTo, IsCopy, MayCopy, run_write}

@@ -7,7 +7,7 @@ use Rattle.md_model.proofs.Puts.{by_same}
 use Rattle.md_state.specs.DeviceChanges.{LeavesOn}
 use Rattle.md_state.specs.DiskWrites.{AtDevice, IsTried}
 use Rattle.md_state.specs.View.{Disk, MirrorView}
-use Rattle.md_writes.specs.Writes.{Write}
+use Rattle.md_device_writes.specs.Writes.{Write}
 use Rattle.md_array.specs.Events.{IsChangedAlone, WritesOnce}
 use Rattle.md_array.specs.InTurn.{AllLeftWhole, AllOf, Leads, Requests}
 use Rattle.md_array.specs.Worlds.{AreHonest}

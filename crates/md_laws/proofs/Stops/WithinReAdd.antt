@@ -2,7 +2,7 @@
 use Rattle.std.proofs.Common.{◌≡◌, ℕ, true, List, [], ◌∷◌, ◌++◌, length, refl, sym, ◌∙◌, subst}
 use Rattle.md_device.specs.Stops.{LeavesMore}
 use Rattle.md_device.proofs.Leaving.{leaves_less, leaves_none, leaves_then}
-use Rattle.md_writes.specs.Writes.{IsAnyIn, Write}
+use Rattle.md_device_writes.specs.Writes.{IsAnyIn, Write}
 use Rattle.md_faults.specs.declared.re_add_fault.ReAddFault.TheVariants.{Halted, Member, Full, NotReAddable, NoRole, EventsFull, WriteFault, NoMemory}
 use Rattle.md_kept_members.specs.TakingBack.{own_role}
 use Rattle.md_state.specs.Joining.{joined_shared}

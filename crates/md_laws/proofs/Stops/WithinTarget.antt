@@ -13,7 +13,7 @@ use Rattle.md_kept_members.specs.View.{MemberView}
 use Rattle.md_state.specs.DiskWrites.{IsWritten}
 use Rattle.md_state.specs.Members.{IsMember}
 use Rattle.md_state.specs.View.{ArrayView, Disk, MirrorView}
-use Rattle.md_writes.specs.Writes.{Write}
+use Rattle.md_device_writes.specs.Writes.{Write}
 use Rattle.md_array.specs.Admitting.{Admits}
 use Rattle.md_array.specs.Checkpoints.{Checkpoints}
 use Rattle.md_array.specs.Consistency.{IsConsistent}

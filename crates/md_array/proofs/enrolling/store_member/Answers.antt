@@ -3,9 +3,9 @@ use Rattle.md_device.specs.Splice.{SameOutside}
 use Rattle.md_members.specs.Areas.{bitmap_sectors}
 use Rattle.md_members.specs.Members.{sectors_of}
 use Rattle.md_members.specs.Reading.{BitmapStartsAt}
-use Rattle.md_writes.specs.Bitmaps.{bitmap_writes}
-use Rattle.md_writes.specs.Writes.{DoesWrites, FailsInWrites, MakesWrites}
-use Rattle.md_writes.proofs.Runs.{does_any, stops_any, stops_front, stops_then}
+use Rattle.md_device_writes.specs.Bitmaps.{bitmap_writes}
+use Rattle.md_device_writes.specs.Writes.{DoesWrites, FailsInWrites, MakesWrites}
+use Rattle.md_device_writes.proofs.Runs.{does_any, stops_any, stops_front, stops_then}
 use Rattle.md_kept_members.specs.View.{MemberView}
 use Rattle.md_state.specs.View.{disk_of}
 use Rattle.md_array.specs.Enrolling.{KeepsData, log_writes, member_writes}

@@ -6,10 +6,10 @@ use Rattle.md_super.specs.Format.{IsSuper}
 use Rattle.md_create.specs.Layout.{IsHalfLaidOut, IsLaidOut, empty_log, sectors_of, super_write, wipe, writes_of}
 use Rattle.md_create.proofs.HalfLaid.{half_laid}
 use Rattle.md_create.proofs.Laid.{bitmap_keeps, keeps_then, laid_out, log_keeps, super_keeps}
-use Rattle.md_writes.specs.Bitmaps.{bitmap_writes}
+use Rattle.md_device_writes.specs.Bitmaps.{bitmap_writes}
 use Rattle.md_device.proofs.Leaving.{leaves_less}
-use Rattle.md_writes.specs.Writes.{IsCutShort, MakesWrites}
-use Rattle.md_writes.proofs.Runs.{all_done_of, does_any, stops_any, stops_front, stops_then}
+use Rattle.md_device_writes.specs.Writes.{IsCutShort, MakesWrites}
+use Rattle.md_device_writes.proofs.Runs.{all_done_of, does_any, stops_any, stops_front, stops_then}
 use Rattle.md_create.proofs.laying_out.lay_out.Goals as goal
 
 on_ok : {T E : Type 0} {P : Type 0} (r : Result T E) → P → OnOk r P

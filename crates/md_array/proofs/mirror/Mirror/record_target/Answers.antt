@@ -2,7 +2,7 @@ use Rattle.std.proofs.Common.{◌≡◌, ◌∙◌, ◌*◌, ◌<◌, [], ◌∷
 use Rattle.md_device.specs.Splice.{SameOutside}
 use Rattle.md_super.specs.declared.superblock.Superblock.{Superblock}
 use Rattle.md_super.specs.Merge.{merged}
-use Rattle.md_writes.specs.Writes.{MakesWrites}
+use Rattle.md_device_writes.specs.Writes.{MakesWrites}
 use Rattle.md_state.specs.Members.{IsMember}
 use Rattle.md_state.specs.Missing.{is_rebuilt}
 use Rattle.md_state.specs.Requests.{IsPending}

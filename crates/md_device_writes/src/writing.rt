@@ -1,7 +1,7 @@
 // One write.
 ghost use Rattle.std.specs.Prelude.{◌≡◌, ◌≤◌, ◌*◌, ◌+◌, ◌%◌, [], ◌∷◌, length};
 ghost use Rattle.md_device.specs.Splice.{SameOutside};
-ghost use Rattle.md_writes.specs.Writes.{MakesWrites};
+ghost use Rattle.md_device_writes.specs.Writes.{MakesWrites};
 
 use md_device::{Device, WriteFault};
 

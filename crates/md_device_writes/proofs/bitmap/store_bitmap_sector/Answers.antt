@@ -1,7 +1,7 @@
 use Rattle.std.proofs.Common.{◌≡◌, ◌+◌, ◌∷◌, [], subst}
-use Rattle.md_writes.specs.Writes.{MakesWrites, Write}
-use Rattle.md_writes.proofs.Sectors.{write_is}
-use Rattle.md_writes.proofs.bitmap.store_bitmap_sector.Goals as goal
+use Rattle.md_device_writes.specs.Writes.{MakesWrites, Write}
+use Rattle.md_device_writes.proofs.Sectors.{write_is}
+use Rattle.md_device_writes.proofs.bitmap.store_bitmap_sector.Goals as goal
 
 pub returns-clause-writes : goal.returns-clause-writes
 returns-clause-writes g c =

@@ -4,9 +4,9 @@ use Rattle.md_device.specs.Splice.{SameOutside}
 use Rattle.md_bitmap.specs.Marks.{padded}
 use Rattle.md_bitmap.specs.Sectors.{bitmap_bytes}
 use Rattle.md_bitmap.proofs.Padded.{length-padded}
-use Rattle.md_writes.specs.Writes.{MakesWrites, Write}
-use Rattle.md_writes.proofs.Sectors.{sectors_are, zeros_front}
-use Rattle.md_writes.proofs.bitmap.store_sectors.Goals as goal
+use Rattle.md_device_writes.specs.Writes.{MakesWrites, Write}
+use Rattle.md_device_writes.proofs.Sectors.{sectors_are, zeros_front}
+use Rattle.md_device_writes.proofs.bitmap.store_sectors.Goals as goal
 
 pub put_blocks-requires-clause-room : goal.put_blocks-requires-clause-room
 put_blocks-requires-clause-room g c =

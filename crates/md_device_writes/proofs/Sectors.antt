@@ -7,8 +7,8 @@ use Rattle.md_bitmap.specs.Marks.{Bitmap, padded}
 use Rattle.md_bitmap.specs.Sectors.{bitmap_bytes, bitmap_sector}
 use Rattle.md_bitmap.proofs.Padded.{length-padded}
 use Rattle.md_bitmap.proofs.Numbers.{range_more}
-use Rattle.md_writes.specs.Writes.{Write}
-use Rattle.md_writes.specs.Bitmaps.{bitmap_run, bitmap_runs, bitmap_write, run_sectors, sectors_write}
+use Rattle.md_device_writes.specs.Writes.{Write}
+use Rattle.md_device_writes.specs.Bitmaps.{bitmap_run, bitmap_runs, bitmap_write, run_sectors, sectors_write}
 
 -- the writes of one run more, which is number k
 pub runs_from : (start : ℕ) (h : BitmapHeader) (m : Bitmap) (n runs k : ℕ) → runs ≡ k + 1 → bitmap_runs start h m n runs ≡ (bitmap_run start h m n k ∷ []) ++ bitmap_runs start h m n k

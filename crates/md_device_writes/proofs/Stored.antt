@@ -12,11 +12,11 @@ use Rattle.md_bitmap.specs.Marks.{Bitmap, padded}
 use Rattle.md_bitmap.specs.Sectors.{bitmap_bytes, bitmap_sector}
 use Rattle.md_bitmap.proofs.Blocks.{length-bitmap_sector}
 use Rattle.md_bitmap.proofs.Padded.{length-padded, slice_index-padded}
-use Rattle.md_writes.specs.Bitmaps.{bitmap_run, bitmap_runs, bitmap_write, bitmap_writes, run_sectors, runs_of}
-use Rattle.md_writes.specs.Writes.{IsCutShort, IsNextMixed, Write, after}
-use Rattle.md_writes.proofs.Frames.{outside_around, outside_none, outside_then}
-use Rattle.md_writes.proofs.Runs.{after-append, cut_last}
-use Rattle.md_writes.proofs.Sectors.{length-bitmap_run, runs_from}
+use Rattle.md_device_writes.specs.Bitmaps.{bitmap_run, bitmap_runs, bitmap_write, bitmap_writes, run_sectors, runs_of}
+use Rattle.md_device_writes.specs.Writes.{IsCutShort, IsNextMixed, Write, after}
+use Rattle.md_device_writes.proofs.Frames.{outside_around, outside_none, outside_then}
+use Rattle.md_device_writes.proofs.Runs.{after-append, cut_last}
+use Rattle.md_device_writes.proofs.Sectors.{length-bitmap_run, runs_from}
 
 -- ---- parts of parts
 

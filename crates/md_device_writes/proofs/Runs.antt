@@ -8,7 +8,7 @@ use Rattle.md_device.specs.Device.{written}
 use Rattle.md_device.specs.Stops.{IsMixed, WithinWrite}
 use Rattle.md_device.proofs.Leaving as leaving
 use Rattle.md_device.proofs.Leaving.{leaves_less, leaves_none, mixed_none}
-use Rattle.md_writes.specs.Writes.{Write, IsKept, IsCutShort, IsNextMixed, IsAnyIn, DoesWrites, FailsInWrites, MakesWrites, LeavesOnly, after}
+use Rattle.md_device_writes.specs.Writes.{Write, IsKept, IsCutShort, IsNextMixed, IsAnyIn, DoesWrites, FailsInWrites, MakesWrites, LeavesOnly, after}
 
 pub after-append : (old : List ℕ) (writes more : List Write) → after old (writes ++ more) ≡ after (after old writes) more
 after-append old writes more = fold-append (λ before (w : Write). written before w.sector w.bytes) old writes more

@@ -5,7 +5,7 @@ use Rattle.std.specs.List.{range_with_len}
 use Rattle.md_bitmap.specs.declared.header.BitmapHeader.{BitmapHeader}
 use Rattle.md_bitmap.specs.Marks.{Bitmap, padded}
 use Rattle.md_bitmap.specs.Sectors.{bitmap_bytes, bitmap_sector}
-use Rattle.md_writes.specs.Writes.{Write}
+use Rattle.md_device_writes.specs.Writes.{Write}
 
 -- sector i of a bitmap, after the sector where the bitmap starts
 abbrev pub bitmap_write : ℕ → BitmapHeader → Bitmap → ℕ → Write

@@ -1,8 +1,8 @@
 use Rattle.std.proofs.Common.{◌≤◌, ◌+◌, ◌-◌, ◌*◌}
 use Rattle.md_device.specs.Splice.{SameOutside}
-use Rattle.md_writes.specs.Bitmaps.{bitmap_runs}
-use Rattle.md_writes.proofs.Runs.{AreLeft}
-use Rattle.md_writes.proofs.bitmap.store_runs.Given as goal
+use Rattle.md_device_writes.specs.Bitmaps.{bitmap_runs}
+use Rattle.md_device_writes.proofs.Runs.{AreLeft}
+use Rattle.md_device_writes.proofs.bitmap.store_runs.Given as goal
 
 abbrev pub invariant-loop-left : goal.invariant-loop-left
 invariant-loop-left g l = record {

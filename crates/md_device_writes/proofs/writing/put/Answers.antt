@@ -1,5 +1,5 @@
-use Rattle.md_writes.proofs.Runs.{one_write}
-use Rattle.md_writes.proofs.writing.put.Goals as goal
+use Rattle.md_device_writes.proofs.Runs.{one_write}
+use Rattle.md_device_writes.proofs.writing.put.Goals as goal
 
 pub returns-clause-writes : goal.returns-clause-writes
 returns-clause-writes g c =

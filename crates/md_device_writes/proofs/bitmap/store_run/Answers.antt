@@ -1,8 +1,8 @@
 use Rattle.std.proofs.Common.{ℕ, ◌+◌, ◌*◌, ◌∷◌, [], subst}
 use Rattle.md_device.specs.Splice.{SameOutside}
-use Rattle.md_writes.specs.Bitmaps.{sectors_write}
-use Rattle.md_writes.specs.Writes.{MakesWrites}
-use Rattle.md_writes.proofs.bitmap.store_run.Goals as goal
+use Rattle.md_device_writes.specs.Bitmaps.{sectors_write}
+use Rattle.md_device_writes.specs.Writes.{MakesWrites}
+use Rattle.md_device_writes.proofs.bitmap.store_run.Goals as goal
 
 pub returns-clause-writes : goal.returns-clause-writes
 returns-clause-writes g c =

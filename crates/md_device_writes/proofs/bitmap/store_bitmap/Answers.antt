@@ -1,11 +1,11 @@
 use Rattle.std.proofs.Common.{arith, ◌∙◌, ℕ, ◌*◌, ◌∷◌, [], ap, subst}
 use Rattle.md_device.specs.Splice.{SameOutside}
 use Rattle.md_bitmap.specs.Sectors.{bitmap_sectors}
-use Rattle.md_writes.specs.Writes.{MakesWrites}
-use Rattle.md_writes.specs.Bitmaps.{bitmap_runs, bitmap_write, bitmap_writes, runs_of}
-use Rattle.md_writes.proofs.Frames.{outside_around, outside_then}
-use Rattle.md_writes.proofs.Runs.{does_any, stops_any, stops_front}
-use Rattle.md_writes.proofs.bitmap.store_bitmap.Goals as goal
+use Rattle.md_device_writes.specs.Writes.{MakesWrites}
+use Rattle.md_device_writes.specs.Bitmaps.{bitmap_runs, bitmap_write, bitmap_writes, runs_of}
+use Rattle.md_device_writes.proofs.Frames.{outside_around, outside_then}
+use Rattle.md_device_writes.proofs.Runs.{does_any, stops_any, stops_front}
+use Rattle.md_device_writes.proofs.bitmap.store_bitmap.Goals as goal
 
 pub returns-in_err-store_runs-clause-writes : goal.returns-in_err-store_runs-clause-writes
 returns-in_err-store_runs-clause-writes g c =

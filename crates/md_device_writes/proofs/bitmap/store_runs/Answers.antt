@@ -1,11 +1,11 @@
 use Rattle.std.proofs.Common.{arith, ◌≡◌, ℕ, ◌-◌, ◌*◌, ◌+◌, ◌<◌, ◌∷◌, [], List, subst}
 use Rattle.md_device.specs.Splice.{SameOutside}
-use Rattle.md_writes.specs.Writes.{Write, DoesWrites, MakesWrites}
-use Rattle.md_writes.specs.Bitmaps.{bitmap_run, bitmap_runs, run_sectors}
-use Rattle.md_writes.proofs.Frames.{outside_around, outside_then}
-use Rattle.md_writes.proofs.Sectors.{runs_from}
-use Rattle.md_writes.proofs.Runs.{AreLeft, fewer_left, none_left, stops_in_left, stops_any}
-use Rattle.md_writes.proofs.bitmap.store_runs.Goals as goal
+use Rattle.md_device_writes.specs.Writes.{Write, DoesWrites, MakesWrites}
+use Rattle.md_device_writes.specs.Bitmaps.{bitmap_run, bitmap_runs, run_sectors}
+use Rattle.md_device_writes.proofs.Frames.{outside_around, outside_then}
+use Rattle.md_device_writes.proofs.Sectors.{runs_from}
+use Rattle.md_device_writes.proofs.Runs.{AreLeft, fewer_left, none_left, stops_in_left, stops_any}
+use Rattle.md_device_writes.proofs.bitmap.store_runs.Goals as goal
 
 -- what one run more differs in lies after the first sector
 within : (start n k : ℕ) (old mid new : List ℕ) → 1 + 128 * k < n → SameOutside (512 * (start + 1)) (512 * (n - 1)) old mid
