@@ -14,7 +14,7 @@ mod WindowsRead
 mod SeatedMembers
 -- What was read of a sector is compared with the first that shows it.
 mod WindowCompared
--- The seats behind the first one noted whether their members' bytes are that one's.
-mod OthersNoted
 -- A list that was lent as a slice comes back as the slice was left.
 mod LentSlices
+-- The first member is read a window ahead, and its bytes change places with those of the window before.
+mod LedAhead

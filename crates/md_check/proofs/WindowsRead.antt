@@ -1,5 +1,5 @@
 -- Windows that were read: what the buffers show is what the devices show.
-use Rattle.std.proofs.Common.{◌≡◌, ℕ, ◌+◌, ◌-◌, ◌<◌, ◌≤◌, true, Option, None, List, length, get_or, is_some, refl, ap, sym, ◌∙◌, subst, arith}
+use Rattle.std.proofs.Common.{◌≡◌, ℕ, ◌+◌, ◌*◌, ◌-◌, ◌/◌, ◌<◌, ◌≤◌, Bool, true, false, if◌then◌else◌, Option, None, List, [], length, get_or, is_some, refl, ap, sym, ◌∙◌, subst, arith}
 use Rattle.std.specs.List.{All}
 use Rattle.std.proofs.lemmas.Option.{get_or_from_slice_get, slice_get-get_or, slice_get_within}
 use Rattle.md_device.specs.Device.{held}
@@ -8,16 +8,17 @@ use Rattle.md_bitmap.specs.declared.chunks.Chunks.{Chunks}
 use Rattle.md_badblocks.specs.declared.run.Run.{Run}
 use Rattle.md_badblocks.specs.Runs.{IsBad}
 use Rattle.md_collect.specs.Places.{HasRoom}
+use Rattle.md_collect.specs.Reading.{Fails}
 use Rattle.md_workers.proofs.OnlyReads.{not_read, read_then}
 use Rattle.md_check.specs.declared.seat.Seat.{Seat}
 use Rattle.md_check.specs.declared.lent.Missed.{Missed}
 use Rattle.md_check.specs.Differences.{DifferIn}
-use Rattle.md_check.specs.Readings.{HasRead, IsToRead, MissesIn}
-use Rattle.md_check.specs.Seats.{AreHonest, AreSeatsRead, HaveNotFailed, IsNoted, IsSeated, OnlySeatRead, SeatShows, in_window, on_device}
+use Rattle.md_check.specs.Readings.{HasRead, HasTurned, HasUnlisted, IsLead, IsToRead, MissesIn}
+use Rattle.md_check.specs.Seats.{AreHonest, AreSeatsRead, HaveNotFailed, IsSeated, IsUsed, OnlySeatRead, SeatShows, in_window, on_device, shown}
 use Rattle.md_check.proofs.Differing.{differ_as}
 
 -- a chunk that is to be read in a window is to be read in the array
-read_at_all : {chunks : Chunks} {from sectors c : ℕ} (old first : List Run) → old ≡ first → IsToRead chunks old from sectors c → IsToRead chunks first 0 chunks.size c
+read_at_all : {chunks : Chunks} {from n c : ℕ} (old first : List Run) → old ≡ first → IsToRead chunks old from n c → IsToRead chunks first 0 chunks.size c
 read_at_all old first same to = record {
   sector = to.sector;
   not_before = omega arith;
@@ -43,35 +44,22 @@ module _ {D : Type 0} {g : Ghosts D} where
     unused = λ none. second.unused (ap is_some (role_kept a b first) ∙ none) ∙ first.unused none;
   }
 
-  -- a seat whose worker read a window, and that was noted since
-  pub read_noted : {chunks : Chunks} {from sectors : ℕ} (old mid new : Seat D) → HasRead g chunks from sectors old mid → IsNoted mid new → HasRead g chunks from sectors old new
-  read_noted {chunks = chunks} {from = from} {sectors = sectors} old mid new has noted =
-      let kept : record mid { alike = new.alike } ≡ record old { device = mid.device; bytes = mid.bytes; alike = new.alike; missed = mid.missed } = ap (λ (s : Seat D). record s { alike = new.alike }) has.read.kept in
-      subst (λ (s : Seat D). HasRead g chunks from sectors old s) (sym noted)
-      (record {
-        read = record { kept = kept; only_read = has.read.only_read; unused = has.read.unused };
-        size = has.size;
-        gave = has.gave;
-        missed = λ c at. let m = has.missed c at in record { reads = m.reads; read = m.read; fails = m.fails };
-        unfailing = has.unfailing;
-      })
-
   pub none_read : (seats : List (Seat D)) → AreSeatsRead g seats seats
   none_read seats = record { as_many = refl; each = λ k d below. record { kept = refl; only_read = not_read (get_or seats k d).device; unused = λ _. refl } }
 
   -- seats that were read, and in a turn again
-  pub turn_read : {chunks : Chunks} {from sectors : ℕ} (firsts olds news : List (Seat D)) → AreSeatsRead g firsts olds → length news ≡ length olds
-      → ((k : ℕ) (d : Seat D) → k < length olds → HasRead g chunks from sectors (get_or olds k d) (get_or news k d)) → AreSeatsRead g firsts news
+  pub turn_read : {chunks : Chunks} {from sectors n : ℕ} {lead : List ℕ} (firsts olds news : List (Seat D)) → AreSeatsRead g firsts olds → length news ≡ length olds
+      → ((k : ℕ) (d : Seat D) → k < length olds → HasTurned g chunks from sectors n lead (get_or olds k d) (get_or news k d)) → AreSeatsRead g firsts news
   turn_read firsts olds news so_far same has = record {
     as_many = same ∙ so_far.as_many;
     each = λ k d below. seat_then (get_or firsts k d) (get_or olds k d) (get_or news k d) (so_far.each k d below) (has k d (let many = so_far.as_many in omega arith)).read;
   }
 
   -- where no call has failed, nor in a turn of which these workers note nothing
-  pub turn_unfailing : {chunks : Chunks} {from sectors : ℕ} (n : ℕ) (firsts olds news : List (Seat D)) → n ≤ length olds
-      → ((k : ℕ) (d : Seat D) → k < length olds → HasRead g chunks from sectors (get_or olds k d) (get_or news k d)) → ((k : ℕ) (d : Seat D) → k < n → (get_or news k d).missed ≡ None)
-      → HaveNotFailed g n firsts olds → HaveNotFailed g n firsts news
-  turn_unfailing n firsts olds news few has none so_far k d below = (has k d (omega arith)).unfailing (none k d below) ∙ so_far k d below
+  pub turn_unfailing : {chunks : Chunks} {from sectors n : ℕ} {lead : List ℕ} (m : ℕ) (firsts olds news : List (Seat D)) → m ≤ length olds
+      → ((k : ℕ) (d : Seat D) → k < length olds → HasTurned g chunks from sectors n lead (get_or olds k d) (get_or news k d)) → ((k : ℕ) (d : Seat D) → k < m → (get_or news k d).missed ≡ None)
+      → HaveNotFailed g m firsts olds → HaveNotFailed g m firsts news
+  turn_unfailing m firsts olds news few has none so_far k d below = (has k d (omega arith)).unfailing (none k d below) ∙ so_far k d below
 
   -- what a seat is still to be read for
   pub seated_still : (chunks : Chunks) (firsts olds : List (Seat D)) → AreSeatsRead g firsts olds → All (IsSeated g chunks) firsts → All (IsSeated g chunks) olds
@@ -83,8 +71,8 @@ module _ {D : Type 0} {g : Ghosts D} where
       rw (one.only_read.content_kept, offset_kept first old one) room
 
   -- the seat whose worker missed a chunk in a turn
-  pub misses_in : {chunks : Chunks} {from sectors : ℕ} (firsts olds news : List (Seat D)) (missed : Missed) → AreSeatsRead g firsts olds → HaveNotFailed g (length firsts) firsts olds → length news ≡ length olds
-      → ((k : ℕ) (d : Seat D) → k < length olds → HasRead g chunks from sectors (get_or olds k d) (get_or news k d))
+  pub misses_in : {chunks : Chunks} {from sectors n : ℕ} {lead : List ℕ} (firsts olds news : List (Seat D)) (missed : Missed) → AreSeatsRead g firsts olds → HaveNotFailed g (length firsts) firsts olds → length news ≡ length olds
+      → ((k : ℕ) (d : Seat D) → k < length olds → HasTurned g chunks from sectors n lead (get_or olds k d) (get_or news k d))
       → missed.member < length news → ((d : Seat D) → (get_or news missed.member d).missed ≡ Option.Some missed.chunk)
       → ((k : ℕ) (d : Seat D) → k < missed.member → (get_or news k d).missed ≡ None) → MissesIn g chunks firsts news missed
   misses_in firsts olds news missed so_far unfailing same has within noted first_noted =
@@ -106,12 +94,12 @@ module _ {D : Type 0} {g : Ghosts D} where
       }
 
   -- in a window that all have read, a buffer shows what the device shows
-  module _ {chunks : Chunks} (from sectors : ℕ) (firsts olds news : List (Seat D)) (so_far : AreSeatsRead g firsts olds) (same : length news ≡ length olds)
-      (has : (k : ℕ) (d : Seat D) → k < length olds → HasRead g chunks from sectors (get_or olds k d) (get_or news k d))
+  module _ {chunks : Chunks} {n : ℕ} (lead : List ℕ) (from sectors : ℕ) (firsts olds news : List (Seat D)) (so_far : AreSeatsRead g firsts olds) (same : length news ≡ length olds)
+      (has : (k : ℕ) (d : Seat D) → k < length olds → HasTurned g chunks from sectors n lead (get_or olds k d) (get_or news k d))
       (none : All (λ (s : Seat D). s.missed ≡ None) news) (honest : AreHonest g firsts) (s : ℕ) (up : from ≤ s) (below : s < from + sectors) where
     -- seat k as it was first, and as it is
     same_bytes : (k : ℕ) (d : Seat D) → k < length firsts → is_some (get_or news k d).role ≡ true → (IsBad (get_or news k d).listed s → ⊥)
-        → in_window from (get_or news k d) s ≡ on_device g (get_or firsts k d) s
+        → in_window lead from (get_or news k d) s ≡ on_device g (get_or firsts k d) s
     same_bytes k d within reads unlisted =
         let many = so_far.as_many in
         let here : k < length olds = omega arith in
@@ -136,7 +124,7 @@ module _ {D : Type 0} {g : Ghosts D} where
           listed_kept (get_or olds k d) (get_or news k d) turned.read ∙ listed_kept (get_or firsts k d) (get_or olds k d) one,
         )
 
-    from_device : (k : ℕ) (bytes : List ℕ) → SeatShows (on_device g) firsts k s bytes → SeatShows (in_window from) news k s bytes
+    from_device : (k : ℕ) (bytes : List ℕ) → SeatShows (on_device g) firsts k s bytes → SeatShows (in_window lead from) news k s bytes
     from_device k bytes shows =
         let first = shows.seat in
         let many = so_far.as_many in
@@ -155,7 +143,7 @@ module _ {D : Type 0} {g : Ghosts D} where
           is = same_bytes k first within reads unlisted ∙ ap (λ (x : Seat D). on_device g x s) at ∙ shows.is;
         }
 
-    from_window : (k : ℕ) (bytes : List ℕ) → SeatShows (in_window from) news k s bytes → SeatShows (on_device g) firsts k s bytes
+    from_window : (k : ℕ) (bytes : List ℕ) → SeatShows (in_window lead from) news k s bytes → SeatShows (on_device g) firsts k s bytes
     from_window k bytes shows =
         let new = shows.seat in
         let many = so_far.as_many in
@@ -172,11 +160,107 @@ module _ {D : Type 0} {g : Ghosts D} where
           there = slice_get-get_or firsts k new within;
           reads = ap is_some role ∙ shows.reads;
           unlisted = λ bad. shows.unlisted (subst (λ (runs : List Run). IsBad runs s) listed bad);
-          is = sym (same_bytes k new within reads unlisted) ∙ ap (λ (x : Seat D). in_window from x s) at ∙ shows.is;
+          is = sym (same_bytes k new within reads unlisted) ∙ ap (λ (x : Seat D). in_window lead from x s) at ∙ shows.is;
         }
 
-    pub differ_in_window : DifferIn (SeatShows (on_device g) firsts) s → DifferIn (SeatShows (in_window from) news) s
-    differ_in_window = differ_as (SeatShows (on_device g) firsts) (SeatShows (in_window from) news) s from_device
+    pub differ_in_window : DifferIn (SeatShows (on_device g) firsts) s → DifferIn (SeatShows (in_window lead from) news) s
+    differ_in_window = differ_as (SeatShows (on_device g) firsts) (SeatShows (in_window lead from) news) s from_device
 
-    pub differ_on_devices : DifferIn (SeatShows (in_window from) news) s → DifferIn (SeatShows (on_device g) firsts) s
-    differ_on_devices = differ_as (SeatShows (in_window from) news) (SeatShows (on_device g) firsts) s from_window
+    pub differ_on_devices : DifferIn (SeatShows (in_window lead from) news) s → DifferIn (SeatShows (on_device g) firsts) s
+    differ_on_devices = differ_as (SeatShows (in_window lead from) news) (SeatShows (on_device g) firsts) s from_window
+
+module _ {D : Type 0} where
+  unlike : (lead : List ℕ) (new : Seat D) → new.alike ≡ false → shown lead new ≡ new.bytes.items
+  unlike lead new is = ap (λ (b : Bool). if b then lead else new.bytes.items) is
+
+  as_lead : (lead : List ℕ) (new : Seat D) → new.alike ≡ true → shown lead new ≡ lead
+  as_lead lead new is = ap (λ (b : Bool). if b then lead else new.bytes.items) is
+
+later_to_read : {chunks : Chunks} {listed : List Run} {c : ℕ} (from at n m : ℕ) → from ≤ at → at + n ≤ from + m → IsToRead chunks listed at n c → IsToRead chunks listed from m c
+later_to_read from at n m up within to = record {
+  sector = to.sector;
+  not_before = let low = to.not_before in omega arith;
+  before = let high = to.before in omega arith;
+  inside = to.inside;
+  unlisted = to.unlisted;
+}
+
+-- ---- a seat whose device was read into its buffer
+module _ {D : Type 0} {g : Ghosts D} where
+  pub used_none : (seat : Seat D) → IsUsed g seat seat
+  used_none seat = record { kept = refl; long = refl; only_read = not_read seat.device }
+
+  pub used_then : (a b c : Seat D) → IsUsed g a b → IsUsed g b c → IsUsed g a c
+  used_then a b c first second = record {
+    kept = second.kept ∙ ap (λ (s : Seat D). record s { device = c.device; bytes = c.bytes }) first.kept;
+    long = second.long ∙ first.long;
+    only_read = read_then first.only_read second.only_read;
+  }
+
+  -- what was read then is what the member has
+  pub given_first : (first old : Seat D) → IsUsed g first old → (from n : ℕ) (bytes : List ℕ) → (g.honest old.device ≡ true → HasUnlisted (g.content old.device) old.offset old.listed from n bytes)
+      → g.honest first.device ≡ true → HasUnlisted (g.content first.device) first.offset first.listed from n bytes
+  given_first first old used from n bytes has honest =
+      subst (λ (c : List ℕ). HasUnlisted c first.offset first.listed from n bytes) used.only_read.content_kept
+      (subst (λ (o : ℕ). HasUnlisted (g.content old.device) o first.listed from n bytes) (ap (λ (s : Seat D). s.offset) used.kept)
+      (subst (λ (l : List Run). HasUnlisted (g.content old.device) old.offset l from n bytes) (ap (λ (s : Seat D). s.listed) used.kept) (has (used.only_read.honest_kept ∙ honest))))
+
+  -- a chunk that could not be read then was to be read
+  pub missed_first : {chunks : Chunks} {c : ℕ} (first old : Seat D) → IsUsed g first old → (from at n m : ℕ) → from ≤ at → at + n ≤ from + m → IsToRead chunks old.listed at n c → IsToRead chunks first.listed from m c
+  missed_first first old used from at n m up within to = record {
+    sector = to.sector;
+    not_before = let low = to.not_before in omega arith;
+    before = let high = to.before in omega arith;
+    inside = to.inside;
+    unlisted = subst (λ (runs : List Run). IsBad runs to.sector → ⊥) (ap (λ (s : Seat D). s.listed) used.kept) to.unlisted;
+  }
+
+  pub fails_first : (first old new : Seat D) → IsUsed g first old → g.failures old.device ≡ g.failures first.device → Fails g old.device new.device → Fails g first.device new.device
+  fails_first first old new used same fails honest = let up = fails (used.only_read.honest_kept ∙ honest) in omega arith
+
+  pub still_seated : (chunks : Chunks) (first old : Seat D) → IsUsed g first old → HasRoom (g.content first.device) first.offset chunks → HasRoom (g.content old.device) old.offset chunks
+  still_seated chunks first old used room = rw (used.only_read.content_kept, ap (λ (s : Seat D). s.offset) used.kept) room
+
+  pub only_used : (old new : Seat D) (a b : Bool) (m : Option ℕ) → is_some old.role ≡ true → IsUsed g (record old { alike = a; missed = None }) new → OnlySeatRead g old (record new { alike = b; missed = m })
+  only_used old new a b m reads used = record {
+    kept = ap (λ (s : Seat D). record s { alike = b; missed = m }) used.kept;
+    only_read = used.only_read;
+    unused = λ none. absurd (let e = reads in cc);
+  }
+
+  -- ---- what a turn leaves
+  pub first_turned : (chunks : Chunks) (sectors : ℕ) (old new : Seat D) → 512 * sectors ≤ length old.bytes.items → HasRead g chunks 0 sectors (record old { alike = false }) new → HasTurned g chunks 0 sectors sectors [] old new
+  first_turned chunks sectors old new room has =
+      let own = unlike [] new has.alike_kept in
+      record {
+        read = record { kept = has.read.kept; only_read = has.read.only_read; unused = has.read.unused };
+        long = has.long;
+        gave = λ none reads honest. subst (λ (b : List ℕ). HasUnlisted (g.content old.device) old.offset old.listed 0 sectors b) (sym own) (has.gave none reads honest);
+        size = let l = ap length own in let same = has.long in omega arith;
+        missed = λ c at. let m = has.missed c at in record { reads = m.reads; read = m.read; fails = m.fails };
+        unfailing = has.unfailing;
+      }
+
+  pub led_turned : (chunks : Chunks) (from ahead : ℕ) (lead : List ℕ) (old new : Seat D) → IsLead g from lead old → HasRead g chunks (from + length lead / 512) ahead (record old { alike = true }) new
+      → HasTurned g chunks from (length lead / 512) (length lead / 512 + ahead) lead old new
+  led_turned chunks from ahead lead old new leads has =
+      let own = as_lead lead new has.alike_kept in
+      record {
+        read = record { kept = has.read.kept; only_read = has.read.only_read; unused = has.read.unused };
+        long = has.long;
+        gave = λ none reads honest. subst (λ (b : List ℕ). HasUnlisted (g.content old.device) old.offset old.listed from (length lead / 512) b) (sym own) (leads reads honest);
+        size = let l = ap length own in omega arith;
+        missed = λ c at. let m = has.missed c at in
+            record { reads = m.reads; read = later_to_read from (from + length lead / 512) ahead (length lead / 512 + ahead) (omega arith) (omega arith) m.read; fails = m.fails };
+        unfailing = has.unfailing;
+      }
+
+  pub turned_more : (chunks : Chunks) (from sectors n m : ℕ) (lead : List ℕ) (old new : Seat D) → n ≤ m → HasTurned g chunks from sectors n lead old new → HasTurned g chunks from sectors m lead old new
+  turned_more chunks from sectors n m lead old new up has = record {
+    read = has.read;
+    long = has.long;
+    gave = has.gave;
+    size = has.size;
+    missed = λ c at. let x = has.missed c at in record { reads = x.reads; read = later_to_read from from n m (omega arith) (omega arith) x.read; fails = x.fails };
+    unfailing = has.unfailing;
+  }

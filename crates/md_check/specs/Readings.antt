@@ -1,5 +1,5 @@
 -- What a worker reads of its seat's member.
-use Rattle.std.specs.Prelude.{◌≡◌, ℕ, ◌+◌, ◌*◌, ◌<◌, ◌≤◌, true, is_some, List, length, slice_index_or, Some, None}
+use Rattle.std.specs.Prelude.{◌≡◌, ℕ, ◌+◌, ◌*◌, ◌/◌, ◌<◌, ◌≤◌, true, is_some, List, length, slice_index_or, Some, None}
 use Rattle.md_device.specs.Device.{held}
 use Rattle.md_device.specs.declared.device.Device.{Ghosts}
 use Rattle.md_bitmap.specs.declared.chunks.Chunks.{Chunks}
@@ -9,7 +9,7 @@ use Rattle.md_badblocks.specs.Runs.{IsBad}
 use Rattle.md_collect.specs.Reading.{Fails}
 use Rattle.md_check.specs.declared.seat.Seat.{Seat}
 use Rattle.md_check.specs.declared.lent.Missed.{Missed}
-use Rattle.md_check.specs.Seats.{HasNotFailed, HaveNotFailed, OnlySeatRead}
+use Rattle.md_check.specs.Seats.{HasNotFailed, HaveNotFailed, OnlySeatRead, shown}
 
 -- In each of n sectors of the array from this one on that is not listed, the bytes are those of a member whose data start at this
 -- sector of its device.
@@ -31,14 +31,35 @@ module _ {D : Type 0} (g : Ghosts D) where
     pub read : IsToRead chunks old.listed from n c
     pub fails : Fails g old.device new.device
 
-  -- a seat before and after its worker read a window: this many sectors from this one on
+  -- a seat before and after it was read into its buffer: this many sectors from this one on
   pub record HasRead (chunks : Chunks) (from sectors : ℕ) (old new : Seat D) : Type 0 where
     pub read : OnlySeatRead g old new
-    pub size : length new.bytes.items ≡ 512 * sectors
+    pub long : length new.bytes.items ≡ length old.bytes.items
+    pub alike_kept : new.alike ≡ old.alike
     pub gave : new.missed ≡ None → is_some old.role ≡ true → g.honest old.device ≡ true
         → HasUnlisted (g.content old.device) old.offset old.listed from sectors new.bytes.items
     pub missed : (c : ℕ) → new.missed ≡ Some c → MissesChunk chunks from sectors old new c
     pub unfailing : new.missed ≡ None → HasNotFailed g old new
+
+  -- a seat before and after a turn, in which the window of so many sectors from this one on was read of it, and n sectors were to be read:
+  -- `lead` was read of the first member
+  pub record HasTurned (chunks : Chunks) (from sectors n : ℕ) (lead : List ℕ) (old new : Seat D) : Type 0 where
+    pub read : OnlySeatRead g old new
+    pub long : length new.bytes.items ≡ length old.bytes.items
+    pub gave : new.missed ≡ None → is_some old.role ≡ true → g.honest old.device ≡ true
+        → HasUnlisted (g.content old.device) old.offset old.listed from sectors (shown lead new)
+    pub size : 512 * sectors ≤ length (shown lead new)
+    pub missed : (c : ℕ) → new.missed ≡ Some c → MissesChunk chunks from n old new c
+    pub unfailing : new.missed ≡ None → HasNotFailed g old new
+
+  -- these bytes are what the member has in the window from this sector on
+  abbrev pub IsLead : ℕ → List ℕ → Seat D → Type 0
+  IsLead from lead seat = is_some seat.role ≡ true → g.honest seat.device ≡ true → HasUnlisted (g.content seat.device) seat.offset seat.listed from (length lead / 512) lead
+
+  -- the next window, too, was read of the seat's member
+  abbrev pub HasLed : ℕ → ℕ → Seat D → Seat D → Type 0
+  HasLed next ahead old new = new.missed ≡ None → is_some old.role ≡ true → g.honest old.device ≡ true
+      → HasUnlisted (g.content old.device) old.offset old.listed next ahead new.bytes.items
 
   -- this is so of the seat that is named, and of none before it
   pub record MissesIn (chunks : Chunks) (olds news : List (Seat D)) (missed : Missed) : Type 0 where

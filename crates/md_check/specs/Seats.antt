@@ -1,5 +1,5 @@
 -- Seats: a member's device each, with what is read of it in a window.
-use Rattle.std.specs.Prelude.{◌≡◌, ℕ, ◌+◌, ◌-◌, ◌<◌, true, false, is_some, List, length, slice_get, slice_index_or, Some}
+use Rattle.std.specs.Prelude.{◌≡◌, ℕ, ◌+◌, ◌-◌, ◌<◌, true, false, is_some, List, length, slice_get, slice_index_or, Some, if◌then◌else◌}
 use Rattle.md_device.specs.Device.{held}
 use Rattle.md_device.specs.declared.device.Device.{Ghosts}
 use Rattle.md_bitmap.specs.declared.chunks.Chunks.{Chunks}
@@ -17,18 +17,13 @@ module _ {D : Type 0} where
     pub unlisted : IsBad seat.listed s → ⊥
     pub is : at seat s ≡ bytes
 
+  -- what was read of a member in a window, of which `lead` was read of the first one
+  abbrev pub shown : List ℕ → Seat D → List ℕ
+  shown lead seat = if seat.alike then lead else seat.bytes.items
+
   -- what was read of a sector, in a window from this one on
-  abbrev pub in_window : ℕ → Seat D → ℕ → List ℕ
-  in_window from seat s = held seat.bytes.items (s - from) 512
-
-  -- a seat before and after it noted whether what was read of its member is what was read of another
-  abbrev pub IsNoted : Seat D → Seat D → Type 0
-  IsNoted old new = new ≡ record old { alike = new.alike }
-
-  -- the other's bytes are these
-  pub record HasNoted (bytes : List ℕ) (old new : Seat D) : Type 0 where
-    pub kept : IsNoted old new
-    pub alike : new.alike ≡ true → is_some old.role ≡ true → old.bytes.items ≡ bytes
+  abbrev pub in_window : List ℕ → ℕ → Seat D → ℕ → List ℕ
+  in_window lead from seat s = held (shown lead seat) (s - from) 512
 
 module _ {D : Type 0} (g : Ghosts D) where
   -- what stands on the device
@@ -48,6 +43,12 @@ module _ {D : Type 0} (g : Ghosts D) where
     pub kept : new ≡ record old { device = new.device; bytes = new.bytes; alike = new.alike; missed = new.missed }
     pub only_read : OnlyRead g old.device new.device
     pub unused : is_some old.role ≡ false → new.device ≡ old.device
+
+  -- a seat whose device was read, into its buffer
+  pub record IsUsed (old new : Seat D) : Type 0 where
+    pub kept : new ≡ record old { device = new.device; bytes = new.bytes }
+    pub long : length new.bytes.items ≡ length old.bytes.items
+    pub only_read : OnlyRead g old.device new.device
 
   -- no call on a device has failed
   abbrev pub HasNotFailed : Seat D → Seat D → Type 0

@@ -24,10 +24,12 @@ use std::thread::Threads;
 /// Finds the chunks in which two members in sync differ in a sector that neither lists as bad. Listed sectors are not read,
 /// nor is any device where fewer than two members are in sync.
 ///
-/// Each member in sync is read by a worker of its own, about 1 MiB at a time and each chunk by itself; the
-/// gate is called round each read, `source` being the member's role. All memory is taken before a device
-/// is used. Nothing is written. The first window in which a read fails ends the check: the error names the
-/// first member that could not be read there, and the chunk.
+/// Each member in sync is read by a worker of its own, in windows of 1 MiB and each chunk by itself; the
+/// gate is called round each read, `source` being the member's role. From the second window on the first
+/// member in sync is read a window ahead, and what is read of the others is compared with it at once. A window
+/// in which not all is the same is read of that member again. All memory is taken before a device is used.
+/// Nothing is written. The first turn in which a read fails ends the check: the error names the first
+/// member that could not be read in it, and the chunk.
 pub fn find_mismatches<D: Device + Drop + Send, G: Gate + Sync, R: Threads + Sync>(
     rt: &R,
     alloc: Global,
@@ -103,9 +105,10 @@ fn mark_mismatches<D: Device + Drop + Send, G: Gate + Sync, R: Threads + Sync>(
     let room = 512 * WINDOW.min(chunks.size) as usize;
     let mut orders = orders_for(alloc, mirror, room)?;
     let mut seats = Vec::with_capacity(alloc, orders.len())?;
+    let mut lead = vec![in alloc; 0u8; room]?;
     let mut devices = mirror.lend(alloc);
     seats_of(&mut devices, &mut orders, &mut seats);
-    let answer = check_lent(rt, gate, chunks, &mut seats, marks);
+    let answer = check_lent(rt, gate, chunks, &mut lead, &mut seats, marks);
     leave_seats(&mut seats, &mut devices);
     mirror.give_back(devices);
     match answer {

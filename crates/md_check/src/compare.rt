@@ -5,8 +5,9 @@ ghost use Rattle.std.specs.List.{All};
 ghost use Rattle.md_device.specs.Splice.{part};
 ghost use Rattle.md_badblocks.specs.Runs.{IsBad};
 ghost use Rattle.md_check.specs.Differences.{AddsDifferent, DifferIn};
-ghost use Rattle.md_check.specs.Seats.{SeatShows, in_window};
+ghost use Rattle.md_check.specs.Seats.{SeatShows, in_window, shown};
 
+use crate::alike::are_alike;
 use crate::seat::Seat;
 use md_bitmap::{Chunks, Marks};
 
@@ -17,46 +18,56 @@ impl<D> Seat<D> {
     {
         self.role.is_some() && !self.listed.meets(sector, 1)
     }
+
+    // What was read of the window, of which these bytes were read of the first member.
+    fn shown<'a>(&'a self, lead: &'a [u8]) -> &'a [u8]
+        ensures { result.now ≡ shown lead.now self.now }
+    {
+        if self.alike {
+            lead
+        } else {
+            self.bytes.as_slice()
+        }
+    }
 }
 
-/// Marks each chunk in which two members in sync differ in a sector of the window that neither lists. Where
-/// all that was read is known to be alike, there is none.
+/// Marks each chunk in which two members in sync differ in a sector of the window that neither lists, of which window
+/// `lead` was read of the first member. Where all seats are alike there is none.
 pub(crate) fn mark_window<D>(
     seats: &[Seat<D>],
+    lead: &[u8],
     chunks: Chunks,
     from: u64,
     sectors: u64,
-    alike: bool,
     marks: &mut Marks,
 )
     requires inside { from + sectors ≤ chunks.size }
-    requires size { All (λ seat. length seat.bytes.items ≡ 512 * sectors) seats.now }
-    requires alike { alike ≡ true → (s : ℕ) → DifferIn (SeatShows (in_window from) seats.now) s → ⊥ }
+    requires size { All (λ seat. 512 * sectors ≤ length (shown lead.now seat)) seats.now }
     requires marks { marks.old.chunks ≡ div_ceil chunks.size chunks.sectors }
-    ensures { AddsDifferent (SeatShows (in_window from) seats.now) chunks from (from + sectors) marks.old marks.new }
+    ensures { AddsDifferent (SeatShows (in_window lead.now from) seats.now) chunks from (from + sectors) marks.old marks.new }
 {
-    if alike {
+    if are_alike(seats) {
         return;
     }
     for at in 0..sectors {
-        if differ_in(seats, from, from + at) {
+        if differ_in(seats, lead, from, from + at) {
             marks.mark(chunks.chunk_of(from + at));
         }
     }
 }
 
 // Whether two members in sync differ in a sector of the window that neither lists.
-fn differ_in<D>(seats: &[Seat<D>], from: u64, sector: u64) -> bool
+fn differ_in<D>(seats: &[Seat<D>], lead: &[u8], from: u64, sector: u64) -> bool
     requires from { from ≤ sector }
-    requires inside { All (λ seat. 512 * (sector - from) + 512 ≤ length seat.bytes.items) seats.now }
-    ensures { (result ≡ true) ↔ DifferIn (SeatShows (in_window from) seats.now) sector }
+    requires inside { All (λ seat. 512 * (sector - from) + 512 ≤ length (shown lead.now seat)) seats.now }
+    ensures { (result ≡ true) ↔ DifferIn (SeatShows (in_window lead.now from) seats.now) sector }
 {
     let Some(first) = first_showing(seats, sector) else {
         return false;
     };
     let at = 512 * (sector - from) as usize;
     for k in 0..seats.len() {
-        if seats[k].shows(sector) && !is_same(&seats[first], &seats[k], at) {
+        if seats[k].shows(sector) && !is_same(&seats[first], &seats[k], lead, at) {
             return true;
         }
     }
@@ -78,10 +89,10 @@ fn first_showing<D>(seats: &[Seat<D>], sector: u64) -> Option<usize>
 }
 
 // Whether the same was read of two members in the sector at this place of the window.
-fn is_same<D>(one: &Seat<D>, other: &Seat<D>, at: usize) -> bool
-    requires one { at + 512 ≤ length one.now.bytes.items }
-    requires other { at + 512 ≤ length other.now.bytes.items }
-    ensures { (result ≡ true) ↔ (part one.now.bytes.items at 512 ≡ part other.now.bytes.items at 512) }
+fn is_same<D>(one: &Seat<D>, other: &Seat<D>, lead: &[u8], at: usize) -> bool
+    requires one { at + 512 ≤ length (shown lead.now one.now) }
+    requires other { at + 512 ≤ length (shown lead.now other.now) }
+    ensures { (result ≡ true) ↔ (part (shown lead.now one.now) at 512 ≡ part (shown lead.now other.now) at 512) }
 {
-    one.bytes[at..at + 512] == other.bytes[at..at + 512]
+    one.shown(lead)[at..at + 512] == other.shown(lead)[at..at + 512]
 }

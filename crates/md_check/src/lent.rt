@@ -7,12 +7,15 @@ ghost use Rattle.md_check.specs.Differences.{AreDifferent};
 ghost use Rattle.md_check.specs.Readings.{MissesIn};
 ghost use Rattle.md_check.specs.Seats.{AreHonest, AreSeatsRead, HaveNotFailed, IsSeated, SeatShows, on_device};
 
+use crate::alike::first_read;
 use crate::compare::mark_window;
 use crate::seat::Seat;
-use crate::turn::turn;
+use crate::turn::{first_turn, turn};
+use crate::window::Window;
 use md_bitmap::{Chunks, Marks};
 use md_device::Device;
 use md_workers::Gate;
+use std::mem;
 use std::thread::Threads;
 
 /// How many sectors of each member are read at a time.
@@ -26,16 +29,19 @@ pub(crate) struct Missed {
 }
 
 /// Marks each chunk in which two members in sync differ in a sector that neither lists, window by window:
-/// it is read and compared, and one in which not all is the same is then looked through. It takes no memory.
+/// it is read and compared, and one in which not all is the same is then looked through. From the second window
+/// on the first member is read a window ahead of the others, into `lead`. It takes no memory.
 pub(crate) fn check_lent<D: Device + Send, G: Gate + Sync, R: Threads + Sync>(
     rt: &R,
     gate: &G,
     chunks: Chunks,
+    lead: &mut Vec<u8>,
     seats: &mut Vec<Seat<D>>,
     marks: &mut Marks,
 ) -> Result<(), Missed>
     requires seated { All (λ seat. IsSeated D.Device chunks seat) seats.old.items }
     requires room { All (λ seat. 512 * min 2048 chunks.size ≤ length seat.bytes.items) seats.old.items }
+    requires lead { 512 * min 2048 chunks.size ≤ length lead.old.items }
     requires marks { marks.old.chunks ≡ div_ceil chunks.size chunks.sectors }
     requires none { (c : ℕ) → is_set marks.old.bytes c ≡ false }
     ensures chunks { marks.new.chunks ≡ marks.old.chunks }
@@ -45,17 +51,68 @@ pub(crate) fn check_lent<D: Device + Send, G: Gate + Sync, R: Threads + Sync>(
     ensures missed { IfErr result (λ missed. MissesIn D.Device chunks seats.old.items seats.new.items missed) }
     ensures read { AreSeatsRead D.Device seats.old.items seats.new.items }
 {
-    let mut from = 0;
+    let first = first_read(seats.as_slice()).unwrap_or(0);
+    let mut from = WINDOW.min(chunks.size);
+    check_first(rt, gate, chunks, from, seats, marks)?;
+    let mut sectors = 0;
     while from < chunks.size {
-        let sectors = WINDOW.min(chunks.size - from);
-        let alike = turn(rt, gate, chunks, from, sectors, seats);
+        let ahead = WINDOW.min(chunks.size - from - sectors);
+        let window = Window { first, from, ahead };
+        let bytes = &lead.as_slice()[..512 * sectors as usize];
+        turn(rt, gate, chunks, window, bytes, seats);
         if let Some(missed) = first_missed(seats.as_slice()) {
             return Err(missed);
         }
-        mark_window(seats.as_slice(), chunks, from, sectors, alike, marks);
+        mark_window(seats.as_slice(), bytes, chunks, from, sectors, marks);
+        exchange(seats.as_mut_slice(), first, lead);
         from += sectors;
+        sectors = ahead;
     }
     Ok(())
+}
+
+// The same of the first window of so many sectors alone, which is read of all members at once.
+fn check_first<D: Device + Send, G: Gate + Sync, R: Threads + Sync>(
+    rt: &R,
+    gate: &G,
+    chunks: Chunks,
+    sectors: u64,
+    seats: &mut Vec<Seat<D>>,
+    marks: &mut Marks,
+) -> Result<(), Missed>
+    requires inside { sectors ≤ chunks.size }
+    requires seated { All (λ seat. IsSeated D.Device chunks seat) seats.old.items }
+    requires room { All (λ seat. 512 * sectors ≤ length seat.bytes.items) seats.old.items }
+    requires marks { marks.old.chunks ≡ div_ceil chunks.size chunks.sectors }
+    requires none { (c : ℕ) → is_set marks.old.bytes c ≡ false }
+    ensures chunks { marks.new.chunks ≡ marks.old.chunks }
+    ensures different { OnOk result (AreHonest D.Device seats.old.items
+        → AreDifferent (SeatShows (on_device D.Device) seats.old.items) chunks sectors marks.new) }
+    ensures unfailing { OnOk result (HaveNotFailed D.Device (length seats.old.items) seats.old.items seats.new.items) }
+    ensures missed { IfErr result (λ missed. MissesIn D.Device chunks seats.old.items seats.new.items missed) }
+    ensures read { AreSeatsRead D.Device seats.old.items seats.new.items }
+    ensures long { (k : ℕ) (d : _) → k < length seats.old.items
+        → length (slice_index_or seats.new.items k d).bytes.items ≡ length (slice_index_or seats.old.items k d).bytes.items }
+{
+    first_turn(rt, gate, chunks, sectors, seats);
+    if let Some(missed) = first_missed(seats.as_slice()) {
+        return Err(missed);
+    }
+    mark_window(seats.as_slice(), &[], chunks, 0, sectors, marks);
+    Ok(())
+}
+
+// What was read ahead of the first member is what the next window is compared with.
+fn exchange<D>(seats: &mut [Seat<D>], first: usize, lead: &mut Vec<u8>)
+    ensures len { length seats.new ≡ length seats.old }
+    ensures first { (k : ℕ) (d : _) → k < length seats.old → k ≡ first
+        → (slice_index_or seats.new k d ≡ record (slice_index_or seats.old k d) { bytes = lead.old }) × (lead.new ≡ (slice_index_or seats.old k d).bytes) }
+    ensures others { (k : ℕ) (d : _) → k < length seats.old → (k ≡ first → ⊥) → slice_index_or seats.new k d ≡ slice_index_or seats.old k d }
+    ensures none { length seats.old ≤ first → lead.new ≡ lead.old }
+{
+    if first < seats.len() {
+        mem::swap(&mut seats[first].bytes, lead);
+    }
 }
 
 // The first seat whose worker noted a chunk.

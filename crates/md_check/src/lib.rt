@@ -13,6 +13,7 @@ mod reading;
 mod seat;
 mod seats;
 mod turn;
+mod window;
 
 pub use check::{check_array, find_mismatches};
 pub use fault::CheckFault;

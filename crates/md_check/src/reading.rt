@@ -1,88 +1,258 @@
 // A member's worker reads a window: the sectors that the member does not list, chunk by chunk.
-ghost use Rattle.std.specs.Prelude.{◌≡◌, ◌+◌, ◌*◌, ◌/◌, ◌%◌, ◌<◌, ◌≤◌, ℕ, IfErr, IfOk, OnErr, OnOk, length, true};
+ghost use Rattle.std.specs.Prelude.{◌≡◌, ◌+◌, ◌*◌, ◌/◌, ◌%◌, ◌<◌, ◌≤◌, [], ℕ, IfErr, IfOk, OnErr, OnOk, if◌then◌else◌, length, take, true};
 ghost use Rattle.md_device.specs.Device.{held};
 ghost use Rattle.md_badblocks.specs.Runs.{IsBad};
 ghost use Rattle.md_collect.specs.Places.{HasRoom};
 ghost use Rattle.md_collect.specs.Reading.{Fails};
 ghost use Rattle.md_workers.specs.Lanes.{OnlyRead};
-ghost use Rattle.md_check.specs.Readings.{HasRead, HasUnlisted, IsToRead};
-ghost use Rattle.md_check.specs.Seats.{IsSeated};
+ghost use Rattle.md_check.specs.Readings.{HasLed, HasRead, HasTurned, HasUnlisted, IsLead, IsToRead};
+ghost use Rattle.md_check.specs.Seats.{IsSeated, IsUsed};
 
 use crate::seat::Seat;
+use crate::window::{Part, Window};
 use md_badblocks::BadSet;
 use md_bitmap::Chunks;
 use md_device::{Device, ReadFault};
 use md_workers::Gate;
 
-/// Reads the window of so many sectors from this one on, if the seat's member is in sync. At the first read
-/// that fails it ends, and notes the chunk.
+// How many sectors are compared at once, 64 KiB: what was just read is then still in the processor's cache.
+const BLOCK: usize = 128 * 512;
+
+/// A seat's part of a turn: of the first member the next window is read, and of any other the window, which is compared
+/// with what was read of the first one. At the first read that fails it ends, and notes the chunk.
 pub(crate) fn work<D: Device, G: Gate>(
     gate: &G,
     chunks: Chunks,
-    from: u64,
-    sectors: u64,
+    window: Window,
+    lead: &[u8],
+    k: usize,
     seat: &mut Seat<D>,
 )
+    requires whole { length lead.now % 512 ≡ 0 }
+    requires inside { window.from + length lead.now / 512 + window.ahead ≤ chunks.size }
+    requires room { length lead.now ≤ length seat.old.bytes.items }
+    requires ahead { 512 * window.ahead ≤ length seat.old.bytes.items }
+    requires seated { IsSeated D.Device chunks seat.old }
+    requires lead { k ≡ window.first → IsLead D.Device window.from lead.now seat.old }
+    ensures turned { HasTurned D.Device chunks window.from (length lead.now / 512) (length lead.now / 512 + window.ahead) lead.now seat.old seat.new }
+    ensures led { k ≡ window.first → HasLed D.Device (window.from + length lead.now / 512) window.ahead seat.old seat.new }
+{
+    if k == window.first {
+        seat.alike = true;
+        let next = window.from + lead.len() as u64 / 512;
+        fill(gate, chunks, next, window.ahead, seat);
+    } else {
+        follow(gate, chunks, window.from, lead, seat);
+    }
+}
+
+/// Reads the first window of so many sectors into the seat's own buffer.
+pub(crate) fn begin<D: Device, G: Gate>(gate: &G, chunks: Chunks, sectors: u64, seat: &mut Seat<D>)
+    requires inside { sectors ≤ chunks.size }
+    requires room { 512 * sectors ≤ length seat.old.bytes.items }
+    requires seated { IsSeated D.Device chunks seat.old }
+    ensures { HasTurned D.Device chunks 0 sectors sectors [] seat.old seat.new }
+{
+    seat.alike = false;
+    fill(gate, chunks, 0, sectors, seat);
+}
+
+// Reads so many sectors from this one on into the seat's buffer, if its member is in sync.
+fn fill<D: Device, G: Gate>(gate: &G, chunks: Chunks, from: u64, sectors: u64, seat: &mut Seat<D>)
     requires inside { from + sectors ≤ chunks.size }
     requires room { 512 * sectors ≤ length seat.old.bytes.items }
     requires seated { IsSeated D.Device chunks seat.old }
     ensures { HasRead D.Device chunks from sectors seat.old seat.new }
 {
     seat.missed = None;
-    seat.bytes.truncate(512 * sectors as usize);
     let Some(role) = seat.role else {
         return;
     };
-    let answer = read_window(
+    if let Err(chunk) = read_into(gate, chunks, Part { from, sectors }, role, seat) {
+        seat.missed = Some(chunk);
+    }
+}
+
+// Reads the window, of which these bytes were read of the first member, if the seat's member is in sync.
+fn follow<D: Device, G: Gate>(gate: &G, chunks: Chunks, from: u64, lead: &[u8], seat: &mut Seat<D>)
+    requires whole { length lead.now % 512 ≡ 0 }
+    requires inside { from + length lead.now / 512 ≤ chunks.size }
+    requires room { length lead.now ≤ length seat.old.bytes.items }
+    requires seated { IsSeated D.Device chunks seat.old }
+    ensures { HasTurned D.Device chunks from (length lead.now / 512) (length lead.now / 512) lead.now seat.old seat.new }
+{
+    let was_alike = seat.alike;
+    seat.missed = None;
+    seat.alike = true;
+    let Some(role) = seat.role else {
+        return;
+    };
+    let answer = if was_alike && !seat.listed.meets(from, lead.len() as u64 / 512) {
+        read_beside(gate, chunks, from, lead, role, seat)
+    } else {
+        is_block_alike(gate, chunks, from, lead, role, seat)
+    };
+    match answer {
+        Ok(alike) => seat.alike = alike,
+        Err(chunk) => seat.missed = Some(chunk),
+    }
+}
+
+// Reads a window block by block, and answers whether these bytes were read. At the first block that is not the same the
+// window is read again, as a whole. So it is for windows that are likely to be alike: it is done where the one before
+// was, and where the member lists no sector, since of a listed one old bytes would be compared.
+fn read_beside<D: Device, G: Gate>(
+    gate: &G,
+    chunks: Chunks,
+    from: u64,
+    lead: &[u8],
+    role: u8,
+    seat: &mut Seat<D>,
+) -> Result<bool, u32>
+    requires whole { length lead.now % 512 ≡ 0 }
+    requires inside { from + length lead.now / 512 ≤ chunks.size }
+    requires room { length lead.now ≤ length seat.old.bytes.items }
+    requires seated { HasRoom (D.content seat.old.device) seat.old.offset chunks }
+    ensures used { IsUsed D.Device seat.old seat.new }
+    ensures gave { IfOk result (λ alike. D.honest seat.old.device ≡ true
+        → HasUnlisted (D.content seat.old.device) seat.old.offset seat.old.listed from (length lead.now / 512)
+        (if alike then lead.now else seat.new.bytes.items)) }
+    ensures unfailing { OnOk result (D.failures seat.new.device ≡ D.failures seat.old.device) }
+    ensures missed { IfErr result (λ c. IsToRead chunks seat.old.listed from (length lead.now / 512) c) }
+    ensures failed { OnErr result (Fails D.Device seat.old.device seat.new.device) }
+{
+    if is_read_alike(gate, chunks, from, lead, role, seat)? {
+        return Ok(true);
+    }
+    is_block_alike(gate, chunks, from, lead, role, seat)
+}
+
+// Reads a window block by block, and answers whether these bytes were read. It ends at the first block that is not the
+// same.
+fn is_read_alike<D: Device, G: Gate>(
+    gate: &G,
+    chunks: Chunks,
+    from: u64,
+    lead: &[u8],
+    role: u8,
+    seat: &mut Seat<D>,
+) -> Result<bool, u32>
+    requires whole { length lead.now % 512 ≡ 0 }
+    requires inside { from + length lead.now / 512 ≤ chunks.size }
+    requires room { length lead.now ≤ length seat.old.bytes.items }
+    requires seated { HasRoom (D.content seat.old.device) seat.old.offset chunks }
+    ensures used { IsUsed D.Device seat.old seat.new }
+    ensures gave { IfOk result (λ alike. alike ≡ true → D.honest seat.old.device ≡ true
+        → HasUnlisted (D.content seat.old.device) seat.old.offset seat.old.listed from (length lead.now / 512) lead.now) }
+    ensures unfailing { OnOk result (D.failures seat.new.device ≡ D.failures seat.old.device) }
+    ensures missed { IfErr result (λ c. IsToRead chunks seat.old.listed from (length lead.now / 512) c) }
+    ensures failed { OnErr result (Fails D.Device seat.old.device seat.new.device) }
+{
+    let mut done = 0;
+    while done < lead.len() {
+        let len = BLOCK.min(lead.len() - done);
+        let sector = from + done as u64 / 512;
+        let block = &lead[done..done + len];
+        let alike = is_block_alike(gate, chunks, sector, block, role, seat)?;
+        if !alike {
+            return Ok(false);
+        }
+        done += len;
+    }
+    Ok(true)
+}
+
+// Reads sectors at once, and answers whether these bytes were read. Where they were not, the buffer has what was read.
+fn is_block_alike<D: Device, G: Gate>(
+    gate: &G,
+    chunks: Chunks,
+    from: u64,
+    block: &[u8],
+    role: u8,
+    seat: &mut Seat<D>,
+) -> Result<bool, u32>
+    requires whole { length block.now % 512 ≡ 0 }
+    requires inside { from + length block.now / 512 ≤ chunks.size }
+    requires room { length block.now ≤ length seat.old.bytes.items }
+    requires seated { HasRoom (D.content seat.old.device) seat.old.offset chunks }
+    ensures used { IsUsed D.Device seat.old seat.new }
+    ensures gave { IfOk result (λ alike. D.honest seat.old.device ≡ true
+        → HasUnlisted (D.content seat.old.device) seat.old.offset seat.old.listed from (length block.now / 512)
+        (if alike then block.now else seat.new.bytes.items)) }
+    ensures unfailing { OnOk result (D.failures seat.new.device ≡ D.failures seat.old.device) }
+    ensures missed { IfErr result (λ c. IsToRead chunks seat.old.listed from (length block.now / 512) c) }
+    ensures failed { OnErr result (Fails D.Device seat.old.device seat.new.device) }
+{
+    let sectors = block.len() as u64 / 512;
+    read_into(gate, chunks, Part { from, sectors }, role, seat)?;
+    Ok(begins_so(seat.bytes.as_slice(), block))
+}
+
+// Whether the first bytes are these.
+fn begins_so(bytes: &[u8], block: &[u8]) -> bool
+    requires { length block.now ≤ length bytes.now }
+    ensures { result ≡ true → take (length block.now) bytes.now ≡ block.now }
+{
+    &bytes[..block.len()] == block
+}
+
+// Reads sectors into the front of the seat's buffer.
+fn read_into<D: Device, G: Gate>(
+    gate: &G,
+    chunks: Chunks,
+    part: Part,
+    role: u8,
+    seat: &mut Seat<D>,
+) -> Result<(), u32>
+    requires inside { part.from + part.sectors ≤ chunks.size }
+    requires fits { 512 * part.sectors ≤ length seat.old.bytes.items }
+    requires seated { HasRoom (D.content seat.old.device) seat.old.offset chunks }
+    ensures used { IsUsed D.Device seat.old seat.new }
+    ensures gave { OnOk result (D.honest seat.old.device ≡ true
+        → HasUnlisted (D.content seat.old.device) seat.old.offset seat.old.listed part.from part.sectors seat.new.bytes.items) }
+    ensures unfailing { OnOk result (D.failures seat.new.device ≡ D.failures seat.old.device) }
+    ensures missed { IfErr result (λ c. IsToRead chunks seat.old.listed part.from part.sectors c) }
+    ensures failed { OnErr result (Fails D.Device seat.old.device seat.new.device) }
+{
+    read_part(
         gate,
         &mut seat.device,
         role,
         seat.offset,
         &seat.listed,
         chunks,
-        from,
+        part,
         seat.bytes.as_mut_slice(),
-    );
-    if let Err(chunk) = answer {
-        seat.missed = Some(chunk);
-    }
+    )
 }
 
-// Reads the sectors of a window that are not listed. The error is the chunk of a read that failed.
-fn read_window<D: Device, G: Gate>(
+// Reads those of the sectors that are not listed into the front of a buffer. The error is the chunk of a read that failed.
+fn read_part<D: Device, G: Gate>(
     gate: &G,
     device: &mut D,
     role: u8,
     offset: u64,
     listed: &BadSet,
     chunks: Chunks,
-    from: u64,
+    part: Part,
     buf: &mut [u8],
 ) -> Result<(), u32>
-    requires whole { length buf.old % 512 ≡ 0 }
-    requires inside { from + length buf.old / 512 ≤ chunks.size }
+    requires inside { part.from + part.sectors ≤ chunks.size }
+    requires fits { 512 * part.sectors ≤ length buf.old }
     requires room { HasRoom (D.content device.old) offset chunks }
     ensures only_read { OnlyRead D.Device device.old device.new }
     ensures gave { OnOk result (D.honest device.old ≡ true
-        → HasUnlisted (D.content device.old) offset listed.now from (length buf.old / 512) buf.new) }
+        → HasUnlisted (D.content device.old) offset listed.now part.from part.sectors buf.new) }
     ensures unfailing { OnOk result (D.failures device.new ≡ D.failures device.old) }
-    ensures missed { IfErr result (λ c. IsToRead chunks listed.now from (length buf.old / 512) c) }
+    ensures missed { IfErr result (λ c. IsToRead chunks listed.now part.from part.sectors c) }
     ensures failed { OnErr result (Fails D.Device device.old device.new) }
 {
     let mut done = 0;
-    while done < buf.len() {
-        let sector = from + done as u64 / 512;
-        let passed = read_front(
-            gate,
-            device,
-            role,
-            offset,
-            listed,
-            chunks,
-            sector,
-            &mut buf[done..],
-        )?;
-        done += 512 * passed as usize;
+    while done < part.sectors {
+        let sector = part.from + done;
+        let left = &mut buf[512 * done as usize..512 * part.sectors as usize];
+        let passed = read_front(gate, device, role, offset, listed, chunks, sector, left)?;
+        done += passed;
     }
     Ok(())
 }

@@ -12,9 +12,10 @@ pub(crate) struct Seat<D> {
     pub(crate) offset: u64,
     /// The sectors of the array that the member lists.
     pub(crate) listed: BadSet,
-    /// What was read of the window. In a sector that the member lists any bytes may stand.
+    /// What was read of the window, where it is not alike; of the first member what was read of the next window. In a
+    /// sector that the member lists any bytes may stand.
     pub(crate) bytes: Vec<u8>,
-    /// Whether that was found to be what was read of the first member, in the last window that was compared.
+    /// Whether what was read of the window is what was read of the first member.
     pub(crate) alike: bool,
     /// The chunk that could not be read.
     pub(crate) missed: Option<u32>,

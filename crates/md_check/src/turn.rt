@@ -1,62 +1,73 @@
-// A turn: each member's worker reads the window, and what was read is compared.
-ghost use Rattle.std.specs.Prelude.{◌≡◌, ◌+◌, ◌*◌, ◌<◌, ◌≤◌, ℕ, length, slice_index_or, true};
+// A turn: each member is read by a worker of its own.
+ghost use Rattle.std.specs.Prelude.{◌≡◌, ◌+◌, ◌*◌, ◌/◌, ◌%◌, ◌<◌, ◌≤◌, [], ℕ, length, slice_index_or};
 ghost use Rattle.std.specs.List.{All};
-ghost use Rattle.md_check.specs.Differences.{DifferIn};
-ghost use Rattle.md_check.specs.Readings.{HasRead};
-ghost use Rattle.md_check.specs.Seats.{IsSeated, SeatShows, in_window};
+ghost use Rattle.md_check.specs.Readings.{HasLed, HasTurned, IsLead};
+ghost use Rattle.md_check.specs.Seats.{IsSeated};
 
-use crate::alike::are_alike;
-use crate::reading::work;
+use crate::reading::{begin, work};
 use crate::seat::Seat;
+use crate::window::Window;
 use md_bitmap::Chunks;
 use md_device::Device;
 use md_workers::Gate;
 use std::thread;
 use std::thread::Threads;
 
-/// Each seat's member is read, and the answer is whether it is seen at once that no two differ in the window.
+/// The window is read of each member but the first one, and compared with `lead`, which was read of that one; and the next
+/// window is read of the first member. Each has a worker of its own: the list of seats is halved until each thread has
+/// one. Where the system starts no thread they go one after another.
 pub(crate) fn turn<D: Device + Send, G: Gate + Sync, R: Threads + Sync>(
     rt: &R,
     gate: &G,
     chunks: Chunks,
-    from: u64,
-    sectors: u64,
-    seats: &mut Vec<Seat<D>>,
-) -> bool
-    requires inside { from + sectors ≤ chunks.size }
-    requires room { All (λ seat. 512 * sectors ≤ length seat.bytes.items) seats.old.items }
-    requires seated { All (λ seat. IsSeated D.Device chunks seat) seats.old.items }
-    ensures len { length seats.new.items ≡ length seats.old.items }
-    ensures read { (k : ℕ) (d : _) → k < length seats.old.items
-        → HasRead D.Device chunks from sectors (slice_index_or seats.old.items k d) (slice_index_or seats.new.items k d) }
-    ensures alike { result ≡ true → (s : ℕ) → DifferIn (SeatShows (in_window from) seats.new.items) s → ⊥ }
-{
-    read_each(rt, gate, chunks, from, sectors, seats);
-    are_alike(rt, seats.as_mut_slice())
-}
-
-// Each seat's member is read in a worker of its own: the list of seats is halved until each thread has one.
-// Where the system starts no thread they go one after another.
-fn read_each<D: Device + Send, G: Gate + Sync, R: Threads + Sync>(
-    rt: &R,
-    gate: &G,
-    chunks: Chunks,
-    from: u64,
-    sectors: u64,
+    window: Window,
+    lead: &[u8],
     seats: &mut Vec<Seat<D>>,
 )
-    requires inside { from + sectors ≤ chunks.size }
-    requires room { All (λ seat. 512 * sectors ≤ length seat.bytes.items) seats.old.items }
+    requires whole { length lead.now % 512 ≡ 0 }
+    requires inside { window.from + length lead.now / 512 + window.ahead ≤ chunks.size }
+    requires room { All (λ seat. length lead.now ≤ length seat.bytes.items) seats.old.items }
+    requires ahead { All (λ seat. 512 * window.ahead ≤ length seat.bytes.items) seats.old.items }
     requires seated { All (λ seat. IsSeated D.Device chunks seat) seats.old.items }
+    requires lead { (k : ℕ) (d : _) → k < length seats.old.items → k ≡ window.first
+        → IsLead D.Device window.from lead.now (slice_index_or seats.old.items k d) }
     ensures len { length seats.new.items ≡ length seats.old.items }
-    ensures read { (k : ℕ) (d : _) → k < length seats.old.items
-        → HasRead D.Device chunks from sectors (slice_index_or seats.old.items k d) (slice_index_or seats.new.items k d) }
+    ensures turned { (k : ℕ) (d : _) → k < length seats.old.items
+        → HasTurned D.Device chunks window.from (length lead.now / 512) (length lead.now / 512 + window.ahead) lead.now
+        (slice_index_or seats.old.items k d) (slice_index_or seats.new.items k d) }
+    ensures led { (k : ℕ) (d : _) → k < length seats.old.items → k ≡ window.first
+        → HasLed D.Device (window.from + length lead.now / 512) window.ahead
+        (slice_index_or seats.old.items k d) (slice_index_or seats.new.items k d) }
 {
     let threads = seats.len().max(1);
     thread::for_each_mut(
         rt,
         seats.as_mut_slice(),
         threads,
-        &|_, seat| work(gate, chunks, from, sectors, seat),
+        &|k, seat| work(gate, chunks, window, lead, k, seat),
+    );
+}
+
+/// The first window of so many sectors is read of all members at once.
+pub(crate) fn first_turn<D: Device + Send, G: Gate + Sync, R: Threads + Sync>(
+    rt: &R,
+    gate: &G,
+    chunks: Chunks,
+    sectors: u64,
+    seats: &mut Vec<Seat<D>>,
+)
+    requires inside { sectors ≤ chunks.size }
+    requires room { All (λ seat. 512 * sectors ≤ length seat.bytes.items) seats.old.items }
+    requires seated { All (λ seat. IsSeated D.Device chunks seat) seats.old.items }
+    ensures len { length seats.new.items ≡ length seats.old.items }
+    ensures turned { (k : ℕ) (d : _) → k < length seats.old.items
+        → HasTurned D.Device chunks 0 sectors sectors [] (slice_index_or seats.old.items k d) (slice_index_or seats.new.items k d) }
+{
+    let threads = seats.len().max(1);
+    thread::for_each_mut(
+        rt,
+        seats.as_mut_slice(),
+        threads,
+        &|_, seat| begin(gate, chunks, sectors, seat),
     );
 }

@@ -20,8 +20,8 @@ returns-then-not-is_same g c =
     let y_at = slice_get_read xs (length xs) c.loop-k.k y refl c.loop-k-test.true c.index-seats-k-then-shows.is in
     let first : f ≡ one.0 = got_same xs c.in-Some.first f one.0 f_at one.1 in
     let second : y ≡ x = got_same xs c.loop-k.k y x y_at at in
-    let apart : in_window c.args.from f s ≡ in_window c.args.from y s → ⊥ = λ same. (let yes = c.is_same.ensures.1 same in let no = c.if-not-is_same.true in absurd cc) in (
-      λ _. differ_at xs c.args.from s c.in-Some.first c.loop-k.k f y f_at y_at
+    let apart : in_window c.args.lead.now c.args.from f s ≡ in_window c.args.lead.now c.args.from y s → ⊥ = λ same. (let yes = c.is_same.ensures.1 same in let no = c.if-not-is_same.true in absurd cc) in (
+      λ _. differ_at xs c.args.lead.now c.args.from s c.in-Some.first c.loop-k.k f y f_at y_at
           (subst (λ (z : Seat _). IsShowing z s) (sym first) (one.2, one.3))
           (subst (λ (z : Seat _). IsShowing z s) (sym second) (c.shows.ensures.0 c.if-shows.true)) apart,
       λ _. refl,
@@ -35,7 +35,7 @@ loop-k-preserved g c =
     let k = c.loop-k.k in
     let first = c.in-Some.first in
     let at = slice_get_read xs (length xs) k x refl c.loop-k-test.true c.index-seats-k.is in
-    agree_next xs c.args.from s first k x at
+    agree_next xs c.args.lead.now c.args.from s first k x at
     (λ one there showing. elim c.else-shows.branch [
       | else-shows-via-then-shows+else-not-is_same w ↦
           let f = w.index-seats-first.result in
@@ -43,9 +43,9 @@ loop-k-preserved g c =
           let f_at = slice_get_read xs (length xs) first f refl (slice_get_within xs first one there) w.index-seats-first.is in
           let y_at = slice_get_read xs (length xs) k y refl c.loop-k-test.true w.index-seats-k-then-shows.is in
           let same : w.is_same.result ≡ true = (let no = w.if-not-is_same.false in cc) in
-          ap (λ (z : Seat _). in_window c.args.from z s) (got_same xs first one f there f_at)
+          ap (λ (z : Seat _). in_window c.args.lead.now c.args.from z s) (got_same xs first one f there f_at)
           ∙ w.is_same.ensures.0 same
-          ∙ ap (λ (z : Seat _). in_window c.args.from z s) (got_same xs k y x y_at at)
+          ∙ ap (λ (z : Seat _). in_window c.args.lead.now c.args.from z s) (got_same xs k y x y_at at)
       | else-shows-via-else-shows w ↦ let yes = c.shows.ensures.1 showing in let no = w.if-shows.false in absurd cc
     ])
     c.loop-k.invariant
@@ -55,5 +55,5 @@ returns g c =
     let xs = c.args.seats.now in
     let one = c.in-Some.ensures in (
       λ e. absurd cc,
-      λ d. absurd (none_differ xs c.args.from c.args.sector c.in-Some.first one.0 c.loop-k.k c.loop-k-test.false one.1 c.loop-k.invariant d),
+      λ d. absurd (none_differ xs c.args.lead.now c.args.from c.args.sector c.in-Some.first one.0 c.loop-k.k c.loop-k-test.false one.1 c.loop-k.invariant d),
     )

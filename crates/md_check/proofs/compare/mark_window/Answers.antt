@@ -3,17 +3,18 @@ use Rattle.md_bitmap.specs.Marks.{Bitmap}
 use Rattle.md_check.specs.Differences.{AddsDifferent}
 use Rattle.md_check.specs.Seats.{SeatShows, in_window}
 use Rattle.md_check.proofs.Differing.{adds_none, adds_not, adds_one}
+use Rattle.md_check.proofs.WindowCompared.{none_differ_alike}
 use Rattle.md_check.proofs.compare.mark_window.Goals as goal
 use Rattle.md_check.proofs.compare.mark_window.Goals.{then-differ_in, else-differ_in}
 
-pub returns-then-alike : goal.returns-then-alike
-returns-then-alike g c =
-    adds_none (SeatShows (in_window c.args.from) c.args.seats.now) c.args.chunks c.args.from (c.args.from + c.args.sectors) c.args.marks.now
-    (λ s up below. c.requires.alike c.if-alike.true s)
+pub returns-then-are_alike : goal.returns-then-are_alike
+returns-then-are_alike g c =
+    adds_none (SeatShows (in_window c.args.lead.now c.args.from) c.args.seats.now) c.args.chunks c.args.from (c.args.from + c.args.sectors) c.args.marks.now
+    (λ s up below. none_differ_alike c.args.seats.now c.args.lead.now c.args.from s (c.are_alike.ensures c.if-are_alike.true))
 
 pub loop-at-preserved : goal.loop-at-preserved
 loop-at-preserved g c =
-    let P = SeatShows (in_window c.args.from) c.args.seats.now in
+    let P = SeatShows (in_window c.args.lead.now c.args.from) c.args.seats.now in
     let from = c.args.from in
     let at = c.loop-at.at in
     let old = c.args.marks.now in

@@ -4,4 +4,4 @@ use Rattle.md_check.specs.Seats.{SeatShows, in_window}
 use Rattle.md_check.proofs.compare.mark_window.Given as goal
 
 abbrev pub invariant-loop-at : goal.invariant-loop-at
-invariant-loop-at g l = AddsDifferent (SeatShows (in_window l.from) l.seats) l.chunks l.from (l.from + l.at) l.initial.marks l.marks
+invariant-loop-at g l = AddsDifferent (SeatShows (in_window l.lead l.from) l.seats) l.chunks l.from (l.from + l.at) l.initial.marks l.marks

@@ -1,57 +1,71 @@
-use Rattle.std.proofs.Common.{◌≡◌, ◌∙◌, ◌+◌, ◌<◌, ℕ, List, length, get_or, None, Some, refl, subst, arith}
+use Rattle.std.proofs.Common.{◌≡◌, ◌∙◌, ◌+◌, ◌*◌, ◌/◌, ◌<◌, ◌≤◌, ◌++◌, ℕ, List, length, take, drop, get_or, min, None, Some, refl, ap, sym, subst, arith, vec_len}
+use Rattle.std.proofs.lemmas.List.{length-take-le}
 use Rattle.std.specs.List.{All}
 use Rattle.md_check.specs.declared.seat.Seat.{Seat}
 use Rattle.md_check.specs.Differences.{AddsDifferent, AreDifferent}
-use Rattle.md_check.specs.Seats.{SeatShows, in_window, on_device}
-use Rattle.md_check.proofs.Differing.{different_after, different_none}
-use Rattle.md_check.proofs.WindowsRead.{differ_in_window, differ_on_devices, misses_in, none_read, seated_still, turn_read, turn_unfailing}
+use Rattle.md_check.specs.Readings.{HasLed, IsLead}
+use Rattle.md_check.specs.Seats.{AreSeatsRead, HaveNotFailed, SeatShows, in_window, on_device}
+use Rattle.md_check.proofs.Differing.{different_after}
+use Rattle.md_check.proofs.LedAhead.{lead_room_after, next_lead, read_exchanged, rooms_exchanged, same_but_bytes, unfailing_exchanged}
+use Rattle.md_check.proofs.LentSlices.{comes_back}
+use Rattle.md_check.proofs.WindowsRead.{differ_in_window, differ_on_devices, misses_in, seated_still, turn_read, turn_unfailing}
 use Rattle.md_check.proofs.lent.check_lent.Goals as goal
 
 pub loop-from-init : goal.loop-from-init
-loop-from-init g c = record {
-  few = omega arith;
-  read = none_read c.args.seats.now.items;
-  unfailing = λ k d below. refl;
-  room = λ k d below. let r = c.requires.room k d below in omega arith;
-  count = refl;
-  different = λ honest. different_none (SeatShows (on_device g.D.Device) c.args.seats.now.items) c.args.chunks c.args.marks.now c.requires.none;
-}
-
-pub turn-alike-requires-clause-room : goal.turn-alike-requires-clause-room
-turn-alike-requires-clause-room g c κs within =
-    let inv = c.loop-from.invariant in
-    let sectors = c.min-sectors.ensures in
-    λ k d below. let room = inv.room k d below in omega arith
-
-pub turn-alike-requires-clause-seated : goal.turn-alike-requires-clause-seated
-turn-alike-requires-clause-seated g c κs within = seated_still c.args.chunks c.args.seats.now.items c.loop-from.seats.items c.loop-from.invariant.read c.requires.seated
-
-pub mark_window-requires : goal.mark_window-requires
-mark_window-requires g c =
-    let inv = c.loop-from.invariant in
-    let test = c.loop-from-test.true in
-    let sectors = c.min-sectors.ensures in
+loop-from-init g c =
+    let least = c.min-from.ensures in
+    let read = c.check_first.ensures.read in
+    let many = read.as_many in
     record {
-      inside = omega arith;
-      size = rw c.as_slice-in-loop-from.ensures.value (λ k d below. (c.turn-alike.ensures.read k d (let len = c.turn-alike.ensures.len in omega arith)).size);
-      alike = rw c.as_slice-in-loop-from.ensures.value c.turn-alike.ensures.alike;
-      marks = inv.count ∙ c.requires.marks;
+      few = omega arith;
+      short = omega arith;
+      read = read;
+      unfailing = c.in_ok-check_first.ensures.unfailing;
+      room = λ k d below. let long = c.check_first.ensures.long k d (omega arith) in let r = c.requires.room k d (omega arith) in omega arith;
+      lead_room = c.requires.lead;
+      lead = λ k d below same reads honest i low unlisted. absurd (let none : length (take (512 * 0) c.args.lead.now.items) ≡ 512 * 0 = length-take-le (512 * 0) c.args.lead.now.items (omega arith) in omega arith);
+      count = c.check_first.ensures.chunks;
+      different = c.in_ok-check_first.ensures.different;
     }
+
+pub turn-requires-clause-lead : goal.turn-requires-clause-lead
+turn-requires-clause-lead g c κs within = λ k d below same.
+    subst (λ (xs : List ℕ). IsLead g.D.Device c.loop-from.from (take (512 * c.loop-from.sectors) xs) (get_or c.loop-from.seats.items k d)) (sym c.as_slice-in-loop-from.ensures.value)
+    (c.loop-from.invariant.lead k d below same)
+
+pub turn-requires-clause-seated : goal.turn-requires-clause-seated
+turn-requires-clause-seated g c κs within = seated_still c.args.chunks c.args.seats.now.items c.loop-from.seats.items c.loop-from.invariant.read c.requires.seated
+
+pub mark_window-requires-clause-size : goal.mark_window-requires-clause-size
+mark_window-requires-clause-size g c =
+    let inv = c.loop-from.invariant in
+    let few = inv.few in
+    let short = inv.short in
+    let lead_room = inv.lead_room in
+    let sectors = c.loop-from.sectors in
+    let whole = c.as_slice-in-loop-from.result.now in
+    let same = ap length c.as_slice-in-loop-from.ensures.value in
+    let bytes = take (512 * sectors) whole in
+    let many : length bytes ≡ 512 * sectors = length-take-le (512 * sectors) whole (omega arith) in
+    rw c.as_slice-in-loop-from-3.ensures.value (λ k d below. let size = (c.turn.ensures.turned k d (let len = c.turn.ensures.len in omega arith)).size in omega arith)
+
+pub mark_window-requires-clause-marks : goal.mark_window-requires-clause-marks
+mark_window-requires-clause-marks g c = c.loop-from.invariant.count ∙ c.requires.marks
 
 pub returns-in-Some : goal.returns-in-Some
 returns-in-Some g c =
     let inv = c.loop-from.invariant in
     let firsts = c.args.seats.now.items in
     let olds = c.loop-from.seats.items in
-    let news = c.turn-alike.new.seats.items in
+    let news = c.turn.new.seats.items in
     let missed = c.in-Some.missed in
-    let noted = subst (λ (xs : List (Seat _)). (missed.member < length xs) × ((d : Seat _) → (get_or xs missed.member d).missed ≡ Some missed.chunk) × ((k : ℕ) (d : Seat _) → k < missed.member → (get_or xs k d).missed ≡ None)) c.as_slice.ensures.value c.in-Some.ensures in
+    let noted = subst (λ (xs : List (Seat _)). (missed.member < length xs) × ((d : Seat _) → (get_or xs missed.member d).missed ≡ Some missed.chunk) × ((k : ℕ) (d : Seat _) → k < missed.member → (get_or xs k d).missed ≡ None)) c.as_slice-in-loop-from-2.ensures.value c.in-Some.ensures in
     record {
       chunks = inv.count;
       different = tt;
       unfailing = tt;
-      missed = misses_in firsts olds news missed inv.read inv.unfailing c.turn-alike.ensures.len c.turn-alike.ensures.read noted.0 noted.1 noted.2;
-      read = turn_read firsts olds news inv.read c.turn-alike.ensures.len c.turn-alike.ensures.read;
+      missed = misses_in firsts olds news missed inv.read inv.unfailing c.turn.ensures.len c.turn.ensures.turned noted.0 noted.1 noted.2;
+      read = turn_read firsts olds news inv.read c.turn.ensures.len c.turn.ensures.turned;
     }
 
 pub loop-from-preserved : goal.loop-from-preserved
@@ -59,23 +73,63 @@ loop-from-preserved g c =
     let inv = c.loop-from.invariant in
     let firsts = c.args.seats.now.items in
     let olds = c.loop-from.seats.items in
-    let news = c.turn-alike.new.seats.items in
+    let mids = c.turn.new.seats.items in
+    let news = c.exchange.new.seats in
     let from = c.loop-from.from in
-    let sectors = c.min-sectors.result in
+    let sectors = c.loop-from.sectors in
+    let ahead = c.min-ahead.result in
+    let least = c.min-ahead.ensures in
     let test = c.loop-from-test.true in
-    let fewest = c.min-sectors.ensures in
-    let adds : AddsDifferent (SeatShows (in_window from) news) c.args.chunks from (from + sectors) c.loop-from.marks c.mark_window.new.marks
-    = subst (λ (xs : List (Seat _)). AddsDifferent (SeatShows (in_window from) xs) c.args.chunks from (from + sectors) c.loop-from.marks c.mark_window.new.marks) c.as_slice-in-loop-from.ensures.value c.mark_window.ensures in
-    let none : All (λ (s : Seat _). s.missed ≡ None) news = subst (λ (xs : List (Seat _)). All (λ (s : Seat _). s.missed ≡ None) xs) c.as_slice.ensures.value c.in_default.ensures in
+    let few = inv.few in
+    let short = inv.short in
+    let lead = c.loop-from.lead.items in
+    let lead_room = inv.lead_room in
+    let whole = c.as_slice-in-loop-from.result.now in
+    let bytes = take (512 * sectors) whole in
+    let same_len = ap length c.as_slice-in-loop-from.ensures.value in
+    let many : length bytes ≡ 512 * sectors = length-take-le (512 * sectors) whole (omega arith) in
+    let n : length bytes / 512 ≡ sectors = omega arith in
+    let lent = c.as_mut_slice.ensures in
+    let len = c.turn.ensures.len in
+    let turned = c.turn.ensures.turned in
+    let as_many = inv.read.as_many in
+    let news_len : length news ≡ length mids = c.exchange.ensures.len ∙ ap length lent.value in
+    let back = comes_back (vec_len c.turn.new.seats) mids news (sym lent.len ∙ ap length lent.value) news_len in
+    let none : All (λ (s : Seat _). s.missed ≡ None) mids = subst (λ (xs : List (Seat _)). All (λ (s : Seat _). s.missed ≡ None) xs) c.as_slice-in-loop-from-2.ensures.value c.in_default.ensures in
+    let first = c.unwrap_or-first.result in
+    let here = subst (λ (xs : List (Seat _)). (k : ℕ) (d : Seat _) → k < length xs → k ≡ first → (get_or news k d ≡ record (get_or xs k d) { bytes = c.loop-from.lead }) × (c.exchange.new.lead ≡ (get_or xs k d).bytes)) lent.value c.exchange.ensures.first in
+    let others = subst (λ (xs : List (Seat _)). (k : ℕ) (d : Seat _) → k < length xs → (k ≡ first → ⊥) → get_or news k d ≡ get_or xs k d) lent.value c.exchange.ensures.others in
+    let same = same_but_bytes mids news first (λ k d below is. let e = (here k d below is).0 in e ∙ ap (λ (s : Seat _). record (get_or mids k d) { bytes = s.bytes }) (sym e)) others in
+    let read = turn_read firsts olds mids inv.read len turned in
+    let adds : AddsDifferent (SeatShows (in_window bytes from) mids) c.args.chunks from (from + sectors) c.loop-from.marks c.mark_window.new.marks
+    = subst (λ (xs : List (Seat _)). AddsDifferent (SeatShows (in_window bytes from) xs) c.args.chunks from (from + sectors) c.loop-from.marks c.mark_window.new.marks) c.as_slice-in-loop-from-3.ensures.value c.mark_window.ensures in
+    let rooms : (k : ℕ) (d : Seat _) → k < length mids → 512 * min 2048 c.args.chunks.size ≤ length (get_or mids k d).bytes.items
+    = λ k d below. let long = (turned k d (omega arith)).long in let r = inv.room k d (omega arith) in omega arith in
     record {
       few = omega arith;
-      read = turn_read firsts olds news inv.read c.turn-alike.ensures.len c.turn-alike.ensures.read;
-      unfailing = let many = inv.read.as_many in let as_many = c.turn-alike.ensures.len in turn_unfailing (length firsts) firsts olds news (omega arith) c.turn-alike.ensures.read (λ k d below. none k d (omega arith)) inv.unfailing;
-      room = λ k d below. let size = (c.turn-alike.ensures.read k d (let len = c.turn-alike.ensures.len in omega arith)).size in omega arith;
+      short = omega arith;
+      read = subst (λ (xs : List (Seat _)). AreSeatsRead g.D.Device firsts xs) (sym back) (read_exchanged firsts mids news read news_len same);
+      unfailing = subst (λ (xs : List (Seat _)). HaveNotFailed g.D.Device (length firsts) firsts xs) (sym back)
+          (unfailing_exchanged g.D.Device (length firsts) firsts mids news (omega arith) (turn_unfailing (length firsts) firsts olds mids (omega arith) turned (λ k d below. none k d (omega arith)) inv.unfailing) same);
+      room = subst (λ (xs : List (Seat _)). All (λ (s : Seat _). 512 * min 2048 c.args.chunks.size ≤ length s.bytes.items) xs) (sym back)
+          (rooms_exchanged (512 * min 2048 c.args.chunks.size) mids news first lead news_len lead_room rooms
+          (λ k d below is. ap (λ (s : Seat _). s.bytes.items) (here k d below is).0) others);
+      lead_room = lead_room_after (512 * min 2048 c.args.chunks.size) mids first lead c.exchange.new.lead.items lead_room rooms (λ k d below is. ap (λ v. v.items) (here k d below is).1)
+          (λ past. ap (λ v. v.items) (c.exchange.ensures.none (let l = ap length lent.value in omega arith)));
+      lead = subst (λ (xs : List (Seat _)). (k : ℕ) (d : Seat _) → k < length xs → k ≡ first → IsLead g.D.Device (from + sectors) (take (512 * ahead) c.exchange.new.lead.items) (get_or xs k d)) (sym back)
+          (λ k d below is.
+          let low : k < length mids = omega arith in
+          let at : k < length olds = omega arith in
+          let h = here k d low is in
+          let r = rooms k d low in
+          next_lead (get_or olds k d) (get_or mids k d) (get_or news k d) (from + sectors) ahead (turned k d at).read
+          (subst (λ m. HasLed g.D.Device (from + m) ahead (get_or olds k d) (get_or mids k d)) n (c.turn.ensures.led k d at is))
+          (none k d low) c.exchange.new.lead.items (ap (λ v. v.items) h.1) (let e = ap (λ v. length v.items) h.1 in omega arith)
+          (ap (λ (s : Seat _). s.device) h.0) (ap (λ (s : Seat _). s.role) h.0) (ap (λ (s : Seat _). s.offset) h.0) (ap (λ (s : Seat _). s.listed) h.0));
       count = adds.chunks_kept ∙ inv.count;
-      different = λ honest. different_after (SeatShows (on_device g.D.Device) firsts) (SeatShows (in_window from) news) c.args.chunks from (from + sectors) c.loop-from.marks c.mark_window.new.marks (omega arith) (inv.different honest) adds
-          (λ s up below. differ_in_window from sectors firsts olds news inv.read c.turn-alike.ensures.len c.turn-alike.ensures.read none honest s up below)
-          (λ s up below. differ_on_devices from sectors firsts olds news inv.read c.turn-alike.ensures.len c.turn-alike.ensures.read none honest s up below);
+      different = λ honest. different_after (SeatShows (on_device g.D.Device) firsts) (SeatShows (in_window bytes from) mids) c.args.chunks from (from + sectors) c.loop-from.marks c.mark_window.new.marks (omega arith) (inv.different honest) adds
+          (λ s up below. differ_in_window bytes from (length bytes / 512) firsts olds mids inv.read len turned none honest s up (omega arith))
+          (λ s up below. differ_on_devices bytes from (length bytes / 512) firsts olds mids inv.read len turned none honest s up (omega arith));
     }
 
 pub returns : goal.returns

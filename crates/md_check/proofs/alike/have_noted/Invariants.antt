@@ -1,5 +1,0 @@
-use Rattle.std.proofs.Common.{◌≡◌, ◌<◌, ℕ, slice_index_or, true}
-use Rattle.md_check.proofs.alike.have_noted.Given as goal
-
-abbrev pub invariant-loop-k : goal.invariant-loop-k
-invariant-loop-k g l = (j : ℕ) (d : _) → l.first < j → j < l.k → (slice_index_or l.seats j d).alike ≡ true
