@@ -307,8 +307,15 @@ const ADMISSIONS: [Chapter; 5] = [
     },
 ];
 
-// A device with a mark that the array lacks was used elsewhere, and lacks everything.
-const USED_ELSEWHERE: [Chapter; 4] = [
+// Opened alone, two events ahead of the other member, which has its role.
+const AHEAD: Image = Image {
+    also: &[Field::Super(200, 8, 12), Field::Map(24, 8, 12)],
+    ..FIRST
+};
+
+// A device with a mark that the array lacks was used elsewhere, and lacks everything. So does one by whose superblock the member in
+// sync has no role, and one that is an older copy.
+const USED_ELSEWHERE: [Chapter; 6] = [
     Chapter {
         images: &[FIRST, SECOND],
         steps: &[
@@ -368,6 +375,30 @@ const USED_ELSEWHERE: [Chapter; 4] = [
                 (Step::Member(1), NOT_ALL),
             ],
         ],
+        stored: &[],
+    },
+    Chapter {
+        images: &[FIRST, SECOND],
+        steps: &[
+            &LEAVES,
+            &[
+                (
+                    Step::Bring(&SECOND, &[Field::Super(256, 2, 0xffff)]),
+                    Answer::Joined(1),
+                ),
+                (Step::Lack(1), EVERYTHING),
+                (Step::Member(1), NOT_ALL),
+            ],
+        ],
+        stored: &[],
+    },
+    Chapter {
+        images: &[AHEAD],
+        steps: &[&[
+            (Step::Bring(&SECOND, &[]), Answer::Joined(1)),
+            (Step::Lack(1), EVERYTHING),
+            (Step::Member(1), NOT_ALL),
+        ]],
         stored: &[],
     },
 ];
