@@ -8,14 +8,14 @@ _mdcli_commands() {
 # The options of a command, beside --help and --verbose. A value follows one that ends in =.
 _mdcli_options() {
   case $1 in
-    examine | examine-bitmap | examine-badblocks) printf '%s\n' --all ;;
+    examine | examine-bitmap | examine-badblocks) printf '%s\n' --all --json ;;
     create) printf '%s\n' --level= --raid-devices= --uuid= --name= --bitmap-chunk= --size= --time= --write-mostly= --assume-clean --run ;;
-    assemble) printf '%s\n' --readonly ;;
-    detail) printf '%s\n' --readonly --map= ;;
-    plan) printf '%s\n' --member= --readonly --map= ;;
-    read) printf '%s\n' --sector= --count= --readonly --map= ;;
+    assemble) printf '%s\n' --json --readonly ;;
+    detail) printf '%s\n' --json --readonly --map= ;;
+    plan) printf '%s\n' --member= --json --readonly --map= ;;
+    read) printf '%s\n' --sector= --count= --fill --map-out= --readonly --map= ;;
     write) printf '%s\n' --sector= ;;
-    check) printf '%s\n' --list --readonly --map= ;;
+    check) printf '%s\n' --list --json --readonly --map= ;;
     resync) printf '%s\n' --map= ;;
     fail | remove) printf '%s\n' --member= ;;
     add | re-add) printf '%s\n' --device= --run ;;

@@ -27,6 +27,7 @@ complete -c mdcli -n __fish_use_subcommand -a help -d "Shows the help of a comma
 complete -c mdcli -n 'not __fish_use_subcommand; and not __fish_seen_subcommand_from help' -F
 
 complete -c mdcli -n '__fish_seen_subcommand_from examine examine-bitmap examine-badblocks' -l all -d "Shows what stands there, though it may be refused, with each fault in it"
+complete -c mdcli -n '__fish_seen_subcommand_from examine examine-bitmap examine-badblocks assemble detail plan check' -l json -d "Shows the report as a JSON object, in one line"
 complete -c mdcli -n '__fish_seen_subcommand_from create' -l level -x -a 'raid1 mirror 1' -d "The RAID level: 1, raid1 or mirror"
 complete -c mdcli -n '__fish_seen_subcommand_from create' -l raid-devices -x -d "The number of members"
 complete -c mdcli -n '__fish_seen_subcommand_from create' -l uuid -x -d "The UUID of the array"
@@ -42,6 +43,8 @@ complete -c mdcli -n '__fish_seen_subcommand_from detail plan read check resync 
 complete -c mdcli -n '__fish_seen_subcommand_from plan fail remove rebuild' -l member -x -d "The member: its place among the images, from 0, or its image as it is listed"
 complete -c mdcli -n '__fish_seen_subcommand_from read write' -l sector -x -d "The first sector of the array, from 0; a sector has 512 bytes"
 complete -c mdcli -n '__fish_seen_subcommand_from read' -l count -x -d "The number of sectors"
+complete -c mdcli -n '__fish_seen_subcommand_from read' -l fill -d "Goes on past sectors that are not given, and writes zeros in their place"
+complete -c mdcli -n '__fish_seen_subcommand_from read' -l map-out -x -d "With --fill: makes a new file, ddrescue's map of the array as far as it is read"
 complete -c mdcli -n '__fish_seen_subcommand_from check' -l list -d "Shows where members differ too: a line for each such chunk"
 complete -c mdcli -n '__fish_seen_subcommand_from add re-add' -l device -r -F -d "The image that joins the array: a file or a block device, none of those listed"
 complete -c mdcli -n '__fish_seen_subcommand_from examine examine-bitmap examine-badblocks create assemble detail plan read write check resync stop fail remove add re-add rebuild' -s v -l verbose -d "Says more of a refusal: the image that it is about, and what to do"

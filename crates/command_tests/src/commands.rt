@@ -1,5 +1,6 @@
 // Commands over images in memory, one after another.
 use crate::checks::{holds, reads};
+use crate::errors::Errors;
 use crate::images::{HeldImages, Image, expect_kept_under, held};
 use crate::silent::Silent;
 use md_cli::{Messages, Session, run};
@@ -56,10 +57,10 @@ pub(crate) fn runs<'a, R: Abort + Threads + Wait + Sync, I: Source + Drop, S: Si
     messages: Messages,
     says: &str,
 ) -> Result<u8, Fail> {
-    let mut err: Vec<u8> = vec![in session.alloc]?;
+    let mut err = Errors::new(session.alloc);
     let parsed = parse(session.alloc, words);
     let status = run(session, words, parsed, images, &mut err, messages);
-    reads(session.rt, "the errors", &err, says);
+    reads(session.rt, "the errors", err.text(), says);
     drop(err);
     Ok(status)
 }
@@ -87,6 +88,7 @@ fn give<R: Abort + Threads + Wait + Sync>(
         input: Input::new(command.input),
         out: Output::new(vec![in alloc]?),
         watch: &Silent,
+        missing: None,
     };
     let status = runs(
         &mut session,

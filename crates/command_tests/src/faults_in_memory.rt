@@ -81,6 +81,7 @@ fn fills<R: Abort + Threads + Wait + Sync>(
         input: Input::new([].as_slice()),
         out: Output::new(room.as_mut_slice()),
         watch: &Silent,
+        missing: None,
     };
     let says = "mdcli: OutputFault\n";
     let status = runs(&mut session, EXAMINE, images, Messages::Plain, says)?;

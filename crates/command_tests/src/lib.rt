@@ -9,6 +9,8 @@ mod commands;
 #[cfg(test)]
 mod devices;
 #[cfg(test)]
+mod errors;
+#[cfg(test)]
 mod faults_in_memory;
 #[cfg(test)]
 mod images;

@@ -14,7 +14,11 @@ impl Gate for Silent {
 }
 
 impl Asker for Silent {
-    ghost agreed = { λ _. ⊤ };
+    ghost answered = { λ _ _ _. ⊤ };
+
+    fn is_there(&self) -> bool {
+        false
+    }
 
     fn goes_on(&self, _lines: &[u8]) -> bool {
         true

@@ -62,6 +62,7 @@ fn ends_with<R: Abort + Threads + Wait + Sync>(
         input: Input::new(Steps { steps }),
         out: Output::new(vec![in alloc]?),
         watch: &Silent,
+        missing: None,
     };
     let ended = runs(&mut session, &words, images, Messages::Plain, said)?;
     holds(rt, "the status", ended == status);

@@ -197,7 +197,7 @@ fn read_advice(fault: UnreadFault) -> &'static str {
         UnreadFault::OutOfRange => WITHIN_ARRAY,
         UnreadFault::NotResynced => RESYNC_OR_LOOK,
         UnreadFault::Unreadable(_) => {
-            "read the sectors after it, and, where no more than 1 MiB was asked for, those before it"
+            "with `--fill` zeros are written in the place of such sectors, and all others as they are"
         }
         UnreadFault::Halted => SEE_DEVICE,
     }

@@ -2,9 +2,7 @@
 #![tactic(auto)]
 
 mod advice;
-mod advising;
+mod advice_line;
 mod geometry_advice;
-mod loss_notice;
 
-pub use advising::advise;
-pub use loss_notice::tell_lost_content;
+pub use advice_line::advise;

@@ -7,17 +7,19 @@ use Rattle.std.proofs.lemmas.List.Edits.{length-insert}
 use Rattle.std.specs.Prelude.{is_some}
 use Rattle.std.proofs.Math.Nat.{le_refl}
 use Rattle.std.proofs.lemmas.Option.{slice_get_within}
-use Rattle.md_commands.proofs.DeviceCounts.{AsMany, checks_as_many, done_check, done_fail, done_list, done_read, done_readonly, done_resync, done_write, fails_as_many, lists_as_many, reads_as_many, reads_readonly_as_many, resyncs_as_many, stops_as_many, writes_as_many, stopped}
+use Rattle.md_commands.proofs.DeviceCounts.{AsMany, checks_as_many, done_check, done_fail, done_list, done_read, done_readonly, done_resync, done_write, fails_as_many, fills_as_many, lists_as_many, reads_as_many, reads_readonly_as_many, resyncs_as_many, stops_as_many, writes_as_many, stopped}
 use Rattle.md_commands.proofs.RebuildCounts.{done_rebuild, rebuilds_as_many}
 use Rattle.md_commands.specs.declared.source.Source.{Ghosts as SourceGhosts}
 use Rattle.md_commands.specs.Adding.{KeepsDevice}
 use Rattle.md_commands.specs.Removing.{HandsBack}
 use Rattle.md_examine.specs.declared.sink.Sink.{Ghosts as SinkGhosts}
 use Rattle.md_state.specs.View.{Disk, disk_of}
+use Rattle.md_images.specs.Taking.{Text}
+use Rattle.md_words.specs.declared.form.CheckForm.TheVariants as check_form
 use Rattle.md_words.specs.Asks.{Ask, device_of, leaving_of, examines, examines_bitmap, examines_badblocks, creates, assembles, details, plans, reads, checks, writes, resyncs, stops, fails, removes, adds, re_adds, rebuilds}
 use Rattle.md_commands.specs.declared.fault.CommandFault.{CommandFault}
 use Rattle.md_cli.specs.declared.notices.Notices.{Notices}
-use Rattle.md_cli.specs.Asking.{Answers}
+use Rattle.md_cli.specs.Asking.{PerformsOrDeclines, Question}
 use Rattle.md_cli.specs.Opened.{OpenedView, count, moves_device, place_of, with_beside}
 use Rattle.md_cli.specs.Performing.{Performs}
 use Rattle.md_cli.specs.Streams.{Streams}
@@ -58,28 +60,33 @@ left_within : (k : ℕ) (before after : List Disk) (beside : Option Disk) → Ha
 left_within k before after None h e = absurd (true≢false (sym e))
 left_within k before after (Some d) h e = let place = slice_get_within before k d h.0 in omega (arith, place, h.1)
 
-module _ {R S : Type 0} (r : SourceGhosts R) (s : SinkGhosts S) (before after : OpenedView) (old new : Streams R S) where
-  pub all_kept : (ask : Ask) (result : Result (Unit {0}) CommandFault) → is_some before.beside ≡ is_some (device_of ask) → Performs r s ask before after old new result → AllBack ask before.mirror.disks after.mirror.disks before.beside after.beside
-  all_kept (examines all) result brings h = absurd h
-  all_kept (examines_bitmap all) result brings h = absurd h
-  all_kept (examines_badblocks all) result brings h = absurd h
+module _ {R S : Type 0} (r : SourceGhosts R) (s : SinkGhosts S) (names : List Text) (before after : OpenedView) (old new : Streams R S) where
+  pub all_kept : (ask : Ask) (result : Result (Unit {0}) CommandFault) → is_some before.beside ≡ is_some (device_of ask) → Performs r s names ask before after old new result → AllBack ask before.mirror.disks after.mirror.disks before.beside after.beside
+  all_kept (examines form) result brings h = absurd h
+  all_kept (examines_bitmap form) result brings h = absurd h
+  all_kept (examines_badblocks form) result brings h = absurd h
   all_kept (creates o) result brings h = absurd h
-  all_kept (assembles readonly) result brings h = kept _ before after brings (ap (λ (o : OpenedView). o.beside) h.0) (ap (λ (o : OpenedView). length o.mirror.disks) h.0)
-  all_kept (details readonly) result brings h = kept _ before after brings (ap (λ (o : OpenedView). o.beside) h.0) (ap (λ (o : OpenedView). length o.mirror.disks) h.0)
-  all_kept (plans k readonly) result brings h = kept _ before after brings (ap (λ (o : OpenedView). o.beside) h.0) (ap (λ (o : OpenedView). length o.mirror.disks) h.0)
-  all_kept (reads sector count false) (Ok v) brings h =
+  all_kept (assembles json readonly) result brings h = kept _ before after brings (ap (λ (o : OpenedView). o.beside) h.0) (ap (λ (o : OpenedView). length o.mirror.disks) h.0)
+  all_kept (details json readonly) result brings h = kept _ before after brings (ap (λ (o : OpenedView). o.beside) h.0) (ap (λ (o : OpenedView). length o.mirror.disks) h.0)
+  all_kept (plans k json readonly) result brings h = kept _ before after brings (ap (λ (o : OpenedView). o.beside) h.0) (ap (λ (o : OpenedView). length o.mirror.disks) h.0)
+  all_kept (reads sector count true readonly) result brings h =
+      kept _ before after brings h.0 (fills_as_many s readonly sector count before.mirror after.mirror old.output new.output new.missing result h.2)
+  all_kept (reads sector count false false) (Ok v) brings h =
       kept _ before after brings h.0 (done_read s before.mirror after.mirror old.output new.output sector count h.2)
-  all_kept (reads sector count false) (Err f) brings h =
+  all_kept (reads sector count false false) (Err f) brings h =
       kept _ before after brings h.0 (reads_as_many s before.mirror after.mirror old.output new.output sector count f h.2)
-  all_kept (reads sector count true) (Ok v) brings h =
+  all_kept (reads sector count false true) (Ok v) brings h =
       kept _ before after brings h.0 (done_readonly s before.mirror after.mirror old.output new.output sector count h.2)
-  all_kept (reads sector count true) (Err f) brings h =
+  all_kept (reads sector count false true) (Err f) brings h =
       kept _ before after brings h.0 (reads_readonly_as_many s before.mirror after.mirror old.output new.output sector count f h.2)
-  all_kept (checks true readonly) (Ok v) brings h = kept _ before after brings h.0 (done_list s before.mirror after.mirror old.output new.output h.2)
-  all_kept (checks true readonly) (Err f) brings h =
+  all_kept (checks check_form.List readonly) (Ok v) brings h = kept _ before after brings h.0 (done_list s before.mirror after.mirror old.output new.output _ h.2)
+  all_kept (checks check_form.List readonly) (Err f) brings h =
       kept _ before after brings h.0 (lists_as_many s before.mirror after.mirror old.output new.output f h.2)
-  all_kept (checks false readonly) (Ok v) brings h = kept _ before after brings h.0 (done_check s before.mirror after.mirror old.output new.output h.2)
-  all_kept (checks false readonly) (Err f) brings h =
+  all_kept (checks check_form.Json readonly) (Ok v) brings h = kept _ before after brings h.0 (done_list s before.mirror after.mirror old.output new.output _ h.2)
+  all_kept (checks check_form.Json readonly) (Err f) brings h =
+      kept _ before after brings h.0 (lists_as_many s before.mirror after.mirror old.output new.output f h.2)
+  all_kept (checks check_form.Count readonly) (Ok v) brings h = kept _ before after brings h.0 (done_check s before.mirror after.mirror old.output new.output h.2)
+  all_kept (checks check_form.Count readonly) (Err f) brings h =
       kept _ before after brings h.0 (checks_as_many s before.mirror after.mirror old.output new.output f h.2)
   all_kept (writes sector) (Ok v) brings h = kept _ before after brings h.0 (done_write sector h.1.bytes before.mirror after.mirror h.1.done)
   all_kept (writes sector) (Err f) brings h =
@@ -127,10 +134,10 @@ refused_back ask before after was brings same = record {
 }
 
 -- also where it was declined
-pub all_answered : {R S : Type 0} (r : SourceGhosts R) (s : SinkGhosts S) (n : Notices) (before after : OpenedView) (old new : Streams R S) (ask : Ask) (result : Result (Unit {0}) CommandFault) → is_some before.beside ≡ is_some (device_of ask)
-    → Answers r s ask n before after old new result → AllBack ask before.mirror.disks after.mirror.disks before.beside after.beside
-all_answered r s n before after old new ask result brings (inl h) = all_kept r s before after old new ask result brings h
-all_answered r s n before after old new ask result brings (inr d) =
+pub all_answered : {R S : Type 0} (r : SourceGhosts R) (s : SinkGhosts S) (q : Question) (names : List Text) (n : Notices) (before after : OpenedView) (old new : Streams R S) (ask : Ask) (result : Result (Unit {0}) CommandFault) → is_some before.beside ≡ is_some (device_of ask)
+    → PerformsOrDeclines r s q names ask n before after old new result → AllBack ask before.mirror.disks after.mirror.disks before.beside after.beside
+all_answered r s q names n before after old new ask result brings (inl h) = all_kept r s names before after old new ask result brings h.performs
+all_answered r s q names n before after old new ask result brings (inr d) =
     subst (λ (o : OpenedView). AllBack ask before.mirror.disks o.mirror.disks before.beside o.beside) (sym d.same) (refused_back ask before.mirror.disks before.mirror.disks before.beside brings refl)
 
 counted : {X Y : Type 0} (f : X → Y) (o : Option X) → count (option_map f o) ≡ count o

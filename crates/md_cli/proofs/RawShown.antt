@@ -1,5 +1,5 @@
 -- What stands in an image is shown as it was read, or is refused as its parts are.
-use Rattle.std.proofs.Common.{◌≡◌, Bool, ℕ, List, refl, subst, sym}
+use Rattle.std.proofs.Common.{◌≡◌, Bool, ℕ, List, subst, sym}
 use Rattle.md_raw_members.specs.declared.fault.RawFault.{RawFault}
 use Rattle.md_raw_members.specs.declared.fault.RawFault.TheVariants.{TooShort, NoBitmap, Region, ReadFault}
 use Rattle.md_words.specs.Asks.{Ask}

@@ -22,8 +22,8 @@ use Rattle.md_commands.specs.Faults.{of_images}
 use Rattle.md_commands.specs.declared.fault.CommandFault.{CommandFault}
 use Rattle.md_commands.specs.declared.fault.CommandFault.TheVariants.{NoMemory, Open}
 use Rattle.md_cli.specs.declared.notices.Notices.{Notices}
-use Rattle.md_cli.specs.Asking.{Answers}
-use Rattle.md_cli.specs.Holding.{LooksAt}
+use Rattle.md_cli.specs.Asking.{PerformsOrDeclines, Question}
+use Rattle.md_cli.specs.Holding.{NotesHeldOnJoining}
 use Rattle.md_cli.specs.Noticed.{NotesOpening, with_dropped, without_stored}
 use Rattle.md_cli.specs.Opened.{OpenedView, moves_device, with_beside, with_last}
 use Rattle.md_cli.specs.Streams.{Told}
@@ -35,7 +35,8 @@ overlaid d = record d { failures = 0; stops = [] }
 
 module _ {X : Type 0} where
   -- they are not opened as a mirror, and nothing is read or put out
-  pub record RefusesMirror (before after : List Disk) (old new : X) (result : Result (Unit {0}) CommandFault) : Type 0 where
+  pub record RefusesMirror (before after : List Disk) (old new : X)
+      (result : Result (Unit {0}) CommandFault) : Type 0 where
     pub fault : OpenFault
     pub is : result ≡ Err (Open fault)
     pub refused : RefusesOpen before after fault
@@ -43,79 +44,92 @@ module _ {X : Type 0} where
 
 module _ {S : Type 0} (s : SinkGhosts S) where
   -- The devices are opened as a mirror, which is shown in a line. `before` and `after` are the devices as contracts see them.
-  pub record ShowsMirror (before after : List Disk) (old new : S) (result : Result (Unit {0}) CommandFault) : Type 0 where
+  pub record ShowsMirror (before after : List Disk) (old new : S)
+      (result : Result (Unit {0}) CommandFault) : Type 0 where
     pub mirror : MirrorView
     pub opened : IsOpenedFrom before mirror
     pub devices : after ≡ mirror.disks
     pub shown : ShowsText s (summary_text mirror.array) old new result
 
   abbrev pub ShowsDevices : List Disk → List Disk → S → S → Result (Unit {0}) CommandFault → Type 0
-  ShowsDevices before after old new result = ShowsMirror before after old new result ⊎ RefusesMirror before after old new result
+  ShowsDevices before after old new result =
+      ShowsMirror before after old new result ⊎ RefusesMirror before after old new result
 
 -- An overlay refuses a write only where there is no memory for it: then that is the fault.
-abbrev pub told_of_overlays : Result (Unit {0}) CommandFault → Result (Unit {0}) CommandFault
-told_of_overlays (Err (Open (MetadataFault k))) = Err NoMemory
-told_of_overlays result = result
+abbrev pub answer_of_overlays : Result (Unit {0}) CommandFault → Result (Unit {0}) CommandFault
+answer_of_overlays (Err (Open (MetadataFault k))) = Err NoMemory
+answer_of_overlays result = result
 
 -- the texts of words
 abbrev pub texts : List (Bor Text) → List Text
 texts = map (λ s. s.now)
 
-module _ {R S : Type 0} (r : SourceGhosts R) (s : SinkGhosts S) (ask : Ask) where
-  -- The devices of the members are opened as a mirror, and the command is done with it, unless it is asked first and declined. All
+module _ {R S : Type 0} (r : SourceGhosts R) (s : SinkGhosts S) (q : Question) (names : List Text)
+    (ask : Ask) where
+  -- The devices of the members are opened as a mirror, and the command is done with it, where the question allows it. All
   -- devices come back in the order of their images, as it left them: those of the members, and the one beside them. What is noticed
   -- is that of the mirror as it was opened, and as it is left.
-  pub record PerformsOnMirror (members : List Disk) (device : Option Disk) (after : List Disk) (old new : Told R S) (result : Result (Unit {0}) CommandFault) : Type 0 where
+  pub record PerformsOnMirror (members : List Disk) (device : Option Disk) (after : List Disk)
+      (old new : Told R S) (result : Result (Unit {0}) CommandFault) : Type 0 where
     pub opened : MirrorView
     pub opens : IsOpenedFrom members opened
     pub first : Notices
     pub noted : NotesOpening ask opened.array old.notices first
     pub left : OpenedView
-    pub performs : Answers r s ask first (record { mirror = opened; beside = device }) left old.streams new.streams result
+    pub performs : PerformsOrDeclines r s q names ask first (record { mirror = opened; beside = device }) left
+        old.streams new.streams result
     pub dropped : new.notices ≡ with_dropped ask left first
     pub devices : after ≡ with_beside ask left.mirror.disks left.beside
 
   -- they are not opened so, and the device that was to join is as it was
-  pub record RefusesMembers (members : List Disk) (device : Option Disk) (after : List Disk) (old new : Told R S) (result : Result (Unit {0}) CommandFault) : Type 0 where
+  pub record RefusesMembers (members : List Disk) (device : Option Disk) (after : List Disk)
+      (old new : Told R S) (result : Result (Unit {0}) CommandFault) : Type 0 where
     pub left : List Disk
     pub refused : RefusesMirror members left old new result
     pub devices : after ≡ with_beside ask left device
 
-  abbrev pub OpensMembers : List Disk → Option Disk → List Disk → Told R S → Told R S → Result (Unit {0}) CommandFault → Type 0
+  abbrev pub OpensMembers : List Disk → Option Disk → List Disk → Told R S → Told R S
+      → Result (Unit {0}) CommandFault → Type 0
   OpensMembers members device after old new result =
-      PerformsOnMirror members device after old new result ⊎ RefusesMembers members device after old new result
+      PerformsOnMirror members device after old new result
+      ⊎ RefusesMembers members device after old new result
 
   -- The devices are those of the members and, where the command names an image that is to join, after them the one of that image,
   -- which is looked at first.
-  pub record OpensAll (before after : List Disk) (old new : Told R S) (result : Result (Unit {0}) CommandFault) : Type 0 where
+  pub record OpensAll (before after : List Disk) (old new : Told R S)
+      (result : Result (Unit {0}) CommandFault) : Type 0 where
     pub members : List Disk
     pub device : Option Disk
     pub seen : Option Disk
     pub noted : Notices
     pub are : before ≡ with_last members device
     pub brings : is_some device ≡ is_some (device_of ask)
-    pub looks : LooksAt device seen old.notices noted
+    pub looks : NotesHeldOnJoining device seen old.notices noted
     pub done : OpensMembers members seen after (record old { notices = noted }) new result
 
   -- a device may leave or join, and there is no memory for the list in which all of them come back then
-  pub record RefusesList (before after : List Disk) (old new : Told R S) (result : Result (Unit {0}) CommandFault) : Type 0 where
+  pub record RefusesList (before after : List Disk) (old new : Told R S)
+      (result : Result (Unit {0}) CommandFault) : Type 0 where
     pub moves : moves_device ask ≡ true
     pub is : result ≡ Err NoMemory
     pub devices : after ≡ before
     pub unused : new ≡ old
 
-  abbrev pub OpensDevices : List Disk → List Disk → Told R S → Told R S → Result (Unit {0}) CommandFault → Type 0
-  OpensDevices before after old new result = OpensAll before after old new result ⊎ RefusesList before after old new result
+  abbrev pub OpensDevices : List Disk → List Disk → Told R S → Told R S → Result (Unit {0}) CommandFault
+      → Type 0
+  OpensDevices before after old new result =
+      OpensAll before after old new result ⊎ RefusesList before after old new result
 
   -- The devices are only looked at, and what is written is kept in memory over them. They are opened so as a mirror, and the
   -- command is done with it. Of what is noticed it is forgotten what was stored, and which writes failed.
-  pub record LooksAtMirror (devices : List Disk) (old new : Told R S) (result : Result (Unit {0}) CommandFault) : Type 0 where
+  pub record LooksAtMirror (devices : List Disk) (old new : Told R S)
+      (result : Result (Unit {0}) CommandFault) : Type 0 where
     pub seen : List Disk
     pub noted : Notices
     pub answer : Result (Unit {0}) CommandFault
     pub opened : OpensDevices (map overlaid devices) seen old (record new { notices = noted }) answer
     pub forgotten : new.notices ≡ without_stored noted
-    pub told : result ≡ told_of_overlays answer
+    pub told : result ≡ answer_of_overlays answer
 
   -- there is no memory for the list of overlays
   pub record LooksAtNothing (old new : Told R S) (result : Result (Unit {0}) CommandFault) : Type 0 where
@@ -126,7 +140,8 @@ module _ {R S : Type 0} (r : SourceGhosts R) (s : SinkGhosts S) (ask : Ask) wher
   LooksAtDevices devices old new result = LooksAtMirror devices old new result ⊎ LooksAtNothing old new result
 
   -- whether the devices are only looked at
-  abbrev pub WorksBy : Bool → List Disk → List Disk → Told R S → Told R S → Result (Unit {0}) CommandFault → Type 0
+  abbrev pub WorksBy : Bool → List Disk → List Disk → Told R S → Told R S → Result (Unit {0}) CommandFault
+      → Type 0
   WorksBy true before after old new result = (after ≡ before) × LooksAtDevices before old new result
   WorksBy false before after old new result = OpensDevices before after old new result
 
@@ -149,7 +164,8 @@ module _ {D : Type 0} (g : Ghosts D) where
 abbrev pub may : {I D : Type 0} → ImagesGhosts I D → Access → I → Text → Bool
 may i access images name = allows access (i.changeable images name)
 
-module _ {I D S : Type 0} (i : ImagesGhosts I D) (g : Ghosts D) (Does : Work S) (access : Access) (words : List Word) (before after : I) (old new : S) (result : Result (Unit {0}) CommandFault) where
+module _ {I D S : Type 0} (i : ImagesGhosts I D) (g : Ghosts D) (Does : Work S) (access : Access)
+    (words : List Word) (before after : I) (old new : S) (result : Result (Unit {0}) CommandFault) where
   -- The devices of all words are taken out of their images, worked on, and put back under their names. Where it is known
   -- which devices there are, they are those under the names, each of which may be had, and all other names keep theirs.
   pub record WorksOnImages : Type 0 where
@@ -157,15 +173,18 @@ module _ {I D S : Type 0} (i : ImagesGhosts I D) (g : Ghosts D) (Does : Work S) 
     pub given : List D
     pub distinct : IsDistinct (names_of words) (length words)
     pub were : i.known before ≡ true → AreUnder (i.device_at before) (names_of words) (length words) taken
-    pub there : i.known before ≡ true → (k : ℕ) → k < length words → IsThere (may i access before) (i.device_at before) (names_of words) k
-    pub put : i.known before ≡ true → ArePut (i.device_at before) (i.device_at after) (names_of words) (length words) given
+    pub there : i.known before ≡ true → (k : ℕ) → k < length words
+        → IsThere (may i access before) (i.device_at before) (names_of words) k
+    pub put : i.known before ≡ true
+        → ArePut (i.device_at before) (i.device_at after) (names_of words) (length words) given
     pub done : Does (disks g taken) (disks g given) old new result
 
   -- an image is refused, or there is no memory for the list of devices: nothing else is done
   pub record RefusesWords : Type 0 where
     pub fault : ImagesFault
     pub is : result ≡ Err (of_images fault)
-    pub refused : RefusesImages (after ≡ before) (i.known before) (may i access before) (i.device_at before) (i.device_at after) words fault
+    pub refused : RefusesImages (after ≡ before) (i.known before) (may i access before) (i.device_at before)
+        (i.device_at after) words fault
     pub unwritten : new ≡ old
 
   abbrev pub UsesImages : Type 0
@@ -175,4 +194,5 @@ module _ {I D S : Type 0} (i : ImagesGhosts I D) (g : Ghosts D) (Does : Work S) 
 -- been changed.
 abbrev pub KeepsImages : {I D : Type 0} → ImagesGhosts I D → I → I → Type 0
 KeepsImages i before after =
-    i.known before ≡ true → (name : Text) → (i.device_at after name ≡ i.device_at before name) × (i.asked after name ≡ i.asked before name)
+    i.known before ≡ true → (name : Text)
+    → (i.device_at after name ≡ i.device_at before name) × (i.asked after name ≡ i.asked before name)

@@ -11,7 +11,8 @@ use Rattle.md_words.specs.Asks.{Options}
 
 -- the names of RAID 1
 abbrev pub is_raid1 : Text → Bool
-is_raid1 level = bytes_eq level (codes "1") || (bytes_eq level (codes "raid1") || bytes_eq level (codes "mirror"))
+is_raid1 level =
+    bytes_eq level (codes "1") || (bytes_eq level (codes "raid1") || bytes_eq level (codes "mirror"))
 
 -- the name as a superblock has it: 32 bytes, filled with zeros
 abbrev pub set_name_of : Text → Option (List ℕ)
@@ -39,7 +40,7 @@ option_fault o count =
     ∷ [])
 
 -- what the array is to be made from
-pub record IsPlan (o : Options) (p : CreateParams) : Type 0 where
+pub record AreParamsOf (o : Options) (p : CreateParams) : Type 0 where
   pub set_uuid : Some p.set_uuid ≡ parsed o.uuid
   pub name : Some p.name ≡ set_name_of o.name
   pub ctime : p.ctime ≡ o.time

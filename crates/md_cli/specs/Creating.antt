@@ -1,5 +1,5 @@
 -- What `create` does with the devices of the images.
-use Rattle.std.specs.Prelude.{◌≡◌, ◌⊎◌, ℕ, ◌/◌, ◌<◌, true, List, [], ◌∷◌, drop, length, Option, Some, None, Result, Err, slice_get, slice_index_or, if◌then◌else◌}
+use Rattle.std.specs.Prelude.{◌≡◌, ◌⊎◌, ℕ, ◌/◌, ◌<◌, true, List, [], ◌∷◌, drop, length, Option, Some, None, Result, Ok, Err, slice_get, slice_index_or, if◌then◌else◌}
 use Rattle.clap.specs.Words.{Text}
 use Rattle.md_create.specs.Geometry.{IsGeometry}
 use Rattle.md_create.specs.Values.{AreMembers}
@@ -12,11 +12,10 @@ use Rattle.md_state.specs.View.{Disk, of_disks}
 use Rattle.md_examine.specs.declared.sink.Sink.{Ghosts}
 use Rattle.md_commands.specs.declared.fault.CommandFault.{CommandFault}
 use Rattle.md_commands.specs.declared.fault.CommandFault.TheVariants as fault
-use Rattle.md_words.specs.Asks.{Ask}
 use Rattle.md_cli.specs.declared.notices.Notices.{Notices}
 use Rattle.md_cli.specs.Arrays.{ShowsDevices}
-use Rattle.md_cli.specs.Holding.{LooksAtAll}
-use Rattle.md_cli.specs.Noticed.{asks_first}
+use Rattle.md_cli.specs.Holding.{NotesHeldOnEach}
+use Rattle.md_cli.specs.Asking.{Declines, Question}
 use Rattle.md_cli.specs.Streams.{Told}
 use Rattle.md_images.specs.Taking.{Word, image_list, is_missing}
 
@@ -39,7 +38,8 @@ sizes_of (word ∷ words) disks =
 -- device k before and after
 abbrev pub At : (Disk → Disk → NewMember → Type 0) → List Disk → List Disk → List NewMember → ℕ → Type 0
 At Related before after members k =
-    (d e : Disk) (m : NewMember) → slice_get before k ≡ Some d → slice_get after k ≡ Some e → slice_get members k ≡ Some m → Related d e m
+    (d e : Disk) (m : NewMember) → slice_get before k ≡ Some d → slice_get after k ≡ Some e
+    → slice_get members k ≡ Some m → Related d e m
 
 -- a member is laid out on a device, or a write of it failed
 abbrev pub LaysOut : Disk → Disk → NewMember → Type 0
@@ -55,7 +55,8 @@ pub record AreLaidOut (before after : List Disk) (members : List NewMember) (n :
   pub later : (k : ℕ) → n < k → slice_get after k ≡ slice_get before k
 
 -- these are the members of the array that is made of the devices
-pub record AreNewMembers (params : CreateParams) (words : List Text) (disks : List Disk) (members : List NewMember) : Type 0 where
+pub record AreNewMembers (params : CreateParams) (words : List Text) (disks : List Disk)
+    (members : List NewMember) : Type 0 where
   pub size : ℕ
   pub geometry : IsGeometry params (sizes_of words disks) size
   pub are : AreMembers params (sizes_of words disks) size members
@@ -69,7 +70,8 @@ module _ (params : CreateParams) (words : List Text) where
   IsRefusal disks fault.NoMemory = Unit {0}
   IsRefusal disks _ = ⊥
 
-  pub record RefusesDevices {X : Type 0} (before after : List Disk) (old new : X) (result : Result (Unit {0}) CommandFault) : Type 0 where
+  pub record RefusesDevices {X : Type 0} (before after : List Disk) (old new : X)
+      (result : Result (Unit {0}) CommandFault) : Type 0 where
     pub why : CommandFault
     pub is : result ≡ Err why
     pub refused : IsRefusal before why
@@ -78,7 +80,8 @@ module _ (params : CreateParams) (words : List Text) where
 
 module _ {S : Type 0} (s : Ghosts S) (list : List Word) (members : List NewMember) where
   -- A write fails while a member is laid out, which is named by the place of its image word.
-  pub record StopsOnDevice (before after : List Disk) (old new : S) (result : Result (Unit {0}) CommandFault) : Type 0 where
+  pub record StopsOnDevice (before after : List Disk) (old new : S)
+      (result : Result (Unit {0}) CommandFault) : Type 0 where
     pub place : ℕ
     pub within : place < length before
     pub is : result ≡ Err (fault.MetadataFault (slice_index_or list place (0, [])).0)
@@ -87,32 +90,36 @@ module _ {S : Type 0} (s : Ghosts S) (list : List Word) (members : List NewMembe
     pub unwritten : new ≡ old
 
   -- All members are laid out, and the devices are opened and shown in a line.
-  pub record LaysOutAll (before after : List Disk) (old new : S) (result : Result (Unit {0}) CommandFault) : Type 0 where
+  pub record LaysOutAll (before after : List Disk) (old new : S)
+      (result : Result (Unit {0}) CommandFault) : Type 0 where
     pub middle : List Disk
     pub laid_out : AreLaidOut before middle members (length before)
     pub opened : ShowsDevices s middle after old new result
 
   abbrev pub LaysOutOn : List Disk → List Disk → S → S → Result (Unit {0}) CommandFault → Type 0
-  LaysOutOn before after old new result = StopsOnDevice before after old new result ⊎ LaysOutAll before after old new result
+  LaysOutOn before after old new result =
+      StopsOnDevice before after old new result ⊎ LaysOutAll before after old new result
 
--- It was asked, and the answer was not yes: nothing is written.
-pub record DeclinesToCreate {X : Type 0} (ask : Ask) (n : Notices) (before after : List Disk) (old new : X) (result : Result (Unit {0}) CommandFault) : Type 0 where
-  pub asked : asks_first ask n ≡ true
-  pub is : result ≡ Err fault.Declined
-  pub same : after ≡ before
-  pub unwritten : new ≡ old
+-- The members are laid out, where the question allows it.
+pub record LaysOutAgreed {S : Type 0} (s : Ghosts S) (q : Question) (n : Notices) (list : List Word)
+    (members : List NewMember) (before after : List Disk) (old new : S)
+    (result : Result (Unit {0}) CommandFault) : Type 0 where
+  pub agreed : q n (Ok tt)
+  pub lays_out : LaysOutOn s list members before after old new result
 
-module _ {R S : Type 0} (s : Ghosts S) (ask : Ask) (params : CreateParams) (words : List Text) where
-  -- The devices make an array. What they hold is noted, for which they are only read; then its members are laid out on them, unless
-  -- that is asked first and declined.
-  pub record MakesMembers (before after : List Disk) (old new : Told R S) (result : Result (Unit {0}) CommandFault) : Type 0 where
+module _ {R S : Type 0} (s : Ghosts S) (q : Question) (params : CreateParams) (words : List Text) where
+  -- The devices make an array. What they hold is noted, for which they are only read; then its members are laid out on them, where
+  -- the question allows it.
+  pub record MakesMembers (before after : List Disk) (old new : Told R S)
+      (result : Result (Unit {0}) CommandFault) : Type 0 where
     pub members : List NewMember
     pub made : AreNewMembers params words before members
     pub seen : List Disk
-    pub looks : LooksAtAll before seen old.notices new.notices
+    pub looks : NotesHeldOnEach before seen old.notices new.notices
     pub input : new.streams.input ≡ old.streams.input
-    pub done : LaysOutOn s (image_list true words) members seen after old.streams.output new.streams.output result
-        ⊎ DeclinesToCreate ask new.notices seen after old.streams.output new.streams.output result
+    pub done : LaysOutAgreed s q new.notices (image_list true words) members seen after old.streams.output
+        new.streams.output result
+        ⊎ Declines q new.notices seen after old.streams.output new.streams.output result
 
   abbrev pub CreatesOn : List Disk → List Disk → Told R S → Told R S → Result (Unit {0}) CommandFault → Type 0
   CreatesOn before after old new result =

@@ -5,7 +5,7 @@ use Rattle.md_notices.specs.Belonging.{IsForgotten}
 use Rattle.md_notices.specs.Parting.{WasApart}
 use Rattle.md_held.specs.declared.held.Held.{Held}
 use Rattle.md_held.specs.declared.held.Held.TheVariants.{Member}
-use Rattle.md_held.specs.Holding.{Holds, LooksAtEach, LooksAtOne, is_known}
+use Rattle.md_held.specs.Holding.{LooksAtEach, LooksAtOne, needs_telling}
 use Rattle.md_state.specs.View.{ArrayView, Disk}
 use Rattle.md_super.specs.declared.superblock.Superblock.{Superblock}
 use Rattle.md_words.specs.declared.overwritten.Overwritten.{Overwritten}
@@ -20,15 +20,15 @@ IsOwn ReturningDevice a (Member v) = WasApart a v
 IsOwn overwritten a held = ⊥
 
 -- a device was looked at: it was only read, and what it holds is noted
-pub record Looks (d e : Disk) (old new : Notices) : Type 0 where
+pub record NotesHeld (d e : Disk) (old new : Notices) : Type 0 where
   pub looks : LooksAtOne d e new.held
   pub noted : new ≡ record old { held = new.held }
 
 -- the device that is to join, where there is one
-abbrev pub LooksAt : Option Disk → Option Disk → Notices → Notices → Type 0
-LooksAt None None old new = new ≡ old
-LooksAt (Some d) (Some e) old new = Looks d e old new
-LooksAt _ _ old new = ⊥
+abbrev pub NotesHeldOnJoining : Option Disk → Option Disk → Notices → Notices → Type 0
+NotesHeldOnJoining None None old new = new ≡ old
+NotesHeldOnJoining (Some d) (Some e) old new = NotesHeld d e old new
+NotesHeldOnJoining _ _ old new = ⊥
 
 -- what each of the devices holds of which an array is to be made
 abbrev pub held_each : {Z : Type 0} → Option (Vec Held Z) → List Held
@@ -36,14 +36,14 @@ held_each None = []
 held_each (Some held) = held.items
 
 -- each of the devices was looked at of which an array is to be made, and what they hold is noted
-pub record LooksAtAll (before after : List Disk) (old new : Notices) : Type 0 where
+pub record NotesHeldOnEach (before after : List Disk) (old new : Notices) : Type 0 where
   pub seen : is_some new.each ≡ true
   pub looks : LooksAtEach before after (held_each new.each)
   pub noted : new ≡ record old { each = new.each }
 
--- something is known of one of them
-abbrev pub one_is_known : {Z : Type 0} → Option (Vec Held Z) → Bool
-one_is_known each = list_any is_known (held_each each)
+-- one of them is to be told of
+abbrev pub one_needs_telling : {Z : Type 0} → Option (Vec Held Z) → Bool
+one_needs_telling each = list_any needs_telling (held_each each)
 
 -- the number of the device that is to join, where its superblock is one of the array
 abbrev pub IsJoining : Superblock → Held → Option ℕ → Type 0

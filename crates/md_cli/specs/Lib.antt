@@ -1,6 +1,6 @@
 -- What the commands that open a whole array give.
 pub mod Arrays
--- What a command gives that may be asked first.
+-- Commands that may be asked first.
 pub mod Asking
 -- What `create` makes of its options.
 pub mod CreateOptions
@@ -18,6 +18,8 @@ pub mod Opened
 pub mod Performing
 -- What one run gives.
 pub mod Running
+-- What standard error is told of what was noticed.
+pub mod Telling
 -- The input and the output of a run.
 pub mod Streams
 pub use Rattle.md_examine.specs.Sink

@@ -1,5 +1,5 @@
 -- What is noticed of an array beside what a command gives: which of its images, and which devices that were not named, get a line.
-use Rattle.std.specs.Prelude.{◌≡◌, ◌↔◌, ◌==◌, ◌&&◌, ℕ, IsTrue, Bool, true, false, List, Option, Some, None, MatchOption, is_some, length, replicate, slice_get, unwrap_or, if◌then◌else◌}
+use Rattle.std.specs.Prelude.{◌≡◌, ◌↔◌, ◌==◌, ◌&&◌, ◌||◌, ℕ, IsTrue, Bool, false, List, Option, Some, None, MatchOption, is_some, length, replicate, slice_get, unwrap_or, if◌then◌else◌}
 use Rattle.md_state.specs.View.{ArrayView}
 use Rattle.md_kept_members.specs.View.{MemberView}
 use Rattle.md_notices.specs.declared.noticing.Asked.{Asked}
@@ -12,8 +12,8 @@ use Rattle.md_words.specs.declared.overwritten.Overwritten.{Overwritten}
 use Rattle.md_words.specs.declared.overwritten.Overwritten.TheVariants as overwritten
 use Rattle.md_cli.specs.declared.notices.Notices.{Notices}
 use Rattle.md_held.specs.declared.held.Held.TheVariants.{Nothing}
-use Rattle.md_held.specs.Holding.{is_known}
-use Rattle.md_cli.specs.Holding.{IsJoining, IsOwn, one_is_known}
+use Rattle.md_held.specs.Holding.{is_unseen, needs_telling}
+use Rattle.md_cli.specs.Holding.{IsJoining, IsOwn, one_needs_telling}
 use Rattle.md_cli.specs.Opened.{OpenedView}
 
 -- nothing is noticed
@@ -72,15 +72,16 @@ abbrev pub was_spare : Option MemberState → Bool
 was_spare None = false
 was_spare (Some state) = is_spare state
 
--- What is overwritten is asked of before, where what it holds is known, or it was written to without the others. A member that can't
--- be rebuilt is not asked of.
-abbrev pub asks_of : Overwritten → Notices → Bool
-asks_of overwritten.Images n = one_is_known n.each
-asks_of overwritten.NewDevice n = is_known n.held
-asks_of overwritten.ReturningDevice n = n.own
-asks_of (overwritten.Member k) n = unwrap_or (slice_get n.parted k) false && was_spare (unwrap_or (slice_get n.states k) None)
-asks_of overwritten.Nothing n = false
+-- What is overwritten is asked of before, where what it holds is known, or where nobody looked at it. A returning device and a member
+-- are asked of where they were written to without the others, and a member that can't be rebuilt is not.
+abbrev pub asks_before : Overwritten → Notices → Bool
+asks_before overwritten.Images n = one_needs_telling n.each
+asks_before overwritten.NewDevice n = needs_telling n.held
+asks_before overwritten.ReturningDevice n = n.own || is_unseen n.held
+asks_before (overwritten.Member k) n =
+    unwrap_or (slice_get n.parted k) false && was_spare (unwrap_or (slice_get n.states k) None)
+asks_before overwritten.Nothing n = false
 
 -- a command is asked of before it is done
 abbrev pub asks_first : Ask → Notices → Bool
-asks_first ask n = asks_of (overwritten_by ask) n
+asks_first ask n = asks_before (overwritten_by ask) n

@@ -12,8 +12,8 @@ pub record OpenedView : Type 0 where
   pub mirror : MirrorView
   pub beside : Option Disk
 
-abbrev pub seen : {D : Type 0} → Ghosts D → Opened D → OpenedView
-seen g o = record { mirror = o.mirror; beside = option_map (disk_of g) o.beside }
+abbrev pub opened_view : {D : Type 0} → Ghosts D → Opened D → OpenedView
+opened_view g o = record { mirror = o.mirror; beside = option_map (disk_of g) o.beside }
 
 -- how many devices it is
 abbrev pub count : {X : Type 0} → Option X → ℕ

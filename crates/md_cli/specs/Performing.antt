@@ -1,9 +1,11 @@
 -- What commands do with an opened array.
-use Rattle.std.specs.Prelude.{◌≡◌, ℕ, Bool, true, false, Some, Result, MatchResult}
+use Rattle.std.specs.Prelude.{◌≡◌, ℕ, Bool, true, false, List, Some, Result, MatchResult}
 use Rattle.md_commands.specs.declared.source.Source.{Ghosts as SourceGhosts}
 use Rattle.md_commands.specs.Adding.{AddsDevice, KeepsDevice, RefusesToAdd}
-use Rattle.md_commands.specs.Checking.{ChecksMembers, ListsMembers, RefusesToCheck, RefusesToList}
+use Rattle.md_commands.specs.Checking.{ChecksMembers, ListsMismatches, RefusesToCheck, RefusesToList}
 use Rattle.md_commands.specs.Failing.{RefusesToFail}
+use Rattle.md_commands.specs.Filling.{ReadsFilled}
+use Rattle.md_commands.specs.Objects.{checked_line, detail_shown, plan_shown, summary_shown}
 use Rattle.md_commands.specs.Output.{ShowsText}
 use Rattle.md_commands.specs.Planning.{RefusesToPlan, ShowsPlan}
 use Rattle.md_commands.specs.ReAdding.{ReAddsDevice, RefusesToReAdd}
@@ -14,18 +16,21 @@ use Rattle.md_commands.specs.Resyncing.{RefusesToResync, ResyncsArray}
 use Rattle.md_commands.specs.Stopping.{RefusesToStop, StopsArray, StopsArrayAfter}
 use Rattle.md_commands.specs.Writing.{RefusesToWrite, WritesArray}
 use Rattle.md_examine.specs.declared.sink.Sink.{Ghosts as SinkGhosts}
-use Rattle.md_report.specs.DetailReport.{detail_text}
-use Rattle.md_report.specs.SummaryReport.{summary_text}
+use Rattle.md_images.specs.Taking.{Text}
+use Rattle.md_report.specs.CheckReport.{list_text}
 use Rattle.md_state.specs.FailingMembers.{FailsMember}
 use Rattle.md_state.specs.View.{Disk}
 use Rattle.md_words.specs.Asks.{Ask, assembles, details, plans, reads, checks, writes, resyncs, stops, fails, removes, adds, re_adds, rebuilds}
+use Rattle.md_words.specs.declared.form.CheckForm.{CheckForm}
+use Rattle.md_words.specs.declared.form.CheckForm.TheVariants as check_form
 use Rattle.md_commands.specs.declared.fault.CommandFault.{CommandFault}
 use Rattle.md_cli.specs.Opened.{OpenedView}
 use Rattle.md_cli.specs.Streams.{Streams}
 
 module _ {S : Type 0} (s : SinkGhosts S) where
   -- Sectors of the array are put out: after a resync where one is needed or, where no image may be changed, as they would be after it.
-  abbrev pub ShowsSectors : ℕ → ℕ → Bool → OpenedView → OpenedView → S → S → Result (Unit {0}) CommandFault → Type 0
+  abbrev pub ShowsSectors : ℕ → ℕ → Bool → OpenedView → OpenedView → S → S → Result (Unit {0}) CommandFault
+      → Type 0
   ShowsSectors sector count false before after old new result =
       MatchResult result
       (λ _. ReadsArray s sector count before.mirror after.mirror old new)
@@ -35,26 +40,41 @@ module _ {S : Type 0} (s : SinkGhosts S) where
       (λ _. ReadsReadonly s sector count before.mirror after.mirror old new)
       (RefusesReadonly s sector count before.mirror after.mirror old new)
 
+  -- the same, or with zeros in the place of sectors that are not given; then which these are is noted, where all are put out
+  abbrev pub ReadsSectors : {R : Type 0} → ℕ → ℕ → Bool → Bool → OpenedView → OpenedView → Streams R S
+      → Streams R S → Result (Unit {0}) CommandFault → Type 0
+  ReadsSectors sector count false readonly before after old new result =
+      ShowsSectors sector count readonly before after old.output new.output result
+  ReadsSectors sector count true readonly before after old new result =
+      ReadsFilled s readonly sector count before.mirror after.mirror old.output new.output new.missing result
+
   -- The members in sync are compared, and in how many chunks two differ is put out, or which these are.
-  abbrev pub ShowsMismatches : Bool → OpenedView → OpenedView → S → S → Result (Unit {0}) CommandFault → Type 0
-  ShowsMismatches false before after old new result =
+  abbrev pub ShowsMismatches : CheckForm → List Text → OpenedView → OpenedView → S → S
+      → Result (Unit {0}) CommandFault → Type 0
+  ShowsMismatches check_form.Count names before after old new result =
       MatchResult result
       (λ _. ChecksMembers s before.mirror after.mirror old new)
       (RefusesToCheck s before.mirror after.mirror old new)
-  ShowsMismatches true before after old new result =
+  ShowsMismatches check_form.List names before after old new result =
       MatchResult result
-      (λ _. ListsMembers s before.mirror after.mirror old new)
+      (λ _. ListsMismatches s (list_text before.mirror.array.chunks) before.mirror after.mirror old new)
+      (RefusesToList s before.mirror after.mirror old new)
+  ShowsMismatches check_form.Json names before after old new result =
+      MatchResult result
+      (λ _. ListsMismatches s (checked_line before.mirror.array names) before.mirror after.mirror old new)
       (RefusesToList s before.mirror after.mirror old new)
 
   -- Member k leaves, and then the array is stopped and shown. Its device stands beside the array then.
-  pub record Removes (k : ℕ) (before after : OpenedView) (old new : S) (result : Result (Unit {0}) CommandFault) : Type 0 where
+  pub record Removes (k : ℕ) (before after : OpenedView) (old new : S)
+      (result : Result (Unit {0}) CommandFault) : Type 0 where
     pub handed_back : HandsBack k before.mirror.disks after.mirror.disks after.beside
     pub removes : MatchResult result
         (λ _. StopsArrayAfter s (RemovesMember k before.mirror) after.mirror old new)
         (RefusesToRemove s k before.mirror after.mirror old new)
 
   -- The device beside the array joins it, and then the array is stopped and shown. If it does not join, it stands there again.
-  pub record Adds (before after : OpenedView) (old new : S) (result : Result (Unit {0}) CommandFault) : Type 0 where
+  pub record Adds (before after : OpenedView) (old new : S)
+      (result : Result (Unit {0}) CommandFault) : Type 0 where
     pub device : Disk
     pub is : before.beside ≡ Some device
     pub kept : KeepsDevice before.mirror.disks after.mirror.disks after.beside
@@ -63,7 +83,8 @@ module _ {S : Type 0} (s : SinkGhosts S) where
         (RefusesToAdd s device after.beside before.mirror after.mirror old new)
 
   -- it comes back, and gets what it lacks
-  pub record ReAdds (before after : OpenedView) (old new : S) (result : Result (Unit {0}) CommandFault) : Type 0 where
+  pub record ReAdds (before after : OpenedView) (old new : S)
+      (result : Result (Unit {0}) CommandFault) : Type 0 where
     pub device : Disk
     pub is : before.beside ≡ Some device
     pub kept : KeepsDevice before.mirror.disks after.mirror.disks after.beside
@@ -71,23 +92,29 @@ module _ {S : Type 0} (s : SinkGhosts S) where
         (λ _. StopsArrayAfter s (ReAddsDevice device before.mirror) after.mirror old new)
         (RefusesToReAdd s device after.beside before.mirror after.mirror old new)
 
-module _ {R S : Type 0} (r : SourceGhosts R) (s : SinkGhosts S) where
-  -- The array as it was opened and as it is left, and the streams before and after. A report leaves the array as it is. The
-  -- input is read by `write` alone.
-  abbrev pub Performs : Ask → OpenedView → OpenedView → Streams R S → Streams R S → Result (Unit {0}) CommandFault → Type 0
-  Performs (assembles readonly) before after old new result =
-      (after ≡ before) × (new.input ≡ old.input) × ShowsText s (summary_text before.mirror.array) old.output new.output result
-  Performs (details readonly) before after old new result =
-      (after ≡ before) × (new.input ≡ old.input) × ShowsText s (detail_text before.mirror.array) old.output new.output result
-  Performs (plans k readonly) before after old new result =
+module _ {R S : Type 0} (r : SourceGhosts R) (s : SinkGhosts S) (names : List Text) where
+  -- The array as it was opened and as it is left, from the images of these names, that of a device which joins last; and the streams
+  -- before and after. A report leaves the array as it is. The input is read by `write` alone.
+  abbrev pub Performs : Ask → OpenedView → OpenedView → Streams R S → Streams R S
+      → Result (Unit {0}) CommandFault → Type 0
+  Performs (assembles json readonly) before after old new result =
+      (after ≡ before) × (new.input ≡ old.input)
+      × ShowsText s (summary_shown json names before.mirror.array) old.output new.output result
+  Performs (details json readonly) before after old new result =
+      (after ≡ before) × (new.input ≡ old.input)
+      × ShowsText s (detail_shown json names before.mirror.array) old.output new.output result
+  Performs (plans k json readonly) before after old new result =
       (after ≡ before) × (new.input ≡ old.input)
       × MatchResult result
-      (λ _. ShowsPlan s before.mirror.array k old.output new.output)
+      (λ _. ShowsPlan s before.mirror.array k old.output new.output
+      (plan_shown json names before.mirror.array))
       (RefusesToPlan s before.mirror.array k old.output new.output)
-  Performs (reads sector count readonly) before after old new result =
-      (after.beside ≡ before.beside) × (new.input ≡ old.input) × ShowsSectors s sector count readonly before after old.output new.output result
-  Performs (checks list readonly) before after old new result =
-      (after.beside ≡ before.beside) × (new.input ≡ old.input) × ShowsMismatches s list before after old.output new.output result
+  Performs (reads sector count fill readonly) before after old new result =
+      (after.beside ≡ before.beside) × (new.input ≡ old.input)
+      × ReadsSectors s sector count fill readonly before after old new result
+  Performs (checks form readonly) before after old new result =
+      (after.beside ≡ before.beside) × (new.input ≡ old.input)
+      × ShowsMismatches s form names before after old.output new.output result
   Performs (writes sector) before after old new result =
       (after.beside ≡ before.beside)
       × MatchResult result
@@ -108,9 +135,12 @@ module _ {R S : Type 0} (r : SourceGhosts R) (s : SinkGhosts S) where
       × MatchResult result
       (λ _. StopsArrayAfter s (FailsMember k before.mirror) after.mirror old.output new.output)
       (RefusesToFail s k before.mirror after.mirror old.output new.output)
-  Performs (removes k) before after old new result = (new.input ≡ old.input) × Removes s k before after old.output new.output result
-  Performs (adds name) before after old new result = (new.input ≡ old.input) × Adds s before after old.output new.output result
-  Performs (re_adds name) before after old new result = (new.input ≡ old.input) × ReAdds s before after old.output new.output result
+  Performs (removes k) before after old new result =
+      (new.input ≡ old.input) × Removes s k before after old.output new.output result
+  Performs (adds name) before after old new result =
+      (new.input ≡ old.input) × Adds s before after old.output new.output result
+  Performs (re_adds name) before after old new result =
+      (new.input ≡ old.input) × ReAdds s before after old.output new.output result
   Performs (rebuilds k) before after old new result =
       (after.beside ≡ before.beside) × (new.input ≡ old.input)
       × MatchResult result

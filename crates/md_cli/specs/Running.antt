@@ -11,8 +11,9 @@ use Rattle.md_commands.specs.declared.option_fault.OptionFault.{OptionFault}
 use Rattle.md_words.specs.Asks.{Ask, Options, access_of, creates, examines, examines_badblocks, examines_bitmap, is_readonly}
 use Rattle.md_commands.specs.declared.source.Source.{Ghosts as SourceGhosts}
 use Rattle.md_examine.specs.declared.sink.Sink.{Ghosts as SinkGhosts}
+use Rattle.md_cli.specs.Asking.{Answers, question}
 use Rattle.md_cli.specs.Arrays.{KeepsImages, UsesImages, WorksOn, names_with}
-use Rattle.md_cli.specs.CreateOptions.{IsPlan, option_fault}
+use Rattle.md_cli.specs.CreateOptions.{AreParamsOf, option_fault}
 use Rattle.md_cli.specs.Creating.{CreatesOn}
 use Rattle.md_cli.specs.Examining.{ExaminesOne}
 use Rattle.md_cli.specs.declared.notices.Notices.{Notices}
@@ -31,50 +32,68 @@ IsIdle before after old new = (after ≡ before) × (new ≡ old)
 
 module _ {I D S : Type 0} (i : ImagesGhosts I D) (g : DeviceGhosts D) (s : SinkGhosts S) where
   -- a report on one image
-  pub record Examines (ask : Ask) (words : List Text) (before after : I) (old new : S) (result : Result (Unit {0}) CommandFault) : Type 0 where
+  pub record ExaminesImage (ask : Ask) (words : List Text) (before after : I) (old new : S)
+      (result : Result (Unit {0}) CommandFault) : Type 0 where
     pub count : length words ≢ 1 → (result ≡ Err fault.BadCount) × IsIdle before after old new
     pub one : (name : Text) → words ≡ name ∷ []
-        → ExaminesOne ask g s.contents s.failed (i.known before) (i.device_at before) (i.device_at after) name old new result
+        → ExaminesOne ask g s.contents s.failed (i.known before) (i.device_at before) (i.device_at after) name
+        old new result
 
 -- the options of `create` are refused
-pub record RefusesOptions {I X : Type 0} (o : Options) (words : List Text) (before after : I) (old new : X) (result : Result (Unit {0}) CommandFault) : Type 0 where
+pub record RefusesOptions {I X : Type 0} (o : Options) (words : List Text) (before after : I) (old new : X)
+    (result : Result (Unit {0}) CommandFault) : Type 0 where
   pub first : OptionFault
   pub is_first : option_fault o (length words) ≡ Some first
   pub refused : result ≡ Err (fault.Options first)
   pub idle : IsIdle before after old new
 
-module _ {I D R S : Type 0} (i : ImagesGhosts I D) (g : DeviceGhosts D) (s : SinkGhosts S) where
+module _ {I D R S : Type 0} (i : ImagesGhosts I D) (g : DeviceGhosts D) (s : SinkGhosts S)
+    (answered : Answers) where
   -- an array is made: the options are refused, or they say what it is made from
-  pub record Creates (o : Options) (words : List Text) (before after : I) (old new : Told R S) (result : Result (Unit {0}) CommandFault) : Type 0 where
+  pub record Creates (o : Options) (words : List Text) (before after : I) (old new : Told R S)
+      (result : Result (Unit {0}) CommandFault) : Type 0 where
     pub sound : option_fault o (length words) ≡ None
     pub params : CreateParams
-    pub planned : IsPlan o params
-    pub done : UsesImages i g (CreatesOn s (creates o) params words) Change (image_list true words) before after old new result
+    pub params_are : AreParamsOf o params
+    pub done : UsesImages i g (CreatesOn s (question answered (creates o) words) params words) Change
+        (image_list true words) before after old new result
 
-  abbrev pub MakesArray : Options → List Text → I → I → Told R S → Told R S → Result (Unit {0}) CommandFault → Type 0
+  abbrev pub MakesArray : Options → List Text → I → I → Told R S → Told R S → Result (Unit {0}) CommandFault
+      → Type 0
   MakesArray o words before after old new result =
       RefusesOptions o words before after old new result ⊎ Creates o words before after old new result
 
-module _ {I D R S : Type 0} (i : ImagesGhosts I D) (g : DeviceGhosts D) (r : SourceGhosts R) (s : SinkGhosts S) where
+module _ {I D R S : Type 0} (i : ImagesGhosts I D) (g : DeviceGhosts D) (r : SourceGhosts R)
+    (s : SinkGhosts S) (answered : Answers) where
   -- A command with the array that the images make. Of one that may change none each of them stays as it is.
-  pub record OpensArray (ask : Ask) (words : List Text) (before after : I) (old new : Told R S) (result : Result (Unit {0}) CommandFault) : Type 0 where
+  pub record OpensArray (ask : Ask) (words : List Text) (before after : I) (old new : Told R S)
+      (result : Result (Unit {0}) CommandFault) : Type 0 where
     pub kept : is_readonly ask ≡ true → KeepsImages i before after
-    pub done : UsesImages i g (WorksOn r s ask) (access_of ask) (image_list false (names_with ask words)) before after old new result
+    pub done : UsesImages i g
+        (WorksOn r s (question answered ask (names_with ask words)) (names_with ask words) ask)
+        (access_of ask) (image_list false (names_with ask words)) before after old new result
 
   -- What each command does with the images that its words name. The input is read by `write` alone.
   abbrev pub Does : Ask → List Text → I → I → Told R S → Told R S → Result (Unit {0}) CommandFault → Type 0
-  Does (examines all) words before after old new result =
-      (new.streams.input ≡ old.streams.input) × Examines i g s (examines all) words before after old.streams.output new.streams.output result
-  Does (examines_bitmap all) words before after old new result =
-      (new.streams.input ≡ old.streams.input) × Examines i g s (examines_bitmap all) words before after old.streams.output new.streams.output result
-  Does (examines_badblocks all) words before after old new result =
-      (new.streams.input ≡ old.streams.input) × Examines i g s (examines_badblocks all) words before after old.streams.output new.streams.output result
-  Does (creates o) words before after old new result = MakesArray i g s o words before after old new result
+  Does (examines form) words before after old new result =
+      (new.streams.input ≡ old.streams.input)
+      × ExaminesImage i g s (examines form) words before after old.streams.output new.streams.output result
+  Does (examines_bitmap form) words before after old new result =
+      (new.streams.input ≡ old.streams.input) × ExaminesImage i g s (examines_bitmap form) words before after
+      old.streams.output new.streams.output result
+  Does (examines_badblocks form) words before after old new result =
+      (new.streams.input ≡ old.streams.input) × ExaminesImage i g s (examines_badblocks form) words before
+      after old.streams.output new.streams.output result
+  Does (creates o) words before after old new result =
+      MakesArray i g s answered o words before after old new result
   Does ask words before after old new result = OpensArray ask words before after old new result
 
   -- the command's own answer, whose status this is, and what it noticed, which is told beside it
-  pub record DoesCommand (ask : Ask) (words : List Text) (before after : I) (old new : Streams R S) (status : ℕ) : Type 0 where
+  pub record DoesCommand (telling : Result (Unit {0}) CommandFault → Notices → Type 0) (ask : Ask)
+      (words : List Text) (before after : I) (old new : Streams R S) (status : ℕ) : Type 0 where
     pub result : Result (Unit {0}) CommandFault
     pub status_is : status ≡ status_of result
     pub noticed : Notices
-    pub does : Does ask words before after (record { streams = old; notices = nothing }) (record { streams = new; notices = noticed }) result
+    pub does : Does ask words before after (record { streams = old; notices = nothing })
+        (record { streams = new; notices = noticed }) result
+    pub told : telling result noticed

@@ -3,6 +3,7 @@ ghost use Rattle.std.specs.Prelude.{◌≡◌, ◌<◌, ◌++◌, ◌∷◌, [],
 ghost use Rattle.md_images.specs.Taking.{image_list};
 ghost use Rattle.md_words.specs.Asks.{access_of, ask_of, device_of, is_readonly, opens_array};
 ghost use Rattle.md_cli.specs.Arrays.{KeepsImages, UsesImages, WorksOn, names_with, texts};
+ghost use Rattle.md_cli.specs.Asking.{question_of};
 ghost use Rattle.md_cli.specs.Streams.{told_of};
 
 use crate::asker::Asker;
@@ -33,7 +34,10 @@ pub(crate) fn with_array<
     notices: &mut Notices,
 ) -> Result<(), CommandFault>
     requires opens { opens_array (ask_of command) ≡ true }
-    ensures gives { UsesImages I.Images I.Dev.Device (WorksOn R.Source S.Sink (ask_of command.entry))
+    ensures gives { UsesImages I.Images I.Dev.Device
+        (WorksOn R.Source S.Sink (question_of W.Asker session.old (ask_of command.entry)
+        (names_with (ask_of command.entry) (texts names.now)))
+        (names_with (ask_of command.entry) (texts names.now)) (ask_of command.entry))
         (access_of (ask_of command.entry))
         (image_list false (names_with (ask_of command.entry) (texts names.now)))
         images.old images.new (told_of session.old notices.old) (told_of session.new notices.new) result }
@@ -80,7 +84,10 @@ fn with_images<
 ) -> Result<(), CommandFault>
     requires opens { opens_array (ask_of command) ≡ true }
     requires brings { is_some (device_of (ask_of command)) ≡ true → 0 < length names.now }
-    ensures gives { UsesImages I.Images I.Dev.Device (WorksOn R.Source S.Sink (ask_of command.entry))
+    ensures gives { UsesImages I.Images I.Dev.Device
+        (WorksOn R.Source S.Sink
+        (question_of W.Asker session.old (ask_of command.entry) (texts names.now)) (texts names.now)
+        (ask_of command.entry))
         (access_of (ask_of command.entry)) (image_list false (texts names.now))
         images.old images.new (told_of session.old notices.old) (told_of session.new notices.new) result }
     ensures kept { is_readonly (ask_of command.entry) ≡ true → KeepsImages I.Images images.old images.new }

@@ -1,21 +1,22 @@
 // Commands that may be asked first.
-ghost use Rattle.std.specs.Prelude.{◌≡◌, ◌≢◌, Err, IfOk, false, is_some, true};
+ghost use Rattle.std.specs.Prelude.{◌≡◌, IfOk, is_some, true};
 ghost use Rattle.md_array.specs.Consistency.{IsConsistent};
 ghost use Rattle.md_words.specs.Asks.{ask_of, device_of, opens_array};
-ghost use Rattle.md_commands.specs.declared.fault.CommandFault.TheVariants.{Declined};
-ghost use Rattle.md_cli.specs.Asking.{Answers};
-ghost use Rattle.md_cli.specs.Noticed.{asks_first};
-ghost use Rattle.md_cli.specs.Opened.{seen};
+ghost use Rattle.md_cli.specs.Arrays.{texts};
+ghost use Rattle.md_cli.specs.Asking.{PerformsOrDeclines, question, question_of};
+ghost use Rattle.md_cli.specs.Opened.{opened_view};
 ghost use Rattle.md_cli.specs.Streams.{streams_of};
+ghost use Rattle.md_cli.specs.Telling.{first_text};
 
 use crate::asker::Asker;
 use crate::notices::Notices;
 use crate::opened::Opened;
 use crate::performing::perform;
 use crate::session::Session;
+use crate::telling::put_first;
 use md_commands::{CommandFault, Source, Watch};
 use md_device::Device;
-use md_examine::{Output, Sink};
+use md_examine::{Output, Sink, SinkFault};
 use md_words::Command;
 use std::alloc::Global;
 use std::sync::Wait;
@@ -39,42 +40,53 @@ pub(crate) fn perform_asked<
     requires sound { IsConsistent opened.old.mirror }
     requires opens { opens_array (ask_of command) ≡ true }
     requires brings { is_some opened.old.beside ≡ is_some (device_of (ask_of command)) }
-    ensures answers { Answers R.Source S.Sink (ask_of command.entry) notices.now
-        (seen D.Device opened.old) (seen D.Device opened.new)
+    ensures answers { PerformsOrDeclines R.Source S.Sink
+        (question_of W.Asker session.old (ask_of command.entry) (texts names.now)) (texts names.now)
+        (ask_of command.entry) notices.now (opened_view D.Device opened.old) (opened_view D.Device opened.new)
         (streams_of session.old) (streams_of session.new) result }
-    ensures asked { asks_first (ask_of command.entry) notices.now ≡ true → result ≢ Err Declined
-        → W.Asker.agreed session.old.watch.now }
     ensures flushed { IfOk result (λ _. S.is_flushed session.new.out) }
 {
-    if !goes_on(session.alloc, session.watch, command, notices, names) {
-        return Err(CommandFault::Declined);
+    match ask_first(session.alloc, session.watch, command, notices, names) {
+        Ok(()) => perform(session, command, opened, names),
+        Err(fault) => Err(fault),
     }
-    perform(session, command, opened)
 }
 
-/// Whether a command goes on. Where it would overwrite what perhaps should stay, by what was noticed, that is asked. The
-/// names are those of all images.
-pub(crate) fn goes_on<W: Asker>(
+/// Asks whether a command goes on, where it would overwrite what perhaps should stay, by what was noticed. The names are
+/// those of all images. Without memory for the lines that are asked with it does not go on.
+pub(crate) fn ask_first<W: Asker>(
     alloc: Global,
     watch: &W,
     command: Command<'_>,
     notices: &Notices,
     names: &[&str],
-) -> bool
-    ensures declined { result ≡ false → asks_first (ask_of command.entry) notices.now ≡ true }
-    ensures asked { result ≡ true → asks_first (ask_of command.entry) notices.now ≡ true
-        → W.agreed watch.now }
+) -> Result<(), CommandFault>
+    ensures { question (W.answered watch.now) (ask_of command.entry) (texts names.now) notices.now result }
 {
-    if !notices.asks_first(command) {
-        return true;
+    if !notices.asks_first(command) || !watch.is_there() {
+        return Ok(());
     }
-    let lines = lines_first(alloc, command, notices, names);
-    watch.goes_on(&lines)
+    let Ok(lines) = lines_first(alloc, command, notices, names) else {
+        return Err(CommandFault::NoMemory);
+    };
+    if watch.goes_on(&lines) {
+        Ok(())
+    } else {
+        Err(CommandFault::Declined)
+    }
 }
 
-// The lines that are said before. Without memory they are cut short.
-fn lines_first(alloc: Global, command: Command<'_>, notices: &Notices, names: &[&str]) -> Vec<u8> {
+// The lines that are said before.
+fn lines_first(
+    alloc: Global,
+    command: Command<'_>,
+    notices: &Notices,
+    names: &[&str],
+) -> Result<Vec<u8>, SinkFault>
+    ensures { IfOk result (λ lines.
+        lines.items ≡ first_text (ask_of command.entry) (texts names.now) notices.now) }
+{
     let mut out = Output::new(Vec::new(alloc));
-    let _ = notices.put_first(command, names, &mut out);
-    out.into_inner()
+    put_first(notices, command, names, &mut out)?;
+    Ok(out.into_inner())
 }

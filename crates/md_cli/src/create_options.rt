@@ -2,7 +2,7 @@
 ghost use Rattle.std.specs.Prelude.{◌≡◌, ℕ, IfOk, IfErr, None, Some};
 ghost use Rattle.uuid.specs.Text.{parsed};
 ghost use Rattle.md_words.specs.Asks.{options_of};
-ghost use Rattle.md_cli.specs.CreateOptions.{IsPlan, bytes_of, is_raid1, option_fault, sectors_of, set_name_of};
+ghost use Rattle.md_cli.specs.CreateOptions.{AreParamsOf, bytes_of, is_raid1, option_fault, sectors_of, set_name_of};
 
 use md_commands::OptionFault;
 use md_create::CreateParams;
@@ -61,7 +61,7 @@ pub(crate) fn params_of(
     count: usize,
 ) -> Result<CreateParams, OptionFault>
     ensures sound { IfOk result (λ _. option_fault (options_of options.now) count ≡ None) }
-    ensures params { IfOk result (IsPlan (options_of options.now)) }
+    ensures params { IfOk result (AreParamsOf (options_of options.now)) }
     ensures refused { IfErr result (λ f. option_fault (options_of options.now) count ≡ Some f) }
 {
     if !is_raid1(options.level) {

@@ -3,12 +3,13 @@ ghost use Rattle.std.specs.Prelude.{◌≡◌, ◌≢◌, ◌*◌, ◌≤◌, �
 ghost use Rattle.md_words.specs.Asks.{ask_of};
 ghost use Rattle.md_state.specs.View.{Disk};
 ghost use Rattle.md_cli.specs.Arrays.{UsesImages, disks, texts};
+ghost use Rattle.md_cli.specs.Asking.{question_of};
 ghost use Rattle.md_cli.specs.Creating.{AreNewMembers, CreatesOn, IsRefusal, LaysOutOn};
 ghost use Rattle.md_cli.specs.Streams.{told_of};
 ghost use Rattle.md_images.specs.Taking.{image_list, word_of};
 
 use crate::asker::Asker;
-use crate::asking::goes_on;
+use crate::asking::ask_first;
 use crate::laying_out::lay_out_each;
 use crate::notices::Notices;
 use crate::session::Session;
@@ -84,7 +85,9 @@ fn create_on<D: Device + Drop, T, R: Drop, S: Sink + Drop, W: Asker>(
     requires words { map word_of words.now ≡ image_list true (texts names.now) }
     requires as_many { length devices.items ≡ length words.now }
     ensures as_many { length result.0.items ≡ length devices.items }
-    ensures gives { CreatesOn S.Sink (ask_of command.entry) params.now (texts names.now)
+    ensures gives { CreatesOn S.Sink
+        (question_of W.Asker session.old (ask_of command.entry) (texts names.now))
+        params.now (texts names.now)
         (disks D.Device devices.items) (disks D.Device result.0.items)
         (told_of session.old notices.old) (told_of session.new notices.new) result.1 }
     ensures flushed { IfOk result.1 (λ _. S.is_flushed session.new.out) }
@@ -93,19 +96,19 @@ fn create_on<D: Device + Drop, T, R: Drop, S: Sink + Drop, W: Asker>(
         Ok(members) => members,
         Err(fault) => return (devices, Err(fault)),
     };
-    if notices.look_at_each(session.alloc, &mut devices).is_err() {
+    if notices
+        .note_held_on_each(session.alloc, &mut devices)
+        .is_err()
+    {
         return (devices, Err(CommandFault::NoMemory));
     }
-    if !goes_on(session.alloc, session.watch, command, notices, names) {
-        return (devices, Err(CommandFault::Declined));
+    match ask_first(session.alloc, session.watch, command, notices, names) {
+        Ok(()) => {
+            let out = &mut session.out;
+            lay_out_on(session.alloc, words, devices, members.as_slice(), out)
+        }
+        Err(fault) => (devices, Err(fault)),
     }
-    lay_out_on(
-        session.alloc,
-        words,
-        devices,
-        members.as_slice(),
-        &mut session.out,
-    )
 }
 
 /// Makes an array of the images, shows it in a line, and puts the images back. `notices` gets what they held.
@@ -118,7 +121,8 @@ pub(crate) fn create_images<I: Images, T, R: Drop, S: Sink + Drop, W: Asker>(
     notices: &mut Notices,
 ) -> Result<(), CommandFault>
     ensures gives { UsesImages I.Images I.Dev.Device
-        (CreatesOn S.Sink (ask_of command.entry) params.now (texts names.now))
+        (CreatesOn S.Sink (question_of W.Asker session.old (ask_of command.entry) (texts names.now))
+        params.now (texts names.now))
         Access.Change (image_list true (texts names.now))
         images.old images.new (told_of session.old notices.old) (told_of session.new notices.new) result }
     ensures flushed { IfOk result (λ _. S.is_flushed session.new.out) }

@@ -2,7 +2,8 @@
 ghost use Rattle.std.specs.Prelude.{◌≡◌, ◌+◌, ◌<◌, ◌≤◌, [], IfOk, is_some, length, option_map, true, vec_capacity};
 ghost use Rattle.md_state.specs.View.{disk_of};
 ghost use Rattle.md_words.specs.Asks.{ask_of, device_of, is_readonly, opens_array};
-ghost use Rattle.md_cli.specs.Arrays.{LooksAtDevices, OpensDevices, OpensMembers, WorksOn, disks, told_of_overlays};
+ghost use Rattle.md_cli.specs.Arrays.{LooksAtDevices, OpensDevices, OpensMembers, WorksOn, answer_of_overlays, disks, texts};
+ghost use Rattle.md_cli.specs.Asking.{question_of};
 ghost use Rattle.md_cli.specs.Opened.{count, moves_device};
 ghost use Rattle.md_cli.specs.Streams.{told_of};
 
@@ -39,7 +40,9 @@ pub(crate) fn with_devices<
     requires brings { is_some (device_of (ask_of command)) ≡ true → 0 < length devices.items }
     ensures as_many { length result.0.items ≡ length devices.items }
     ensures kept { is_readonly (ask_of command.entry) ≡ true → result.0.items ≡ devices.items }
-    ensures gives { WorksOn R.Source S.Sink (ask_of command.entry)
+    ensures gives { WorksOn R.Source S.Sink
+        (question_of W.Asker session.old (ask_of command.entry) (texts names.now)) (texts names.now)
+        (ask_of command.entry)
         (disks D.Device devices.items) (disks D.Device result.0.items)
         (told_of session.old notices.old) (told_of session.new notices.new) result.1 }
     ensures flushed { IfOk result.1 (λ _. S.is_flushed session.new.out) }
@@ -67,7 +70,10 @@ fn look_at_devices<
 ) -> Result<(), CommandFault>
     requires opens { opens_array (ask_of command) ≡ true }
     requires brings { is_some (device_of (ask_of command)) ≡ true → 0 < length devices.now }
-    ensures gives { LooksAtDevices R.Source S.Sink (ask_of command.entry) (disks D.Device devices.now)
+    ensures gives { LooksAtDevices R.Source S.Sink
+        (question_of W.Asker session.old (ask_of command.entry) (texts names.now)) (texts names.now)
+        (ask_of command.entry)
+        (disks D.Device devices.now)
         (told_of session.old notices.old) (told_of session.new notices.new) result }
     ensures flushed { IfOk result (λ _. S.is_flushed session.new.out) }
 {
@@ -78,12 +84,12 @@ fn look_at_devices<
     drop(overlays);
     // Nothing was stored but in memory.
     notices.forget_stored();
-    told_of_overlays(result)
+    answer_of_overlays(result)
 }
 
 // What an answer says of overlays, which refuse a write only where there is no memory for it.
-fn told_of_overlays(answer: Result<(), CommandFault>) -> Result<(), CommandFault>
-    ensures told { result ≡ told_of_overlays answer }
+fn answer_of_overlays(answer: Result<(), CommandFault>) -> Result<(), CommandFault>
+    ensures told { result ≡ answer_of_overlays answer }
     ensures done { IfOk result (λ _. answer ≡ result) }
 {
     match answer {
@@ -110,7 +116,9 @@ fn open_devices<
     requires opens { opens_array (ask_of command) ≡ true }
     requires brings { is_some (device_of (ask_of command)) ≡ true → 0 < length devices.items }
     ensures as_many { length result.0.items ≡ length devices.items }
-    ensures gives { OpensDevices R.Source S.Sink (ask_of command.entry)
+    ensures gives { OpensDevices R.Source S.Sink
+        (question_of W.Asker session.old (ask_of command.entry) (texts names.now)) (texts names.now)
+        (ask_of command.entry)
         (disks D.Device devices.items) (disks D.Device result.0.items)
         (told_of session.old notices.old) (told_of session.new notices.new) result.1 }
     ensures flushed { IfOk result.1 (λ _. S.is_flushed session.new.out) }
@@ -124,7 +132,7 @@ fn open_devices<
             let Some(mut device) = devices.pop() else {
                 unreachable!()
             };
-            notices.look(session.alloc, &mut device);
+            notices.note_held(session.alloc, &mut device);
             open_members(
                 session,
                 command,
@@ -161,7 +169,9 @@ fn open_members<
     requires room { moves_device (ask_of command) ≡ true →
         length members.items + count beside ≤ vec_capacity list }
     ensures as_many { length result.0.items ≡ length members.items + count beside }
-    ensures gives { OpensMembers R.Source S.Sink (ask_of command.entry)
+    ensures gives { OpensMembers R.Source S.Sink
+        (question_of W.Asker session.old (ask_of command.entry) (texts names.now)) (texts names.now)
+        (ask_of command.entry)
         (disks D.Device members.items) (option_map (disk_of D.Device) beside)
         (disks D.Device result.0.items)
         (told_of session.old notices.old) (told_of session.new notices.new) result.1 }

@@ -1,9 +1,10 @@
 // The commands that show a report on one image.
-ghost use Rattle.std.specs.Prelude.{◌≡◌, ◌≢◌, ◌<◌, ℕ, Err, IfOk, List, [], ◌∷◌, length, false, true};
+ghost use Rattle.std.specs.Prelude.{◌≡◌, ◌≢◌, ◌<◌, ℕ, Err, IfOk, List, [], ◌∷◌, length, true};
 ghost use Rattle.md_words.specs.Asks.{ask_of, examines, examines_badblocks, examines_bitmap};
 ghost use Rattle.md_cli.specs.Arrays.{texts};
 ghost use Rattle.md_cli.specs.Examining.{Examines, ExaminesOne, examines_image};
 
+use crate::json_examining::{show_badblocks_json, show_bitmap_json, show_superblock_json};
 use crate::output::pass_on;
 use crate::raw_examining::{show_raw_badblocks, show_raw_bitmap, show_raw_superblock};
 use md_commands::CommandFault;
@@ -11,7 +12,7 @@ use md_device::Device;
 use md_examine::{Sink, examine, examine_badblocks, examine_bitmap};
 use md_images::{Access, ImageRefusal, Images};
 use md_members::{read_member, read_super};
-use md_words::Command;
+use md_words::{Command, ImageForm};
 use std::alloc::Global;
 
 // Shows the superblock.
@@ -22,7 +23,7 @@ fn show_superblock<D: Device, S: Sink>(
 ) -> Result<(), CommandFault>
     ensures kept { D.content device.new ≡ D.content device.old }
     ensures honest { D.honest device.new ≡ D.honest device.old }
-    ensures gives { Examines (examines false) S.contents S.failed out.old out.new
+    ensures gives { Examines (examines ImageForm.Text) S.contents S.failed out.old out.new
         (D.content device.old) (D.honest device.old) (D.failures device.old < D.failures device.new) result }
     ensures flushed { IfOk result (λ _. S.is_flushed out.new) }
 {
@@ -43,7 +44,7 @@ fn show_bitmap<D: Device, S: Sink>(
 ) -> Result<(), CommandFault>
     ensures kept { D.content device.new ≡ D.content device.old }
     ensures honest { D.honest device.new ≡ D.honest device.old }
-    ensures gives { Examines (examines_bitmap false) S.contents S.failed out.old out.new
+    ensures gives { Examines (examines_bitmap ImageForm.Text) S.contents S.failed out.old out.new
         (D.content device.old) (D.honest device.old) (D.failures device.old < D.failures device.new) result }
     ensures flushed { IfOk result (λ _. S.is_flushed out.new) }
 {
@@ -71,7 +72,7 @@ fn show_badblocks<D: Device, S: Sink>(
 ) -> Result<(), CommandFault>
     ensures kept { D.content device.new ≡ D.content device.old }
     ensures honest { D.honest device.new ≡ D.honest device.old }
-    ensures gives { Examines (examines_badblocks false) S.contents S.failed out.old out.new
+    ensures gives { Examines (examines_badblocks ImageForm.Text) S.contents S.failed out.old out.new
         (D.content device.old) (D.honest device.old) (D.failures device.old < D.failures device.new) result }
     ensures flushed { IfOk result (λ _. S.is_flushed out.new) }
 {
@@ -85,60 +86,60 @@ fn show_badblocks<D: Device, S: Sink>(
     }
 }
 
-fn superblock<D: Device, S: Sink>(
+fn report_superblock<D: Device, S: Sink>(
     alloc: Global,
-    all: bool,
+    form: ImageForm,
     device: &mut D,
     out: &mut S,
 ) -> Result<(), CommandFault>
     ensures kept { D.content device.new ≡ D.content device.old }
     ensures honest { D.honest device.new ≡ D.honest device.old }
-    ensures gives { Examines (examines all) S.contents S.failed out.old out.new
+    ensures gives { Examines (examines form) S.contents S.failed out.old out.new
         (D.content device.old) (D.honest device.old) (D.failures device.old < D.failures device.new) result }
     ensures flushed { IfOk result (λ _. S.is_flushed out.new) }
 {
-    if all {
-        show_raw_superblock(device, out)
-    } else {
-        show_superblock(alloc, device, out)
+    match form {
+        ImageForm::Text => show_superblock(alloc, device, out),
+        ImageForm::Raw => show_raw_superblock(device, out),
+        ImageForm::Json => show_superblock_json(alloc, device, out),
     }
 }
 
-fn bitmap<D: Device, S: Sink>(
+fn report_bitmap<D: Device, S: Sink>(
     alloc: Global,
-    all: bool,
+    form: ImageForm,
     device: &mut D,
     out: &mut S,
 ) -> Result<(), CommandFault>
     ensures kept { D.content device.new ≡ D.content device.old }
     ensures honest { D.honest device.new ≡ D.honest device.old }
-    ensures gives { Examines (examines_bitmap all) S.contents S.failed out.old out.new
+    ensures gives { Examines (examines_bitmap form) S.contents S.failed out.old out.new
         (D.content device.old) (D.honest device.old) (D.failures device.old < D.failures device.new) result }
     ensures flushed { IfOk result (λ _. S.is_flushed out.new) }
 {
-    if all {
-        show_raw_bitmap(device, out)
-    } else {
-        show_bitmap(alloc, device, out)
+    match form {
+        ImageForm::Text => show_bitmap(alloc, device, out),
+        ImageForm::Raw => show_raw_bitmap(device, out),
+        ImageForm::Json => show_bitmap_json(alloc, device, out),
     }
 }
 
-fn badblocks<D: Device, S: Sink>(
+fn report_badblocks<D: Device, S: Sink>(
     alloc: Global,
-    all: bool,
+    form: ImageForm,
     device: &mut D,
     out: &mut S,
 ) -> Result<(), CommandFault>
     ensures kept { D.content device.new ≡ D.content device.old }
     ensures honest { D.honest device.new ≡ D.honest device.old }
-    ensures gives { Examines (examines_badblocks all) S.contents S.failed out.old out.new
+    ensures gives { Examines (examines_badblocks form) S.contents S.failed out.old out.new
         (D.content device.old) (D.honest device.old) (D.failures device.old < D.failures device.new) result }
     ensures flushed { IfOk result (λ _. S.is_flushed out.new) }
 {
-    if all {
-        show_raw_badblocks(device, out)
-    } else {
-        show_badblocks(alloc, device, out)
+    match form {
+        ImageForm::Text => show_badblocks(alloc, device, out),
+        ImageForm::Raw => show_raw_badblocks(device, out),
+        ImageForm::Json => show_badblocks_json(alloc, device, out),
     }
 }
 
@@ -156,9 +157,9 @@ fn show<D: Device, S: Sink>(
     ensures flushed { IfOk result (λ _. S.is_flushed out.new) }
 {
     match command {
-        Command::Examine { all } => superblock(alloc, all, device, out),
-        Command::ExamineBitmap { all } => bitmap(alloc, all, device, out),
-        Command::ExamineBadblocks { all } => badblocks(alloc, all, device, out),
+        Command::Examine { form } => report_superblock(alloc, form, device, out),
+        Command::ExamineBitmap { form } => report_bitmap(alloc, form, device, out),
+        Command::ExamineBadblocks { form } => report_badblocks(alloc, form, device, out),
         _ => unreachable!(),
     }
 }

@@ -8,8 +8,10 @@ mod create_options;
 mod creating;
 mod devices;
 mod examining;
+mod json_examining;
 mod laying_out;
 mod messages;
+mod missing;
 mod notices;
 mod opened;
 mod output;
@@ -19,6 +21,7 @@ mod running;
 mod session;
 mod showing;
 mod sizing;
+mod telling;
 
 pub use asker::Asker;
 pub use messages::Messages;

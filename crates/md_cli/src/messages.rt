@@ -1,4 +1,6 @@
 // How much standard error is told.
+ghost use Rattle.std.specs.Prelude.{◌≡◌};
+ghost use Rattle.md_cli.specs.Telling.{has_advice, is_at_terminal};
 
 /// How much standard error is told of a refusal, and where a command was refused of what it did before.
 #[derive(Clone, Copy, Debug, PartialEq, Eq)]
@@ -14,10 +16,22 @@ pub enum Messages {
 
 impl Messages {
     /// Whether more is told of a fault than its line.
-    pub fn has_advice(self) -> bool {
+    pub fn has_advice(self) -> bool
+        ensures { result ≡ has_advice self }
+    {
         match self {
             Messages::Plain => false,
             Messages::WithAdvice | Messages::AtTerminal => true,
+        }
+    }
+
+    /// Whether what a command is asked of was shown before it was done.
+    pub(crate) fn is_at_terminal(self) -> bool
+        ensures { result ≡ is_at_terminal self }
+    {
+        match self {
+            Messages::Plain | Messages::WithAdvice => false,
+            Messages::AtTerminal => true,
         }
     }
 }

@@ -4,27 +4,22 @@ ghost use Rattle.md_words.specs.Asks.{ask_of};
 ghost use Rattle.md_state.specs.View.{disk_of};
 ghost use Rattle.md_words.specs.declared.overwritten.Overwritten.TheVariants as overwritten;
 ghost use Rattle.md_cli.specs.Arrays.{disks};
-ghost use Rattle.md_cli.specs.Holding.{IsJoining, IsOwn, Looks, LooksAtAll, one_is_known};
-ghost use Rattle.md_cli.specs.Noticed.{NotesOpening, asked_of, asks_first, asks_of, nothing, parted_members, was_spare, with_dropped, without_stored};
-ghost use Rattle.md_cli.specs.Opened.{seen};
+ghost use Rattle.md_cli.specs.Holding.{IsJoining, IsOwn, NotesHeld, NotesHeldOnEach, one_needs_telling};
+ghost use Rattle.md_cli.specs.Noticed.{NotesOpening, asked_of, asks_first, asks_before, nothing, parted_members, was_spare, with_dropped, without_stored};
+ghost use Rattle.md_cli.specs.Opened.{opened_view};
 
-use crate::messages::Messages;
 use crate::opened::Opened;
 use md_array::Mirror;
 use md_assembly::MemberState;
 use md_device::Device;
-use md_examine::{Output, Sink, SinkFault};
 use md_held::{Held, held_on, held_on_each};
-use md_images::is_missing;
 use md_notices::{
-    Asked, MAX_MEMBERS, MAX_ROLES, dropped_line, first_in_sync, forgotten_line, held_line,
-    in_sync_count, is_forgotten, members_dropped, members_marked, members_parted, parted_line,
-    roles_unnamed, standing_line, states_of, unnamed_line, was_apart,
+    Asked, MAX_MEMBERS, MAX_ROLES, first_in_sync, in_sync_count, is_forgotten, members_dropped,
+    members_marked, members_parted, roles_unnamed, states_of, was_apart,
 };
 use md_super::Superblock;
 use md_words::{Command, Overwritten};
 use std::alloc::{AllocError, Global};
-use std::io::Write;
 
 /// What is noticed of an array as it is opened, and as a command leaves it, by the places of the images among its
 /// members, and by its roles: on which images marks were stored, and which member is in sync alone; which members were
@@ -33,18 +28,18 @@ use std::io::Write;
 /// fault that is told.
 #[derive(Drop)]
 pub(crate) struct Notices {
-    marked: [bool; MAX_MEMBERS],
-    alone: Option<usize>,
-    parted: [bool; MAX_MEMBERS],
-    source: Option<usize>,
-    unnamed: [Option<u32>; MAX_ROLES],
-    states: [Option<MemberState>; MAX_MEMBERS],
-    dropped: [bool; MAX_MEMBERS],
-    in_sync: usize,
-    raid_disks: u32,
-    held: Held,
-    own: bool,
-    each: Option<Vec<Held>>,
+    pub(crate) marked: [bool; MAX_MEMBERS],
+    pub(crate) alone: Option<usize>,
+    pub(crate) parted: [bool; MAX_MEMBERS],
+    pub(crate) source: Option<usize>,
+    pub(crate) unnamed: [Option<u32>; MAX_ROLES],
+    pub(crate) states: [Option<MemberState>; MAX_MEMBERS],
+    pub(crate) dropped: [bool; MAX_MEMBERS],
+    pub(crate) in_sync: usize,
+    pub(crate) raid_disks: u32,
+    pub(crate) held: Held,
+    pub(crate) own: bool,
+    pub(crate) each: Option<Vec<Held>>,
 }
 
 impl Notices {
@@ -69,21 +64,21 @@ impl Notices {
     }
 
     /// Notes what the device holds that is to join. It is only read.
-    pub(crate) fn look<D: Device>(&mut self, alloc: Global, device: &mut D)
-        ensures { Looks (disk_of D.Device device.old) (disk_of D.Device device.new) self.old self.new }
+    pub(crate) fn note_held<D: Device>(&mut self, alloc: Global, device: &mut D)
+        ensures { NotesHeld (disk_of D.Device device.old) (disk_of D.Device device.new) self.old self.new }
     {
         self.held = held_on(alloc, device);
     }
 
     /// Notes what each of the devices holds of which an array is to be made. They are only read, and `AllocError` comes
     /// before any of them is.
-    pub(crate) fn look_at_each<D: Device>(
+    pub(crate) fn note_held_on_each<D: Device>(
         &mut self,
         alloc: Global,
         devices: &mut Vec<D>,
     ) -> Result<(), AllocError>
         ensures as_many { length devices.new.items ≡ length devices.old.items }
-        ensures looks { IfOk result (λ _. LooksAtAll (disks D.Device devices.old.items)
+        ensures looks { IfOk result (λ _. NotesHeldOnEach (disks D.Device devices.old.items)
             (disks D.Device devices.new.items) self.old self.new) }
         ensures untouched { IfErr result (λ _.
             (devices.new.items ≡ devices.old.items) × (self.new ≡ self.old)) }
@@ -115,7 +110,7 @@ impl Notices {
         command: Command<'_>,
         opened: &Opened<D>,
     )
-        ensures { self.new ≡ with_dropped (ask_of command.entry) (seen D.Device opened.now) self.old }
+        ensures { self.new ≡ with_dropped (ask_of command.entry) (opened_view D.Device opened.now) self.old }
     {
         let asked = asked_of(command, opened.beside.is_some());
         self.dropped = members_dropped(&self.states, &opened.mirror, asked);
@@ -131,27 +126,14 @@ impl Notices {
         self.dropped = [false; MAX_MEMBERS];
     }
 
-    /// Says on `err` on which images marks were stored, in a line for each. The names are those of the members, in
-    /// their order.
-    pub(crate) fn tell_marks<E: Write>(&self, names: &[&str], err: &mut E) {
-        for (marked, name) in self.marked.iter().zip(names) {
-            if *marked {
-                let _ = writeln!(
-                    err,
-                    "mdcli: {name}: its bitmap did not tell of the array, so all chunks are marked in it now"
-                );
-            }
-        }
-    }
-
     /// Whether a command is asked first, since it would overwrite what perhaps should stay.
     pub(crate) fn asks_first(&self, command: Command<'_>) -> bool
         ensures { result ≡ asks_first (ask_of command.entry) self.now }
     {
         match command.overwrites() {
-            Overwritten::Images => one_is_known(&self.each),
-            Overwritten::NewDevice => self.held.is_known(),
-            Overwritten::ReturningDevice => self.own,
+            Overwritten::Images => one_needs_telling(&self.each),
+            Overwritten::NewDevice => self.held.needs_telling(),
+            Overwritten::ReturningDevice => self.own || self.held.is_unseen(),
             Overwritten::Member(member) => self.is_parted_spare(member as usize),
             Overwritten::Nothing => false,
         }
@@ -159,130 +141,12 @@ impl Notices {
 
     // Whether a member was used without those in sync, and may be rebuilt.
     fn is_parted_spare(&self, k: usize) -> bool
-        ensures { result ≡ asks_of (overwritten.Member k) self.now }
+        ensures { result ≡ asks_before (overwritten.Member k) self.now }
     {
         if !self.parted.get(k).copied().unwrap_or(false) {
             return false;
         }
         was_spare(self.states.get(k).copied().unwrap_or(None))
-    }
-
-    /// Says on `err` what was noticed of the array, in a line for each image and for each device that was not named.
-    /// At a terminal some of it was said before the command was done.
-    pub(crate) fn tell<'a, E: Write>(
-        &self,
-        command: Command<'a>,
-        names: &[&'a str],
-        messages: Messages,
-        err: &mut E,
-    ) {
-        let mut out = Output::new(err);
-        if messages != Messages::AtTerminal {
-            let _ = self.put_first(command, names, &mut out);
-        }
-        let _ = self.put_lines(command, names, &mut out);
-    }
-
-    /// What is said before a command is done, where there is a terminal: what it is asked of.
-    pub(crate) fn put_first<'a, S: Sink>(
-        &self,
-        command: Command<'a>,
-        names: &[&'a str],
-        out: &mut S,
-    ) -> Result<(), SinkFault> {
-        if !self.asks_first(command) {
-            return Ok(());
-        }
-        let Some(name) = target_of(command, names) else {
-            return self.put_each(names, out);
-        };
-        match &self.held {
-            Held::Member(own) if matches!(command.overwrites(), Overwritten::NewDevice) => {
-                if self.own {
-                    forgotten_line(out, name)
-                } else {
-                    standing_line(out, name, own)
-                }
-            }
-            Held::Signed(signature) => held_line(out, name, signature.text()),
-            _ => self.put_parted(name, names, out),
-        }
-    }
-
-    // What each image holds of which an array is to be made. Words that stand for a missing member have none.
-    fn put_each<S: Sink>(&self, names: &[&str], out: &mut S) -> Result<(), SinkFault> {
-        let Some(each) = &self.each else {
-            return Ok(());
-        };
-        let images = names.iter().filter(|name| !is_missing(true, name));
-        for (held, name) in each.iter().zip(images) {
-            match held {
-                Held::Member(own) => standing_line(out, name, own)?,
-                Held::Signed(signature) => held_line(out, name, signature.text())?,
-                Held::Nothing | Held::Unseen => {}
-            }
-        }
-        Ok(())
-    }
-
-    fn put_lines<'a, S: Sink>(
-        &self,
-        command: Command<'a>,
-        names: &[&'a str],
-        out: &mut S,
-    ) -> Result<(), SinkFault> {
-        let first = match command.overwrites() {
-            Overwritten::Member(member) if self.asks_first(command) => Some(member as usize),
-            _ => None,
-        };
-        for (k, (parted, name)) in self.parted.iter().zip(names).enumerate() {
-            if *parted && Some(k) != first {
-                self.put_parted(name, names, out)?;
-            }
-        }
-        for (role, unnamed) in self.unnamed.iter().enumerate() {
-            if let Some(number) = unnamed {
-                unnamed_line(out, *number, role as u16)?;
-            }
-        }
-        for (dropped, name) in self.dropped.iter().zip(names) {
-            if *dropped {
-                dropped_line(out, name, self.in_sync, self.raid_disks)?;
-            }
-        }
-        Ok(())
-    }
-
-    // One member in sync is named for all of them.
-    fn put_parted<S: Sink>(
-        &self,
-        name: &str,
-        names: &[&str],
-        out: &mut S,
-    ) -> Result<(), SinkFault> {
-        match self.source.and_then(|k| names.get(k)) {
-            Some(source) => parted_line(out, name, source),
-            None => Ok(()),
-        }
-    }
-
-    /// Says on `err`, of a check that is done, that it compared nothing, where one member was in sync alone.
-    pub(crate) fn tell_uncompared<E: Write>(&self, names: &[&str], err: &mut E) {
-        if let Some(name) = self.alone.and_then(|k| names.get(k)) {
-            let _ = writeln!(
-                err,
-                "mdcli: {name}: no other member is in sync, so nothing was compared"
-            );
-        }
-    }
-}
-
-// The image that a command overwrites, as far as it is asked of it.
-fn target_of<'a>(command: Command<'a>, names: &[&'a str]) -> Option<&'a str> {
-    match command.overwrites() {
-        Overwritten::Member(member) => names.get(member as usize).copied(),
-        Overwritten::NewDevice | Overwritten::ReturningDevice => command.device(),
-        Overwritten::Nothing | Overwritten::Images => None,
     }
 }
 
@@ -326,12 +190,12 @@ fn asked_of(command: Command<'_>, has_left: bool) -> Asked
     Asked { left, failed }
 }
 
-// Whether something is known of one of the devices.
-fn one_is_known(each: &Option<Vec<Held>>) -> bool
-    ensures { result ≡ one_is_known each.now }
+// Whether one of the devices is to be told of.
+fn one_needs_telling(each: &Option<Vec<Held>>) -> bool
+    ensures { result ≡ one_needs_telling each.now }
 {
     match each {
-        Some(each) => each.iter().any(|held| held.is_known()),
+        Some(each) => each.iter().any(|held| held.needs_telling()),
         None => false,
     }
 }

@@ -1,27 +1,34 @@
 // What commands do with an opened array.
-ghost use Rattle.std.specs.Prelude.{◌≡◌, IfOk, is_some, true};
+ghost use Rattle.std.specs.Prelude.{◌≡◌, IfOk, MatchResult, false, is_some, true};
 ghost use Rattle.md_array.specs.Consistency.{IsConsistent};
-ghost use Rattle.md_words.specs.Asks.{ask_of, device_of, opens_array};
-ghost use Rattle.md_cli.specs.Opened.{seen};
-ghost use Rattle.md_cli.specs.Performing.{Adds, Performs, ReAdds, Removes, ShowsMismatches, ShowsSectors};
+ghost use Rattle.md_words.specs.Asks.{ask_of, device_of, fills, opens_array};
+ghost use Rattle.md_commands.specs.Filling.{ReadsFilled};
+ghost use Rattle.md_commands.specs.Objects.{detail_shown, plan_shown, summary_shown};
+ghost use Rattle.md_commands.specs.Output.{ShowsText};
+ghost use Rattle.md_commands.specs.Planning.{RefusesToPlan, ShowsPlan};
+ghost use Rattle.md_cli.specs.Arrays.{texts};
+ghost use Rattle.md_cli.specs.Opened.{opened_view};
+ghost use Rattle.md_cli.specs.Performing.{Adds, Performs, ReAdds, ReadsSectors, Removes, ShowsMismatches, ShowsSectors};
 ghost use Rattle.md_cli.specs.Streams.{streams_of};
 
 use crate::opened::Opened;
 use crate::session::Session;
+use md_array::Mirror;
 use md_commands::{
-    CommandFault, Source, Watch, add_device, check_members, fail_member, list_members,
-    re_add_device, read_array, read_array_readonly, rebuild_member, remove_member, resync_array,
-    show_detail, show_plan, show_summary, stop_array, write_array,
+    CommandFault, Source, Watch, add_device, check_members, check_members_json, fail_member,
+    list_mismatches, re_add_device, read_array, read_array_filled, read_array_readonly,
+    rebuild_member, remove_member, resync_array, show_detail, show_detail_json, show_plan,
+    show_plan_json, show_summary, show_summary_json, stop_array, write_array,
 };
 use md_device::Device;
 use md_examine::Sink;
-use md_words::Command;
+use md_words::{CheckForm, Command};
 use std::alloc::Global;
 use std::sync::Wait;
 use std::thread::Threads;
 
-/// Does a command with an opened array. The input is read by `Write` alone. `Check`, `Rebuild` and `ReAdd` alone start
-/// threads, and tell the session's `watch` of their reads.
+/// Does a command with an opened array; the names are those of its images. The input is read by `Write` alone. `Check`,
+/// `Rebuild` and `ReAdd` alone start threads, and tell the session's `watch` of their reads.
 pub(crate) fn perform<
     D: Device + Drop + Send,
     T: Threads + Wait + Sync,
@@ -32,13 +39,15 @@ pub(crate) fn perform<
     session: &mut Session<'_, T, R, S, W>,
     command: Command<'_>,
     opened: &mut Opened<D>,
+    names: &[&str],
 ) -> Result<(), CommandFault>
     requires sound { IsConsistent opened.old.mirror }
     requires opens { opens_array (ask_of command) ≡ true }
     requires brings { is_some opened.old.beside ≡ is_some (device_of (ask_of command)) }
-    ensures performs { Performs R.Source S.Sink (ask_of command.entry)
-        (seen D.Device opened.old) (seen D.Device opened.new)
+    ensures performs { Performs R.Source S.Sink (texts names.now) (ask_of command.entry)
+        (opened_view D.Device opened.old) (opened_view D.Device opened.new)
         (streams_of session.old) (streams_of session.new) result }
+    ensures noted { fills (ask_of command.entry) ≡ false → session.new.missing ≡ session.old.missing }
     ensures flushed { IfOk result (λ _. S.is_flushed session.new.out) }
 {
     let (rt, alloc, watch) = (session.rt, session.alloc, session.watch);
@@ -47,17 +56,22 @@ pub(crate) fn perform<
         | Command::ExamineBitmap { .. }
         | Command::ExamineBadblocks { .. }
         | Command::Create(_) => unreachable!(),
-        Command::Assemble { .. } => Ok(show_summary(&opened.mirror, &mut session.out)?),
-        Command::Detail { .. } => Ok(show_detail(&opened.mirror, &mut session.out)?),
-        Command::Plan { member, .. } => {
-            Ok(show_plan(alloc, &opened.mirror, member, &mut session.out)?)
+        Command::Assemble { json, .. } => {
+            assemble(&opened.mirror, json, names, &mut session.out)
+        }
+        Command::Detail { json, .. } => detail(&opened.mirror, json, names, &mut session.out),
+        Command::Plan { member, json, .. } => {
+            plan(alloc, &opened.mirror, member, json, names, &mut session.out)
         }
         Command::Read {
             sector,
             count,
+            fill,
             readonly,
-        } => { read(alloc, opened, sector, count, readonly, &mut session.out) }
-        Command::Check { list, .. } => { check(rt, alloc, opened, list, watch, &mut session.out) }
+        } => { read_sectors(session, opened, sector, count, fill, readonly) }
+        Command::Check { form, .. } => {
+            check(rt, alloc, opened, form, watch, names, &mut session.out)
+        }
         Command::Write { sector } => {
             let input = &mut session.input;
             Ok(write_array(alloc, &mut opened.mirror, sector, input, &mut session.out)?)
@@ -77,6 +91,87 @@ pub(crate) fn perform<
     }
 }
 
+// Puts out the array in short.
+fn assemble<D: Device + Drop, S: Sink>(
+    mirror: &Mirror<D>,
+    json: bool,
+    names: &[&str],
+    out: &mut S,
+) -> Result<(), CommandFault>
+    ensures shows { ShowsText S.Sink (summary_shown json (texts names.now) mirror.now.array)
+        out.old out.new result }
+    ensures flushed { IfOk result (λ _. S.is_flushed out.new) }
+{
+    if json {
+        return Ok(show_summary_json(mirror, names, out)?);
+    }
+    Ok(show_summary(mirror, out)?)
+}
+
+// Puts it out with the state of each member.
+fn detail<D: Device + Drop, S: Sink>(
+    mirror: &Mirror<D>,
+    json: bool,
+    names: &[&str],
+    out: &mut S,
+) -> Result<(), CommandFault>
+    ensures shows { ShowsText S.Sink (detail_shown json (texts names.now) mirror.now.array)
+        out.old out.new result }
+    ensures flushed { IfOk result (λ _. S.is_flushed out.new) }
+{
+    if json {
+        return Ok(show_detail_json(mirror, names, out)?);
+    }
+    Ok(show_detail(mirror, out)?)
+}
+
+// Puts out the plan of a rebuild of the member with this index.
+fn plan<D: Device + Drop, S: Sink>(
+    alloc: Global,
+    mirror: &Mirror<D>,
+    member: u32,
+    json: bool,
+    names: &[&str],
+    out: &mut S,
+) -> Result<(), CommandFault>
+    requires sound { IsConsistent mirror.now }
+    ensures shows { MatchResult result
+        (λ _. ShowsPlan S.Sink mirror.now.array member out.old out.new
+        (plan_shown json (texts names.now) mirror.now.array))
+        (RefusesToPlan S.Sink mirror.now.array member out.old out.new) }
+    ensures flushed { IfOk result (λ _. S.is_flushed out.new) }
+{
+    if json {
+        return Ok(show_plan_json(alloc, mirror, member, names, out)?);
+    }
+    Ok(show_plan(alloc, mirror, member, out)?)
+}
+
+// Puts out sectors of the array, perhaps with zeros in the place of those that are not given.
+fn read_sectors<D: Device + Drop, T, R: Source + Drop, S: Sink + Drop, W>(
+    session: &mut Session<'_, T, R, S, W>,
+    opened: &mut Opened<D>,
+    sector: u64,
+    count: u64,
+    fill: bool,
+    readonly: bool,
+) -> Result<(), CommandFault>
+    requires sound { IsConsistent opened.old.mirror }
+    ensures kept { (opened_view D.Device opened.new).beside ≡ (opened_view D.Device opened.old).beside }
+    ensures input { session.new.input ≡ session.old.input }
+    ensures reads { ReadsSectors S.Sink sector count fill readonly
+        (opened_view D.Device opened.old) (opened_view D.Device opened.new)
+        (streams_of session.old) (streams_of session.new) result }
+    ensures noted { fill ≡ false → session.new.missing ≡ session.old.missing }
+    ensures flushed { IfOk result (λ _. S.is_flushed session.new.out) }
+{
+    if fill {
+        return read_filled(session, opened, sector, count, readonly);
+    }
+    let (alloc, out) = (session.alloc, &mut session.out);
+    read(alloc, opened, sector, count, readonly, out)
+}
+
 // Puts out sectors of the array. Where no image may be changed nothing is written, over the images neither.
 fn read<D: Device + Drop, S: Sink>(
     alloc: Global,
@@ -87,9 +182,9 @@ fn read<D: Device + Drop, S: Sink>(
     out: &mut S,
 ) -> Result<(), CommandFault>
     requires sound { IsConsistent opened.old.mirror }
-    ensures kept { (seen D.Device opened.new).beside ≡ (seen D.Device opened.old).beside }
+    ensures kept { (opened_view D.Device opened.new).beside ≡ (opened_view D.Device opened.old).beside }
     ensures shows { ShowsSectors S.Sink sector count readonly
-        (seen D.Device opened.old) (seen D.Device opened.new) out.old out.new result }
+        (opened_view D.Device opened.old) (opened_view D.Device opened.new) out.old out.new result }
     ensures flushed { IfOk result (λ _. S.is_flushed out.new) }
 {
     let mirror = &mut opened.mirror;
@@ -99,26 +194,50 @@ fn read<D: Device + Drop, S: Sink>(
     Ok(read_array(alloc, mirror, sector, count, out)?)
 }
 
+// The same with zeros in the place of sectors that are not given. Which these are is noted, where all sectors are put out.
+fn read_filled<D: Device + Drop, T, R: Source + Drop, S: Sink + Drop, W>(
+    session: &mut Session<'_, T, R, S, W>,
+    opened: &mut Opened<D>,
+    sector: u64,
+    count: u64,
+    readonly: bool,
+) -> Result<(), CommandFault>
+    requires sound { IsConsistent opened.old.mirror }
+    ensures kept { (opened_view D.Device opened.new).beside ≡ (opened_view D.Device opened.old).beside }
+    ensures input { session.new.input ≡ session.old.input }
+    ensures reads { ReadsFilled S.Sink readonly sector count opened.old.mirror opened.new.mirror
+        session.old.out session.new.out session.new.missing result }
+    ensures flushed { IfOk result (λ _. S.is_flushed session.new.out) }
+{
+    let (alloc, mirror) = (session.alloc, &mut opened.mirror);
+    let out = &mut session.out;
+    let (missing, done) = read_array_filled(alloc, mirror, sector, count, readonly, out);
+    session.missing = missing;
+    Ok(done?)
+}
+
 // Compares the members in sync, and puts out in how many chunks two differ, or which these are.
 fn check<D: Device + Drop + Send, T: Threads + Sync, W: Watch + Sync, S: Sink>(
     rt: &T,
     alloc: Global,
     opened: &mut Opened<D>,
-    list: bool,
+    form: CheckForm,
     watch: &W,
+    names: &[&str],
     out: &mut S,
 ) -> Result<(), CommandFault>
     requires sound { IsConsistent opened.old.mirror }
-    ensures kept { (seen D.Device opened.new).beside ≡ (seen D.Device opened.old).beside }
-    ensures shows { ShowsMismatches S.Sink list
-        (seen D.Device opened.old) (seen D.Device opened.new) out.old out.new result }
+    ensures kept { (opened_view D.Device opened.new).beside ≡ (opened_view D.Device opened.old).beside }
+    ensures shows { ShowsMismatches S.Sink form (texts names.now)
+        (opened_view D.Device opened.old) (opened_view D.Device opened.new) out.old out.new result }
     ensures flushed { IfOk result (λ _. S.is_flushed out.new) }
 {
     let mirror = &mut opened.mirror;
-    if list {
-        return Ok(list_members(rt, alloc, mirror, watch, out)?);
+    match form {
+        CheckForm::Count => Ok(check_members(rt, alloc, mirror, watch, out)?),
+        CheckForm::List => Ok(list_mismatches(rt, alloc, mirror, watch, out)?),
+        CheckForm::Json => Ok(check_members_json(rt, alloc, mirror, watch, names, out)?),
     }
-    Ok(check_members(rt, alloc, mirror, watch, out)?)
 }
 
 // Removes the member with this index. Its device stands beside the array then, if it left.
@@ -129,7 +248,7 @@ fn remove<D: Device + Drop, S: Sink>(
 ) -> Result<(), CommandFault>
     requires sound { IsConsistent opened.old.mirror }
     ensures removes { Removes S.Sink member
-        (seen D.Device opened.old) (seen D.Device opened.new) out.old out.new result }
+        (opened_view D.Device opened.old) (opened_view D.Device opened.new) out.old out.new result }
     ensures flushed { IfOk result (λ _. S.is_flushed out.new) }
 {
     let (device, removed) = remove_member(&mut opened.mirror, member, out);
@@ -145,7 +264,8 @@ fn add<D: Device + Drop, S: Sink>(
 ) -> Result<(), CommandFault>
     requires sound { IsConsistent opened.old.mirror }
     requires some { is_some opened.old.beside ≡ true }
-    ensures adds { Adds S.Sink (seen D.Device opened.old) (seen D.Device opened.new) out.old out.new result }
+    ensures adds { Adds S.Sink
+        (opened_view D.Device opened.old) (opened_view D.Device opened.new) out.old out.new result }
     ensures flushed { IfOk result (λ _. S.is_flushed out.new) }
 {
     let Some(device) = opened.beside.take() else {
@@ -167,7 +287,7 @@ fn re_add<D: Device + Drop + Send, T: Threads + Wait + Sync, W: Watch + Sync, S:
     requires sound { IsConsistent opened.old.mirror }
     requires some { is_some opened.old.beside ≡ true }
     ensures re_adds { ReAdds S.Sink
-        (seen D.Device opened.old) (seen D.Device opened.new) out.old out.new result }
+        (opened_view D.Device opened.old) (opened_view D.Device opened.new) out.old out.new result }
     ensures flushed { IfOk result (λ _. S.is_flushed out.new) }
 {
     let Some(device) = opened.beside.take() else {

@@ -1,6 +1,7 @@
 // The reports on what stands in one image, though it may be refused.
 ghost use Rattle.std.specs.Prelude.{◌≡◌, ◌<◌, IfOk, true};
 ghost use Rattle.md_words.specs.Asks.{examines, examines_badblocks, examines_bitmap};
+ghost use Rattle.md_words.specs.declared.form.ImageForm.TheVariants.{Raw};
 ghost use Rattle.md_cli.specs.Examining.{Examines, of_raw};
 
 use crate::output::pass_on;
@@ -29,7 +30,7 @@ pub(crate) fn show_raw_superblock<D: Device, S: Sink>(
 ) -> Result<(), CommandFault>
     ensures kept { D.content device.new ≡ D.content device.old }
     ensures honest { D.honest device.new ≡ D.honest device.old }
-    ensures gives { Examines (examines true) S.contents S.failed out.old out.new
+    ensures gives { Examines (examines Raw) S.contents S.failed out.old out.new
         (D.content device.old) (D.honest device.old) (D.failures device.old < D.failures device.new) result }
     ensures flushed { IfOk result (λ _. S.is_flushed out.new) }
 {
@@ -51,7 +52,7 @@ pub(crate) fn show_raw_bitmap<D: Device, S: Sink>(
 ) -> Result<(), CommandFault>
     ensures kept { D.content device.new ≡ D.content device.old }
     ensures honest { D.honest device.new ≡ D.honest device.old }
-    ensures gives { Examines (examines_bitmap true) S.contents S.failed out.old out.new
+    ensures gives { Examines (examines_bitmap Raw) S.contents S.failed out.old out.new
         (D.content device.old) (D.honest device.old) (D.failures device.old < D.failures device.new) result }
     ensures flushed { IfOk result (λ _. S.is_flushed out.new) }
 {
@@ -74,7 +75,7 @@ pub(crate) fn show_raw_badblocks<D: Device, S: Sink>(
 ) -> Result<(), CommandFault>
     ensures kept { D.content device.new ≡ D.content device.old }
     ensures honest { D.honest device.new ≡ D.honest device.old }
-    ensures gives { Examines (examines_badblocks true) S.contents S.failed out.old out.new
+    ensures gives { Examines (examines_badblocks Raw) S.contents S.failed out.old out.new
         (D.content device.old) (D.honest device.old) (D.failures device.old < D.failures device.new) result }
     ensures flushed { IfOk result (λ _. S.is_flushed out.new) }
 {

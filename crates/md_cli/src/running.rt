@@ -1,10 +1,11 @@
 // One command.
-ghost use Rattle.std.specs.Prelude.{◌≡◌, ◌≢◌, ◌⊎◌, [], IfOk};
+ghost use Rattle.std.specs.Prelude.{◌≡◌, ◌≢◌, ◌⊎◌, [], Err, IfOk};
 ghost use Rattle.clap.specs.Words.{FailsBy};
-ghost use Rattle.md_words.specs.Asked.{asked, image_words, words_fault};
+ghost use Rattle.md_words.specs.Parsing.{asked, image_words, words_fault};
 ghost use Rattle.md_words.specs.Asks.{ask_of, options_of};
 ghost use Rattle.md_cli.specs.Arrays.{texts};
 ghost use Rattle.md_cli.specs.Running.{Does, DoesCommand, IsIdle, MakesArray, status_of};
+ghost use Rattle.md_cli.specs.Telling.{Tells};
 ghost use Rattle.md_cli.specs.Streams.{streams_of, told_of};
 
 use crate::arrays::with_array;
@@ -13,10 +14,13 @@ use crate::create_options::params_of;
 use crate::creating::create_images;
 use crate::examining::examine_images;
 use crate::messages::Messages;
+use crate::missing::tell_missing;
 use crate::notices::Notices;
 use crate::session::Session;
+use crate::telling::{put_refused, put_told};
 use clap::Error;
-use md_advice::{advise, tell_lost_content};
+use md_advice::advise;
+use md_badblocks::BadSet;
 use md_commands::{CommandFault, Source, Watch};
 use md_examine::Sink;
 use md_images::Images;
@@ -33,8 +37,9 @@ use std::thread::Threads;
 /// clause can tell whether memory was there.
 ///
 /// The session's input is read by `write` alone. A refusal's line goes to `err`, as `mdcli: BadImage 0`, and with advice
-/// further lines; so do, of a command that is done, a line for each image on which marks were stored, what was noticed of
-/// the array (`specs/Noticed.antt`), and one for a check that compared nothing; and the parser's text. No clause speaks of what is written to `err`, nor of whether that can be written.
+/// further lines, and the parser's text. Of a command that is done it is told what was noticed (`specs/Noticed.antt`), in
+/// lines whose text and order are in `specs/Telling.antt`. Where one can't be written, nothing else changes. Of a refused
+/// one it is told last, where there is advice; no clause speaks of the fault's own text.
 ///
 /// The session's watch is told of a rebuild, by `rebuild` and `re-add`, and of a check, whose workers its `rt` starts. It is
 /// asked before a command overwrites what perhaps should stay; where the answer is not yes the command is refused.
@@ -45,7 +50,7 @@ pub fn run<
     R: Source + Drop,
     S: Sink + Drop,
     W: Watch + Asker + Sync,
-    E: Write,
+    E: Write + Sink,
 >(
     session: &mut Session<'_, T, R, S, W>,
     words: &'a [&'a str],
@@ -61,7 +66,9 @@ pub fn run<
         (result ≡ 2) × IsIdle images.old images.new (streams_of session.old) (streams_of session.new) }
     ensures taken { words_fault (texts words.entry.now) ≡ [] →
         ((result ≡ 2) × IsIdle images.old images.new (streams_of session.old) (streams_of session.new))
-        ⊎ DoesCommand I.Images I.Dev.Device R.Source S.Sink
+        ⊎ DoesCommand I.Images I.Dev.Device R.Source S.Sink (W.Asker.answered session.old.watch.now)
+        (Tells E.Sink messages (asked (texts words.entry.now)) (image_words (texts words.entry.now))
+        err.old err.new)
         (asked (texts words.entry.now)) (image_words (texts words.entry.now))
         images.old images.new (streams_of session.old) (streams_of session.new) result }
     ensures flushed { result ≡ 0 → S.is_flushed session.new.out }
@@ -76,7 +83,16 @@ pub fn run<
     let names = request.images.as_slice();
     let mut notices = Notices::none();
     let outcome = act(session, request.command, images, names, &mut notices);
-    answer(outcome, request.command, names, &notices, messages, err)
+    let missing = &session.missing;
+    answer(
+        outcome,
+        request.command,
+        names,
+        &notices,
+        missing,
+        messages,
+        err,
+    )
 }
 
 // Does a command on the images that are named. `notices` gets what their array tells as it is opened.
@@ -93,7 +109,8 @@ fn act<
     names: &[&str],
     notices: &mut Notices,
 ) -> Result<(), CommandFault>
-    ensures gives { Does I.Images I.Dev.Device R.Source S.Sink (ask_of command.entry) (texts names.now)
+    ensures gives { Does I.Images I.Dev.Device R.Source S.Sink (W.Asker.answered session.old.watch.now)
+        (ask_of command.entry) (texts names.now)
         images.old images.new (told_of session.old notices.old) (told_of session.new notices.new) result }
     ensures flushed { IfOk result (λ _. S.is_flushed session.new.out) }
 {
@@ -127,7 +144,8 @@ fn create_array<I: Images, T, R: Source + Drop, S: Sink + Drop, W: Asker>(
     names: &[&str],
     notices: &mut Notices,
 ) -> Result<(), CommandFault>
-    ensures gives { MakesArray I.Images I.Dev.Device S.Sink (options_of options.entry) (texts names.now)
+    ensures gives { MakesArray I.Images I.Dev.Device S.Sink (W.Asker.answered session.old.watch.now)
+        (options_of options.entry) (texts names.now)
         images.old images.new (told_of session.old notices.old) (told_of session.new notices.new) result }
     ensures flushed { IfOk result (λ _. S.is_flushed session.new.out) }
 {
@@ -140,37 +158,53 @@ fn create_array<I: Images, T, R: Source + Drop, S: Sink + Drop, W: Asker>(
     }
 }
 
-// The status of a command that was done or refused. A refusal is said on `err`, and alone where no advice is
-// asked for; else, or where there is none, so are the images on which marks were stored, and what was noticed of the
-// array. A check that is done also tells where it compared nothing.
-fn answer<'a, E: Write>(
+// The status of a command that was done or refused. Of one that is done, what was noticed is said on `err`.
+fn answer<E: Write + Sink>(
     outcome: Result<(), CommandFault>,
-    command: Command<'a>,
-    names: &[&'a str],
+    command: Command<'_>,
+    names: &[&str],
     notices: &Notices,
+    missing: &Option<BadSet>,
     messages: Messages,
     err: &mut E,
 ) -> u8
-    ensures { result ≡ status_of outcome }
+    ensures status { result ≡ status_of outcome }
+    ensures tells { Tells E.Sink messages (ask_of command.entry) (texts names.now)
+        err.old err.new outcome notices.now }
 {
-    if let Err(fault) = &outcome {
-        let _ = writeln!(err, "mdcli: {fault}");
-        if messages.has_advice() {
-            advise(fault, names, command, err);
+    match outcome {
+        Ok(()) => {
+            let _ = put_told(err, notices, command, names, messages);
+            0
+        }
+        Err(fault) => {
+            tell_refusal(&fault, command, names, notices, missing, messages, err);
+            1
         }
     }
-    if outcome.is_ok() || messages.has_advice() {
-        notices.tell_marks(names, err);
-        notices.tell(command, names, messages, err);
+}
+
+// A refusal is said on `err`, and for which sectors zeros were put out; and no more where no advice is asked for. Else so is
+// what was noticed.
+fn tell_refusal<E: Write + Sink>(
+    fault: &CommandFault,
+    command: Command<'_>,
+    names: &[&str],
+    notices: &Notices,
+    missing: &Option<BadSet>,
+    messages: Messages,
+    err: &mut E,
+)
+    ensures { Tells E.Sink messages (ask_of command.entry) (texts names.now)
+        err.old err.new (Err fault.now) notices.now }
+{
+    let _ = writeln!(err, "mdcli: {fault}");
+    if command.fills() {
+        tell_missing(missing, err);
     }
-    if outcome.is_ok() && matches!(command, Command::Check { .. }) {
-        notices.tell_uncompared(names, err);
+    if !messages.has_advice() {
+        return;
     }
-    if messages.has_advice() {
-        tell_lost_content(&outcome, command, err);
-    }
-    match outcome {
-        Ok(()) => 0,
-        Err(_) => 1,
-    }
+    advise(fault, names, command, err);
+    let _ = put_refused(err, notices, command, names, messages, fault);
 }

@@ -1,8 +1,10 @@
 // What a run has of the machine.
+use md_badblocks::BadSet;
 use std::alloc::Global;
 
 /// What each command is given of the machine that it runs on: what starts threads, the memory, the input, the output,
-/// and who is told of a rebuild or a check.
+/// and who is told of a rebuild or a check. And, of a read that was to put out zeros for sectors that are not given, and
+/// has put out all, which sectors these are.
 #[derive(Drop)]
 pub struct Session<'a, T, R: Drop, S: Drop, W> {
     pub rt: &'a T,
@@ -10,4 +12,5 @@ pub struct Session<'a, T, R: Drop, S: Drop, W> {
     pub input: R,
     pub out: S,
     pub watch: &'a W,
+    pub missing: Option<BadSet>,
 }

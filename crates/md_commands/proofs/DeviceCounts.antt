@@ -3,6 +3,7 @@ use Rattle.std.proofs.Common.{◌≡◌, ◌∙◌, ◌⊎◌, inl, inr, ⊎_eli
 use Rattle.std.proofs.lemmas.List.{length-append}
 use Rattle.std.proofs.lemmas.List.Edits.{length-remove}
 use Rattle.std.proofs.lemmas.Option.{none-some, slice_get_within}
+use Rattle.md_badblocks.specs.declared.run.Run.{Run}
 use Rattle.md_bitmap.specs.declared.chunks.Chunks.{Chunks}
 use Rattle.md_model.specs.Devices.{Stored, Super}
 use Rattle.md_model.specs.Events.{Event}
@@ -24,8 +25,9 @@ use Rattle.md_array.specs.Adding.{Adds, RefusesAdd}
 use Rattle.md_array.specs.Enrolling.{log_writes}
 use Rattle.md_array.specs.InTurn.{AllOf, Did, HaltsAt, Leads, Requests}
 use Rattle.md_array.specs.Listing.{AreWritten}
+use Rattle.md_bitmap.specs.Marks.{Bitmap}
 use Rattle.md_array.proofs.Steps.Turns.{all_on, all_such}
-use Rattle.md_writes.specs.Writes.{Write as DiskWrite}
+use Rattle.md_device_writes.specs.Writes.{Write as DiskWrite}
 use Rattle.md_laws.specs.ReadInTurn.{LeadsReading}
 use Rattle.md_metadata.specs.declared.stop_fault.StopFault.{StopFault}
 use Rattle.md_metadata.specs.declared.stop_fault.StopFault.TheVariants as stop
@@ -47,10 +49,11 @@ use Rattle.md_commands.specs.declared.source.Source.{Ghosts as SourceGhosts}
 use Rattle.md_commands.specs.declared.way.Way.{Way}
 use Rattle.md_commands.specs.declared.way.Way.TheVariants.{Resynced}
 use Rattle.md_commands.specs.Adding.{KeepsDevice}
-use Rattle.md_commands.specs.Checking.{ChecksMembers, ListsMembers, RefusesToCheck, RefusesToList}
+use Rattle.md_commands.specs.Checking.{ChecksMembers, ListsMismatches, RefusesToCheck, RefusesToList}
 use Rattle.md_commands.specs.Failing.{RefusesToFail}
+use Rattle.md_commands.specs.Filling.{FillsSome, PutsAll, ReadsFilled, RefusesToFill}
 use Rattle.md_commands.specs.Pieces.{ReadsPieces, ReadsSectors, ReadsSome, ReadsUpTo, RefusesSectors}
-use Rattle.md_commands.specs.Reading.{FailsReadied, FailsReadonly, ReadsArray, ReadsReadonly, RefusesReadonly, RefusesToRead}
+use Rattle.md_commands.specs.Reading.{FailsReadied, FailsReadonly, IsReadyTo, ReadsArray, ReadsReadonly, RefusesReadonly, RefusesReady, RefusesToRead}
 use Rattle.md_commands.specs.Removing.{HandsBack, RefusesRemoving}
 use Rattle.md_commands.specs.Resyncing.{RefusesNeededResync, RefusesToResync, ResyncsIfNeeded, needs_resync}
 use Rattle.md_commands.specs.Stopping.{FailsToStop, FailsToStopArray, RefusesToStop, StopsAfter, StopsArray, StopsArrayAfter}
@@ -327,8 +330,8 @@ module _ {S : Type 0} (s : SinkGhosts S) (old new : MirrorView) (before after : 
   checks_as_many OutputFault h = h.checks.rests.disks.same.as_many
   checks_as_many fault h = absurd h
 
-  pub done_list : ListsMembers s old new before after → AsMany old new
-  done_list h = h.finds.rests.disks.same.as_many
+  pub done_list : (text_of : Bitmap → List ℕ) → ListsMismatches s text_of old new before after → AsMany old new
+  done_list text_of h = h.finds.rests.disks.same.as_many
 
   pub lists_as_many : (fault : CommandFault) → RefusesToList s old new before after fault → AsMany old new
   lists_as_many (Check fault) h = not_checked fault old new h.0
@@ -349,6 +352,40 @@ module _ {S : Type 0} (s : SinkGhosts S) (old new : MirrorView) (before after : 
     writes_as_many (Stop fault) h = fails_after (WritesReadied sector h.bytes old) old new fault (wrote_readied sector h.bytes old) h.refused
     writes_as_many OutputFault h = stopped_after (WritesReadied sector h.bytes old) old new (wrote_readied sector h.bytes old) h.done
     writes_as_many fault h = absurd h
+
+-- ---- sectors are read with zeros in the place of those that nobody gave
+some_filled : (way : Way) (sector count : ℕ) (missing : List Run) (old new : MirrorView) → FillsSome way sector count missing old new → AsMany old new
+some_filled way sector count missing old new h = h.filled.fills.rests.disks.same.as_many
+
+made_ready : (readonly : Bool) (sector count : ℕ) (old ready : MirrorView) (way : Way) → IsReadyTo readonly sector count old way ready → AsMany old ready
+made_ready false sector count old ready way h = readied old ready h.0.readied
+made_ready true sector count old ready way h = same old ready h.2
+
+not_made_ready : (readonly : Bool) (sector count : ℕ) (old new : MirrorView) (fault : CommandFault) → RefusesReady readonly sector count old new fault → AsMany old new
+not_made_ready readonly sector count old new (Read unread.Halted) h = refused old new _ h
+not_made_ready readonly sector count old new (Read unread.OutOfRange) h = refused old new _ h
+not_made_ready readonly sector count old new (Read unread.NotResynced) h = refused old new _ h
+not_made_ready false sector count old new (Resync fault) h = not_readied fault old new h.1
+not_made_ready readonly sector count old new fault h = absurd h
+
+module _ {S : Type 0} (s : SinkGhosts S) (readonly : Bool) (sector count : ℕ) (old new : MirrorView) (before after : S) where
+  module _ (missing : List Run) where
+    all_put : PutsAll s readonly sector count missing old new before after → AsMany old new
+    all_put h = h.puts.filled.fills.rests.disks.same.as_many ∙ made_ready readonly sector count old h.ready h.way h.readied
+
+    not_filled : (fault : CommandFault) → RefusesToFill s readonly sector count missing old new before after fault → AsMany old new
+    not_filled NoPieceMemory h = some_filled h.way sector count missing h.ready new h.refused.some ∙ made_ready readonly sector count old h.ready h.way h.readied
+    not_filled OutputFault h = some_filled h.way sector count missing h.ready new h.refused.0 ∙ made_ready readonly sector count old h.ready h.way h.readied
+    not_filled (Read (unread.Unreadable x)) h = all_put h.0
+    not_filled (Read unread.Halted) h = not_made_ready readonly sector count old new (Read unread.Halted) h.refused
+    not_filled (Read unread.OutOfRange) h = not_made_ready readonly sector count old new (Read unread.OutOfRange) h.refused
+    not_filled (Read unread.NotResynced) h = not_made_ready readonly sector count old new (Read unread.NotResynced) h.refused
+    not_filled (Resync fault) h = not_made_ready readonly sector count old new (Resync fault) h.refused
+    not_filled fault h = absurd h
+
+  pub fills_as_many : (told : Option (List Run)) (result : Result (Unit {0}) CommandFault) → ReadsFilled s readonly sector count old new before after told result → AsMany old new
+  fills_as_many told (Ok x) h = all_put h.missing h.gives.puts
+  fills_as_many told (Err fault) h = not_filled h.missing fault h.gives
 
 -- where the command is done
 pub done_resync : (old new : MirrorView) → StopsAfter (Resyncs old) new → AsMany old new

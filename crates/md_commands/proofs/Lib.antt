@@ -1,6 +1,9 @@
 pub mod AsResynced
 pub mod Checked
 pub mod DeviceCounts
+pub mod Filled
+pub mod FilledPut
+pub mod Listed
 pub mod PiecesPut
 pub mod PiecesRead
 pub mod Planned
@@ -12,4 +15,5 @@ pub mod Resynced
 pub mod ResyncedData
 pub mod StoppedAfter
 pub mod Ways
+pub mod Wrapped
 pub mod Written

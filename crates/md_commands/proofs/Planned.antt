@@ -1,8 +1,7 @@
 -- What the command that plans answers: the plan, and then the output.
-use Rattle.std.proofs.Common.{ℕ, Result, Ok, Err, refl, sym, subst}
+use Rattle.std.proofs.Common.{ℕ, List, Result, Ok, Err, refl, sym, subst}
 use Rattle.md_examine.specs.declared.sink.Sink.{Ghosts}
 use Rattle.md_plan.specs.declared.planner.Planned.{Planned}
-use Rattle.md_report.specs.RebuiltReport.{planned_text}
 use Rattle.md_state.specs.View.{ArrayView}
 use Rattle.std.specs.Prelude.{MatchResult}
 use Rattle.md_commands.specs.declared.fault.CommandFault.{CommandFault}
@@ -15,8 +14,8 @@ module _ {S : Type 0} (s : Ghosts S) (a : ArrayView) (k : ℕ) (before : S) wher
   not_planned OutputFault h = absurd h
   not_planned fault h = (h, refl)
 
-  pub planned_or_not : (after : S) (planned : Planned) → IsRebuildPlan a k planned → (result : Result (Unit {0}) CommandFault)
-      → MatchResult result (λ _. PutsOut s before after (planned_text planned)) (FailsOutput s after)
-      → MatchResult result (λ _. ShowsPlan s a k before after) (RefusesToPlan s a k before after)
-  planned_or_not after planned is (Ok x) shown = record { planned = planned; is = is; shown = shown }
-  planned_or_not after planned is (Err fault) fails = subst (λ (f : CommandFault). RefusesToPlan s a k before after f) (sym fails.is) fails.failed
+  pub planned_or_not : (text_of : Planned → List ℕ) (after : S) (planned : Planned) → IsRebuildPlan a k planned → (result : Result (Unit {0}) CommandFault)
+      → MatchResult result (λ _. PutsOut s before after (text_of planned)) (FailsOutput s after)
+      → MatchResult result (λ _. ShowsPlan s a k before after text_of) (RefusesToPlan s a k before after)
+  planned_or_not text_of after planned is (Ok x) shown = record { planned = planned; is = is; shown = shown }
+  planned_or_not text_of after planned is (Err fault) fails = subst (λ (f : CommandFault). RefusesToPlan s a k before after f) (sym fails.is) ((planned, is), fails.failed)

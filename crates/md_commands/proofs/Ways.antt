@@ -1,5 +1,5 @@
 -- What holds of reads, whichever way they are done.
-use Rattle.std.proofs.Common.{◌≡◌, ◌∙◌, ℕ, ◌+◌, ◌*◌, ◌-◌, ◌/◌, ◌%◌, ◌<◌, ◌≤◌, List, ◌++◌, length, take, Ok, sym, ap, arith, length-append}
+use Rattle.std.proofs.Common.{◌≡◌, ◌∙◌, ℕ, ◌+◌, ◌*◌, ◌-◌, ◌/◌, ◌%◌, ◌<◌, ◌≤◌, List, ◌++◌, length, take, Ok, sym, ap, subst, arith, length-append}
 use Rattle.std.proofs.lemmas.List.{length-take-le}
 use Rattle.md_array.specs.Consistency.{IsConsistent}
 use Rattle.md_laws.proofs.Runs.Rests.{rests_then}
@@ -18,7 +18,18 @@ use Rattle.md_commands.specs.declared.fault.CommandFault.{CommandFault}
 use Rattle.md_commands.specs.declared.fault.CommandFault.TheVariants.{Read, Resync}
 use Rattle.md_commands.specs.declared.way.Way.{Way}
 use Rattle.md_commands.specs.declared.way.Way.TheVariants.{Resynced, Unresynced}
-use Rattle.md_commands.specs.Ways.{EndsBy, ReadsBy}
+use Rattle.md_commands.specs.Ways.{EndsBy, MayReadBy, ReadsBy}
+
+-- a part of sectors that may be read
+pub may_read_part : (way : Way) (old mid : ArrayView) → mid ≡ old → (sector count done sectors : ℕ) → MayReadBy way old sector count → 0 < sectors → done + sectors ≤ count
+    → MayReadBy way mid (sector + done) sectors
+may_read_part way old mid same sector count done sectors by some within =
+    let inside = by.may.range.inside in
+    let here : MayReadBy way old (sector + done) sectors = record {
+      may = record { running = by.may.running; range = record { some = some; inside = omega arith } };
+      is_for = by.is_for;
+    } in
+    subst (λ (a : ArrayView). MayReadBy way a (sector + done) sectors) (sym same) here
 
 -- ---- what is read
 pub reads_rests : (way : Way) (sector : ℕ) (bytes : List ℕ) (old new : MirrorView) → ReadsBy way sector bytes old new → Rests old new

@@ -13,7 +13,8 @@ abbrev pub AddsDevice : Disk → MirrorView → MirrorView → Type 0
 AddsDevice device old new = (k : ℕ) × Adds k device old new
 
 -- it does not, and comes back
-pub record HandsBackUnadded (device : Disk) (given : Option Disk) (old new : MirrorView) (fault : AddFault) : Type 0 where
+pub record HandsBackUnadded (device : Disk) (given : Option Disk) (old new : MirrorView)
+    (fault : AddFault) : Type 0 where
   pub back : Disk
   pub is : given ≡ Some back
   pub refused : RefusesAdd device back old new fault
@@ -26,5 +27,7 @@ KeepsDevice old new (Some d) = length new ≡ length old
 module _ {S : Type 0} (s : Ghosts S) where
   -- it does not join, and nothing is put out; or it does, and then the array is not stopped, or not shown
   abbrev pub RefusesToAdd : Disk → Option Disk → MirrorView → MirrorView → S → S → CommandFault → Type 0
-  RefusesToAdd device given old new before after (Add fault) = HandsBackUnadded device given old new fault × (after ≡ before)
-  RefusesToAdd device given old new before after fault = FailsToStopArray s (AddsDevice device old) new before after fault
+  RefusesToAdd device given old new before after (Add fault) =
+      HandsBackUnadded device given old new fault × (after ≡ before)
+  RefusesToAdd device given old new before after fault =
+      FailsToStopArray s (AddsDevice device old) new before after fault

@@ -1,9 +1,9 @@
 -- The command that compares the members in sync.
-use Rattle.std.specs.Prelude.{◌≡◌, ℕ, true}
+use Rattle.std.specs.Prelude.{◌≡◌, ℕ, true, List}
 use Rattle.md_bitmap.specs.Marks.{Bitmap}
 use Rattle.md_check.specs.Checking.{Checks, Finds, RefusesCheck}
 use Rattle.md_examine.specs.declared.sink.Sink.{Ghosts}
-use Rattle.md_report.specs.CheckReport.{check_text, list_text}
+use Rattle.md_report.specs.CheckReport.{check_text}
 use Rattle.md_state.specs.View.{MirrorView}
 use Rattle.md_commands.specs.declared.fault.CommandFault.{CommandFault}
 use Rattle.md_commands.specs.declared.fault.CommandFault.TheVariants.{Check, OutputFault}
@@ -28,11 +28,12 @@ module _ {S : Type 0} (s : Ghosts S) where
   RefusesToCheck old new before after OutputFault = ChecksInVain old new after
   RefusesToCheck old new before after fault = ⊥
 
-  -- they are compared, and the chunks in which two of them differ are shown
-  pub record ListsMembers (old new : MirrorView) (before after : S) : Type 0 where
+  -- they are compared, and the chunks in which two of them differ are shown, in a text that is made of their set
+  pub record ListsMismatches (text_of : Bitmap → List ℕ) (old new : MirrorView)
+      (before after : S) : Type 0 where
     pub set : Bitmap
     pub finds : Finds old new set
-    pub shown : PutsOut s before after (list_text old.array.chunks set)
+    pub shown : PutsOut s before after (text_of set)
 
   -- they are compared, and the output failed
   pub record ListsInVain (old new : MirrorView) (after : S) : Type 0 where

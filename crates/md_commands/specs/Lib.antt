@@ -8,8 +8,12 @@ pub mod Checking
 pub mod Failing
 -- What a command answers where images are not opened.
 pub mod Faults
+-- Sectors of the array are read and put out with zeros in the place of those that nobody gave.
+pub mod Filling
 -- What callers see of a reader as a source.
 pub mod Input
+-- What a command puts out as a JSON object.
+pub mod Objects
 -- What a command puts out.
 pub mod Output
 -- Sectors of the array are read and put out piece by piece.

@@ -25,7 +25,8 @@ module _ (way : Way) where
   abbrev pub ReadsPieces : ℕ → List (List ℕ) → MirrorView → MirrorView → Type 0
   ReadsPieces sector [] old new = new ≡ old
   ReadsPieces sector (piece ∷ pieces) old new =
-      (mid : MirrorView) × ReadsPiece sector piece old mid × ReadsPieces (sector + length piece / 512) pieces mid new
+      (mid : MirrorView) × ReadsPiece sector piece old mid
+      × ReadsPieces (sector + length piece / 512) pieces mid new
 
   -- these bytes are read so
   pub record ReadsSectors (sector : ℕ) (bytes : List ℕ) (old new : MirrorView) : Type 0 where
@@ -37,7 +38,8 @@ module _ (way : Way) where
 
   -- Sector s of the range was not read, for this reason. The bytes of the sectors before it are those of whole pieces, and of the front of
   -- one whose read ended there.
-  pub record ReadsUpTo (sector count s : ℕ) (reason : CommandFault) (bytes : List ℕ) (old new : MirrorView) : Type 0 where
+  pub record ReadsUpTo (sector count s : ℕ) (reason : CommandFault) (bytes : List ℕ)
+      (old new : MirrorView) : Type 0 where
     pub mid : MirrorView
     pub done : List ℕ
     pub reads : ReadsSectors sector done old mid
@@ -62,7 +64,8 @@ module _ {S : Type 0} (o : Ghosts S) (way : Way) where
     pub shown : PutsOut o before after bytes
 
   -- Sector s was not read, for this reason. Of a range of one piece nothing is put out, of a longer one the sectors before s are.
-  pub record PutsFront (sector count s : ℕ) (reason : CommandFault) (old new : MirrorView) (before after : S) : Type 0 where
+  pub record PutsFront (sector count s : ℕ) (reason : CommandFault) (old new : MirrorView)
+      (before after : S) : Type 0 where
     pub bytes : List ℕ
     pub reads : ReadsUpTo way sector count s reason bytes old new
     pub short : count ≤ piece_sectors → after ≡ before
@@ -71,8 +74,10 @@ module _ {S : Type 0} (o : Ghosts S) (way : Way) where
   -- there is no memory for a piece, or the output failed, or a sector was not read
   abbrev pub RefusesSectors : ℕ → ℕ → MirrorView → MirrorView → S → S → CommandFault → Type 0
   RefusesSectors sector count old new before after NoPieceMemory = (new ≡ old) × (after ≡ before)
-  RefusesSectors sector count old new before after OutputFault = ReadsSome way sector count old new × (o.failed after ≡ true)
-  RefusesSectors sector count old new before after reason = (s : ℕ) × PutsFront sector count s reason old new before after
+  RefusesSectors sector count old new before after OutputFault =
+      ReadsSome way sector count old new × (o.failed after ≡ true)
+  RefusesSectors sector count old new before after reason =
+      (s : ℕ) × PutsFront sector count s reason old new before after
 
   -- ---- a piece of a longer range
   pub record PutsPiece (sector : ℕ) (piece : List ℕ) (old new : MirrorView) (before after : S) : Type 0 where
@@ -80,13 +85,18 @@ module _ {S : Type 0} (o : Ghosts S) (way : Way) where
     pub puts : Puts o.contents o.failed before after piece
 
   -- the output took the sectors before s
-  pub record PutsPieceUpTo (sector s : ℕ) (reason : CommandFault) (piece : List ℕ) (old new : MirrorView) (before after : S) : Type 0 where
+  pub record PutsPieceUpTo (sector s : ℕ) (reason : CommandFault) (piece : List ℕ) (old new : MirrorView)
+      (before after : S) : Type 0 where
     pub ends : EndsBy way sector s piece old new reason
     pub shown : PutsOut o before after (take (512 * (s - sector)) piece)
 
   abbrev pub ReadsPieceOrNot : ℕ → List ℕ → MirrorView → MirrorView → Type 0
-  ReadsPieceOrNot sector piece old new = ReadsBy way sector piece old new ⊎ ((s : ℕ) × (reason : CommandFault) × EndsBy way sector s piece old new reason)
+  ReadsPieceOrNot sector piece old new =
+      ReadsBy way sector piece old new
+      ⊎ ((s : ℕ) × (reason : CommandFault) × EndsBy way sector s piece old new reason)
 
   abbrev pub RefusesPiece : ℕ → List ℕ → MirrorView → MirrorView → S → S → CommandFault → Type 0
-  RefusesPiece sector piece old new before after OutputFault = ReadsPieceOrNot sector piece old new × (o.failed after ≡ true)
-  RefusesPiece sector piece old new before after reason = (s : ℕ) × PutsPieceUpTo sector s reason piece old new before after
+  RefusesPiece sector piece old new before after OutputFault =
+      ReadsPieceOrNot sector piece old new × (o.failed after ≡ true)
+  RefusesPiece sector piece old new before after reason =
+      (s : ℕ) × PutsPieceUpTo sector s reason piece old new before after

@@ -16,7 +16,6 @@ use Rattle.md_copy.specs.Targets.{IsTarget}
 use Rattle.md_copy.specs.declared.fault.RebuildFault.{RebuildFault}
 use Rattle.md_copy.specs.Beginning.{RefusesTable}
 use Rattle.md_examine.specs.declared.sink.Sink.{Ghosts}
-use Rattle.md_report.specs.RebuiltReport.{planned_text}
 use Rattle.md_commands.specs.declared.fault.CommandFault.{CommandFault}
 use Rattle.md_commands.specs.declared.fault.CommandFault.TheVariants.{BadMember, OutputFault, Rebuild}
 use Rattle.md_commands.specs.Failing.{LacksMember}
@@ -49,13 +48,13 @@ RefusesPlan a k (Rebuild fault) = RefusesTarget a k fault
 RefusesPlan a k fault = ⊥
 
 module _ {S : Type 0} (s : Ghosts S) (a : ArrayView) (k : ℕ) (before after : S) where
-  -- the plan is put out
-  pub record ShowsPlan : Type 0 where
+  -- the plan is put out, in a text that is made of it
+  pub record ShowsPlan (text_of : Planned → List ℕ) : Type 0 where
     pub planned : Planned
     pub is : IsRebuildPlan a k planned
-    pub shown : PutsOut s before after (planned_text planned)
+    pub shown : PutsOut s before after (text_of planned)
 
-  -- there is none, and nothing is put out; or the output failed
+  -- there is none, and nothing is put out; or there is one, and the output failed
   abbrev pub RefusesToPlan : CommandFault → Type 0
-  RefusesToPlan OutputFault = s.failed after ≡ true
+  RefusesToPlan OutputFault = ((planned : Planned) × IsRebuildPlan a k planned) × (s.failed after ≡ true)
   RefusesToPlan fault = RefusesPlan a k fault × (after ≡ before)

@@ -31,12 +31,14 @@ pub record ReAddsDevice (device : Disk) (old new : MirrorView) : Type 0 where
   pub rebuilds : RebuildsMember k joined new
 
 -- the array can't be resynced, and the device is handed back as it was
-pub record HandsBackUntried (device : Disk) (given : Option Disk) (old new : MirrorView) (fault : ResyncFault) : Type 0 where
+pub record HandsBackUntried (device : Disk) (given : Option Disk) (old new : MirrorView)
+    (fault : ResyncFault) : Type 0 where
   pub is : given ≡ Some device
   pub refused : RefusesNeededResync old new fault
 
 -- it does not come back, and is handed back
-pub record HandsBackUnjoined (device : Disk) (given : Option Disk) (old new : MirrorView) (fault : ReAddFault) : Type 0 where
+pub record HandsBackUnjoined (device : Disk) (given : Option Disk) (old new : MirrorView)
+    (fault : ReAddFault) : Type 0 where
   pub ready : MirrorView
   pub readied : ResyncsIfNeeded old ready
   pub back : Disk
@@ -54,12 +56,17 @@ module _ {S : Type 0} (s : Ghosts S) where
   -- member k is not rebuilt; or it is, and then the array is not stopped, or not shown
   abbrev pub RefusesRebuilding : ℕ → MirrorView → MirrorView → S → S → CommandFault → Type 0
   RefusesRebuilding k old new before after (Rebuild fault) = RefusesRebuild k old new fault × (after ≡ before)
-  RefusesRebuilding k old new before after fault = FailsToStopArray s (RebuildsMember k old) new before after fault
+  RefusesRebuilding k old new before after fault =
+      FailsToStopArray s (RebuildsMember k old) new before after fault
 
   -- the device does not come back, or is not rebuilt, and nothing is put out; or it is, and then the array is not stopped, or not
   -- shown
   abbrev pub RefusesToReAdd : Disk → Option Disk → MirrorView → MirrorView → S → S → CommandFault → Type 0
-  RefusesToReAdd device given old new before after (Resync fault) = HandsBackUntried device given old new fault × (after ≡ before)
-  RefusesToReAdd device given old new before after (ReAdd fault) = HandsBackUnjoined device given old new fault × (after ≡ before)
-  RefusesToReAdd device given old new before after (Rebuild fault) = FailsToRebuildJoined device old new fault × (after ≡ before)
-  RefusesToReAdd device given old new before after fault = FailsToStopArray s (ReAddsDevice device old) new before after fault
+  RefusesToReAdd device given old new before after (Resync fault) =
+      HandsBackUntried device given old new fault × (after ≡ before)
+  RefusesToReAdd device given old new before after (ReAdd fault) =
+      HandsBackUnjoined device given old new fault × (after ≡ before)
+  RefusesToReAdd device given old new before after (Rebuild fault) =
+      FailsToRebuildJoined device old new fault × (after ≡ before)
+  RefusesToReAdd device given old new before after fault =
+      FailsToStopArray s (ReAddsDevice device old) new before after fault

@@ -1,5 +1,5 @@
 -- The command that reads an array.
-use Rattle.std.specs.Prelude.{◌≡◌, ℕ, true, false}
+use Rattle.std.specs.Prelude.{◌≡◌, ℕ, Bool, true, false}
 use Rattle.md_examine.specs.declared.sink.Sink.{Ghosts}
 use Rattle.md_resync.specs.declared.fault.ResyncFault.TheVariants.{ReadFault}
 use Rattle.md_read.specs.declared.fault.UnreadFault.{UnreadFault}
@@ -42,6 +42,23 @@ abbrev pub IsWayFor : ArrayView → Way → Type 0
 IsWayFor a Resynced = a.resynced ≡ true
 IsWayFor a Unresynced = needs_resync a ≡ true
 
+-- The array is made ready to be read in this way. Where no image may be changed it stays as it is; else it is resynced first, if it needs
+-- that.
+abbrev pub IsReadyTo : Bool → ℕ → ℕ → MirrorView → Way → MirrorView → Type 0
+IsReadyTo false sector count old way ready = IsReadied sector count old ready × (way ≡ Resynced)
+IsReadyTo true sector count old way ready =
+    MayReadArray old.array sector count × IsWayFor old.array way × (ready ≡ old)
+
+-- it is not
+abbrev pub RefusesReady : Bool → ℕ → ℕ → MirrorView → MirrorView → CommandFault → Type 0
+RefusesReady readonly sector count old new (Read Halted) = RefusesRange sector count old new Halted
+RefusesReady readonly sector count old new (Read OutOfRange) = RefusesRange sector count old new OutOfRange
+RefusesReady readonly sector count old new (Read NotResynced) =
+    Refuses old new (MustBeResynced old.array sector count)
+RefusesReady false sector count old new (Resync fault) =
+    MayReadArray old.array sector count × RefusesNeededResync old new fault
+RefusesReady readonly sector count old new fault = ⊥
+
 module _ {S : Type 0} (o : Ghosts S) (sector count : ℕ) (old new : MirrorView) (before after : S) where
   pub record ReadsArray : Type 0 where
     pub ready : MirrorView
@@ -57,8 +74,10 @@ module _ {S : Type 0} (o : Ghosts S) (sector count : ℕ) (old new : MirrorView)
   abbrev pub RefusesToRead : CommandFault → Type 0
   RefusesToRead (Read Halted) = RefusesRange sector count old new Halted × (after ≡ before)
   RefusesToRead (Read OutOfRange) = RefusesRange sector count old new OutOfRange × (after ≡ before)
-  RefusesToRead (Resync fault) = MayReadArray old.array sector count × RefusesNeededResync old new fault × (after ≡ before)
-  RefusesToRead (Read NotResynced) = Refuses old new (MustBeResynced old.array sector count) × (after ≡ before)
+  RefusesToRead (Resync fault) =
+      MayReadArray old.array sector count × RefusesNeededResync old new fault × (after ≡ before)
+  RefusesToRead (Read NotResynced) =
+      Refuses old new (MustBeResynced old.array sector count) × (after ≡ before)
   RefusesToRead NoPieceMemory = FailsReadied NoPieceMemory
   RefusesToRead (Read (Unreadable s)) = FailsReadied (Read (Unreadable s))
   RefusesToRead OutputFault = FailsReadied OutputFault
@@ -81,7 +100,8 @@ module _ {S : Type 0} (o : Ghosts S) (sector count : ℕ) (old new : MirrorView)
   abbrev pub RefusesReadonly : CommandFault → Type 0
   RefusesReadonly (Read Halted) = RefusesRange sector count old new Halted × (after ≡ before)
   RefusesReadonly (Read OutOfRange) = RefusesRange sector count old new OutOfRange × (after ≡ before)
-  RefusesReadonly (Read NotResynced) = Refuses old new (MustBeResynced old.array sector count) × (after ≡ before)
+  RefusesReadonly (Read NotResynced) =
+      Refuses old new (MustBeResynced old.array sector count) × (after ≡ before)
   RefusesReadonly NoPieceMemory = FailsReadonly NoPieceMemory
   RefusesReadonly (Read (Unreadable s)) = FailsReadonly (Read (Unreadable s))
   RefusesReadonly (Resync (ReadFault k chunk)) = FailsReadonly (Resync (ReadFault k chunk))

@@ -18,7 +18,7 @@ RefusesLength size len fault = ⊥
 
 module _ {I : Type 0} (i : Ghosts I) where
   -- these bytes came, so many at most: fewer only where no more are there
-  pub record ReadsUpTo (most : ℕ) (old new : I) (bytes : List ℕ) : Type 0 where
+  pub record TakesUpTo (most : ℕ) (old new : I) (bytes : List ℕ) : Type 0 where
     pub gives : Gives i.remaining i.failed old new bytes
     pub few : length bytes ≤ most
     pub all : length bytes < most → IsAtEnd (i.remaining new)

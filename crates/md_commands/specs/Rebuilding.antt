@@ -30,7 +30,8 @@ pub record FailsToRebuild (k : ℕ) (old new : MirrorView) (fault : RebuildFault
 abbrev pub RefusesReadied : ℕ → MirrorView → MirrorView → CommandFault → Type 0
 RefusesReadied k old new (Resync fault) = RefusesNeededResync old new fault
 RefusesReadied k old new (Rebuild fault) = FailsToRebuild k old new fault
-RefusesReadied k old new (Stop fault) = FailsToStop (λ mid. (told : Rebuilt) × RebuildsReadied k told old mid) new fault
+RefusesReadied k old new (Stop fault) =
+    FailsToStop (λ mid. (told : Rebuilt) × RebuildsReadied k told old mid) new fault
 RefusesReadied k old new fault = ⊥
 
 module _ {S : Type 0} (s : Ghosts S) (k : ℕ) (old new : MirrorView) (before after : S) where
@@ -38,7 +39,8 @@ module _ {S : Type 0} (s : Ghosts S) (k : ℕ) (old new : MirrorView) (before af
   pub record RebuildsArray : Type 0 where
     pub told : Rebuilt
     pub done : StopsAfter (RebuildsReadied k told old) new
-    pub shown : PutsOut s before after (rebuilt_text k told.passes told.plans.items (length told.orphans.items))
+    pub shown : PutsOut s before after
+        (rebuilt_text k told.passes told.plans.items (length told.orphans.items))
 
   -- all is done, and the output failed
   pub record RebuildsInVain : Type 0 where

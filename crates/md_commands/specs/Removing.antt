@@ -28,5 +28,7 @@ module _ {S : Type 0} (s : Ghosts S) where
   -- it does not leave, and nothing is put out; or it does, and then the array is not stopped, or not shown
   abbrev pub RefusesToRemove : ℕ → MirrorView → MirrorView → S → S → CommandFault → Type 0
   RefusesToRemove k old new before after BadMember = RefusesRemoving k old new BadMember × (after ≡ before)
-  RefusesToRemove k old new before after (Remove fault) = RefusesRemoving k old new (Remove fault) × (after ≡ before)
-  RefusesToRemove k old new before after fault = FailsToStopArray s (RemovesMember k old) new before after fault
+  RefusesToRemove k old new before after (Remove fault) =
+      RefusesRemoving k old new (Remove fault) × (after ≡ before)
+  RefusesToRemove k old new before after fault =
+      FailsToStopArray s (RemovesMember k old) new before after fault

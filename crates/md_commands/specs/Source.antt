@@ -3,16 +3,20 @@ use Rattle.std.specs.Prelude.{◌≡◌, ℕ, ◌<◌, ◌≤◌, Bool, true, Li
 use Rattle.std.specs.Io.KnownBytes.{Consumes, IsAtEnd}
 
 -- it gave these bytes, and did not fail in between
-pub record Gives {I : Type 0} (remaining : I → Option (List ℕ)) (failed : I → Bool) (old new : I) (bytes : List ℕ) : Type 0 where
+pub record Gives {I : Type 0} (remaining : I → Option (List ℕ)) (failed : I → Bool) (old new : I)
+    (bytes : List ℕ) : Type 0 where
   pub consumes : Consumes (remaining old) (remaining new) bytes
   pub well : failed new ≡ failed old
 
 -- it gave so many bytes, which stand at the front of the buffer: none only at its end, or where there is no room
-pub record GivesFront {I : Type 0} (remaining : I → Option (List ℕ)) (failed : I → Bool) (old new : I) (buf : List ℕ) (n : ℕ) : Type 0 where
+pub record GivesFront {I : Type 0} (remaining : I → Option (List ℕ)) (failed : I → Bool) (old new : I)
+    (buf : List ℕ) (n : ℕ) : Type 0 where
   pub few : n ≤ length buf
   pub gives : Gives remaining failed old new (take n buf)
   pub end : n ≡ 0 → 0 < length buf → IsAtEnd (remaining new)
 
 -- an `Err` comes only from a source that has failed
-abbrev pub GivesOrFails : {I E : Type 0} → (I → Option (List ℕ)) → (I → Bool) → I → I → List ℕ → Result ℕ E → Type 0
-GivesOrFails remaining failed old new buf result = MatchResult result (GivesFront remaining failed old new buf) (λ _. failed new ≡ true)
+abbrev pub GivesOrFails : {I E : Type 0} → (I → Option (List ℕ)) → (I → Bool) → I → I → List ℕ → Result ℕ E
+    → Type 0
+GivesOrFails remaining failed old new buf result =
+    MatchResult result (GivesFront remaining failed old new buf) (λ _. failed new ≡ true)

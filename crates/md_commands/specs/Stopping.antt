@@ -33,13 +33,15 @@ module _ {S : Type 0} (s : Ghosts S) where
   RefusesToStop old new before after fault = ⊥
 
   -- something was done to the mirror, and then the array was stopped, and shown
-  pub record StopsArrayAfter (Through : MirrorView → Type 0) (new : MirrorView) (before after : S) : Type 0 where
+  pub record StopsArrayAfter (Through : MirrorView → Type 0) (new : MirrorView)
+      (before after : S) : Type 0 where
     pub mid : MirrorView
     pub through : Through mid
     pub stops : StopsArray mid new before after
 
   -- it was not
-  pub record FailsToStopArray (Through : MirrorView → Type 0) (new : MirrorView) (before after : S) (fault : CommandFault) : Type 0 where
+  pub record FailsToStopArray (Through : MirrorView → Type 0) (new : MirrorView) (before after : S)
+      (fault : CommandFault) : Type 0 where
     pub mid : MirrorView
     pub through : Through mid
     pub refused : RefusesToStop mid new before after fault

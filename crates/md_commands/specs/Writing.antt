@@ -22,7 +22,8 @@ pub record WritesReadied (sector : ℕ) (bytes : List ℕ) (old new : MirrorView
   pub writes : Writes sector bytes ready new
 
 -- they are not written
-pub record FailsReadied (sector : ℕ) (bytes : List ℕ) (old new : MirrorView) (fault : BeginFault) : Type 0 where
+pub record FailsReadied (sector : ℕ) (bytes : List ℕ) (old new : MirrorView)
+    (fault : BeginFault) : Type 0 where
   pub ready : MirrorView
   pub readied : ResyncsIfNeeded old ready
   pub refused : RefusesWrite sector bytes ready new fault
@@ -33,7 +34,8 @@ RefusesBytes sector bytes old new (Write fault) = FailsReadied sector bytes old 
 RefusesBytes sector bytes old new (Stop fault) = FailsToStop (WritesReadied sector bytes old) new fault
 RefusesBytes sector bytes old new fault = ⊥
 
-module _ {I S : Type 0} (i : SourceGhosts I) (s : SinkGhosts S) (sector : ℕ) (old new : MirrorView) (input rest : I) (before after : S) where
+module _ {I S : Type 0} (i : SourceGhosts I) (s : SinkGhosts S) (sector : ℕ) (old new : MirrorView)
+    (input rest : I) (before after : S) where
   -- all of the input is written, the array is stopped, and then shown
   pub record WritesArray : Type 0 where
     pub bytes : List ℕ

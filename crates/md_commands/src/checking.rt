@@ -3,9 +3,13 @@ ghost use Rattle.std.specs.Prelude.{MatchResult};
 ghost use Rattle.md_requests.specs.Pending.{PendingView};
 ghost use Rattle.md_state.specs.Requests.{IsPending};
 ghost use Rattle.md_array.specs.Consistency.{IsConsistent};
-ghost use Rattle.md_commands.specs.Checking.{ChecksMembers, ListsMembers, RefusesToCheck, RefusesToList};
+ghost use Rattle.md_json.specs.MemberObjects.{texts_of};
+ghost use Rattle.md_report.specs.CheckReport.{list_text};
+ghost use Rattle.md_commands.specs.Checking.{ChecksMembers, ListsMismatches, RefusesToCheck, RefusesToList};
+ghost use Rattle.md_commands.specs.Objects.{checked_line};
 
 use crate::fault::CommandFault;
+use crate::objects::put_check_json;
 use crate::output::{put_checked, put_listed};
 use crate::watch::Watch;
 use md_array::Mirror;
@@ -36,12 +40,12 @@ pub fn check_members<D: Device + Drop + Send, W: Watch + Sync, S: Sink, T: Threa
     ensures pending { (p : PendingView) → IsPending mirror.old.array p → IsPending mirror.new.array p }
 {
     watch.begins_check(sectors_to_read(mirror));
-    let mismatched = check_array(rt, alloc, mirror, watch)?;
+    let mismatched = check_array(rt, alloc, mirror, watch).map_err(CommandFault::Check)?;
     put_checked(mismatched, out)
 }
 
 /// Puts out the same, and before it a line for each of these chunks.
-pub fn list_members<D: Device + Drop + Send, W: Watch + Sync, S: Sink, T: Threads + Sync>(
+pub fn list_mismatches<D: Device + Drop + Send, W: Watch + Sync, S: Sink, T: Threads + Sync>(
     rt: &T,
     alloc: Global,
     mirror: &mut Mirror<D>,
@@ -50,15 +54,38 @@ pub fn list_members<D: Device + Drop + Send, W: Watch + Sync, S: Sink, T: Thread
 ) -> Result<(), CommandFault>
     requires sound { IsConsistent mirror.old }
     ensures gives { MatchResult result
-        (λ _. ListsMembers S.Sink mirror.old mirror.new out.old out.new)
+        (λ _. ListsMismatches S.Sink (list_text mirror.old.array.chunks)
+        mirror.old mirror.new out.old out.new)
         (RefusesToList S.Sink mirror.old mirror.new out.old out.new) }
     ensures sound { IsConsistent mirror.new }
     ensures pending { (p : PendingView) → IsPending mirror.old.array p → IsPending mirror.new.array p }
 {
     watch.begins_check(sectors_to_read(mirror));
     let chunks = mirror.chunks();
-    let set = find_mismatches(rt, alloc, mirror, watch)?;
+    let set = find_mismatches(rt, alloc, mirror, watch).map_err(CommandFault::Check)?;
     put_listed(chunks, &set, out)
+}
+
+/// Puts out the same as a JSON object, of whose members these are the images.
+pub fn check_members_json<D: Device + Drop + Send, W: Watch + Sync, S: Sink, T: Threads + Sync>(
+    rt: &T,
+    alloc: Global,
+    mirror: &mut Mirror<D>,
+    watch: &W,
+    images: &[&str],
+    out: &mut S,
+) -> Result<(), CommandFault>
+    requires sound { IsConsistent mirror.old }
+    ensures gives { MatchResult result
+        (λ _. ListsMismatches S.Sink (checked_line mirror.old.array (texts_of images.now))
+        mirror.old mirror.new out.old out.new)
+        (RefusesToList S.Sink mirror.old mirror.new out.old out.new) }
+    ensures sound { IsConsistent mirror.new }
+    ensures pending { (p : PendingView) → IsPending mirror.old.array p → IsPending mirror.new.array p }
+{
+    watch.begins_check(sectors_to_read(mirror));
+    let set = find_mismatches(rt, alloc, mirror, watch).map_err(CommandFault::Check)?;
+    put_check_json(&set, mirror, images, out)
 }
 
 // How many sectors a check reads where none is listed as bad: those of the array, on each member in sync.

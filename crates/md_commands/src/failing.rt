@@ -47,6 +47,5 @@ fn fail_named<D: Device + Drop>(mirror: &mut Mirror<D>, member: u32) -> Result<(
     ensures pending { (p : PendingView) → IsPending mirror.old.array p → IsPending mirror.new.array p }
 {
     let k = named_member(mirror, member)?;
-    mirror.fail(k)?;
-    Ok(())
+    mirror.fail(k).map_err(CommandFault::Fail)
 }

@@ -1,6 +1,6 @@
 // The input of a write.
 ghost use Rattle.std.specs.Prelude.{◌≡◌, ◌+◌, ◌*◌, ◌-◌, ◌<◌, ◌≤◌, ◌++◌, MatchResult, length};
-ghost use Rattle.md_commands.specs.ReadingInput.{AppendsPiece, HasGoodLength, IsInput, ReadingFails, ReadsUpTo, RefusesInput, RefusesLength};
+ghost use Rattle.md_commands.specs.ReadingInput.{AppendsPiece, HasGoodLength, IsInput, ReadingFails, RefusesInput, RefusesLength, TakesUpTo};
 
 use crate::buffer::buffer;
 use crate::fault::CommandFault;
@@ -28,7 +28,7 @@ pub(crate) fn whole_input<I: Source>(
 // Reads an input to its end, or to one byte more than an array of so many sectors has.
 fn read_input<I: Source>(alloc: Global, input: &mut I, size: u64) -> Result<Vec<u8>, CommandFault>
     ensures { MatchResult result
-        (λ bytes. ReadsUpTo I.Source (512 * size + 1) input.old input.new bytes.items)
+        (λ bytes. TakesUpTo I.Source (512 * size + 1) input.old input.new bytes.items)
         (ReadingFails I.Source input.new) }
 {
     let mut piece = buffer(alloc, PIECE_SECTORS)?;
@@ -44,7 +44,7 @@ fn read_pieces<I: Source>(
 ) -> Result<Vec<u8>, CommandFault>
     requires some { 0 < length piece.old }
     ensures { MatchResult result
-        (λ bytes. ReadsUpTo I.Source (512 * size + 1) input.old input.new bytes.items)
+        (λ bytes. TakesUpTo I.Source (512 * size + 1) input.old input.new bytes.items)
         (ReadingFails I.Source input.new) }
 {
     let mut bytes = Vec::new(alloc);

@@ -1,5 +1,6 @@
-//! What holds of reads and resyncs together. The function does nothing: its contract is the theorem.
+//! What holds of reads. The functions do nothing: their contracts are the theorems.
 ghost use Rattle.md_commands.specs.AsResynced.{ReadsAsResynced, ResyncsLeaveSources};
+ghost use Rattle.md_commands.specs.Filling.{FillsContent};
 
 /// What `read_unresynced` gives is what a resync and then a `read` give, where devices do what they answer: in each
 /// sector of a marked chunk, whatever the members hold there, and in each other in which the members in sync agree. For a
@@ -8,4 +9,9 @@ ghost use Rattle.md_commands.specs.AsResynced.{ReadsAsResynced, ResyncsLeaveSour
 pub fn read_as_resynced()
     ensures sources { ResyncsLeaveSources }
     ensures reads { ReadsAsResynced }
+{}
+
+/// What is read of a resynced array with zeros in the place of missing sectors is its content in every other sector.
+pub fn filled_content()
+    ensures { FillsContent }
 {}

@@ -1,6 +1,7 @@
 //! What commands do with an opened array: show it, plan a rebuild, stop it, read it, write to it, compare its members,
-//! resynchronise it, fail, remove, add, re-add or rebuild a member. Images, names and words are no matter of this crate: it has
-//! a mirror, an input and an output. And why a command is refused, whatever it is done with.
+//! resynchronise it, fail, remove, add, re-add or rebuild a member. Images and words are no matter of this crate: it has a
+//! mirror, an input and an output, and names of images only to put them out. And why a command is refused, whatever it is
+//! done with.
 #![tactic(auto)]
 
 mod adding;
@@ -8,9 +9,11 @@ mod buffer;
 mod checking;
 mod failing;
 mod fault;
+mod filling;
 mod input;
 pub mod laws;
 mod named_member;
+mod objects;
 mod option_fault;
 mod output;
 mod pieces;
@@ -28,18 +31,18 @@ mod way;
 mod writing;
 
 pub use adding::add_device;
-pub use checking::{check_members, list_members};
+pub use checking::{check_members, check_members_json, list_mismatches};
 pub use failing::fail_member;
 pub use fault::CommandFault;
 pub use md_copy::Gate;
 pub use option_fault::OptionFault;
-pub use planning::show_plan;
+pub use planning::{show_plan, show_plan_json};
 pub use re_adding::re_add_device;
-pub use reading::{read_array, read_array_readonly};
+pub use reading::{read_array, read_array_filled, read_array_readonly};
 pub use rebuilding::rebuild_member;
 pub use removing::remove_member;
 pub use resyncing::resync_array;
-pub use showing::{show_detail, show_summary};
+pub use showing::{show_detail, show_detail_json, show_summary, show_summary_json};
 pub use source::{Input, Source, SourceFault};
 pub use stopping::stop_array;
 pub use watch::Watch;

@@ -15,8 +15,8 @@ use md_device::Device;
 use md_examine::Sink;
 use std::alloc::Global;
 
-// 1 MiB.
-const PIECE_SECTORS: u64 = 2048;
+/// The sectors of a piece: 1 MiB.
+pub(crate) const PIECE_SECTORS: u64 = 2048;
 
 /// Puts out `count` sectors of an array, from this one on, read in this way, through one buffer. What fits into it is put
 /// out whole or not at all.

@@ -1,9 +1,13 @@
 // The command that plans the rebuild of a member.
 ghost use Rattle.std.specs.Prelude.{◌<◌, MatchResult, length};
 ghost use Rattle.md_array.specs.Consistency.{IsConsistent};
+ghost use Rattle.md_json.specs.MemberObjects.{texts_of};
+ghost use Rattle.md_report.specs.RebuiltReport.{planned_text};
 ghost use Rattle.md_commands.specs.Planning.{IsRebuildPlan, RefusesPlan, RefusesTarget, RefusesToPlan, ShowsPlan};
+ghost use Rattle.md_commands.specs.Objects.{planned_line};
 
 use crate::fault::CommandFault;
+use crate::objects::put_plan_json;
 use crate::output::put_plan;
 use md_array::Mirror;
 use md_copy::{RebuildFault, table};
@@ -25,11 +29,29 @@ pub fn show_plan<D: Device + Drop, S: Sink>(
 ) -> Result<(), CommandFault>
     requires sound { IsConsistent mirror.now }
     ensures { MatchResult result
-        (λ _. ShowsPlan S.Sink mirror.now.array member out.old out.new)
+        (λ _. ShowsPlan S.Sink mirror.now.array member out.old out.new planned_text)
         (RefusesToPlan S.Sink mirror.now.array member out.old out.new) }
 {
     let planned = plan_rebuild(alloc, mirror, member)?;
     put_plan(&planned, out)
+}
+
+/// Puts out the same as a JSON object, of whose members these are the images.
+pub fn show_plan_json<D: Device + Drop, S: Sink>(
+    alloc: Global,
+    mirror: &Mirror<D>,
+    member: u32,
+    images: &[&str],
+    out: &mut S,
+) -> Result<(), CommandFault>
+    requires sound { IsConsistent mirror.now }
+    ensures { MatchResult result
+        (λ _. ShowsPlan S.Sink mirror.now.array member out.old out.new
+        (planned_line mirror.now.array (texts_of images.now)))
+        (RefusesToPlan S.Sink mirror.now.array member out.old out.new) }
+{
+    let planned = plan_rebuild(alloc, mirror, member)?;
+    put_plan_json(&planned, mirror, images, out)
 }
 
 // Plans a rebuild of the member with this index.

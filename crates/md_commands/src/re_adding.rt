@@ -76,7 +76,7 @@ fn rebuild_and_show<D: Device + Drop + Send, W: Watch + Sync, S: Sink, T: Thread
     ensures sound { IsConsistent mirror.new }
     ensures pending { (p : PendingView) → IsPending mirror.old.array p → IsPending mirror.new.array p }
 {
-    let rebuilt = rebuild_watched(rt, alloc, mirror, k, watch)?;
+    let rebuilt = rebuild_watched(rt, alloc, mirror, k, watch).map_err(CommandFault::Rebuild)?;
     drop(rebuilt);
     stop_array(mirror, out)
 }

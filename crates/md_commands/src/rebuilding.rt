@@ -65,9 +65,9 @@ fn rebuild_and_stop<D: Device + Drop + Send, W: Watch + Sync, T: Threads + Wait 
     ensures sound { IsConsistent mirror.new }
     ensures pending { (p : PendingView) → IsPending mirror.old.array p → IsPending mirror.new.array p }
 {
-    resync_if_needed(alloc, mirror)?;
-    let rebuilt = rebuild_watched(rt, alloc, mirror, k, watch)?;
-    stop(mirror)?;
+    resync_if_needed(alloc, mirror).map_err(CommandFault::Resync)?;
+    let rebuilt = rebuild_watched(rt, alloc, mirror, k, watch).map_err(CommandFault::Rebuild)?;
+    stop(mirror).map_err(CommandFault::Stop)?;
     Ok(rebuilt)
 }
 

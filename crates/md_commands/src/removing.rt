@@ -57,5 +57,5 @@ fn remove_named<D: Device + Drop>(mirror: &mut Mirror<D>, member: u32) -> Result
     ensures pending { (p : PendingView) → IsPending mirror.old.array p → IsPending mirror.new.array p }
 {
     let k = named_member(mirror, member)?;
-    Ok(mirror.remove(k)?)
+    mirror.remove(k).map_err(CommandFault::Remove)
 }

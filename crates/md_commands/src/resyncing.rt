@@ -27,8 +27,8 @@ pub fn resync_array<D: Device + Drop, S: Sink>(
     ensures sound { IsConsistent mirror.new }
     ensures pending { (p : PendingView) → IsPending mirror.old.array p → IsPending mirror.new.array p }
 {
-    resync(alloc, mirror)?;
-    stop(mirror)?;
+    resync(alloc, mirror).map_err(CommandFault::Resync)?;
+    stop(mirror).map_err(CommandFault::Stop)?;
     put_summary(mirror, out)
 }
 

@@ -1,9 +1,13 @@
 // The commands that show an array.
 ghost use Rattle.md_report.specs.DetailReport.{detail_text};
 ghost use Rattle.md_report.specs.SummaryReport.{summary_text};
+ghost use Rattle.md_json.specs.ArrayObjects.{detail_object, summary_object};
+ghost use Rattle.md_json.specs.MemberObjects.{texts_of};
+ghost use Rattle.md_json.specs.Objects.{line_of};
 ghost use Rattle.md_commands.specs.Output.{ShowsText};
 
 use crate::fault::CommandFault;
+use crate::objects::{put_detail_json, put_summary_json};
 use crate::output::{put_detail, put_summary};
 use md_array::Mirror;
 use md_device::Device;
@@ -30,4 +34,28 @@ pub fn show_detail<D: Device + Drop, S: Sink>(
     ensures { ShowsText S.Sink (detail_text mirror.now.array) out.old out.new result }
 {
     put_detail(mirror, out)
+}
+
+/// Puts out an array in short as a JSON object, of whose members these are the images. It stays as it is.
+pub fn show_summary_json<D: Device + Drop, S: Sink>(
+    mirror: &Mirror<D>,
+    images: &[&str],
+    out: &mut S,
+) -> Result<(), CommandFault>
+    ensures { ShowsText S.Sink (line_of (summary_object mirror.now.array (texts_of images.now)))
+        out.old out.new result }
+{
+    put_summary_json(mirror, images, out)
+}
+
+/// The same in detail.
+pub fn show_detail_json<D: Device + Drop, S: Sink>(
+    mirror: &Mirror<D>,
+    images: &[&str],
+    out: &mut S,
+) -> Result<(), CommandFault>
+    ensures { ShowsText S.Sink (line_of (detail_object mirror.now.array (texts_of images.now)))
+        out.old out.new result }
+{
+    put_detail_json(mirror, images, out)
 }

@@ -24,6 +24,6 @@ pub fn stop_array<D: Device + Drop, S: Sink>(
     ensures sound { IsConsistent mirror.new }
     ensures pending { (p : PendingView) → IsPending mirror.old.array p → IsPending mirror.new.array p }
 {
-    stop(mirror)?;
+    stop(mirror).map_err(CommandFault::Stop)?;
     put_summary(mirror, out)
 }

@@ -67,8 +67,8 @@ fn write_and_stop<D: Device + Drop>(
     ensures sound { IsConsistent mirror.new }
     ensures pending { (p : PendingView) → IsPending mirror.old.array p → IsPending mirror.new.array p }
 {
-    resync_if_needed(alloc, mirror)?;
-    write(mirror, sector, bytes)?;
-    stop(mirror)?;
+    resync_if_needed(alloc, mirror).map_err(CommandFault::Resync)?;
+    write(mirror, sector, bytes).map_err(CommandFault::Write)?;
+    stop(mirror).map_err(CommandFault::Stop)?;
     Ok(())
 }

@@ -14,11 +14,20 @@ use Rattle.md_state.specs.View.{Disk, of_disks}
 use Rattle.md_held.specs.declared.held.Held.{Held}
 use Rattle.md_held.specs.declared.held.Held.TheVariants.{Nothing, Unseen, Member, Signed}
 
-abbrev pub is_known : Held → Bool
-is_known Nothing = false
-is_known Unseen = false
-is_known (Member v) = true
-is_known (Signed s) = true
+-- It is told before the device is overwritten. Of one that was not looked at nobody knows what it is, and that is told too: so what
+-- can't be told of it is no way to overwrite it untold.
+abbrev pub needs_telling : Held → Bool
+needs_telling Nothing = false
+needs_telling Unseen = true
+needs_telling (Member v) = true
+needs_telling (Signed s) = true
+
+-- nobody looked at it
+abbrev pub is_unseen : Held → Bool
+is_unseen Nothing = false
+is_unseen Unseen = true
+is_unseen (Member v) = false
+is_unseen (Signed s) = false
 
 -- no superblock was read on the device, and not because there was no memory
 pub record HasNoSuper (d e : Disk) : Type 0 where

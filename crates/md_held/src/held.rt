@@ -2,7 +2,7 @@
 ghost use Rattle.std.specs.Prelude.{◌≡◌};
 ghost use Rattle.md_signatures.specs.Reading.{OnlyRead};
 ghost use Rattle.md_state.specs.View.{disk_of, of_disks};
-ghost use Rattle.md_held.specs.Holding.{Holds, HoldsSigned, is_known};
+ghost use Rattle.md_held.specs.Holding.{Holds, HoldsSigned, is_unseen, needs_telling};
 
 use md_device::Device;
 use md_members::{MemberFault, read_super};
@@ -15,7 +15,7 @@ use std::alloc::Global;
 pub enum Held {
     /// Nothing that is known. So it may be too where the device can't be read.
     Nothing,
-    /// Whatever it is: there was no memory to see it.
+    /// Whatever it is: there was no memory to look.
     Unseen,
     /// It is a member of an array: its superblock.
     Member(Superblock),
@@ -24,13 +24,23 @@ pub enum Held {
 }
 
 impl Held {
-    /// Whether something is known of it.
-    pub fn is_known(&self) -> bool
-        ensures { result ≡ is_known self.now }
+    /// Whether it is told before the device is overwritten: also where nobody knows what it is.
+    pub fn needs_telling(&self) -> bool
+        ensures { result ≡ needs_telling self.now }
     {
         match self {
-            Held::Nothing | Held::Unseen => false,
-            Held::Member(_) | Held::Signed(_) => true,
+            Held::Nothing => false,
+            Held::Unseen | Held::Member(_) | Held::Signed(_) => true,
+        }
+    }
+
+    /// Whether nobody looked at it.
+    pub fn is_unseen(&self) -> bool
+        ensures { result ≡ is_unseen self.now }
+    {
+        match self {
+            Held::Unseen => true,
+            Held::Nothing | Held::Member(_) | Held::Signed(_) => false,
         }
     }
 }

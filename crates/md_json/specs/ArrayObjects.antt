@@ -1,4 +1,4 @@
--- The objects of a whole array: in short and in detail, and of a check. In each the members come last.
+-- The objects of a whole array: in short and in detail. In each the members come last.
 use Rattle.std.specs.Prelude.{ℕ, not, List, [], ◌∷◌, codes}
 use Rattle.uuid.specs.Text.{hyphenated_text, lower}
 use Rattle.serde_json.specs.Data.{Data, boolean, string}
@@ -43,15 +43,9 @@ condition_fields a =
     ∷ field (codes "marked_chunks") (whole (marked_chunks a.marks))
     ∷ []
 
-unfoldable pub check_fields : ℕ → List Field
-check_fields mismatched = field (codes "mismatched_chunks") (whole mismatched) ∷ []
-
 -- the whole objects
 abbrev pub summary_object : ArrayView → List (List ℕ) → Data
 summary_object a images = report_of (codes "assemble") (summary_fields a ∷ members_fields a images ∷ [])
 
 abbrev pub detail_object : ArrayView → List (List ℕ) → Data
 detail_object a images = report_of (codes "detail") (shared_fields a.shared ∷ condition_fields a ∷ members_fields a images ∷ [])
-
-abbrev pub check_object : ℕ → ArrayView → List (List ℕ) → Data
-check_object mismatched a images = report_of (codes "check") (check_fields mismatched ∷ members_fields a images ∷ [])

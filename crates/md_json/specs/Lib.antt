@@ -10,5 +10,7 @@ pub mod BadblocksObject
 pub mod MemberObjects
 -- The objects of a whole array.
 pub mod ArrayObjects
+-- The object of a check.
+pub mod CheckObject
 -- The object of a rebuild's plan.
 pub mod PlanObject

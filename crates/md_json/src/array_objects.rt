@@ -3,7 +3,7 @@ ghost use Rattle.std.specs.Prelude.{◌≡◌};
 ghost use Rattle.md_assembly.specs.States.{is_in_sync};
 ghost use Rattle.md_examine.specs.Sink.{PutsOrFails};
 ghost use Rattle.md_report.specs.SummaryReport.{in_sync_members};
-ghost use Rattle.md_json.specs.ArrayObjects.{check_fields, check_object, condition_fields, detail_object, shared_fields, summary_fields, summary_object};
+ghost use Rattle.md_json.specs.ArrayObjects.{condition_fields, detail_object, shared_fields, summary_fields, summary_object};
 ghost use Rattle.md_json.specs.MemberObjects.{texts_of};
 ghost use Rattle.md_json.specs.Objects.{later_text, line_of};
 
@@ -49,23 +49,6 @@ pub fn detail_json<S: Sink, D: Device + Drop>(
     Ok(())
 }
 
-/// The same of a check: in how many chunks members in sync differ.
-pub fn check_json<S: Sink, D: Device + Drop>(
-    out: &mut S,
-    mismatched: u32,
-    mirror: &Mirror<D>,
-    images: &[&str],
-) -> Result<(), SinkFault>
-    ensures { PutsOrFails S.contents S.failed out.old out.new
-        (line_of (check_object mismatched mirror.now.array (texts_of images.now))) result }
-{
-    open(out, "check")?;
-    checked(out, mismatched)?;
-    members(out, mirror, images)?;
-    close(out)?;
-    Ok(())
-}
-
 fn summary<S: Sink, D: Device + Drop>(out: &mut S, mirror: &Mirror<D>) -> Result<(), SinkFault>
     ensures { PutsOrFails S.contents S.failed out.old out.new
         (later_text (summary_fields mirror.now.array)) result }
@@ -98,13 +81,5 @@ fn condition<S: Sink, D: Device + Drop>(out: &mut S, mirror: &Mirror<D>) -> Resu
     next_number(out, "events", mirror.events())?;
     next_number(out, "chunks", mirror.marks().chunks())?;
     next_number(out, "marked_chunks", mirror.marks().count())?;
-    Ok(())
-}
-
-fn checked<S: Sink>(out: &mut S, mismatched: u32) -> Result<(), SinkFault>
-    ensures { PutsOrFails S.contents S.failed out.old out.new
-        (later_text (check_fields mismatched)) result }
-{
-    next_number(out, "mismatched_chunks", mismatched)?;
     Ok(())
 }

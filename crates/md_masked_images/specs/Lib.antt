@@ -2,3 +2,5 @@
 pub mod Masks
 -- Which map is of which image.
 pub mod Words
+-- Which of the images are copies, and what each lacks.
+pub mod Copies

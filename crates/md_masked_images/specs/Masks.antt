@@ -4,8 +4,11 @@ use Rattle.std.specs.Prelude.{◌≡◌, ℕ, List, [], length, Option, Some, No
 use Rattle.md_badblocks.specs.declared.run.Run.{Run}
 use Rattle.md_images.specs.MemImages.{Named}
 use Rattle.md_images.specs.declared.images.Images.{Ghosts as ImagesGhosts}
-use Rattle.md_maps.specs.Map.{IsReadAs}
+use Rattle.md_maps.specs.Map.{IsReadAs, IsRefused}
+use Rattle.md_maps.specs.declared.fault.MapFault.{MapFault}
 use Rattle.md_masked_device.specs.Masked.{Masked}
+use Rattle.md_masked_images.specs.declared.fault.LackingFault.{LackingFault}
+use Rattle.md_masked_images.specs.declared.fault.LackingFault.TheVariants as lacking
 
 -- The masks are kept by name, each over a device without sectors.
 abbrev pub Masks : Type 0
@@ -45,3 +48,14 @@ pub record IsLacking {I D : Type 0} (i : ImagesGhosts I D) (g : Ghosts D) (name 
   pub size : ℕ
   pub sized : i.known images ≡ true → HasSize g (i.device_at images name) size
   pub lacks : IsReadAs size map missing
+
+-- the map is refused with this fault as one of the image under a name
+pub record IsNoMap {I D : Type 0} (i : ImagesGhosts I D) (g : Ghosts D) (name map : List ℕ) (images : I) (fault : MapFault) : Type 0 where
+  pub size : ℕ
+  pub sized : i.known images ≡ true → HasSize g (i.device_at images name) size
+  pub refused : IsRefused size map fault
+
+-- so it is, or the image can't be looked at
+abbrev pub RefusesLacking : {I D : Type 0} → ImagesGhosts I D → Ghosts D → List ℕ → List ℕ → I → LackingFault → Type 0
+RefusesLacking i g name map images (lacking.Map fault) = IsNoMap i g name map images fault
+RefusesLacking i g name map images (lacking.Image fault) = Unit {0}

@@ -1,5 +1,5 @@
 // What to do about a map that is refused.
-use crate::fault::MapRefusal;
+use crate::fault::{MapOutFault, MapRefusal};
 use md_maps::{LineFault, MapFault};
 
 /// What to do about a map that is refused.
@@ -11,6 +11,17 @@ pub fn map_advice(refusal: &MapRefusal) -> &'static str {
         MapRefusal::TooLong =>
             "it is perhaps no map: name the file in which ddrescue keeps its map",
         MapRefusal::Map(fault) => text_advice(*fault),
+    }
+}
+
+/// What to do about a map that is not made.
+pub fn map_out_advice(fault: &MapOutFault) -> &'static str {
+    match fault {
+        MapOutFault::Exists =>
+            "it is there already, and may be an image: name a file that is not there yet",
+        MapOutFault::Unwritten(_) =>
+            "see why the file can't be made (its folder, free space, permissions), and read again",
+        MapOutFault::NoMemory => "let it use more memory",
     }
 }
 

@@ -1,5 +1,7 @@
 // Images as copies of disks, by their maps.
-ghost use Rattle.std.specs.Prelude.{◌<◌, length};
+ghost use Rattle.std.specs.Prelude.{◌≡◌, ◌<◌, ◌==◌, IfErr, IfOk, Some, length, map, position, slice_get};
+ghost use Rattle.md_masked_images.specs.Copies.{AreMasked, LacksByFirstMap, LacksByMap, RefusesMap, RefusesMasks, first_of};
+ghost use Rattle.md_masked_images.specs.Masks.{KeepsAll};
 
 use crate::fault::{LackingFault, MapRefusal, MapsFault};
 use crate::masked_images::{MaskedImages, mask_of};
@@ -15,8 +17,8 @@ pub struct MapText {
     pub text: Vec<u8>,
 }
 
-/// The images under these names, of which some are copies that lack what their maps say. The images with maps are looked
-/// at, and no image is changed.
+/// The images under these names, of which some are copies that lack what their maps say: of two maps of one image the first
+/// counts. The images with maps are looked at, and no image is changed.
 pub fn mask_images<I: Images>(
     alloc: Global,
     images: I,
@@ -25,18 +27,45 @@ pub fn mask_images<I: Images>(
 ) -> Result<MaskedImages<I>, MapsFault>
 where
     I: Drop,
+    ensures masks { IfOk result (λ masked. AreMasked I.Images I.Dev.Device images maps.now
+        (map (λ s. s.now) names.now) (length names.now) masked.masks) }
+    ensures images { IfOk result (λ masked. KeepsAll I.Images images masked.images) }
+    ensures refused { IfErr result (RefusesMasks I.Images I.Dev.Device images maps.now (map (λ s. s.now) names.now)) }
 {
     let mut masked = MaskedImages::new(alloc, images);
     for (image, name) in names.iter().enumerate() {
-        let missing = match maps.iter().position(|map| map.image == image) {
-            Some(place) => lacking(&mut masked, image, name, place, maps)?,
-            None => BadSet::new(alloc),
-        };
+        let missing = lacking_at(alloc, &mut masked, image, name, maps)?;
         if masked.add(name, mask_of(alloc, missing)).is_err() {
             return Err(MapsFault::NoMemory);
         }
     }
     Ok(masked)
+}
+
+// What the image at this place lacks: what the first of its maps says, and where it has none nothing.
+fn lacking_at<I: Images>(
+    alloc: Global,
+    masked: &mut MaskedImages<I>,
+    image: usize,
+    name: &str,
+    maps: &[MapText],
+) -> Result<BadSet, MapsFault>
+    ensures lacks { IfOk result (LacksByFirstMap I.Images I.Dev.Device masked.old.images maps.now image name.now) }
+    ensures refused { IfErr result (RefusesMap I.Images I.Dev.Device masked.old.images maps.now image name.now) }
+    ensures masks { masked.new.masks ≡ masked.old.masks }
+    ensures images { KeepsAll I.Images masked.old.images masked.new.images }
+{
+    match first_of(maps, image) {
+        Some(place) => lacking(masked, image, name, place, maps),
+        None => Ok(BadSet::new(alloc)),
+    }
+}
+
+// The place of the first map of this image.
+fn first_of(maps: &[MapText], image: usize) -> Option<usize>
+    ensures { result ≡ position (λ text. text.image == image) maps.now }
+{
+    maps.iter().position(|text| text.image == image)
 }
 
 // What an image lacks by the map at this place.
@@ -47,7 +76,12 @@ fn lacking<I: Images>(
     place: usize,
     maps: &[MapText],
 ) -> Result<BadSet, MapsFault>
-    requires { place < length maps.now }
+    requires within { place < length maps.now }
+    requires first { first_of maps.now image ≡ Some place }
+    ensures refused { IfErr result (RefusesMap I.Images I.Dev.Device masked.old.images maps.now image name.now) }
+    ensures lacks { IfOk result (LacksByMap I.Images I.Dev.Device masked.old.images maps.now place name.now) }
+    ensures masks { masked.new.masks ≡ masked.old.masks }
+    ensures images { KeepsAll I.Images masked.old.images masked.new.images }
 {
     match masked.lacking(name, maps[place].text.as_slice()) {
         Ok(missing) => Ok(missing),

@@ -48,3 +48,17 @@ pub enum MapsFault {
     #[error("NoMemory")]
     NoMemory,
 }
+
+/// Why no map is made of what was read.
+#[derive(Debug, Drop, Error)]
+pub enum MapOutFault {
+    /// There is something under its name already. Nothing is read then.
+    #[error("MapOutExists")]
+    Exists,
+    /// Its file can't be made, and nothing is read then; or written, once all is put out.
+    #[error("MapOutFault")]
+    Unwritten(io::Error),
+    /// There was no memory for it.
+    #[error("NoMemory")]
+    NoMemory,
+}

@@ -7,8 +7,8 @@ mod fault;
 mod masked_images;
 mod words;
 
-pub use advice::map_advice;
+pub use advice::{map_advice, map_out_advice};
 pub use copies::{MapText, mask_images};
-pub use fault::{LackingFault, MapRefusal, MapsFault};
+pub use fault::{LackingFault, MapOutFault, MapRefusal, MapsFault};
 pub use masked_images::{MaskedImages, mask_of};
 pub use words::{MapWord, map_list};

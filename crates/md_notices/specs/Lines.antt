@@ -25,6 +25,18 @@ forgotten_text name = codes "mdcli: " ++ name ++ codes ": is in sync in this ver
 unfoldable pub held_text : List ℕ → List ℕ → List ℕ
 held_text name what = codes "mdcli: " ++ name ++ codes ": holds " ++ what ++ codes "\n"
 
+unfoldable pub unseen_text : List ℕ → List ℕ
+unseen_text name = codes "mdcli: " ++ name ++ codes ": there was no memory to look at it: it may hold data\n"
+
+unfoldable pub marked_text : List ℕ → List ℕ
+marked_text name = codes "mdcli: " ++ name ++ codes ": its bitmap did not tell of the array, so all chunks are marked in it now\n"
+
+unfoldable pub uncompared_text : List ℕ → List ℕ
+uncompared_text name = codes "mdcli: " ++ name ++ codes ": no other member is in sync, so nothing was compared\n"
+
+unfoldable pub lost_text : List ℕ → List ℕ
+lost_text name = codes "mdcli: " ++ name ++ codes ": what it held is lost: it is a spare of the array now\n"
+
 -- the role of a member, where it has one
 abbrev pub role_text : MemberState → List ℕ
 role_text (InSync role) = codes " in role " ++ decimal role

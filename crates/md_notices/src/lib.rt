@@ -13,7 +13,10 @@ mod unnamed;
 
 pub use belonging::{is_forgotten, standing};
 pub use dropping_out::dropped_out;
-pub use lines::{dropped_line, forgotten_line, held_line, parted_line, unnamed_line};
+pub use lines::{
+    dropped_line, forgotten_line, held_line, lost_line, marked_line, parted_line, uncompared_line,
+    unnamed_line, unseen_line,
+};
 pub use noticing::{
     Asked, MAX_MEMBERS, MAX_ROLES, in_sync_count, members_dropped, members_marked, members_parted,
     roles_unnamed, states_of,

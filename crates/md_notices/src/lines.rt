@@ -1,7 +1,7 @@
 // The lines that say what was noticed.
 ghost use Rattle.std.specs.Prelude.{◌≡◌};
 ghost use Rattle.md_examine.specs.Sink.{PutsOrFails};
-ghost use Rattle.md_notices.specs.Lines.{dropped_text, forgotten_text, held_text, parted_text, unnamed_text};
+ghost use Rattle.md_notices.specs.Lines.{dropped_text, forgotten_text, held_text, lost_text, marked_text, parted_text, uncompared_text, unnamed_text, unseen_text};
 
 use md_examine::{Sink, SinkFault, number_after};
 
@@ -72,5 +72,47 @@ pub fn held_line<S: Sink>(out: &mut S, name: &str, what: &str) -> Result<(), Sin
     out.put(b": holds ")?;
     out.put(what.as_bytes())?;
     out.put(b"\n")?;
+    Ok(())
+}
+
+/// Says that there was no memory to look at an image which is to be overwritten.
+pub fn unseen_line<S: Sink>(out: &mut S, name: &str) -> Result<(), SinkFault>
+    ensures { PutsOrFails S.contents S.failed out.old out.new (unseen_text name.now) result }
+{
+    out.put(b"mdcli: ")?;
+    out.put(name.as_bytes())?;
+    out.put(b": there was no memory to look at it: it may hold data\n")?;
+    Ok(())
+}
+
+/// Says that all chunks are marked in an image now, since its bitmap did not tell of the array.
+pub fn marked_line<S: Sink>(out: &mut S, name: &str) -> Result<(), SinkFault>
+    ensures { PutsOrFails S.contents S.failed out.old out.new (marked_text name.now) result }
+{
+    out.put(b"mdcli: ")?;
+    out.put(name.as_bytes())?;
+    out.put(b": its bitmap did not tell of the array, so all chunks are marked in it now\n")?;
+    Ok(())
+}
+
+/// Says that an image is in sync alone, so that a check compared nothing.
+#[tactic(auto, unfolding(crate::specs::Lines::uncompared_text), using(md_examine::proofs::Puts::puts_then))]
+pub fn uncompared_line<S: Sink>(out: &mut S, name: &str) -> Result<(), SinkFault>
+    ensures { PutsOrFails S.contents S.failed out.old out.new (uncompared_text name.now) result }
+{
+    out.put(b"mdcli: ")?;
+    out.put(name.as_bytes())?;
+    out.put(b": no other member is in sync, so nothing was compared\n")?;
+    Ok(())
+}
+
+/// Says that what an image held is lost, which was added to the array.
+#[tactic(auto, unfolding(crate::specs::Lines::lost_text), using(md_examine::proofs::Puts::puts_then))]
+pub fn lost_line<S: Sink>(out: &mut S, name: &str) -> Result<(), SinkFault>
+    ensures { PutsOrFails S.contents S.failed out.old out.new (lost_text name.now) result }
+{
+    out.put(b"mdcli: ")?;
+    out.put(name.as_bytes())?;
+    out.put(b": what it held is lost: it is a spare of the array now\n")?;
     Ok(())
 }

@@ -14,7 +14,7 @@ use Rattle.clap.specs.declared.builder.range.ValueRange.{ValueRange}
 use Rattle.std.specs.Borrow.{Bor}
 use Rattle.clap.specs.declared.builder.texts.Texts.TheVariants.{One}
 use Rattle.md_words.specs.Words.{mdcli}
-use Rattle.md_words.specs.Asked.{asks_in, asks_of, images_in, maps_in, verbose_in, verbose_of}
+use Rattle.md_words.specs.Parsing.{ask_found, ask_named, images_found, map_out_found, map_out_in, maps_found, verbose_found, verbose_in}
 
 pub some_is : {X : Type 0} (o : Option X) (x : X) → IsSomeAnd o (λ r. r ≡ x) → o ≡ Some x
 some_is None x h = absurd h
@@ -69,22 +69,26 @@ pub no_subcommand : (m : ArgMatches) → subcommand_name_of m ≡ None → subco
 no_subcommand m none = no_pair (subcommand_rows_of m) (sym (name_is m) ∙ none)
 
 -- the images of a subcommand's matches
-pub images_read : (m : ArgMatches) (name : Text) (f : Found) → subcommand_rows_of m ≡ Some (name, rows_of f) → unwrap_or (option_map raw_values (matched_of f (codes "image"))) [] ≡ images_in (subcommand_rows_of m)
+pub images_read : (m : ArgMatches) (name : Text) (f : Found) → subcommand_rows_of m ≡ Some (name, rows_of f) → unwrap_or (option_map raw_values (matched_of f (codes "image"))) [] ≡ images_found (subcommand_rows_of m)
 images_read m name f is =
-    ap (λ (o : Option (List Text)). unwrap_or o []) (raw_values-rows f (codes "image")) ∙ sym (ap images_in is)
+    ap (λ (o : Option (List Text)). unwrap_or o []) (raw_values-rows f (codes "image")) ∙ sym (ap images_found is)
 
 -- the maps that they name
-pub maps_read : (m : ArgMatches) (name : Text) (f : Found) → subcommand_rows_of m ≡ Some (name, rows_of f) → unwrap_or (option_map raw_values (matched_of f (codes "map"))) [] ≡ maps_in (subcommand_rows_of m)
+pub maps_read : (m : ArgMatches) (name : Text) (f : Found) → subcommand_rows_of m ≡ Some (name, rows_of f) → unwrap_or (option_map raw_values (matched_of f (codes "map"))) [] ≡ maps_found (subcommand_rows_of m)
 maps_read m name f is =
-    ap (λ (o : Option (List Text)). unwrap_or o []) (raw_values-rows f (codes "map")) ∙ sym (ap maps_in is)
+    ap (λ (o : Option (List Text)). unwrap_or o []) (raw_values-rows f (codes "map")) ∙ sym (ap maps_found is)
+
+-- the file that is to be made
+pub map_out_read : (m : ArgMatches) (name : Text) (f : Found) → subcommand_rows_of m ≡ Some (name, rows_of f) → map_out_in (rows_of f) ≡ map_out_found (subcommand_rows_of m)
+map_out_read m name f is = sym (ap map_out_found is)
 
 -- what a subcommand's name and matches ask for
-pub asks_read : (m : ArgMatches) (name : Text) (f : Found) → subcommand_rows_of m ≡ Some (name, rows_of f) → asks_of name (rows_of f) ≡ asks_in (subcommand_rows_of m)
-asks_read m name f is = sym (ap asks_in is)
+pub asks_read : (m : ArgMatches) (name : Text) (f : Found) → subcommand_rows_of m ≡ Some (name, rows_of f) → ask_named name (rows_of f) ≡ ask_found (subcommand_rows_of m)
+asks_read m name f is = sym (ap ask_found is)
 
 -- whether a subcommand's matches ask that more is said
-pub verbose_read : (m : ArgMatches) (name : Text) (f : Found) → subcommand_rows_of m ≡ Some (name, rows_of f) → verbose_of (rows_of f) ≡ verbose_in (subcommand_rows_of m)
-verbose_read m name f is = sym (ap verbose_in is)
+pub verbose_read : (m : ArgMatches) (name : Text) (f : Found) → subcommand_rows_of m ≡ Some (name, rows_of f) → verbose_in (rows_of f) ≡ verbose_found (subcommand_rows_of m)
+verbose_read m name f is = sym (ap verbose_found is)
 
 -- a command gets no global argument with one that is local
 pub no_globals : (old arg new : Bool) → new ≡ (old || arg) → old ≡ false → arg ≡ false → new ≡ false

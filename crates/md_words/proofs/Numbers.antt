@@ -5,7 +5,7 @@ use Rattle.std.specs.Result.{result_unwrap_or}
 use Rattle.std.specs.Char.{digit_value}
 use Rattle.std.specs.Str.Parse.{AllDigits, IsNumeral, ParsesUnsigned, digits_value, without_leading_plus}
 use Rattle.std.proofs.lemmas.Bool.{and_parts}
-use Rattle.md_words.specs.Asked.{is_number, is_number_of, number_of}
+use Rattle.md_words.specs.Parsing.{fits_bits, is_number, number_or_zero}
 
 digits_pass : (ds : List ℕ) → AllDigits 10 ds → list_all (λ d. nat_lt (digit_value d) 10) ds ≡ true
 digits_pass [] h = refl
@@ -29,7 +29,7 @@ refused true n wrong = absurd (wrong refl)
 refused false n wrong = refl
 
 -- what a parse of a number of so many bits gives
-pub number_read : {E : Type 0} (bits : ℕ) (text : List ℕ) (r : Result ℕ E) → ParsesUnsigned bits 10 text r → result_unwrap_or r 0 ≡ number_of bits text
+pub number_read : {E : Type 0} (bits : ℕ) (text : List ℕ) (r : Result ℕ E) → ParsesUnsigned bits 10 text r → result_unwrap_or r 0 ≡ number_or_zero bits text
 number_read bits text (Ok n) h =
     let ds = without_leading_plus text in
     h.1 ∙ chosen (is_number ds && nat_lt (digits_value 10 ds) (2 ^ bits)) (digits_value 10 ds) (passes (2 ^ bits) ds h.0.0 h.0.1)
@@ -45,15 +45,15 @@ not_true true wrong = absurd (wrong refl)
 not_true false wrong = refl
 
 -- a text is a number of so many bits where it parses as one, and only there
-pub is_number_parsed : {E : Type 0} (bits : ℕ) (text : List ℕ) (n : ℕ) (r : Result ℕ E) → r ≡ Ok n → ParsesUnsigned bits 10 text r → is_number_of bits text ≡ true
+pub is_number_parsed : {E : Type 0} (bits : ℕ) (text : List ℕ) (n : ℕ) (r : Result ℕ E) → r ≡ Ok n → ParsesUnsigned bits 10 text r → fits_bits bits text ≡ true
 is_number_parsed bits text n (Ok m) is h = passes (2 ^ bits) (without_leading_plus text) h.0.0 h.0.1
 is_number_parsed bits text n (Err e) is h = absurd cc
 
-pub is_no_number_refused : {E : Type 0} (bits : ℕ) (text : List ℕ) (e : E) (r : Result ℕ E) → r ≡ Err e → ParsesUnsigned bits 10 text r → is_number_of bits text ≡ false
+pub is_no_number_refused : {E : Type 0} (bits : ℕ) (text : List ℕ) (e : E) (r : Result ℕ E) → r ≡ Err e → ParsesUnsigned bits 10 text r → fits_bits bits text ≡ false
 is_no_number_refused bits text e (Ok n) is h = absurd cc
 is_no_number_refused bits text e (Err x) is h =
     let ds = without_leading_plus text in
-    not_true (is_number_of bits text) (λ t.
+    not_true (fits_bits bits text) (λ t.
     let outer = and_parts (is_number ds) _ t in
     let inner = and_parts (nat_lt 0 (length ds)) _ outer.0 in
     h ((ltb-true _ _ inner.0, digits_from ds inner.1), ltb-true _ _ outer.1))

@@ -3,11 +3,15 @@ use Rattle.std.specs.Prelude.{ℕ, Bool, true, false, Option, Some, None, if◌t
 use Rattle.clap.specs.Words.{Text}
 use Rattle.md_images.specs.declared.access.Access.{Access}
 use Rattle.md_images.specs.declared.access.Access.TheVariants.{Change, ChangeOrLook, Look}
-use Rattle.md_words.specs.declared.options.CreateOptions.{CreateOptions}
+use Rattle.md_words.specs.declared.create_options.CreateOptions.{CreateOptions}
 use Rattle.md_words.specs.declared.command.Command.{Command}
 use Rattle.md_words.specs.declared.command.Command.TheVariants as command
+use Rattle.md_words.specs.declared.form.CheckForm.{CheckForm}
+use Rattle.md_words.specs.declared.form.ImageForm.{ImageForm}
 use Rattle.md_words.specs.declared.overwritten.Overwritten.{Overwritten}
 use Rattle.md_words.specs.declared.overwritten.Overwritten.TheVariants as overwritten
+use Rattle.md_words.specs.declared.long_task.LongTask.{LongTask}
+use Rattle.md_words.specs.declared.long_task.LongTask.TheVariants as long
 
 -- the options of `create`
 pub record Options : Type 0 where
@@ -21,17 +25,17 @@ pub record Options : Type 0 where
   pub write_mostly : Option ℕ  -- the role of the member that is read only where no other can serve
   pub assume_clean : Bool
 
--- What is asked for. A `Bool` says whether no image may be changed.
+-- What is asked for. A last `Bool` says whether no image may be changed, and one before it whether the report is a JSON object.
 pub data Ask : Type 0 where
-  examines : Bool → Ask  -- whether as it stands, though it may be refused; of the next two too
-  examines_bitmap : Bool → Ask
-  examines_badblocks : Bool → Ask
+  examines : ImageForm → Ask
+  examines_bitmap : ImageForm → Ask
+  examines_badblocks : ImageForm → Ask
   creates : Options → Ask
-  assembles : Bool → Ask
-  details : Bool → Ask
-  plans : ℕ → Bool → Ask  -- the rebuild of the member with this index
-  reads : ℕ → ℕ → Bool → Ask  -- from a sector on, so many
-  checks : Bool → Bool → Ask  -- whether the chunks are listed
+  assembles : Bool → Bool → Ask
+  details : Bool → Bool → Ask
+  plans : ℕ → Bool → Bool → Ask  -- the rebuild of the member with this index
+  reads : ℕ → ℕ → Bool → Bool → Ask  -- from a sector on, so many; whether zeros stand for those that are not given
+  checks : CheckForm → Bool → Ask
   writes : ℕ → Ask  -- from a sector on
   resyncs : Ask
   stops : Ask
@@ -43,24 +47,24 @@ pub data Ask : Type 0 where
 
 -- whether no image may be changed, by a command that else might change some
 abbrev pub is_readonly : Ask → Bool
-is_readonly (assembles readonly) = readonly
-is_readonly (details readonly) = readonly
-is_readonly (plans k readonly) = readonly
-is_readonly (reads sector count readonly) = readonly
-is_readonly (checks list readonly) = readonly
+is_readonly (assembles json readonly) = readonly
+is_readonly (details json readonly) = readonly
+is_readonly (plans k json readonly) = readonly
+is_readonly (reads sector count fill readonly) = readonly
+is_readonly (checks form readonly) = readonly
 is_readonly _ = false
 
 -- How images are opened where they may be changed: opening an array to show what it is may store marks, and what writes to
 -- images needs all of them to be changed.
 abbrev pub full_access_of : Ask → Access
-full_access_of (examines all) = Look
-full_access_of (examines_bitmap all) = Look
-full_access_of (examines_badblocks all) = Look
-full_access_of (assembles readonly) = ChangeOrLook
-full_access_of (details readonly) = ChangeOrLook
-full_access_of (plans k readonly) = ChangeOrLook
-full_access_of (reads sector count readonly) = ChangeOrLook
-full_access_of (checks list readonly) = ChangeOrLook
+full_access_of (examines form) = Look
+full_access_of (examines_bitmap form) = Look
+full_access_of (examines_badblocks form) = Look
+full_access_of (assembles json readonly) = ChangeOrLook
+full_access_of (details json readonly) = ChangeOrLook
+full_access_of (plans k json readonly) = ChangeOrLook
+full_access_of (reads sector count fill readonly) = ChangeOrLook
+full_access_of (checks form readonly) = ChangeOrLook
 full_access_of _ = Change
 
 -- how the images are opened
@@ -69,17 +73,30 @@ access_of ask = if is_readonly ask then Look else full_access_of ask
 
 -- whether the images are opened as an array
 abbrev pub opens_array : Ask → Bool
-opens_array (examines all) = false
-opens_array (examines_bitmap all) = false
-opens_array (examines_badblocks all) = false
+opens_array (examines form) = false
+opens_array (examines_bitmap form) = false
+opens_array (examines_badblocks form) = false
 opens_array (creates o) = false
 opens_array _ = true
+
+-- whether it puts out zeros for sectors that are not given
+abbrev pub fills : Ask → Bool
+fills (reads sector count fill readonly) = fill
+fills _ = false
 
 -- the image that is to join it
 abbrev pub device_of : Ask → Option Text
 device_of (adds name) = Some name
 device_of (re_adds name) = Some name
 device_of _ = None
+
+-- the member that it names
+abbrev pub member_of : Ask → Option ℕ
+member_of (plans k json readonly) = Some k
+member_of (fails k) = Some k
+member_of (removes k) = Some k
+member_of (rebuilds k) = Some k
+member_of _ = None
 
 -- the member that is to leave it
 abbrev pub leaving_of : Ask → Option ℕ
@@ -93,9 +110,9 @@ failing_of _ = None
 
 -- whether it says which members were used without those in sync: it shows the array, or rebuilds
 abbrev pub tells_parted : Ask → Bool
-tells_parted (assembles readonly) = true
-tells_parted (details readonly) = true
-tells_parted (plans k readonly) = true
+tells_parted (assembles json readonly) = true
+tells_parted (details json readonly) = true
+tells_parted (plans k json readonly) = true
 tells_parted (re_adds name) = true
 tells_parted (rebuilds k) = true
 tells_parted _ = false
@@ -107,6 +124,20 @@ overwritten_by (adds name) = overwritten.NewDevice
 overwritten_by (re_adds name) = overwritten.ReturningDevice
 overwritten_by (rebuilds k) = overwritten.Member k
 overwritten_by _ = overwritten.Nothing
+
+-- whether it reads the input
+abbrev pub takes_input : Ask → Bool
+takes_input (writes sector) = true
+takes_input _ = false
+
+-- what a terminal is shown the progress of, where it takes long
+abbrev pub long_task_of : Ask → Option LongTask
+long_task_of (reads sector count fill readonly) = Some (long.Read count)
+long_task_of (checks form readonly) = Some long.Check
+long_task_of resyncs = Some long.Resync
+long_task_of (re_adds name) = Some long.Rebuild
+long_task_of (rebuilds k) = Some long.Rebuild
+long_task_of _ = None
 
 -- the same of a command as it was parsed
 abbrev pub options_of : CreateOptions → Options
@@ -123,15 +154,15 @@ options_of o = record {
 }
 
 abbrev pub ask_of : Command → Ask
-ask_of (command.Examine all) = examines all
-ask_of (command.ExamineBitmap all) = examines_bitmap all
-ask_of (command.ExamineBadblocks all) = examines_badblocks all
+ask_of (command.Examine form) = examines form
+ask_of (command.ExamineBitmap form) = examines_bitmap form
+ask_of (command.ExamineBadblocks form) = examines_badblocks form
 ask_of (command.Create options) = creates (options_of options)
-ask_of (command.Assemble readonly) = assembles readonly
-ask_of (command.Detail readonly) = details readonly
-ask_of (command.Plan k readonly) = plans k readonly
-ask_of (command.Read sector count readonly) = reads sector count readonly
-ask_of (command.Check list readonly) = checks list readonly
+ask_of (command.Assemble json readonly) = assembles json readonly
+ask_of (command.Detail json readonly) = details json readonly
+ask_of (command.Plan k json readonly) = plans k json readonly
+ask_of (command.Read sector count fill readonly) = reads sector count fill readonly
+ask_of (command.Check form readonly) = checks form readonly
 ask_of (command.Write sector) = writes sector
 ask_of command.Resync = resyncs
 ask_of command.Stop = stops

@@ -1,5 +1,5 @@
 -- How a command comes from the words.
-pub mod Asked
+pub mod Parsing
 -- What a command is, and what it may do with the images.
 pub mod Asks
 -- What clap is told of a command and its options.

@@ -7,7 +7,9 @@ use Rattle.clap.specs.declared.builder.value_parser.ValueParser.TheVariants.{Sig
 
 -- any number of images, listed last
 abbrev pub image_rule : Rule
-image_rule = record (new_rule (codes "image")) { range = Some (record { start_inclusive = 1; end_inclusive = usize_max }); value_names = 1 }
+image_rule =
+    record (new_rule (codes "image"))
+    { range = Some (record { start_inclusive = 1; end_inclusive = usize_max }); value_names = 1 }
 
 -- an option with a value, and with a number of 32 or 64 bits
 abbrev pub value_rule : Text → Rule
@@ -53,19 +55,23 @@ with_map a = with_rule a (texts_rule (codes "map"))
 abbrev pub with_readonly : App → App
 with_readonly a = with_rule a (flag_rule (codes "readonly"))
 
+-- one whose report may be a JSON object
+abbrev pub with_json : App → App
+with_json a = with_rule a (flag_rule (codes "json"))
+
 -- one that shows an image, and may show it as it stands
 abbrev pub examine_app : Text → App
-examine_app name = completed (with_rule (new_app name) (flag_rule (codes "all")))
+examine_app name = completed (with_json (with_rule (new_app name) (flag_rule (codes "all"))))
 
 -- one that shows an array, the plan of a rebuild, or sectors, or compares the members
 abbrev pub with_images : App → App
 with_images a = completed (with_map (with_readonly a))
 
 abbrev pub assemble_app : App
-assemble_app = completed (with_readonly (new_app (codes "assemble")))
+assemble_app = completed (with_readonly (with_json (new_app (codes "assemble"))))
 
 abbrev pub array_app : Text → App
-array_app name = with_images (new_app name)
+array_app name = with_images (with_json (new_app name))
 
 -- one that makes the members agree
 abbrev pub resync_app : App
@@ -77,10 +83,10 @@ with_member a = with_rule a (required (value_rule (codes "member")))
 
 -- the members are compared, and where they differ may be listed
 abbrev pub check_app : App
-check_app = with_images (with_rule (new_app (codes "check")) (flag_rule (codes "list")))
+check_app = with_images (with_json (with_rule (new_app (codes "check")) (flag_rule (codes "list"))))
 
 abbrev pub plan_app : App
-plan_app = with_images (with_member (new_app (codes "plan")))
+plan_app = with_images (with_json (with_member (new_app (codes "plan"))))
 
 -- a command that changes the state of one member
 abbrev pub member_app : Text → App
@@ -106,8 +112,14 @@ rebuild_app = completed (with_map (with_run (with_member (new_app (codes "rebuil
 abbrev pub with_sector : App → App
 with_sector a = with_rule a (required (u64_rule (codes "sector")))
 
+-- options for sectors that nobody gives
+abbrev pub with_fill : App → App
+with_fill a = with_rule (with_rule a (flag_rule (codes "fill"))) (value_rule (codes "map-out"))
+
 abbrev pub read_app : App
-read_app = with_images (with_rule (with_sector (new_app (codes "read"))) (required (u64_rule (codes "count"))))
+read_app =
+    with_images
+    (with_fill (with_rule (with_sector (new_app (codes "read"))) (required (u64_rule (codes "count")))))
 
 abbrev pub write_app : App
 write_app = completed (with_sector (new_app (codes "write")))
@@ -115,7 +127,8 @@ write_app = completed (with_sector (new_app (codes "write")))
 -- `create`: what it must be given, and what it may
 abbrev pub with_required : App → App
 with_required a =
-    with_rule (with_rule (with_rule a (required (value_rule (codes "level")))) (required (u32_rule (codes "raid-devices")))) (required (value_rule (codes "uuid")))
+    with_rule (with_rule (with_rule a (required (value_rule (codes "level"))))
+    (required (u32_rule (codes "raid-devices")))) (required (value_rule (codes "uuid")))
 
 abbrev pub with_optional : App → App
 with_optional a =
@@ -145,7 +158,8 @@ required_command a = record a { top = record a.top { subcommand_required = true 
 abbrev pub with_examine_commands : App → App
 with_examine_commands a =
     with_subcommand
-    (with_subcommand (with_subcommand a (examine_app (codes "examine")).top) (examine_app (codes "examine-bitmap")).top)
+    (with_subcommand (with_subcommand a (examine_app (codes "examine")).top)
+    (examine_app (codes "examine-bitmap")).top)
     (examine_app (codes "examine-badblocks")).top
 
 abbrev pub with_array_commands : App → App
@@ -172,11 +186,13 @@ with_member_commands a =
 
 -- the commands by which a member gets the data that it lacks
 abbrev pub with_rebuild_commands : App → App
-with_rebuild_commands a = with_subcommand (with_subcommand a (device_app (codes "re-add")).top) rebuild_app.top
+with_rebuild_commands a =
+    with_subcommand (with_subcommand a (device_app (codes "re-add")).top) rebuild_app.top
 
 -- the whole command line
 unfoldable pub mdcli : App
 mdcli =
     with_rebuild_commands
     (with_member_commands
-    (with_data_commands (with_array_commands (with_examine_commands (required_command (with_version (new_app (codes "mdcli"))))))))
+    (with_data_commands (with_array_commands
+    (with_examine_commands (required_command (with_version (new_app (codes "mdcli"))))))))

@@ -1,50 +1,57 @@
 // A command, and what it may do with the images.
 ghost use Rattle.std.specs.Prelude.{◌≡◌, option_map};
-ghost use Rattle.md_words.specs.Asks.{access_of, ask_of, device_of, failing_of, is_readonly, leaving_of, opens_array, overwritten_by, tells_parted};
+ghost use Rattle.md_words.specs.Asks.{access_of, ask_of, device_of, failing_of, fills, is_readonly, leaving_of, long_task_of, member_of, opens_array, overwritten_by, takes_input, tells_parted};
 
-use crate::options::CreateOptions;
+use crate::create_options::CreateOptions;
+use crate::form::{CheckForm, ImageForm};
+use crate::long_task::LongTask;
 use crate::overwritten::Overwritten;
 use md_images::Access;
 
-/// A command, with the values of its options. `readonly` says that no image may be changed.
+/// A command, with the values of its options. `readonly` says that no image may be changed, `json` that the report is a JSON
+/// object.
 #[derive(Clone, Copy, Debug)]
 pub enum Command<'a> {
-    /// Shows the superblock of the one image, or with `all` what stands in its place, though it may be refused.
+    /// Shows the superblock of the one image, or what stands in its place, though it may be refused.
     Examine {
-        all: bool,
+        form: ImageForm,
     },
     /// Shows its bitmap, or the header as it stands.
     ExamineBitmap {
-        all: bool,
+        form: ImageForm,
     },
     /// Shows its bad blocks, or the log as it stands.
     ExamineBadblocks {
-        all: bool,
+        form: ImageForm,
     },
     /// Makes an array of the images, and shows it in one line.
     Create(CreateOptions<'a>),
     /// Shows the array that the images make in one line.
     Assemble {
+        json: bool,
         readonly: bool,
     },
     /// Shows it with each member's state.
     Detail {
+        json: bool,
         readonly: bool,
     },
     /// Shows the plan of a rebuild of the member with this index.
     Plan {
         member: u32,
+        json: bool,
         readonly: bool,
     },
-    /// Puts out so many sectors of it, from this one on.
+    /// Puts out so many sectors of it, from this one on, and with `fill` zeros in the place of those that are not given.
     Read {
         sector: u64,
         count: u64,
+        fill: bool,
         readonly: bool,
     },
-    /// Counts the chunks in which its members in sync differ, and with `list` shows which they are.
+    /// Counts the chunks in which its members in sync differ, or shows which they are too.
     Check {
-        list: bool,
+        form: CheckForm,
         readonly: bool,
     },
     /// Writes the input to it, from this sector on, and stops it.
@@ -113,8 +120,8 @@ impl<'a> Command<'a> {
         ensures { result ≡ is_readonly (ask_of self.entry) }
     {
         match self {
-            Command::Assemble { readonly } => readonly,
-            Command::Detail { readonly } => readonly,
+            Command::Assemble { readonly, .. } => readonly,
+            Command::Detail { readonly, .. } => readonly,
             Command::Plan { readonly, .. } => readonly,
             Command::Read { readonly, .. } => readonly,
             Command::Check { readonly, .. } => readonly,
@@ -158,6 +165,31 @@ impl<'a> Command<'a> {
         }
     }
 
+    /// Whether it puts out zeros for sectors that are not given.
+    pub fn fills(self) -> bool
+        ensures { result ≡ fills (ask_of self.entry) }
+    {
+        match self {
+            Command::Read { fill, .. } => fill,
+            Command::Examine { .. }
+            | Command::ExamineBitmap { .. }
+            | Command::ExamineBadblocks { .. }
+            | Command::Create(_)
+            | Command::Assemble { .. }
+            | Command::Detail { .. }
+            | Command::Plan { .. }
+            | Command::Check { .. }
+            | Command::Write { .. }
+            | Command::Resync
+            | Command::Stop
+            | Command::Fail { .. }
+            | Command::Remove { .. }
+            | Command::Add { .. }
+            | Command::ReAdd { .. }
+            | Command::Rebuild { .. } => false,
+        }
+    }
+
     /// The image that is to join the array.
     pub fn device(self) -> Option<&'a str>
         ensures { option_map (λ s. s.now) result ≡ device_of (ask_of self.entry) }
@@ -180,6 +212,31 @@ impl<'a> Command<'a> {
             | Command::Fail { .. }
             | Command::Remove { .. }
             | Command::Rebuild { .. } => None,
+        }
+    }
+
+    /// The index of the member that it names.
+    pub fn member(self) -> Option<u32>
+        ensures { result ≡ member_of (ask_of self.entry) }
+    {
+        match self {
+            Command::Plan { member, .. } => Some(member),
+            Command::Fail { member } => Some(member),
+            Command::Remove { member } => Some(member),
+            Command::Rebuild { member } => Some(member),
+            Command::Examine { .. }
+            | Command::ExamineBitmap { .. }
+            | Command::ExamineBadblocks { .. }
+            | Command::Create(_)
+            | Command::Assemble { .. }
+            | Command::Detail { .. }
+            | Command::Read { .. }
+            | Command::Check { .. }
+            | Command::Write { .. }
+            | Command::Resync
+            | Command::Stop
+            | Command::Add { .. }
+            | Command::ReAdd { .. } => None,
         }
     }
 
@@ -280,6 +337,55 @@ impl<'a> Command<'a> {
             | Command::Stop
             | Command::Fail { .. }
             | Command::Remove { .. } => Overwritten::Nothing,
+        }
+    }
+
+    /// Whether it reads the input, which it holds in memory.
+    pub fn takes_input(self) -> bool
+        ensures { result ≡ takes_input (ask_of self.entry) }
+    {
+        match self {
+            Command::Write { .. } => true,
+            Command::Examine { .. }
+            | Command::ExamineBitmap { .. }
+            | Command::ExamineBadblocks { .. }
+            | Command::Create(_)
+            | Command::Assemble { .. }
+            | Command::Detail { .. }
+            | Command::Plan { .. }
+            | Command::Read { .. }
+            | Command::Check { .. }
+            | Command::Resync
+            | Command::Stop
+            | Command::Fail { .. }
+            | Command::Remove { .. }
+            | Command::Add { .. }
+            | Command::ReAdd { .. }
+            | Command::Rebuild { .. } => false,
+        }
+    }
+
+    /// What it does that takes long.
+    pub fn long_task(self) -> Option<LongTask>
+        ensures { result ≡ long_task_of (ask_of self.entry) }
+    {
+        match self {
+            Command::Read { count, .. } => Some(LongTask::Read(count)),
+            Command::Check { .. } => Some(LongTask::Check),
+            Command::Resync => Some(LongTask::Resync),
+            Command::ReAdd { .. } | Command::Rebuild { .. } => Some(LongTask::Rebuild),
+            Command::Examine { .. }
+            | Command::ExamineBitmap { .. }
+            | Command::ExamineBadblocks { .. }
+            | Command::Create(_)
+            | Command::Assemble { .. }
+            | Command::Detail { .. }
+            | Command::Plan { .. }
+            | Command::Write { .. }
+            | Command::Stop
+            | Command::Fail { .. }
+            | Command::Remove { .. }
+            | Command::Add { .. } => None,
         }
     }
 }

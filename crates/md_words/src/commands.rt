@@ -59,6 +59,15 @@ const LIST: OptionWords = OptionWords {
     default: None,
 };
 
+const JSON: OptionWords = OptionWords {
+    name: "json",
+    value: "",
+    help: "Shows the report as a JSON object, in one line",
+    kind: Kind::Flag,
+    required: false,
+    default: None,
+};
+
 const MEMBER: OptionWords = OptionWords {
     name: "member",
     value: "N",
@@ -92,6 +101,24 @@ const COUNT: OptionWords = OptionWords {
     help: "The number of sectors",
     kind: Kind::U64,
     required: true,
+    default: None,
+};
+
+const FILL: OptionWords = OptionWords {
+    name: "fill",
+    value: "",
+    help: "Goes on past sectors that are not given, and writes zeros in their place",
+    kind: Kind::Flag,
+    required: false,
+    default: None,
+};
+
+const MAP_OUT: OptionWords = OptionWords {
+    name: "map-out",
+    value: "FILE",
+    help: "With --fill: makes a new file, ddrescue's map of the array as far as it is read",
+    kind: Kind::Text,
+    required: false,
     default: None,
 };
 
@@ -200,19 +227,19 @@ pub(crate) const EXAMINE_COMMANDS: [CommandWords; 3] = [
         name: "examine",
         about: "Shows the superblock of a member's image",
         after_help: help::EXAMINE,
-        options: &[ALL],
+        options: &[ALL, JSON],
     },
     CommandWords {
         name: "examine-bitmap",
         about: "Shows the write-intent bitmap of a member's image",
         after_help: help::EXAMINE,
-        options: &[ALL],
+        options: &[ALL, JSON],
     },
     CommandWords {
         name: "examine-badblocks",
         about: "Shows the bad block log of a member's image",
         after_help: help::EXAMINE,
-        options: &[ALL],
+        options: &[ALL, JSON],
     },
 ];
 
@@ -239,19 +266,19 @@ pub(crate) const ARRAY_COMMANDS: [CommandWords; 4] = [
         name: "assemble",
         about: "Shows in a line what array the images make; may store marks",
         after_help: help::ARRAY,
-        options: &[READONLY],
+        options: &[JSON, READONLY],
     },
     CommandWords {
         name: "detail",
         about: "Shows the array that the images make; may store marks",
         after_help: help::ARRAY,
-        options: &[READONLY, MAP],
+        options: &[JSON, READONLY, MAP],
     },
     CommandWords {
         name: "plan",
         about: "Shows the plan of a member's rebuild, in the fewest rounds; may store marks",
         after_help: help::PLAN,
-        options: &[MEMBER, READONLY, MAP],
+        options: &[MEMBER, JSON, READONLY, MAP],
     },
 ];
 
@@ -261,7 +288,7 @@ pub(crate) const DATA_COMMANDS: [CommandWords; 5] = [
         name: "read",
         about: "Writes sectors of the array to standard output; may change images",
         after_help: help::READ,
-        options: &[SECTOR, COUNT, READONLY, MAP],
+        options: &[SECTOR, COUNT, FILL, MAP_OUT, READONLY, MAP],
     },
     CommandWords {
         name: "write",
@@ -273,7 +300,7 @@ pub(crate) const DATA_COMMANDS: [CommandWords; 5] = [
         name: "check",
         about: "Counts the chunks in which members in sync differ; may store marks",
         after_help: help::CHECK,
-        options: &[LIST, READONLY, MAP],
+        options: &[LIST, JSON, READONLY, MAP],
     },
     CommandWords {
         name: "resync",

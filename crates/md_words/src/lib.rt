@@ -5,14 +5,18 @@
 mod command;
 mod command_line;
 mod commands;
+mod create_options;
+mod form;
 mod help;
-mod options;
+mod long_task;
 mod overwritten;
 mod parsing;
 mod request;
 
 pub use command::Command;
-pub use options::CreateOptions;
+pub use create_options::CreateOptions;
+pub use form::{CheckForm, ImageForm};
+pub use long_task::LongTask;
 pub use overwritten::Overwritten;
 pub use parsing::parse;
 pub use request::Request;

@@ -3,12 +3,13 @@ ghost use Rattle.std.specs.Prelude.{◌≡◌, IfOk, [], codes, map, option_map,
 ghost use Rattle.std.specs.Str.{bytes_eq};
 ghost use Rattle.clap.specs.Words.{FailsBy, fault_of, first_of, found_of, matched_of, raw_values, rows_of, subcommand_of, subcommand_rows_of};
 ghost use Rattle.md_words.specs.Words.{mdcli};
-ghost use Rattle.md_words.specs.Asked.{all_in, asked, asks_in, asks_of, image_words, images_in, is_verbose, list_in, map_words, maps_in, member_at, member_fault, member_in, member_of, names_no_member, number_in, number_of, options_in, place_in, readonly_in, run_in, runs, runs_in, text_in, verbose_in, verbose_of, words_fault};
+ghost use Rattle.md_words.specs.Parsing.{all_in, ask_found, ask_named, asked, check_form_in, command_fault, fill_in, form_fault, image_form_in, image_words, images_found, is_verbose, json_in, list_in, map_out_fault, map_out_found, map_out_in, map_out_word, map_words, maps_found, member_at, member_fault, member_in, member_named, names_map_alone, names_no_member, names_two_forms, number_in, number_or_zero, option_fault, options_in, place_in, readonly_in, run_found, run_in, runs, text_in, verbose_found, verbose_in, words_fault};
 ghost use Rattle.md_words.specs.Asks.{ask_of, options_of};
 
 use crate::command::Command;
 use crate::command_line::command_line;
-use crate::options::CreateOptions;
+use crate::create_options::CreateOptions;
+use crate::form::{CheckForm, ImageForm};
 use crate::request::Request;
 use clap::error::ErrorKind;
 use clap::{ArgMatches, Error};
@@ -23,20 +24,20 @@ fn matches<'a>(alloc: Global, words: &'a [&'a str]) -> Result<ArgMatches<'a>, Er
 }
 
 // The number that a text says, 0 where it says none.
-fn u32_of(text: &str) -> u32
-    ensures { result ≡ number_of 32 text.now }
+fn u32_or_zero(text: &str) -> u32
+    ensures { result ≡ number_or_zero 32 text.now }
 {
     text.parse::<u32>().unwrap_or(0)
 }
 
-fn u64_of(text: &str) -> u64
-    ensures { result ≡ number_of 64 text.now }
+fn u64_or_zero(text: &str) -> u64
+    ensures { result ≡ number_or_zero 64 text.now }
 {
     text.parse::<u64>().unwrap_or(0)
 }
 
 // The value of an option, empty where it has none.
-fn text_of<'a>(found: &ArgMatches<'a>, name: &str) -> &'a str
+fn text_in<'a>(found: &ArgMatches<'a>, name: &str) -> &'a str
     ensures { result.now ≡ text_in name.now (rows_of (found_of found.now)) }
 {
     match found.get_str(name) {
@@ -47,70 +48,113 @@ fn text_of<'a>(found: &ArgMatches<'a>, name: &str) -> &'a str
 
 fn size_of(found: &ArgMatches<'_>) -> Option<u64>
     ensures { result
-        ≡ option_map (number_of 64) (first_of (codes "size") (rows_of (found_of found.now))) }
+        ≡ option_map (number_or_zero 64) (first_of (codes "size") (rows_of (found_of found.now))) }
 {
     let text = found.get_str("size")?;
-    Some(u64_of(text))
+    Some(u64_or_zero(text))
 }
 
 fn write_mostly_of(found: &ArgMatches<'_>) -> Option<u32>
     ensures { result
-        ≡ option_map (number_of 32) (first_of (codes "write-mostly") (rows_of (found_of found.now))) }
+        ≡ option_map (number_or_zero 32) (first_of (codes "write-mostly") (rows_of (found_of found.now))) }
 {
     let text = found.get_str("write-mostly")?;
-    Some(u32_of(text))
+    Some(u32_or_zero(text))
 }
 
 fn create_options<'a>(found: &ArgMatches<'a>) -> CreateOptions<'a>
     ensures { options_of result ≡ options_in (rows_of (found_of found.now)) }
 {
     CreateOptions {
-        level: text_of(found, "level"),
-        raid_devices: u32_of(text_of(found, "raid-devices")),
-        uuid: text_of(found, "uuid"),
-        name: text_of(found, "name"),
-        bitmap_chunk: u32_of(text_of(found, "bitmap-chunk")),
+        level: text_in(found, "level"),
+        raid_devices: u32_or_zero(text_in(found, "raid-devices")),
+        uuid: text_in(found, "uuid"),
+        name: text_in(found, "name"),
+        bitmap_chunk: u32_or_zero(text_in(found, "bitmap-chunk")),
         size: size_of(found),
-        time: u64_of(text_of(found, "time")),
+        time: u64_or_zero(text_in(found, "time")),
         write_mostly: write_mostly_of(found),
-        assume_clean: text_of(found, "assume-clean") == "true",
+        assume_clean: text_in(found, "assume-clean") == "true",
     }
 }
 
 fn is_readonly(found: &ArgMatches<'_>) -> bool
     ensures { result ≡ readonly_in (rows_of (found_of found.now)) }
 {
-    text_of(found, "readonly") == "true"
+    text_in(found, "readonly") == "true"
 }
 
 fn is_all(found: &ArgMatches<'_>) -> bool
     ensures { result ≡ all_in (rows_of (found_of found.now)) }
 {
-    text_of(found, "all") == "true"
+    text_in(found, "all") == "true"
 }
 
 fn is_list(found: &ArgMatches<'_>) -> bool
     ensures { result ≡ list_in (rows_of (found_of found.now)) }
 {
-    text_of(found, "list") == "true"
+    text_in(found, "list") == "true"
+}
+
+fn is_json(found: &ArgMatches<'_>) -> bool
+    ensures { result ≡ json_in (rows_of (found_of found.now)) }
+{
+    text_in(found, "json") == "true"
+}
+
+fn image_form(found: &ArgMatches<'_>) -> ImageForm
+    ensures { result ≡ image_form_in (rows_of (found_of found.now)) }
+{
+    if is_json(found) {
+        ImageForm::Json
+    } else if is_all(found) {
+        ImageForm::Raw
+    } else {
+        ImageForm::Text
+    }
+}
+
+fn check_form(found: &ArgMatches<'_>) -> CheckForm
+    ensures { result ≡ check_form_in (rows_of (found_of found.now)) }
+{
+    if is_json(found) {
+        CheckForm::Json
+    } else if is_list(found) {
+        CheckForm::List
+    } else {
+        CheckForm::Count
+    }
+}
+
+fn is_fill(found: &ArgMatches<'_>) -> bool
+    ensures { result ≡ fill_in (rows_of (found_of found.now)) }
+{
+    text_in(found, "fill") == "true"
+}
+
+// The file that is to be made.
+fn map_out_of<'a>(found: &ArgMatches<'a>) -> Option<&'a str>
+    ensures { option_map (λ s. s.now) result ≡ map_out_in (rows_of (found_of found.now)) }
+{
+    found.get_str("map-out")
 }
 
 // Whether nothing is to be asked.
 fn is_run(found: &ArgMatches<'_>) -> bool
     ensures { result ≡ run_in (rows_of (found_of found.now)) }
 {
-    text_of(found, "run") == "true"
+    text_in(found, "run") == "true"
 }
 
 // The number that an option has, 0 where it has none.
-fn number_of<'a>(found: &ArgMatches<'a>, name: &str) -> u64
+fn number_in<'a>(found: &ArgMatches<'a>, name: &str) -> u64
     ensures { result ≡ number_in 64 name.now (rows_of (found_of found.now)) }
 {
-    u64_of(text_of(found, name))
+    u64_or_zero(text_in(found, name))
 }
 
 // The place among images of the first of this name.
-fn place_of(images: &[&str], name: &str) -> Option<usize>
+fn position_of(images: &[&str], name: &str) -> Option<usize>
     ensures { result ≡ position (λ image. bytes_eq image.now name.now) images.now }
 {
     images.iter().position(|image| *image == name)
@@ -120,7 +164,7 @@ fn place_of(images: &[&str], name: &str) -> Option<usize>
 fn place_in(images: &[&str], name: &str) -> Option<u32>
     ensures { result ≡ place_in (map (λ s. s.now) images.now) name.now }
 {
-    match place_of(images, name) {
+    match position_of(images, name) {
         Some(place) => Some(place.min(u32::MAX as usize) as u32),
         None => None,
     }
@@ -137,10 +181,10 @@ fn member_at(images: &[&str], text: &str) -> Option<u32>
 }
 
 // The index of the member that a command names.
-fn member_of(found: &ArgMatches<'_>) -> Option<u32>
-    ensures { result ≡ member_of (rows_of (found_of found.now)) }
+fn member_named(found: &ArgMatches<'_>) -> Option<u32>
+    ensures { result ≡ member_named (rows_of (found_of found.now)) }
 {
-    let text = text_of(found, "member");
+    let text = text_in(found, "member");
     match found.get_strs("image") {
         Some(images) => member_at(images, text),
         None => member_at(&[], text),
@@ -151,7 +195,7 @@ fn member_of(found: &ArgMatches<'_>) -> Option<u32>
 fn member_in(found: &ArgMatches<'_>) -> u32
     ensures { result ≡ member_in (rows_of (found_of found.now)) }
 {
-    member_of(found).unwrap_or(0)
+    member_named(found).unwrap_or(0)
 }
 
 // Whether a member is named that is neither a number nor listed.
@@ -159,50 +203,58 @@ fn names_no_member(found: &ArgMatches<'_>) -> bool
     ensures { result ≡ names_no_member (rows_of (found_of found.now)) }
 {
     match found.get_str("member") {
-        Some(_) => member_of(found).is_none(),
+        Some(_) => member_named(found).is_none(),
         None => false,
     }
 }
 
 // The command of a name, with the values of its options.
 fn command_of<'a>(name: &str, found: &ArgMatches<'a>) -> Command<'a>
-    ensures { ask_of result ≡ asks_of name.now (rows_of (found_of found.now)) }
+    ensures { ask_of result ≡ ask_named name.now (rows_of (found_of found.now)) }
 {
     if name == "examine-bitmap" {
-        Command::ExamineBitmap { all: is_all(found) }
+        Command::ExamineBitmap {
+            form: image_form(found),
+        }
     } else if name == "examine-badblocks" {
-        Command::ExamineBadblocks { all: is_all(found) }
+        Command::ExamineBadblocks {
+            form: image_form(found),
+        }
     } else if name == "create" {
         Command::Create(create_options(found))
     } else if name == "assemble" {
         Command::Assemble {
+            json: is_json(found),
             readonly: is_readonly(found),
         }
     } else if name == "detail" {
         Command::Detail {
+            json: is_json(found),
             readonly: is_readonly(found),
         }
     } else if name == "plan" {
         Command::Plan {
             member: member_in(found),
+            json: is_json(found),
             readonly: is_readonly(found),
         }
     } else if name == "read" {
-        let sector = number_of(found, "sector");
-        let count = number_of(found, "count");
+        let sector = number_in(found, "sector");
+        let count = number_in(found, "count");
         Command::Read {
             sector,
             count,
+            fill: is_fill(found),
             readonly: is_readonly(found),
         }
     } else if name == "check" {
         Command::Check {
-            list: is_list(found),
+            form: check_form(found),
             readonly: is_readonly(found),
         }
     } else if name == "write" {
         Command::Write {
-            sector: number_of(found, "sector"),
+            sector: number_in(found, "sector"),
         }
     } else if name == "resync" {
         Command::Resync
@@ -218,41 +270,48 @@ fn command_of<'a>(name: &str, found: &ArgMatches<'a>) -> Command<'a>
         }
     } else if name == "add" {
         Command::Add {
-            device: text_of(found, "device"),
+            device: text_in(found, "device"),
         }
     } else if name == "re-add" {
         Command::ReAdd {
-            device: text_of(found, "device"),
+            device: text_in(found, "device"),
         }
     } else if name == "rebuild" {
         Command::Rebuild {
             member: member_in(found),
         }
     } else {
-        Command::Examine { all: is_all(found) }
+        Command::Examine {
+            form: image_form(found),
+        }
     }
 }
 
 fn is_verbose(found: &ArgMatches<'_>) -> bool
-    ensures { result ≡ verbose_of (rows_of (found_of found.now)) }
+    ensures { result ≡ verbose_in (rows_of (found_of found.now)) }
 {
-    text_of(found, "verbose") == "true"
+    text_in(found, "verbose") == "true"
 }
 
 fn requested<'a>(alloc: Global, matches: &ArgMatches<'a>) -> Result<Request<'a>, AllocError>
-    ensures asks { IfOk result (λ r. ask_of r.command ≡ asks_in (subcommand_rows_of matches.now)) }
+    ensures asks { IfOk result (λ r. ask_of r.command ≡ ask_found (subcommand_rows_of matches.now)) }
     ensures images { IfOk result
-        (λ r. map (λ s. s.now) r.images.items ≡ images_in (subcommand_rows_of matches.now)) }
+        (λ r. map (λ s. s.now) r.images.items ≡ images_found (subcommand_rows_of matches.now)) }
     ensures maps { IfOk result
-        (λ r. map (λ s. s.now) r.maps.items ≡ maps_in (subcommand_rows_of matches.now)) }
-    ensures verbose { IfOk result (λ r. r.verbose ≡ verbose_in (subcommand_rows_of matches.now)) }
-    ensures run { IfOk result (λ r. r.run ≡ runs_in (subcommand_rows_of matches.now)) }
+        (λ r. map (λ s. s.now) r.maps.items ≡ maps_found (subcommand_rows_of matches.now)) }
+    ensures map_out { IfOk result
+        (λ r. option_map (λ s. s.now) r.map_out ≡ map_out_found (subcommand_rows_of matches.now)) }
+    ensures verbose { IfOk result (λ r. r.verbose ≡ verbose_found (subcommand_rows_of matches.now)) }
+    ensures run { IfOk result (λ r. r.run ≡ run_found (subcommand_rows_of matches.now)) }
 {
     let Some((name, found)) = matches.subcommand() else {
         return Ok(Request {
-            command: Command::Examine { all: false },
+            command: Command::Examine {
+                form: ImageForm::Text,
+            },
             images: Vec::new(alloc),
             maps: Vec::new(alloc),
+            map_out: None,
             verbose: false,
             run: false,
         });
@@ -263,6 +322,7 @@ fn requested<'a>(alloc: Global, matches: &ArgMatches<'a>) -> Result<Request<'a>,
         command: command_of(name, found),
         images,
         maps,
+        map_out: map_out_of(found),
         verbose: is_verbose(found),
         run: is_run(found),
     })
@@ -298,14 +358,80 @@ fn check_member(alloc: Global, matches: &ArgMatches<'_>) -> Result<(), Error>
     Err(program.error(ErrorKind::ValueValidation, message)?)
 }
 
+// Whether two forms of a report are asked for.
+fn names_two_forms(found: &ArgMatches<'_>) -> bool
+    ensures { result ≡ names_two_forms (rows_of (found_of found.now)) }
+{
+    is_json(found) && is_all(found)
+}
+
+// Refuses what stands in an image as JSON, as the parser refuses options that exclude each other.
+fn check_forms(alloc: Global, matches: &ArgMatches<'_>) -> Result<(), Error>
+    ensures { FailsBy (form_fault (subcommand_rows_of matches.now)) result }
+{
+    let Some((_, found)) = matches.subcommand() else {
+        return Ok(());
+    };
+    if !names_two_forms(found) {
+        return Ok(());
+    }
+    let mut program = command_line(alloc)?;
+    let message = "the argument '--json' cannot be used with '--all'";
+    Err(program.error(ErrorKind::ArgumentConflict, message)?)
+}
+
+// Whether a map is to be made of a read that ends at what is not given.
+fn names_map_alone(found: &ArgMatches<'_>) -> bool
+    ensures { result ≡ names_map_alone (rows_of (found_of found.now)) }
+{
+    map_out_of(found).is_some() && !is_fill(found)
+}
+
+// Refuses such a map, as the parser refuses an option without one that it requires.
+fn check_map_out(alloc: Global, matches: &ArgMatches<'_>) -> Result<(), Error>
+    ensures { FailsBy (map_out_fault (subcommand_rows_of matches.now)) result }
+{
+    let Some((_, found)) = matches.subcommand() else {
+        return Ok(());
+    };
+    if !names_map_alone(found) {
+        return Ok(());
+    }
+    let mut program = command_line(alloc)?;
+    let message = "the argument '--map-out <FILE>' requires '--fill'";
+    Err(program.error(ErrorKind::MissingRequiredArgument, message)?)
+}
+
+// Refuses options that the parser takes, and a command does not.
+fn check_options(alloc: Global, matches: &ArgMatches<'_>) -> Result<(), Error>
+    ensures { FailsBy (option_fault (subcommand_rows_of matches.now)) result }
+{
+    match check_forms(alloc, matches) {
+        Ok(()) => check_map_out(alloc, matches),
+        Err(error) => Err(error),
+    }
+}
+
+// Refuses what the parser takes, and a command does not.
+fn check_command(alloc: Global, matches: &ArgMatches<'_>) -> Result<(), Error>
+    ensures { FailsBy (command_fault (subcommand_rows_of matches.now)) result }
+{
+    match check_member(alloc, matches) {
+        Ok(()) => check_options(alloc, matches),
+        Err(error) => Err(error),
+    }
+}
+
 /// What the words ask for, or why the words are not taken.
-#[tactic(auto, unfolding(crate::specs::Asked::image_words, crate::specs::Asked::map_words, crate::specs::Asked::asked, crate::specs::Asked::is_verbose, crate::specs::Asked::runs, crate::specs::Asked::words_fault))]
+#[tactic(auto, unfolding(crate::specs::Parsing::image_words, crate::specs::Parsing::map_words, crate::specs::Parsing::map_out_word, crate::specs::Parsing::asked, crate::specs::Parsing::is_verbose, crate::specs::Parsing::runs, crate::specs::Parsing::words_fault))]
 pub fn parse<'a>(alloc: Global, words: &'a [&'a str]) -> Result<Request<'a>, Error>
     ensures asks { IfOk result (λ r. ask_of r.command ≡ asked (map (λ s. s.now) words.entry.now)) }
     ensures images { IfOk result
         (λ r. map (λ s. s.now) r.images.items ≡ image_words (map (λ s. s.now) words.entry.now)) }
     ensures maps { IfOk result
         (λ r. map (λ s. s.now) r.maps.items ≡ map_words (map (λ s. s.now) words.entry.now)) }
+    ensures map_out { IfOk result
+        (λ r. option_map (λ s. s.now) r.map_out ≡ map_out_word (map (λ s. s.now) words.entry.now)) }
     ensures verbose { IfOk result (λ r. r.verbose ≡ is_verbose (map (λ s. s.now) words.entry.now)) }
     ensures run { IfOk result (λ r. r.run ≡ runs (map (λ s. s.now) words.entry.now)) }
     ensures fails { FailsBy (words_fault (map (λ s. s.now) words.entry.now)) result }
@@ -314,6 +440,6 @@ pub fn parse<'a>(alloc: Global, words: &'a [&'a str]) -> Result<Request<'a>, Err
         Ok(matches) => matches,
         Err(error) => return Err(error),
     };
-    check_member(alloc, &matches)?;
+    check_command(alloc, &matches)?;
     Ok(requested(alloc, &matches)?)
 }

@@ -8,6 +8,8 @@ pub struct Request<'a> {
     pub images: Vec<&'a str>,
     /// The maps of images that lack sectors, each as `IMAGE=FILE`.
     pub maps: Vec<&'a str>,
+    /// The file that is to be made, a map of what is read.
+    pub map_out: Option<&'a str>,
     /// More is to be said of a refusal.
     pub verbose: bool,
     /// Nothing is to be asked.

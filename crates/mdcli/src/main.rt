@@ -5,6 +5,7 @@ mod cleared;
 mod comparing;
 mod copying;
 mod files;
+mod map_out;
 mod maps;
 mod pace;
 mod progress;
@@ -13,14 +14,15 @@ mod watched;
 
 use crate::cleared::Cleared;
 use crate::files::FileImages;
+use crate::map_out::{MapOut, is_map_begun, is_map_made};
 use crate::maps::{masked_images, tell_refusal};
-use crate::progress::{Progress, WatchedTask};
+use crate::progress::Progress;
 use crate::questions::Questions;
 use md_cli::{Messages, Session, run};
 use md_commands::Input;
 use md_examine::{Buffered, Output};
 use md_masked_images::MaskedImages;
-use md_words::{Command, parse};
+use md_words::parse;
 use std::alloc::{AllocError, Global};
 use std::fs::File;
 use std::io::{self, IsTerminal};
@@ -50,9 +52,10 @@ fn main(rt: HostRuntime) -> ExitCode {
     let words = words.as_slice();
     let parsed = parse(rt.alloc(), words);
     let (task, is_verbose, is_run) = match &parsed {
-        Ok(request) => (watched_task(request.command), request.verbose, request.run),
+        Ok(request) => (request.command.long_task(), request.verbose, request.run),
         Err(_) => (None, false, false),
     };
+    let map_out = MapOut::of_parsed(&parsed);
     let err = rt.stderr();
     let is_terminal = err.is_terminal();
     let task = if is_terminal { task } else { None };
@@ -75,8 +78,12 @@ fn main(rt: HostRuntime) -> ExitCode {
         input: Input::new(rt.stdin()),
         out: Buffered::new(rt.alloc(), Output::new(out)),
         watch: &progress,
+        missing: None,
     };
     let mut err = Cleared::new(err, &progress, true);
+    if !is_map_begun(&rt, map_out, messages, &mut err) {
+        return ExitCode::from(REFUSED);
+    }
     let files = FileImages::new(&rt, &progress);
     let masked = match &parsed {
         Ok(request) => masked_images(&rt, request, files),
@@ -93,18 +100,10 @@ fn main(rt: HostRuntime) -> ExitCode {
     };
     let status = run(&mut session, words, parsed, &mut images, &mut err, messages);
     progress.clear();
-    ExitCode::from(status)
-}
-
-// The task of a command, where its progress is shown.
-fn watched_task(command: Command<'_>) -> Option<WatchedTask> {
-    match command {
-        Command::Read { count, .. } => Some(WatchedTask::Read(count.saturating_mul(512))),
-        Command::Resync => Some(WatchedTask::Resync),
-        Command::Check { .. } => Some(WatchedTask::Check),
-        Command::Rebuild { .. } | Command::ReAdd { .. } => Some(WatchedTask::Rebuild),
-        _ => None,
+    if !is_map_made(&rt, map_out, session.missing.take(), messages, &mut err) {
+        return ExitCode::from(REFUSED);
     }
+    ExitCode::from(status)
 }
 
 fn word_list(alloc: Global, args: &[String]) -> Result<Vec<&str>, AllocError> {

@@ -6,6 +6,7 @@ use crate::copying::Copying;
 use crate::questions::Questions;
 use md_cli::Asker;
 use md_commands::{Gate, Watch};
+use md_words::LongTask;
 use std::alloc::AllocError;
 use std::io::Write;
 use std::string::String;
@@ -26,7 +27,7 @@ const CLEAR: &str = "\r\u{1b}[K";
 pub struct Progress<'a> {
     rt: &'a HostRuntime,
     // Nothing is drawn where there is none.
-    task: Option<WatchedTask>,
+    task: Option<LongTask>,
     questions: Questions,
     began: Option<Instant>,
     read: AtomicU64,
@@ -38,24 +39,8 @@ pub struct Progress<'a> {
     is_shown: AtomicBool,
 }
 
-/// A task whose progress is shown.
-#[derive(Clone, Copy)]
-pub enum WatchedTask {
-    /// So many bytes of the array are read.
-    Read(u64),
-    Resync,
-    /// Chunks are copied to a member.
-    Rebuild,
-    /// Members are compared.
-    Check,
-}
-
 impl<'a> Progress<'a> {
-    pub fn new(
-        rt: &'a HostRuntime,
-        task: Option<WatchedTask>,
-        questions: Questions,
-    ) -> Progress<'a> {
+    pub fn new(rt: &'a HostRuntime, task: Option<LongTask>, questions: Questions) -> Progress<'a> {
         Progress {
             rt,
             task,
@@ -116,13 +101,13 @@ impl<'a> Progress<'a> {
     }
 
     // Before a check begins only metadata is read, and so it is before a rebuild, unless a resync comes first.
-    fn is_early(&self, task: WatchedTask) -> bool {
+    fn is_early(&self, task: LongTask) -> bool {
         match task {
-            WatchedTask::Rebuild => {
+            LongTask::Rebuild => {
                 !self.copying.has_begun() && self.read.load(Ordering::SeqCst) < MIB
             }
-            WatchedTask::Check => !self.comparing.has_begun(),
-            WatchedTask::Read(_) | WatchedTask::Resync => false,
+            LongTask::Check => !self.comparing.has_begun(),
+            LongTask::Read(_) | LongTask::Resync => false,
         }
     }
 
@@ -138,28 +123,29 @@ impl<'a> Progress<'a> {
     }
 
     // The line goes out in one write.
-    fn draw(&self, task: WatchedTask, now: u64) {
+    fn draw(&self, task: LongTask, now: u64) {
         if let Ok(line) = self.line(task, now) {
             let _ = self.rt.stderr().write_all(line.as_bytes());
         }
     }
 
-    fn line(&self, task: WatchedTask, now: u64) -> Result<String, AllocError> {
+    fn line(&self, task: LongTask, now: u64) -> Result<String, AllocError> {
         let read = self.read.load(Ordering::SeqCst);
         match task {
-            WatchedTask::Read(bytes) => {
+            LongTask::Read(sectors) => {
+                let bytes = sectors.saturating_mul(512);
                 format!(in self.rt.alloc();
                     "{CLEAR}read: {} of {} MiB",
                     read.min(bytes) / MIB,
                     bytes / MIB
                 )
             }
-            WatchedTask::Resync => self.traffic("resync", read),
-            WatchedTask::Rebuild => match self.copying.line(self.rt.alloc(), now, read) {
+            LongTask::Resync => self.traffic("resync", read),
+            LongTask::Rebuild => match self.copying.line(self.rt.alloc(), now, read) {
                 Some(far) => format!(in self.rt.alloc(); "{CLEAR}rebuild: {}", far?),
                 None => self.traffic("rebuild", read),
             },
-            WatchedTask::Check => {
+            LongTask::Check => {
                 let far = self.comparing.line(self.rt.alloc(), now, read)?;
                 format!(in self.rt.alloc(); "{CLEAR}check: {far}")
             }
@@ -187,7 +173,11 @@ impl<'a> Gate for Progress<'a> {
 }
 
 impl<'a> Asker for Progress<'a> {
-    ghost agreed = { λ _. ⊤ };
+    ghost answered = { λ _ _ _. ⊤ };
+
+    fn is_there(&self) -> bool {
+        self.questions.are_shown()
+    }
 
     fn goes_on(&self, lines: &[u8]) -> bool {
         self.clear();

@@ -26,6 +26,11 @@ impl Questions {
         }
     }
 
+    /// Whether anything is shown.
+    pub fn are_shown(self) -> bool {
+        self != Questions::Silent
+    }
+
     /// Shows the lines, and asks, as far as it is to be. Whether to go on: where it is asked, only a yes says so.
     pub fn goes_on(self, rt: &HostRuntime, lines: &[u8]) -> bool {
         if self == Questions::Silent {

@@ -3,6 +3,7 @@ use crate::checks::same_at;
 use example_members::{put, sealed, small_image, small_metadata, vault};
 use md_array::Mirror;
 use md_badblocks::BadSet;
+use md_bitmap::Marks;
 use md_cert::{Certificate, ChunkList, Plan, Slot, Slots};
 use md_device::MemDevice;
 use md_examine::Output;
@@ -202,9 +203,11 @@ const IN_SHORT: [Row; 6] = [
     ("/members/1/image", "null"),
 ];
 
-const OF_A_CHECK: [Row; 3] = [
+const OF_A_CHECK: [Row; 5] = [
     ("/report", "\"check\""),
-    ("/mismatched_chunks", "4294967295"),
+    ("/mismatched_chunks", "8"),
+    ("/mismatches/0", "{\"sector\":0,\"sectors\":8}"),
+    ("/mismatches/7/sector", "56"),
     ("/members/1/index", "1"),
 ];
 
@@ -214,8 +217,10 @@ fn an_array_in_short_reads_back(rt: HostRuntime) -> Result<(), Fail> {
     let mut out = Output::new(vec![in rt.alloc()]?);
     summary_json(&mut out, &mirror, &["only"])?;
     holds(&rt, rt.alloc(), out.into_inner(), &IN_SHORT)?;
+    let set = Marks::all(rt.alloc(), mirror.chunks().count())?;
     let mut out = Output::new(vec![in rt.alloc()]?);
-    check_json(&mut out, u32::MAX, &mirror, &IMAGES)?;
+    check_json(&mut out, &set, &mirror, &IMAGES)?;
+    drop(set);
     drop(mirror);
     holds(&rt, rt.alloc(), out.into_inner(), &OF_A_CHECK)
 }

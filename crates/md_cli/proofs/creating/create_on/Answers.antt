@@ -1,9 +1,9 @@
-use Rattle.std.proofs.Common.{◌≡◌, ◌∙◌, List, length, map, ap, sym, subst, refl, inl, inr}
+use Rattle.std.proofs.Common.{◌≡◌, ◌∙◌, length, map, ap, sym, subst, refl, inl, inr}
 use Rattle.std.proofs.lemmas.List.{length-map}
 use Rattle.md_state.specs.View.{disk_of}
 use Rattle.md_cli.specs.Arrays.{texts}
 use Rattle.md_cli.specs.Creating.{AreNewMembers, LaysOutOn}
-use Rattle.md_cli.specs.Holding.{LooksAtAll, held_each}
+use Rattle.md_cli.specs.Holding.{NotesHeldOnEach, held_each}
 use Rattle.md_images.specs.Taking.{word_of}
 use Rattle.md_cli.proofs.Created.{room, seen_room, when_ok}
 use Rattle.md_cli.proofs.creating.create_on.Goals as goal
@@ -13,44 +13,30 @@ lay_out_on-requires-clause-room g c =
     let disk = disk_of g.D.Device in
     let names = texts c.args.names.now in
     let before = map disk c.args.devices.items in
-    let seen = map disk c.look_at_each.new.devices.items in
+    let seen = map disk c.note_held_on_each.new.devices.items in
     let many = length-map c.args.devices.items disk ∙ c.requires.as_many ∙ sym (length-map c.args.words.now word_of) ∙ ap length c.requires.words in
     let new : AreNewMembers c.args.params.now names before c.in-Ok.members.items = subst (λ ds. AreNewMembers c.args.params.now names (map disk ds) c.in-Ok.members.items) c.as_slice.ensures.value c.in-Ok.ensures.members in
-    let looks = when_ok c.look_at_each.result c.is_err.result (LooksAtAll before seen c.args.notices.now c.look_at_each.new.self) c.is_err.ensures.value c.if-is_err.false c.look_at_each.ensures.looks in
-    seen_room before seen (held_each c.look_at_each.new.self.each) looks.looks (room c.args.params.now names before c.in-Ok.members.items many new)
+    let looks = when_ok c.note_held_on_each.result c.is_err.result (NotesHeldOnEach before seen c.args.notices.now c.note_held_on_each.new.self) c.is_err.ensures.value c.if-is_err.false c.note_held_on_each.ensures.looks in
+    seen_room before seen (held_each c.note_held_on_each.new.self.each) looks.looks (room c.args.params.now names before c.in-Ok.members.items many new)
 
-pub returns-then-not-goes_on-clause-gives : goal.returns-then-not-goes_on-clause-gives
-returns-then-not-goes_on-clause-gives g c =
+pub returns-in-Ok-ask_first-clause-gives : goal.returns-in-Ok-ask_first-clause-gives
+returns-in-Ok-ask_first-clause-gives g c =
     let disk = disk_of g.D.Device in
     let names = texts c.args.names.now in
     let before = map disk c.args.devices.items in
-    let seen = map disk c.look_at_each.new.devices.items in
-    let new : AreNewMembers c.args.params.now names before c.in-Ok.members.items = subst (λ ds. AreNewMembers c.args.params.now names (map disk ds) c.in-Ok.members.items) c.as_slice.ensures.value c.in-Ok.ensures.members in
-    let looks = when_ok c.look_at_each.result c.is_err.result (LooksAtAll before seen c.args.notices.now c.look_at_each.new.self) c.is_err.ensures.value c.if-is_err.false c.look_at_each.ensures.looks in
-    inr (record {
-      members = c.in-Ok.members.items;
-      made = new;
-      seen = seen;
-      looks = looks;
-      input = refl;
-      done = inr (record { asked = c.goes_on.ensures.declined c.if-not-goes_on.true; is = refl; same = refl; unwritten = refl });
-    })
-
-pub returns-clause-gives : goal.returns-clause-gives
-returns-clause-gives g c =
-    let disk = disk_of g.D.Device in
-    let names = texts c.args.names.now in
-    let before = map disk c.args.devices.items in
-    let seen = map disk c.look_at_each.new.devices.items in
+    let seen = map disk c.note_held_on_each.new.devices.items in
     let after = map disk c.lay_out_on.result.0.items in
     let new : AreNewMembers c.args.params.now names before c.in-Ok.members.items = subst (λ ds. AreNewMembers c.args.params.now names (map disk ds) c.in-Ok.members.items) c.as_slice.ensures.value c.in-Ok.ensures.members in
-    let looks = when_ok c.look_at_each.result c.is_err.result (LooksAtAll before seen c.args.notices.now c.look_at_each.new.self) c.is_err.ensures.value c.if-is_err.false c.look_at_each.ensures.looks in
+    let looks = when_ok c.note_held_on_each.result c.is_err.result (NotesHeldOnEach before seen c.args.notices.now c.note_held_on_each.new.self) c.is_err.ensures.value c.if-is_err.false c.note_held_on_each.ensures.looks in
     inr (record {
       members = c.in-Ok.members.items;
       made = new;
       seen = seen;
       looks = looks;
       input = refl;
-      done = inl (subst (λ list. LaysOutOn g.S.Sink list c.in-Ok.members.items seen after c.args.session.now.out c.lay_out_on.new.out c.lay_out_on.result.1) c.requires.words
-          (subst (λ members. LaysOutOn g.S.Sink (map word_of c.args.words.now) members seen after c.args.session.now.out c.lay_out_on.new.out c.lay_out_on.result.1) c.as_slice-2.ensures.value c.lay_out_on.ensures.gives));
+      done = inl (record {
+        agreed = c.in-Ok-ask_first.ensures;
+        lays_out = subst (λ list. LaysOutOn g.S.Sink list c.in-Ok.members.items seen after c.args.session.now.out c.lay_out_on.new.out c.lay_out_on.result.1) c.requires.words
+            (subst (λ members. LaysOutOn g.S.Sink (map word_of c.args.words.now) members seen after c.args.session.now.out c.lay_out_on.new.out c.lay_out_on.result.1) c.as_slice-in-Ok-ask_first.ensures.value c.lay_out_on.ensures.gives);
+      });
     })

@@ -15,10 +15,10 @@ returns-in-Some-pop-clause-gives g c =
     inl (record {
       members = map disk members;
       device = Some (disk device);
-      seen = Some (disk c.look.new.device);
-      noted = c.look.new.self;
+      seen = Some (disk c.note_held.new.device);
+      noted = c.note_held.new.self;
       are = last_of g.D.Device c.args.devices.items members device are;
       brings = brings;
-      looks = c.look.ensures;
+      looks = c.note_held.ensures;
       done = c.open_members-in-Some.ensures.gives;
     })

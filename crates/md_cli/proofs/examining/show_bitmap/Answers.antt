@@ -1,6 +1,7 @@
-use Rattle.std.proofs.Common.{◌<◌, refl, inl, false}
+use Rattle.std.proofs.Common.{◌<◌, refl, inl}
 use Rattle.md_examine.specs.BitmapReport.{bitmap_report}
 use Rattle.md_words.specs.Asks.{examines_bitmap}
+use Rattle.md_words.specs.declared.form.ImageForm.TheVariants as image_form
 use Rattle.md_cli.proofs.Flushed.{examined}
 use Rattle.md_cli.proofs.examining.show_bitmap.Goals as goal
 
@@ -18,5 +19,5 @@ pub returns-in-Ok-examine_bitmap-clause-gives : goal.returns-in-Ok-examine_bitma
 returns-in-Ok-examine_bitmap-clause-gives g c =
     let device = g.D.Device in
     let before = c.args.device.now in
-    examined g.S.Sink.contents g.S.Sink.failed g.S.Sink.is_flushed c.args.out.now c.examine_bitmap.new.out c.pass_on.new.out (bitmap_report c.in-Some.header c.in-Some-marks.marks) (examines_bitmap false) (device.content before) (device.honest before) (device.failures before < device.failures c.read_member.new.device) c.pass_on.result (c.in-Ok.member, c.in-Some.header, c.in-Some-marks.marks, c.in-Ok.ensures.reads, c.in-Some.is, c.in-Some-marks.is, refl)
+    examined g.S.Sink.contents g.S.Sink.failed g.S.Sink.is_flushed c.args.out.now c.examine_bitmap.new.out c.pass_on.new.out (bitmap_report c.in-Some.header c.in-Some-marks.marks) (examines_bitmap image_form.Text) (device.content before) (device.honest before) (device.failures before < device.failures c.read_member.new.device) c.pass_on.result (c.in-Ok.member, c.in-Some.header, c.in-Some-marks.marks, c.in-Ok.ensures.reads, c.in-Some.is, c.in-Some-marks.is, refl)
     c.in-Ok-examine_bitmap.ensures c.pass_on.ensures

@@ -8,7 +8,7 @@ pub returns-in-Ok-clause-gives : goal.returns-in-Ok-clause-gives
 returns-in-Ok-clause-gives g c = inr (record {
   sound = ap (option_fault (options_of c.args.options)) (length-map c.args.names.now (λ s. s.now)) ∙ c.in-Ok.ensures.sound;
   params = c.in-Ok.params;
-  planned = c.in-Ok.ensures.params;
+  params_are = c.in-Ok.ensures.params;
   done = c.create_images.ensures.gives;
 })
 

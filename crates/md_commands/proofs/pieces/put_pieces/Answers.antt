@@ -1,28 +1,16 @@
-use Rattle.std.proofs.Common.{rules, Err, ◌≡◌, ◌∙◌, ◌+◌, ◌*◌, ◌-◌, ◌/◌, ◌<◌, ◌≤◌, ℕ, List, length, drop, take, min, refl, sym, subst, arith, length-append, length-drop}
+use Rattle.std.proofs.Common.{rules, Err, ◌≡◌, ◌∙◌, ◌+◌, ◌*◌, ◌-◌, ◌/◌, ◌<◌, ◌≤◌, ℕ, List, length, drop, take, min, refl, subst, arith, length-append, length-drop}
 use Rattle.std.proofs.lemmas.List.{length-take-le}
-use Rattle.md_state.specs.View.{ArrayView}
 use Rattle.md_commands.specs.declared.fault.CommandFault.TheVariants.{OutputFault}
-use Rattle.md_commands.specs.declared.way.Way.{Way}
 use Rattle.md_commands.specs.Pieces.{piece_sectors}
 use Rattle.md_commands.specs.Ways.{MayReadBy}
 use Rattle.md_commands.proofs.PiecesPut.{PutsSoFar, not_flushed, puts_all, puts_first, puts_more, refuses_more}
-use Rattle.md_commands.proofs.Ways.{reads_rests}
+use Rattle.md_commands.proofs.Ways.{may_read_part, reads_rests}
 use Rattle.md_commands.proofs.pieces.put_pieces.Goals as goal
 
 -- the sectors of a piece
 piece_of : (buffer : List ℕ) (done count sectors : ℕ) → done < count → length buffer ≡ 512 * piece_sectors → sectors ≡ min piece_sectors (count - done)
     → (0 < sectors) × (sectors ≤ piece_sectors) × (done + sectors ≤ count) × (length (take (512 * sectors) buffer) ≡ 512 * sectors)
 piece_of buffer done count sectors before room is = (omega arith, omega arith, omega arith, length-take-le (512 * sectors) buffer (omega arith))
-
-may_read_piece : (way : Way) (old mid : ArrayView) → mid ≡ old → (sector count done sectors : ℕ) → MayReadBy way old sector count → 0 < sectors → done + sectors ≤ count
-    → MayReadBy way mid (sector + done) sectors
-may_read_piece way old mid same sector count done sectors by some within =
-    let inside = by.may.range.inside in
-    let here : MayReadBy way old (sector + done) sectors = record {
-      may = record { running = by.may.running; range = record { some = some; inside = omega arith } };
-      is_for = by.is_for;
-    } in
-    subst (λ (a : ArrayView). MayReadBy way a (sector + done) sectors) (sym same) here
 
 pub loop-done-init : goal.loop-done-init
 loop-done-init g c = record {
@@ -54,7 +42,7 @@ put_piece-requires-clause-may g c =
     let long = is.3 in
     let many : sectors ≡ length (take (512 * sectors) c.loop-done.buffer) / 512 = omega arith in
     subst (λ (n : ℕ). MayReadBy c.args.way mid.array (c.args.sector + c.loop-done.done) n) many
-    (may_read_piece c.args.way old.array mid.array c.loop-done.invariant.array c.args.sector c.args.count c.loop-done.done sectors c.requires.may is.0 is.2)
+    (may_read_part c.args.way old.array mid.array c.loop-done.invariant.array c.args.sector c.args.count c.loop-done.done sectors c.requires.may is.0 is.2)
 
 pub loop-done-preserved : goal.loop-done-preserved
 loop-done-preserved g c =

@@ -1,5 +1,6 @@
 use Rattle.std.proofs.Common.{rules, ◌≡◌}
 use Rattle.std.specs.Prelude.{Err}
+use Rattle.md_report.specs.RebuiltReport.{planned_text}
 use Rattle.md_commands.proofs.Planned.{not_planned, planned_or_not}
 use Rattle.md_commands.proofs.planning.show_plan.Goals as goal
 
@@ -11,4 +12,4 @@ returns-in_err-planned g c =
 
 pub returns : goal.returns
 returns g c =
-    planned_or_not g.S.Sink c.args.mirror.now.array c.args.member c.args.out.now c.put_plan.new.out c.in_ok-planned.planned c.in_ok-planned.ensures c.put_plan.result c.put_plan.ensures
+    planned_or_not g.S.Sink c.args.mirror.now.array c.args.member c.args.out.now planned_text c.put_plan.new.out c.in_ok-planned.planned c.in_ok-planned.ensures c.put_plan.result c.put_plan.ensures

@@ -1,29 +1,38 @@
-use Rattle.std.proofs.Common.{rules, ◌≡◌}
+use Rattle.std.proofs.Common.{rules, ◌≡◌, refl}
 use Rattle.std.specs.Prelude.{Err}
 use Rattle.md_commands.specs.declared.fault.CommandFault.TheVariants.{Stop, Write}
+use Rattle.md_commands.proofs.Wrapped.{own_err, own_ok}
 use Rattle.md_commands.proofs.writing.write_and_stop.Goals as goal
 
-pub returns-in_err-write-clause-gives : goal.returns-in_err-write-clause-gives
-returns-in_err-write-clause-gives g c =
-    let is : c.from_residual-in_err-write.result ≡ Err (Write c.in_err-write.field-0.0) = search rules in
-    rw is (record {
-      ready = c.resync_if_needed.new.mirror;
-      readied = c.in_ok-resync_if_needed.ensures.gives;
-      refused = c.in_err-write.ensures.gives;
-    })
+pub returns-in_err-map_err-2-clause-gives : goal.returns-in_err-map_err-2-clause-gives
+returns-in_err-map_err-2-clause-gives g c =
+    let readied = own_ok _ _ _ c.resync_if_needed.result _ _ c.resync_if_needed.ensures.gives c.in_ok-map_err.ensures.cases c.in_ok-map_err.ensures.variant refl in
+    let own = own_err _ _ _ c.write.result _ _ c.write.ensures.gives c.in_err-map_err-2.ensures.cases refl in
+    let is : c.from_residual-in_err-map_err-2.result ≡ Err (Write own.0) = let post = own.2 in search rules in
+    rw is (record { ready = c.resync_if_needed.new.mirror; readied = readied; refused = own.1 })
 
-pub returns-in_err-stop-clause-gives : goal.returns-in_err-stop-clause-gives
-returns-in_err-stop-clause-gives g c =
-    let is : c.from_residual-in_err-stop.result ≡ Err (Stop c.in_err-stop.field-0.0) = search rules in
+pub returns-in_err-map_err-3-clause-gives : goal.returns-in_err-map_err-3-clause-gives
+returns-in_err-map_err-3-clause-gives g c =
+    let readied = own_ok _ _ _ c.resync_if_needed.result _ _ c.resync_if_needed.ensures.gives c.in_ok-map_err.ensures.cases c.in_ok-map_err.ensures.variant refl in
+    let writes = own_ok _ _ _ c.write.result _ _ c.write.ensures.gives c.in_ok-map_err-2.ensures.cases c.in_ok-map_err-2.ensures.variant refl in
+    let own = own_err _ _ _ c.stop.result _ _ c.stop.ensures.gives c.in_err-map_err-3.ensures.cases refl in
+    let is : c.from_residual-in_err-map_err-3.result ≡ Err (Stop own.0) = let post = own.2 in search rules in
     rw is (record {
       mid = c.write.new.mirror;
-      through = record {
-        ready = c.resync_if_needed.new.mirror;
-        readied = c.in_ok-resync_if_needed.ensures.gives;
-        writes = c.in_ok-write.ensures.gives;
-      };
-      refused = c.in_err-stop.ensures.gives;
+      through = record { ready = c.resync_if_needed.new.mirror; readied = readied; writes = writes };
+      refused = own.1;
     })
+
+pub returns-clause-gives : goal.returns-clause-gives
+returns-clause-gives g c =
+    let readied = own_ok _ _ _ c.resync_if_needed.result _ _ c.resync_if_needed.ensures.gives c.in_ok-map_err.ensures.cases c.in_ok-map_err.ensures.variant refl in
+    let writes = own_ok _ _ _ c.write.result _ _ c.write.ensures.gives c.in_ok-map_err-2.ensures.cases c.in_ok-map_err-2.ensures.variant refl in
+    let done = own_ok _ _ _ c.stop.result _ _ c.stop.ensures.gives c.in_ok-map_err-3.ensures.cases c.in_ok-map_err-3.ensures.variant refl in
+    record {
+      mid = c.write.new.mirror;
+      through = record { ready = c.resync_if_needed.new.mirror; readied = readied; writes = writes };
+      stops = done;
+    }
 
 pub returns-clause-pending : goal.returns-clause-pending
 returns-clause-pending g c p before =

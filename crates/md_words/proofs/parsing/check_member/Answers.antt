@@ -1,6 +1,6 @@
 use Rattle.std.proofs.Common.{◌≡◌, Some, rules, sym, true}
 use Rattle.clap.specs.Words.{found_of, rows_of, subcommand_rows_of}
-use Rattle.md_words.specs.Asked.{names_no_member}
+use Rattle.md_words.specs.Parsing.{names_no_member}
 use Rattle.md_words.proofs.CommandLine.{subcommand_is}
 use Rattle.md_words.proofs.Members.{unknown_fails}
 use Rattle.md_words.proofs.parsing.check_member.Goals as goal

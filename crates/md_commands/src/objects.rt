@@ -1,0 +1,91 @@
+// What a command puts out as a JSON object.
+ghost use Rattle.std.specs.Prelude.{◌≡◌, MatchResult};
+ghost use Rattle.std.specs.Int.{div_ceil};
+ghost use Rattle.md_json.specs.ArrayObjects.{detail_object, summary_object};
+ghost use Rattle.md_json.specs.MemberObjects.{texts_of};
+ghost use Rattle.md_json.specs.Objects.{line_of};
+ghost use Rattle.md_commands.specs.Objects.{checked_line, planned_line};
+ghost use Rattle.md_commands.specs.Output.{FailsOutput, PutsOut};
+
+use crate::fault::CommandFault;
+use md_array::Mirror;
+use md_bitmap::Marks;
+use md_device::Device;
+use md_examine::Sink;
+use md_json::{check_json, detail_json, plan_json, summary_json};
+use md_plan::Planned;
+
+/// Puts out an array in short.
+pub(crate) fn put_summary_json<D: Device + Drop, S: Sink>(
+    mirror: &Mirror<D>,
+    images: &[&str],
+    out: &mut S,
+) -> Result<(), CommandFault>
+    ensures { MatchResult result
+        (λ _. PutsOut S.Sink out.old out.new
+        (line_of (summary_object mirror.now.array (texts_of images.now))))
+        (FailsOutput S.Sink out.new) }
+{
+    summary_json(out, mirror, images)?;
+    out.flush()?;
+    Ok(())
+}
+
+/// Puts out an array with the state of each member.
+pub(crate) fn put_detail_json<D: Device + Drop, S: Sink>(
+    mirror: &Mirror<D>,
+    images: &[&str],
+    out: &mut S,
+) -> Result<(), CommandFault>
+    ensures { MatchResult result
+        (λ _. PutsOut S.Sink out.old out.new
+        (line_of (detail_object mirror.now.array (texts_of images.now))))
+        (FailsOutput S.Sink out.new) }
+{
+    detail_json(out, mirror, images)?;
+    out.flush()?;
+    Ok(())
+}
+
+/// Puts out a plan.
+pub(crate) fn put_plan_json<D: Device + Drop, S: Sink>(
+    planned: &Planned,
+    mirror: &Mirror<D>,
+    images: &[&str],
+    out: &mut S,
+) -> Result<(), CommandFault>
+    ensures { MatchResult result
+        (λ _. PutsOut S.Sink out.old out.new
+        (planned_line mirror.now.array (texts_of images.now) planned.now))
+        (FailsOutput S.Sink out.new) }
+{
+    let orphans = planned.orphans.as_slice();
+    plan_json(
+        out,
+        &planned.plan,
+        &planned.certificate,
+        orphans,
+        mirror,
+        images,
+    )?;
+    out.flush()?;
+    Ok(())
+}
+
+/// Puts out in which chunks members in sync differ.
+pub(crate) fn put_check_json<D: Device + Drop, S: Sink>(
+    set: &Marks,
+    mirror: &Mirror<D>,
+    images: &[&str],
+    out: &mut S,
+) -> Result<(), CommandFault>
+    requires { set.now.chunks ≡ div_ceil mirror.now.array.chunks.size mirror.now.array.chunks.sectors }
+    ensures { MatchResult result
+        (λ _. PutsOut S.Sink out.old out.new
+        (checked_line mirror.now.array (texts_of images.now) set.now))
+        (FailsOutput S.Sink out.new) }
+{
+    check_json(out, set, mirror, images)?;
+    out.flush()?;
+    Ok(())
+}

@@ -1,0 +1,14 @@
+use Rattle.std.proofs.Common.{[], ◌∷◌, codes}
+use Rattle.md_json.specs.ArrayObjects.{members_fields}
+use Rattle.md_json.specs.CheckObject.{count_fields, range_fields}
+use Rattle.md_json.specs.MemberObjects.{texts_of}
+use Rattle.md_examine.proofs.Puts.{puts_then}
+use Rattle.md_json.proofs.Texts.{puts_report}
+use Rattle.md_json.proofs.check_object.check_json.Goals as goal
+
+pub returns : goal.returns
+returns g c =
+    let its = c.in_ok-range_list.ensures in
+    let its = rw (c.chunks.ensures) at its in
+    puts_report g.S.Sink.contents g.S.Sink.failed (codes "check") (count_fields c.args.set.now ∷ range_fields c.args.mirror.now.array.chunks c.args.set.now ∷ members_fields c.args.mirror.now.array (texts_of c.args.images.now) ∷ [])
+    c.in_ok-open.ensures (puts_then g.S.Sink.contents g.S.Sink.failed c.in_ok-counted.ensures (puts_then g.S.Sink.contents g.S.Sink.failed its (puts_then g.S.Sink.contents g.S.Sink.failed c.in_ok-members.ensures c.in_ok-close.ensures)))

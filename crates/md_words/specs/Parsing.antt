@@ -1,0 +1,231 @@
+-- How a command comes from the words.
+use Rattle.std.specs.Prelude.{ℕ, ◌^◌, Bool, false, List, [], ◌∷◌, Option, Some, None, ◌&&◌, codes, is_none, length, min, nat_lt, option_map, position, unwrap_or, if◌then◌else◌, is_some, not}
+use Rattle.std.specs.List.{list_all}
+use Rattle.std.specs.Str.{bytes_eq}
+use Rattle.std.specs.Str.Parse.{digits_value, without_leading_plus}
+use Rattle.std.specs.Char.{digit_value}
+use Rattle.clap.specs.Kinds.{or_else}
+use Rattle.clap.specs.Words.{Kinds, Row, Text, all_of, fault_of, first_of, subcommand_of}
+use Rattle.clap.specs.declared.error.kind.ErrorKind.TheVariants as kind
+use Rattle.md_words.specs.Words.{mdcli}
+use Rattle.md_words.specs.declared.form.CheckForm.{CheckForm}
+use Rattle.md_words.specs.declared.form.CheckForm.TheVariants as check_form
+use Rattle.md_words.specs.declared.form.ImageForm.{ImageForm}
+use Rattle.md_words.specs.declared.form.ImageForm.TheVariants as image_form
+use Rattle.md_words.specs.Asks.{Ask, Options, examines, examines_bitmap, examines_badblocks, creates, assembles, details, plans, reads, checks, writes, resyncs, stops, fails, removes, adds, re_adds, rebuilds}
+
+-- whether the text is a number: one decimal digit or more, and nothing else
+abbrev pub is_number : Text → Bool
+is_number text = nat_lt 0 (length text) && list_all (λ c. nat_lt (digit_value c) 10) text
+
+-- the number that a text says, which a plus may precede; 0 for one that is no number of so many bits, which the parser
+-- takes for no option
+abbrev pub number_or_zero : ℕ → Text → ℕ
+number_or_zero bits text =
+    let digits = without_leading_plus text in
+    if is_number digits && nat_lt (digits_value 10 digits) (2 ^ bits) then digits_value 10 digits else 0
+
+abbrev pub fits_bits : ℕ → Text → Bool
+fits_bits bits text =
+    let digits = without_leading_plus text in
+    is_number digits && nat_lt (digits_value 10 digits) (2 ^ bits)
+
+-- the value of an option among a command's, empty where it has none
+abbrev pub text_in : Text → List Row → Text
+text_in name rows = unwrap_or (first_of name rows) []
+
+abbrev pub number_in : ℕ → Text → List Row → ℕ
+number_in bits name rows = number_or_zero bits (text_in name rows)
+
+abbrev pub options_in : List Row → Options
+options_in rows = record {
+  level = text_in (codes "level") rows;
+  raid_devices = number_in 32 (codes "raid-devices") rows;
+  uuid = text_in (codes "uuid") rows;
+  name = text_in (codes "name") rows;
+  bitmap_chunk = number_in 32 (codes "bitmap-chunk") rows;
+  size = option_map (number_or_zero 64) (first_of (codes "size") rows);
+  time = number_in 64 (codes "time") rows;
+  write_mostly = option_map (number_or_zero 32) (first_of (codes "write-mostly") rows);
+  assume_clean = bytes_eq (text_in (codes "assume-clean") rows) (codes "true");
+}
+
+-- whether the images may only be looked at
+abbrev pub readonly_in : List Row → Bool
+readonly_in rows = bytes_eq (text_in (codes "readonly") rows) (codes "true")
+
+-- whether what stands in an image is shown though it may be refused, and whether chunks are listed
+abbrev pub all_in : List Row → Bool
+all_in rows = bytes_eq (text_in (codes "all") rows) (codes "true")
+
+abbrev pub list_in : List Row → Bool
+list_in rows = bytes_eq (text_in (codes "list") rows) (codes "true")
+
+-- whether the report is to be a JSON object
+abbrev pub json_in : List Row → Bool
+json_in rows = bytes_eq (text_in (codes "json") rows) (codes "true")
+
+-- how the report on an image is shown, and that of a check; the object of a check lists the chunks in any case
+abbrev pub image_form_in : List Row → ImageForm
+image_form_in rows =
+    if json_in rows then image_form.Json else if all_in rows then image_form.Raw else image_form.Text
+
+abbrev pub check_form_in : List Row → CheckForm
+check_form_in rows =
+    if json_in rows then check_form.Json else if list_in rows then check_form.List else check_form.Count
+
+-- whether zeros stand for sectors that are not given
+abbrev pub fill_in : List Row → Bool
+fill_in rows = bytes_eq (text_in (codes "fill") rows) (codes "true")
+
+-- the images that a command names
+abbrev pub images_in : List Row → List Text
+images_in rows = unwrap_or (all_of (codes "image") rows) []
+
+-- the maps that it names
+abbrev pub maps_in : List Row → List Text
+maps_in rows = unwrap_or (all_of (codes "map") rows) []
+
+abbrev pub maps_found : Option (Text × List Row) → List Text
+maps_found None = []
+maps_found (Some p) = maps_in p.1
+
+-- the file that it makes
+abbrev pub map_out_in : List Row → Option Text
+map_out_in rows = first_of (codes "map-out") rows
+
+abbrev pub map_out_found : Option (Text × List Row) → Option Text
+map_out_found None = None
+map_out_found (Some p) = map_out_in p.1
+
+-- the place among images of the first of this name; 2^32 - 1 stands for all that are greater, at which no array has a member
+abbrev pub place_in : List Text → Text → Option ℕ
+place_in images name =
+    option_map (λ place. min place 4294967295) (position (λ image. bytes_eq image name) images)
+
+-- the member that a text says: a number is its place among the images, and any other text the image as it is listed
+abbrev pub member_at : List Text → Text → Option ℕ
+member_at images text = if fits_bits 32 text then Some (number_or_zero 32 text) else place_in images text
+
+abbrev pub member_named : List Row → Option ℕ
+member_named rows = member_at (images_in rows) (text_in (codes "member") rows)
+
+-- whether nothing is to be asked
+abbrev pub run_in : List Row → Bool
+run_in rows = bytes_eq (text_in (codes "run") rows) (codes "true")
+
+abbrev pub run_found : Option (Text × List Row) → Bool
+run_found None = false
+run_found (Some p) = run_in p.1
+
+-- the member, the sector and the number of sectors that a command names
+abbrev pub member_in : List Row → ℕ
+member_in rows = unwrap_or (member_named rows) 0
+
+abbrev pub sector_in : List Row → ℕ
+sector_in rows = number_in 64 (codes "sector") rows
+
+abbrev pub count_in : List Row → ℕ
+count_in rows = number_in 64 (codes "count") rows
+
+-- what the command of a name asks for
+abbrev pub ask_named : Text → List Row → Ask
+ask_named name rows =
+    if bytes_eq name (codes "examine-bitmap") then examines_bitmap (image_form_in rows)
+    else if bytes_eq name (codes "examine-badblocks") then examines_badblocks (image_form_in rows)
+    else if bytes_eq name (codes "create") then creates (options_in rows)
+    else if bytes_eq name (codes "assemble") then assembles (json_in rows) (readonly_in rows)
+    else if bytes_eq name (codes "detail") then details (json_in rows) (readonly_in rows)
+    else if bytes_eq name (codes "plan") then plans (member_in rows) (json_in rows) (readonly_in rows)
+    else if bytes_eq name (codes "read") then reads (sector_in rows) (count_in rows) (fill_in rows)
+    (readonly_in rows)
+    else if bytes_eq name (codes "check") then checks (check_form_in rows) (readonly_in rows)
+    else if bytes_eq name (codes "write") then writes (sector_in rows)
+    else if bytes_eq name (codes "resync") then resyncs
+    else if bytes_eq name (codes "stop") then stops
+    else if bytes_eq name (codes "fail") then fails (member_in rows)
+    else if bytes_eq name (codes "remove") then removes (member_in rows)
+    else if bytes_eq name (codes "add") then adds (text_in (codes "device") rows)
+    else if bytes_eq name (codes "re-add") then re_adds (text_in (codes "device") rows)
+    else if bytes_eq name (codes "rebuild") then rebuilds (member_in rows)
+    else examines (image_form_in rows)
+
+abbrev pub ask_found : Option (Text × List Row) → Ask
+ask_found None = examines image_form.Text
+ask_found (Some p) = ask_named p.0 p.1
+
+abbrev pub images_found : Option (Text × List Row) → List Text
+images_found None = []
+images_found (Some p) = images_in p.1
+
+-- whether more is to be said of a refusal
+abbrev pub verbose_in : List Row → Bool
+verbose_in rows = bytes_eq (text_in (codes "verbose") rows) (codes "true")
+
+abbrev pub verbose_found : Option (Text × List Row) → Bool
+verbose_found None = false
+verbose_found (Some p) = verbose_in p.1
+
+-- what the words ask for
+unfoldable pub asked : List Text → Ask
+asked words = ask_found (subcommand_of mdcli words)
+
+-- whether nothing is to be asked by the words
+unfoldable pub runs : List Text → Bool
+runs words = run_found (subcommand_of mdcli words)
+
+-- the image words
+unfoldable pub image_words : List Text → List Text
+image_words words = images_found (subcommand_of mdcli words)
+
+-- the maps of images that lack sectors
+unfoldable pub map_words : List Text → List Text
+map_words words = maps_found (subcommand_of mdcli words)
+
+-- the file that is to be made, a map of what is read
+unfoldable pub map_out_word : List Text → Option Text
+map_out_word words = map_out_found (subcommand_of mdcli words)
+
+-- whether the words ask that more is said of a refusal
+unfoldable pub is_verbose : List Text → Bool
+is_verbose words = verbose_found (subcommand_of mdcli words)
+
+-- whether a member is named that is neither a number nor listed
+abbrev pub is_unknown : Option Text → Option ℕ → Bool
+is_unknown None member = false
+is_unknown (Some text) member = is_none member
+
+abbrev pub names_no_member : List Row → Bool
+names_no_member rows = is_unknown (first_of (codes "member") rows) (member_named rows)
+
+abbrev pub member_fault : Option (Text × List Row) → Kinds
+member_fault None = []
+member_fault (Some p) = if names_no_member p.1 then kind.ValueValidation ∷ [] else []
+
+-- whether what stands in an image is asked for as a JSON object: there is none of it yet
+abbrev pub names_two_forms : List Row → Bool
+names_two_forms rows = json_in rows && all_in rows
+
+abbrev pub form_fault : Option (Text × List Row) → Kinds
+form_fault None = []
+form_fault (Some p) = if names_two_forms p.1 then kind.ArgumentConflict ∷ [] else []
+
+-- whether a map is to be made of a read that ends at what is not given
+abbrev pub names_map_alone : List Row → Bool
+names_map_alone rows = is_some (map_out_in rows) && not (fill_in rows)
+
+abbrev pub map_out_fault : Option (Text × List Row) → Kinds
+map_out_fault None = []
+map_out_fault (Some p) = if names_map_alone p.1 then kind.MissingRequiredArgument ∷ [] else []
+
+-- for two forms of a report, or else for such a map
+abbrev pub option_fault : Option (Text × List Row) → Kinds
+option_fault command = or_else (form_fault command) (map_out_fault command)
+
+-- why the words of a command are not taken: for the member that they name, or else for its options
+abbrev pub command_fault : Option (Text × List Row) → Kinds
+command_fault command = or_else (member_fault command) (option_fault command)
+
+-- why the words are not taken: for what the parser says, or else for what the command is given
+unfoldable pub words_fault : List Text → Kinds
+words_fault words = or_else (fault_of mdcli words) (command_fault (subcommand_of mdcli words))

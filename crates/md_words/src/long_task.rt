@@ -1,0 +1,14 @@
+// What takes long.
+
+/// What a command does that takes long, so that a terminal is shown its progress.
+#[derive(Clone, Copy, Debug)]
+pub enum LongTask {
+    /// So many sectors of the array are read.
+    Read(u64),
+    /// Marked chunks are copied.
+    Resync,
+    /// Chunks are copied to a member that lacks them.
+    Rebuild,
+    /// Members are compared.
+    Check,
+}
