@@ -8,6 +8,7 @@ import uuid
 from pathlib import Path
 
 import members
+from objects import SaysTheSame
 
 TOP = Path(__file__).resolve().parent.parent.parent
 SECTOR = 512
@@ -32,7 +33,7 @@ class Step:
         self.given = given
         self.output = output
         self.status = 1 if fault else 0
-        self.errors = "mdcli: %s\n" % fault if fault else told
+        self.errors = ("mdcli: %s\n" % fault if fault else "") + told
         self.changes = changes.split()
 
     def play(self, folder, run):
@@ -318,6 +319,8 @@ DIFFER = "mismatched chunks: 1\n"
 STORED = "mdcli: a: its bitmap did not tell of the array, so all chunks are marked in it now\n"
 # What a check says of the only member in sync.
 UNCOMPARED = "mdcli: %s: no other member is in sync, so nothing was compared\n"
+# What a read says that was to go on past sectors which no member gives.
+FILLED = "mdcli: sector %d of the array is missing: zeros stand in its place\n"
 # Of a device of the array that no image is, and of a member that was used alone.
 UNNAMED = "mdcli: device %d in role %d is not among the images\n"
 # Of what an image that is added holds.
@@ -440,6 +443,22 @@ def outdated(name):
     return Made(name, name, lambda image: members.with_header(image, events=0))
 
 
+# The examine report of the example member, the summary of an array of two, and a check of it, as JSON.
+OBJECT = (
+    '{"report":"examine","magic":"a92b4efc","version":"1.2","feature_map":1,"array_uuid":"%s","name":"vault",'
+    '"creation_time":1700000000,"raid_level":"raid1","raid_devices":2,"used_dev_size":64,"avail_dev_size":64,"data_offset":2048,'
+    '"super_offset":8,"recovery_offset":null,"device_number":0,"device_role":"active","role":0,'
+    '"device_uuid":"11111111-1111-1111-1111-111111111111","device_flags":0,"internal_bitmap":8,'
+    '"bad_block_log":{"entries":512,"offset":2024},"update_time":1700000000,"events":10,"state":"clean","checksum":"8ab7c54f",'
+    '"array_state":"AA"}\n' % SET
+)
+OBJECTS_OF_TWO = ",".join(
+    '{"image":"%s","index":%d,"device_number":%d,"role":%d,"state":"in sync","write_mostly":false}' % (name, k, k, k)
+    for k, name in enumerate("ab")
+)
+SHORT_OBJECT = '{"report":"assemble","in_sync":2,"raid_devices":2,"events":1,"marked_chunks":0,"members":[%s]}\n' % OBJECTS_OF_TWO
+CHECKED = '{"report":"check","mismatched_chunks":1,"mismatches":[{"sector":8,"sectors":8}],"members":[%s]}\n' % OBJECTS_OF_TWO
+
 # Two members of three that agree, and a spare.
 WITH_A_SPARE = [
     create("1", 3, 4, "--assume-clean a b missing", output="in sync 2 of 3, events 1, marked 0\n", changes="a b"),
@@ -449,6 +468,7 @@ WITH_A_SPARE = [
 CASES = [
     ("examine", {"a": VAULT}, [Step("examine a", REPORT)]),
     ("examine, a byte after the roles", {"a": PADDED}, [Step("examine a", REPORT)]),
+    ("examine --json", {"a": VAULT}, [Step("examine --json a", OBJECT)]),
     ("examine-bitmap", {"a": LOGGED}, [Step("examine-bitmap a", BITMAP_REPORT)]),
     ("examine-bitmap, no bitmap", {"a": WITHOUT_BITMAP}, [Step("examine-bitmap a", fault="NoBitmap")]),
     ("examine-badblocks, no log", {"a": LOGGED}, [Step("examine-badblocks a", "no bad blocks\n")]),
@@ -612,6 +632,15 @@ CASES = [
             Step("read --sector 0 --count %d a b" % LONG, NUMBERED[: LOST * SECTOR], fault="Unreadable %d" % LOST),
             # So many are put out whole or not at all.
             Step("read --sector 8 --count %d a b" % PIECE, fault="Unreadable %d" % LOST),
+            Step(
+                "read --fill --sector 0 --count %d a b" % LONG,
+                NUMBERED[: LOST * SECTOR] + "\0" * SECTOR + NUMBERED[(LOST + 1) * SECTOR :],
+                fault="Unreadable %d" % LOST,
+                told=FILLED % LOST,
+            ),
+            Step("read --fill --readonly --sector %d --count 1 a b" % LOST, "\0" * SECTOR, fault="Unreadable %d" % LOST, told=FILLED % LOST),
+            Step("read --fill --sector 0 --count 8 a b", NUMBERED[: 8 * SECTOR]),
+            Step("read --fill --sector 0 --count %d a b" % (1 << 40), fault="OutOfRange"),
         ],
     ),
     (
@@ -623,6 +652,14 @@ CASES = [
             Step("read --sector 8 --count 2 --map a=late --map b=early a b", DATA[:SECTOR].decode() + BLANK[SECTOR:]),
             Step("read --readonly --sector 8 --count 2 --map b=late a b", DATA.decode()),
             Step("read --sector 8 --count 2 --map a=late --map b=late a b", fault="Unreadable 9"),
+            Step(
+                "read --fill --readonly --sector 8 --count 2 --map a=late --map b=late a b",
+                DATA[:SECTOR].decode() + "\0" * SECTOR,
+                fault="Unreadable 9",
+                told=FILLED % 9,
+            ),
+            # What is there already is never overwritten: it may be an image.
+            Step("read --fill --map-out b --sector 8 --count 2 a b", fault="MapOutExists"),
             Step("check --map b=late a b", fault="ReadFault 1 1"),
             Step("detail --map a=cut a b", fault="BadMap 0 Line 2 Cut"),
             Step("detail --map a=late --map c=late a b", fault="BadMap 1 NotListed"),
@@ -668,6 +705,8 @@ CASES = [
             Step("check a b", DIFFER),
             Step("check --readonly b a", DIFFER),
             Step("check --list a b", "           8 for 8 sectors\n" + DIFFER),
+            Step("check --json a b", CHECKED),
+            Step("assemble --json --readonly a b", SHORT_OBJECT),
             # In a further chunk the member lists the sector that differs as bad.
             Made("b", "b", lambda image: members.with_bad_blocks(members.with_data(image, 43, DATA[:SECTOR]), [(2048 + 43, 1)])),
             Step("check a b", DIFFER),
@@ -1051,6 +1090,83 @@ ASSEMBLED = [
         "a member whose recovery is not done takes its role all the same",
         {"a": of_set(0, 10, [0, 1, 0]), "b": of_set(2, 10, [0, 1, 0], feature_map=members.BITMAP_BIT | members.RECOVERY_BIT)},
         [Step("assemble a b", fault="Assemble DoubleRole 0")],
+    ),
+]
+
+
+def all_of(images):
+    """Each report on an array of these images."""
+    return [SaysTheSame(command + " " + images) for command in ("assemble", "detail", "check")]
+
+
+ODD = 'a"b\\c'
+
+# Each report as an object says what it says as text, also where it is refused. No call for memory is refused in these either.
+AS_JSON = [
+    ("examine --json, of each kind", {"a": VAULT}, [SaysTheSame("examine a"), SaysTheSame("examine-bitmap a"), SaysTheSame("examine-badblocks a")]),
+    (
+        "examine --json, a log",
+        {"a": LISTED, "b": members.with_superblock(VAULT, bblog_size=0, bblog_offset=0)},
+        [SaysTheSame("examine a"), SaysTheSame("examine-badblocks a"), SaysTheSame("examine b")],
+    ),
+    (
+        "examine --json, nothing where there is none",
+        {"a": WITHOUT_BITMAP, "b": members.with_superblock(VAULT, bitmap_offset=-8)},
+        [SaysTheSame("examine a"), SaysTheSame("examine-bitmap a"), SaysTheSame("examine b")],
+    ),
+    (
+        "examine --json, other roles and a name that is no text",
+        {
+            "a": as_role(0xFFFF, 2)(VAULT),
+            "b": as_role(0xFFFE, 2)(VAULT),
+            "c": members.with_superblock(rebuilt_up_to(16)(VAULT), set_name=b'a"\\\xe4\x01' + bytes(27), resync_offset=0),
+        },
+        [SaysTheSame("examine " + name) for name in "abc"],
+    ),
+    (
+        "examine --json, refused",
+        {"a": DAMAGED, "b": bytes(15 * SECTOR)},
+        [SaysTheSame(words) for words in ("examine a", "examine b", "examine-bitmap a", "examine-badblocks b", "examine a b", "examine")],
+    ),
+    (
+        "an array as JSON",
+        {ODD: VAULT, "b": of_set(1, 10, [0, 1])},
+        all_of(ODD + " b") + all_of("b " + ODD) + all_of(ODD),
+    ),
+    (
+        "an array as JSON, members in each state",
+        {
+            "a": of_set(0, 10, [0, 1, 2, 0xFFFE], raid_disks=4),
+            "b": of_set(1, 8, [0, 1, 2, 0xFFFE], raid_disks=4),
+            "c": of_set(2, 10, [0, 1, 2, 0xFFFE], raid_disks=4, feature_map=members.BITMAP_BIT | members.RECOVERY_BIT, devflags=1),
+            "d": of_set(3, 10, [0, 1, 2, 3], raid_disks=4),
+            "e": of_set(4, 10, [0, 1, 2, 0xFFFE], raid_disks=4),
+        },
+        all_of("a b c d e") + [SaysTheSame("plan --member %d a b c d e" % k) for k in range(6)],
+    ),
+    (
+        "a plan as JSON",
+        THREE,
+        WITH_A_SPARE
+        + [SaysTheSame("plan --member 2 a b c"), Made("a", "a", listing), Made("b", "b", listing), SaysTheSame("plan --member 2 a b c")]
+        + all_of("a b c"),
+    ),
+    (
+        "a check as JSON",
+        TWO,
+        [
+            create("raid1", 2, 4, "--assume-clean a b", output=CLEAN, changes="a b"),
+            SaysTheSame("check a b"),
+            Made("b", "b", lambda image: members.with_data(image, 8, DATA)),
+            Made("b", "b", lambda image: members.with_data(image, 62, DATA)),
+            SaysTheSame("check a b"),
+            SaysTheSame("check b a"),
+        ],
+    ),
+    (
+        "no array as JSON",
+        {"a": VAULT, "b": VAULT},
+        [SaysTheSame(command + " " + names) for command in ("assemble", "detail", "check", "plan --member 0") for names in ("a b", "a a", "c", "")],
     ),
 ]
 

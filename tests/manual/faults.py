@@ -55,7 +55,7 @@ OF_REQUESTS_IN_FLIGHT = {"InFlight #", "NumbersSpent", "Overlaps #"}
 def declared():
     """The names of all faults that a command may be refused for, each with the variants that it is made of."""
     names = names_of("CommandFault", enums())
-    for fault in ("MapsFault", "MapRefusal", "LineFault"):
+    for fault in ("MapsFault", "MapRefusal", "LineFault", "MapOutFault"):
         names.update(names_of(fault, enums()))
     # Wherever memory runs out, the command answers `NoMemory' alone.
     found = {"NoMemory" if name.endswith(" NoMemory") else name: path for name, path in names.items()}

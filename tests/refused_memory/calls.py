@@ -92,7 +92,7 @@ ANSWERS = {
     "md_commands::add_device": "add",
     "md_commands::check_members": "check",
     "md_commands::fail_member": "fail",
-    "md_commands::list_members": "check --list",
+    "md_commands::list_mismatches": "check --list",
     "md_commands::read_array": "read",
     "md_commands::read_array_readonly": "read --readonly",
     "md_commands::re_add_device": "re-add",

@@ -1,0 +1,202 @@
+"""The object that a command shows with --json, made of the text that it shows without."""
+
+import json
+import re
+
+
+class Text(Exception):
+    """The text has not the form of a report."""
+
+
+def fields_of(lines):
+    """The values of labelled lines, by their labels."""
+    return {line[:15].rstrip(): line[18:] for line in lines if line[15:18] == " : "}
+
+
+def number(text):
+    """The number with which a value begins."""
+    return int(re.match(r"-?\d+", text).group())
+
+
+def or_none(text, make):
+    return None if text == "none" else make(text)
+
+
+def superblock(lines):
+    at = fields_of(lines)
+    role = at["Device Role"].split()
+    return {
+        "report": "examine",
+        "magic": at["Magic"],
+        "version": at["Version"],
+        "feature_map": int(at["Feature Map"], 16),
+        "array_uuid": at["Array UUID"],
+        "name": at["Name"],
+        "creation_time": number(at["Creation Time"]),
+        "raid_level": at["Raid Level"],
+        "raid_devices": number(at["Raid Devices"]),
+        "used_dev_size": number(at["Used Dev Size"]),
+        "avail_dev_size": number(at["Avail Dev Size"]),
+        "data_offset": number(at["Data Offset"]),
+        "super_offset": number(at["Super Offset"]),
+        "recovery_offset": or_none(at["Recovery Offset"], number),
+        "device_number": number(at["Device Number"]),
+        "device_role": role[0],
+        "role": int(role[1]) if role[1:] else None,
+        "device_uuid": at["Device UUID"],
+        "device_flags": int(at["Device Flags"], 16),
+        "internal_bitmap": or_none(at["Internal Bitmap"], number),
+        "bad_block_log": or_none(at["Bad Block Log"], log),
+        "update_time": number(at["Update Time"]),
+        "events": number(at["Events"]),
+        "state": at["State"],
+        "checksum": at["Checksum"],
+        "array_state": at["Array State"],
+    }
+
+
+def log(text):
+    entries, offset = re.fullmatch(r"(\d+) entries at (-?\d+) sectors", text).groups()
+    return {"entries": int(entries), "offset": int(offset)}
+
+
+def bitmap(lines):
+    at = fields_of(lines)
+    chunks, marked = re.fullmatch(r"(\d+) chunks, (\d+) marked", at["Bitmap"]).groups()
+    return {
+        "report": "examine-bitmap",
+        "magic": at["Magic"],
+        "version": number(at["Version"]),
+        "array_uuid": at["Array UUID"],
+        "events": number(at["Events"]),
+        "events_cleared": number(at["Events Cleared"]),
+        "state": int(at["State"], 16),
+        "chunk_size": number(at["Chunk Size"]),
+        "daemon_sleep": number(at["Daemon Sleep"]),
+        "sync_size": number(at["Sync Size"]),
+        "chunks": int(chunks),
+        "marked_chunks": int(marked),
+    }
+
+
+def runs(lines):
+    """The sectors that lines say, as `8 for 16 sectors`."""
+    found = [re.fullmatch(r" *(\d+) for (\d+) sectors", line) for line in lines]
+    return [{"sector": int(one[1]), "sectors": int(one[2])} for one in found if one]
+
+
+def badblocks(lines):
+    return {"report": "examine-badblocks", "bad_blocks": runs(lines)}
+
+
+def members(detail, images):
+    """The members in the report in detail, whose images are these."""
+    found = [re.fullmatch(r" *(\d+) +(\d+) +(\d+|-) ([a-z -]+?)(, write-mostly)?", line) for line in detail.splitlines()]
+    return [
+        {
+            "image": images[int(one[1])],
+            "index": int(one[1]),
+            "device_number": int(one[2]),
+            "role": None if one[3] == "-" else int(one[3]),
+            "state": one[4],
+            "write_mostly": bool(one[5]),
+        }
+        for one in found
+        if one
+    ]
+
+
+def summary(lines):
+    count, of, events, marked = re.fullmatch(r"in sync (\d+) of (\d+), events (\d+), marked (\d+)", lines[0]).groups()
+    return {"report": "assemble", "in_sync": int(count), "raid_devices": int(of), "events": int(events), "marked_chunks": int(marked)}
+
+
+def detail(lines):
+    at = fields_of(lines)
+    state = at["State"].split(", ")
+    marked, chunks = re.fullmatch(r"(\d+) of (\d+)", at["Marked Chunks"]).groups()
+    return {
+        "report": "detail",
+        "array_uuid": at["Array UUID"],
+        "name": at["Name"],
+        "raid_devices": number(at["Raid Devices"]),
+        "array_size": number(at["Array Size"]),
+        "in_sync": number(at["In Sync"]),
+        "state": state[0],
+        "degraded": "degraded" in state,
+        "resync_needed": "resync needed" in state,
+        "events": number(at["Events"]),
+        "chunks": int(chunks),
+        "marked_chunks": int(marked),
+    }
+
+
+def plan(lines):
+    rounds = int(re.match(r"rounds (\d+)", lines[0])[1])
+    slots = [[int(word) for word in line.split()] for line in lines[2:] if re.fullmatch(r"[ \d]+", line)]
+    shown = re.fullmatch(r"certificate for (\d+) rounds:([ \d]*)", lines[-2])
+    orphans = lines[-1].partition(":")[2].strip()
+    return {
+        "report": "plan",
+        "rounds": rounds,
+        "chunks": [{"chunk": chunk, "source": source, "round": turn} for chunk, source, turn in slots],
+        "certificate": {"rounds": int(shown[1]), "chunks": [int(word) for word in shown[2].split()]} if shown else None,
+        "orphans": [] if orphans == "none" else [int(word) for word in orphans.split()],
+    }
+
+
+def check(lines):
+    return {
+        "report": "check",
+        "mismatched_chunks": int(re.fullmatch(r"mismatched chunks: (\d+)", lines[-1])[1]),
+        "mismatches": runs(lines),
+    }
+
+
+ONE_IMAGE = {"examine": superblock, "examine-bitmap": bitmap, "examine-badblocks": badblocks}
+ARRAY = {"assemble": summary, "detail": detail, "plan": plan, "check": check}
+
+
+class SaysTheSame:
+    """A report as text and as JSON, which says the same: at the same status, with the same on standard error, and no image is
+    changed. It is the object alone in its line, its fields in their order."""
+
+    def __init__(self, words):
+        self.words = words.split()
+
+    def play(self, folder, run):
+        command, rest = self.words[0], self.words[1:]
+        images = [word for word in rest if not word.startswith("-") and not word.isdigit()]
+        if command in ARRAY:
+            rest = ["--readonly"] + rest
+        text = run([command] + (["--list"] if command == "check" else []) + rest)
+        status, output, errors = run([command, "--json"] + rest)
+        if (status, errors) != (text[0], text[2]):
+            return ["with --json it answers %r, and %r without" % ((status, errors), (text[0], text[2]))]
+        if status != 0:
+            return ["it wrote %r, and is refused" % output] if output else []
+        return against(output, self.wanted(command, text[1], images, run))
+
+    def wanted(self, command, text, images, run):
+        lines = text.splitlines()
+        if command in ONE_IMAGE:
+            return ONE_IMAGE[command](lines)
+        wanted = ARRAY[command](lines)
+        wanted["members"] = members(run(["detail", "--readonly"] + images)[1], images)
+        return wanted
+
+
+def against(output, wanted):
+    if output.count("\n") != 1 or not output.endswith("\n"):
+        return ["it is not one line: %r" % output]
+    try:
+        # Pairs keep their order, and a name that stands twice.
+        found = json.loads(output, object_pairs_hook=lambda pairs: pairs)
+    except ValueError as fault:
+        return ["it is no JSON: %s, in %r" % (fault, output)]
+    wanted = json.loads(json.dumps(wanted), object_pairs_hook=lambda pairs: pairs)
+    if found != wanted:
+        return ["it says %r, and the text says %r" % (found, wanted)]
+    if output != json.dumps(json.loads(output), separators=(",", ":"), ensure_ascii=False) + "\n":
+        return ["its text is not the shortest: %r" % output]
+    return []

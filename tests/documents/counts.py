@@ -1,0 +1,166 @@
+#!/usr/bin/env python3
+"""What makes the sources hard to read and can be counted: each number with a bound, which may fall and not rise.
+
+    tests/documents/counts.py            prints each number, its bound, and the places that it counts
+    tests/documents/counts.py --lower    lowers each bound of counts.txt to today's number; it raises none
+
+tests/documents/run fails where a number is above its bound. A count finds names and patterns of text, and no meaning: a
+place that it counts and that is right as it stands stays in the bound.
+"""
+
+import re
+import sys
+from pathlib import Path
+
+CRATES = Path(__file__).resolve().parent.parent.parent / "crates"
+BOUNDS = Path(__file__).resolve().with_name("counts.txt")
+
+# One thing in two crates: what a step asks of memory and changes there, and its write (docs/ARCHITECTURE.md, "Where a step
+# stands"); a word of the model, which is said of a world there, and of a mirror in one of the others ("How to read a contract").
+STEP_LAYERS = {"md_state": "a step", "md_array": "a step"}
+MODEL, MIRRORS = "md_model", ("md_state", "md_array")
+
+IMPL = re.compile(r"(?m)^impl(?:<[^{]*?>)? (\w+)(?:<[^{]*?>)?(?:\s+where[^{]*)?\s*\{")
+FUNCTION = re.compile(r"\bfn (\w+)")
+DEFINITION = re.compile(r"(?m)^(?:unfoldable |abbrev |opaque )?pub (?!use |mod )(?:record |data )?([^\s:({]+)")
+# Participles that don't end in -ed, and are no verb in the present too, as `read`, `put` and `set` are.
+PARTICIPLES = set("""begun built chosen come done drawn driven fallen found given gone grown held hidden kept known laid left lent
+lost made meant met paid seen sent shown spent stood sunk taken thrown told torn understood worn written""".split())
+# These end in -ed, and are none.
+NO_PARTICIPLES = {"exceed", "feed", "need", "proceed", "seed", "speed"}
+# What stands for `?`: the fault of a call is given on as it is. And for `From`: inside a variant, or by a call.
+QUESTION = re.compile(r"if let Err\((\w+)\) = [^;{]*?\{\s*return Err\(\1\);\s*\}|Err\((\w+)\) => (?:return )?Err\(\2\)")
+FROM = re.compile(r"Err\((\w+)\) => (?:return )?Err\((?:\w+::)*\w+\(\1\)\)|if let Err\((\w+)\) = [^;{]*?\{\s*return Err\((?:\w+::)*\w+\(\2\)\);\s*\}")
+COINED = re.compile(r"(?:^|_|(?<=[a-z]))(?:[Ss]eat(?:ed|s)?|[Ll]anes?|[Ss]hel(?:f|ves)|[Ss]ettl(?:e[ds]?|ing))(?=_|$|[A-Z])")
+LEANING = re.compile(r"(?i)(?:the same|so (?!many|much)|and|nor|or|but|also|likewise|those of|then|else)\b")
+
+
+def sources():
+    return sorted(CRATES.glob("*/src/**/*.rt"))
+
+
+def definitions():
+    return [file for file in sorted(CRATES.glob("*/specs/**/*.antt")) if file.name != "Lib.antt"]
+
+
+def crate_of(file):
+    return file.relative_to(CRATES).parts[0]
+
+
+def place(file):
+    return str(file.relative_to(CRATES))
+
+
+def code(file):
+    """Its text without comments, each line where it was."""
+    return re.sub(r"//.*" if file.suffix == ".rt" else r"--.*", "", file.read_text())
+
+
+def files_with_methods_of(name):
+    return [place(file) for file in sources() if name in IMPL.findall(code(file))]
+
+
+def shared_gerunds():
+    """Names of sources of which a word ends in -ing, and that stand in two crates."""
+    found = {}
+    for file in sources():
+        if any(word.endswith("ing") for word in file.stem.split("_")):
+            found.setdefault(file.stem, {}).setdefault(STEP_LAYERS.get(crate_of(file), crate_of(file)), []).append(place(file))
+    return ["%s: %s" % (name, ", ".join(sum(crates.values(), []))) for name, crates in sorted(found.items()) if len(crates) > 1]
+
+
+def names_with_several_meanings():
+    """Names that several definitions have. One of the model and one of a mirror count as one."""
+    found = {}
+    for file in definitions():
+        for name in DEFINITION.findall(file.read_text()):
+            found.setdefault(name, []).append(file)
+    reasons = []
+    for name, files in sorted(found.items()):
+        crates = [crate_of(file) for file in files]
+        twins = crates.count(MODEL) == 1 and sum(crates.count(crate) for crate in MIRRORS) == 1
+        if len(files) - twins > 1:
+            reasons.append("%s: %s" % (name, ", ".join(map(place, files))))
+    return reasons
+
+
+def bare_participles():
+    reasons = []
+    for file in sources():
+        for name in FUNCTION.findall(code(file)):
+            if name in PARTICIPLES or name.endswith("ed") and "_" not in name and name not in NO_PARTICIPLES:
+                reasons.append("%s: %s" % (place(file), name))
+    return reasons
+
+
+def matches(pattern):
+    found = [(file, code(file)) for file in sources()]
+    return ["%s:%d" % (place(file), text.count("\n", 0, match.start()) + 1) for file, text in found for match in pattern.finditer(text)]
+
+
+def coined_words():
+    """Names with a word that the field does not have in this sense, in each crate once."""
+    found = {(crate_of(file), name) for file in sources() + definitions() for name in re.findall(r"[A-Za-z]\w*", code(file)) if COINED.search(name)}
+    return ["%s: %s" % pair for pair in sorted(found)]
+
+
+def leaning_comments(files, comment):
+    """Comments that only say something after the item above: they begin as a sentence goes on."""
+    reasons = []
+    for file in files:
+        before = ""
+        for number, line in enumerate(file.read_text().splitlines(), 1):
+            text = re.match(comment, line)
+            if text and not re.match(comment, before) and LEANING.match(line, text.end()):
+                reasons.append("%s:%d" % (place(file), number))
+            before = line
+    return reasons
+
+
+COUNTS = {
+    "files with methods of Mirror": lambda: files_with_methods_of("Mirror"),
+    "files with methods of Array": lambda: files_with_methods_of("Array"),
+    "gerunds that name sources of two crates": shared_gerunds,
+    "names of several definitions": names_with_several_meanings,
+    "functions named by a bare participle": bare_participles,
+    "places where ? is spelled out": lambda: matches(QUESTION),
+    "places where From is spelled out": lambda: matches(FROM),
+    "names with coined words": coined_words,
+    "comments of definitions that lean on the line above": lambda: leaning_comments(definitions(), r"-- (?!-)"),
+    "comments of code that lean on the line above": lambda: leaning_comments(sources(), r"\s*//[/!]? "),
+}
+
+
+def bounds():
+    lines = [line.rpartition(": ") for line in BOUNDS.read_text().splitlines() if line and not line.startswith("#")]
+    return {name: int(number) for name, _, number in lines}
+
+
+def judge(tally):
+    """Each number against its bound, and that each has one."""
+    wanted = bounds()
+    tally.judge("tests/documents/counts.txt: a bound for each count", sorted("%s has none, or is no count" % name for name in set(wanted) ^ set(COUNTS)))
+    for name, found in COUNTS.items():
+        places, bound = found(), wanted.get(name, 0)
+        reasons = ["there are %d" % len(places), "tests/documents/counts.py says where"] if len(places) > bound else []
+        tally.judge("%s: at most %d" % (name, bound), reasons)
+
+
+def main():
+    wanted = bounds()
+    if sys.argv[1:] == ["--lower"]:
+        head = "".join(line + "\n" for line in BOUNDS.read_text().splitlines() if line.startswith("#"))
+        BOUNDS.write_text(head + "".join("%s: %d\n" % (name, min(len(found()), wanted.get(name, len(found())))) for name, found in COUNTS.items()))
+        return 0
+    if sys.argv[1:]:
+        print(__doc__)
+        return 2
+    for name, found in COUNTS.items():
+        places = found()
+        print("%s: %d, bound %d" % (name, len(places), wanted.get(name, 0)))
+        print("".join("    %s\n" % place for place in places), end="")
+    return 0
+
+
+if __name__ == "__main__":
+    sys.exit(main())
