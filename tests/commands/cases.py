@@ -707,6 +707,7 @@ CASES = [
             Step("check --list a b", "           8 for 8 sectors\n" + DIFFER),
             Step("check --json a b", CHECKED),
             Step("assemble --json --readonly a b", SHORT_OBJECT),
+            Step("detail --json --readonly a b", ('{"report":"detail","array_uuid":"', '}]}\n')),
             # In a further chunk the member lists the sector that differs as bad.
             Made("b", "b", lambda image: members.with_bad_blocks(members.with_data(image, 43, DATA[:SECTOR]), [(2048 + 43, 1)])),
             Step("check a b", DIFFER),
@@ -1034,7 +1035,7 @@ CASES = [
             Step("add --device b a c", "in sync 1 of 2, events 3, marked 0\n", told=FORGOTTEN % "b", changes="a b c"),
         ],
     ),
-    ("the plan of a third member", TWO, WITH_A_SPARE + [Step("plan --member 2 a b c", PLAN)]),
+    ("the plan of a third member", TWO, WITH_A_SPARE + [Step("plan --member 2 a b c", PLAN), Step("plan --json --member 2 a b c", ('{"report":"plan","rounds":', '}]}\n'))]),
     (
         "no plan",
         TWO,

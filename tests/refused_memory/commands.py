@@ -81,8 +81,10 @@ def play(folder, step, before, settings):
 
 
 def command_of(step):
-    """A command, and whether it may change no image."""
-    return " ".join(step.words[:2]) if step.words[1:2] in (["--readonly"], ["--list"]) else step.words[0]
+    """A command, with the option by which it is another call: of an object, of a read that goes on, or where no image may be changed."""
+    other = [word for word in ("--json", "--fill") if word in step.words]
+    other += [word for word in step.words[1:2] if word in ("--readonly", "--list")]
+    return " ".join(step.words[:1] + other[:1])
 
 
 def sweep_step(case, step, folder, library):
