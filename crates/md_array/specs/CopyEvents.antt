@@ -1,6 +1,6 @@
 -- A copy of a run of sectors is the model's events, one a sector.
 use Rattle.std.specs.Prelude.{◌≡◌, ℕ, ◌*◌, ◌/◌, List, length, Option, ⊤, Result, MatchResult}
-use Rattle.md_model.specs.Events.{Event}
+use Rattle.md_model.specs.Events.{Event, MemberPart}
 use Rattle.md_faults.specs.declared.copy_fault.CopyFault.{CopyFault}
 use Rattle.md_faults.specs.declared.copy_fault.CopyFault.TheVariants.{Halted, MemberFailed}
 use Rattle.md_state.specs.CopyingData.{copies_of}
@@ -24,4 +24,4 @@ IfCopyingFailed P Halted = ⊤
 abbrev pub CopyHappens : ℕ → ℕ → List ℕ → MirrorView → MirrorView → {T : Type 0} → Result T CopyFault → Type 0
 CopyHappens k sector bytes old new result =
     MatchResult result (λ _. CopiesInTurn k sector bytes old new)
-    (IfCopyingFailed (Happens old (Event.CopyFails k (sector / old.array.chunks.sectors)) new))
+    (IfCopyingFailed (Happens old (Event.WriteFails k (MemberPart.CopiedChunk (sector / old.array.chunks.sectors))) new))

@@ -9,7 +9,7 @@ use Rattle.md_model.specs.Devices.{Super}
 use Rattle.md_model.specs.Rebuilding.{is_target}
 use Rattle.md_model.specs.Worlds.{Request, World}
 use Rattle.md_model.specs.Content.{Content, Becomes, HoldsBetween, HoldsInFlight}
-use Rattle.md_model.specs.Events.{Event, Step}
+use Rattle.md_model.specs.Events.{Event, MemberPart, Step}
 use Rattle.md_model.specs.Runs.{failed_after, spoiled_after}
 use Rattle.md_requests.specs.Pending.{PendingView}
 use Rattle.md_kept_members.specs.View.{MemberView}
@@ -94,10 +94,7 @@ abbrev pub WritesOnce : Event → List Disk → List Disk → Type 0
 WritesOnce (Event.Record k) before after = (w : Write) × IsWritten k w before after
 WritesOnce (Event.StoreMarks k b) before after = (w : Write) × (length w.bytes ≡ 512) × IsWritten k w before after
 WritesOnce (Event.WriteMember n k) before after = (w : Write) × IsWritten k w before after
-WritesOnce (Event.RecordFails k) before after = (w : Write) × IsFailed k w before after
-WritesOnce (Event.StoreMarksFails k b) before after = (w : Write) × IsFailed k w before after
-WritesOnce (Event.WriteMemberFails n k) before after = (w : Write) × IsFailed k w before after
-WritesOnce (Event.CopyFails k c) before after = (w : Write) × IsFailed k w before after
+WritesOnce (Event.WriteFails k which) before after = (w : Write) × IsFailed k w before after
 WritesOnce (Event.Copy from k s) before after = (w : Write) × (length w.bytes ≡ 512) × IsDone k w before after
 WritesOnce Event.Resynced before after = after ≡ before
 WritesOnce Event.Unresynced before after = after ≡ before
@@ -118,7 +115,6 @@ WritesOnce (Event.Admit k role listed) before after = (w : Write) × IsWritten k
 WritesOnce (Event.Checkpoint k offset listed) before after = (w : Write) × IsWritten k w before after
 WritesOnce (Event.NoteBad k c) before after = after ≡ before
 WritesOnce (Event.StoreLog k listed) before after = (after ≡ before) ⊎ ((w : Write) × IsWritten k w before after)
-WritesOnce (Event.StoreLogFails k) before after = (w : Write) × IsFailed k w before after
 
 -- what device k lists then
 abbrev pub listed_on : MirrorView → ℕ → ℕ → Bool
@@ -168,7 +164,7 @@ IsOldNewOrNone bytes d e = (block_on e.content ≡ block_on d.content) ⊎ ((blo
 
 abbrev pub HappensIfOldNewOrNone : ℕ → MirrorView → MirrorView → Type 0
 HappensIfOldNewOrNone k old new = (m : MemberView) → IsMember old.array k m
-    → AtDevice k old.disks new.disks (IsOldNewOrNone (super_write old.array m).bytes) → Happens old (Event.RecordFails k) new
+    → AtDevice k old.disks new.disks (IsOldNewOrNone (super_write old.array m).bytes) → Happens old (Event.WriteFails k MemberPart.Superblock) new
 
 -- where the fault is a member's failure
 abbrev pub IfStoringFailed : Type 0 → StoreFault → Type 0
@@ -185,7 +181,7 @@ RecordHappens k old new result = MatchResult result (λ _. Happens old (Event.Re
 
 abbrev pub StoreMarksHappens : ℕ → ℕ → MirrorView → MirrorView → {T : Type 0} → Result T StoreFault → Type 0
 StoreMarksHappens k block old new result =
-    MatchResult result (λ _. Happens old (Event.StoreMarks k block) new) (IfStoringFailed (Happens old (Event.StoreMarksFails k block) new))
+    MatchResult result (λ _. Happens old (Event.StoreMarks k block) new) (IfStoringFailed (Happens old (Event.WriteFails k (MemberPart.BitmapSector block)) new))
 
 -- clear_idle
 abbrev pub ClearHappens : ℕ → MirrorView → MirrorView → {T E : Type 0} → Result T E → Type 0
@@ -203,7 +199,7 @@ HappensAmong old p e new q =
 abbrev pub WriteMemberHappens : ℕ → MirrorView → MirrorView → PendingView → PendingView → {T : Type 0} → Result T WriteMemberFault → Type 0
 WriteMemberHappens k old new p q result =
     MatchResult result (λ _. HappensAmong old p (Event.WriteMember p.ticket.number k) new q)
-    (IfWritingFailed (HappensAmong old p (Event.WriteMemberFails p.ticket.number k) new q))
+    (IfWritingFailed (HappensAmong old p (Event.WriteFails k (MemberPart.RequestData p.ticket.number)) new q))
 
 -- begin: the request is in flight from then on
 abbrev pub BeginHappens : MirrorView → MirrorView → PendingView → Type 0

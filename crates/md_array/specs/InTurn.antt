@@ -3,7 +3,7 @@ use Rattle.std.specs.Prelude.{◌≡◌, ◌≢◌, ℕ, ◌<◌, ◌⊎◌, tru
 use Rattle.md_model.specs.Sectors.{block_of}
 use Rattle.md_model.specs.Worlds.{Request}
 use Rattle.md_model.specs.Content.{Content}
-use Rattle.md_model.specs.Events.{Event}
+use Rattle.md_model.specs.Events.{Event, MemberPart}
 use Rattle.md_bitmap.specs.Marks.{is_set}
 use Rattle.md_requests.specs.Pending.{PendingView}
 use Rattle.md_kept_members.specs.View.{MemberView}
@@ -42,13 +42,13 @@ Requests = ℕ → Option Request
 -- What is asked of the devices: where the event is a superblock's write that failed, that it left the old one, the new one or none; where
 -- a log is stored, that it has no shift; where a member comes into sync, or a rebuild is recorded so far, that some content is held.
 abbrev pub LeftWhole : MirrorView → Event → MirrorView → Type 0
-LeftWhole old (Event.RecordFails k) new =
+LeftWhole old (Event.WriteFails k MemberPart.Superblock) new =
     (m : MemberView) → IsMember old.array k m → AtDevice k old.disks new.disks (IsOldNewOrNone (super_write old.array m).bytes)
 LeftWhole old (Event.RecordTargetFails k) new =
     (m : MemberView) → IsMember old.array k m → AtDevice k old.disks new.disks (IsOldNewOrNone (super_write old.array m).bytes)
 LeftWhole old (Event.Checkpoint k offset listed) new = (content : Content) × HasContent old.disks old.array content
 LeftWhole old (Event.StoreLog k listed) new = HasNoShift k old
-LeftWhole old (Event.StoreLogFails k) new = HasNoShift k old
+LeftWhole old (Event.WriteFails k MemberPart.Log) new = HasNoShift k old
 LeftWhole old (Event.Enrol k role listed) new = (content : Content) × IsHeldBy k listed content old
 LeftWhole old e new = Unit {0}
 
@@ -77,9 +77,9 @@ IsSectorDue a k block = (m : MemberView) → IsInSync a k m → (HasSector a blo
 -- what is asked of an event by the one right before it and by the mirror. That marks and records come before data, the model asks.
 abbrev pub IsInOrder : Option Event → ArrayView → Event → Type 0
 IsInOrder previous a (Event.Record k) = IsRecordDue previous a k
-IsInOrder previous a (Event.RecordFails k) = IsRecordDue previous a k
+IsInOrder previous a (Event.WriteFails k MemberPart.Superblock) = IsRecordDue previous a k
 IsInOrder previous a (Event.StoreMarks k b) = IsSectorDue a k b
-IsInOrder previous a (Event.StoreMarksFails k b) = IsSectorDue a k b
+IsInOrder previous a (Event.WriteFails k (MemberPart.BitmapSector b)) = IsSectorDue a k b
 IsInOrder previous a e = Unit {0}
 
 -- the request in flight under a number is this one of a caller
@@ -122,12 +122,12 @@ Did old before (Event.Fail k) new after = (after ≡ before) × FailsMember k ol
 Did old before (Event.Remove k) new after = (after ≡ before) × ((disk : Disk) × Removes k disk old new)
 Did old before (Event.Add number left) new after = (after ≡ before) × DidAdd (Event.Add number left) old new
 Did old before (Event.ReAdd own device left) new after = (after ≡ before) × DidReAdd (Event.ReAdd own device left) old new
-Did old before (Event.RecordFails k) new after = (after ≡ before) × FailsToRecord k old new
-Did old before (Event.StoreMarksFails k b) new after = (after ≡ before) × FailsToStoreMarks k b old new
-Did old before (Event.WriteMemberFails n k) new after =
+Did old before (Event.WriteFails k MemberPart.Superblock) new after = (after ≡ before) × FailsToRecord k old new
+Did old before (Event.WriteFails k (MemberPart.BitmapSector b)) new after = (after ≡ before) × FailsToStoreMarks k b old new
+Did old before (Event.WriteFails k (MemberPart.RequestData n)) new after =
     (p q : PendingView) × IsUnder n p before × IsUnder n q after × IsPut n (Some (request_of q)) before after × FailsToWrite k old new p q
 Did old before (Event.Copy from k s) new after = (after ≡ before) × CopiesSector from k s old new
-Did old before (Event.CopyFails k c) new after = (after ≡ before) × FailsToCopy k c old new
+Did old before (Event.WriteFails k (MemberPart.CopiedChunk c)) new after = (after ≡ before) × FailsToCopy k c old new
 Did old before Event.Resynced new after = (after ≡ before) × BecomesResynced old new
 Did old before Event.Unresynced new after = (after ≡ before) × NotesResynced false old new
 Did old before (Event.Fill k) new after = (after ≡ before) × Fills k old new
@@ -139,7 +139,7 @@ Did old before (Event.Admit k role listed) new after = (after ≡ before) × Did
 Did old before (Event.Checkpoint k offset listed) new after = (after ≡ before) × DidCheckpoint (Event.Checkpoint k offset listed) old new
 Did old before (Event.NoteBad k c) new after = (after ≡ before) × NotesChunk k c old new
 Did old before (Event.StoreLog k listed) new after = (after ≡ before) × StoresLog k old new
-Did old before (Event.StoreLogFails k) new after = (after ≡ before) × FailsToStoreLog k old new
+Did old before (Event.WriteFails k MemberPart.Log) new after = (after ≡ before) × FailsToStoreLog k old new
 
 -- From this mirror, with these requests in flight, the events were done one after another, the first of them after this one, and
 -- then it holds of where they lead. What each step did is said of any devices. It is an event of the model where they do what they
@@ -167,9 +167,9 @@ AllLeftWhole (e ∷ es) previous old before Then t = (whole : LeftWhole old e t.
 
 -- The write of this event failed on a member that can't be made faulty, and the mirror is halted.
 abbrev pub HaltsAt : MirrorView → Requests → Event → MirrorView → Type 0
-HaltsAt old before (Event.RecordFails k) new = HaltsRecording k old new
-HaltsAt old before (Event.StoreMarksFails k b) new = HaltsStoringMarks k b old new
-HaltsAt old before (Event.WriteMemberFails n k) new = (p q : PendingView) × IsUnder n p before × HaltsWritingTo k old new p q
-HaltsAt old before (Event.CopyFails k c) new = HaltsCopying k c old new
-HaltsAt old before (Event.StoreLogFails k) new = HaltsStoringLog k old new
+HaltsAt old before (Event.WriteFails k MemberPart.Superblock) new = HaltsRecording k old new
+HaltsAt old before (Event.WriteFails k (MemberPart.BitmapSector b)) new = HaltsStoringMarks k b old new
+HaltsAt old before (Event.WriteFails k (MemberPart.RequestData n)) new = (p q : PendingView) × IsUnder n p before × HaltsWritingTo k old new p q
+HaltsAt old before (Event.WriteFails k (MemberPart.CopiedChunk c)) new = HaltsCopying k c old new
+HaltsAt old before (Event.WriteFails k MemberPart.Log) new = HaltsStoringLog k old new
 HaltsAt old before e new = ⊥

@@ -7,7 +7,7 @@ use Rattle.md_kept_members.specs.View.{MemberView}
 use Rattle.md_faults.specs.declared.note_fault.NoteFault.{NoteFault}
 use Rattle.md_faults.specs.declared.step_fault.StoreFault.{StoreFault}
 use Rattle.md_faults.specs.declared.step_fault.StoreFault.TheVariants.{Halted, NotActive, MemberFailed}
-use Rattle.md_model.specs.Events.{Event}
+use Rattle.md_model.specs.Events.{Event, MemberPart}
 use Rattle.md_state.specs.DiskWrites.{IsWritten}
 use Rattle.md_state.specs.Members.{IsInSync, IsMember}
 use Rattle.md_state.specs.NotingBad.{NotesBad, WhyUnlisted, logged}
@@ -83,4 +83,4 @@ IfLogFailed P _ = ⊤
 
 abbrev pub StoreLogHappens : ℕ → MirrorView → MirrorView → {T : Type 0} → Result T StoreFault → Type 0
 StoreLogHappens k old new result =
-    HasNoShift k old → MatchResult result (λ _. Happens old (Event.StoreLog k (listed_on new k)) new) (IfLogFailed (Happens old (Event.StoreLogFails k) new))
+    HasNoShift k old → MatchResult result (λ _. Happens old (Event.StoreLog k (listed_on new k)) new) (IfLogFailed (Happens old (Event.WriteFails k MemberPart.Log) new))

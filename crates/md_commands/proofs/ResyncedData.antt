@@ -3,7 +3,7 @@ use Rattle.std.proofs.Common.{◌≡◌, ◌≢◌, ◌∙◌, ℕ, ◌+◌, ◌
 use Rattle.std.proofs.lemmas.Bool.{and_parts}
 use Rattle.md_device.specs.Splice.{part}
 use Rattle.md_model.specs.Devices.{Stored}
-use Rattle.md_model.specs.Events.{Event, Step}
+use Rattle.md_model.specs.Events.{Event, MemberPart, Step}
 use Rattle.md_model.specs.Resyncing.{copied, copied_device}
 use Rattle.md_model.specs.Sectors.{Geometry, chunk_of}
 use Rattle.md_model.specs.Worlds.{IsInSync, World}
@@ -63,7 +63,7 @@ module _ (g : Geometry) (s k : ℕ) (c : List ℕ) where
   pub source_step : (w : World) (e : Event) (w' : World) → IsOfResync e → IsNoFailure e → CopiesFree w e → Step g w e w' → IsSourceIn w → IsSourceIn w'
   source_step w (Event.StoreMarks i b) w' of done free step h =
       subst IsSourceIn (sym step.1.1) (record { in_sync = h.in_sync; free = h.free; lowest = h.lowest; apart = h.apart; holds = content_marked g w i b k s ∙ h.holds })
-  source_step w (Event.StoreMarksFails i b) w' of done free step h = absurd done
+  source_step w (Event.WriteFails i (MemberPart.BitmapSector b)) w' of done free step h = absurd done
   source_step w (Event.Copy from j x) w' of done free step h =
       subst IsSourceIn (sym step.1.1) (record {
         in_sync = h.in_sync;
@@ -72,7 +72,7 @@ module _ (g : Geometry) (s k : ℕ) (c : List ℕ) where
         apart = h.apart;
         holds = copied_elsewhere w from j x (not_there w (Event.Copy from j x) w' from j x refl free step h) ∙ h.holds;
       })
-  source_step w (Event.CopyFails i b) w' of done free step h = absurd done
+  source_step w (Event.WriteFails i (MemberPart.CopiedChunk b)) w' of done free step h = absurd done
   source_step w Event.Resynced w' of done free step h =
       subst IsSourceIn (sym step.1.1) (record { in_sync = h.in_sync; free = h.free; lowest = h.lowest; apart = h.apart; holds = h.holds })
   source_step w (Event.ClearIdle b) w' of done free step h =
@@ -87,7 +87,7 @@ module _ (g : Geometry) (s k : ℕ) (c : List ℕ) where
   pub stays_step : (w : World) (e : Event) (w' : World) → IsOfResync e → IsNoFailure e → CopiesFree w e → Step g w e w' → StaysIn w → StaysIn w'
   stays_step w (Event.StoreMarks i b) w' of done free step h =
       subst StaysIn (sym step.1.1) (record { unmarked = h.unmarked; holds = content_marked g w i b k s ∙ h.holds })
-  stays_step w (Event.StoreMarksFails i b) w' of done free step h = absurd done
+  stays_step w (Event.WriteFails i (MemberPart.BitmapSector b)) w' of done free step h = absurd done
   stays_step w (Event.Copy from j x) w' of done free step h =
       subst StaysIn (sym step.1.1) (record {
         unmarked = h.unmarked;
@@ -95,7 +95,7 @@ module _ (g : Geometry) (s k : ℕ) (c : List ℕ) where
             content_copied g w from j x k s (λ same. true≢false (sym step.1.0.chunk.marked ∙ sym (ap (λ (t : ℕ). w.marks (chunk_of g t)) same) ∙ h.unmarked))
             ∙ h.holds;
       })
-  stays_step w (Event.CopyFails i b) w' of done free step h = absurd done
+  stays_step w (Event.WriteFails i (MemberPart.CopiedChunk b)) w' of done free step h = absurd done
   stays_step w Event.Resynced w' of done free step h = subst StaysIn (sym step.1.1) (record { unmarked = h.unmarked; holds = h.holds })
   stays_step w (Event.ClearIdle b) w' of done free step h =
       subst StaysIn (sym step.1.1) (record { unmarked = put-at b false w.marks (chunk_of g s) (λ x. x ≡ false) (λ _. refl) (λ _. h.unmarked); holds = h.holds })
@@ -105,9 +105,9 @@ module _ (g : Geometry) (s k : ℕ) (c : List ℕ) where
 -- nothing is asked of what such an event left
 left_whole : (e : Event) → IsOfResync e → (old new : MirrorView) → LeftWhole old e new
 left_whole (Event.StoreMarks k b) of old new = tt
-left_whole (Event.StoreMarksFails k b) of old new = tt
+left_whole (Event.WriteFails k (MemberPart.BitmapSector b)) of old new = tt
 left_whole (Event.Copy from k s) of old new = tt
-left_whole (Event.CopyFails k c) of old new = tt
+left_whole (Event.WriteFails k (MemberPart.CopiedChunk c)) of old new = tt
 left_whole Event.Resynced of old new = tt
 left_whole (Event.ClearIdle c) of old new = tt
 left_whole e of old new = absurd of
@@ -124,8 +124,8 @@ copies_free v requests (Event.Copy from k x) new after of did =
     let source = did.1.may.source x (omega arith) (omega arith) in
     (unlisted_off v requests from x source.member source.at source.unlisted, did.1.may.apart)
 copies_free v requests (Event.StoreMarks k b) new after of did = tt
-copies_free v requests (Event.StoreMarksFails k b) new after of did = tt
-copies_free v requests (Event.CopyFails k c) new after of did = tt
+copies_free v requests (Event.WriteFails k (MemberPart.BitmapSector b)) new after of did = tt
+copies_free v requests (Event.WriteFails k (MemberPart.CopiedChunk c)) new after of did = tt
 copies_free v requests Event.Resynced new after of did = tt
 copies_free v requests (Event.ClearIdle c) new after of did = tt
 copies_free v requests e new after of did = absurd of

@@ -7,7 +7,7 @@ use Rattle.md_bitmap.proofs.Blocks.{length-bitmap_sector}
 use Rattle.md_device.specs.Splice.{SameOutside, part}
 use Rattle.md_device.proofs.Splices.{part_after, part_before}
 use Rattle.md_kept_members.specs.View.{MemberView}
-use Rattle.md_model.specs.Events.{Event}
+use Rattle.md_model.specs.Events.{Event, MemberPart}
 use Rattle.md_device_writes.specs.Writes.{Write}
 use Rattle.md_state.specs.DiskWrites.{AtDevice, IsTried}
 use Rattle.md_state.specs.Members.{IsInSync, IsMember}
@@ -49,27 +49,27 @@ beside_sector a m block w d e write outside =
     )
 
 pub halts_on : (k : ℕ) (mid new : MirrorView) → IsConsistent mid → (e : Event) → IsStoring e → IsFailureOf k e → HaltsAt mid (λ n. None) e new → HaltsOn k mid new
-halts_on k mid new sound (Event.RecordFails j) of is h =
+halts_on k mid new sound (Event.WriteFails j MemberPart.Superblock) of is h =
     subst (λ i. HaltsOn i mid new) is (record {
       write = super_write mid.array h.member;
       tried = h.halts.disks.tried;
       members = ap (λ (a : ArrayView). a.members) h.halts.array.array;
       marks = ap (λ (a : ArrayView). a.marks) h.halts.array.array;
       resynced = ap (λ (a : ArrayView). a.resynced) h.halts.array.array;
-      halted = storing_halted mid new (λ n. None) (Event.RecordFails j) tt h;
+      halted = storing_halted mid new (λ n. None) (Event.WriteFails j MemberPart.Superblock) tt h;
       failed = h.halts.disks.failed;
       keeps = λ m at d e at_d at_e.
           inl (beside_super_of m d e ((places_of mid sound).each j m d at at_d)
           (subst (λ n. SameOutside (512 * 8) n d.content e.content) h.may.readable.size (h.halts.disks.tried.outside d e at_d at_e)));
     })
-halts_on k mid new sound (Event.StoreMarksFails j b) of is h =
+halts_on k mid new sound (Event.WriteFails j (MemberPart.BitmapSector b)) of is h =
     subst (λ i. HaltsOn i mid new) is (record {
       write = h.write;
       tried = h.halts.disks.tried;
       members = ap (λ (a : ArrayView). a.members) h.halts.array.array;
       marks = ap (λ (a : ArrayView). a.marks) h.halts.array.array;
       resynced = ap (λ (a : ArrayView). a.resynced) h.halts.array.array;
-      halted = storing_halted mid new (λ n. None) (Event.StoreMarksFails j b) tt h;
+      halted = storing_halted mid new (λ n. None) (Event.WriteFails j (MemberPart.BitmapSector b)) tt h;
       failed = h.halts.disks.failed;
       keeps = λ m at d e at_d at_e.
           subst (λ (z : MemberView). KeepsDataBut z z d e) (same_Some h.member m (sym h.may.in_sync.member ∙ at))

@@ -14,7 +14,7 @@ use Rattle.md_kept_members.specs.View.{MemberView}
 use Rattle.md_members.specs.declared.area.Area.{Area}
 use Rattle.md_members.specs.Areas.{AreApart, LogIsPlaced, bitmap_area, bitmap_sectors, data_area, log_area, super_area}
 use Rattle.md_members.specs.Members.{sectors_of}
-use Rattle.md_model.specs.Events.{Event}
+use Rattle.md_model.specs.Events.{Event, MemberPart}
 use Rattle.md_model.proofs.Cases.{by_test}
 use Rattle.md_super.specs.declared.superblock.Superblock.{Superblock}
 use Rattle.md_super.specs.Log.{has_bad_block_log}
@@ -314,7 +314,7 @@ module _ (old new : MirrorView) where
       let m = r.member in
       subst (λ i. LeavesBeside i old new) of
       (log_event j m r.in_sync.member r.room r.disks (set_changes j old.array new.array m (logged m) r.in_sync.member (near_logged m) r.array))
-  leaves_event k before between (Event.StoreLogFails j) of did =
+  leaves_event k before between (Event.WriteFails j MemberPart.Log) of did =
       let f = did.1 in
       subst (λ i. LeavesBeside i old new) of
       (log_failed j f.member f.write f.in_sync.member f.room f.among f.fails.disks.tried (fails_changes j old.array new.array f.fails.array))
@@ -323,7 +323,7 @@ module _ (old new : MirrorView) where
       let m = r.member in
       let changes = set_changes j old.array new.array m (record m { stored = r.stored }) r.may.in_sync.member (near_marked m r.stored r.has_stored.chunks) r.array in
       subst (λ i. LeavesBeside i old new) of.0 (marks_event j b m r.write of.1 r.may.in_sync.member r.may.write r.disks.tried changes)
-  leaves_event k before between (Event.StoreMarksFails j b) of did =
+  leaves_event k before between (Event.WriteFails j (MemberPart.BitmapSector b)) of did =
       let f = did.1 in
       subst (λ i. LeavesBeside i old new) of.0
       (marks_event j b f.member f.write of.1 f.may.in_sync.member f.may.write f.fails.disks.tried (fails_changes j old.array new.array f.fails.array))
@@ -333,7 +333,7 @@ module _ (old new : MirrorView) where
       let near : IsNearOwn m (record m { due = false }) = record { bad = refl; offset = refl; size = refl; apart = λ was. was } in
       subst (λ i. LeavesBeside i old new) of
       (super_event j m r.may.at r.may.readable.size r.disks.tried (set_changes j old.array new.array m (record m { due = false }) r.may.at near r.array))
-  leaves_event k before between (Event.RecordFails j) of did =
+  leaves_event k before between (Event.WriteFails j MemberPart.Superblock) of did =
       let f = did.1 in
       subst (λ i. LeavesBeside i old new) of (super_event j f.member f.may.at f.may.readable.size f.fails.disks.tried (fails_changes j old.array new.array f.fails.array))
   leaves_event k before between e of did = absurd of
@@ -341,17 +341,17 @@ module _ (old new : MirrorView) where
   -- a write that failed and halted the mirror
   halts_event : (k : ℕ) (e : Event) → IsListing k e → HaltsAt old (λ n. None) e new → LeavesBeside k old new × Halts k old.array new.array
   halts_event k (Event.StoreLog j listed) of h = absurd h
-  halts_event k (Event.StoreLogFails j) of h =
+  halts_event k (Event.WriteFails j MemberPart.Log) of h =
       let changes = same_changes j old.array new.array (ap (λ (v : ArrayView). v.members) h.halts.array.array) in
       (subst (λ i. LeavesBeside i old new) of (log_failed j h.member h.write h.in_sync.member h.room h.among h.halts.disks.tried changes), subst (λ i. Halts i old.array new.array) of h.halts.array)
   halts_event k (Event.StoreMarks j b) of h = absurd h
-  halts_event k (Event.StoreMarksFails j b) of h =
+  halts_event k (Event.WriteFails j (MemberPart.BitmapSector b)) of h =
       let changes = same_changes j old.array new.array (ap (λ (v : ArrayView). v.members) h.halts.array.array) in (
         subst (λ i. LeavesBeside i old new) of.0 (marks_event j b h.member h.write of.1 h.may.in_sync.member h.may.write h.halts.disks.tried changes),
         subst (λ i. Halts i old.array new.array) of.0 h.halts.array,
       )
   halts_event k (Event.Record j) of h = absurd h
-  halts_event k (Event.RecordFails j) of h =
+  halts_event k (Event.WriteFails j MemberPart.Superblock) of h =
       let changes = same_changes j old.array new.array (ap (λ (v : ArrayView). v.members) h.halts.array.array) in
       (subst (λ i. LeavesBeside i old new) of (super_event j h.member h.may.at h.may.readable.size h.halts.disks.tried changes), subst (λ i. Halts i old.array new.array) of h.halts.array)
   halts_event k e of h = absurd of
@@ -369,11 +369,11 @@ listing_leaves k old new goes =
 -- a write that failed is counted
 fails_event : (k : ℕ) (old new : MirrorView) (before between : Requests) (e : Event) → IsListing k e → IsFailureOf k e → Did old before e new between
     → AtDevice k old.disks new.disks (λ d f. d.honest ≡ true → d.failures < f.failures)
-fails_event k old new before between (Event.StoreLogFails j) of is did =
+fails_event k old new before between (Event.WriteFails j MemberPart.Log) of is did =
     subst (λ i. AtDevice i old.disks new.disks (λ d f. d.honest ≡ true → d.failures < f.failures)) is did.1.fails.disks.failed
-fails_event k old new before between (Event.StoreMarksFails j b) of is did =
+fails_event k old new before between (Event.WriteFails j (MemberPart.BitmapSector b)) of is did =
     subst (λ i. AtDevice i old.disks new.disks (λ d f. d.honest ≡ true → d.failures < f.failures)) is did.1.fails.disks.failed
-fails_event k old new before between (Event.RecordFails j) of is did =
+fails_event k old new before between (Event.WriteFails j MemberPart.Superblock) of is did =
     subst (λ i. AtDevice i old.disks new.disks (λ d f. d.honest ≡ true → d.failures < f.failures)) is did.1.fails.disks.failed
 fails_event k old new before between (Event.StoreLog j listed) of is did = absurd is
 fails_event k old new before between (Event.StoreMarks j b) of is did = absurd is
@@ -415,9 +415,9 @@ listing_halts k old new h =
 
 -- and this one is counted
 halt_fails : (k : ℕ) (mid new : MirrorView) (e : Event) → IsListing k e → IsFailureOf k e → HaltsAt mid (λ n. None) e new → AtDevice k mid.disks new.disks (λ d f. d.honest ≡ true → d.failures < f.failures)
-halt_fails k mid new (Event.StoreLogFails j) of is h = subst (λ i. AtDevice i mid.disks new.disks (λ d f. d.honest ≡ true → d.failures < f.failures)) is h.halts.disks.failed
-halt_fails k mid new (Event.StoreMarksFails j b) of is h = subst (λ i. AtDevice i mid.disks new.disks (λ d f. d.honest ≡ true → d.failures < f.failures)) is h.halts.disks.failed
-halt_fails k mid new (Event.RecordFails j) of is h = subst (λ i. AtDevice i mid.disks new.disks (λ d f. d.honest ≡ true → d.failures < f.failures)) is h.halts.disks.failed
+halt_fails k mid new (Event.WriteFails j MemberPart.Log) of is h = subst (λ i. AtDevice i mid.disks new.disks (λ d f. d.honest ≡ true → d.failures < f.failures)) is h.halts.disks.failed
+halt_fails k mid new (Event.WriteFails j (MemberPart.BitmapSector b)) of is h = subst (λ i. AtDevice i mid.disks new.disks (λ d f. d.honest ≡ true → d.failures < f.failures)) is h.halts.disks.failed
+halt_fails k mid new (Event.WriteFails j MemberPart.Superblock) of is h = subst (λ i. AtDevice i mid.disks new.disks (λ d f. d.honest ≡ true → d.failures < f.failures)) is h.halts.disks.failed
 halt_fails k mid new (Event.StoreLog j listed) of is h = absurd is
 halt_fails k mid new (Event.StoreMarks j b) of is h = absurd is
 halt_fails k mid new (Event.Record j) of is h = absurd is
@@ -452,12 +452,12 @@ set_fields k a b m n at state is = record {
 fields_event : (k : ℕ) (old new : MirrorView) (before between : Requests) (e : Event) → IsListing k e → IsNoFailure e → Did old before e new between → KeepsFields old.array new.array
 fields_event k old new before between (Event.StoreLog j listed) of is did =
     let r = did.1 in set_fields j old.array new.array r.member (logged r.member) r.in_sync.member refl r.array
-fields_event k old new before between (Event.StoreLogFails j) of is did = absurd is
+fields_event k old new before between (Event.WriteFails j MemberPart.Log) of is did = absurd is
 fields_event k old new before between (Event.StoreMarks j b) of is did =
     let r = did.1 in set_fields j old.array new.array r.member (record r.member { stored = r.stored }) r.may.in_sync.member refl r.array
-fields_event k old new before between (Event.StoreMarksFails j b) of is did = absurd is
+fields_event k old new before between (Event.WriteFails j (MemberPart.BitmapSector b)) of is did = absurd is
 fields_event k old new before between (Event.Record j) of is did = let r = did.1 in set_fields j old.array new.array r.member (record r.member { due = false }) r.may.at refl r.array
-fields_event k old new before between (Event.RecordFails j) of is did = absurd is
+fields_event k old new before between (Event.WriteFails j MemberPart.Superblock) of is did = absurd is
 fields_event k old new before between e of is did = absurd of
 
 fields_then : (a b c : ArrayView) → KeepsFields a b → KeepsFields b c → KeepsFields a c

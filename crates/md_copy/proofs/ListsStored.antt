@@ -19,7 +19,7 @@ use Rattle.md_badblocks.specs.Runs.{IsBad, IsCanonical}
 use Rattle.md_cert.specs.declared.slots.Slot.{Slot}
 use Rattle.md_kept_members.specs.Enrolling.{HasRoomFor}
 use Rattle.md_kept_members.specs.View.{MemberView}
-use Rattle.md_model.specs.Events.{Event}
+use Rattle.md_model.specs.Events.{Event, MemberPart}
 use Rattle.md_super.specs.declared.superblock.Superblock.{Superblock}
 use Rattle.md_state.specs.DiskWrites.{AtDevice}
 use Rattle.md_state.specs.Members.{AllInSync, IsInSync, IsMember}
@@ -95,11 +95,11 @@ failed_room failed a room k m at has = (failed_fits failed a room k m at has).0
 -- ---- the events of one are of all
 lists_store : (k : ℕ) (e : Event) → IsListing k e → IsStoringList e
 lists_store k (Event.StoreLog j listed) is = tt
-lists_store k (Event.StoreLogFails j) is = tt
+lists_store k (Event.WriteFails j MemberPart.Log) is = tt
 lists_store k (Event.StoreMarks j b) is = is.1
-lists_store k (Event.StoreMarksFails j b) is = is.1
+lists_store k (Event.WriteFails j (MemberPart.BitmapSector b)) is = is.1
 lists_store k (Event.Record j) is = tt
-lists_store k (Event.RecordFails j) is = tt
+lists_store k (Event.WriteFails j MemberPart.Superblock) is = tt
 lists_store k e is = absurd is
 
 events_append : (ls ks : List (ℕ × (ℕ → Bool))) → all_list_events (ls ++ ks) ≡ all_list_events ls ++ all_list_events ks

@@ -8,7 +8,7 @@ use Rattle.md_bitmap.specs.Marks.{Bitmap, is_set}
 use Rattle.md_cert.specs.declared.slots.Slot.{Slot}
 use Rattle.md_kept_members.specs.Members.{made_due}
 use Rattle.md_kept_members.specs.View.{MemberView}
-use Rattle.md_model.specs.Events.{Event}
+use Rattle.md_model.specs.Events.{Event, MemberPart}
 use Rattle.md_model.specs.Sectors.{block_of}
 use Rattle.md_state.specs.MakingClean.{first_number}
 use Rattle.md_state.specs.Members.{AllInSync, IsInSync, IsMember}
@@ -131,10 +131,10 @@ fails_stays k a b f = record {
 abbrev pub IsOnMembers : Event → Type 0
 IsOnMembers (Event.Record j) = Unit {0}
 IsOnMembers (Event.StoreMarks j b) = Unit {0}
-IsOnMembers (Event.RecordFails j) = Unit {0}
-IsOnMembers (Event.StoreMarksFails j b) = Unit {0}
+IsOnMembers (Event.WriteFails j MemberPart.Superblock) = Unit {0}
+IsOnMembers (Event.WriteFails j (MemberPart.BitmapSector b)) = Unit {0}
 IsOnMembers (Event.StoreLog j listed) = Unit {0}
-IsOnMembers (Event.StoreLogFails j) = Unit {0}
+IsOnMembers (Event.WriteFails j MemberPart.Log) = Unit {0}
 IsOnMembers e = ⊥
 
 -- no other member failed
@@ -160,9 +160,9 @@ module _ (k : ℕ) (mid next : MirrorView) (before between : Requests) where
   stays_event (Event.StoreLog j listed) of calm did =
       let r = did.1 in
       set_stays k j mid.array next.array r.member (logged r.member) r.in_sync.member (ap (λ (a : ArrayView). a.members) r.array) (ap (λ (a : ArrayView). a.marks) r.array) refl (λ c same. same)
-  stays_event (Event.RecordFails j) of calm did = failed_stays j calm did.1.fails.array
-  stays_event (Event.StoreMarksFails j b) of calm did = failed_stays j calm did.1.fails.array
-  stays_event (Event.StoreLogFails j) of calm did = failed_stays j calm did.1.fails.array
+  stays_event (Event.WriteFails j MemberPart.Superblock) of calm did = failed_stays j calm did.1.fails.array
+  stays_event (Event.WriteFails j (MemberPart.BitmapSector b)) of calm did = failed_stays j calm did.1.fails.array
+  stays_event (Event.WriteFails j MemberPart.Log) of calm did = failed_stays j calm did.1.fails.array
   stays_event e of calm did = absurd of
 
 module _ (k : ℕ) where
@@ -188,17 +188,17 @@ module _ (k : ℕ) where
 on_members : (e : Event) → IsStoring e → IsOnMembers e
 on_members (Event.Record j) of = tt
 on_members (Event.StoreMarks j b) of = tt
-on_members (Event.RecordFails j) of = tt
-on_members (Event.StoreMarksFails j b) of = tt
+on_members (Event.WriteFails j MemberPart.Superblock) of = tt
+on_members (Event.WriteFails j (MemberPart.BitmapSector b)) of = tt
 on_members e of = absurd of
 
 list_on_members : (e : Event) → IsStoringList e → IsOnMembers e
 list_on_members (Event.Record j) of = tt
 list_on_members (Event.StoreMarks j b) of = tt
-list_on_members (Event.RecordFails j) of = tt
-list_on_members (Event.StoreMarksFails j b) of = tt
+list_on_members (Event.WriteFails j MemberPart.Superblock) of = tt
+list_on_members (Event.WriteFails j (MemberPart.BitmapSector b)) of = tt
 list_on_members (Event.StoreLog j listed) of = tt
-list_on_members (Event.StoreLogFails j) of = tt
+list_on_members (Event.WriteFails j MemberPart.Log) of = tt
 list_on_members e of = absurd of
 
 all_on_members : (Of : Event → Type 0) → ((e : Event) → Of e → IsOnMembers e) → (es : List Event) → AllOf Of es → AllOf IsOnMembers es
@@ -252,9 +252,9 @@ list_recovers target k v w other = lost_recovering IsStoringList list_on_members
 
 -- where the mirror is halted, it is
 pub halted_then : (mid new : MirrorView) (others : Requests) (e : Event) → IsOnMembers e → HaltsAt mid others e new → new.array.halted ≡ true
-halted_then mid new others (Event.RecordFails j) of h = ap (λ (a : ArrayView). a.halted) h.halts.array.array
-halted_then mid new others (Event.StoreMarksFails j b) of h = ap (λ (a : ArrayView). a.halted) h.halts.array.array
-halted_then mid new others (Event.StoreLogFails j) of h = ap (λ (a : ArrayView). a.halted) h.halts.array.array
+halted_then mid new others (Event.WriteFails j MemberPart.Superblock) of h = ap (λ (a : ArrayView). a.halted) h.halts.array.array
+halted_then mid new others (Event.WriteFails j (MemberPart.BitmapSector b)) of h = ap (λ (a : ArrayView). a.halted) h.halts.array.array
+halted_then mid new others (Event.WriteFails j MemberPart.Log) of h = ap (λ (a : ArrayView). a.halted) h.halts.array.array
 halted_then mid new others (Event.Record j) of h = absurd h
 halted_then mid new others (Event.StoreMarks j b) of h = absurd h
 halted_then mid new others (Event.StoreLog j listed) of h = absurd h
@@ -262,9 +262,9 @@ halted_then mid new others e of h = absurd of
 
 -- and the marks are what they were
 marks_then : (mid new : MirrorView) (others : Requests) (e : Event) → IsOnMembers e → HaltsAt mid others e new → new.array.marks.chunks ≡ mid.array.marks.chunks
-marks_then mid new others (Event.RecordFails j) of h = ap (λ (a : ArrayView). a.marks.chunks) h.halts.array.array
-marks_then mid new others (Event.StoreMarksFails j b) of h = ap (λ (a : ArrayView). a.marks.chunks) h.halts.array.array
-marks_then mid new others (Event.StoreLogFails j) of h = ap (λ (a : ArrayView). a.marks.chunks) h.halts.array.array
+marks_then mid new others (Event.WriteFails j MemberPart.Superblock) of h = ap (λ (a : ArrayView). a.marks.chunks) h.halts.array.array
+marks_then mid new others (Event.WriteFails j (MemberPart.BitmapSector b)) of h = ap (λ (a : ArrayView). a.marks.chunks) h.halts.array.array
+marks_then mid new others (Event.WriteFails j MemberPart.Log) of h = ap (λ (a : ArrayView). a.marks.chunks) h.halts.array.array
 marks_then mid new others (Event.Record j) of h = absurd h
 marks_then mid new others (Event.StoreMarks j b) of h = absurd h
 marks_then mid new others (Event.StoreLog j listed) of h = absurd h

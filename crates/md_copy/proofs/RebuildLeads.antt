@@ -7,7 +7,7 @@ use Rattle.md_bitmap.specs.Marks.{Bitmap}
 use Rattle.md_cert.specs.declared.slots.Slot.{Slot}
 use Rattle.md_device.proofs.Leaving.{leaves_less}
 use Rattle.md_kept_members.specs.View.{MemberView}
-use Rattle.md_model.specs.Events.{Event}
+use Rattle.md_model.specs.Events.{Event, MemberPart}
 use Rattle.md_pass.specs.Beside.{SameBeside, has_chunk}
 use Rattle.md_pass.specs.Sources.{copy_of}
 use Rattle.md_passes.proofs.OnePass.{slot_within}
@@ -58,8 +58,8 @@ use Rattle.md_copy.proofs.RebuiltByCall.{IsLast, last_of}
 pub storing_before : (target : ℕ) (e : Event) → IsStoring e → IsBeforeEnrol target e
 storing_before target (Event.Record k) of = tt
 storing_before target (Event.StoreMarks k b) of = tt
-storing_before target (Event.RecordFails k) of = tt
-storing_before target (Event.StoreMarksFails k b) of = tt
+storing_before target (Event.WriteFails k MemberPart.Superblock) of = tt
+storing_before target (Event.WriteFails k (MemberPart.BitmapSector b)) of = tt
 storing_before target e of = absurd of
 
 pub noting_before : (target : ℕ) (e : Event) → IsNoting e → IsBeforeEnrol target e
@@ -70,9 +70,9 @@ pub listing_before : (target : ℕ) (e : Event) → IsStoringList e → IsBefore
 listing_before target (Event.Record k) of = tt
 listing_before target (Event.StoreMarks k b) of = tt
 listing_before target (Event.StoreLog k listed) of = tt
-listing_before target (Event.RecordFails k) of = tt
-listing_before target (Event.StoreMarksFails k b) of = tt
-listing_before target (Event.StoreLogFails k) of = tt
+listing_before target (Event.WriteFails k MemberPart.Superblock) of = tt
+listing_before target (Event.WriteFails k (MemberPart.BitmapSector b)) of = tt
+listing_before target (Event.WriteFails k MemberPart.Log) of = tt
 listing_before target e of = absurd of
 
 pub before_of : (target : ℕ) (e : Event) → IsBeforeEnrol target e → IsOfRebuild target e

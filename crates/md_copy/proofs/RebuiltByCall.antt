@@ -11,7 +11,7 @@ use Rattle.md_bitmap.specs.Chunks.{InChunk}
 use Rattle.md_bitmap.specs.Marks.{is_set}
 use Rattle.md_kept_members.specs.Enrolling.{IsOfChunk}
 use Rattle.md_kept_members.specs.View.{MemberView}
-use Rattle.md_model.specs.Events.{Event}
+use Rattle.md_model.specs.Events.{Event, MemberPart}
 use Rattle.md_metadata.specs.Going.{GoesOn, only_others}
 use Rattle.md_metadata.specs.Storing.{IsFailureOf, IsRecording, IsStoring}
 use Rattle.md_passes.proofs.ArrayPasses.{copies_add}
@@ -57,11 +57,11 @@ pub record IsStill (k : ℕ) (last new : MirrorView) : Type 0 where
   pub device : slice_get new.disks k ≡ slice_get last.disks k
 
 halts_still : (k : ℕ) (last new : MirrorView) (e : Event) → IsRecording e → HaltsAt last (λ n. None) e new → (IsFailureOf k e → ⊥) → IsStill k last new
-halts_still k last new (Event.RecordFails j) of h apart = record {
+halts_still k last new (Event.WriteFails j MemberPart.Superblock) of h apart = record {
   member = λ n at. sym (ap (λ (a : ArrayView). slice_get a.members k) h.halts.array.array) ∙ at;
   device = h.halts.disks.tried.others k (λ same. apart (sym same));
 }
-halts_still k last new (Event.StoreMarksFails j b) of h apart = record {
+halts_still k last new (Event.WriteFails j (MemberPart.BitmapSector b)) of h apart = record {
   member = λ n at. sym (ap (λ (a : ArrayView). slice_get a.members k) h.halts.array.array) ∙ at;
   device = h.halts.disks.tried.others k (λ same. apart (sym same));
 }

@@ -16,7 +16,7 @@ use Rattle.md_kept_members.specs.TakingBack.{admitted_member, with_offset}
 use Rattle.md_kept_members.specs.View.{MemberView}
 use Rattle.md_pass.specs.Readings.{is_of}
 use Rattle.md_passes.specs.Listed.{IsOfFailed}
-use Rattle.md_model.specs.Events.{Event}
+use Rattle.md_model.specs.Events.{Event, MemberPart}
 use Rattle.md_model.specs.Rebuilding.{lacks}
 use Rattle.md_state.specs.Admitting.{admitted}
 use Rattle.md_state.specs.DiskWrites.{IsTried}
@@ -393,9 +393,9 @@ pub halts_list : (k : ℕ) (v w : MirrorView) → HaltsAtList k v w → w.array.
 halts_list k v w at = (let s = at.halts.halts in list_halted s.mid w (λ n. None) s.failing s.of (s.halts (λ n. None)))
 
 halted_array : (mid new : MirrorView) (e : Event) → IsStoringList e → HaltsAt mid (λ n. None) e new → new.array ≡ record mid.array { halted = true }
-halted_array mid new (Event.RecordFails j) of h = h.halts.array.array
-halted_array mid new (Event.StoreMarksFails j b) of h = h.halts.array.array
-halted_array mid new (Event.StoreLogFails j) of h = h.halts.array.array
+halted_array mid new (Event.WriteFails j MemberPart.Superblock) of h = h.halts.array.array
+halted_array mid new (Event.WriteFails j (MemberPart.BitmapSector b)) of h = h.halts.array.array
+halted_array mid new (Event.WriteFails j MemberPart.Log) of h = h.halts.array.array
 halted_array mid new (Event.Record j) of h = absurd h
 halted_array mid new (Event.StoreMarks j b) of h = absurd h
 halted_array mid new (Event.StoreLog j listed) of h = absurd h

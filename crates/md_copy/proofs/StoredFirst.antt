@@ -3,7 +3,7 @@ use Rattle.std.proofs.Common.{◌≡◌, ◌≢◌, ◌∙◌, ℕ, true, false,
 use Rattle.std.proofs.lemmas.Bool.{both_ways, cases_Bool}
 use Rattle.std.proofs.lemmas.Option.{same_Some, slice_get_within}
 use Rattle.std.specs.Prelude.{Result, Ok, Err, MatchResult}
-use Rattle.md_model.specs.Events.{Event}
+use Rattle.md_model.specs.Events.{Event, MemberPart}
 use Rattle.md_faults.specs.declared.enrol_fault.TargetFault.{TargetFault as TargetFaults}
 use Rattle.md_faults.specs.declared.enrol_fault.TargetFault.TheVariants as why
 use Rattle.md_assembly.proofs.Indices.{got_within}
@@ -46,8 +46,8 @@ module _ (mid new : MirrorView) where
   halted_by : (e : Event) → IsStoring e → HaltsAt mid (λ n. None) e new → HaltedBy e mid new
   halted_by (Event.Record k) of h = absurd h
   halted_by (Event.StoreMarks k b) of h = absurd h
-  halted_by (Event.RecordFails k) of h = record { by = k; named = λ j same. same; running = h.may.running; halts = h.halts.array }
-  halted_by (Event.StoreMarksFails k b) of h = record { by = k; named = λ j same. same; running = h.may.running; halts = h.halts.array }
+  halted_by (Event.WriteFails k MemberPart.Superblock) of h = record { by = k; named = λ j same. same; running = h.may.running; halts = h.halts.array }
+  halted_by (Event.WriteFails k (MemberPart.BitmapSector b)) of h = record { by = k; named = λ j same. same; running = h.may.running; halts = h.halts.array }
   halted_by e of h = absurd of
 
   -- the members are those before

@@ -10,7 +10,7 @@ use Rattle.md_bitmap.proofs.Blocks.{length-bitmap_sector}
 use Rattle.md_members.specs.declared.area.Area.{Area}
 use Rattle.md_members.specs.Areas.{IsPlaced, bitmap_area, bitmap_sectors, data_area, has_bitmap, super_area}
 use Rattle.md_members.specs.Members.{sectors_of}
-use Rattle.md_model.specs.Events.{Event}
+use Rattle.md_model.specs.Events.{Event, MemberPart}
 use Rattle.md_device_writes.specs.Writes.{Write}
 use Rattle.md_kept_members.specs.Members.{made_due}
 use Rattle.md_kept_members.specs.View.{MemberView}
@@ -346,7 +346,7 @@ module _ (mid next : MirrorView) (before between : Requests) (previous : Option 
       (set_same mid.array next.array k m n r.may.in_sync.member (ap (λ (b : ArrayView). b.members) r.array)
       (record { superblock = refl; bad = refl; stored_chunks = r.has_stored.chunks }))
       (λ j x y d e at_x at_y at_d at_e. inl (set_state mid.array next.array k m n r.may.in_sync.member (ap (λ (b : ArrayView). b.members) r.array) refl j x y at_x at_y))
-  keeps_event (Event.RecordFails k) of order did =
+  keeps_event (Event.WriteFails k MemberPart.Superblock) of order did =
       let r = did.1 in
       let m = r.member in
       keeps_write k (super_write mid.array m) m mid next r.fails.disks.tried r.may.at
@@ -356,7 +356,7 @@ module _ (mid next : MirrorView) (before between : Requests) (previous : Option 
       (ap (λ (b : ArrayView). b.marks) r.fails.array.array)
       (fails_same k mid.array next.array r.fails.array)
       (fails_state k mid.array next.array mid.disks next.disks r.fails.array r.fails.disks.failed)
-  keeps_event (Event.StoreMarksFails k b) of order did =
+  keeps_event (Event.WriteFails k (MemberPart.BitmapSector b)) of order did =
       let r = did.1 in
       let m = r.member in
       keeps_write k r.write m mid next r.fails.disks.tried r.may.in_sync.member
@@ -371,8 +371,8 @@ module _ (mid next : MirrorView) (before between : Requests) (previous : Option 
   keeps_event (Event.Finish n) of order did = absurd of
   keeps_event (Event.ClearIdle c) of order did = absurd of
   keeps_event (Event.Fail k) of order did = absurd of
-  keeps_event (Event.WriteMemberFails n k) of order did = absurd of
-  keeps_event (Event.CopyFails k c) of order did = absurd of
+  keeps_event (Event.WriteFails k (MemberPart.RequestData n)) of order did = absurd of
+  keeps_event (Event.WriteFails k (MemberPart.CopiedChunk c)) of order did = absurd of
   keeps_event (Event.Copy from k s) of order did = absurd of
   keeps_event Event.Resynced of order did = absurd of
   keeps_event Event.Unresynced of order did = absurd of
@@ -389,7 +389,7 @@ module _ (mid next : MirrorView) (before between : Requests) (previous : Option 
   keeps_event (Event.Checkpoint k offset listed) of order did = absurd of
   keeps_event (Event.NoteBad k c) of order did = absurd of
   keeps_event (Event.StoreLog k listed) of order did = absurd of
-  keeps_event (Event.StoreLogFails k) of order did = absurd of
+  keeps_event (Event.WriteFails k MemberPart.Log) of order did = absurd of
 
 -- ---- events, one after another
 keeps_events : (es : List Event) (previous : Option Event) (old new : MirrorView) (before after : Requests) → AllOf IsStoring es → Leads previous old before es new after → KeepsAll old new
@@ -403,10 +403,10 @@ storing_keeps old new goes = keeps_events goes.events None old new (λ n. None) 
 -- ---- a write that failed and halted the mirror
 -- of a superblock, or of the first sector of a bitmap
 halts_keep : (mid new : MirrorView) (e : Event) → IsRecording e → HaltsAt mid (λ n. None) e new → KeepsAll mid new
-halts_keep mid new (Event.RecordFails k) of h =
+halts_keep mid new (Event.WriteFails k MemberPart.Superblock) of h =
     halted_write k (super_write mid.array h.member) h.member mid new h.halts.disks.tried h.may.at
     (λ d e place count outside. beside_super mid.array h.member d e place h.may.readable.size outside) h.halts.array.array
-halts_keep mid new (Event.StoreMarksFails k b) of h =
+halts_keep mid new (Event.WriteFails k (MemberPart.BitmapSector b)) of h =
     halted_write k h.write h.member mid new h.halts.disks.tried h.may.in_sync.member
     (λ d e place count outside. beside_marks mid.array h.member b h.write d e place h.may.write (omega (arith, of)) outside) h.halts.array.array
 halts_keep mid new (Event.Record k) of h = absurd h

@@ -11,7 +11,7 @@ use Rattle.md_cert.specs.declared.slots.Slot.{Slot}
 use Rattle.md_collect.specs.Reading.{Fails}
 use Rattle.md_kept_members.specs.Enrolling.{HasRoomFor}
 use Rattle.md_kept_members.specs.View.{MemberView}
-use Rattle.md_model.specs.Events.{Event}
+use Rattle.md_model.specs.Events.{Event, MemberPart}
 use Rattle.md_super.specs.declared.superblock.Superblock.{Superblock}
 use Rattle.md_state.specs.DeviceChanges.{StaysHonest}
 use Rattle.md_state.specs.DiskWrites.{AtDevice}
@@ -82,11 +82,11 @@ pub record StopsNoting (failed : List Slot) (old new : MirrorView) (fault : Rebu
 -- a log is stored, the first sector of a bitmap, or a superblock; done or failed
 abbrev pub IsStoringList : Event → Type 0
 IsStoringList (Event.StoreLog k listed) = Unit {0}
-IsStoringList (Event.StoreLogFails k) = Unit {0}
+IsStoringList (Event.WriteFails k MemberPart.Log) = Unit {0}
 IsStoringList (Event.StoreMarks k b) = b ≡ 0
-IsStoringList (Event.StoreMarksFails k b) = b ≡ 0
+IsStoringList (Event.WriteFails k (MemberPart.BitmapSector b)) = b ≡ 0
 IsStoringList (Event.Record k) = Unit {0}
-IsStoringList (Event.RecordFails k) = Unit {0}
+IsStoringList (Event.WriteFails k MemberPart.Superblock) = Unit {0}
 IsStoringList e = ⊥
 
 -- these members' lists are stored, one after another, each with what it lists

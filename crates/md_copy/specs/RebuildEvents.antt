@@ -3,7 +3,7 @@ use Rattle.std.specs.Prelude.{◌≡◌, ◌≢◌, ◌⊎◌, ℕ, Bool, List, 
 use Rattle.std.proofs.Common.{inl, inr}
 use Rattle.md_bitmap.specs.Marks.{Bitmap}
 use Rattle.md_kept_members.specs.View.{MemberView}
-use Rattle.md_model.specs.Events.{Event}
+use Rattle.md_model.specs.Events.{Event, MemberPart}
 use Rattle.md_state.specs.View.{Disk, MirrorView}
 use Rattle.md_array.specs.Admitting.{FailsOnTargetAlone, FailsToAdmit}
 use Rattle.md_array.specs.Checkpoints.{FailsToCheckpoint}
@@ -26,9 +26,9 @@ IsBeforeEnrol target (Event.Record k) = Unit {0}
 IsBeforeEnrol target (Event.StoreMarks k b) = Unit {0}
 IsBeforeEnrol target (Event.NoteBad k c) = Unit {0}
 IsBeforeEnrol target (Event.StoreLog k listed) = Unit {0}
-IsBeforeEnrol target (Event.RecordFails k) = Unit {0}
-IsBeforeEnrol target (Event.StoreMarksFails k b) = Unit {0}
-IsBeforeEnrol target (Event.StoreLogFails k) = Unit {0}
+IsBeforeEnrol target (Event.WriteFails k MemberPart.Superblock) = Unit {0}
+IsBeforeEnrol target (Event.WriteFails k (MemberPart.BitmapSector b)) = Unit {0}
+IsBeforeEnrol target (Event.WriteFails k MemberPart.Log) = Unit {0}
 IsBeforeEnrol target (Event.Fill k) = k ≡ target
 IsBeforeEnrol target (Event.Prepare k) = k ≡ target
 IsBeforeEnrol target (Event.RecordTargetFails k) = k ≡ target

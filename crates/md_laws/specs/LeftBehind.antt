@@ -7,7 +7,7 @@ use Rattle.md_super.specs.declared.superblock.Superblock.{Superblock}
 use Rattle.md_model.specs.Behind.{IsBehind, Leaves}
 use Rattle.md_model.specs.Content.{Content, Becomes, BecomesAtOpening, Holds}
 use Rattle.md_model.specs.Devices.{Stored}
-use Rattle.md_model.specs.Events.{Event}
+use Rattle.md_model.specs.Events.{Event, MemberPart}
 use Rattle.md_model.specs.Recovering.{JoinsBehind}
 use Rattle.md_model.specs.Sectors.{Geometry}
 use Rattle.md_model.specs.Worlds.{Request}
@@ -67,10 +67,10 @@ pub record FailsWithLog (t : Moment) (k : ℕ) : Type 0 where
   pub in_sync : IsInSync t.mirror.array k member
   pub mirror : MirrorView
   pub requests : ℕ → Option Request
-  pub does : RestsThenDoes t.mirror t.requests (Event.StoreLogFails k) mirror requests
+  pub does : RestsThenDoes t.mirror t.requests (Event.WriteFails k MemberPart.Log) mirror requests
 
 abbrev pub log_failed_then : (t : Moment) (k : ℕ) → FailsWithLog t k → Moment
-log_failed_then t k f = then_as t (Event.StoreLogFails k) f.mirror f.requests
+log_failed_then t k f = then_as t (Event.WriteFails k MemberPart.Log) f.mirror f.requests
 
 -- Then its log may be any. So it lies behind likewise in sectors that it did not list before, and that what counts of it does not list: that
 -- has the data of its device, and a list with no less than its device had.

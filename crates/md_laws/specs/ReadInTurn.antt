@@ -1,6 +1,6 @@
 -- Whole calls that read devices: the events that such a call does, one after another, with reads before each and after the last.
 use Rattle.std.specs.Prelude.{◌≡◌, List, [], ◌∷◌, Option, Some}
-use Rattle.md_model.specs.Events.{Event}
+use Rattle.md_model.specs.Events.{Event, MemberPart}
 use Rattle.md_state.specs.Rests.{Rests}
 use Rattle.md_state.specs.View.{MirrorView}
 use Rattle.md_array.specs.InTurn.{AllOf, Did, IsInOrder, LeftWhole, Requests}
@@ -23,12 +23,12 @@ LeadsReading previous old before es new after = ReadInTurn previous old before e
 -- none of which something is asked: no write of a superblock that failed, but for one that spoils its member, no enrolment, no
 -- checkpoint, and no log that is stored
 abbrev pub IsNoFailedRecord : Event → Type 0
-IsNoFailedRecord (Event.RecordFails k) = ⊥
+IsNoFailedRecord (Event.WriteFails k MemberPart.Superblock) = ⊥
 IsNoFailedRecord (Event.RecordTargetFails k) = ⊥
 IsNoFailedRecord (Event.Enrol k role listed) = ⊥
 IsNoFailedRecord (Event.Checkpoint k offset listed) = ⊥
 IsNoFailedRecord (Event.StoreLog k listed) = ⊥
-IsNoFailedRecord (Event.StoreLogFails k) = ⊥
+IsNoFailedRecord (Event.WriteFails k MemberPart.Log) = ⊥
 IsNoFailedRecord e = Unit {0}
 
 -- From any moment of a mirror such a call is a run, and ends where the call says.

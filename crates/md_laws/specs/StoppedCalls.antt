@@ -3,7 +3,7 @@
 use Rattle.std.specs.Prelude.{◌≡◌, ◌⊎◌, ℕ, ◌+◌, List, [], ◌∷◌, ◌++◌, drop, length, slice_get, Option, Some}
 use Rattle.std.proofs.Common.{inl, inr}
 use Rattle.md_kept_members.specs.View.{MemberView}
-use Rattle.md_model.specs.Events.{Event}
+use Rattle.md_model.specs.Events.{Event, MemberPart}
 use Rattle.md_model.specs.Worlds.{Request}
 use Rattle.md_state.specs.DiskWrites.{AtDevice}
 use Rattle.md_state.specs.Members.{IsMember}
@@ -46,7 +46,7 @@ IsBesideEvent e old new left = (contents_of left ≡ contents_of old.disks) ⊎ 
 -- before it and after it.
 abbrev pub IsLeftWhole : Event → MirrorView → MirrorView → List Disk → Type 0
 IsLeftWhole (Event.Record k) old new left = LeavesSuperWhole k old left ⊎ AreSupersShort k old
-IsLeftWhole (Event.RecordFails k) old new left = LeavesSuperWhole k old left
+IsLeftWhole (Event.WriteFails k MemberPart.Superblock) old new left = LeavesSuperWhole k old left
 IsLeftWhole (Event.RecordTargetFails k) old new left = LeavesSuperWhole k old left
 IsLeftWhole (Event.StoreLog k listed) old new left = (m : MemberView) → IsMember old.array k m → (d : Disk) → slice_get old.disks k ≡ Some d → DiffersInFirst m d.content
 IsLeftWhole (Event.Copy from k s) old new left = IsBesideEvent (Event.Copy from k s) old new left
@@ -91,7 +91,7 @@ BeginsWhole e = Unit {0}
 abbrev pub IsWrittenBy : ℕ → List Event → Type 0
 IsWrittenBy n [] = ⊥
 IsWrittenBy n (Event.WriteMember m k ∷ es) = (m ≡ n) ⊎ IsWrittenBy n es
-IsWrittenBy n (Event.WriteMemberFails m k ∷ es) = (m ≡ n) ⊎ IsWrittenBy n es
+IsWrittenBy n (Event.WriteFails k (MemberPart.RequestData m) ∷ es) = (m ≡ n) ⊎ IsWrittenBy n es
 IsWrittenBy n (e ∷ es) = IsWrittenBy n es
 
 -- So is each that is in flight and whose bytes they write, and each that they begin, as `begin` asks of its caller.
@@ -121,8 +121,8 @@ StopsAtSteps =
 -- What is asked within a write that halted the mirror. Of one of marks, of a copy or of a log nothing is said here once it began
 -- (`HaltedWrites` speaks of one that was left done or not done).
 abbrev pub IsLeftHalting : Event → MirrorView → List Disk → Type 0
-IsLeftHalting (Event.RecordFails k) old left = LeavesSuperWhole k old left
-IsLeftHalting (Event.WriteMemberFails n k) old left = Unit {0}
+IsLeftHalting (Event.WriteFails k MemberPart.Superblock) old left = LeavesSuperWhole k old left
+IsLeftHalting (Event.WriteFails k (MemberPart.RequestData n)) old left = Unit {0}
 IsLeftHalting e old left = contents_of left ≡ contents_of old.disks
 
 -- Or it did these, and then a write failed that halted the mirror: the stop came after them, before that write or within it.

@@ -192,10 +192,7 @@ abbrev pub IsLeftBy : (e : Event) (before after : List Disk) → WritesOnce e be
 IsLeftBy (Event.Record k) before after once left = (w : Write) × IsWritten k w before after × IsLeftBut k (λ old c. IsCutShort old (w ∷ []) c) before left
 IsLeftBy (Event.WriteMember n k) before after once left = (w : Write) × IsWritten k w before after × IsLeftBut k (λ old c. IsCutShort old (w ∷ []) c) before left
 IsLeftBy (Event.StoreMarks k b) before after w left = (left ≡ map (λ d. d.content) before) ⊎ (left ≡ map (λ d. d.content) after)
-IsLeftBy (Event.RecordFails k) before after once left = (w : Write) × IsFailed k w before after × IsLeftBut k (IsAnyIn w) before left
-IsLeftBy (Event.StoreMarksFails k b) before after once left = (w : Write) × IsFailed k w before after × IsLeftBut k (IsAnyIn w) before left
-IsLeftBy (Event.WriteMemberFails n k) before after once left = (w : Write) × IsFailed k w before after × IsLeftBut k (IsAnyIn w) before left
-IsLeftBy (Event.CopyFails k c) before after once left = (w : Write) × IsFailed k w before after × IsLeftBut k (IsAnyIn w) before left
+IsLeftBy (Event.WriteFails k part) before after once left = (w : Write) × IsFailed k w before after × IsLeftBut k (IsAnyIn w) before left
 IsLeftBy (Event.Copy from k s) before after w left = Unit {0}
 IsLeftBy Event.Resynced before after w left = left ≡ map (λ d. d.content) before
 IsLeftBy Event.Unresynced before after w left = left ≡ map (λ d. d.content) before
@@ -218,7 +215,6 @@ IsLeftBy (Event.Checkpoint k offset listed) before after once left = (w : Write)
 IsLeftBy (Event.NoteBad k c) before after w left = left ≡ map (λ d. d.content) before
 IsLeftBy (Event.StoreLog k listed) before after once left =
     (left ≡ map (λ d. d.content) before) ⊎ ((w : Write) × IsWritten k w before after × IsLeftBut k (λ old c. IsCutShort old (w ∷ []) c) before left)
-IsLeftBy (Event.StoreLogFails k) before after once left = (w : Write) × IsFailed k w before after × IsLeftBut k (IsAnyIn w) before left
 
 abbrev pub StopsAtEvents : Type 0
 StopsAtEvents =

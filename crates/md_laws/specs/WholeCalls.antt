@@ -4,7 +4,7 @@ use Rattle.md_assembly.specs.States.{is_in_sync, is_recovering, is_spare}
 use Rattle.md_badblocks.specs.Runs.{IsCanonical}
 use Rattle.md_bitmap.specs.Marks.{Bitmap}
 use Rattle.md_kept_members.specs.View.{MemberView}
-use Rattle.md_model.specs.Events.{Event}
+use Rattle.md_model.specs.Events.{Event, MemberPart}
 use Rattle.md_state.specs.FailingMembers.{FailsMember}
 use Rattle.md_state.specs.Members.{IsMember}
 use Rattle.md_state.specs.Removing.{Removes}
@@ -145,4 +145,4 @@ StoreLogIsACall =
 abbrev pub StoreLogFailureIsACall : Type 0
 StoreLogFailureIsACall =
     (k : ℕ) (old new : MirrorView) → IsConsistent old → FailsToStoreLog k old new
-    → (previous : Option Event) (requests : Requests) → AreInFlight old.array requests → Leads previous old requests (Event.StoreLogFails k ∷ []) new requests
+    → (previous : Option Event) (requests : Requests) → AreInFlight old.array requests → Leads previous old requests (Event.WriteFails k MemberPart.Log ∷ []) new requests

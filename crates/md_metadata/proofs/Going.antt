@@ -1,7 +1,7 @@
 -- Parts of a call, one after another.
 use Rattle.std.proofs.Common.{◌≡◌, ℕ, ◌<◌, true, List, Option, [], ◌∷◌, ◌++◌, Some, refl, sym, ap, ◌∙◌, subst, arith}
 use Rattle.std.proofs.lemmas.List.{append_assoc}
-use Rattle.md_model.specs.Events.{Event}
+use Rattle.md_model.specs.Events.{Event, MemberPart}
 use Rattle.md_bitmap.specs.Marks.{Bitmap, is_set}
 use Rattle.md_inflight.specs.Inflight.{InflightList, lookup}
 use Rattle.md_requests.specs.declared.extent.Extent.{Extent}
@@ -222,12 +222,12 @@ module _ (Of Such : Event → Type 0) (widen : (e : Event) → Of e → Such e) 
 
 pub sector_marks : (k block : ℕ) (e : Event) → IsSector k block e → IsMarking e
 sector_marks k block (Event.StoreMarks j b) is = tt
-sector_marks k block (Event.StoreMarksFails j b) is = tt
+sector_marks k block (Event.WriteFails j (MemberPart.BitmapSector b)) is = tt
 sector_marks k block e is = absurd is
 
 pub first_records : (k : ℕ) (e : Event) → IsSector k 0 e → IsRecording e
 first_records k (Event.StoreMarks j b) is = is.1
-first_records k (Event.StoreMarksFails j b) is = is.1
+first_records k (Event.WriteFails j (MemberPart.BitmapSector b)) is = is.1
 first_records k e is = absurd is
 
 -- a sector is something that is stored
@@ -237,14 +237,14 @@ sector_stops k block old new (MemberFailed j) h = subst (λ (i : ℕ). LosesStor
 
 pub marking_stores : (e : Event) → IsMarking e → IsStoring e
 marking_stores (Event.StoreMarks k b) is = tt
-marking_stores (Event.StoreMarksFails k b) is = tt
+marking_stores (Event.WriteFails k (MemberPart.BitmapSector b)) is = tt
 marking_stores e is = absurd is
 
 pub recording_stores : (e : Event) → IsRecording e → IsStoring e
 recording_stores (Event.Record k) is = tt
 recording_stores (Event.StoreMarks k b) is = tt
-recording_stores (Event.RecordFails k) is = tt
-recording_stores (Event.StoreMarksFails k b) is = tt
+recording_stores (Event.WriteFails k MemberPart.Superblock) is = tt
+recording_stores (Event.WriteFails k (MemberPart.BitmapSector b)) is = tt
 recording_stores e is = absurd is
 
 -- ---- something is stored

@@ -3,7 +3,7 @@ use Rattle.std.proofs.Common.{◌≡◌, ℕ, ◌<◌, ◌≤◌, Bool, true, fa
 use Rattle.std.specs.Prelude.{option_map}
 use Rattle.std.proofs.lemmas.List.{length-map}
 use Rattle.std.proofs.lemmas.Option.{same_Some, slice_get-map, slice_get_within}
-use Rattle.md_model.specs.Events.{Event}
+use Rattle.md_model.specs.Events.{Event, MemberPart}
 use Rattle.md_model.specs.Sectors.{block_of}
 use Rattle.md_bitmap.specs.Marks.{is_set}
 use Rattle.md_assembly.specs.States.{is_in_sync, is_recorded}
@@ -162,22 +162,22 @@ module _ (old new : MirrorView) (k block : ℕ) (sound : IsConsistent new) (pend
   sector_in_use : (f : FailsToStoreMarks k block old new) → is_recorded f.fails.array.member.state ≡ true
   sector_in_use f = in_use_there old.array k f.member f.fails.array.member f.fails.array.at f.may.in_sync.member (in_sync_recorded f.member.state f.may.in_sync.in_sync)
 
-  pub sector_fails : IsSectorDue old.array k block → (j : ℕ) → RefusesMarkSector k block old new (MemberFailed j) → Happens old (Event.StoreMarksFails k block) new
+  pub sector_fails : IsSectorDue old.array k block → (j : ℕ) → RefusesMarkSector k block old new (MemberFailed j) → Happens old (Event.WriteFails k (MemberPart.BitmapSector block)) new
       → SectorFails k block old new (part.MemberFailed j)
   sector_fails due j r happens =
       let f = r.1 in
       let used = sector_in_use f in
-      let step = failure_step only_others only_others (IsSector k block) (Event.StoreMarksFails k block) old new k f.fails.array used (refl, refl) (λ others. (refl, f))
+      let step = failure_step only_others only_others (IsSector k block) (Event.WriteFails k (MemberPart.BitmapSector block)) old new k f.fails.array used (refl, refl) (λ others. (refl, f))
       (λ honest whole others in_flight. happens honest others in_flight) sound pending in (
         r.0,
-        step_loses (IsSector k block) k (Event.StoreMarksFails k block) old new refl step (λ previous. due) (fewer_after old.array new.array k f.fails.array used)
+        step_loses (IsSector k block) k (Event.WriteFails k (MemberPart.BitmapSector block)) old new refl step (λ previous. due) (fewer_after old.array new.array k f.fails.array used)
             (halted_after old.array new.array k f.fails.array used) (record { member = f.fails.array.member; at = f.fails.array.at; recorded = used })
             (faulty_after old.array new.array k f.fails.array used),
       )
 
   pub sector_halts : old.array.halted ≡ false → IsConsistent old → RefusesMarkSector k block old new Halted → HaltsStoring (IsSector k block) old new
   sector_halts run before (inl r) = never_halted old new run r
-  sector_halts run before (inr h) = halts_first (IsSector k block) (Event.StoreMarksFails k block) old new before (refl, refl) (λ others. h) sound pending
+  sector_halts run before (inr h) = halts_first (IsSector k block) (Event.WriteFails k (MemberPart.BitmapSector block)) old new before (refl, refl) (λ others. h) sound pending
 
 pub sector_refused : {P : Type 0} (old new : MirrorView) (k block : ℕ) → ((m : MemberView) → IsMember old.array k m → is_in_sync m.state ≡ true) → RefusesMarkSector k block old new NotActive → P
 sector_refused old new k block is r = absurd (let yes = is r.reason.member r.reason.at in let no = r.reason.out in cc)
@@ -208,7 +208,7 @@ module _ (old new : MirrorView) (k : ℕ) (sound : IsConsistent new) (pending : 
       let f = r.1 in (
         r.0,
         record {
-          step = failure_step only_others only_others IsRecording (Event.RecordFails k) old new k f.fails.array (record_in_use f) tt (λ others. (refl, f))
+          step = failure_step only_others only_others IsRecording (Event.WriteFails k MemberPart.Superblock) old new k f.fails.array (record_in_use f) tt (λ others. (refl, f))
               (λ honest whole others in_flight. happens f.member f.may.at (whole f.member f.may.at) honest others in_flight) sound pending;
           lost = fewer_after old.array new.array k f.fails.array (record_in_use f);
           halted = halted_after old.array new.array k f.fails.array (record_in_use f);
@@ -219,7 +219,7 @@ module _ (old new : MirrorView) (k : ℕ) (sound : IsConsistent new) (pending : 
 
   pub record_halts : old.array.halted ≡ false → IsConsistent old → RefusesRecord k old new Halted → HaltsRecordingOn k old new
   record_halts run before (inl r) = never_halted old new run r
-  record_halts run before (inr h) = record { stores = halts_first IsRecording (Event.RecordFails k) old new before tt (λ others. h) sound pending; at_once = h }
+  record_halts run before (inr h) = record { stores = halts_first IsRecording (Event.WriteFails k MemberPart.Superblock) old new before tt (λ others. h) sound pending; at_once = h }
 
 pub record_refused : {P : Type 0} (old new : MirrorView) (k : ℕ) → ((m : MemberView) → IsMember old.array k m → is_recorded m.state ≡ true) → RefusesRecord k old new NotActive → P
 record_refused old new k is r = absurd (let yes = is r.reason.member r.reason.at in let no = r.reason.inactive in cc)

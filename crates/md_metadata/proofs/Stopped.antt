@@ -3,7 +3,7 @@ use Rattle.std.proofs.Common.{◌≡◌, ◌≢◌, ℕ, Bool, true, false, cond
 use Rattle.std.specs.Prelude.{Result, Ok, Err, MatchResult}
 use Rattle.std.proofs.lemmas.Bool.Decides.{eqb_tells}
 use Rattle.std.proofs.lemmas.Bool.{and_parts, not-true}
-use Rattle.md_model.specs.Events.{Event}
+use Rattle.md_model.specs.Events.{Event, MemberPart}
 use Rattle.md_bitmap.specs.Marks.{Bitmap, is_set}
 use Rattle.md_requests.specs.Pending.{PendingView}
 use Rattle.md_kept_members.specs.View.{MemberView}
@@ -135,8 +135,8 @@ module _ (a : ArrayView) (marks : Bitmap) where
 storing_stops : (e : Event) → IsStoring e → IsStopping e
 storing_stops (Event.Record k) is = tt
 storing_stops (Event.StoreMarks k b) is = tt
-storing_stops (Event.RecordFails k) is = tt
-storing_stops (Event.StoreMarksFails k b) is = tt
+storing_stops (Event.WriteFails k MemberPart.Superblock) is = tt
+storing_stops (Event.WriteFails k (MemberPart.BitmapSector b)) is = tt
 storing_stops e is = absurd is
 
 -- marks where they were cleared, and records

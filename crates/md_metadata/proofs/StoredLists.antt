@@ -1,7 +1,7 @@
 -- The list of a member is stored, step by step.
 use Rattle.std.proofs.Common.{◌≡◌, ℕ, ◌<◌, true, false, List, [], ◌∷◌, ◌++◌, set, slice_get, Option, Some, None, refl, sym, ap, ◌∙◌, arith, inl, inr, set-set}
 use Rattle.std.specs.Prelude.{Result, Ok, Err, MatchResult}
-use Rattle.md_model.specs.Events.{Event}
+use Rattle.md_model.specs.Events.{Event, MemberPart}
 use Rattle.md_bitmap.specs.Marks.{is_set}
 use Rattle.md_assembly.specs.States.{is_in_sync, is_recorded}
 use Rattle.md_kept_members.specs.View.{MemberView}
@@ -46,32 +46,32 @@ module _ (old new : MirrorView) (k : ℕ) (sound : IsConsistent new) (pending : 
   log_in_use : (f : FailsToStoreLog k old new) → is_recorded f.fails.array.member.state ≡ true
   log_in_use f = in_use_there old.array k f.member f.fails.array.member f.fails.array.at f.in_sync.member (in_sync_recorded f.member.state f.in_sync.in_sync)
 
-  pub log_fails : (j : ℕ) → RefusesLog k old new (MemberFailed j) → (HasNoShift k old → Happens old (Event.StoreLogFails k) new) → ListFails k old new (part.MemberFailed j)
+  pub log_fails : (j : ℕ) → RefusesLog k old new (MemberFailed j) → (HasNoShift k old → Happens old (Event.WriteFails k MemberPart.Log) new) → ListFails k old new (part.MemberFailed j)
   log_fails j r happens =
       let f = r.1 in
       let used = log_in_use f in
-      let step = failure_step only_others only_others (IsListing k) (Event.StoreLogFails k) old new k f.fails.array used refl (λ others. (refl, f))
+      let step = failure_step only_others only_others (IsListing k) (Event.WriteFails k MemberPart.Log) old new k f.fails.array used refl (λ others. (refl, f))
       (λ honest whole others in_flight. happens whole honest others in_flight) sound pending in (
         r.0,
-        step_loses (IsListing k) k (Event.StoreLogFails k) old new refl step (λ previous. tt) (fewer_after old.array new.array k f.fails.array used)
+        step_loses (IsListing k) k (Event.WriteFails k MemberPart.Log) old new refl step (λ previous. tt) (fewer_after old.array new.array k f.fails.array used)
             (halted_after old.array new.array k f.fails.array used) (record { member = f.fails.array.member; at = f.fails.array.at; recorded = used })
             (faulty_after old.array new.array k f.fails.array used),
       )
 
   pub log_halts : old.array.halted ≡ false → IsConsistent old → RefusesLog k old new Halted → ListFails k old new part.Halted
   log_halts run before (inl r) = never_halted old new run r
-  log_halts run before (inr h) = halts_at_once (IsListing k) k (Event.StoreLogFails k) old new before refl refl (λ others. h) sound pending
+  log_halts run before (inr h) = halts_at_once (IsListing k) k (Event.WriteFails k MemberPart.Log) old new before refl refl (λ others. h) sound pending
 
 -- ---- kinds of events
 sector_lists : (k : ℕ) (e : Event) → IsSector k 0 e → IsListing k e
 sector_lists k (Event.StoreMarks j b) is = is
-sector_lists k (Event.StoreMarksFails j b) is = is
+sector_lists k (Event.WriteFails j (MemberPart.BitmapSector b)) is = is
 sector_lists k e is = absurd is
 
 -- of a sector's writes only one that failed halts the mirror
 sector_named : (k : ℕ) (mid new : MirrorView) (e : Event) → IsSector k 0 e → HaltsAt mid (λ n. None) e new → IsFailureOf k e
 sector_named k mid new (Event.StoreMarks j b) is h = absurd h
-sector_named k mid new (Event.StoreMarksFails j b) is h = is.0
+sector_named k mid new (Event.WriteFails j (MemberPart.BitmapSector b)) is h = is.0
 sector_named k mid new e is h = absurd is
 
 -- a member that is changed twice
@@ -169,12 +169,12 @@ module _ (k : ℕ) (a b : MirrorView) (l : LogsOn k a b) where
       super_fails part.Halted h =
           let second = unfailing_step (IsListing k) (Event.StoreMarks k 0) b c tt marks (λ previous. order) s.ready.halted in
           unfailing_halts (IsListing k) a c d (unfailing_on (IsListing k) a b c first.0 second.0).0 k
-          (halts_at_once (IsListing k) k (Event.RecordFails k) c d s.step.sound refl refl (λ others. h.at_once) h.stores.halts.sound h.stores.halts.pending)
+          (halts_at_once (IsListing k) k (Event.WriteFails k MemberPart.Superblock) c d s.step.sound refl refl (λ others. h.at_once) h.stores.halts.sound h.stores.halts.pending)
       super_fails (part.MemberFailed j) h = (
         h.0,
         unfailing_loses (IsListing k) a b d first.0 k was_up
-            (two_lose (IsListing k) b c d k (Event.StoreMarks k 0) (Event.RecordFails k) tt refl marks (λ previous. order)
-            (step_of only_others only_others IsRecording (IsListing k) (Event.RecordFails k) c d refl h.1.step) due
+            (two_lose (IsListing k) b c d k (Event.StoreMarks k 0) (Event.WriteFails k MemberPart.Superblock) tt refl marks (λ previous. order)
+            (step_of only_others only_others IsRecording (IsListing k) (Event.WriteFails k MemberPart.Superblock) c d refl h.1.step) due
             (let x = s.step.array.fewer in let y = h.1.lost in omega arith) (h.1.halted ∙ s.ready.halted) (kept_before b.array c.array k s.ready h.1.was) h.1.faulty),
       )
 

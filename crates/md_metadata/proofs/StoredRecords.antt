@@ -2,7 +2,7 @@
 use Rattle.std.proofs.Common.{◌+◌, ◌≤◌, length, ◌≡◌, ℕ, ◌<◌, true, slice_get, Option, Some, refl, sym, subst, ap, ◌∙◌, arith, inr}
 use Rattle.std.proofs.lemmas.Option.{slice_get_within}
 use Rattle.std.specs.Prelude.{Result, Ok, Err, IfErr, MatchResult}
-use Rattle.md_model.specs.Events.{Event}
+use Rattle.md_model.specs.Events.{Event, MemberPart}
 use Rattle.md_model.proofs.Puts.{by_same}
 use Rattle.md_assembly.specs.States.{is_in_sync, is_recorded}
 use Rattle.md_kept_members.specs.View.{MemberView}
@@ -65,7 +65,7 @@ module _ (k : ℕ) (old mid : MirrorView) (s : StoresOn k 0 old mid) where
 
     stops_after : (fault : PartFault) → RecordingFails k mid new fault → StoringFails IsRecording old new fault
     stops_after (MemberFailed j) (at, l) = subst (λ (i : ℕ). LosesStoring IsRecording i old new) (sym at)
-        (two_lose IsRecording old mid new k (Event.StoreMarks k 0) (Event.RecordFails k) tt refl header (λ previous. first) l.step second
+        (two_lose IsRecording old mid new k (Event.StoreMarks k 0) (Event.WriteFails k MemberPart.Superblock) tt refl header (λ previous. first) l.step second
         (let x = s.step.array.fewer in let y = l.lost in omega arith) (l.halted ∙ s.ready.halted) (kept_before old.array mid.array k s.ready l.was) l.faulty)
     stops_after Halted h = stops_on IsRecording old mid new Halted (stores_step IsRecording (Event.StoreMarks k 0) old mid tt header (λ previous. first) s.ready) h.stores
 
@@ -90,7 +90,7 @@ module _ (k : ℕ) (old new : MirrorView) where
   module _ (order : (previous : Option Event) → IsRecordDue previous old.array k) where
     other_stops : (fault : PartFault) → RecordingFails k old new fault → StoringFails IsRecording old new fault
     other_stops (MemberFailed j) (at, l) = subst (λ (i : ℕ). LosesStoring IsRecording i old new) (sym at)
-        (step_loses IsRecording k (Event.RecordFails k) old new refl l.step order l.lost l.halted l.was l.faulty)
+        (step_loses IsRecording k (Event.WriteFails k MemberPart.Superblock) old new refl l.step order l.lost l.halted l.was l.faulty)
     other_stops Halted h = h.stores
 
     pub other_or_stops : {T : Type 0} (result : Result T PartFault) → MatchResult result (λ _. RecordsOn k old new) (RecordingFails k old new)

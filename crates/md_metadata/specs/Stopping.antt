@@ -1,6 +1,6 @@
 -- A whole stop.
 use Rattle.std.specs.Prelude.{◌≡◌, ◌⊎◌, ℕ, ◌<◌, Bool, true, false, cond, not, ◌&&◌, ◌==◌}
-use Rattle.md_model.specs.Events.{Event}
+use Rattle.md_model.specs.Events.{Event, MemberPart}
 use Rattle.md_bitmap.specs.Marks.{Bitmap, is_set}
 use Rattle.md_kept_members.specs.View.{MemberView}
 use Rattle.md_state.specs.View.{ArrayView, MirrorView}
@@ -19,8 +19,8 @@ IsStopping (Event.ClearIdle c) = Unit {0}
 IsStopping Event.MakeClean = Unit {0}
 IsStopping (Event.Record k) = Unit {0}
 IsStopping (Event.StoreMarks k b) = Unit {0}
-IsStopping (Event.RecordFails k) = Unit {0}
-IsStopping (Event.StoreMarksFails k b) = Unit {0}
+IsStopping (Event.WriteFails k MemberPart.Superblock) = Unit {0}
+IsStopping (Event.WriteFails k (MemberPart.BitmapSector b)) = Unit {0}
 IsStopping e = ⊥
 
 -- one in memory

@@ -1,6 +1,6 @@
 -- Marks and superblocks are stored on the members, whatever requests are in flight.
 use Rattle.std.specs.Prelude.{◌≡◌, ℕ, ◌<◌, true, List, [], ◌∷◌, ◌++◌}
-use Rattle.md_model.specs.Events.{Event}
+use Rattle.md_model.specs.Events.{Event, MemberPart}
 use Rattle.md_bitmap.specs.Marks.{Bitmap, is_set}
 use Rattle.md_kept_members.specs.View.{MemberView}
 use Rattle.md_assembly.specs.States.{is_recorded}
@@ -18,48 +18,40 @@ use Rattle.md_metadata.specs.Going.{GoesOn, HaltsAfter, IsFaulty, LosesMember, S
 -- this sector of member k's bitmap is stored
 abbrev pub IsSector : ℕ → ℕ → Event → Type 0
 IsSector k block (Event.StoreMarks j b) = (j ≡ k) × (b ≡ block)
-IsSector k block (Event.StoreMarksFails j b) = (j ≡ k) × (b ≡ block)
+IsSector k block (Event.WriteFails j (MemberPart.BitmapSector b)) = (j ≡ k) × (b ≡ block)
 IsSector k block e = ⊥
 
 -- marks are stored
 abbrev pub IsMarking : Event → Type 0
 IsMarking (Event.StoreMarks k b) = Unit {0}
-IsMarking (Event.StoreMarksFails k b) = Unit {0}
+IsMarking (Event.WriteFails k (MemberPart.BitmapSector b)) = Unit {0}
 IsMarking e = ⊥
 
 -- superblocks are stored, and of bitmaps the first sectors
 abbrev pub IsRecording : Event → Type 0
 IsRecording (Event.Record k) = Unit {0}
 IsRecording (Event.StoreMarks k b) = b ≡ 0
-IsRecording (Event.RecordFails k) = Unit {0}
-IsRecording (Event.StoreMarksFails k b) = b ≡ 0
+IsRecording (Event.WriteFails k MemberPart.Superblock) = Unit {0}
+IsRecording (Event.WriteFails k (MemberPart.BitmapSector b)) = b ≡ 0
 IsRecording e = ⊥
 
 -- either
 abbrev pub IsStoring : Event → Type 0
 IsStoring (Event.Record k) = Unit {0}
 IsStoring (Event.StoreMarks k b) = Unit {0}
-IsStoring (Event.RecordFails k) = Unit {0}
-IsStoring (Event.StoreMarksFails k b) = Unit {0}
+IsStoring (Event.WriteFails k MemberPart.Superblock) = Unit {0}
+IsStoring (Event.WriteFails k (MemberPart.BitmapSector b)) = Unit {0}
 IsStoring e = ⊥
 
 -- ---- which of them failed
 -- a write to member k failed
 abbrev pub IsFailureOf : ℕ → Event → Type 0
-IsFailureOf k (Event.RecordFails j) = j ≡ k
-IsFailureOf k (Event.StoreMarksFails j b) = j ≡ k
-IsFailureOf k (Event.StoreLogFails j) = j ≡ k
-IsFailureOf k (Event.WriteMemberFails n j) = j ≡ k
-IsFailureOf k (Event.CopyFails j c) = j ≡ k
+IsFailureOf k (Event.WriteFails j part) = j ≡ k
 IsFailureOf k e = ⊥
 
 -- no write failed
 abbrev pub IsNoFailure : Event → Type 0
-IsNoFailure (Event.RecordFails k) = ⊥
-IsNoFailure (Event.StoreMarksFails k b) = ⊥
-IsNoFailure (Event.StoreLogFails k) = ⊥
-IsNoFailure (Event.WriteMemberFails n k) = ⊥
-IsNoFailure (Event.CopyFails k c) = ⊥
+IsNoFailure (Event.WriteFails k part) = ⊥
 IsNoFailure e = Unit {0}
 
 -- the last of them is a failure of member k, and nothing failed before it
@@ -181,7 +173,7 @@ pub record RecordsOn (k : ℕ) (old new : MirrorView) : Type 0 where
 
 -- or the write of it failed
 pub record LosesRecording (k : ℕ) (old new : MirrorView) : Type 0 where
-  pub step : StepsBy only_others only_others IsRecording (Event.RecordFails k) old new
+  pub step : StepsBy only_others only_others IsRecording (Event.WriteFails k MemberPart.Superblock) old new
   pub lost : recorded_count new.array < recorded_count old.array
   pub halted : new.array.halted ≡ old.array.halted
   pub was : IsUpToDate old.array k

@@ -3,7 +3,7 @@ use Rattle.std.specs.Prelude.{◌≡◌, ℕ, Bool, false, List, [], ◌∷◌, 
 use Rattle.md_bitmap.specs.Marks.{Bitmap, is_set}
 use Rattle.md_kept_members.specs.Enrolling.{logged_superblock}
 use Rattle.md_kept_members.specs.View.{MemberView}
-use Rattle.md_model.specs.Events.{Event}
+use Rattle.md_model.specs.Events.{Event, MemberPart}
 use Rattle.md_state.specs.Members.{IsInSync}
 use Rattle.md_state.specs.View.{ArrayView, MirrorView}
 use Rattle.md_array.specs.Events.{listed_on}
@@ -17,11 +17,11 @@ use Rattle.md_metadata.specs.Storing.{HaltsAtWrite, LosesStoring}
 -- member k's log is stored, the first sector of its bitmap, or its superblock; done or failed
 abbrev pub IsListing : ℕ → Event → Type 0
 IsListing k (Event.StoreLog j listed) = j ≡ k
-IsListing k (Event.StoreLogFails j) = j ≡ k
+IsListing k (Event.WriteFails j MemberPart.Log) = j ≡ k
 IsListing k (Event.StoreMarks j b) = (j ≡ k) × (b ≡ 0)
-IsListing k (Event.StoreMarksFails j b) = (j ≡ k) × (b ≡ 0)
+IsListing k (Event.WriteFails j (MemberPart.BitmapSector b)) = (j ≡ k) × (b ≡ 0)
 IsListing k (Event.Record j) = j ≡ k
-IsListing k (Event.RecordFails j) = j ≡ k
+IsListing k (Event.WriteFails j MemberPart.Superblock) = j ≡ k
 IsListing k e = ⊥
 
 -- all three, in this order

@@ -4,7 +4,7 @@ use Rattle.md_assembly.specs.States.{is_spare}
 use Rattle.md_bitmap.specs.Marks.{Bitmap}
 use Rattle.md_cert.specs.declared.slots.Slot.{Slot}
 use Rattle.md_kept_members.specs.View.{MemberView}
-use Rattle.md_model.specs.Events.{Event}
+use Rattle.md_model.specs.Events.{Event, MemberPart}
 use Rattle.md_model.proofs.Puts.{put-hit}
 use Rattle.md_passes.specs.Passes.{PassView, failed_chunks}
 use Rattle.md_state.specs.Requests.{AreInFlight}
@@ -44,20 +44,20 @@ whole_of [] previous old before Then turn all = tt
 whole_of (e ∷ es) previous old before Then turn all = (one e all.0, whole_of es (Some e) turn.0 turn.1 Then turn.5 all.1)
   where
     one : (e : Event) → IsNoFailedRecord e → LeftWhole old e turn.0
-    one (Event.RecordFails k) of = absurd of
+    one (Event.WriteFails k MemberPart.Superblock) of = absurd of
     one (Event.RecordTargetFails k) of = absurd of
     one (Event.Enrol k role listed) of = absurd of
     one (Event.Checkpoint k offset listed) of = absurd of
     one (Event.StoreLog k listed) of = absurd of
-    one (Event.StoreLogFails k) of = absurd of
+    one (Event.WriteFails k MemberPart.Log) of = absurd of
     one e of = tt
 
 pub unfailing_records : (es : List Event) → AllOf IsStoring es → AllOf IsNoFailure es → AllOf IsNoFailedRecord es
 unfailing_records [] of none = tt
 unfailing_records (Event.Record k ∷ es) of none = (tt, unfailing_records es of.1 none.1)
 unfailing_records (Event.StoreMarks k b ∷ es) of none = (tt, unfailing_records es of.1 none.1)
-unfailing_records (Event.RecordFails k ∷ es) of none = absurd none.0
-unfailing_records (Event.StoreMarksFails k b ∷ es) of none = absurd none.0
+unfailing_records (Event.WriteFails k MemberPart.Superblock ∷ es) of none = absurd none.0
+unfailing_records (Event.WriteFails k (MemberPart.BitmapSector b) ∷ es) of none = absurd none.0
 unfailing_records (e ∷ es) of none = absurd of.0
 
 noting_records : (e : Event) → IsNoting e → IsNoFailedRecord e

@@ -5,7 +5,7 @@ use Rattle.std.proofs.lemmas.Option.{same_Some}
 use Rattle.md_assembly.specs.States.{is_in_sync, is_recorded, is_recovering, is_spare}
 use Rattle.md_bitmap.specs.Marks.{Bitmap}
 use Rattle.md_kept_members.specs.View.{MemberView}
-use Rattle.md_model.specs.Events.{Event}
+use Rattle.md_model.specs.Events.{Event, MemberPart}
 use Rattle.md_model.proofs.Cases.{by_test}
 use Rattle.md_passes.specs.Passes.{PassView, failed_chunks}
 use Rattle.md_state.specs.DiskWrites.{AtDevice}
@@ -66,9 +66,9 @@ calm_of : (e : Event) → IsOnMembers e → (k : ℕ) × IsCalm k e
 calm_of (Event.Record k) of = (k, inl tt)
 calm_of (Event.StoreMarks k b) of = (k, inl tt)
 calm_of (Event.StoreLog k listed) of = (k, inl tt)
-calm_of (Event.RecordFails k) of = (k, inr refl)
-calm_of (Event.StoreMarksFails k b) of = (k, inr refl)
-calm_of (Event.StoreLogFails k) of = (k, inr refl)
+calm_of (Event.WriteFails k MemberPart.Superblock) of = (k, inr refl)
+calm_of (Event.WriteFails k (MemberPart.BitmapSector b)) of = (k, inr refl)
+calm_of (Event.WriteFails k MemberPart.Log) of = (k, inr refl)
 calm_of e of = absurd of
 
 -- who is out of sync stays so
@@ -83,7 +83,7 @@ stays_out old new keeps k m n at_m at_n out = by_test (is_in_sync n.state)
 -- no bytes of a request are written
 no_data : (e : Event) (requests : Requests) → IsOnMembers e → WritesWhole e requests
 no_data (Event.WriteMember n k) requests of = absurd of
-no_data (Event.WriteMemberFails n k) requests of = absurd of
+no_data (Event.WriteFails k (MemberPart.RequestData n)) requests of = absurd of
 no_data e requests of = tt
 
 no_shift : (e : Event) (old new : MirrorView) → LeftWhole old e new → IsUnshifted e old
@@ -145,17 +145,17 @@ stops_in Of is (e ∷ es) previous t Then turn of at whole left (inr later) =
 pub on_members : (e : Event) → IsStoring e → IsOnMembers e
 on_members (Event.Record k) of = tt
 on_members (Event.StoreMarks k b) of = tt
-on_members (Event.RecordFails k) of = tt
-on_members (Event.StoreMarksFails k b) of = tt
+on_members (Event.WriteFails k MemberPart.Superblock) of = tt
+on_members (Event.WriteFails k (MemberPart.BitmapSector b)) of = tt
 on_members e of = absurd of
 
 list_on_members : (e : Event) → IsStoringList e → IsOnMembers e
 list_on_members (Event.Record k) of = tt
 list_on_members (Event.StoreMarks k b) of = tt
 list_on_members (Event.StoreLog k listed) of = tt
-list_on_members (Event.RecordFails k) of = tt
-list_on_members (Event.StoreMarksFails k b) of = tt
-list_on_members (Event.StoreLogFails k) of = tt
+list_on_members (Event.WriteFails k MemberPart.Superblock) of = tt
+list_on_members (Event.WriteFails k (MemberPart.BitmapSector b)) of = tt
+list_on_members (Event.WriteFails k MemberPart.Log) of = tt
 list_on_members e of = absurd of
 
 -- the target is out of sync

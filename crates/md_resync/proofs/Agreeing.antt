@@ -4,7 +4,7 @@ use Rattle.std.proofs.lemmas.Bool.{cases_lt}
 use Rattle.std.proofs.lemmas.Option.{slice_get_within}
 use Rattle.md_model.specs.Content.{Becomes, Content, HoldsBetween}
 use Rattle.md_model.specs.Sectors.{Geometry}
-use Rattle.md_model.specs.Events.{Event}
+use Rattle.md_model.specs.Events.{Event, MemberPart}
 use Rattle.md_model.specs.Worlds.{World}
 use Rattle.md_kept_members.specs.View.{MemberView}
 use Rattle.md_state.specs.View.{ArrayView, Disk, MirrorView, geometry_of}
@@ -73,10 +73,10 @@ copying_is_calm (Event.WriteMember n k) is = absurd is
 copying_is_calm (Event.Finish n) is = absurd is
 copying_is_calm (Event.ClearIdle c) is = absurd is
 copying_is_calm (Event.Fail k) is = absurd is
-copying_is_calm (Event.RecordFails k) is = absurd is
-copying_is_calm (Event.StoreMarksFails k b) is = absurd is
-copying_is_calm (Event.WriteMemberFails n k) is = absurd is
-copying_is_calm (Event.CopyFails k c) is = record { of = tt; becomes = λ g w a. refl; whole = λ old new. tt }
+copying_is_calm (Event.WriteFails k MemberPart.Superblock) is = absurd is
+copying_is_calm (Event.WriteFails k (MemberPart.BitmapSector b)) is = absurd is
+copying_is_calm (Event.WriteFails k (MemberPart.RequestData n)) is = absurd is
+copying_is_calm (Event.WriteFails k (MemberPart.CopiedChunk c)) is = record { of = tt; becomes = λ g w a. refl; whole = λ old new. tt }
 copying_is_calm (Event.Copy from k s) is = record { of = tt; becomes = λ g w a. refl; whole = λ old new. tt }
 copying_is_calm (Event.Resynced) is = absurd is
 copying_is_calm (Event.Unresynced) is = absurd is
@@ -93,7 +93,7 @@ copying_is_calm (Event.Admit k role listed) is = absurd is
 copying_is_calm (Event.Checkpoint k offset listed) is = absurd is
 copying_is_calm (Event.NoteBad k c) is = absurd is
 copying_is_calm (Event.StoreLog k listed) is = absurd is
-copying_is_calm (Event.StoreLogFails k) is = absurd is
+copying_is_calm (Event.WriteFails k MemberPart.Log) is = absurd is
 
 pub clearing_is_calm : (e : Event) → IsClearing e → IsCalm e
 clearing_is_calm (Event.Begin n p) is = absurd is
@@ -103,10 +103,10 @@ clearing_is_calm (Event.WriteMember n k) is = absurd is
 clearing_is_calm (Event.Finish n) is = absurd is
 clearing_is_calm (Event.ClearIdle c) is = record { of = tt; becomes = λ g w a. refl; whole = λ old new. tt }
 clearing_is_calm (Event.Fail k) is = absurd is
-clearing_is_calm (Event.RecordFails k) is = absurd is
-clearing_is_calm (Event.StoreMarksFails k b) is = absurd is
-clearing_is_calm (Event.WriteMemberFails n k) is = absurd is
-clearing_is_calm (Event.CopyFails k c) is = absurd is
+clearing_is_calm (Event.WriteFails k MemberPart.Superblock) is = absurd is
+clearing_is_calm (Event.WriteFails k (MemberPart.BitmapSector b)) is = absurd is
+clearing_is_calm (Event.WriteFails k (MemberPart.RequestData n)) is = absurd is
+clearing_is_calm (Event.WriteFails k (MemberPart.CopiedChunk c)) is = absurd is
 clearing_is_calm (Event.Copy from k s) is = absurd is
 clearing_is_calm (Event.Resynced) is = absurd is
 clearing_is_calm (Event.Unresynced) is = absurd is
@@ -123,7 +123,7 @@ clearing_is_calm (Event.Admit k role listed) is = absurd is
 clearing_is_calm (Event.Checkpoint k offset listed) is = absurd is
 clearing_is_calm (Event.NoteBad k c) is = absurd is
 clearing_is_calm (Event.StoreLog k listed) is = absurd is
-clearing_is_calm (Event.StoreLogFails k) is = absurd is
+clearing_is_calm (Event.WriteFails k MemberPart.Log) is = absurd is
 
 read_holds : (old new : MirrorView) (requests : Requests) (a : Content) → Rests old new → HoldsBetween (geometry_of old.array) a (world_of old requests) → HoldsBetween (geometry_of new.array) a (world_of new requests)
 read_holds old new requests a rests holds =

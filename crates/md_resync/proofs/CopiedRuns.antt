@@ -6,7 +6,7 @@ use Rattle.md_assembly.proofs.Indices.{got_within, got_same}
 use Rattle.md_device.specs.Device.{held}
 use Rattle.md_device.specs.Splice.{part}
 use Rattle.md_device.proofs.Splices.{part_after, part_before, part-spliced, part_part}
-use Rattle.md_model.specs.Events.{Event}
+use Rattle.md_model.specs.Events.{Event, MemberPart}
 use Rattle.md_model.proofs.Puts.{by_same}
 use Rattle.md_device_writes.specs.Writes.{Write}
 use Rattle.md_kept_members.specs.View.{MemberView}
@@ -316,14 +316,14 @@ gives_after_read k sector bytes old mid new sound rests g = record {
 
 -- ---- a write that failed
 module _ (k chunk : ℕ) (old new : MirrorView) where
-  pub loses_copying : (j : ℕ) → RefusesCopy k chunk old new (copy_fault.MemberFailed j) → Happens old (Event.CopyFails k chunk) new → IsConsistent new → LosesCopying j old new
+  pub loses_copying : (j : ℕ) → RefusesCopy k chunk old new (copy_fault.MemberFailed j) → Happens old (Event.WriteFails k (MemberPart.CopiedChunk chunk)) new → IsConsistent new → LosesCopying j old new
   loses_copying j r happens sound =
       let f = r.1 in
       let idle = f.copy.may.may.idle in
       let on = f.copy.may.in_sync in
       let same = got_same old.array.members k f.copy.may.target f.fails.array.member on.member f.fails.array.at in
       let in_use = in_sync_recorded f.fails.array.member.state (subst (λ (m : MemberView). is_in_sync m.state ≡ true) same on.in_sync) in
-      let failing : List Event = Event.CopyFails k chunk ∷ [] in
+      let failing : List Event = Event.WriteFails k (MemberPart.CopiedChunk chunk) ∷ [] in
       let leads : (previous : Option Event) (requests : Requests) → AreInFlight old.array requests → Leads previous old requests failing new requests =
       λ previous requests in_flight. (new, requests, tt, (refl, f), (λ honest whole. happens honest requests in_flight), (refl, refl)) in
       record {
@@ -335,7 +335,7 @@ module _ (k chunk : ℕ) (old new : MirrorView) where
           same = tried_same k (run_write f.copy.may.target f.sector f.bytes) old.disks new.disks f.fails.disks.tried;
           sound = sound;
         };
-        last = record { before = []; unfailing = tt; failing = Event.CopyFails k chunk; of = sym r.0; list = refl };
+        last = record { before = []; unfailing = tt; failing = Event.WriteFails k (MemberPart.CopiedChunk chunk); of = sym r.0; list = refl };
         marks = ap (λ (a : ArrayView). a.marks) f.fails.array.array;
         was = subst (λ (i : ℕ). IsUpToDate old.array i) (sym r.0) (record { member = f.fails.array.member; at = f.fails.array.at; recorded = in_use });
         idle = subst IsIdle (sym f.fails.array.array) (record { running = idle.running; none = idle.none });
@@ -346,7 +346,7 @@ module _ (k chunk : ℕ) (old new : MirrorView) where
   halts_copying before h sound = record {
     mid = old;
     goes = goes_nowhere old before;
-    failing = Event.CopyFails k chunk;
+    failing = Event.WriteFails k (MemberPart.CopiedChunk chunk);
     of = tt;
     halts = λ requests. h;
     sound = sound;

@@ -9,7 +9,7 @@ use Rattle.md_model.proofs.Cases.{below-nat_lt}
 use Rattle.md_model.proofs.Puts.{by_same}
 use Rattle.md_bitmap.specs.Marks.{Bitmap}
 use Rattle.md_model.specs.Devices.{Stored}
-use Rattle.md_model.specs.Events.{Event}
+use Rattle.md_model.specs.Events.{Event, MemberPart}
 use Rattle.md_device_writes.specs.Writes.{Write}
 use Rattle.md_requests.specs.declared.extent.Extent.{Extent}
 use Rattle.md_kept_members.specs.View.{MemberView}
@@ -180,10 +180,10 @@ leaves_along (Event.WriteMember number k ∷ es) previous old before new after a
 leaves_along (Event.Finish number ∷ es) previous old before new after all sound t = absurd all.0
 leaves_along (Event.ClearIdle chunk ∷ es) previous old before new after all sound t = absurd all.0
 leaves_along (Event.Fail k ∷ es) previous old before new after all sound t = absurd all.0
-leaves_along (Event.RecordFails k ∷ es) previous old before new after all sound t = absurd all.0
-leaves_along (Event.StoreMarksFails k b ∷ es) previous old before new after all sound t = absurd all.0
-leaves_along (Event.WriteMemberFails number k ∷ es) previous old before new after all sound t = absurd all.0
-leaves_along (Event.CopyFails k chunk ∷ es) previous old before new after all sound t = absurd all.0
+leaves_along (Event.WriteFails k MemberPart.Superblock ∷ es) previous old before new after all sound t = absurd all.0
+leaves_along (Event.WriteFails k (MemberPart.BitmapSector b) ∷ es) previous old before new after all sound t = absurd all.0
+leaves_along (Event.WriteFails k (MemberPart.RequestData number) ∷ es) previous old before new after all sound t = absurd all.0
+leaves_along (Event.WriteFails k (MemberPart.CopiedChunk chunk) ∷ es) previous old before new after all sound t = absurd all.0
 leaves_along (Event.Copy from k s ∷ es) previous old before new after all sound t = absurd all.0
 leaves_along (Event.Resynced ∷ es) previous old before new after all sound t = absurd all.0
 leaves_along (Event.Unresynced ∷ es) previous old before new after all sound t = absurd all.0
@@ -200,7 +200,7 @@ leaves_along (Event.Admit k role listed ∷ es) previous old before new after al
 leaves_along (Event.Checkpoint k offset listed ∷ es) previous old before new after all sound t = absurd all.0
 leaves_along (Event.NoteBad k c ∷ es) previous old before new after all sound t = absurd all.0
 leaves_along (Event.StoreLog k listed ∷ es) previous old before new after all sound t = absurd all.0
-leaves_along (Event.StoreLogFails k ∷ es) previous old before new after all sound t = absurd all.0
+leaves_along (Event.WriteFails k MemberPart.Log ∷ es) previous old before new after all sound t = absurd all.0
 
 mark_is_calm : (e : Event) → IsMarkStored e → IsCalm e
 mark_is_calm (Event.StoreMarks k b) is = record { of = tt; becomes = λ g w a. refl; whole = λ old new. tt }
@@ -210,10 +210,10 @@ mark_is_calm (Event.WriteMember number k) is = absurd is
 mark_is_calm (Event.Finish number) is = absurd is
 mark_is_calm (Event.ClearIdle chunk) is = absurd is
 mark_is_calm (Event.Fail k) is = absurd is
-mark_is_calm (Event.RecordFails k) is = absurd is
-mark_is_calm (Event.StoreMarksFails k b) is = absurd is
-mark_is_calm (Event.WriteMemberFails number k) is = absurd is
-mark_is_calm (Event.CopyFails k chunk) is = absurd is
+mark_is_calm (Event.WriteFails k MemberPart.Superblock) is = absurd is
+mark_is_calm (Event.WriteFails k (MemberPart.BitmapSector b)) is = absurd is
+mark_is_calm (Event.WriteFails k (MemberPart.RequestData number)) is = absurd is
+mark_is_calm (Event.WriteFails k (MemberPart.CopiedChunk chunk)) is = absurd is
 mark_is_calm (Event.Copy from k s) is = absurd is
 mark_is_calm (Event.Resynced) is = absurd is
 mark_is_calm (Event.Unresynced) is = absurd is
@@ -230,11 +230,11 @@ mark_is_calm (Event.Admit k role listed) is = absurd is
 mark_is_calm (Event.Checkpoint k offset listed) is = absurd is
 mark_is_calm (Event.NoteBad k c) is = absurd is
 mark_is_calm (Event.StoreLog k listed) is = absurd is
-mark_is_calm (Event.StoreLogFails k) is = absurd is
+mark_is_calm (Event.WriteFails k MemberPart.Log) is = absurd is
 
 mark_is_stored : (e : Event) → IsMarking e → IsNoFailure e → IsMarkStored e
 mark_is_stored (Event.StoreMarks k b) is done = tt
-mark_is_stored (Event.StoreMarksFails k b) is done = absurd done
+mark_is_stored (Event.WriteFails k (MemberPart.BitmapSector b)) is done = absurd done
 mark_is_stored e is done = absurd is
 
 all_stored : (es : List Event) → AllOf IsMarking es → AllOf IsNoFailure es → AllOf IsMarkStored es
@@ -243,7 +243,7 @@ all_stored (e ∷ es) marking unfailing = (mark_is_stored e marking.0 unfailing.
 
 marking_no_copy : (e : Event) → IsMarking e → IsNoCopy e
 marking_no_copy (Event.StoreMarks k b) is = tt
-marking_no_copy (Event.StoreMarksFails k b) is = tt
+marking_no_copy (Event.WriteFails k (MemberPart.BitmapSector b)) is = tt
 marking_no_copy e is = absurd is
 
 marking_by_steps : (es : List Event) (old new : MirrorView) → AllOf IsMarking es
@@ -278,16 +278,16 @@ stores_marks old new idle sound s =
 -- ---- where a write fails
 marking_of : (e : Event) → IsMarking e → IsOfResync e
 marking_of (Event.StoreMarks k b) is = tt
-marking_of (Event.StoreMarksFails k b) is = tt
+marking_of (Event.WriteFails k (MemberPart.BitmapSector b)) is = tt
 marking_of (Event.Begin number p) is = absurd is
 marking_of (Event.Record k) is = absurd is
 marking_of (Event.WriteMember number k) is = absurd is
 marking_of (Event.Finish number) is = absurd is
 marking_of (Event.ClearIdle chunk) is = absurd is
 marking_of (Event.Fail k) is = absurd is
-marking_of (Event.RecordFails k) is = absurd is
-marking_of (Event.WriteMemberFails number k) is = absurd is
-marking_of (Event.CopyFails k chunk) is = absurd is
+marking_of (Event.WriteFails k MemberPart.Superblock) is = absurd is
+marking_of (Event.WriteFails k (MemberPart.RequestData number)) is = absurd is
+marking_of (Event.WriteFails k (MemberPart.CopiedChunk chunk)) is = absurd is
 marking_of (Event.Copy from k s) is = absurd is
 marking_of (Event.Resynced) is = absurd is
 marking_of (Event.Unresynced) is = absurd is
@@ -304,7 +304,7 @@ marking_of (Event.Admit k role listed) is = absurd is
 marking_of (Event.Checkpoint k offset listed) is = absurd is
 marking_of (Event.NoteBad k c) is = absurd is
 marking_of (Event.StoreLog k listed) is = absurd is
-marking_of (Event.StoreLogFails k) is = absurd is
+marking_of (Event.WriteFails k MemberPart.Log) is = absurd is
 
 marking_goes : (old new : MirrorView) → metadata.GoesOn only_others only_others IsMarking old new → GoesOn old new
 marking_goes old new g = record {
@@ -330,16 +330,16 @@ loses_marks k old new idle s =
 
 halted_at : (e : Event) (old new : MirrorView) → IsMarking e → HaltsAt old none_in_flight e new → new.array.halted ≡ true
 halted_at (Event.StoreMarks k b) old new is h = absurd h
-halted_at (Event.StoreMarksFails k b) old new is h = ap (λ (a : ArrayView). a.halted) h.halts.array.array
+halted_at (Event.WriteFails k (MemberPart.BitmapSector b)) old new is h = ap (λ (a : ArrayView). a.halted) h.halts.array.array
 halted_at (Event.Begin number p) old new is h = absurd is
 halted_at (Event.Record k) old new is h = absurd is
 halted_at (Event.WriteMember number k) old new is h = absurd is
 halted_at (Event.Finish number) old new is h = absurd is
 halted_at (Event.ClearIdle chunk) old new is h = absurd is
 halted_at (Event.Fail k) old new is h = absurd is
-halted_at (Event.RecordFails k) old new is h = absurd is
-halted_at (Event.WriteMemberFails number k) old new is h = absurd is
-halted_at (Event.CopyFails k chunk) old new is h = absurd is
+halted_at (Event.WriteFails k MemberPart.Superblock) old new is h = absurd is
+halted_at (Event.WriteFails k (MemberPart.RequestData number)) old new is h = absurd is
+halted_at (Event.WriteFails k (MemberPart.CopiedChunk chunk)) old new is h = absurd is
 halted_at (Event.Copy from k s) old new is h = absurd is
 halted_at (Event.Resynced) old new is h = absurd is
 halted_at (Event.Unresynced) old new is h = absurd is
@@ -356,7 +356,7 @@ halted_at (Event.Admit k role listed) old new is h = absurd is
 halted_at (Event.Checkpoint k offset listed) old new is h = absurd is
 halted_at (Event.NoteBad k c) old new is h = absurd is
 halted_at (Event.StoreLog k listed) old new is h = absurd is
-halted_at (Event.StoreLogFails k) old new is h = absurd is
+halted_at (Event.WriteFails k MemberPart.Log) old new is h = absurd is
 
 pub halts_marks : (old new : MirrorView) → IsIdle old.array → metadata.HaltsAfter only_others only_others IsMarking old new → HaltsIdle old new
 halts_marks old new idle h = record {

@@ -8,7 +8,7 @@ use Rattle.md_bitmap.specs.Marks.{Bitmap, is_set}
 use Rattle.md_assembly.specs.States.{is_in_sync, is_in_sync_as}
 use Rattle.md_assembly.proofs.Indices.{got_within}
 use Rattle.md_model.specs.Content.{HoldsBetween}
-use Rattle.md_model.specs.Events.{Event}
+use Rattle.md_model.specs.Events.{Event, MemberPart}
 use Rattle.md_model.specs.Sectors.{Geometry}
 use Rattle.md_kept_members.specs.View.{MemberView}
 use Rattle.md_state.specs.View.{ArrayView, MirrorView, geometry_of}
@@ -172,7 +172,7 @@ module _ (old a b c : MirrorView) (idle : IsIdle old.array) (s : StoresMarks old
 -- ---- members are not made to agree
 marking_below : (sector : ℕ) (e : Event) → IsMarking e → IsCopyBelow sector e
 marking_below sector (Event.StoreMarks k b) is = tt
-marking_below sector (Event.StoreMarksFails k b) is = tt
+marking_below sector (Event.WriteFails k (MemberPart.BitmapSector b)) is = tt
 marking_below sector e is = absurd is
 
 copied_below : (sector : ℕ) (e : Event) → IsCopyIn (λ s. s < sector) e → IsCopyBelow sector e

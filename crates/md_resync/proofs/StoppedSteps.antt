@@ -1,6 +1,6 @@
 -- A stop within a whole resync is a stop of a run.
 use Rattle.std.proofs.Common.{◌≡◌, ◌∙◌, inl, inr, ℕ, zero, suc, ◌+◌, ◌/◌, List, [], ◌∷◌, ◌++◌, length, Option, Some, None, refl, sym, ap, subst}
-use Rattle.md_model.specs.Events.{Event}
+use Rattle.md_model.specs.Events.{Event, MemberPart}
 use Rattle.md_state.specs.CopyingData.{copies_of}
 use Rattle.md_state.specs.View.{Disk, MirrorView}
 use Rattle.md_array.specs.InTurn.{AllLeftWhole, AllOf, InTurn, LeftWhole, Requests}
@@ -21,7 +21,7 @@ use Rattle.md_resync.specs.StoppedSteps.{IsResyncing, IsStopOfRun, StopsAreOfRun
 -- ---- nothing is asked of such events
 no_data : (e : Event) (requests : Requests) → IsResyncing e → WritesWhole e requests
 no_data (Event.WriteMember n k) requests of = absurd of
-no_data (Event.WriteMemberFails n k) requests of = absurd of
+no_data (Event.WriteFails k (MemberPart.RequestData n)) requests of = absurd of
 no_data e requests of = tt
 
 no_log : (e : Event) (old : MirrorView) → IsResyncing e → IsUnshifted e old
@@ -30,9 +30,9 @@ no_log e old of = tt
 
 whole_event : (e : Event) (old new : MirrorView) → IsResyncing e → LeftWhole old e new
 whole_event (Event.StoreMarks k b) old new of = tt
-whole_event (Event.StoreMarksFails k b) old new of = tt
+whole_event (Event.WriteFails k (MemberPart.BitmapSector b)) old new of = tt
 whole_event (Event.Copy from k s) old new of = tt
-whole_event (Event.CopyFails k c) old new of = tt
+whole_event (Event.WriteFails k (MemberPart.CopiedChunk c)) old new of = tt
 whole_event Event.Resynced old new of = tt
 whole_event Event.Unresynced old new of = tt
 whole_event (Event.ClearIdle c) old new of = tt
@@ -40,9 +40,9 @@ whole_event e old new of = absurd of
 
 left_any : (e : Event) (old new : MirrorView) (left : List Disk) → IsResyncing e → IsNoCopy e → IsLeftWhole e old new left
 left_any (Event.StoreMarks k b) old new left of single = tt
-left_any (Event.StoreMarksFails k b) old new left of single = tt
+left_any (Event.WriteFails k (MemberPart.BitmapSector b)) old new left of single = tt
 left_any (Event.Copy from k s) old new left of single = absurd single
-left_any (Event.CopyFails k c) old new left of single = tt
+left_any (Event.WriteFails k (MemberPart.CopiedChunk c)) old new left of single = tt
 left_any Event.Resynced old new left of single = tt
 left_any Event.Unresynced old new left of single = tt
 left_any (Event.ClearIdle c) old new left of single = tt

@@ -1,6 +1,6 @@
 -- Members that agree where one lists in memory what its device does not, agree there still after the events of a resync.
 use Rattle.std.proofs.Common.{◌≡◌, ℕ, List, [], ◌∷◌, Option, Some, None, refl, sym, ap, ◌∙◌, subst}
-use Rattle.md_model.specs.Events.{Event, Step}
+use Rattle.md_model.specs.Events.{Event, MemberPart, Step}
 use Rattle.md_model.specs.Resyncing.{copied, MayCopy}
 use Rattle.md_model.specs.Sectors.{Geometry}
 use Rattle.md_model.specs.Steps.{marks_stored}
@@ -43,9 +43,9 @@ module _ (g : Geometry) where
 
   unstored_step : (w : World) (e : Event) (w' : World) → IsOfResync e → IsNoFailure e → Step g w e w' → AgreeUnstored g w → AgreeUnstored g w'
   unstored_step w (Event.StoreMarks k b) w' of done step u = subst (AgreeUnstored g) (sym step.1.1) (unstored_marked w k b u)
-  unstored_step w (Event.StoreMarksFails k b) w' of done step u = absurd done
+  unstored_step w (Event.WriteFails k (MemberPart.BitmapSector b)) w' of done step u = absurd done
   unstored_step w (Event.Copy from k s) w' of done step u = subst (AgreeUnstored g) (sym step.1.1) (unstored_copied w from k s step.1.0 u)
-  unstored_step w (Event.CopyFails k c) w' of done step u = absurd done
+  unstored_step w (Event.WriteFails k (MemberPart.CopiedChunk c)) w' of done step u = absurd done
   unstored_step w Event.Resynced w' of done step u = subst (AgreeUnstored g) (sym step.1.1) u
   unstored_step w (Event.ClearIdle c) w' of done step u = subst (AgreeUnstored g) (sym step.1.1) u
   unstored_step w e w' of done step u = absurd of
@@ -53,9 +53,9 @@ module _ (g : Geometry) where
 -- nothing is asked of what such an event left
 left_whole : (e : Event) → IsOfResync e → (old new : MirrorView) → LeftWhole old e new
 left_whole (Event.StoreMarks k b) of old new = tt
-left_whole (Event.StoreMarksFails k b) of old new = tt
+left_whole (Event.WriteFails k (MemberPart.BitmapSector b)) of old new = tt
 left_whole (Event.Copy from k s) of old new = tt
-left_whole (Event.CopyFails k c) of old new = tt
+left_whole (Event.WriteFails k (MemberPart.CopiedChunk c)) of old new = tt
 left_whole Event.Resynced of old new = tt
 left_whole (Event.ClearIdle c) of old new = tt
 left_whole e of old new = absurd of

@@ -1,7 +1,7 @@
 -- Marked chunks are copied, run by run.
 use Rattle.std.specs.Prelude.{◌≡◌, ◌⊎◌, ℕ, ◌+◌, ◌*◌, ◌/◌, ◌<◌, ◌≤◌, true, List, length, Option}
 use Rattle.md_bitmap.specs.Marks.{is_set}
-use Rattle.md_model.specs.Events.{Event}
+use Rattle.md_model.specs.Events.{Event, MemberPart}
 use Rattle.md_kept_members.specs.View.{MemberView}
 use Rattle.md_state.specs.CopyingData.{IsSource, MayCopyChunk}
 use Rattle.md_state.specs.DeviceChanges.{AreSame}
@@ -22,7 +22,7 @@ use Rattle.md_resync.specs.declared.fault.ResyncFault.TheVariants.{Halted, InFli
 
 abbrev pub IsCopying : Event → Type 0
 IsCopying (Event.Copy from k s) = Unit {0}
-IsCopying (Event.CopyFails k c) = Unit {0}
+IsCopying (Event.WriteFails k (MemberPart.CopiedChunk c)) = Unit {0}
 IsCopying e = ⊥
 
 -- Sectors were copied, one after another, and devices were read between them.

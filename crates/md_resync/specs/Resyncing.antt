@@ -3,7 +3,7 @@ use Rattle.std.specs.Prelude.{◌≡◌, ◌⊎◌, ℕ, ◌<◌, ◌≤◌, ◌
 use Rattle.md_bitmap.specs.Marks.{is_set}
 use Rattle.md_model.specs.Content.{Content, HoldsBetween}
 use Rattle.md_model.specs.Devices.{AgreeAt}
-use Rattle.md_model.specs.Events.{Event}
+use Rattle.md_model.specs.Events.{Event, MemberPart}
 use Rattle.md_model.specs.Sectors.{Geometry}
 use Rattle.md_model.specs.Worlds as worlds
 use Rattle.md_model.specs.Worlds.{IsQuiet, World}
@@ -33,9 +33,9 @@ use Rattle.md_resync.specs.declared.fault.ResyncFault.TheVariants.{Halted, InFli
 -- an event of a resync, until it is kept how it ended
 abbrev pub IsOfResync : Event → Type 0
 IsOfResync (Event.StoreMarks k b) = Unit {0}
-IsOfResync (Event.StoreMarksFails k b) = Unit {0}
+IsOfResync (Event.WriteFails k (MemberPart.BitmapSector b)) = Unit {0}
 IsOfResync (Event.Copy from k s) = Unit {0}
-IsOfResync (Event.CopyFails k c) = Unit {0}
+IsOfResync (Event.WriteFails k (MemberPart.CopiedChunk c)) = Unit {0}
 IsOfResync Event.Resynced = Unit {0}
 IsOfResync (Event.ClearIdle c) = Unit {0}
 IsOfResync e = ⊥

@@ -4,7 +4,7 @@ use Rattle.std.proofs.Common.{◌≡◌, ℕ, ◌<◌, true, false, cond, nat_lt
 use Rattle.std.proofs.Math.Bool.{and-false}
 use Rattle.md_kept_members.specs.View.{MemberView}
 use Rattle.md_model.specs.Devices.{Stored}
-use Rattle.md_model.specs.Events.{Event}
+use Rattle.md_model.specs.Events.{Event, MemberPart}
 use Rattle.md_model.specs.Sectors.{Geometry}
 use Rattle.md_model.specs.Worlds.{World, IsQuiet}
 use Rattle.md_model.proofs.Cases.{below-nat_lt, none_some}
@@ -39,9 +39,9 @@ agrees_at_rest before m start es rest final last life resynced j k s on_j on_k q
 -- none of its events writes a superblock
 pub no_record : (e : Event) → IsOfResync e → IsNoFailedRecord e
 no_record (Event.StoreMarks k b) of = tt
-no_record (Event.StoreMarksFails k b) of = tt
+no_record (Event.WriteFails k (MemberPart.BitmapSector b)) of = tt
 no_record (Event.Copy from k s) of = tt
-no_record (Event.CopyFails k c) of = tt
+no_record (Event.WriteFails k (MemberPart.CopiedChunk c)) of = tt
 no_record Event.Resynced of = tt
 no_record (Event.ClearIdle c) of = tt
 no_record e of = absurd of

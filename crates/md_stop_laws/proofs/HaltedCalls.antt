@@ -1,7 +1,7 @@
 -- A write that halted the mirror, and that was left done or not done: what was left stands on the devices before it, or after the same step done.
 use Rattle.std.proofs.Common.{◌≡◌, ◌⊎◌, ◌∙◌, inl, inr, ℕ, Bool, true, false, List, [], ◌∷◌, Option, Some, None, refl, sym, ap, subst}
 use Rattle.std.proofs.lemmas.List.{append-nil}
-use Rattle.md_model.specs.Events.{Event}
+use Rattle.md_model.specs.Events.{Event, MemberPart}
 use Rattle.md_state.specs.Requests.{among}
 use Rattle.md_state.specs.View.{Disk, MirrorView}
 use Rattle.md_array.specs.Events.{Happens, listed_on}
@@ -36,7 +36,7 @@ copies_whole from k (s ∷ ss) previous old before Then t = (tt, copies_whole fr
 
 -- a write of a request's bytes
 abbrev IsData : Event → Type 0
-IsData (Event.WriteMemberFails n k) = Unit {0}
+IsData (Event.WriteFails k (MemberPart.RequestData n)) = Unit {0}
 IsData e = ⊥
 
 -- ---- at the moment of the write
@@ -61,17 +61,17 @@ module _ (t : Moment) (at : IsSoundAt t) (new : MirrorView) (left : List Disk) (
       }
 
   by_halt : (failing : Event) (h : HaltsAt t.mirror t.requests failing new) → IsLeftByHalt failing t.mirror new t.requests h left → IsData failing ⊎ (IsLeft t left ⊎ GoesInstead failing t left)
-  by_halt (Event.RecordFails k) h asked = inr (inl (inr (inr (inr (inl (record { on = k; next = new; call = inr (inr (inl h)); within = within; super = asked }))))))
-  by_halt (Event.WriteMemberFails n k) h asked = inl tt
-  by_halt (Event.StoreMarksFails k b) h asked = elim (stops_at_halted_marks k b t.mirror new (contents_of left) at.sound at.honest h.may.inside h within asked) [
+  by_halt (Event.WriteFails k MemberPart.Superblock) h asked = inr (inl (inr (inr (inr (inl (record { on = k; next = new; call = inr (inr (inl h)); within = within; super = asked }))))))
+  by_halt (Event.WriteFails k (MemberPart.RequestData n)) h asked = inl tt
+  by_halt (Event.WriteFails k (MemberPart.BitmapSector b)) h asked = elim (stops_at_halted_marks k b t.mirror new (contents_of left) at.sound at.honest h.may.inside h within asked) [
     | inl same ↦ inr (inl (inl same))
-    | inr after ↦ inr (inr (one_step (Event.StoreMarksFails k b) (Event.StoreMarks k b) refl after.0 after.1.1 after.2))
+    | inr after ↦ inr (inr (one_step (Event.WriteFails k (MemberPart.BitmapSector b)) (Event.StoreMarks k b) refl after.0 after.1.1 after.2))
   ]
-  by_halt (Event.StoreLogFails k) h asked = elim (stops_at_halted_log k t.mirror new (contents_of left) at.sound at.honest h h.canonical within asked.1) [
+  by_halt (Event.WriteFails k MemberPart.Log) h asked = elim (stops_at_halted_log k t.mirror new (contents_of left) at.sound at.honest h h.canonical within asked.1) [
     | inl same ↦ inr (inl (inl same))
-    | inr after ↦ inr (inr (one_step (Event.StoreLogFails k) (Event.StoreLog k (listed_on after.0 k)) (listed_on after.0 k, refl) after.0 (after.1.1 asked.0) after.2))
+    | inr after ↦ inr (inr (one_step (Event.WriteFails k MemberPart.Log) (Event.StoreLog k (listed_on after.0 k)) (listed_on after.0 k, refl) after.0 (after.1.1 asked.0) after.2))
   ]
-  by_halt (Event.CopyFails k c) h asked =
+  by_halt (Event.WriteFails k (MemberPart.CopiedChunk c)) h asked =
       let part = stops_at_halted_copies k c t.mirror new (contents_of left) at.sound at.honest h within asked in
       let es = copies_at part.from k part.sectors in
       let leads = part.leads None t.requests at.in_flight in
@@ -118,7 +118,7 @@ module _ (es : List Event) (t : Moment) (at : IsSoundAt t) (mid : MirrorView) (b
 
 -- of data nothing is asked
 data_any : (failing : Event) (v : MirrorView) (left : List Disk) → IsData failing → IsLeftHalting failing v left
-data_any (Event.WriteMemberFails n k) v left is = tt
+data_any (Event.WriteFails k (MemberPart.RequestData n)) v left is = tt
 data_any e v left is = absurd is
 
 -- ---- at a moment of a life
@@ -167,12 +167,12 @@ stops_at_halted_write before m start events rest final t life sector bytes new w
 
 -- a `stop` writes no data,
 no_data_stored : (e : Event) → IsStoring e → IsData e → ⊥
-no_data_stored (Event.WriteMemberFails n k) of is = of
+no_data_stored (Event.WriteFails k (MemberPart.RequestData n)) of is = of
 no_data_stored e of is = is
 
 no_data_if : (b : Bool) (e : Event) → IsStoringIf b e → IsData e → ⊥
 no_data_if true e of is = no_data_stored e of is
-no_data_if false (Event.WriteMemberFails n k) of is = of
+no_data_if false (Event.WriteFails k (MemberPart.RequestData n)) of is = of
 no_data_if false e of is = is
 
 pub stops_at_halted_stop : StopsAtHaltedStop
@@ -184,7 +184,7 @@ stops_at_halted_stop before m start events rest final t life new h in_flight all
 
 -- and neither does a resync
 no_data_copied : (e : Event) → IsOfResync e → IsData e → ⊥
-no_data_copied (Event.WriteMemberFails n k) of is = of
+no_data_copied (Event.WriteFails k (MemberPart.RequestData n)) of is = of
 no_data_copied e of is = is
 
 pub stops_at_halted_resync : StopsAtHaltedResync

@@ -8,7 +8,7 @@ use Rattle.std.proofs.lemmas.Option.{same_Some, slice_get_within}
 use Rattle.md_device.specs.Splice.{SameOutside}
 use Rattle.md_device.specs.Stops.{LeavesMore}
 use Rattle.md_kept_members.specs.View.{MemberView}
-use Rattle.md_model.specs.Events.{Event}
+use Rattle.md_model.specs.Events.{Event, MemberPart}
 use Rattle.md_model.proofs.Puts.{by_same}
 use Rattle.md_device_writes.specs.Writes.{IsAnyIn, Write}
 use Rattle.md_state.specs.CopyingData.{run_write}
@@ -85,11 +85,11 @@ module _ (k : ℕ) (before after : List Disk) (d e : Disk) (was : slice_get befo
 -- ---- a write that halts the mirror
 -- the member to which it was
 abbrev pub member_of : Event → ℕ
-member_of (Event.RecordFails k) = k
-member_of (Event.StoreMarksFails k b) = k
-member_of (Event.WriteMemberFails n k) = k
-member_of (Event.CopyFails k c) = k
-member_of (Event.StoreLogFails k) = k
+member_of (Event.WriteFails k MemberPart.Superblock) = k
+member_of (Event.WriteFails k (MemberPart.BitmapSector b)) = k
+member_of (Event.WriteFails k (MemberPart.RequestData n)) = k
+member_of (Event.WriteFails k (MemberPart.CopiedChunk c)) = k
+member_of (Event.WriteFails k MemberPart.Log) = k
 member_of e = 0
 
 -- the two devices of a member
@@ -114,11 +114,11 @@ module _ (old new : MirrorView) (c : IsConsistent old) where
       pair_of old new h.disks.tried.as_many k (omega arith)
 
   pub halting_pair : (failing : Event) (requests : Requests) → HaltsAt old requests failing new → HasPair (member_of failing) old.disks new.disks
-  halting_pair (Event.RecordFails k) requests h = of_member k (super_write old.array h.member) h.member h.may.at h.halts
-  halting_pair (Event.StoreMarksFails k b) requests h = of_member k h.write h.member h.may.in_sync.member h.halts
-  halting_pair (Event.WriteMemberFails n k) requests h = of_member k (data_write h.3.member h.0) h.3.member h.3.may.intent.in_sync.member h.3.halts
-  halting_pair (Event.CopyFails k chunk) requests h = of_member k (run_write h.copy.may.target h.sector h.bytes) h.copy.may.target h.copy.may.in_sync.member h.halts
-  halting_pair (Event.StoreLogFails k) requests h = of_member k h.write h.member h.in_sync.member h.halts
+  halting_pair (Event.WriteFails k MemberPart.Superblock) requests h = of_member k (super_write old.array h.member) h.member h.may.at h.halts
+  halting_pair (Event.WriteFails k (MemberPart.BitmapSector b)) requests h = of_member k h.write h.member h.may.in_sync.member h.halts
+  halting_pair (Event.WriteFails k (MemberPart.RequestData n)) requests h = of_member k (data_write h.3.member h.0) h.3.member h.3.may.intent.in_sync.member h.3.halts
+  halting_pair (Event.WriteFails k (MemberPart.CopiedChunk chunk)) requests h = of_member k (run_write h.copy.may.target h.sector h.bytes) h.copy.may.target h.copy.may.in_sync.member h.halts
+  halting_pair (Event.WriteFails k MemberPart.Log) requests h = of_member k h.write h.member h.in_sync.member h.halts
   halting_pair e requests h = absurd h
 
 abbrev pub told_mirror : (k : ℕ) (old new : MirrorView) → HasPair k old.disks new.disks → MirrorView
@@ -130,31 +130,31 @@ told_halts k w old new p h = record { disks = told_failed k old.disks new.disks 
 module _ (old new : MirrorView) where
   pub told_at : (failing : Event) (p : HasPair (member_of failing) old.disks new.disks) (requests : Requests) → HaltsAt old requests failing new
       → HaltsAt old requests failing (told_mirror (member_of failing) old new p)
-  told_at (Event.RecordFails k) p requests h = record { member = h.member; may = h.may; halts = told_halts k (super_write old.array h.member) old new p h.halts }
-  told_at (Event.StoreMarksFails k b) p requests h = record { member = h.member; write = h.write; may = h.may; halts = told_halts k h.write old new p h.halts }
-  told_at (Event.WriteMemberFails n k) p requests h =
+  told_at (Event.WriteFails k MemberPart.Superblock) p requests h = record { member = h.member; may = h.may; halts = told_halts k (super_write old.array h.member) old new p h.halts }
+  told_at (Event.WriteFails k (MemberPart.BitmapSector b)) p requests h = record { member = h.member; write = h.write; may = h.may; halts = told_halts k h.write old new p h.halts }
+  told_at (Event.WriteFails k (MemberPart.RequestData n)) p requests h =
       (h.0, h.1, h.2, record { member = h.3.member; may = h.3.may; halts = told_halts k (data_write h.3.member h.0) old new p h.3.halts; pending = h.3.pending })
-  told_at (Event.CopyFails k chunk) p requests h =
+  told_at (Event.WriteFails k (MemberPart.CopiedChunk chunk)) p requests h =
       record { sector = h.sector; bytes = h.bytes; copy = h.copy; in_chunk = h.in_chunk; halts = told_halts k (run_write h.copy.may.target h.sector h.bytes) old new p h.halts }
-  told_at (Event.StoreLogFails k) p requests h =
+  told_at (Event.WriteFails k MemberPart.Log) p requests h =
       record { running = h.running; member = h.member; in_sync = h.in_sync; canonical = h.canonical; room = h.room; write = h.write; among = h.among; halts = told_halts k h.write old new p h.halts }
   told_at e p requests h = absurd h
 
   pub told_asked : (failing : Event) (p : HasPair (member_of failing) old.disks new.disks) (requests : Requests) (h : HaltsAt old requests failing new) (left : List Disk)
       → IsLeftByHalt failing old new requests h left → IsLeftByHalt failing old (told_mirror (member_of failing) old new p) requests (told_at failing p requests h) left
   unfolding told_at
-  told_asked (Event.RecordFails k) p requests h left asked = asked
-  told_asked (Event.StoreMarksFails k b) p requests h left asked = asked
-  told_asked (Event.WriteMemberFails n k) p requests h left asked = asked
-  told_asked (Event.CopyFails k chunk) p requests h left asked = asked
-  told_asked (Event.StoreLogFails k) p requests h left asked = asked
+  told_asked (Event.WriteFails k MemberPart.Superblock) p requests h left asked = asked
+  told_asked (Event.WriteFails k (MemberPart.BitmapSector b)) p requests h left asked = asked
+  told_asked (Event.WriteFails k (MemberPart.RequestData n)) p requests h left asked = asked
+  told_asked (Event.WriteFails k (MemberPart.CopiedChunk chunk)) p requests h left asked = asked
+  told_asked (Event.WriteFails k MemberPart.Log) p requests h left asked = asked
   told_asked e p requests h left asked = absurd h
 
   pub told_within : (failing : Event) (p : HasPair (member_of failing) old.disks new.disks) (requests : Requests) → HaltsAt old requests failing new
       → MayAllBeLeft old.disks (told_mirror (member_of failing) old new p).disks (contents_of new.disks)
-  told_within (Event.RecordFails k) p requests h = may_told k old.disks new.disks p.old p.new p.was p.is (super_write old.array h.member) h.halts.disks
-  told_within (Event.StoreMarksFails k b) p requests h = may_told k old.disks new.disks p.old p.new p.was p.is h.write h.halts.disks
-  told_within (Event.WriteMemberFails n k) p requests h = may_told k old.disks new.disks p.old p.new p.was p.is (data_write h.3.member h.0) h.3.halts.disks
-  told_within (Event.CopyFails k chunk) p requests h = may_told k old.disks new.disks p.old p.new p.was p.is (run_write h.copy.may.target h.sector h.bytes) h.halts.disks
-  told_within (Event.StoreLogFails k) p requests h = may_told k old.disks new.disks p.old p.new p.was p.is h.write h.halts.disks
+  told_within (Event.WriteFails k MemberPart.Superblock) p requests h = may_told k old.disks new.disks p.old p.new p.was p.is (super_write old.array h.member) h.halts.disks
+  told_within (Event.WriteFails k (MemberPart.BitmapSector b)) p requests h = may_told k old.disks new.disks p.old p.new p.was p.is h.write h.halts.disks
+  told_within (Event.WriteFails k (MemberPart.RequestData n)) p requests h = may_told k old.disks new.disks p.old p.new p.was p.is (data_write h.3.member h.0) h.3.halts.disks
+  told_within (Event.WriteFails k (MemberPart.CopiedChunk chunk)) p requests h = may_told k old.disks new.disks p.old p.new p.was p.is (run_write h.copy.may.target h.sector h.bytes) h.halts.disks
+  told_within (Event.WriteFails k MemberPart.Log) p requests h = may_told k old.disks new.disks p.old p.new p.was p.is h.write h.halts.disks
   told_within e p requests h = absurd h

@@ -1,6 +1,6 @@
 -- What a stop leaves within and after a write that halts a whole call, where that write was left done or not done: each kind of write in one place.
 use Rattle.std.specs.Prelude.{◌≡◌, ◌⊎◌, ℕ, ◌+◌, ◌%◌, Bool, List, [], ◌∷◌, ◌++◌, Option, length, None}
-use Rattle.md_model.specs.Events.{Event}
+use Rattle.md_model.specs.Events.{Event, MemberPart}
 use Rattle.md_state.specs.Requests.{AreInFlight, among}
 use Rattle.md_state.specs.View.{Disk, MirrorView}
 use Rattle.md_array.specs.InTurn.{AllLeftWhole, HaltsAt, Leads, Requests}
@@ -25,20 +25,20 @@ IsLeftSince before after left = MayAllBeLeft before after (contents_of left) ⊎
 -- of a log, that the write was left done or not done, of a log too that it was read without a shift, or stored since; of a copy, each sector as
 -- it was or as written. Of data that are written nothing is asked.
 abbrev pub IsLeftByHalt : (failing : Event) (old new : MirrorView) (requests : Requests) → HaltsAt old requests failing new → List Disk → Type 0
-IsLeftByHalt (Event.RecordFails k) old new requests h left = LeavesSuperWhole k old left
-IsLeftByHalt (Event.WriteMemberFails n k) old new requests h left = Unit {0}
-IsLeftByHalt (Event.StoreMarksFails k b) old new requests h left = IsDoneOrNot k h.write old.disks (contents_of left)
-IsLeftByHalt (Event.StoreLogFails k) old new requests h left = HasNoShift k old × IsDoneOrNot k h.write old.disks (contents_of left)
-IsLeftByHalt (Event.CopyFails k c) old new requests h left =
+IsLeftByHalt (Event.WriteFails k MemberPart.Superblock) old new requests h left = LeavesSuperWhole k old left
+IsLeftByHalt (Event.WriteFails k (MemberPart.RequestData n)) old new requests h left = Unit {0}
+IsLeftByHalt (Event.WriteFails k (MemberPart.BitmapSector b)) old new requests h left = IsDoneOrNot k h.write old.disks (contents_of left)
+IsLeftByHalt (Event.WriteFails k MemberPart.Log) old new requests h left = HasNoShift k old × IsDoneOrNot k h.write old.disks (contents_of left)
+IsLeftByHalt (Event.WriteFails k (MemberPart.CopiedChunk c)) old new requests h left =
     IsLeftInSectors k (h.copy.may.target.superblock.data_offset + h.sector) h.bytes old.disks (contents_of left)
 IsLeftByHalt e old new requests h left = ⊥
 
 -- ---- what is said
 -- The events that stand in place of that write: the step done; of a copy, some of its sectors.
 abbrev pub IsInstead : Event → List Event → Type 0
-IsInstead (Event.StoreMarksFails k b) es = es ≡ Event.StoreMarks k b ∷ []
-IsInstead (Event.StoreLogFails k) es = (listed : ℕ → Bool) × (es ≡ Event.StoreLog k listed ∷ [])
-IsInstead (Event.CopyFails k c) es = (from : ℕ) × (sectors : List ℕ) × (es ≡ copies_at from k sectors)
+IsInstead (Event.WriteFails k (MemberPart.BitmapSector b)) es = es ≡ Event.StoreMarks k b ∷ []
+IsInstead (Event.WriteFails k MemberPart.Log) es = (listed : ℕ → Bool) × (es ≡ Event.StoreLog k listed ∷ [])
+IsInstead (Event.WriteFails k (MemberPart.CopiedChunk c)) es = (from : ℕ) × (sectors : List ℕ) × (es ≡ copies_at from k sectors)
 IsInstead e es = ⊥
 
 -- These events lead on, and then such in place of the write: from there on a stop leaves that.

@@ -1,7 +1,7 @@
 -- Lists of events that are in rounds, one after another.
 use Rattle.std.proofs.Common.{ℕ, suc, List, [], ◌∷◌, ◌++◌, refl, sym, subst, inl, inr}
 use Rattle.std.proofs.lemmas.List.{append-nil, append_assoc}
-use Rattle.md_model.specs.Events.{Event}
+use Rattle.md_model.specs.Events.{Event, MemberPart}
 use Rattle.md_array.specs.InTurn.{AllOf}
 use Rattle.md_metadata.specs.Storing.{FailsAtLast, IsFailureOf, IsRecording}
 use Rattle.md_write.specs.Progress.{InRounds, IsMarkingOf, LeavesAt, Part}
@@ -13,10 +13,10 @@ after_bytes part (Event.StoreMarks k b ∷ es) (inl r) = absurd (let no = r.0 in
 after_bytes part (Event.StoreMarks k b ∷ es) (inr r) = absurd r.1
 after_bytes part (Event.Record k ∷ es) r = absurd r.0
 after_bytes part (Event.WriteMember n k ∷ es) r = r
-after_bytes part (Event.StoreMarksFails k b ∷ es) (inl r, rest) = absurd cc
-after_bytes part (Event.StoreMarksFails k b ∷ es) (inr r, rest) = absurd r.1
-after_bytes part (Event.RecordFails k ∷ es) r = absurd r.0
-after_bytes part (Event.WriteMemberFails n k ∷ es) r = r
+after_bytes part (Event.WriteFails k (MemberPart.BitmapSector b) ∷ es) (inl r, rest) = absurd cc
+after_bytes part (Event.WriteFails k (MemberPart.BitmapSector b) ∷ es) (inr r, rest) = absurd r.1
+after_bytes part (Event.WriteFails k MemberPart.Superblock ∷ es) r = absurd r.0
+after_bytes part (Event.WriteFails k (MemberPart.RequestData n) ∷ es) r = r
 after_bytes part (e ∷ es) r = absurd r
 
 pub after_records : (es : List Event) → InRounds Part.Records es → InRounds Part.Marks es
@@ -25,24 +25,24 @@ after_records (Event.StoreMarks k b ∷ es) (inl r) = absurd (let no = r.0 in cc
 after_records (Event.StoreMarks k b ∷ es) (inr r) = inr r
 after_records (Event.Record k ∷ es) r = r
 after_records (Event.WriteMember n k ∷ es) r = r
-after_records (Event.StoreMarksFails k b ∷ es) r = (inl refl, r.1)
-after_records (Event.RecordFails k ∷ es) r = r
-after_records (Event.WriteMemberFails n k ∷ es) r = r
+after_records (Event.WriteFails k (MemberPart.BitmapSector b) ∷ es) r = (inl refl, r.1)
+after_records (Event.WriteFails k MemberPart.Superblock ∷ es) r = r
+after_records (Event.WriteFails k (MemberPart.RequestData n) ∷ es) r = r
 after_records (e ∷ es) r = absurd r
 
 -- ---- a part before a list, failing on the way or not
 pub marks_leave : (first end : ℕ) (es : List Event) → AllOf (IsMarkingOf first end) es → LeavesAt Part.Marks Part.Marks es
 marks_leave first end [] all after r = r
 marks_leave first end (Event.StoreMarks k b ∷ es) all after r = inl (refl, marks_leave first end es all.1 after r)
-marks_leave first end (Event.StoreMarksFails k b ∷ es) all after r = (inl refl, marks_leave first end es all.1 after r)
+marks_leave first end (Event.WriteFails k (MemberPart.BitmapSector b) ∷ es) all after r = (inl refl, marks_leave first end es all.1 after r)
 marks_leave first end (e ∷ es) all after r = absurd all.0
 
 records_leave : (es : List Event) → AllOf IsRecording es → LeavesAt Part.Records Part.Records es
 records_leave [] all after r = r
 records_leave (Event.StoreMarks k b ∷ es) all after r = inr (all.0, tt, records_leave es all.1 after r)
 records_leave (Event.Record k ∷ es) all after r = (tt, records_leave es all.1 after r)
-records_leave (Event.StoreMarksFails k b ∷ es) all after r = (inr (all.0, tt), after_records (es ++ after) (records_leave es all.1 after r))
-records_leave (Event.RecordFails k ∷ es) all after r = (tt, after_records (es ++ after) (records_leave es all.1 after r))
+records_leave (Event.WriteFails k (MemberPart.BitmapSector b) ∷ es) all after r = (inr (all.0, tt), after_records (es ++ after) (records_leave es all.1 after r))
+records_leave (Event.WriteFails k MemberPart.Superblock ∷ es) all after r = (tt, after_records (es ++ after) (records_leave es all.1 after r))
 records_leave (e ∷ es) all after r = absurd all.0
 
 pub first_records_leave : (es : List Event) → AllOf IsRecording es → LeavesAt Part.Marks Part.Records es
@@ -63,11 +63,11 @@ left_at a b es g = subst (InRounds a) (append-nil es) (g [] tt)
 
 -- ---- after a failure
 after_failing : (part : Part) (k : ℕ) (e : Event) → IsFailureOf k e → InRounds part (e ∷ []) → LeavesAt part Part.Marks (e ∷ [])
-after_failing part k (Event.RecordFails j) is r after rest = (r.0, rest)
-after_failing part k (Event.StoreMarksFails j b) is r after rest = (r.0, rest)
-after_failing part k (Event.WriteMemberFails n j) is r after rest = rest
-after_failing part k (Event.StoreLogFails j) is r after rest = absurd r
-after_failing part k (Event.CopyFails j c) is r after rest = absurd r
+after_failing part k (Event.WriteFails j MemberPart.Superblock) is r after rest = (r.0, rest)
+after_failing part k (Event.WriteFails j (MemberPart.BitmapSector b)) is r after rest = (r.0, rest)
+after_failing part k (Event.WriteFails j (MemberPart.RequestData n)) is r after rest = rest
+after_failing part k (Event.WriteFails j MemberPart.Log) is r after rest = absurd r
+after_failing part k (Event.WriteFails j (MemberPart.CopiedChunk c)) is r after rest = absurd r
 after_failing part k e is r after rest = absurd is
 
 after_last : (part : Part) (k : ℕ) (es : List Event) (e : Event) → IsFailureOf k e → InRounds part (es ++ e ∷ []) → LeavesAt part Part.Marks (es ++ e ∷ [])
@@ -76,9 +76,9 @@ after_last part k (Event.StoreMarks j b ∷ es) e is (inl r) after rest = inl (r
 after_last part k (Event.StoreMarks j b ∷ es) e is (inr r) after rest = inr (r.0, r.1, after_last Part.Records k es e is r.2 after rest)
 after_last part k (Event.Record j ∷ es) e is r after rest = (r.0, after_last Part.Records k es e is r.1 after rest)
 after_last part k (Event.WriteMember n j ∷ es) e is r after rest = after_last Part.Bytes k es e is r after rest
-after_last part k (Event.StoreMarksFails j b ∷ es) e is r after rest = (r.0, after_last Part.Marks k es e is r.1 after rest)
-after_last part k (Event.RecordFails j ∷ es) e is r after rest = (r.0, after_last Part.Marks k es e is r.1 after rest)
-after_last part k (Event.WriteMemberFails n j ∷ es) e is r after rest = after_last Part.Marks k es e is r after rest
+after_last part k (Event.WriteFails j (MemberPart.BitmapSector b) ∷ es) e is r after rest = (r.0, after_last Part.Marks k es e is r.1 after rest)
+after_last part k (Event.WriteFails j MemberPart.Superblock ∷ es) e is r after rest = (r.0, after_last Part.Marks k es e is r.1 after rest)
+after_last part k (Event.WriteFails j (MemberPart.RequestData n) ∷ es) e is r after rest = after_last Part.Marks k es e is r after rest
 after_last part k (x ∷ es) e is r after rest = absurd r
 
 pub fails_leave : (a b : Part) (k : ℕ) (es : List Event) → LeavesAt a b es → FailsAtLast k es → LeavesAt a Part.Marks es

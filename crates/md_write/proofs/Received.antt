@@ -6,7 +6,7 @@ use Rattle.md_model.specs.Devices.{Stored}
 use Rattle.md_model.specs.Worlds.{Request, touches, World, IsInSync, IsInFlight}
 use Rattle.md_model.specs.Steps.{begun, finished, marked_device, marks_stored, member_written, recorded, recorded_device, written_device, MayFinish}
 use Rattle.md_model.specs.Failures.{failed}
-use Rattle.md_model.specs.Events.{Event, Step}
+use Rattle.md_model.specs.Events.{Event, MemberPart, Step}
 use Rattle.md_model.proofs.Cases.{some-injective}
 use Rattle.md_model.proofs.Puts.{by_same, put-at, put-hit, put-miss}
 use Rattle.md_write.specs.Progress.{IsEventOf}
@@ -99,21 +99,21 @@ module _ (n : ℕ) (p : Request) (first w : World) (is : IsReceiving n p first w
       let may = step.1.1 in
       subst (IsReceiving n p first) (sym (step.1.2 ∙ ap (λ (i : ℕ). member_written w i step.1.0 k) of))
       (receives_data step.1.0 k (ap w.request (sym of) ∙ may.in_flight) may.in_sync)
-  receives_step g low high (Event.RecordFails k) u of step =
+  receives_step g low high (Event.WriteFails k MemberPart.Superblock) u of step =
       let left = step.1.0 in
       subst (IsReceiving n p first) (sym step.1.2.3)
       (receives_failure g k left step.1.2.0 (λ s out. ap (λ (x : Stored). x.content s) step.1.1.rest))
-  receives_step g low high (Event.StoreMarksFails k b) u of step =
+  receives_step g low high (Event.WriteFails k (MemberPart.BitmapSector b)) u of step =
       let left = step.1.0 in
-      subst (IsReceiving n p first) (sym step.1.3.3)
-      (receives_failure g k left step.1.3.0 (λ s out. ap (λ (x : Stored). x.content s) step.1.2.rest))
-  receives_step g low high (Event.WriteMemberFails m k) u of step =
+      subst (IsReceiving n p first) (sym step.1.2.3)
+      (receives_failure g k left step.1.2.0 (λ s out. ap (λ (x : Stored). x.content s) step.1.1.1.rest))
+  receives_step g low high (Event.WriteFails k (MemberPart.RequestData m)) u of step =
       let left = step.1.0 in
-      let q = step.1.1 in
-      let may = step.1.2 in
+      let q = step.1.1.0 in
+      let may = step.1.1.1 in
       let e = is.request q (ap w.request (sym of) ∙ may.in_flight) in
-      subst (IsReceiving n p first) (sym step.1.4.3)
-      (receives_failure g k left step.1.4.0 (λ s out. step.1.3.outside s (same_touch q e s ∙ out)))
+      subst (IsReceiving n p first) (sym step.1.2.3)
+      (receives_failure g k left step.1.2.0 (λ s out. step.1.1.2.outside s (same_touch q e s ∙ out)))
   receives_step g low high e u of step = absurd of
 
   -- it is finished

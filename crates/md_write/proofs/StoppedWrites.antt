@@ -3,7 +3,7 @@ use Rattle.std.proofs.Common.{◌≡◌, ◌∙◌, inl, inr, ℕ, ◌%◌, Bool
 use Rattle.std.proofs.lemmas.List.{append-nil}
 use Rattle.std.proofs.lemmas.Option.{none-some}
 use Rattle.md_inflight.specs.Inflight.{lookup}
-use Rattle.md_model.specs.Events.{Event}
+use Rattle.md_model.specs.Events.{Event, MemberPart}
 use Rattle.md_requests.specs.Pending.{PendingView}
 use Rattle.md_state.specs.Beginning.{Begins}
 use Rattle.md_state.specs.Requests.{AreInFlight, among, request_of}
@@ -26,11 +26,11 @@ record WritesAlone (n : ℕ) (es : List Event) : Type 0 where
 
 written_alone : (n first end : ℕ) (e : Event) (es : List Event) → IsEventOf n first end e → WritesAlone n es → WritesAlone n (e ∷ es)
 written_alone n first end (Event.WriteMember m k) es of rest = record { alone = λ j w. elim w [ inl here ↦ sym here ∙ of | inr later ↦ rest.alone j later ]; begun = (tt, rest.begun) }
-written_alone n first end (Event.WriteMemberFails m k) es of rest = record { alone = λ j w. elim w [ inl here ↦ sym here ∙ of | inr later ↦ rest.alone j later ]; begun = (tt, rest.begun) }
+written_alone n first end (Event.WriteFails k (MemberPart.RequestData m)) es of rest = record { alone = λ j w. elim w [ inl here ↦ sym here ∙ of | inr later ↦ rest.alone j later ]; begun = (tt, rest.begun) }
 written_alone n first end (Event.Record k) es of rest = record { alone = rest.alone; begun = (tt, rest.begun) }
-written_alone n first end (Event.RecordFails k) es of rest = record { alone = rest.alone; begun = (tt, rest.begun) }
+written_alone n first end (Event.WriteFails k MemberPart.Superblock) es of rest = record { alone = rest.alone; begun = (tt, rest.begun) }
 written_alone n first end (Event.StoreMarks k b) es of rest = record { alone = rest.alone; begun = (tt, rest.begun) }
-written_alone n first end (Event.StoreMarksFails k b) es of rest = record { alone = rest.alone; begun = (tt, rest.begun) }
+written_alone n first end (Event.WriteFails k (MemberPart.BitmapSector b)) es of rest = record { alone = rest.alone; begun = (tt, rest.begun) }
 written_alone n first end e es of rest = absurd of
 
 all_alone : (n first end : ℕ) (es more : List Event) → AllOf (IsEventOf n first end) es → WritesAlone n more → WritesAlone n (es ++ more)
@@ -90,7 +90,7 @@ stops_halting_write before m start events rest final t life sector bytes new who
 -- no request is written or begun
 none_of : (e : Event) (es : List Event) → IsStopping e → ((n : ℕ) → IsWrittenBy n es → ⊥) → (n : ℕ) → IsWrittenBy n (e ∷ es) → ⊥
 none_of (Event.WriteMember m k) es of rest n writes = absurd of
-none_of (Event.WriteMemberFails m k) es of rest n writes = absurd of
+none_of (Event.WriteFails k (MemberPart.RequestData m)) es of rest n writes = absurd of
 none_of e es of rest n writes = rest n writes
 
 none_written : (es : List Event) → AllOf IsStopping es → (n : ℕ) → IsWrittenBy n es → ⊥
@@ -111,13 +111,13 @@ stops_in_stop before m start events rest final t life mid g in_flight left stop 
 storing_stops : (clears : Bool) (e : Event) → IsStoringIf clears e → IsStopping e
 storing_stops true (Event.Record k) of = tt
 storing_stops true (Event.StoreMarks k b) of = tt
-storing_stops true (Event.RecordFails k) of = tt
-storing_stops true (Event.StoreMarksFails k b) of = tt
+storing_stops true (Event.WriteFails k MemberPart.Superblock) of = tt
+storing_stops true (Event.WriteFails k (MemberPart.BitmapSector b)) of = tt
 storing_stops true e of = absurd of
 storing_stops false (Event.Record k) of = tt
 storing_stops false (Event.StoreMarks k b) of = tt
-storing_stops false (Event.RecordFails k) of = tt
-storing_stops false (Event.StoreMarksFails k b) of = tt
+storing_stops false (Event.WriteFails k MemberPart.Superblock) of = tt
+storing_stops false (Event.WriteFails k (MemberPart.BitmapSector b)) of = tt
 storing_stops false e of = absurd of
 
 pub stops_halting_stop : StopsHaltingStop

@@ -1,7 +1,7 @@
 -- Marks of some chunks are stored sector by sector.
 use Rattle.std.proofs.Common.{◌≡◌, ℕ, ◌+◌, ◌-◌, ◌<◌, ◌≤◌, Bool, true, false, cond, eqb, nat_lt, ◌&&◌, ◌↔◌, refl, sym, ap, ◌∙◌, subst, arith, eq-eqb, inl}
 use Rattle.std.specs.Prelude.{Result, Ok, Err, MatchResult}
-use Rattle.md_model.specs.Events.{Event}
+use Rattle.md_model.specs.Events.{Event, MemberPart}
 use Rattle.md_model.specs.Sectors.{block_of}
 use Rattle.md_model.proofs.Cases.{below-nat_lt}
 use Rattle.md_model.proofs.Puts.{by_same}
@@ -68,7 +68,7 @@ module _ (k first end : ℕ) where
 -- ---- one sector of one member
 sector_marks : (k first end block : ℕ) → HasBitsOf first end block → (e : Event) → IsSector k block e → IsMarkingOf first end e
 sector_marks k first end block bits (Event.StoreMarks j b) is = subst (HasBitsOf first end) (sym is.1) bits
-sector_marks k first end block bits (Event.StoreMarksFails j b) is = subst (HasBitsOf first end) (sym is.1) bits
+sector_marks k first end block bits (Event.WriteFails j (MemberPart.BitmapSector b)) is = subst (HasBitsOf first end) (sym is.1) bits
 sector_marks k first end block bits e is = absurd is
 
 hit : (b x y : Bool) → b ≡ true → x ≡ true → cond b x y ≡ true

@@ -62,9 +62,7 @@ becomes_same : (n low high : ℕ) (e : Event) → IsEventOf n low high e → (g 
 becomes_same n low high (Event.Record k) of g w a = refl
 becomes_same n low high (Event.StoreMarks k b) of g w a = refl
 becomes_same n low high (Event.WriteMember m k) of g w a = refl
-becomes_same n low high (Event.RecordFails k) of g w a = refl
-becomes_same n low high (Event.StoreMarksFails k b) of g w a = refl
-becomes_same n low high (Event.WriteMemberFails m k) of g w a = refl
+becomes_same n low high (Event.WriteFails k part) of g w a = refl
 becomes_same n low high e of g w a = absurd of
 
 on_step : (g : Geometry) (n low high : ℕ) (r : Request) (first : World) (o : MirrorView) (s : Requests) (e : Event) (m : MirrorView) (y : Requests) → IsEventOf n low high e → Does o s e m y

@@ -4,7 +4,7 @@ use Rattle.std.specs.List.{list_any}
 use Rattle.std.specs.Prelude.{Result, Ok, Err, MatchResult}
 use Rattle.std.proofs.lemmas.Bool.{or_right}
 use Rattle.std.proofs.lemmas.Option.{same_Some, slice_get_within}
-use Rattle.md_model.specs.Events.{Event}
+use Rattle.md_model.specs.Events.{Event, MemberPart}
 use Rattle.md_model.specs.Sectors.{block_of}
 use Rattle.md_model.proofs.Puts.{by_same, put-hit, put-miss}
 use Rattle.md_bitmap.specs.declared.chunks.Chunks.{Chunks}
@@ -101,14 +101,14 @@ module _ (old new : MirrorView) (k : ℕ) (p q : PendingView) (before : IsConsis
     later_of : q ≡ p → IsLater p q
     later_of e = subst (IsLater p) (sym e) (later_refl p)
 
-    pub data_fails : (j : ℕ) → RefusesWriteMember k old new p q (MemberFailed j) → HappensAmong old p (Event.WriteMemberFails n k) new q → LosesOn Part.Bytes p q old new
+    pub data_fails : (j : ℕ) → RefusesWriteMember k old new p q (MemberFailed j) → HappensAmong old p (Event.WriteFails k (MemberPart.RequestData n)) new q → LosesOn Part.Bytes p q old new
     data_fails j r happens =
         let f = r.1 in
         let used = in_use_there old.array k f.member f.fails.array.member f.fails.array.at f.may.intent.in_sync.member (in_sync_recorded f.member.state f.may.intent.in_sync.in_sync) in
         let number : q.ticket.number ≡ n = ap (λ (x : PendingView). x.ticket.number) f.pending in
         record {
-          advances = steps_once Part.Bytes Part.Marks p q (Event.WriteMemberFails n k) old new
-              (failure_step (among p) (among q) (IsOfRequest old.array.chunks p) (Event.WriteMemberFails n k) old new k f.fails.array used refl
+          advances = steps_once Part.Bytes Part.Marks p q (Event.WriteFails k (MemberPart.RequestData n)) old new
+              (failure_step (among p) (among q) (IsOfRequest old.array.chunks p) (Event.WriteFails k (MemberPart.RequestData n)) old new k f.fails.array used refl
               (λ others. (p, q, under n p others refl, under n q others number, put_under n q (among p others) others number (beside p others), f))
               (λ honest whole others in_flight. happens honest others in_flight) sound pending) (λ previous. tt) (λ after rest. rest) (later_of f.pending);
           lost = fewer_after old.array new.array k f.fails.array used;
@@ -124,13 +124,13 @@ module _ (old new : MirrorView) (k : ℕ) (p q : PendingView) (before : IsConsis
           halts = record {
             mid = old;
             goes = none.goes;
-            failing = Event.WriteMemberFails n k;
+            failing = Event.WriteFails k (MemberPart.RequestData n);
             of = refl;
             halts = λ others. (p, q, subst (λ (x : PendingView). IsUnder n p (among x others)) (sym h.pending) (under n p others refl), h);
             sound = sound;
             pending = pending;
           };
-          rounds = none.rounds (Event.WriteMemberFails n k ∷ []) tt;
+          rounds = none.rounds (Event.WriteFails k (MemberPart.RequestData n) ∷ []) tt;
           later = none.later;
         }
 
@@ -200,14 +200,14 @@ written_all k p q old new last g = record {
 -- ---- all parts
 marking_is : (chunks : Chunks) (p : PendingView) (first end : ℕ) → first ≡ first_chunk chunks p → end ≡ end_chunk chunks p → (e : Event) → IsMarkingOf first end e → IsOfRequest chunks p e
 marking_is chunks p first end low high (Event.StoreMarks k b) is = inr (subst (λ (c : ℕ). block_of c ≤ b) low is.0, subst (λ (c : ℕ). b ≤ block_of (c - 1)) high is.1)
-marking_is chunks p first end low high (Event.StoreMarksFails k b) is = inr (subst (λ (c : ℕ). block_of c ≤ b) low is.0, subst (λ (c : ℕ). b ≤ block_of (c - 1)) high is.1)
+marking_is chunks p first end low high (Event.WriteFails k (MemberPart.BitmapSector b)) is = inr (subst (λ (c : ℕ). block_of c ≤ b) low is.0, subst (λ (c : ℕ). b ≤ block_of (c - 1)) high is.1)
 marking_is chunks p first end low high e is = absurd is
 
 recording_is : (chunks : Chunks) (p : PendingView) (e : Event) → IsRecording e → IsOfRequest chunks p e
 recording_is chunks p (Event.Record k) is = tt
 recording_is chunks p (Event.StoreMarks k b) is = inl is
-recording_is chunks p (Event.RecordFails k) is = tt
-recording_is chunks p (Event.StoreMarksFails k b) is = inl is
+recording_is chunks p (Event.WriteFails k MemberPart.Superblock) is = tt
+recording_is chunks p (Event.WriteFails k (MemberPart.BitmapSector b)) is = inl is
 recording_is chunks p e is = absurd is
 
 module _ (p : PendingView) (first end : ℕ) (a : MirrorView) (chunks : AreChunksOf a.array p first end) where

@@ -1,7 +1,7 @@
 -- What the parts of a write have in common: they go on by events of the request, and come to their end or lose a member.
 use Rattle.std.specs.Prelude.{◌≡◌, ◌⊎◌, ℕ, ◌+◌, ◌-◌, ◌/◌, ◌<◌, ◌≤◌, true, List, [], ◌∷◌, ◌++◌}
 use Rattle.md_model.specs.Sectors.{block_of}
-use Rattle.md_model.specs.Events.{Event}
+use Rattle.md_model.specs.Events.{Event, MemberPart}
 use Rattle.md_bitmap.specs.Marks.{is_set}
 use Rattle.md_bitmap.specs.declared.chunks.Chunks.{Chunks}
 use Rattle.md_requests.specs.Pending.{PendingView, has_written, request_sectors}
@@ -23,7 +23,7 @@ HasBitsOf first end block = (block_of first ≤ block) × (block ≤ block_of (e
 -- marks of these chunks are stored
 abbrev pub IsMarkingOf : ℕ → ℕ → Event → Type 0
 IsMarkingOf first end (Event.StoreMarks k b) = HasBitsOf first end b
-IsMarkingOf first end (Event.StoreMarksFails k b) = HasBitsOf first end b
+IsMarkingOf first end (Event.WriteFails k (MemberPart.BitmapSector b)) = HasBitsOf first end b
 IsMarkingOf first end e = ⊥
 
 -- Of the request of this number, with these chunks, between its begin and its end: of a bitmap only those sectors are stored that have
@@ -32,9 +32,9 @@ abbrev pub IsEventOf : ℕ → ℕ → ℕ → Event → Type 0
 IsEventOf n first end (Event.Record k) = Unit {0}
 IsEventOf n first end (Event.StoreMarks k b) = (b ≡ 0) ⊎ HasBitsOf first end b
 IsEventOf n first end (Event.WriteMember m k) = m ≡ n
-IsEventOf n first end (Event.RecordFails k) = Unit {0}
-IsEventOf n first end (Event.StoreMarksFails k b) = (b ≡ 0) ⊎ HasBitsOf first end b
-IsEventOf n first end (Event.WriteMemberFails m k) = m ≡ n
+IsEventOf n first end (Event.WriteFails k MemberPart.Superblock) = Unit {0}
+IsEventOf n first end (Event.WriteFails k (MemberPart.BitmapSector b)) = (b ≡ 0) ⊎ HasBitsOf first end b
+IsEventOf n first end (Event.WriteFails k (MemberPart.RequestData m)) = m ≡ n
 IsEventOf n first end e = ⊥
 
 -- the chunk that has the request's first sector, and the one past that of its last
@@ -66,9 +66,9 @@ InRounds part [] = Unit {0}
 InRounds part (Event.StoreMarks k b ∷ es) = ((part ≡ Part.Marks) × InRounds Part.Marks es) ⊎ ((b ≡ 0) × IsBeforeBytes part × InRounds Part.Records es)
 InRounds part (Event.Record k ∷ es) = IsBeforeBytes part × InRounds Part.Records es
 InRounds part (Event.WriteMember n k ∷ es) = InRounds Part.Bytes es
-InRounds part (Event.StoreMarksFails k b ∷ es) = ((part ≡ Part.Marks) ⊎ ((b ≡ 0) × IsBeforeBytes part)) × InRounds Part.Marks es
-InRounds part (Event.RecordFails k ∷ es) = IsBeforeBytes part × InRounds Part.Marks es
-InRounds part (Event.WriteMemberFails n k ∷ es) = InRounds Part.Marks es
+InRounds part (Event.WriteFails k (MemberPart.BitmapSector b) ∷ es) = ((part ≡ Part.Marks) ⊎ ((b ≡ 0) × IsBeforeBytes part)) × InRounds Part.Marks es
+InRounds part (Event.WriteFails k MemberPart.Superblock ∷ es) = IsBeforeBytes part × InRounds Part.Marks es
+InRounds part (Event.WriteFails k (MemberPart.RequestData n) ∷ es) = InRounds Part.Marks es
 InRounds part (e ∷ es) = ⊥
 
 -- these events, and then any that are in rounds from that part on, are in rounds from this one on

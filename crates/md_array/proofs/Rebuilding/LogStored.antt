@@ -17,7 +17,7 @@ use Rattle.md_kept_members.specs.Enrolling.{HasRoomFor, log_room, logged_superbl
 use Rattle.md_kept_members.specs.View.{MemberView}
 use Rattle.md_members.specs.Areas.{BitmapIsPlaced, IsPlaced, LogIsPlaced, log_area}
 use Rattle.md_model.specs.Devices.{Stored}
-use Rattle.md_model.specs.Events.{Event, Step}
+use Rattle.md_model.specs.Events.{Event, MemberPart, Step}
 use Rattle.md_model.specs.Failures.{LeftByLog}
 use Rattle.md_model.specs.Listing.{log_stored}
 use Rattle.md_model.specs.Sectors.{put}
@@ -371,11 +371,11 @@ module _ (k : ℕ) (old new : MirrorView) (c : IsConsistent old) (f : FailsToSto
         super = inl (super_is ∙ sym (ap (λ (s : Stored). s.super) was));
       }
 
-  pub store_log_fails_happens : Happens old (Event.StoreLogFails k) new
+  pub store_log_fails_happens : Happens old (Event.WriteFails k MemberPart.Log) new
   store_log_fails_happens honest requests in_flight =
       let t = there_is old k x u new.disks c x_at f.fails.disks.tried in
-      does_failing k u old new c f.fails x x_at requests (Event.StoreLogFails k) honest (u, f.fails.disks) in_flight
-      (f.running, (left k u old new c f.fails x x_at requests, in_sync_there old.disks v requests k x f.in_sync, left_by_log requests t, member_fails k u old new c f.fails x x_at requests (in_sync_recorded x.state f.in_sync.in_sync)))
+      does_failing k u old new c f.fails x x_at requests (Event.WriteFails k MemberPart.Log) honest (u, f.fails.disks) in_flight
+      (f.running, (left k u old new c f.fails x x_at requests, (in_sync_there old.disks v requests k x f.in_sync, left_by_log requests t), member_fails k u old new c f.fails x x_at requests (in_sync_recorded x.state f.in_sync.in_sync)))
       tt (λ _. refl) (λ _. refl)
       (λ d e was is. own_beside v x d.content e.content (block_beside_log v x d.content e.content (parts_of old c k d x was x_at) has_log (beside_log d e was is)) x.superblock refl refl refl refl refl)
 
@@ -393,7 +393,7 @@ module _ (k : ℕ) (old new : MirrorView) (c : IsConsistent old) where
   log_refused_is_pending NotActive r p = absurd r
   log_refused_is_pending (MemberFailed j) r p = failed_is_pending k old.array new.array p r.1.fails.array
 
-  pub log_refused_happens : (f : StoreFault) → RefusesLog k old new f → IfLogFailed (Happens old (Event.StoreLogFails k) new) f
+  pub log_refused_happens : (f : StoreFault) → RefusesLog k old new f → IfLogFailed (Happens old (Event.WriteFails k MemberPart.Log) new) f
   log_refused_happens Halted r = tt
   log_refused_happens NotActive r = tt
   log_refused_happens (MemberFailed j) r = store_log_fails_happens k old new c r.1

@@ -4,7 +4,7 @@ use Rattle.md_device.specs.Splice.{SameOutside}
 use Rattle.md_model.specs.Devices.{Stored}
 use Rattle.md_model.specs.Worlds.{Request}
 use Rattle.md_model.specs.Failures.{LeftByData}
-use Rattle.md_model.specs.Events.{Event}
+use Rattle.md_model.specs.Events.{Event, MemberPart}
 use Rattle.md_device_writes.specs.Writes.{Write}
 use Rattle.md_requests.specs.Pending.{PendingView, request_sectors}
 use Rattle.md_kept_members.specs.View.{MemberView}
@@ -55,15 +55,15 @@ module _ (k : ℕ) (old new : MirrorView) (p q : PendingView) (c : IsConsistent 
       }
 
   -- the request is as it was
-  pub write_member_fails_happens : HappensAmong old p (Event.WriteMemberFails p.ticket.number k) new q
+  pub write_member_fails_happens : HappensAmong old p (Event.WriteFails k (MemberPart.RequestData p.ticket.number)) new q
   write_member_fails_happens honest others in_flight =
       let requests = among p others in
-      let e = Event.WriteMemberFails p.ticket.number k in
+      let e = Event.WriteFails k (MemberPart.RequestData p.ticket.number) in
       let t = there_is old k m w new.disks c at f.fails.disks.tried in
       let fails = member_fails k w old new c f.fails m at requests (in_sync_recorded m.state f.may.intent.in_sync.in_sync) in
       subst (λ (x : PendingView). Does old requests e new (among x others)) (sym f.pending)
       (does_failing k w old new c f.fails m at requests e honest (w, f.fails.disks) (among_in_flight a p pending others in_flight)
-      (f.may.intent.running, (left k w old new c f.fails m at requests, request_of p, may_write k old p c pending m f.may others, left_by_data others t, fails))
+      (f.may.intent.running, (left k w old new c f.fails m at requests, (request_of p, may_write k old p c pending m f.may others, left_by_data others t), fails))
       tt (λ _. refl) (λ _. refl)
       (λ d e was is.
       let parts = parts_of old c k d m was at in

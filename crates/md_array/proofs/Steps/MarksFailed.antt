@@ -6,7 +6,7 @@ use Rattle.md_members.specs.Areas.{bitmap_sectors}
 use Rattle.md_model.specs.Devices.{Stored}
 use Rattle.md_model.specs.Worlds.{Request}
 use Rattle.md_model.specs.Failures.{LeftByMarks}
-use Rattle.md_model.specs.Events.{Event}
+use Rattle.md_model.specs.Events.{Event, MemberPart}
 use Rattle.md_device_writes.specs.Writes.{Write}
 use Rattle.md_kept_members.specs.View.{MemberView}
 use Rattle.md_state.specs.View.{ArrayView, Disk, MirrorView}
@@ -68,11 +68,11 @@ module _ (k block : ℕ) (old new : MirrorView) (c : IsConsistent old) (f : Fail
         );
       }
 
-  pub store_marks_fails_happens : Happens old (Event.StoreMarksFails k block) new
+  pub store_marks_fails_happens : Happens old (Event.WriteFails k (MemberPart.BitmapSector block)) new
   store_marks_fails_happens honest requests in_flight =
       let t = there_is old k m w new.disks c at f.fails.disks.tried in
-      does_failing k w old new c f.fails m at requests (Event.StoreMarksFails k block) honest (w, f.fails.disks) in_flight
-      (f.may.running, (left k w old new c f.fails m at requests, in_sync_there old.disks a requests k m f.may.in_sync, left_by_marks requests t, member_fails k w old new c f.fails m at requests (in_sync_recorded m.state f.may.in_sync.in_sync)))
+      does_failing k w old new c f.fails m at requests (Event.WriteFails k (MemberPart.BitmapSector block)) honest (w, f.fails.disks) in_flight
+      (f.may.running, (left k w old new c f.fails m at requests, (in_sync_there old.disks a requests k m f.may.in_sync, left_by_marks requests t), member_fails k w old new c f.fails m at requests (in_sync_recorded m.state f.may.in_sync.in_sync)))
       tt (λ _. refl) (λ _. refl)
       (λ d e was is.
       let parts = parts_of old c k d m was at in

@@ -2,7 +2,7 @@
 -- that is the model's event.
 use Rattle.std.proofs.Common.{◌<◌, ℕ, inl, inr, sym, subst}
 use Rattle.md_members.specs.Areas.{bitmap_sectors}
-use Rattle.md_model.specs.Events.{Event}
+use Rattle.md_model.specs.Events.{Event, MemberPart}
 use Rattle.md_requests.specs.Pending.{PendingView}
 use Rattle.md_faults.specs.declared.step_fault.StoreFault.{StoreFault}
 use Rattle.md_faults.specs.declared.step_fault.StoreFault.TheVariants.{Halted, NotActive, MemberFailed}
@@ -56,7 +56,7 @@ module _ (k : ℕ) (old new : MirrorView) (c : IsConsistent old) where
     marks_refused_is_pending (MemberFailed j) r p = failed_is_pending k old.array new.array p r.1.fails.array
 
     pub marks_refused_happens : block < bitmap_sectors old.array.marks.chunks → (f : StoreFault) → RefusesMarkSector k block old new f
-        → IfStoringFailed (Happens old (Event.StoreMarksFails k block) new) f
+        → IfStoringFailed (Happens old (Event.WriteFails k (MemberPart.BitmapSector block)) new) f
     marks_refused_happens low Halted r = tt
     marks_refused_happens low NotActive r = tt
     marks_refused_happens low (MemberFailed j) r = store_marks_fails_happens k block old new c r.1 low

@@ -9,7 +9,7 @@ use Rattle.md_assembly.specs.States.{is_in_sync}
 use Rattle.md_model.specs.Devices.{Stored}
 use Rattle.md_model.specs.Worlds.{Request}
 use Rattle.md_model.specs.Failures.{LeftBySuper}
-use Rattle.md_model.specs.Events.{Event}
+use Rattle.md_model.specs.Events.{Event, MemberPart}
 use Rattle.md_model.proofs.Cases.{none_some}
 use Rattle.md_device_writes.specs.Writes.{Write}
 use Rattle.md_kept_members.specs.View.{MemberView}
@@ -118,7 +118,7 @@ module _ (k : ℕ) (old new : MirrorView) (c : IsConsistent old) (f : FailsToRec
       let same : n ≡ m = same_Some n m (sym at ∙ f.may.at) in
       let whole = subst (λ (x : MemberView). IsOldNewOrNone (super_write a x).bytes t.old t.new) same (leaves t.old t.new t.was t.is) in
       let by_super = left_by_super requests t (honest k t.old t.was) whole in
-      does_failing k w old new c f.fails m f.may.at requests (Event.RecordFails k) honest (super_write a m, f.fails.disks) in_flight
+      does_failing k w old new c f.fails m f.may.at requests (Event.WriteFails k MemberPart.Superblock) honest (super_write a m, f.fails.disks) in_flight
       (f.may.running, (left k w old new c f.fails m f.may.at requests, by_super, member_fails k w old new c f.fails m f.may.at requests f.may.active))
       tt (λ _. refl) (λ _. refl)
       (λ d e was is. own_left d e was is (subst (λ (x : MemberView). IsOldNewOrNone (super_write a x).bytes d e) same (leaves d e was is)))

@@ -6,7 +6,7 @@ use Rattle.md_faults.specs.declared.step_fault.FinishFault.{FinishFault}
 use Rattle.md_faults.specs.declared.step_fault.FinishFault.TheVariants as finish
 use Rattle.md_faults.specs.declared.step_fault.WriteMemberFault.{WriteMemberFault}
 use Rattle.md_faults.specs.declared.step_fault.WriteMemberFault.TheVariants.{Halted, NotActive, NotMarked, NotRecorded, AlreadyWritten, MemberFailed}
-use Rattle.md_model.specs.Events.{Event}
+use Rattle.md_model.specs.Events.{Event, MemberPart}
 use Rattle.md_state.specs.View.{MirrorView}
 use Rattle.md_state.specs.Finishing.{Finishes, RefusesFinish}
 use Rattle.md_state.specs.Requests.{IsPending}
@@ -25,7 +25,7 @@ module _ (k : ℕ) (old new : MirrorView) (p q : PendingView) (c : IsConsistent 
   still_pending : q ≡ p → IsPending new.array p → IsPending new.array q
   still_pending same = subst (IsPending new.array) (sym same)
 
-  pub refused_write_event : (f : WriteMemberFault) → Refusing f → IfWritingFailed (HappensAmong old p (Event.WriteMemberFails p.ticket.number k) new q) f
+  pub refused_write_event : (f : WriteMemberFault) → Refusing f → IfWritingFailed (HappensAmong old p (Event.WriteFails k (MemberPart.RequestData p.ticket.number)) new q) f
   refused_write_event Halted r = tt
   refused_write_event NotActive r = tt
   refused_write_event (NotMarked j) r = tt

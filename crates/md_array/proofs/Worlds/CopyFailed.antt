@@ -3,7 +3,7 @@ use Rattle.std.proofs.Common.{◌≡◌, ◌≢◌, ℕ, ◌+◌, ◌*◌, ◌/�
 use Rattle.std.proofs.lemmas.Bool.{cases_lt}
 use Rattle.md_device.specs.Splice.{SameOutside}
 use Rattle.md_model.specs.Devices.{Stored}
-use Rattle.md_model.specs.Events.{Event}
+use Rattle.md_model.specs.Events.{Event, MemberPart}
 use Rattle.md_model.specs.Failures.{LeftByCopy}
 use Rattle.md_model.specs.Resyncing.{MayCopyChunk}
 use Rattle.md_model.specs.Worlds.{Request}
@@ -72,15 +72,15 @@ module _ (k chunk : ℕ) (old new : MirrorView) (c : IsConsistent old) (f : Fail
             ∙ sym (ap (λ (x : Stored). x.content s) was);
       }
 
-  pub copy_fails_happens : Happens old (Event.CopyFails k chunk) new
+  pub copy_fails_happens : Happens old (Event.WriteFails k (MemberPart.CopiedChunk chunk)) new
   copy_fails_happens honest requests in_flight =
-      let e = Event.CopyFails k chunk in
+      let e = Event.WriteFails k (MemberPart.CopiedChunk chunk) in
       let t = there_is old k m w new.disks c at f.fails.disks.tried in
       let fails = member_fails k w old new c f.fails m at requests (in_sync_recorded m.state f.copy.may.in_sync.in_sync) in
       let may = may_copy_chunk old c honest requests in_flight f.copy.may.chunk f.copy.may.may in
       let chunk_may = subst (MayCopyChunk (world_of old requests)) f.in_chunk may in
       does_failing k w old new c f.fails m at requests e honest (w, f.fails.disks) in_flight
-      (f.copy.may.may.idle.running, (left k w old new c f.fails m at requests, in_sync_there old.disks a requests k m f.copy.may.in_sync, chunk_may, left_by_copy requests t, fails))
+      (f.copy.may.may.idle.running, (left k w old new c f.fails m at requests, (in_sync_there old.disks a requests k m f.copy.may.in_sync, chunk_may, left_by_copy requests t), fails))
       tt (λ _. refl) (λ _. refl)
       (λ d e was is.
       let parts = parts_of old c k d m was at in
@@ -99,7 +99,7 @@ module _ (k chunk : ℕ) (old new : MirrorView) (c : IsConsistent old) where
   refused_copy_pending Halted h p = halted_is_pending k old.array new.array p h.halts.array
   refused_copy_pending (MemberFailed j) r p = failed_is_pending k old.array new.array p r.1.fails.array
 
-  pub refused_copy_event : (f : CopyFault) → RefusesCopy k chunk old new f → IfCopyingFailed (Happens old (Event.CopyFails k chunk) new) f
+  pub refused_copy_event : (f : CopyFault) → RefusesCopy k chunk old new f → IfCopyingFailed (Happens old (Event.WriteFails k (MemberPart.CopiedChunk chunk)) new) f
   refused_copy_event Halted h = tt
   refused_copy_event (MemberFailed j) r = copy_fails_happens k chunk old new c r.1
 

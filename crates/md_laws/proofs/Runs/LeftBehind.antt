@@ -5,7 +5,7 @@ use Rattle.md_model.specs.Behind.{IsBehind, IsDegraded, Leaves}
 use Rattle.md_model.specs.Content.{Content, Becomes, BecomesAtOpening, Holds}
 use Rattle.md_model.specs.Counts.{IsFull}
 use Rattle.md_model.specs.Devices.{Stored, Super}
-use Rattle.md_model.specs.Events.{Event, Step}
+use Rattle.md_model.specs.Events.{Event, MemberPart, Step}
 use Rattle.md_model.specs.Openings.{IsWithinLimits}
 use Rattle.md_model.specs.Lives.{Reopens}
 use Rattle.md_model.specs.Runs as runs
@@ -197,10 +197,7 @@ behind_life g small d opened t a es (more ∷ rest) final last b chunks is life 
 -- a failure changes nothing of the content, nor whose superblock is spoiled
 same_content : (g : Geometry) (w : World) (a : Content) (k : ℕ) (e : Event) → Leaves e k → Becomes g e w a a × ((spoiled : ℕ → Bool) → spoiled_after e w spoiled ≡ spoiled)
 same_content g w a k (Event.Fail j) it = (refl, λ _. refl)
-same_content g w a k (Event.RecordFails j) it = (refl, λ _. refl)
-same_content g w a k (Event.StoreMarksFails j b) it = (refl, λ _. refl)
-same_content g w a k (Event.WriteMemberFails n j) it = (refl, λ _. refl)
-same_content g w a k (Event.CopyFails j c) it = (refl, λ _. refl)
+same_content g w a k (Event.WriteFails j part) it = (refl, λ _. refl)
 same_content g w a k (Event.Begin n p) it = absurd it
 same_content g w a k (Event.Record j) it = absurd it
 same_content g w a k (Event.StoreMarks j b) it = absurd it
@@ -223,7 +220,6 @@ same_content g w a k (Event.Admit j role listed) it = absurd it
 same_content g w a k (Event.Checkpoint j offset listed) it = absurd it
 same_content g w a k (Event.NoteBad j c) it = absurd it
 same_content g w a k (Event.StoreLog j listed) it = absurd it
-same_content g w a k (Event.StoreLogFails j) it = absurd it
 
 pub failed_behind : (before : List Disk) (m : MirrorView) (a : Content) → IsStart before m → Holds (geometry_of m.array) a (world_of m none_in_flight)
     → (es : List Event) (rest : List (List Event)) (final : MirrorView) (t : Moment) (b : Content) → MirrorLifeWith m a es rest final t b
@@ -283,7 +279,7 @@ module _ (before : List Disk) (m : MirrorView) (a : Content) (start : IsStart be
   log_on = in_sync_there t.mirror.disks t.mirror.array t.requests k f.member f.in_sync
 
   pub log_held : IsHeldAt log_g log_opened (log_failed_then t k f) b
-  log_held = held_then log_g (starts_small before m start) log_opened t b log_is (Event.StoreLogFails k) f.mirror f.requests f.does b refl
+  log_held = held_then log_g (starts_small before m start) log_opened t b log_is (Event.WriteFails k MemberPart.Log) f.mirror f.requests f.does b refl
 
   pub log_clear : t.spoiled k ≡ false
   log_clear = sound_in_sync log_g log_opened (history_of t) log_is.held.kept k log_on
@@ -296,12 +292,12 @@ module _ (before : List Disk) (m : MirrorView) (a : Content) (start : IsStart be
       let small = starts_small before m start in
       let w = world_of t.mirror t.requests in
       let now = world_of f.mirror f.requests in
-      let s = (leads_to log_g small log_opened t b log_is (Event.StoreLogFails k) f.mirror f.requests f.does).1 in
-      let left_there : (now.stored k) ≡ s.0 = ap (λ (v : World). v.stored k) s.3.3 ∙ put-hit k s.0 w.stored in
+      let s = (leads_to log_g small log_opened t b log_is (Event.WriteFails k MemberPart.Log) f.mirror f.requests f.does).1 in
+      let left_there : (now.stored k) ≡ s.0 = ap (λ (v : World). v.stored k) s.2.3 ∙ put-hit k s.0 w.stored in
       behind_life log_g small device final (log_failed_then t k f) b more others newest last c (final_geometry before m a start holds es rest final t b life)
       (record {
         held = log_held;
-        behind = behind_log log_g b w log_is.held.kept.tracked log_is.held.holds k log_on s.0 now s.2 s.3 device (λ y low. content y low ∙ ap (λ (d : Stored). d.content y) (left_there ∙ s.2.rest)) listed;
+        behind = behind_log log_g b w log_is.held.kept.tracked log_is.held.holds k log_on s.0 now s.1.1 s.2 device (λ y low. content y low ∙ ap (λ (d : Stored). d.content y) (left_there ∙ s.1.1.rest)) listed;
       })
       degraded
 

@@ -144,10 +144,7 @@ list_step g w u t (Event.WriteMember n k) w' h l = subst (ListsAreIn u) (sym h.2
 list_step g w u t (Event.Finish n) w' h l = subst (ListsAreIn u) (sym h.2) t
 list_step g w u t (Event.ClearIdle c) w' h l = subst (ListsAreIn u) (sym h.1) t
 list_step g w u t (Event.Fail k) w' h l = subst (ListsAreIn u) (sym h.1.3) (when_failed u w t k (w.stored k) g h.1.0)
-list_step g w u t (Event.RecordFails k) w' h l = subst (ListsAreIn u) (sym h.2.3) (when_failed u w t k h.0 g h.2.0)
-list_step g w u t (Event.StoreMarksFails k b) w' h l = subst (ListsAreIn u) (sym h.3.3) (when_failed u w t k h.0 g h.3.0)
-list_step g w u t (Event.WriteMemberFails n k) w' h l = subst (ListsAreIn u) (sym h.4.3) (when_failed u w t k h.0 g h.4.0)
-list_step g w u t (Event.CopyFails k c) w' h l = subst (ListsAreIn u) (sym h.4.3) (when_failed u w t k h.0 g h.4.0)
+list_step g w u t (Event.WriteFails k part) w' h l = subst (ListsAreIn u) (sym h.2.3) (when_failed u w t k h.0 g h.2.0)
 list_step g w u t (Event.Copy from k x) w' h l = subst (ListsAreIn u) (sym h.1) (still u w t k (copied_device w from k x) refl)
 list_step g w u t Event.Resynced w' h l = subst (ListsAreIn u) (sym h.1) t
 list_step g w u t Event.Unresynced w' h l = subst (ListsAreIn u) (sym h.1) t
@@ -165,7 +162,6 @@ list_step g w u t (Event.Checkpoint k offset listed) w' h l =
     subst (ListsAreIn u) (sym h.1) (when_told u w t k (recorded_device (with_offset w k offset) k listed) (subst (ListsStill k w) h.1 l))
 list_step g w u t (Event.NoteBad k c) w' h l = subst (ListsAreIn u) (sym h.1) (when_noted g u w t k c h.0.in_sync)
 list_step g w u t (Event.StoreLog k listed) w' h l = subst (ListsAreIn u) (sym h.2) (when_in_sync u w t k (record (w.stored k) { listed = listed }) h.0)
-list_step g w u t (Event.StoreLogFails k) w' h l = subst (ListsAreIn u) (sym h.3.3) (when_failed u w t k h.0 g h.3.0)
 
 -- ---- over runs, and at stops
 pub lists_run : (es : List Event) (t last : Moment) → MirrorRun t es last → ListsAreIn t.log_unknown (world_of t.mirror t.requests) → ListsAreIn last.log_unknown (world_of last.mirror last.requests)

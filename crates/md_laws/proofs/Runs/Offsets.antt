@@ -14,6 +14,7 @@ use Rattle.md_model.specs.Runs.{spoiled_after}
 use Rattle.md_model.specs.Stops as stops
 use Rattle.md_model.proofs.Cases.{none_some}
 use Rattle.md_model.proofs.Puts.{by_same, put-at, put-hit, put-miss}
+use Rattle.md_model.proofs.Steps.FailedWrites.{super_left}
 use Rattle.md_state.specs.View.{Disk, geometry_of}
 use Rattle.md_array.specs.Worlds.{world_of}
 use Rattle.md_laws.specs.Left.{IsLeft}
@@ -98,10 +99,7 @@ offset_step g w s t (Event.WriteMember n k) w' h = subst (OffsetsIn s) (sym h.2)
 offset_step g w s t (Event.Finish n) w' h = subst (OffsetsIn s) (sym h.2) t
 offset_step g w s t (Event.ClearIdle c) w' h = subst (OffsetsIn s) (sym h.1) t
 offset_step g w s t (Event.Fail k) w' h = subst (OffsetsIn s) (sym h.1.3) (still s w t k (w.stored k) refl)
-offset_step g w s t (Event.RecordFails k) w' h = subst (OffsetsIn s) (sym h.2.3) (by_left s w t k h.0 h.1.super)
-offset_step g w s t (Event.StoreMarksFails k b) w' h = subst (OffsetsIn s) (sym h.3.3) (still s w t k h.0 (ap (λ (d : Stored). d.super) h.2.rest))
-offset_step g w s t (Event.WriteMemberFails n k) w' h = subst (OffsetsIn s) (sym h.4.3) (still s w t k h.0 (ap (λ (d : Stored). d.super) h.3.rest))
-offset_step g w s t (Event.CopyFails k c) w' h = subst (OffsetsIn s) (sym h.4.3) (still s w t k h.0 (ap (λ (d : Stored). d.super) h.3.rest))
+offset_step g w s t (Event.WriteFails k part) w' h = subst (OffsetsIn s) (sym h.2.3) (by_left s w t k h.0 (super_left g w k part h.0 h.1))
 offset_step g w s t (Event.Copy from k x) w' h = subst (OffsetsIn s) (sym h.1) (still s w t k (copied_device w from k x) refl)
 offset_step g w s t Event.Resynced w' h = subst (OffsetsIn s) (sym h.1) t
 offset_step g w s t Event.Unresynced w' h = subst (OffsetsIn s) (sym h.1) t
@@ -127,7 +125,6 @@ offset_step g w s t (Event.Checkpoint k offset listed) w' h = subst (OffsetsIn (
     subst (λ (v : Super). v.offset ≤ offset) (same_Some (super_for (with_offset w k offset) k) own is) (subst (λ (x : ℕ). x ≤ offset) (sym (put-hit k offset w.offset)) least)))
 offset_step g w s t (Event.NoteBad k c) w' h = subst (OffsetsIn s) (sym h.1) t
 offset_step g w s t (Event.StoreLog k listed) w' h = subst (OffsetsIn s) (sym h.2) (still s w t k (record (w.stored k) { listed = listed }) refl)
-offset_step g w s t (Event.StoreLogFails k) w' h = subst (OffsetsIn s) (sym h.3.3) (by_left s w t k h.0 h.2.super)
 
 -- ---- over runs, and at stops
 pub offsets_run : (es : List Event) (t last : Moment) → MirrorRun t es last → OffsetsIn t.spoiled (world_of t.mirror t.requests) → OffsetsIn last.spoiled (world_of last.mirror last.requests)

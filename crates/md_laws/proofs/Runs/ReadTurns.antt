@@ -1,6 +1,6 @@
 -- Lists of events with reads between them, joined and carried along.
 use Rattle.std.proofs.Common.{◌≡◌, List, [], ◌∷◌, ◌++◌, Option, Some, refl}
-use Rattle.md_model.specs.Events.{Event}
+use Rattle.md_model.specs.Events.{Event, MemberPart}
 use Rattle.md_state.specs.Rests.{Rests}
 use Rattle.md_state.specs.View.{MirrorView}
 use Rattle.md_array.specs.InTurn.{AllOf, InTurn, LeftWhole, Requests}
@@ -43,10 +43,9 @@ left_whole (Event.WriteMember n k) old new is = tt
 left_whole (Event.Finish n) old new is = tt
 left_whole (Event.ClearIdle c) old new is = tt
 left_whole (Event.Fail k) old new is = tt
-left_whole (Event.RecordFails k) old new is = absurd is
-left_whole (Event.StoreMarksFails k b) old new is = tt
-left_whole (Event.WriteMemberFails n k) old new is = tt
-left_whole (Event.CopyFails k c) old new is = tt
+left_whole (Event.WriteFails k MemberPart.Superblock) old new is = absurd is
+left_whole (Event.WriteFails k MemberPart.Log) old new is = absurd is
+left_whole (Event.WriteFails k part) old new is = tt
 left_whole (Event.Copy from k s) old new is = tt
 left_whole Event.Resynced old new is = tt
 left_whole Event.Unresynced old new is = tt
@@ -63,7 +62,6 @@ left_whole (Event.Admit k role listed) old new is = tt
 left_whole (Event.Checkpoint k offset listed) old new is = absurd is
 left_whole (Event.NoteBad k c) old new is = tt
 left_whole (Event.StoreLog k listed) old new is = absurd is
-left_whole (Event.StoreLogFails k) old new is = absurd is
 
 -- a call's events go on with a mirror's run
 pub read_run : (es : List Event) (previous : Option Event) (h : Moment) (Then : MirrorView → Requests → Type 0) → ReadInTurn previous h.mirror h.requests es Then

@@ -234,10 +234,7 @@ stops_at_events (Event.Record k) before after left honest writes may = (writes.0
 stops_at_events (Event.WriteMember n k) before after left honest writes may = (writes.0, writes.1, stops_at_write k writes.0 before after left honest writes.1 may)
 stops_at_events (Event.StoreMarks k b) before after left honest writes may =
     sector_done k writes.0 before after left honest writes.2 (stops_at_sector k writes.0 before after left writes.1 honest writes.2 may)
-stops_at_events (Event.RecordFails k) before after left honest writes may = (writes.0, writes.1, stops_at_failure k writes.0 before after left honest writes.1 may)
-stops_at_events (Event.StoreMarksFails k b) before after left honest writes may = (writes.0, writes.1, stops_at_failure k writes.0 before after left honest writes.1 may)
-stops_at_events (Event.WriteMemberFails n k) before after left honest writes may = (writes.0, writes.1, stops_at_failure k writes.0 before after left honest writes.1 may)
-stops_at_events (Event.CopyFails k c) before after left honest writes may = (writes.0, writes.1, stops_at_failure k writes.0 before after left honest writes.1 may)
+stops_at_events (Event.WriteFails k part) before after left honest writes may = (writes.0, writes.1, stops_at_failure k writes.0 before after left honest writes.1 may)
 stops_at_events (Event.Copy from k s) before after left honest writes may = tt
 stops_at_events Event.Resynced before after left honest writes may = in_memory before after left writes may
 stops_at_events Event.Unresynced before after left honest writes may = in_memory before after left writes may
@@ -266,7 +263,6 @@ stops_at_events (Event.Checkpoint k offset listed) before after left honest writ
 stops_at_events (Event.NoteBad k c) before after left honest writes may = in_memory before after left writes may
 stops_at_events (Event.StoreLog k listed) before after left honest (inl same) may = inl (in_memory before after left same may)
 stops_at_events (Event.StoreLog k listed) before after left honest (inr writes) may = inr (writes.0, writes.1, stops_at_write k writes.0 before after left honest writes.1 may)
-stops_at_events (Event.StoreLogFails k) before after left honest writes may = (writes.0, writes.1, stops_at_failure k writes.0 before after left honest writes.1 may)
 
 -- ---- a write that fails, and that a stop left done or not done
 module _ (k : ℕ) (w : Write) (before after : List Disk) (left : List (List ℕ)) (honest : AreHonest before) (failed : IsFailed k w before after) (may : MayAllBeLeft before after left) where

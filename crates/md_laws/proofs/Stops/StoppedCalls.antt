@@ -5,7 +5,7 @@ use Rattle.std.proofs.lemmas.List.{append-nil}
 use Rattle.std.proofs.lemmas.Option.{same_Some, none-some}
 use Rattle.md_kept_members.specs.View.{MemberView}
 use Rattle.md_members.specs.Areas.{bitmap_sectors}
-use Rattle.md_model.specs.Events.{Event}
+use Rattle.md_model.specs.Events.{Event, MemberPart}
 use Rattle.md_model.specs.Sectors.{put}
 use Rattle.md_model.specs.Worlds.{Request}
 use Rattle.md_model.proofs.Puts.{by_same, put-self}
@@ -54,7 +54,7 @@ due_within a k block m is due = elim (cases_lt block (bitmap_sectors a.marks.chu
 -- the request whose bytes are written is of whole sectors
 abbrev pub WritesWhole : Event → Requests → Type 0
 WritesWhole (Event.WriteMember n k) requests = (r : Request) → requests n ≡ Some r → HasWholeSectors r
-WritesWhole (Event.WriteMemberFails n k) requests = (r : Request) → requests n ≡ Some r → HasWholeSectors r
+WritesWhole (Event.WriteFails k (MemberPart.RequestData n)) requests = (r : Request) → requests n ≡ Some r → HasWholeSectors r
 WritesWhole e requests = Unit {0}
 
 -- such a request is one among those in flight
@@ -78,7 +78,7 @@ module _ (previous : Option Event) (t : Moment) (at : IsSoundAt t) (mid : Mirror
   beside e did happens (inl before) = inl (inl before)
   beside e did happens (inr after) = inr (record { mid = mid; between = between; did = did; does = happens at.honest after.0; contents = after.1 })
 
-  marks_fail : (k block : ℕ) → IsSectorDue t.mirror.array k block → FailsToStoreMarks k block t.mirror mid → Ends (Event.StoreMarksFails k block)
+  marks_fail : (k block : ℕ) → IsSectorDue t.mirror.array k block → FailsToStoreMarks k block t.mirror mid → Ends (Event.WriteFails k (MemberPart.BitmapSector block))
   marks_fail k block due f =
       let other = stops_as_failed k f.write t.mirror mid (contents_of left) at.honest f.fails within in
       let g : FailsToStoreMarks k block t.mirror other.0 = record { member = f.member; write = f.write; may = f.may; fails = other.1 } in
@@ -91,7 +91,7 @@ module _ (previous : Option Event) (t : Moment) (at : IsSoundAt t) (mid : Mirror
         contents = sym other.2;
       })
 
-  copy_fails : (k chunk : ℕ) → FailsToCopy k chunk t.mirror mid → Ends (Event.CopyFails k chunk)
+  copy_fails : (k chunk : ℕ) → FailsToCopy k chunk t.mirror mid → Ends (Event.WriteFails k (MemberPart.CopiedChunk chunk))
   copy_fails k chunk f =
       let other = stops_as_failed k (run_write f.copy.may.target f.sector f.bytes) t.mirror mid (contents_of left) at.honest f.fails within in
       let g : FailsToCopy k chunk t.mirror other.0 = record { sector = f.sector; bytes = f.bytes; copy = f.copy; in_chunk = f.in_chunk; fails = other.1 } in
@@ -103,7 +103,7 @@ module _ (previous : Option Event) (t : Moment) (at : IsSoundAt t) (mid : Mirror
         contents = sym other.2;
       })
 
-  log_fails : (k : ℕ) → FailsToStoreLog k t.mirror mid → Ends (Event.StoreLogFails k)
+  log_fails : (k : ℕ) → FailsToStoreLog k t.mirror mid → Ends (Event.WriteFails k MemberPart.Log)
   log_fails k f =
       let other = stops_as_failed k f.write t.mirror mid (contents_of left) at.honest f.fails within in
       let g : FailsToStoreLog k t.mirror other.0 = record { running = f.running; member = f.member; in_sync = f.in_sync; room = f.room; write = f.write; among = f.among; fails = other.1 } in
@@ -121,14 +121,14 @@ module _ (previous : Option Event) (t : Moment) (at : IsSoundAt t) (mid : Mirror
       inl (inr (inr (inr (inl (record { on = k; next = mid; call = inl did.1; within = within; super = super })))))
   within_event (Event.Record k) order did happens whole unshifted (inr short) =
       inl (inr (inr (inr (inr (inl (record { on = k; next = mid; call = did.1; within = within; old = short.stands; new = short.comes did.1.member did.1.may.at }))))))
-  within_event (Event.RecordFails k) order did happens whole unshifted super =
+  within_event (Event.WriteFails k MemberPart.Superblock) order did happens whole unshifted super =
       inl (inr (inr (inr (inl (record { on = k; next = mid; call = inr (inl did.1); within = within; super = super })))))
   within_event (Event.RecordTargetFails k) order did happens whole unshifted super =
       inl (inr (inr (inr (inl (record { on = k; next = mid; call = inr (inr (inr did.1.leaves)); within = within; super = super })))))
   within_event (Event.StoreMarks k b) order did happens whole unshifted asked =
       let r = did.1 in
       inl (inr (inl (record { on = k; block = b; inside = due_within t.mirror.array k b r.member r.may.in_sync order; next = mid; call = r; within = within })))
-  within_event (Event.StoreMarksFails k b) order did happens whole unshifted asked = marks_fail k b order did.1
+  within_event (Event.WriteFails k (MemberPart.BitmapSector b)) order did happens whole unshifted asked = marks_fail k b order did.1
   within_event (Event.WriteMember n k) order did happens whole unshifted asked =
       inl (inr (inr (inl (record {
         request = did.0;
@@ -141,7 +141,7 @@ module _ (previous : Option Event) (t : Moment) (at : IsSoundAt t) (mid : Mirror
         call = inl did.5;
         within = within;
       }))))
-  within_event (Event.WriteMemberFails n k) order did happens whole unshifted asked =
+  within_event (Event.WriteFails k (MemberPart.RequestData n)) order did happens whole unshifted asked =
       inl (inr (inr (inl (record {
         request = did.0;
         others = t.requests;
@@ -153,7 +153,7 @@ module _ (previous : Option Event) (t : Moment) (at : IsSoundAt t) (mid : Mirror
         call = inr (inl did.5);
         within = within;
       }))))
-  within_event (Event.CopyFails k c) order did happens whole unshifted asked = copy_fails k c did.1
+  within_event (Event.WriteFails k (MemberPart.CopiedChunk c)) order did happens whole unshifted asked = copy_fails k c did.1
   within_event (Event.Fill k) order did happens whole unshifted asked =
       inl (inr (inr (inr (inr (inr (inr (inl (record { on = k; next = mid; call = did.1; within = within }))))))))
   within_event (Event.Prepare k) order did happens whole unshifted asked =
@@ -164,7 +164,7 @@ module _ (previous : Option Event) (t : Moment) (at : IsSoundAt t) (mid : Mirror
         | inl before ↦ inl (inl before)
         | inr after ↦ inr (record { mid = mid; between = between; did = did; does = happens at.honest unshifted; contents = after })
       ]
-  within_event (Event.StoreLogFails k) order did happens whole unshifted asked = log_fails k did.1
+  within_event (Event.WriteFails k MemberPart.Log) order did happens whole unshifted asked = log_fails k did.1
   within_event (Event.Begin n r) order did happens whole unshifted asked = in_memory (Event.Begin n r) (happens at.honest tt).writes
   within_event (Event.Finish n) order did happens whole unshifted asked = in_memory (Event.Finish n) (happens at.honest tt).writes
   within_event (Event.ClearIdle c) order did happens whole unshifted asked = in_memory (Event.ClearIdle c) (happens at.honest tt).writes
@@ -191,7 +191,7 @@ sound_then t e mid between at does =
 
 written_later : (e : Event) (es : List Event) (n : ℕ) → IsWrittenBy n es → IsWrittenBy n (e ∷ es)
 written_later (Event.WriteMember m k) es n later = inr later
-written_later (Event.WriteMemberFails m k) es n later = inr later
+written_later (Event.WriteFails k (MemberPart.RequestData m)) es n later = inr later
 written_later e es n later = later
 
 -- what is asked of requests in flight, for the events to come
@@ -217,7 +217,7 @@ written_whole es n p q numbers before after under is same all =
 whole_for : (e : Event) (es : List Event) (old mid : MirrorView) (before after : Requests) → Did old before e mid after → BeginsWhole e → WholeFor es before → WholeFor es after
 whole_for (Event.Begin n r) es old mid before after did begins all = put_whole es n (Some r) before after (λ x writes here. subst HasWholeSectors (same_Some r x here) begins) did.4 all
 whole_for (Event.WriteMember n k) es old mid before after did begins all = written_whole es n did.0 did.1 (did.0.written ++ did.5.member.superblock.dev_number ∷ []) before after did.2 did.4 did.5.pending all
-whole_for (Event.WriteMemberFails n k) es old mid before after did begins all = written_whole es n did.0 did.1 did.0.written before after did.2 did.4 did.5.pending all
+whole_for (Event.WriteFails k (MemberPart.RequestData n)) es old mid before after did begins all = written_whole es n did.0 did.1 did.0.written before after did.2 did.4 did.5.pending all
 whole_for (Event.Finish n) es old mid before after did begins all = put_whole es n None before after (λ x writes none. absurd (none-some x none)) did.2 all
 whole_for e es old mid before after did begins all = subst (WholeFor es) (sym did.0) all
 
@@ -229,7 +229,7 @@ whole_then e es old mid before after did whole = record {
 
 writes_whole : (e : Event) (es : List Event) (requests : Requests) → WholeFor (e ∷ es) requests → WritesWhole e requests
 writes_whole (Event.WriteMember n k) es requests all = λ r at. all n r (inl refl) at
-writes_whole (Event.WriteMemberFails n k) es requests all = λ r at. all n r (inl refl) at
+writes_whole (Event.WriteFails k (MemberPart.RequestData n)) es requests all = λ r at. all n r (inl refl) at
 writes_whole e es requests all = tt
 
 -- the stop is in the first of the events
@@ -289,9 +289,9 @@ comes_to (e ∷ es) more previous t mid between leads at whole left =
 -- within a write that halted the mirror
 halting : (t : Moment) (failing : Event) → WritesWhole failing t.requests → (new : MirrorView) → HaltsAt t.mirror t.requests failing new → (left : List Disk)
     → MayAllBeLeft t.mirror.disks new.disks (contents_of left) → IsLeftHalting failing t.mirror left → IsLeft t left
-halting t (Event.RecordFails k) whole new halts left within super =
+halting t (Event.WriteFails k MemberPart.Superblock) whole new halts left within super =
     inr (inr (inr (inl (record { on = k; next = new; call = inr (inr (inl halts)); within = within; super = super }))))
-halting t (Event.WriteMemberFails n k) whole new halts left within asked =
+halting t (Event.WriteFails k (MemberPart.RequestData n)) whole new halts left within asked =
     inr (inr (inl (record {
       request = halts.0;
       others = t.requests;

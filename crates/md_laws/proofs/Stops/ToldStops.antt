@@ -54,16 +54,12 @@ module _ (before after : List Disk) (honest : AreHonest before) where
   grows (Event.Record k) told w = grows_tried k w.0 before after honest w.1.tried _ w.1.within
   grows (Event.StoreMarks k b) told w = grows_tried k w.0 before after honest w.2.tried _ w.2.within
   grows (Event.WriteMember n k) told w = grows_tried k w.0 before after honest w.1.tried _ w.1.within
-  grows (Event.RecordFails k) told w = grows_tried k w.0 before after honest w.1.tried _ w.1.within
-  grows (Event.StoreMarksFails k b) told w = grows_tried k w.0 before after honest w.1.tried _ w.1.within
-  grows (Event.WriteMemberFails n k) told w = grows_tried k w.0 before after honest w.1.tried _ w.1.within
-  grows (Event.CopyFails k c) told w = grows_tried k w.0 before after honest w.1.tried _ w.1.within
+  grows (Event.WriteFails k part) told w = grows_tried k w.0 before after honest w.1.tried _ w.1.within
   grows (Event.RecordTargetFails k) told w = grows_tried k w.0 before after honest w.1.tried _ w.1.within
   grows (Event.Admit k role listed) told w = grows_tried k w.0 before after honest w.1.tried _ w.1.within
   grows (Event.Checkpoint k offset listed) told w = grows_tried k w.0 before after honest w.1.tried _ w.1.within
   grows (Event.StoreLog k listed) told (inl same) = grows_same before after same
   grows (Event.StoreLog k listed) told (inr w) = grows_tried k w.0 before after honest w.1.tried _ w.1.within
-  grows (Event.StoreLogFails k) told w = grows_tried k w.0 before after honest w.1.tried _ w.1.within
   grows (Event.Fill k) told w = grows_alone k _ before after honest w.2
   grows (Event.Prepare k) told w = grows_alone k _ before after honest w.1
   grows Event.Resynced told same = grows_same before after same

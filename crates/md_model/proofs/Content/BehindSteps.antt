@@ -5,7 +5,7 @@ use Rattle.md_model.specs.Devices.{Stored}
 use Rattle.md_model.specs.Worlds.{Request, touches, World, IsInSync}
 use Rattle.md_model.specs.Steps.{touches_chunk, begun, with_device, recorded}
 use Rattle.md_model.specs.Failures.{failed, LeftByLog}
-use Rattle.md_model.specs.Events.{Event, Fails, Happens}
+use Rattle.md_model.specs.Events.{Event, MemberPart, Fails, Happens}
 use Rattle.md_model.specs.Content.{Content, with_request, Becomes, Holds}
 use Rattle.md_model.specs.Behind.{IsBehind, Leaves, IsDegraded}
 use Rattle.md_model.proofs.Cases.{by_test, never}
@@ -81,10 +81,7 @@ module _ (g : Geometry) (d : Stored) where
   }))
   behind_step a b w (Event.ClearIdle x) w' _ empty t s _ = absurd (empty s.0.full)
   behind_step a b w (Event.Fail k) w' _ _ t s c = behind_as a b w' c (fails_behind a w k (w.stored k) w' s.1 t)
-  behind_step a b w (Event.RecordFails k) w' _ _ t s c = behind_as a b w' c (fails_behind a w k s.0 w' s.2 t)
-  behind_step a b w (Event.StoreMarksFails k y) w' _ _ t s c = behind_as a b w' c (fails_behind a w k s.0 w' s.3 t)
-  behind_step a b w (Event.WriteMemberFails n k) w' _ _ t s c = behind_as a b w' c (fails_behind a w k s.0 w' s.4 t)
-  behind_step a b w (Event.CopyFails k y) w' _ _ t s c = behind_as a b w' c (fails_behind a w k s.0 w' s.4 t)
+  behind_step a b w (Event.WriteFails k part) w' _ _ t s c = behind_as a b w' c (fails_behind a w k s.0 w' s.2 t)
   behind_step a b w (Event.Copy from k x) w' _ _ t s c = behind_as a b w' c (subst (IsBehind g a d) (sym s.1) (record {
     in_memory = t.in_memory;
     on_members = λ i y low on off bit. t.on_members i y low on off (sym (bits_copied g w from k x i (chunk_of g y)) ∙ bit);
@@ -111,7 +108,6 @@ module _ (g : Geometry) (d : Stored) where
       (behind_fewer a w (checkpointed w k offset listed) (fewer_checkpointed w k offset listed (recovering_target (w.state k) s.0.recovering)) t))
   behind_step a b w (Event.NoteBad k x) w' _ _ t s c = behind_as a b w' c (subst (IsBehind g a d) (sym s.1) (behind_fewer a w (noted_bad g w k x) (fewer_noted_bad g w k x) t))
   behind_step a b w (Event.StoreLog k listed) w' _ _ t s c = behind_as a b w' c (subst (IsBehind g a d) (sym s.2) (behind_fewer a w (log_stored w k listed) (fewer_log_stored w k listed s.1) t))
-  behind_step a b w (Event.StoreLogFails k) w' _ _ t s c = behind_as a b w' c (fails_behind a w k s.0 w' s.3 t)
 
 -- A member that fails is behind by what is marked.
 module _ (g : Geometry) (a : Content) (w : World) (tracked : IsTracked g w) (t : Holds g a w) (k : ℕ) (on : IsInSync w k) where
@@ -160,16 +156,17 @@ module _ (g : Geometry) (a : Content) (w : World) (tracked : IsTracked g w) (t :
 
   pub behind_leaving : (e : Event) → Leaves e k → (w' : World) → Happens g w e w' → IsBehind g a (w'.stored k) w'
   behind_leaving (Event.Fail j) same w' s = late j (w.stored j) w' same s.1 (λ _ off. off) (λ _ _. refl)
-  behind_leaving (Event.RecordFails j) same w' s = late j s.0 w' same s.2 (s.1.listed (ap (λ i. is_in_sync (w.state i)) same ∙ on)).had (λ x _. ap (λ (d : Stored). d.content x) s.1.rest)
-  behind_leaving (Event.StoreMarksFails j b) same w' s = late j s.0 w' same s.3 (λ x off. sym (ap (λ (d : Stored). d.listed x) s.2.rest) ∙ off) (λ x _. ap (λ (d : Stored). d.content x) s.2.rest)
-  behind_leaving (Event.WriteMemberFails n j) same w' s = late j s.0 w' same s.4 (λ x off. sym (ap (λ (d : Stored). d.listed x) s.3.rest) ∙ off)
-      (λ x clear. by_test (touches s.1 x)
-      (λ at. not_clear (chunk_of g x) (tracked.marked n s.1 x s.2.in_flight at) (λ i in_. s.2.marked i x in_ at) clear)
-      (λ away. s.3.outside x away))
-  behind_leaving (Event.CopyFails j y) same w' s = late j s.0 w' same s.4 (λ x off. sym (ap (λ (d : Stored). d.listed x) s.3.rest) ∙ off)
+  behind_leaving (Event.WriteFails j MemberPart.Superblock) same w' s = late j s.0 w' same s.2 (s.1.listed (ap (λ i. is_in_sync (w.state i)) same ∙ on)).had (λ x _. ap (λ (d : Stored). d.content x) s.1.rest)
+  behind_leaving (Event.WriteFails j (MemberPart.BitmapSector b)) same w' s = late j s.0 w' same s.2 (λ x off. sym (ap (λ (d : Stored). d.listed x) s.1.1.rest) ∙ off) (λ x _. ap (λ (d : Stored). d.content x) s.1.1.rest)
+  behind_leaving (Event.WriteFails j (MemberPart.RequestData n)) same w' s = late j s.0 w' same s.2 (λ x off. sym (ap (λ (d : Stored). d.listed x) s.1.2.rest) ∙ off)
+      (λ x clear. by_test (touches s.1.0 x)
+      (λ at. not_clear (chunk_of g x) (tracked.marked n s.1.0 x s.1.1.in_flight at) (λ i in_. s.1.1.marked i x in_ at) clear)
+      (λ away. s.1.2.outside x away))
+  behind_leaving (Event.WriteFails j (MemberPart.CopiedChunk y)) same w' s = late j s.0 w' same s.2 (λ x off. sym (ap (λ (d : Stored). d.listed x) s.1.2.rest) ∙ off)
       (λ x clear. by_same (chunk_of g x) y
-      (λ here. not_clear y s.2.marked s.2.stored (subst IsClear here clear))
-      (λ away. s.3.outside x away))
+      (λ here. not_clear y s.1.1.marked s.1.1.stored (subst IsClear here clear))
+      (λ away. s.1.2.outside x away))
+  behind_leaving (Event.WriteFails j MemberPart.Log) same w' s = absurd same
   behind_leaving (Event.Begin n p) same w' s = absurd same
   behind_leaving (Event.Record j) same w' s = absurd same
   behind_leaving (Event.StoreMarks j b) same w' s = absurd same
@@ -192,4 +189,3 @@ module _ (g : Geometry) (a : Content) (w : World) (tracked : IsTracked g w) (t :
   behind_leaving (Event.Checkpoint j offset listed) same w' s = absurd same
   behind_leaving (Event.NoteBad j c) same w' s = absurd same
   behind_leaving (Event.StoreLog j listed) same w' s = absurd same
-  behind_leaving (Event.StoreLogFails j) same w' s = absurd same

@@ -93,10 +93,7 @@ module _ (g : Geometry) (a : Content) where
       subst (λ x. HoldsUnmarked g x w') (sym c) (subst (HoldsUnmarked g (with_request (w.request n) a)) (sym s.2) (unmarked_finished w n s.0 s.1 tracked t.unmarked))
   unmarked_step b w (Event.ClearIdle x) w' _ t s c = same b w' c (subst (HoldsUnmarked g a) (sym s.1) t.unmarked)
   unmarked_step b w (Event.Fail k) w' _ t s c = same b w' c (unmarked_fails w k (w.stored k) w' s.1 t.unmarked)
-  unmarked_step b w (Event.RecordFails k) w' _ t s c = same b w' c (unmarked_fails w k s.0 w' s.2 t.unmarked)
-  unmarked_step b w (Event.StoreMarksFails k x) w' _ t s c = same b w' c (unmarked_fails w k s.0 w' s.3 t.unmarked)
-  unmarked_step b w (Event.WriteMemberFails n k) w' _ t s c = same b w' c (unmarked_fails w k s.0 w' s.4 t.unmarked)
-  unmarked_step b w (Event.CopyFails k x) w' _ t s c = same b w' c (unmarked_fails w k s.0 w' s.4 t.unmarked)
+  unmarked_step b w (Event.WriteFails k part) w' _ t s c = same b w' c (unmarked_fails w k s.0 w' s.2 t.unmarked)
   unmarked_step b w (Event.Copy from k x) w' _ t s c = same b w' c (subst (HoldsUnmarked g a) (sym s.1) (unmarked_copied w from k x s.0 t.unmarked))
   unmarked_step b w Event.Resynced w' _ t s c = subst (HoldsUnmarked g b) (sym s.1) (λ i k x low _ on clear _. c.held k x low on clear)
   unmarked_step b w Event.Unresynced w' _ t s c = same b w' c (subst (HoldsUnmarked g a) (sym s.1) t.unmarked)
@@ -118,7 +115,6 @@ module _ (g : Geometry) (a : Content) where
       (unmarked_fewer w (checkpointed w k offset listed) (fewer_checkpointed w k offset listed (recovering_target (w.state k) s.0.recovering)) t.unmarked))
   unmarked_step b w (Event.NoteBad k x) w' _ t s c = same b w' c (subst (HoldsUnmarked g a) (sym s.1) (unmarked_fewer w (noted_bad g w k x) (fewer_noted_bad g w k x) t.unmarked))
   unmarked_step b w (Event.StoreLog k listed) w' _ t s c = same b w' c (subst (HoldsUnmarked g a) (sym s.2) (unmarked_fewer w (log_stored w k listed) (fewer_log_stored w k listed s.1) t.unmarked))
-  unmarked_step b w (Event.StoreLogFails k) w' _ t s c = same b w' c (unmarked_fails w k s.0 w' s.3 t.unmarked)
 
 pub holds_step : (g : Geometry) (a b : Content) (w : World) (e : Event) (w' : World) → IsTracked g w → Holds g a w → Step g w e w' → Becomes g e w a b → Holds g b w'
 holds_step g a b w e w' tracked t s c = record {

@@ -269,10 +269,7 @@ module _ (g : Geometry) (wide : 0 < g.width) (a : Content) (w : World) (tracked 
   late_before (Event.Finish n) w' s _ = subst AreLate (sym s.2) (all_old (finished w n) refl (λ _ _ _. refl) (λ _ _ off. off) refl)
   late_before (Event.ClearIdle c) w' s _ = subst AreLate (sym s.1) (all_old (unmarked w c) refl (λ _ _ _. refl) (λ _ _ off. off) refl)
   late_before (Event.Fail k) w' s _ = failed_old k (w.stored k) w' s.1
-  late_before (Event.RecordFails k) w' s _ = failed_old k s.0 w' s.2
-  late_before (Event.StoreMarksFails k b) w' s _ = failed_old k s.0 w' s.3
-  late_before (Event.WriteMemberFails n k) w' s _ = failed_old k s.0 w' s.4
-  late_before (Event.CopyFails k c) w' s _ = failed_old k s.0 w' s.4
+  late_before (Event.WriteFails k part) w' s _ = failed_old k s.0 w' s.2
   late_before (Event.Copy from k x) w' s _ = subst AreLate (sym s.1) (all_old (copied w from k x) refl
       (λ j y on. ap (λ (d : Stored). d.content y) (put-miss k (copied_device w from k x) w.stored j (apart_from k s.0.target j on))) (λ _ _ off. off) refl)
   late_before Event.Resynced w' s _ = subst AreLate (sym s.1) (all_old (made_resynced w true) refl (λ _ _ _. refl) (λ _ _ off. off) refl)
@@ -299,7 +296,6 @@ module _ (g : Geometry) (wide : 0 < g.width) (a : Content) (w : World) (tracked 
           (λ here off. ap (λ i. w.bad i x) here ∙ (or_parts (w.bad k x) (nat_lt x g.size && eqb (chunk_of g x) c) off).0) (λ _ off. off)
   late_before (Event.StoreLog k listed) w' s _ = subst AreLate (sym s.2) (all_old (log_stored w k listed) refl
       (λ j x _. put-same (λ (d : Stored). d.content x) k (record (w.stored k) { listed = listed }) w.stored j refl) (λ _ _ off. off) refl)
-  late_before (Event.StoreLogFails k) w' s _ = failed_old k s.0 w' s.3
 
   pub recovering_step : (b : Content) (e : Event) (w' : World) → Happens g w e w' → Becomes g e w a b → JoinsBehind g e w a → RecoveringHolds g b w'
   recovering_step b e w' s becomes told k on =

@@ -5,7 +5,7 @@ use Rattle.md_model.specs.Sectors.{chunk_of}
 use Rattle.md_model.specs.Worlds.{World}
 use Rattle.md_model.specs.Steps.{recorded, GrowsTo}
 use Rattle.md_model.specs.Listing.{log_stored, noted_bad}
-use Rattle.md_model.specs.Events.{Event}
+use Rattle.md_model.specs.Events.{Event, MemberPart}
 use Rattle.md_model.specs.Runs.{then_in, opening}
 use Rattle.md_model.specs.SmallArray.{small_geometry, small_world}
 use Rattle.md_model.specs.SmallRun.{CanRun}
@@ -42,14 +42,14 @@ can_list =
       ),
     )
 
-pub can_fail_log : CanRun (Event.NoteBad 1 0 ∷ Event.StoreLogFails 1 ∷ [])
+pub can_fail_log : CanRun (Event.NoteBad 1 0 ∷ Event.WriteFails 1 MemberPart.Log ∷ [])
 can_fail_log =
     let m1 = noted_bad small_geometry small_world 1 0 in
     let h1 = then_in (opening small_world) (Event.NoteBad 1 0) m1 in (
-      then_in h1 (Event.StoreLogFails 1) (lost m1),
+      then_in h1 (Event.WriteFails 1 MemberPart.Log) (lost m1),
       (
         m1,
         (refl, (record { in_sync = refl; resynced = refl }, refl)),
-        (lost m1, (refl, (m1.stored 1, refl, record { rest = refl; super = inl refl }, fails m1 (m1.stored 1) refl refl (λ _. refl))), refl),
+        (lost m1, (refl, (m1.stored 1, (refl, record { rest = refl; super = inl refl }), fails m1 (m1.stored 1) refl refl (λ _. refl))), refl),
       ),
     )

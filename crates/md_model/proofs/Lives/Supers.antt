@@ -16,6 +16,7 @@ use Rattle.md_model.specs.Rebuilding.{as_recovering, enrolled_device, taking_dev
 use Rattle.md_model.proofs.Cases.{some-injective, none_some}
 use Rattle.md_model.proofs.Puts.{by_same, put-at, put-hit, put-miss}
 use Rattle.md_model.proofs.Steps.Rebuilding.{recovering_target, target_recorded}
+use Rattle.md_model.proofs.Steps.FailedWrites.{super_left}
 use Rattle.md_model.proofs.Steps.Keeps.{IsKept, kept_step}
 use Rattle.md_model.proofs.Steps.Seen.{anew, hidden, seen, unhidden}
 
@@ -76,10 +77,7 @@ module _ (g : Geometry) (small : IsWithinLimits g) (opened : Super) (Q : Super �
     all_step (Event.Finish n) w' s = subst Still (sym s.2) all
     all_step (Event.ClearIdle c) w' s = subst Still (sym s.1) all
     all_step (Event.Fail k) w' s = fails_all k (w.stored k) w' s.1 (all k)
-    all_step (Event.RecordFails k) w' s = fails_all k s.0 w' s.2 (by_left k s.0 s.2.1.in_use s.1.super)
-    all_step (Event.StoreMarksFails k b) w' s = fails_all k s.0 w' s.3 (same_all k s.0 (ap (λ (d : Stored). d.super) s.2.rest))
-    all_step (Event.WriteMemberFails n k) w' s = fails_all k s.0 w' s.4 (same_all k s.0 (ap (λ (d : Stored). d.super) s.3.rest))
-    all_step (Event.CopyFails k c) w' s = fails_all k s.0 w' s.4 (same_all k s.0 (ap (λ (d : Stored). d.super) s.3.rest))
+    all_step (Event.WriteFails k part) w' s = fails_all k s.0 w' s.2 (by_left k s.0 s.2.1.in_use (super_left g w k part s.0 s.1))
     all_step (Event.Copy from k x) w' s = subst Still (sym s.1) (put_all k (copied_device w from k x) (all k))
     all_step Event.Resynced w' s = subst Still (sym s.1) all
     all_step Event.Unresynced w' s = subst Still (sym s.1) all
@@ -109,7 +107,6 @@ module _ (g : Geometry) (small : IsWithinLimits g) (opened : Super) (Q : Super �
         (some-injective (super_for (with_offset w k offset) k) own e) (moved h t k (put k offset w.offset k) (target_recorded (w.state k) (recovering_target (w.state k) s.0.recovering)))))
     all_step (Event.NoteBad k c) w' s = subst Still (sym s.1) all
     all_step (Event.StoreLog k listed) w' s = subst Still (sym s.2) (put_all k (record (w.stored k) { listed = listed }) (all k))
-    all_step (Event.StoreLogFails k) w' s = fails_all k s.0 w' s.3 (by_left k s.0 s.3.1.in_use s.2.super)
 
   pub all_run : (es : List Event) (h last : History) → IsKept g opened h → OfAll Q h.spoiled h.now → Run g h es last → OfAll Q last.spoiled last.now
   all_run [] h last t all r = subst (λ (x : History). OfAll Q x.spoiled x.now) (sym r) all

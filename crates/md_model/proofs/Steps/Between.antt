@@ -154,10 +154,7 @@ module _ (g : Geometry) (a : Content) where
   between b w (Event.Finish n) w' s c t = subst (λ x. HoldsBetween g x w') (sym c) (subst (HoldsBetween g (with_request (w.request n) a)) (sym s.2) (between_finished w n s.0 s.1 t))
   between b w (Event.ClearIdle x) w' s c t = same b w' c (subst (HoldsBetween g a) (sym s.1) (between_unmarked w x s.0 t))
   between b w (Event.Fail k) w' s c t = same b w' c (between_fails w k (w.stored k) w' s.1 t)
-  between b w (Event.RecordFails k) w' s c t = same b w' c (between_fails w k s.0 w' s.2 t)
-  between b w (Event.StoreMarksFails k x) w' s c t = same b w' c (between_fails w k s.0 w' s.3 t)
-  between b w (Event.WriteMemberFails n k) w' s c t = same b w' c (between_fails w k s.0 w' s.4 t)
-  between b w (Event.CopyFails k x) w' s c t = same b w' c (between_fails w k s.0 w' s.4 t)
+  between b w (Event.WriteFails k part) w' s c t = same b w' c (between_fails w k s.0 w' s.2 t)
   between b w (Event.Copy from k x) w' s c t = same b w' c (subst (HoldsBetween g a) (sym s.1) (between_copied w from k x s.0 t))
   between b w Event.Resynced w' s c t = subst (HoldsBetween g b) (sym s.1) (between_resynced w b c t)
   between b w Event.Unresynced w' s c t = same b w' c (subst (HoldsBetween g a) (sym s.1) (between_unresynced w t))
@@ -178,7 +175,6 @@ module _ (g : Geometry) (a : Content) where
       (between_fewer w (checkpointed w k offset listed) (fewer_checkpointed w k offset listed (recovering_target (w.state k) s.0.recovering)) t))
   between b w (Event.NoteBad k x) w' s c t = same b w' c (subst (HoldsBetween g a) (sym s.1) (between_fewer w (noted_bad g w k x) (fewer_noted_bad g w k x) t))
   between b w (Event.StoreLog k listed) w' s c t = same b w' c (subst (HoldsBetween g a) (sym s.2) (between_fewer w (log_stored w k listed) (fewer_log_stored w k listed s.1) t))
-  between b w (Event.StoreLogFails k) w' s c t = same b w' c (between_fails w k s.0 w' s.3 t)
 
 -- what was written of the requests in flight goes along by itself
 module _ (g : Geometry) where
@@ -200,10 +196,7 @@ module _ (g : Geometry) where
   flight w (Event.Finish n) w' s t = subst HoldsInFlight (sym s.2) (in_flight_finished g w n s.0 t)
   flight w (Event.ClearIdle x) w' s t = subst HoldsInFlight (sym s.1) (in_flight_unmarked w x t)
   flight w (Event.Fail k) w' s t = flight_fails w k (w.stored k) w' s.1 t
-  flight w (Event.RecordFails k) w' s t = flight_fails w k s.0 w' s.2 t
-  flight w (Event.StoreMarksFails k x) w' s t = flight_fails w k s.0 w' s.3 t
-  flight w (Event.WriteMemberFails n k) w' s t = flight_fails w k s.0 w' s.4 t
-  flight w (Event.CopyFails k x) w' s t = flight_fails w k s.0 w' s.4 t
+  flight w (Event.WriteFails k part) w' s t = flight_fails w k s.0 w' s.2 t
   flight w (Event.Copy from k x) w' s t = subst HoldsInFlight (sym s.1) (in_flight_copied g w from k x s.0 t)
   flight w Event.Resynced w' s t = subst HoldsInFlight (sym s.1) (in_flight_resynced w true t)
   flight w Event.Unresynced w' s t = subst HoldsInFlight (sym s.1) (in_flight_resynced w false t)
@@ -224,7 +217,6 @@ module _ (g : Geometry) where
       (in_flight_fewer w (checkpointed w k offset listed) (fewer_checkpointed w k offset listed (recovering_target (w.state k) s.0.recovering)) t)
   flight w (Event.NoteBad k x) w' s t = subst HoldsInFlight (sym s.1) (in_flight_fewer w (noted_bad g w k x) (fewer_noted_bad g w k x) t)
   flight w (Event.StoreLog k listed) w' s t = subst HoldsInFlight (sym s.2) (in_flight_fewer w (log_stored w k listed) (fewer_log_stored w k listed s.1) t)
-  flight w (Event.StoreLogFails k) w' s t = flight_fails w k s.0 w' s.3 t
 
 pub in_flight_step : KeepsInFlight
 in_flight_step g w e w' step = flight g w e w' step.1

@@ -1,5 +1,5 @@
 -- Every event keeps the invariant.
-use Rattle.std.proofs.Common.{◌≡◌, ℕ, ◌<◌, ◌+◌, ◌↔◌, Bool, true, false, cond, ◌&&◌, ◌||◌, ◌⊎◌, inr, ⊎_elim, refl, sym, ap, ◌∙◌, subst, eqb, eq-eqb, true≢false, arith, List, [], ◌∷◌}
+use Rattle.std.proofs.Common.{◌≡◌, ℕ, ◌<◌, ◌+◌, ◌↔◌, Bool, true, false, cond, ◌&&◌, ◌||◌, ◌⊎◌, inl, inr, ⊎_elim, refl, sym, ap, ◌∙◌, subst, eqb, eq-eqb, true≢false, arith, List, [], ◌∷◌}
 use Rattle.std.specs.Prelude.{Some, None, nat_lt, not}
 use Rattle.std.proofs.lemmas.Bool.{or_right, not-true, and_parts}
 use Rattle.md_model.specs.Sectors.{Geometry, chunk_of, put}
@@ -15,7 +15,7 @@ use Rattle.md_model.specs.Rebuilding.{is_target, admitted, as_in_sync, as_recove
 use Rattle.md_model.specs.Listing.{log_stored, noted_bad}
 use Rattle.md_model.proofs.Steps.Membership.{former_joins, number_absent, recorded_joined, recorded_removed, spare_joins, tracked_joined, tracked_removed}
 use Rattle.md_model.proofs.Steps.Rebuilding.{fewer_admitted, fewer_checkpointed, fewer_log_stored, fewer_noted_bad, fewer_target, recorded_left, recorded_taking, recorded_target, recovering_target, spare_target, still_due, target_recorded, tracked_enrolled}
-use Rattle.md_model.specs.Events.{Event, Fails, FailsOnTarget, Happens, Spoils, Step}
+use Rattle.md_model.specs.Events.{Event, MemberPart, Fails, FailsOnTarget, Happens, Spoils, Step}
 use Rattle.md_model.specs.Openings.{IsWithinLimits}
 use Rattle.md_model.specs.Runs.{History, away_after, failed_after, spoiled_after, tried_after, then_in, Run}
 use Rattle.md_model.proofs.Cases.{by_test, none_some, is_below, not_below}
@@ -24,9 +24,10 @@ use Rattle.md_model.proofs.Steps.Tracked.{IsTracked, tracked_fewer}
 use Rattle.md_model.proofs.Steps.TrackedSteps.{fewer_recorded, fewer_failed, tracked_risen, tracked_entered, tracked_finished, tracked_unmarked, tracked_marks_stored, tracked_written, other_flights}
 use Rattle.md_model.proofs.Steps.TrackedCalls.{tracked_copied, tracked_resynced, tracked_made_clean}
 use Rattle.md_model.proofs.Steps.Unstored.{unstored_step, IsUnstored}
+use Rattle.md_model.proofs.Steps.FailedWrites.{super_left}
 use Rattle.md_model.proofs.Steps.Recorded.{Book, book_of, IsRecorded, recorded_in_sync}
 use Rattle.md_model.proofs.Steps.RecordedSteps.{absent_none, recorded_risen, recorded_recorded, recorded_without}
-use Rattle.md_model.proofs.Steps.Seen.{anew, as_before, hidden, hidden_from, hidden_left, kept_super, seen, seen_begun, seen_fails, seen_left, seen_may_remove, seen_may_write, seen_removed}
+use Rattle.md_model.proofs.Steps.Seen.{anew, as_before, hidden, hidden_left, kept_super, seen, seen_begun, seen_fails, seen_left, seen_may_remove, seen_may_write, seen_removed}
 
 -- where marked chunks were copied, the members in sync agree everywhere
 pub all_agree : (g : Geometry) (w : World) → MayResync g w → IsTracked g w → IsUnstored w → (j k s : ℕ) → IsInSync w j → IsInSync w k → AgreeAt (w.stored j) (w.stored k) s
@@ -76,10 +77,7 @@ module _ (g : Geometry) (small : IsWithinLimits g) where
   tracked_step w u (Event.Finish n) w' t s = subst (IsTracked g) (sym s.2) (tracked_finished g w n s.0 s.1 t)
   tracked_step w u (Event.ClearIdle c) w' t s = subst (IsTracked g) (sym s.1) (tracked_unmarked g w c s.0 t)
   tracked_step w u (Event.Fail k) w' t s = fails_tracked w k (w.stored k) w' s.1 t
-  tracked_step w u (Event.RecordFails k) w' t s = fails_tracked w k s.0 w' s.2 t
-  tracked_step w u (Event.StoreMarksFails k b) w' t s = fails_tracked w k s.0 w' s.3 t
-  tracked_step w u (Event.WriteMemberFails n k) w' t s = fails_tracked w k s.0 w' s.4 t
-  tracked_step w u (Event.CopyFails k c) w' t s = fails_tracked w k s.0 w' s.4 t
+  tracked_step w u (Event.WriteFails k part) w' t s = fails_tracked w k s.0 w' s.2 t
   tracked_step w u (Event.Copy from k x) w' t s = subst (IsTracked g) (sym s.1) (tracked_copied g w from k x s.0 t)
   tracked_step w u Event.Resynced w' t s = subst (IsTracked g) (sym s.1) (tracked_resynced g w true s.0.idle (λ _. all_agree g w s.0 t u) t)
   tracked_step w u Event.Unresynced w' t s = subst (IsTracked g) (sym s.1) (tracked_resynced g w false s.0 (λ r. absurd (true≢false (sym r))) t)
@@ -99,7 +97,6 @@ module _ (g : Geometry) (small : IsWithinLimits g) where
       (tracked_fewer g w (checkpointed w k offset listed) (fewer_checkpointed w k offset listed (recovering_target (w.state k) s.0.recovering)) t)
   tracked_step w u (Event.NoteBad k c) w' t s = subst (IsTracked g) (sym s.1) (tracked_fewer g w (noted_bad g w k c) (fewer_noted_bad g w k c) t)
   tracked_step w u (Event.StoreLog k listed) w' t s = subst (IsTracked g) (sym s.2) (tracked_fewer g w (log_stored w k listed) (fewer_log_stored w k listed s.1) t)
-  tracked_step w u (Event.StoreLogFails k) w' t s = fails_tracked w k s.0 w' s.3 t
 
 module _ (g : Geometry) (small : IsWithinLimits g) (opened : Super) (away : ℕ → Bool) where
   abbrev Records : ℕ → Bool → World → Type 0
@@ -298,17 +295,11 @@ module _ (g : Geometry) (small : IsWithinLimits g) (opened : Super) (away : ℕ 
         under_risen later_risen
         (recorded_risen g small.few opened h.failed_at h.tried away seen_now s.0 t.recorded)))
 
-    -- a member fails, whose device has the superblock that it had
-    fails_same : (tried : Bool) (k : ℕ) (left : Stored) (w' : World) → left.super ≡ (w.stored k).super → Fails g w k left w' → Records h.failed_at tried seen_now
-        → Records w'.events tried (seen h.spoiled w')
-    fails_same tried k left w' same f r = fails_recorded seen_now k (hidden (h.spoiled k) left) (seen h.spoiled w') h.failed_at tried
-        (hidden_from (h.spoiled k) left.super (w.stored k).super (λ own e. sym same ∙ e)) (seen_fails h.spoiled w g k left w' f) r
-
-    -- or the one that was being written, or none
-    fails_super : (k : ℕ) (left : Stored) (w' : World) → (left.super ≡ (w.stored k).super) ⊎ ((left.super ≡ Some (super_for w k)) ⊎ (left.super ≡ None))
-        → Fails g w k left w' → Records w'.events h.tried (seen h.spoiled w')
-    fails_super k left w' l f = record_fails seen_now k (hidden (h.spoiled k) left) (seen h.spoiled w') h.failed_at h.tried
-        (hidden_left (h.spoiled k) left.super (w.stored k).super (Some (super_for w k)) l) (seen_fails h.spoiled w g k left w' f) t.recorded
+    -- a member fails, whose device has the superblock that it had, the one that was being written, or none
+    fails_super : (tried : Bool) (k : ℕ) (left : Stored) (w' : World) → (left.super ≡ (w.stored k).super) ⊎ ((left.super ≡ Some (super_for w k)) ⊎ (left.super ≡ None))
+        → Fails g w k left w' → Records h.failed_at tried seen_now → Records w'.events tried (seen h.spoiled w')
+    fails_super tried k left w' l f = record_fails seen_now k (hidden (h.spoiled k) left) (seen h.spoiled w') h.failed_at tried
+        (hidden_left (h.spoiled k) left.super (w.stored k).super (Some (super_for w k)) l) (seen_fails h.spoiled w g k left w' f)
 
     tried_seen : (n : ℕ) (p : Request) (k : ℕ) → MayWrite g w n p k → Records h.failed_at true seen_now
     tried_seen n p k may = tried_now h.failed_at h.tried seen_now n p k (seen_may_write h.spoiled w g n p k may) t.alone t.recorded
@@ -330,11 +321,10 @@ module _ (g : Geometry) (small : IsWithinLimits g) (opened : Super) (away : ℕ 
         (same_supers h.failed_at true seen_now (seen h.spoiled (member_written w n s.0 k)).stored (kept_super h.spoiled w k (written_device w k s.0) refl) (tried_seen n s.0 k s.1))
     recorded_step (Event.Finish n) w' gone s = as_seen w' (finished w n) s.2 t.recorded
     recorded_step (Event.ClearIdle c) w' gone s = as_seen w' (unmarked w c) s.1 t.recorded
-    recorded_step (Event.Fail k) w' gone s = fails_same h.tried k (w.stored k) w' refl s.1 t.recorded
-    recorded_step (Event.RecordFails k) w' gone s = fails_super k s.0 w' s.1.super s.2
-    recorded_step (Event.StoreMarksFails k b) w' gone s = fails_same h.tried k s.0 w' (ap (λ (d : Stored). d.super) s.2.rest) s.3 t.recorded
-    recorded_step (Event.WriteMemberFails n k) w' gone s = fails_same true k s.0 w' (ap (λ (d : Stored). d.super) s.3.rest) s.4 (tried_seen n s.1 k s.2)
-    recorded_step (Event.CopyFails k c) w' gone s = fails_same h.tried k s.0 w' (ap (λ (d : Stored). d.super) s.3.rest) s.4 t.recorded
+    recorded_step (Event.Fail k) w' gone s = fails_super h.tried k (w.stored k) w' (inl refl) s.1 t.recorded
+    recorded_step (Event.WriteFails k (MemberPart.RequestData n)) w' gone s =
+        fails_super true k s.0 w' (super_left g w k (MemberPart.RequestData n) s.0 s.1) s.2 (tried_seen n s.1.0 k s.1.1)
+    recorded_step (Event.WriteFails k part) w' gone s = fails_super h.tried k s.0 w' (super_left g w k part s.0 s.1) s.2 t.recorded
     recorded_step (Event.Copy from k x) w' gone s = as_seen w' (copied w from k x) s.1 (stored_same (copied w from k x) k (copied_device w from k x) refl t.recorded)
     recorded_step Event.Resynced w' gone s = as_seen w' (made_resynced w true) s.1 t.recorded
     recorded_step Event.Unresynced w' gone s = as_seen w' (made_resynced w false) s.1 t.recorded
@@ -356,7 +346,6 @@ module _ (g : Geometry) (small : IsWithinLimits g) (opened : Super) (away : ℕ 
     recorded_step (Event.StoreLog k listed) w' gone s = as_seen w' (log_stored w k listed) s.2
         (due_again h.failed_at h.tried (seen h.spoiled (with_device w k (record (w.stored k) { listed = listed }))) k
         (stored_same w k (record (w.stored k) { listed = listed }) refl t.recorded))
-    recorded_step (Event.StoreLogFails k) w' gone s = fails_super k s.0 w' s.2.super s.3
 
   -- a failure takes no role to an absent device
   fails_alone : (w : World) (k : ℕ) (left : Stored) (w' : World) → ((d : ℕ) → away d ≡ true → w.present d ≡ false) → Fails g w k left w' → IsAlone g away w'
@@ -377,10 +366,7 @@ module _ (g : Geometry) (small : IsWithinLimits g) (opened : Super) (away : ℕ 
   alone_step w here (Event.Finish n) w' gone then t s = subst (IsAlone g away) (sym s.2) (λ m q d e. t m q d (other_flights w n m q e).1)
   alone_step w here (Event.ClearIdle c) w' gone then t s = subst (IsAlone g away) (sym s.1) t
   alone_step w here (Event.Fail k) w' gone then t s = fails_alone w k (w.stored k) w' gone s.1
-  alone_step w here (Event.RecordFails k) w' gone then t s = fails_alone w k s.0 w' gone s.2
-  alone_step w here (Event.StoreMarksFails k b) w' gone then t s = fails_alone w k s.0 w' gone s.3
-  alone_step w here (Event.WriteMemberFails n k) w' gone then t s = fails_alone w k s.0 w' gone s.4
-  alone_step w here (Event.CopyFails k c) w' gone then t s = fails_alone w k s.0 w' gone s.4
+  alone_step w here (Event.WriteFails k part) w' gone then t s = fails_alone w k s.0 w' gone s.2
   alone_step w here (Event.Copy from k x) w' gone then t s = subst (IsAlone g away) (sym s.1) t
   alone_step w here Event.Resynced w' gone then t s = subst (IsAlone g away) (sym s.1) t
   alone_step w here Event.Unresynced w' gone then t s = subst (IsAlone g away) (sym s.1) t
@@ -406,7 +392,6 @@ module _ (g : Geometry) (small : IsWithinLimits g) (opened : Super) (away : ℕ 
   alone_step w here (Event.Checkpoint k offset listed) w' gone then t s = subst (IsAlone g away) (sym s.1) t
   alone_step w here (Event.NoteBad k c) w' gone then t s = subst (IsAlone g away) (sym s.1) t
   alone_step w here (Event.StoreLog k listed) w' gone then t s = subst (IsAlone g away) (sym s.2) t
-  alone_step w here (Event.StoreLogFails k) w' gone then t s = fails_alone w k s.0 w' gone s.3
 
 -- what stays away was away
 still_away : (e : Event) (before : ℕ → Bool) (d : ℕ) → away_after e before d ≡ true → before d ≡ true
@@ -420,10 +405,7 @@ still_away (Event.WriteMember n k) before d x = x
 still_away (Event.Finish n) before d x = x
 still_away (Event.ClearIdle c) before d x = x
 still_away (Event.Fail k) before d x = x
-still_away (Event.RecordFails k) before d x = x
-still_away (Event.StoreMarksFails k b) before d x = x
-still_away (Event.WriteMemberFails n k) before d x = x
-still_away (Event.CopyFails k c) before d x = x
+still_away (Event.WriteFails k part) before d x = x
 still_away (Event.Copy from k s) before d x = x
 still_away Event.Resynced before d x = x
 still_away Event.Unresynced before d x = x
@@ -437,7 +419,6 @@ still_away (Event.Admit k role listed) before d x = x
 still_away (Event.Checkpoint k offset listed) before d x = x
 still_away (Event.NoteBad k c) before d x = x
 still_away (Event.StoreLog k listed) before d x = x
-still_away (Event.StoreLogFails k) before d x = x
 
 -- and no member has its number
 neither : (a b : Bool) → a ≡ false → b ≡ false → (a || b) ≡ false
@@ -465,10 +446,7 @@ gone_step g w (Event.WriteMember n k) w' before gone s d x = ap (λ (v : World).
 gone_step g w (Event.Finish n) w' before gone s d x = ap (λ (v : World). v.present d) s.2 ∙ gone d x
 gone_step g w (Event.ClearIdle c) w' before gone s d x = ap (λ (v : World). v.present d) s.1 ∙ gone d x
 gone_step g w (Event.Fail k) w' before gone s d x = ap (λ (v : World). v.present d) s.1.3 ∙ gone d x
-gone_step g w (Event.RecordFails k) w' before gone s d x = ap (λ (v : World). v.present d) s.2.3 ∙ gone d x
-gone_step g w (Event.StoreMarksFails k b) w' before gone s d x = ap (λ (v : World). v.present d) s.3.3 ∙ gone d x
-gone_step g w (Event.WriteMemberFails n k) w' before gone s d x = ap (λ (v : World). v.present d) s.4.3 ∙ gone d x
-gone_step g w (Event.CopyFails k c) w' before gone s d x = ap (λ (v : World). v.present d) s.4.3 ∙ gone d x
+gone_step g w (Event.WriteFails k part) w' before gone s d x = ap (λ (v : World). v.present d) s.2.3 ∙ gone d x
 gone_step g w (Event.Copy from k y) w' before gone s d x = ap (λ (v : World). v.present d) s.1 ∙ gone d x
 gone_step g w Event.Resynced w' before gone s d x = ap (λ (v : World). v.present d) s.1 ∙ gone d x
 gone_step g w Event.Unresynced w' before gone s d x = ap (λ (v : World). v.present d) s.1 ∙ gone d x
@@ -489,7 +467,6 @@ gone_step g w (Event.Admit k role listed) w' before gone s d x = ap (λ (v : Wor
 gone_step g w (Event.Checkpoint k offset listed) w' before gone s d x = ap (λ (v : World). v.present d) s.1 ∙ gone d x
 gone_step g w (Event.NoteBad k c) w' before gone s d x = ap (λ (v : World). v.present d) s.1 ∙ gone d x
 gone_step g w (Event.StoreLog k listed) w' before gone s d x = ap (λ (v : World). v.present d) s.2 ∙ gone d x
-gone_step g w (Event.StoreLogFails k) w' before gone s d x = ap (λ (v : World). v.present d) s.3.3 ∙ gone d x
 
 -- fewer devices stay away
 narrower : (g : Geometry) (opened : Super) (failed_at : ℕ) (tried : Bool) (away less : ℕ → Bool) (b : Book) → ((d : ℕ) → less d ≡ true → away d ≡ true)

@@ -172,10 +172,7 @@ module _ (g : Geometry) (wide : 0 < g.width) where
   noted_step w (Event.Finish n) w' tracked t s = subst (HasNoted g) (sym s.2) (noted_finished w n s.0 tracked s.1 t)
   noted_step w (Event.ClearIdle c) w' _ t s = subst (HasNoted g) (sym s.1) (noted_unmarked w c t)
   noted_step w (Event.Fail k) w' _ t s = noted_fails w k (w.stored k) w' s.1 t
-  noted_step w (Event.RecordFails k) w' _ t s = noted_fails w k s.0 w' s.2 t
-  noted_step w (Event.StoreMarksFails k b) w' _ t s = noted_fails w k s.0 w' s.3 t
-  noted_step w (Event.WriteMemberFails n k) w' _ t s = noted_fails w k s.0 w' s.4 t
-  noted_step w (Event.CopyFails k c) w' _ t s = noted_fails w k s.0 w' s.4 t
+  noted_step w (Event.WriteFails k part) w' _ t s = noted_fails w k s.0 w' s.2 t
   noted_step w (Event.Copy from k x) w' _ t s = subst (HasNoted g) (sym s.1) (record { some = t.some; noted = t.noted })
   noted_step w Event.Resynced w' _ t s = subst (HasNoted g) (sym s.1) (record { some = t.some; noted = λ _ c m _ i on. s.0.stored i c on m })
   noted_step w Event.Unresynced w' _ t s = subst (HasNoted g) (sym s.1) (record { some = t.some; noted = λ r. absurd (true≢false (sym r)) })
@@ -194,7 +191,6 @@ module _ (g : Geometry) (wide : 0 < g.width) where
       (noted_fewer w (checkpointed w k offset listed) (fewer_checkpointed w k offset listed (recovering_target (w.state k) s.0.recovering)) t)
   noted_step w (Event.NoteBad k c) w' _ t s = subst (HasNoted g) (sym s.1) (noted_fewer w (noted_bad g w k c) (fewer_noted_bad g w k c) t)
   noted_step w (Event.StoreLog k listed) w' _ t s = subst (HasNoted g) (sym s.2) (noted_fewer w (log_stored w k listed) (fewer_log_stored w k listed s.1) t)
-  noted_step w (Event.StoreLogFails k) w' _ t s = noted_fails w k s.0 w' s.3 t
 
 noted_opened : (g : Geometry) (first : Super) (w : World) → IsStart g first w → HasNoted g w
 noted_opened g first w start = let o = start.opening in record {

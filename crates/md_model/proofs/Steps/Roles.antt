@@ -236,10 +236,7 @@ module _ (g : Geometry) (small : IsWithinLimits g) (opened : Super) (h : History
   roles_step (Event.Finish n) w' s = subst (HasRoles g) (sym s.2) (as_was g w _ refl refl refl t)
   roles_step (Event.ClearIdle c) w' s = subst (HasRoles g) (sym s.1) (as_was g w _ refl refl refl t)
   roles_step (Event.Fail k) w' s = roles_failed k (w.stored k) w' s.1
-  roles_step (Event.RecordFails k) w' s = roles_failed k s.0 w' s.2
-  roles_step (Event.StoreMarksFails k b) w' s = roles_failed k s.0 w' s.3
-  roles_step (Event.WriteMemberFails n k) w' s = roles_failed k s.0 w' s.4
-  roles_step (Event.CopyFails k c) w' s = roles_failed k s.0 w' s.4
+  roles_step (Event.WriteFails k part) w' s = roles_failed k s.0 w' s.2
   roles_step (Event.Copy from k x) w' s = subst (HasRoles g) (sym s.1) (as_was g w _ refl refl refl t)
   roles_step Event.Resynced w' s = subst (HasRoles g) (sym s.1) (as_was g w _ refl refl refl t)
   roles_step Event.Unresynced w' s = subst (HasRoles g) (sym s.1) (as_was g w _ refl refl refl t)
@@ -257,7 +254,6 @@ module _ (g : Geometry) (small : IsWithinLimits g) (opened : Super) (h : History
   roles_step (Event.Checkpoint k offset listed) w' s = subst (HasRoles g) (sym s.1) (as_was g w _ refl refl refl t)
   roles_step (Event.NoteBad k c) w' s = subst (HasRoles g) (sym s.1) (as_was g w _ refl refl refl t)
   roles_step (Event.StoreLog k listed) w' s = subst (HasRoles g) (sym s.2) (as_was g w _ refl refl refl t)
-  roles_step (Event.StoreLogFails k) w' s = roles_failed k s.0 w' s.3
 
 -- an opening finds them so
 pub roles_opened : (g : Geometry) (first : Super) (w : World) → IsStart g first w → HasRoles g w

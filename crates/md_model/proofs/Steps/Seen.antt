@@ -22,10 +22,6 @@ pub unhidden : (b : Bool) (x : Option Super) (own : Super) → cond b None x ≡
 unhidden true x own e = absurd (none_some own e)
 unhidden false x own e = e
 
-pub hidden_from : (b : Bool) (x y : Option Super) → ((own : Super) → x ≡ Some own → y ≡ Some own) → (own : Super) → cond b None x ≡ Some own → cond b None y ≡ Some own
-hidden_from true x y from own e = absurd (none_some own e)
-hidden_from false x y from own e = from own e
-
 pub hidden_left : (b : Bool) (x y z : Option Super) → (x ≡ y) ⊎ ((x ≡ z) ⊎ (x ≡ None)) → (cond b None x ≡ cond b None y) ⊎ ((cond b None x ≡ z) ⊎ (cond b None x ≡ None))
 hidden_left true x y z l = inl refl
 hidden_left false x y z l = l

@@ -163,10 +163,7 @@ module _ (g : Geometry) where
   unstored_step w (Event.Finish n) w' t u s = subst IsUnstored (sym s.2) (unstored_finished w n s.0 t s.1 u)
   unstored_step w (Event.ClearIdle c) w' t u s = subst IsUnstored (sym s.1) (record { listed = u.listed; agree = u.agree })
   unstored_step w (Event.Fail k) w' t u s = unstored_fails w k (w.stored k) w' s.1 u
-  unstored_step w (Event.RecordFails k) w' t u s = unstored_fails w k s.0 w' s.2 u
-  unstored_step w (Event.StoreMarksFails k b) w' t u s = unstored_fails w k s.0 w' s.3 u
-  unstored_step w (Event.WriteMemberFails n k) w' t u s = unstored_fails w k s.0 w' s.4 u
-  unstored_step w (Event.CopyFails k c) w' t u s = unstored_fails w k s.0 w' s.4 u
+  unstored_step w (Event.WriteFails k part) w' t u s = unstored_fails w k s.0 w' s.2 u
   unstored_step w (Event.Copy from k x) w' t u s = subst IsUnstored (sym s.1) (unstored_copied w from k x s.0 u)
   unstored_step w Event.Resynced w' t u s = subst IsUnstored (sym s.1) (record { listed = u.listed; agree = u.agree })
   unstored_step w Event.Unresynced w' t u s = subst IsUnstored (sym s.1) (record { listed = u.listed; agree = u.agree })
@@ -197,4 +194,3 @@ module _ (g : Geometry) where
       (unstored_fewer w (log_stored w k listed) (fewer_log_stored w k listed s.1) (λ _ _ _. refl)
       (λ j x on off. put-at k (record (w.stored k) { listed = listed }) w.stored j (λ (d : Stored). d.listed x ≡ false)
       (λ here. s.1.kept x (ap (λ i. w.bad i x) (sym here) ∙ off)) (λ _. u.listed j x on off)) u)
-  unstored_step w (Event.StoreLogFails k) w' t u s = unstored_fails w k s.0 w' s.3 u

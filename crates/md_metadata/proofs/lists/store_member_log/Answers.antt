@@ -1,5 +1,5 @@
 use Rattle.std.proofs.Common.{subst}
-use Rattle.md_model.specs.Events.{Event}
+use Rattle.md_model.specs.Events.{Event, MemberPart}
 use Rattle.md_array.specs.Events.{Happens}
 use Rattle.md_array.specs.Listing.{HasNoShift, IfLogFailed, RefusesLog}
 use Rattle.md_metadata.proofs.StoredLists.{log_fails, log_halts, log_stored}
@@ -15,7 +15,7 @@ returns-in-Err-MemberFailed g c =
     let new = c.store_log.new.self in
     log_fails old new c.args.k at.ensures.sound at.ensures.pending at.j
     (subst (RefusesLog c.args.k old new) at.field-0-is at.ensures.gives)
-    (λ unshifted. subst (IfLogFailed (Happens old (Event.StoreLogFails c.args.k) new)) at.field-0-is (at.ensures.event unshifted))
+    (λ unshifted. subst (IfLogFailed (Happens old (Event.WriteFails c.args.k MemberPart.Log) new)) at.field-0-is (at.ensures.event unshifted))
 
 pub returns-in-Err-Halted : goal.returns-in-Err-Halted
 returns-in-Err-Halted g c =

@@ -1,5 +1,5 @@
 use Rattle.std.proofs.Common.{subst}
-use Rattle.md_model.specs.Events.{Event}
+use Rattle.md_model.specs.Events.{Event, MemberPart}
 use Rattle.md_state.specs.StoringMarks.{RefusesMarkSector}
 use Rattle.md_array.specs.Events.{Happens, IfStoringFailed}
 use Rattle.md_metadata.proofs.Steps.{sector_fails, sector_halts, sector_refused, sector_stored}
@@ -15,7 +15,7 @@ returns-in-Err-MemberFailed g c =
     let new = c.store_marks.new.self in
     sector_fails old new c.args.k c.args.block at.ensures.sound at.ensures.pending c.requires.due at.j
     (subst (RefusesMarkSector c.args.k c.args.block old new) at.field-0-is at.ensures.gives)
-    (subst (IfStoringFailed (Happens old (Event.StoreMarksFails c.args.k c.args.block) new)) at.field-0-is at.ensures.event)
+    (subst (IfStoringFailed (Happens old (Event.WriteFails c.args.k (MemberPart.BitmapSector c.args.block)) new)) at.field-0-is at.ensures.event)
 
 pub returns-in-Err-Halted : goal.returns-in-Err-Halted
 returns-in-Err-Halted g c =

@@ -2,7 +2,7 @@ use Rattle.std.proofs.Common.{◌≡◌, ◌/◌, true, arith, subst, sym}
 use Rattle.md_array.specs.CopyEvents.{IfCopyingFailed}
 use Rattle.md_array.specs.Events.{Happens}
 use Rattle.md_assembly.specs.States.{is_in_sync}
-use Rattle.md_model.specs.Events.{Event}
+use Rattle.md_model.specs.Events.{Event, MemberPart}
 use Rattle.md_state.specs.CopyingData.{RefusesCopy}
 use Rattle.md_state.specs.Members.{IsInSync}
 use Rattle.md_state.specs.ReadingData.{HoldsData}
@@ -72,7 +72,7 @@ returns-in-Err-MemberFailed g c =
     let Among = IsAmong c.args.sector c.args.bytes.now in
     loses_then Among at.j old mid new (copies_read Among old mid read.rests c.requires.sound)
     (loses_copying c.args.k chunk mid new at.j (subst (RefusesCopy c.args.k chunk mid new) at.field-0-is at.ensures.gives)
-    (subst (IfCopyingFailed (Happens mid (Event.CopyFails c.args.k chunk) new)) at.field-0-is at.ensures.event) at.ensures.sound)
+    (subst (IfCopyingFailed (Happens mid (Event.WriteFails c.args.k (MemberPart.CopiedChunk chunk)) new)) at.field-0-is at.ensures.event) at.ensures.sound)
 
 pub returns-in-Err-Halted : goal.returns-in-Err-Halted
 returns-in-Err-Halted g c =

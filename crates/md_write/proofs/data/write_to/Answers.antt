@@ -1,5 +1,5 @@
 use Rattle.std.proofs.Common.{subst}
-use Rattle.md_model.specs.Events.{Event}
+use Rattle.md_model.specs.Events.{Event, MemberPart}
 use Rattle.md_state.specs.WritingMember.{RefusesWriteMember}
 use Rattle.md_state.proofs.Members.At.{told}
 use Rattle.md_array.specs.Events.{HappensAmong, IfWritingFailed}
@@ -26,7 +26,7 @@ returns-in-Err-MemberFailed g c =
     let q = c.write_member.new.pending in
     data_fails old new c.args.k p q c.requires.sound c.requires.pending at.ensures.sound at.ensures.pending at.j
     (subst (RefusesWriteMember c.args.k old new p q) at.field-0-is at.ensures.gives)
-    (subst (IfWritingFailed (HappensAmong old p (Event.WriteMemberFails p.ticket.number c.args.k) new q)) at.field-0-is at.ensures.event)
+    (subst (IfWritingFailed (HappensAmong old p (Event.WriteFails c.args.k (MemberPart.RequestData p.ticket.number)) new q)) at.field-0-is at.ensures.event)
 
 pub returns-in-Err-Halted : goal.returns-in-Err-Halted
 returns-in-Err-Halted g c =
