@@ -23,6 +23,8 @@ pub mod DataWritten
 pub mod DeviceTakenBack
 -- Devices that were lent and have come back: the mirror is consistent again, and an opening reads what is kept.
 pub mod DevicesBack
+-- A write of a part of a member failed, and made its member faulty or halted the mirror: which write it was.
+pub mod FailedParts
 -- A request that is finished leaves the list of those in flight, and nothing else changes: that is the model's event.
 pub mod Finished
 -- The requests in flight, by the mirror's list of them.

@@ -6,7 +6,7 @@ use Rattle.std.proofs.lemmas.Option.{none-some, slice_get_within}
 use Rattle.md_badblocks.specs.declared.run.Run.{Run}
 use Rattle.md_bitmap.specs.declared.chunks.Chunks.{Chunks}
 use Rattle.md_model.specs.Devices.{Stored, Super}
-use Rattle.md_model.specs.Events.{Event, MemberPart}
+use Rattle.md_model.specs.Events.{Event}
 use Rattle.md_requests.specs.Pending.{PendingView}
 use Rattle.md_faults.specs.declared.add_fault.AddFault.{AddFault}
 use Rattle.md_faults.specs.declared.add_fault.AddFault.TheVariants as add
@@ -26,6 +26,7 @@ use Rattle.md_array.specs.Enrolling.{log_writes}
 use Rattle.md_array.specs.InTurn.{AllOf, Did, HaltsAt, Leads, Requests}
 use Rattle.md_array.specs.Listing.{AreWritten}
 use Rattle.md_bitmap.specs.Marks.{Bitmap}
+use Rattle.md_array.proofs.Steps.FailedParts.{failed_write, halting_write}
 use Rattle.md_array.proofs.Steps.Turns.{all_on, all_such}
 use Rattle.md_device_writes.specs.Writes.{Write as DiskWrite}
 use Rattle.md_laws.specs.ReadInTurn.{LeadsReading}
@@ -91,10 +92,7 @@ did IsOf keeps (Event.WriteMember n k) old new before after of h = h.5.disks.tri
 did IsOf keeps (Event.Finish n) old new before after of h = ap length h.3.disks
 did IsOf keeps (Event.ClearIdle c) old new before after of h = ap length h.1.disks
 did IsOf keeps (Event.Fail k) old new before after of h = ap length h.1.disks
-did IsOf keeps (Event.WriteFails k MemberPart.Superblock) old new before after of h = h.1.fails.disks.tried.as_many
-did IsOf keeps (Event.WriteFails k (MemberPart.BitmapSector b)) old new before after of h = h.1.fails.disks.tried.as_many
-did IsOf keeps (Event.WriteFails k (MemberPart.RequestData n)) old new before after of h = h.5.fails.disks.tried.as_many
-did IsOf keeps (Event.WriteFails k (MemberPart.CopiedChunk c)) old new before after of h = h.1.fails.disks.tried.as_many
+did IsOf keeps (Event.WriteFails k part) old new before after of h = (failed_write k old new before part after h).1.disks.tried.as_many
 did IsOf keeps (Event.Copy from k s) old new before after of h = h.1.disks.tried.as_many
 did IsOf keeps Event.Resynced old new before after of h = ap length h.1.marks.disks
 did IsOf keeps Event.Unresynced old new before after of h = ap length h.1.disks
@@ -111,14 +109,9 @@ did IsOf keeps (Event.Admit k role listed) old new before after of h = h.1.admit
 did IsOf keeps (Event.Checkpoint k offset listed) old new before after of h = h.1.checkpoints.disks.tried.as_many
 did IsOf keeps (Event.NoteBad k c) old new before after of h = ap length h.1.disks
 did IsOf keeps (Event.StoreLog k listed) old new before after of h = log_written k (log_writes h.1.member.superblock h.1.member.bad) old.disks new.disks h.1.disks
-did IsOf keeps (Event.WriteFails k MemberPart.Log) old new before after of h = h.1.fails.disks.tried.as_many
 
 pub halts : (e : Event) (old new : MirrorView) (before : Requests) → HaltsAt old before e new → AsMany old new
-halts (Event.WriteFails k MemberPart.Superblock) old new before h = h.halts.disks.tried.as_many
-halts (Event.WriteFails k (MemberPart.BitmapSector b)) old new before h = h.halts.disks.tried.as_many
-halts (Event.WriteFails k (MemberPart.RequestData n)) old new before h = h.3.halts.disks.tried.as_many
-halts (Event.WriteFails k (MemberPart.CopiedChunk c)) old new before h = h.halts.disks.tried.as_many
-halts (Event.WriteFails k MemberPart.Log) old new before h = h.halts.disks.tried.as_many
+halts (Event.WriteFails k part) old new before h = (halting_write k old new before part h).3.disks.tried.as_many
 halts e old new before h = absurd h
 
 -- ---- lists of events

@@ -63,7 +63,7 @@ module _ (g : Geometry) (s k : ℕ) (c : List ℕ) where
   pub source_step : (w : World) (e : Event) (w' : World) → IsOfResync e → IsNoFailure e → CopiesFree w e → Step g w e w' → IsSourceIn w → IsSourceIn w'
   source_step w (Event.StoreMarks i b) w' of done free step h =
       subst IsSourceIn (sym step.1.1) (record { in_sync = h.in_sync; free = h.free; lowest = h.lowest; apart = h.apart; holds = content_marked g w i b k s ∙ h.holds })
-  source_step w (Event.WriteFails i (MemberPart.BitmapSector b)) w' of done free step h = absurd done
+  source_step w (Event.WriteFails i which) w' of done free step h = absurd done
   source_step w (Event.Copy from j x) w' of done free step h =
       subst IsSourceIn (sym step.1.1) (record {
         in_sync = h.in_sync;
@@ -72,7 +72,6 @@ module _ (g : Geometry) (s k : ℕ) (c : List ℕ) where
         apart = h.apart;
         holds = copied_elsewhere w from j x (not_there w (Event.Copy from j x) w' from j x refl free step h) ∙ h.holds;
       })
-  source_step w (Event.WriteFails i (MemberPart.CopiedChunk b)) w' of done free step h = absurd done
   source_step w Event.Resynced w' of done free step h =
       subst IsSourceIn (sym step.1.1) (record { in_sync = h.in_sync; free = h.free; lowest = h.lowest; apart = h.apart; holds = h.holds })
   source_step w (Event.ClearIdle b) w' of done free step h =
@@ -87,7 +86,7 @@ module _ (g : Geometry) (s k : ℕ) (c : List ℕ) where
   pub stays_step : (w : World) (e : Event) (w' : World) → IsOfResync e → IsNoFailure e → CopiesFree w e → Step g w e w' → StaysIn w → StaysIn w'
   stays_step w (Event.StoreMarks i b) w' of done free step h =
       subst StaysIn (sym step.1.1) (record { unmarked = h.unmarked; holds = content_marked g w i b k s ∙ h.holds })
-  stays_step w (Event.WriteFails i (MemberPart.BitmapSector b)) w' of done free step h = absurd done
+  stays_step w (Event.WriteFails i which) w' of done free step h = absurd done
   stays_step w (Event.Copy from j x) w' of done free step h =
       subst StaysIn (sym step.1.1) (record {
         unmarked = h.unmarked;
@@ -95,7 +94,6 @@ module _ (g : Geometry) (s k : ℕ) (c : List ℕ) where
             content_copied g w from j x k s (λ same. true≢false (sym step.1.0.chunk.marked ∙ sym (ap (λ (t : ℕ). w.marks (chunk_of g t)) same) ∙ h.unmarked))
             ∙ h.holds;
       })
-  stays_step w (Event.WriteFails i (MemberPart.CopiedChunk b)) w' of done free step h = absurd done
   stays_step w Event.Resynced w' of done free step h = subst StaysIn (sym step.1.1) (record { unmarked = h.unmarked; holds = h.holds })
   stays_step w (Event.ClearIdle b) w' of done free step h =
       subst StaysIn (sym step.1.1) (record { unmarked = put-at b false w.marks (chunk_of g s) (λ x. x ≡ false) (λ _. refl) (λ _. h.unmarked); holds = h.holds })
@@ -124,8 +122,7 @@ copies_free v requests (Event.Copy from k x) new after of did =
     let source = did.1.may.source x (omega arith) (omega arith) in
     (unlisted_off v requests from x source.member source.at source.unlisted, did.1.may.apart)
 copies_free v requests (Event.StoreMarks k b) new after of did = tt
-copies_free v requests (Event.WriteFails k (MemberPart.BitmapSector b)) new after of did = tt
-copies_free v requests (Event.WriteFails k (MemberPart.CopiedChunk c)) new after of did = tt
+copies_free v requests (Event.WriteFails k which) new after of did = tt
 copies_free v requests Event.Resynced new after of did = tt
 copies_free v requests (Event.ClearIdle c) new after of did = tt
 copies_free v requests e new after of did = absurd of

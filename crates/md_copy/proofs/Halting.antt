@@ -21,7 +21,7 @@ use Rattle.md_metadata.specs.Storing.{IsFailureOf, IsStoring}
 use Rattle.md_copy.specs.declared.fault.RebuildFault.{RebuildFault}
 use Rattle.md_copy.specs.declared.fault.RebuildFault.TheVariants.{MetadataFault}
 use Rattle.md_copy.specs.Refused.{IsFromMarks, KeepsDataBeside, KeepsDataBut}
-use Rattle.md_copy.proofs.ReadyStill.{storing_halted}
+use Rattle.md_array.proofs.Steps.FailedParts.{halted_then}
 use Rattle.md_copy.proofs.Refused.{Lasts}
 use Rattle.md_copy.proofs.StoringKeeps.{beside_super_of, places_of}
 
@@ -56,7 +56,7 @@ halts_on k mid new sound (Event.WriteFails j MemberPart.Superblock) of is h =
       members = ap (λ (a : ArrayView). a.members) h.halts.array.array;
       marks = ap (λ (a : ArrayView). a.marks) h.halts.array.array;
       resynced = ap (λ (a : ArrayView). a.resynced) h.halts.array.array;
-      halted = storing_halted mid new (λ n. None) (Event.WriteFails j MemberPart.Superblock) tt h;
+      halted = halted_then mid new (λ n. None) (Event.WriteFails j MemberPart.Superblock) h;
       failed = h.halts.disks.failed;
       keeps = λ m at d e at_d at_e.
           inl (beside_super_of m d e ((places_of mid sound).each j m d at at_d)
@@ -69,7 +69,7 @@ halts_on k mid new sound (Event.WriteFails j (MemberPart.BitmapSector b)) of is 
       members = ap (λ (a : ArrayView). a.members) h.halts.array.array;
       marks = ap (λ (a : ArrayView). a.marks) h.halts.array.array;
       resynced = ap (λ (a : ArrayView). a.resynced) h.halts.array.array;
-      halted = storing_halted mid new (λ n. None) (Event.WriteFails j (MemberPart.BitmapSector b)) tt h;
+      halted = halted_then mid new (λ n. None) (Event.WriteFails j (MemberPart.BitmapSector b)) h;
       failed = h.halts.disks.failed;
       keeps = λ m at d e at_d at_e.
           subst (λ (z : MemberView). KeepsDataBut z z d e) (same_Some h.member m (sym h.may.in_sync.member ∙ at))

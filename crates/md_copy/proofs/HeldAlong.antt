@@ -7,7 +7,7 @@ use Rattle.md_device.specs.Splice.{part}
 use Rattle.md_kept_members.specs.View.{MemberView}
 use Rattle.md_model.specs.Content.{Content, HoldsBetween}
 use Rattle.md_model.specs.Devices.{Stored}
-use Rattle.md_model.specs.Events.{Event, MemberPart}
+use Rattle.md_model.specs.Events.{Event}
 use Rattle.md_model.specs.Sectors.{Geometry}
 use Rattle.md_model.specs.Worlds.{World}
 use Rattle.md_model.proofs.Cases.{below-nat_lt}
@@ -89,8 +89,7 @@ holds_along (Event.StoreMarks k b ∷ es) previous old new before after content 
     let does = leads.4 honest tt in
     holds_along es (Some (Event.StoreMarks k b)) leads.0 new leads.1 after content of.1 calm.1 does.honest leads.5
     (then_holds (Event.StoreMarks k b) old leads.0 before leads.1 content does (does.content content content holds refl))
-holds_along (Event.WriteFails k MemberPart.Superblock ∷ es) previous old new before after content of calm honest leads holds = absurd (calm.0)
-holds_along (Event.WriteFails k (MemberPart.BitmapSector b) ∷ es) previous old new before after content of calm honest leads holds = absurd (calm.0)
+holds_along (Event.WriteFails k which ∷ es) previous old new before after content of calm honest leads holds = absurd (calm.0)
 holds_along (e ∷ es) previous old new before after content of calm honest leads holds = absurd (of.0)
 
 pub content_stored : (old stored : MirrorView) → IsConsistent old → old.array.resynced ≡ true → StoresFirst old stored → AreHonest old.disks → (content : Content) → HasContent old.disks old.array content

@@ -36,6 +36,7 @@ use Rattle.md_array.proofs.General.Indices.{at_map}
 use Rattle.md_array.proofs.General.Replaced.{of_set}
 use Rattle.md_array.proofs.Rebuilding.LogStored.{is_log, log_of}
 use Rattle.md_array.proofs.Rebuilding.MemberStored.{log_long}
+use Rattle.md_array.proofs.Steps.FailedParts.{failed_write, halting_write}
 use Rattle.md_array.proofs.Worlds.Outside.{LiesIn, apart_either_way, apart_from_part, sector_at_is, stays}
 use Rattle.md_metadata.specs.Going.{GoesOn, HaltsAfter, only_others}
 use Rattle.md_metadata.specs.Storing.{FailsAtLast, IsFailureOf, IsNoFailure}
@@ -369,16 +370,9 @@ listing_leaves k old new goes =
 -- a write that failed is counted
 fails_event : (k : ℕ) (old new : MirrorView) (before between : Requests) (e : Event) → IsListing k e → IsFailureOf k e → Did old before e new between
     → AtDevice k old.disks new.disks (λ d f. d.honest ≡ true → d.failures < f.failures)
-fails_event k old new before between (Event.WriteFails j MemberPart.Log) of is did =
-    subst (λ i. AtDevice i old.disks new.disks (λ d f. d.honest ≡ true → d.failures < f.failures)) is did.1.fails.disks.failed
-fails_event k old new before between (Event.WriteFails j (MemberPart.BitmapSector b)) of is did =
-    subst (λ i. AtDevice i old.disks new.disks (λ d f. d.honest ≡ true → d.failures < f.failures)) is did.1.fails.disks.failed
-fails_event k old new before between (Event.WriteFails j MemberPart.Superblock) of is did =
-    subst (λ i. AtDevice i old.disks new.disks (λ d f. d.honest ≡ true → d.failures < f.failures)) is did.1.fails.disks.failed
-fails_event k old new before between (Event.StoreLog j listed) of is did = absurd is
-fails_event k old new before between (Event.StoreMarks j b) of is did = absurd is
-fails_event k old new before between (Event.Record j) of is did = absurd is
-fails_event k old new before between e of is did = absurd of
+fails_event k old new before between (Event.WriteFails j which) of is did =
+    subst (λ i. AtDevice i old.disks new.disks (λ d f. d.honest ≡ true → d.failures < f.failures)) is (failed_write j old new before which between did).1.disks.failed
+fails_event k old new before between e of is did = absurd is
 
 -- and so it is where it is the last of them
 fails_events : (k : ℕ) (first : List Event) (failing : Event) (previous : Option Event) (old new : MirrorView) (before after : Requests) → AllOf (IsListing k) (first ++ failing ∷ []) → IsFailureOf k failing
@@ -415,13 +409,9 @@ listing_halts k old new h =
 
 -- and this one is counted
 halt_fails : (k : ℕ) (mid new : MirrorView) (e : Event) → IsListing k e → IsFailureOf k e → HaltsAt mid (λ n. None) e new → AtDevice k mid.disks new.disks (λ d f. d.honest ≡ true → d.failures < f.failures)
-halt_fails k mid new (Event.WriteFails j MemberPart.Log) of is h = subst (λ i. AtDevice i mid.disks new.disks (λ d f. d.honest ≡ true → d.failures < f.failures)) is h.halts.disks.failed
-halt_fails k mid new (Event.WriteFails j (MemberPart.BitmapSector b)) of is h = subst (λ i. AtDevice i mid.disks new.disks (λ d f. d.honest ≡ true → d.failures < f.failures)) is h.halts.disks.failed
-halt_fails k mid new (Event.WriteFails j MemberPart.Superblock) of is h = subst (λ i. AtDevice i mid.disks new.disks (λ d f. d.honest ≡ true → d.failures < f.failures)) is h.halts.disks.failed
-halt_fails k mid new (Event.StoreLog j listed) of is h = absurd is
-halt_fails k mid new (Event.StoreMarks j b) of is h = absurd is
-halt_fails k mid new (Event.Record j) of is h = absurd is
-halt_fails k mid new e of is h = absurd of
+halt_fails k mid new (Event.WriteFails j which) of is h =
+    subst (λ i. AtDevice i mid.disks new.disks (λ d f. d.honest ≡ true → d.failures < f.failures)) is (halting_write j mid new (λ n. None) which h).3.disks.failed
+halt_fails k mid new e of is h = absurd is
 
 pub listing_halt_fails : (k : ℕ) (old new : MirrorView) → (h : HaltsAfter only_others only_others (IsListing k) old new) → IsFailureOf k h.failing → (m : MemberView) → IsMember old.array k m
     → HasDataApart m.superblock m.stored.chunks → AtDevice k old.disks new.disks (λ d f. d.honest ≡ true → d.failures < f.failures)
@@ -452,12 +442,10 @@ set_fields k a b m n at state is = record {
 fields_event : (k : ℕ) (old new : MirrorView) (before between : Requests) (e : Event) → IsListing k e → IsNoFailure e → Did old before e new between → KeepsFields old.array new.array
 fields_event k old new before between (Event.StoreLog j listed) of is did =
     let r = did.1 in set_fields j old.array new.array r.member (logged r.member) r.in_sync.member refl r.array
-fields_event k old new before between (Event.WriteFails j MemberPart.Log) of is did = absurd is
+fields_event k old new before between (Event.WriteFails j which) of is did = absurd is
 fields_event k old new before between (Event.StoreMarks j b) of is did =
     let r = did.1 in set_fields j old.array new.array r.member (record r.member { stored = r.stored }) r.may.in_sync.member refl r.array
-fields_event k old new before between (Event.WriteFails j (MemberPart.BitmapSector b)) of is did = absurd is
 fields_event k old new before between (Event.Record j) of is did = let r = did.1 in set_fields j old.array new.array r.member (record r.member { due = false }) r.may.at refl r.array
-fields_event k old new before between (Event.WriteFails j MemberPart.Superblock) of is did = absurd is
 fields_event k old new before between e of is did = absurd of
 
 fields_then : (a b c : ArrayView) → KeepsFields a b → KeepsFields b c → KeepsFields a c

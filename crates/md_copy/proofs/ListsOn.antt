@@ -16,7 +16,7 @@ use Rattle.md_kept_members.specs.Enrolling.{log_room}
 use Rattle.md_kept_members.specs.Members.{made_due}
 use Rattle.md_kept_members.specs.View.{MemberView}
 use Rattle.md_members.specs.Areas.{bitmap_sectors, log_area}
-use Rattle.md_model.specs.Events.{Event, MemberPart}
+use Rattle.md_model.specs.Events.{Event}
 use Rattle.md_model.proofs.Cases.{by_test}
 use Rattle.md_super.specs.declared.superblock.Superblock.{Superblock}
 use Rattle.md_super.specs.Encoding.{super_bytes}
@@ -42,6 +42,7 @@ use Rattle.md_array.proofs.Rebuilding.LogListed.{listed_logged}
 use Rattle.md_array.proofs.Rebuilding.LogStored.{log_of, logged_is_consistent}
 use Rattle.md_array.proofs.Rebuilding.MemberStored.{log_long}
 use Rattle.md_array.proofs.Steps.AfterFailure.{failed_is_consistent}
+use Rattle.md_array.proofs.Steps.FailedParts.{failed_write}
 use Rattle.md_array.proofs.Steps.MarkSectors.{marks_stored_is_consistent}
 use Rattle.md_array.proofs.Steps.SuperRecorded.{recorded_is_consistent}
 use Rattle.md_array.proofs.Worlds.Device.{fits_on}
@@ -267,16 +268,16 @@ module _ (mid next : MirrorView) (sound : IsConsistent mid) where
     event_leaves : (previous : Option Event) (before between : Requests) (e : Event) → IsStoring e → IsInOrder previous mid.array e → Did mid before e next between → AllLeave k mid next
     event_leaves previous before between (Event.Record j) of order did = record_leaves j did.1
     event_leaves previous before between (Event.StoreMarks j b) of order did = marks_leave j b did.1 (due_within mid.array j b did.1.member did.1.may.in_sync order)
-    event_leaves previous before between (Event.WriteFails j MemberPart.Superblock) of order did = fails_leave j (super_write mid.array did.1.member) did.1.fails.disks.tried did.1.fails.array
-    event_leaves previous before between (Event.WriteFails j (MemberPart.BitmapSector b)) of order did = fails_leave j did.1.write did.1.fails.disks.tried did.1.fails.array
+    event_leaves previous before between (Event.WriteFails j which) of order did =
+        let f = failed_write j mid next before which between did in fails_leave j f.0 f.1.disks.tried f.1.array
     event_leaves previous before between e of order did = absurd of
 
   event_sound : (previous : Option Event) (before between : Requests) (e : Event) → IsStoring e → IsInOrder previous mid.array e → Did mid before e next between → IsConsistent next
   event_sound previous before between (Event.Record j) of order did = recorded_is_consistent j mid next sound did.1
   event_sound previous before between (Event.StoreMarks j b) of order did =
       marks_stored_is_consistent j b mid next sound (due_within mid.array j b did.1.member did.1.may.in_sync order) did.1
-  event_sound previous before between (Event.WriteFails j MemberPart.Superblock) of order did = failed_is_consistent j (super_write mid.array did.1.member) mid next sound did.1.fails
-  event_sound previous before between (Event.WriteFails j (MemberPart.BitmapSector b)) of order did = failed_is_consistent j did.1.write mid next sound did.1.fails
+  event_sound previous before between (Event.WriteFails j which) of order did =
+      let f = failed_write j mid next before which between did in failed_is_consistent j f.0 mid next sound f.1
   event_sound previous before between e of order did = absurd of
 
 module _ (k : ℕ) (mid next : MirrorView) (before between : Requests) (previous : Option Event) (e : Event) (of : IsStoring e) (order : IsInOrder previous mid.array e)

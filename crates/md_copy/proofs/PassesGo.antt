@@ -29,8 +29,9 @@ use Rattle.md_passes.specs.Passes.{PassView, ServesAtMost, failed_chunks, slots_
 use Rattle.md_plan.specs.declared.planner.Planned.{Planned}
 use Rattle.md_state.specs.Members.{IsMember}
 use Rattle.md_state.specs.Missing.{is_missing}
-use Rattle.md_state.specs.View.{MirrorView}
+use Rattle.md_state.specs.View.{ArrayView, MirrorView}
 use Rattle.md_array.specs.Consistency.{IsConsistent}
+use Rattle.md_array.proofs.Steps.FailedParts.{halted_array}
 use Rattle.md_copy.specs.declared.fault.RebuildFault.{RebuildFault}
 use Rattle.md_copy.specs.declared.fault.RebuildFault.TheVariants.{Halted, NotSpare, Dirty, InFlight, LogFull, NoMemory, TargetFault, MetadataFault, EventsFull}
 use Rattle.md_copy.specs.declared.passes.Passed.{Passed}
@@ -51,7 +52,7 @@ use Rattle.md_copy.proofs.PassRecorded.{failed_clear, failed_lacks, grown_held, 
 use Rattle.md_copy.proofs.PassRecorded as pass
 use Rattle.md_copy.proofs.PlanChunks.{table_in}
 use Rattle.md_copy.proofs.Readied.{recovering_target}
-use Rattle.md_copy.proofs.ReadyStill.{halted_marks, list_halted, list_lost, ready_filled, ready_listed, ready_noted}
+use Rattle.md_copy.proofs.ReadyStill.{list_lost, ready_filled, ready_listed, ready_noted}
 
 -- ---- one pass more
 pub chain_more : (target : ℕ) (passes : List PassView) (chunks left : List ℕ) (before mid after : Bitmap) (old now new : MirrorView) (p : PassView) → AreListedPasses target passes chunks left before mid old now
@@ -399,10 +400,10 @@ module _ (target : ℕ) (m : MemberView) (none : Bitmap) (first now : MirrorView
           )
           | inr halts ↦
               let at = halts.halts.halts in
-              let is_halted = list_halted at.mid new (λ n. None) at.failing at.of (at.halts (λ n. None)) in (
-                held_n ∙ sym (halted_marks at.mid new (λ n. None) at.failing at.of (at.halts (λ n. None)) ∙ ap (λ (b : Bitmap). b.chunks) at.goes.array.marks),
+              let is = halted_array at.mid new (λ n. None) at.failing (at.halts (λ n. None)) in (
+                held_n ∙ sym (ap (λ (a : ArrayView). a.marks.chunks) is ∙ ap (λ (b : Bitmap). b.chunks) at.goes.array.marks),
                 at.sound,
-                λ running. absurd (both_ways new.array.halted running is_halted),
+                λ running. absurd (both_ways new.array.halted running (ap (λ (a : ArrayView). a.halted) is)),
               )
         ]
 

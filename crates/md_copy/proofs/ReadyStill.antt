@@ -18,10 +18,11 @@ use Rattle.md_state.specs.View.{ArrayView, MirrorView}
 use Rattle.md_state.specs.WritingMember.{IsNotDue}
 use Rattle.md_array.specs.Checkpoints.{Checkpoints}
 use Rattle.md_array.specs.Consistency.{IsConsistent}
-use Rattle.md_array.specs.InTurn.{AllOf, Did, HaltsAt, Leads, Requests}
+use Rattle.md_array.specs.InTurn.{AllOf, Did, Leads, Requests}
 use Rattle.md_array.specs.NotingResynced.{AreNoted}
 use Rattle.md_array.proofs.General.Indices.{at_map}
 use Rattle.md_array.proofs.General.Replaced.{of_set}
+use Rattle.md_array.proofs.Steps.FailedParts.{failed_write}
 use Rattle.md_metadata.specs.Going.{IsSameArray}
 use Rattle.md_metadata.specs.Storing.{FailsAtLast, IsFailureOf, IsNoFailure, IsStoring, LosesStoring}
 use Rattle.md_copy.specs.Listing.{ChangesListAlone, IsStoringList, ListsAll, NotesLists}
@@ -160,9 +161,7 @@ module _ (k : ℕ) (mid next : MirrorView) (before between : Requests) where
   stays_event (Event.StoreLog j listed) of calm did =
       let r = did.1 in
       set_stays k j mid.array next.array r.member (logged r.member) r.in_sync.member (ap (λ (a : ArrayView). a.members) r.array) (ap (λ (a : ArrayView). a.marks) r.array) refl (λ c same. same)
-  stays_event (Event.WriteFails j MemberPart.Superblock) of calm did = failed_stays j calm did.1.fails.array
-  stays_event (Event.WriteFails j (MemberPart.BitmapSector b)) of calm did = failed_stays j calm did.1.fails.array
-  stays_event (Event.WriteFails j MemberPart.Log) of calm did = failed_stays j calm did.1.fails.array
+  stays_event (Event.WriteFails j part) of calm did = failed_stays j calm (failed_write j mid next before part between did).1.array
   stays_event e of calm did = absurd of
 
 module _ (k : ℕ) where
@@ -249,35 +248,6 @@ storing_states target k v w other l y at = (lost_stays IsStoring on_members targ
 pub list_recovers : (target k : ℕ) (v w : MirrorView) → k ≢ target → LosesStoring IsStoringList k v w → ((x : MemberView) → IsMember v.array target x → is_recovering x.state ≡ true)
     → (y : MemberView) → IsMember w.array target y → is_recovering y.state ≡ true
 list_recovers target k v w other = lost_recovering IsStoringList list_on_members target k v w other
-
--- where the mirror is halted, it is
-pub halted_then : (mid new : MirrorView) (others : Requests) (e : Event) → IsOnMembers e → HaltsAt mid others e new → new.array.halted ≡ true
-halted_then mid new others (Event.WriteFails j MemberPart.Superblock) of h = ap (λ (a : ArrayView). a.halted) h.halts.array.array
-halted_then mid new others (Event.WriteFails j (MemberPart.BitmapSector b)) of h = ap (λ (a : ArrayView). a.halted) h.halts.array.array
-halted_then mid new others (Event.WriteFails j MemberPart.Log) of h = ap (λ (a : ArrayView). a.halted) h.halts.array.array
-halted_then mid new others (Event.Record j) of h = absurd h
-halted_then mid new others (Event.StoreMarks j b) of h = absurd h
-halted_then mid new others (Event.StoreLog j listed) of h = absurd h
-halted_then mid new others e of h = absurd of
-
--- and the marks are what they were
-marks_then : (mid new : MirrorView) (others : Requests) (e : Event) → IsOnMembers e → HaltsAt mid others e new → new.array.marks.chunks ≡ mid.array.marks.chunks
-marks_then mid new others (Event.WriteFails j MemberPart.Superblock) of h = ap (λ (a : ArrayView). a.marks.chunks) h.halts.array.array
-marks_then mid new others (Event.WriteFails j (MemberPart.BitmapSector b)) of h = ap (λ (a : ArrayView). a.marks.chunks) h.halts.array.array
-marks_then mid new others (Event.WriteFails j MemberPart.Log) of h = ap (λ (a : ArrayView). a.marks.chunks) h.halts.array.array
-marks_then mid new others (Event.Record j) of h = absurd h
-marks_then mid new others (Event.StoreMarks j b) of h = absurd h
-marks_then mid new others (Event.StoreLog j listed) of h = absurd h
-marks_then mid new others e of h = absurd of
-
-pub halted_marks : (mid new : MirrorView) (others : Requests) (e : Event) → IsStoringList e → HaltsAt mid others e new → new.array.marks.chunks ≡ mid.array.marks.chunks
-halted_marks mid new others e of h = marks_then mid new others e (list_on_members e of) h
-
-pub storing_halted : (mid new : MirrorView) (others : Requests) (e : Event) → IsStoring e → HaltsAt mid others e new → new.array.halted ≡ true
-storing_halted mid new others e of h = halted_then mid new others e (on_members e of) h
-
-pub list_halted : (mid new : MirrorView) (others : Requests) (e : Event) → IsStoringList e → HaltsAt mid others e new → new.array.halted ≡ true
-list_halted mid new others e of h = halted_then mid new others e (list_on_members e of) h
 
 -- ---- once chunks are listed
 module _ (target : ℕ) (failed : List Slot) (v w : MirrorView) where

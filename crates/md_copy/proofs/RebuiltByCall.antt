@@ -11,7 +11,7 @@ use Rattle.md_bitmap.specs.Chunks.{InChunk}
 use Rattle.md_bitmap.specs.Marks.{is_set}
 use Rattle.md_kept_members.specs.Enrolling.{IsOfChunk}
 use Rattle.md_kept_members.specs.View.{MemberView}
-use Rattle.md_model.specs.Events.{Event, MemberPart}
+use Rattle.md_model.specs.Events.{Event}
 use Rattle.md_metadata.specs.Going.{GoesOn, only_others}
 use Rattle.md_metadata.specs.Storing.{IsFailureOf, IsRecording, IsStoring}
 use Rattle.md_passes.proofs.ArrayPasses.{copies_add}
@@ -21,6 +21,7 @@ use Rattle.md_state.specs.Missing.{is_missing}
 use Rattle.md_state.specs.View.{ArrayView, MirrorView}
 use Rattle.md_array.specs.Consistency.{IsConsistent}
 use Rattle.md_array.specs.InTurn.{HaltsAt}
+use Rattle.md_array.proofs.Steps.FailedParts.{halting_write}
 use Rattle.md_copy.specs.declared.rebuilt.Rebuilt.{Rebuilt}
 use Rattle.md_copy.specs.Filling.{CountsFailed}
 use Rattle.md_copy.specs.Preparing.{is_in}
@@ -57,17 +58,13 @@ pub record IsStill (k : ℕ) (last new : MirrorView) : Type 0 where
   pub device : slice_get new.disks k ≡ slice_get last.disks k
 
 halts_still : (k : ℕ) (last new : MirrorView) (e : Event) → IsRecording e → HaltsAt last (λ n. None) e new → (IsFailureOf k e → ⊥) → IsStill k last new
-halts_still k last new (Event.WriteFails j MemberPart.Superblock) of h apart = record {
-  member = λ n at. sym (ap (λ (a : ArrayView). slice_get a.members k) h.halts.array.array) ∙ at;
-  device = h.halts.disks.tried.others k (λ same. apart (sym same));
-}
-halts_still k last new (Event.WriteFails j (MemberPart.BitmapSector b)) of h apart = record {
-  member = λ n at. sym (ap (λ (a : ArrayView). slice_get a.members k) h.halts.array.array) ∙ at;
-  device = h.halts.disks.tried.others k (λ same. apart (sym same));
-}
-halts_still k last new (Event.Record j) of h apart = absurd h
-halts_still k last new (Event.StoreMarks j b) of h apart = absurd h
-halts_still k last new e of h apart = absurd of
+halts_still k last new (Event.WriteFails j part) of h apart =
+    let halts = (halting_write j last new (λ n. None) part h).3 in
+    record {
+      member = λ n at. sym (ap (λ (a : ArrayView). slice_get a.members k) halts.array.array) ∙ at;
+      device = halts.disks.tried.others k (λ same. apart (sym same));
+    }
+halts_still k last new e of h apart = absurd h
 
 still_so : (k : ℕ) (last new : MirrorView) (ends : ((last ≡ new) × (new.array.halted ≡ false)) ⊎ HaltsFrom last new) → (HaltsTo (runs_or_halts ends) k → ⊥) → IsStill k last new
 still_so k last new (inl same) apart = subst (λ (v : MirrorView). IsStill k last v) same.0 (record { member = λ n at. at; device = refl })

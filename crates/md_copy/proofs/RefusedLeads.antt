@@ -31,6 +31,7 @@ use Rattle.md_array.proofs.Rebuilding.PreparedEvent.{prepare_happens}
 use Rattle.md_array.proofs.Rebuilding.SpoiledEvent.{spoil_happens}
 use Rattle.md_array.proofs.Rebuilding.TargetEvent.{target_fails_happens}
 use Rattle.md_array.proofs.Rebuilding.TargetLeft.{left_happens}
+use Rattle.md_array.proofs.Steps.FailedParts.{halted_then}
 use Rattle.md_array.proofs.Steps.Turns.{all_on}
 use Rattle.md_metadata.specs.Storing.{FailsAtLast, IsFailureOf}
 use Rattle.md_copy.specs.declared.fault.RebuildFault.{RebuildFault}
@@ -51,7 +52,7 @@ use Rattle.md_copy.proofs.HeldRecorded.{out_of_sync}
 use Rattle.md_copy.proofs.PassRecorded.{recorded_ready}
 use Rattle.md_copy.proofs.PassesTold.{HoldsSoFar, chain_holds, filled_ready}
 use Rattle.md_copy.proofs.Readied.{recovering_admitted, spare_rebuilt}
-use Rattle.md_copy.proofs.ReadyStill.{list_halted, list_recovers, ready_noted, storing_halted, storing_recovers}
+use Rattle.md_copy.proofs.ReadyStill.{list_recovers, ready_noted, storing_recovers}
 use Rattle.md_copy.proofs.RebuildLeads.{Before, LeadsIn, admission_events, admission_leads, as_such, begin_events, begin_holds, begin_leads, both_lead, chain_events, chain_leads, copying_events, copying_leads, fill_leads, leads_by, listing_before, listing_leads, none_lead, noting_leads, one_leads, recorded_events, recorded_leads, checkpoint_leads, storing_before, storing_leads}
 use Rattle.md_copy.proofs.StoredFirst.{rebuilt_still}
 use Rattle.md_copy.proofs.TargetStates.{target_rebuilt}
@@ -280,7 +281,7 @@ module _ (target : ℕ) where
             last = at.mid;
             leads = both_lead (Before target) es at.stores.goes.events old mid at.mid before (storing_leads target mid at.mid at.stores.goes);
             halts = record { failing = at.failing; of = storing_before target at.failing at.of; halts = at.halts };
-            halted = storing_halted at.mid new (λ n. None) at.failing at.of (at.halts (λ n. None));
+            halted = halted_then at.mid new (λ n. None) at.failing (at.halts (λ n. None));
           },
           at.named,
         )
@@ -426,7 +427,7 @@ module _ (target : ℕ) where
                   last = h.mid;
                   leads = both_lead (Before target) before h.goes.events old noted h.mid there (listing_leads target noted h.mid h.goes);
                   halts = record { failing = h.failing; of = listing_before target h.failing h.of; halts = h.halts };
-                  halted = list_halted h.mid new (λ n. None) h.failing h.of (h.halts (λ n. None));
+                  halted = halted_then h.mid new (λ n. None) h.failing (h.halts (λ n. None));
                 },
                 at.halts.named,
               )

@@ -16,7 +16,6 @@ use Rattle.md_kept_members.specs.TakingBack.{admitted_member, with_offset}
 use Rattle.md_kept_members.specs.View.{MemberView}
 use Rattle.md_pass.specs.Readings.{is_of}
 use Rattle.md_passes.specs.Listed.{IsOfFailed}
-use Rattle.md_model.specs.Events.{Event, MemberPart}
 use Rattle.md_model.specs.Rebuilding.{lacks}
 use Rattle.md_state.specs.Admitting.{admitted}
 use Rattle.md_state.specs.DiskWrites.{IsTried}
@@ -26,13 +25,13 @@ use Rattle.md_state.specs.View.{ArrayView, Disk, MirrorView}
 use Rattle.md_array.specs.Checkpoints.{Checkpoints, FailsToCheckpoint}
 use Rattle.md_array.specs.Consistency.{IsConsistent}
 use Rattle.md_array.specs.Enrolling.{FailsToEnrol, KeepsData}
-use Rattle.md_array.specs.InTurn.{HaltsAt}
 use Rattle.md_array.specs.Recording.{super_write}
+use Rattle.md_array.proofs.Steps.FailedParts.{halted_array, halted_then}
 use Rattle.md_super.specs.declared.superblock.Superblock.{Superblock}
 use Rattle.md_metadata.specs.Storing.{IsStoring, StaysReady, Stores}
 use Rattle.md_copy.specs.Beginning.{MayRebuild}
 use Rattle.md_copy.specs.Leaving.{Leaves}
-use Rattle.md_copy.specs.Listing.{HaltsAtList, IsStoringList, StopsAtList}
+use Rattle.md_copy.specs.Listing.{HaltsAtList, StopsAtList}
 use Rattle.md_copy.specs.Readying.{AdmitsAfter, FailsAdmission}
 use Rattle.md_copy.specs.Rebuilding.{Begins}
 use Rattle.md_copy.specs.declared.fault.RebuildFault.TheVariants.{MetadataFault}
@@ -42,7 +41,7 @@ use Rattle.md_copy.proofs.Halting.{HaltsOn, halts_on, lasts_halted}
 use Rattle.md_copy.proofs.HeldRecorded.{chunks_is, data_kept, lacked, marks_is, other_is, out_of_sync, target_same as checkpointed_is}
 use Rattle.md_copy.proofs.PassesKeep.{PassesKeep}
 use Rattle.md_copy.proofs.Readied.{after_so, ready_of, recovering_admitted, spare_is, spare_twice, stored_so}
-use Rattle.md_copy.proofs.ReadyStill.{list_halted, storing_states}
+use Rattle.md_copy.proofs.ReadyStill.{storing_states}
 use Rattle.md_copy.proofs.Refused.{GrowsSo, IsSameOrLost, KeepsRest, Lasts, Preserves, StaysTarget, lasts_none, preserves_rest, preserves_started, rest_alone, rest_none, rest_on, rest_stored, rest_super, target_same}
 use Rattle.md_copy.proofs.StartedAs.{IsAs, StartsAs, starts_on}
 use Rattle.md_copy.proofs.StartsReadied.{starts_admitted, starts_of, starts_stored}
@@ -390,16 +389,7 @@ rest_unenrolled target kept orphans v w f =
 
 -- ---- a list is not stored
 pub halts_list : (k : ℕ) (v w : MirrorView) → HaltsAtList k v w → w.array.halted ≡ true
-halts_list k v w at = (let s = at.halts.halts in list_halted s.mid w (λ n. None) s.failing s.of (s.halts (λ n. None)))
-
-halted_array : (mid new : MirrorView) (e : Event) → IsStoringList e → HaltsAt mid (λ n. None) e new → new.array ≡ record mid.array { halted = true }
-halted_array mid new (Event.WriteFails j MemberPart.Superblock) of h = h.halts.array.array
-halted_array mid new (Event.WriteFails j (MemberPart.BitmapSector b)) of h = h.halts.array.array
-halted_array mid new (Event.WriteFails j MemberPart.Log) of h = h.halts.array.array
-halted_array mid new (Event.Record j) of h = absurd h
-halted_array mid new (Event.StoreMarks j b) of h = absurd h
-halted_array mid new (Event.StoreLog j listed) of h = absurd h
-halted_array mid new e of h = absurd of
+halts_list k v w at = (let s = at.halts.halts in halted_then s.mid w (λ n. None) s.failing (s.halts (λ n. None)))
 
 -- whether it is stored or not, what the mirror keeps of chunks and marks is as before
 list_same : (k : ℕ) (failed : List Slot) (v w : MirrorView) → StopsAtList failed k v w
@@ -408,7 +398,7 @@ list_same k failed v w h = elim h.ends [
   | inl lost ↦ (lost.loses.goes.array.chunks, lost.loses.goes.array.marks, lost.loses.goes.array.resynced)
   | inr at ↦
       let s = at.halts.halts in
-      let is = halted_array s.mid w s.failing s.of (s.halts (λ n. None)) in
+      let is = halted_array s.mid w (λ n. None) s.failing (s.halts (λ n. None)) in
       (ap (λ (a : ArrayView). a.chunks) is ∙ s.goes.array.chunks, ap (λ (a : ArrayView). a.marks) is ∙ s.goes.array.marks, ap (λ (a : ArrayView). a.resynced) is ∙ s.goes.array.resynced)
 ]
 
@@ -450,5 +440,5 @@ rest_list target k failed v w recovers h = record {
     many : length w.array.members ≡ length v.array.members
     many = elim h.ends [
       | inl lost ↦ lost.loses.goes.array.as_many
-      | inr at ↦ (let s = at.halts.halts in ap (λ (a : ArrayView). length a.members) (halted_array s.mid w s.failing s.of (s.halts (λ n. None))) ∙ s.goes.array.as_many)
+      | inr at ↦ (let s = at.halts.halts in ap (λ (a : ArrayView). length a.members) (halted_array s.mid w (λ n. None) s.failing (s.halts (λ n. None))) ∙ s.goes.array.as_many)
     ]

@@ -366,30 +366,7 @@ module _ (mid next : MirrorView) (before between : Requests) (previous : Option 
       (ap (λ (b : ArrayView). b.marks) r.fails.array.array)
       (fails_same k mid.array next.array r.fails.array)
       (fails_state k mid.array next.array mid.disks next.disks r.fails.array r.fails.disks.failed)
-  keeps_event (Event.Begin n p) of order did = absurd of
-  keeps_event (Event.WriteMember n k) of order did = absurd of
-  keeps_event (Event.Finish n) of order did = absurd of
-  keeps_event (Event.ClearIdle c) of order did = absurd of
-  keeps_event (Event.Fail k) of order did = absurd of
-  keeps_event (Event.WriteFails k (MemberPart.RequestData n)) of order did = absurd of
-  keeps_event (Event.WriteFails k (MemberPart.CopiedChunk c)) of order did = absurd of
-  keeps_event (Event.Copy from k s) of order did = absurd of
-  keeps_event Event.Resynced of order did = absurd of
-  keeps_event Event.Unresynced of order did = absurd of
-  keeps_event Event.MakeClean of order did = absurd of
-  keeps_event (Event.Remove k) of order did = absurd of
-  keeps_event (Event.Add d left) of order did = absurd of
-  keeps_event (Event.ReAdd own device left) of order did = absurd of
-  keeps_event (Event.Fill k) of order did = absurd of
-  keeps_event (Event.Prepare k) of order did = absurd of
-  keeps_event (Event.RecordTargetFails k) of order did = absurd of
-  keeps_event (Event.SpoilTarget k) of order did = absurd of
-  keeps_event (Event.Enrol k role listed) of order did = absurd of
-  keeps_event (Event.Admit k role listed) of order did = absurd of
-  keeps_event (Event.Checkpoint k offset listed) of order did = absurd of
-  keeps_event (Event.NoteBad k c) of order did = absurd of
-  keeps_event (Event.StoreLog k listed) of order did = absurd of
-  keeps_event (Event.WriteFails k MemberPart.Log) of order did = absurd of
+  keeps_event e of order did = absurd of
 
 -- ---- events, one after another
 keeps_events : (es : List Event) (previous : Option Event) (old new : MirrorView) (before after : Requests) → AllOf IsStoring es → Leads previous old before es new after → KeepsAll old new

@@ -13,7 +13,7 @@ use Rattle.md_kept_members.specs.TakingBack.{admitted_member, with_offset}
 use Rattle.md_kept_members.specs.Kept.{known_offset}
 use Rattle.md_kept_members.specs.View.{MemberView}
 use Rattle.md_members.specs.Areas.{data_area, super_area}
-use Rattle.md_model.specs.Events.{Event, MemberPart}
+use Rattle.md_model.specs.Events.{Event}
 use Rattle.md_model.proofs.Cases.{is_below}
 use Rattle.md_passes.specs.Passes.{PassView, failed_chunks}
 use Rattle.md_super.specs.declared.superblock.Superblock.{Superblock}
@@ -147,8 +147,7 @@ module _ (target : ℕ) where
       let apart : target ≢ j = λ here. both_ways (is_in_sync m.state) (s.out m (ap (slice_get mid.array.members) here ∙ r.may.in_sync.member)) r.may.in_sync.in_sync in
       stays_same mid next (ap (λ (a : ArrayView). slice_get a.members target) r.array ∙ got_other mid.array.members j target (record m { stored = r.stored }) apart) (r.disks.tried.others target apart)
       (marks_stored_is_consistent j b mid next s.sound (due_within mid.array j b m r.may.in_sync order) r) s
-  event_stays mid next before between previous (Event.WriteFails j MemberPart.Superblock) of unfailing order did s = absurd unfailing
-  event_stays mid next before between previous (Event.WriteFails j (MemberPart.BitmapSector b)) of unfailing order did s = absurd unfailing
+  event_stays mid next before between previous (Event.WriteFails j part) of unfailing order did s = absurd unfailing
   event_stays mid next before between previous e of unfailing order did s = absurd of
 
   events_stay : (es : List Event) (previous : Option Event) (old new : MirrorView) (before after : Requests) → AllOf IsStoring es → AllOf IsNoFailure es → Leads previous old before es new after → Stays old → Stays new

@@ -2,7 +2,7 @@
 use Rattle.std.proofs.Common.{◌≡◌, ℕ, List, [], ◌∷◌, ◌++◌, None, inl, inr, refl, sym, subst}
 use Rattle.md_bitmap.specs.Marks.{Bitmap}
 use Rattle.md_model.specs.Content.{Becomes, Content, Holds}
-use Rattle.md_model.specs.Events.{Event, MemberPart}
+use Rattle.md_model.specs.Events.{Event}
 use Rattle.md_model.specs.Runs.{spoiled_after}
 use Rattle.md_model.specs.Worlds.{World}
 use Rattle.md_state.specs.DiskWrites.{AtDevice}
@@ -49,8 +49,7 @@ pub stays_along : (target : ℕ) (es : List Event) (t : Moment) (a : Content) (l
 stays_along target [] t a last of run = (run, refl)
 stays_along target (Event.Record k ∷ es) t a last of run = (run.0, run.1, a, run.2, refl, stays_along target es (then_as t (Event.Record k) run.0 run.1) a last of.1 run.3)
 stays_along target (Event.StoreMarks k b ∷ es) t a last of run = (run.0, run.1, a, run.2, refl, stays_along target es (then_as t (Event.StoreMarks k b) run.0 run.1) a last of.1 run.3)
-stays_along target (Event.WriteFails k MemberPart.Superblock ∷ es) t a last of run = (run.0, run.1, a, run.2, refl, stays_along target es (then_as t (Event.WriteFails k MemberPart.Superblock) run.0 run.1) a last of.1 run.3)
-stays_along target (Event.WriteFails k (MemberPart.BitmapSector b) ∷ es) t a last of run = (run.0, run.1, a, run.2, refl, stays_along target es (then_as t (Event.WriteFails k (MemberPart.BitmapSector b)) run.0 run.1) a last of.1 run.3)
+stays_along target (Event.WriteFails k part ∷ es) t a last of run = (run.0, run.1, a, run.2, refl, stays_along target es (then_as t (Event.WriteFails k part) run.0 run.1) a last of.1 run.3)
 stays_along target (Event.Fill k ∷ es) t a last of run = (run.0, run.1, a, run.2, refl, stays_along target es (then_as t (Event.Fill k) run.0 run.1) a last of.1 run.3)
 stays_along target (Event.Prepare k ∷ es) t a last of run = (run.0, run.1, a, run.2, refl, stays_along target es (then_as t (Event.Prepare k) run.0 run.1) a last of.1 run.3)
 stays_along target (Event.RecordTargetFails k ∷ es) t a last of run = (run.0, run.1, a, run.2, refl, stays_along target es (then_as t (Event.RecordTargetFails k) run.0 run.1) a last of.1 run.3)
@@ -59,7 +58,6 @@ stays_along target (Event.Checkpoint k offset listed ∷ es) t a last of run =
     (run.0, run.1, a, run.2, refl, stays_along target es (then_as t (Event.Checkpoint k offset listed) run.0 run.1) a last of.1 run.3)
 stays_along target (Event.NoteBad k c ∷ es) t a last of run = (run.0, run.1, a, run.2, refl, stays_along target es (then_as t (Event.NoteBad k c) run.0 run.1) a last of.1 run.3)
 stays_along target (Event.StoreLog k listed ∷ es) t a last of run = (run.0, run.1, a, run.2, refl, stays_along target es (then_as t (Event.StoreLog k listed) run.0 run.1) a last of.1 run.3)
-stays_along target (Event.WriteFails k MemberPart.Log ∷ es) t a last of run = (run.0, run.1, a, run.2, refl, stays_along target es (then_as t (Event.WriteFails k MemberPart.Log) run.0 run.1) a last of.1 run.3)
 stays_along target (e ∷ es) t a last of run = absurd (of.0)
 
 -- one run after another

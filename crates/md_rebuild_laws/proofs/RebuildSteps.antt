@@ -56,8 +56,7 @@ pub unfailing_records : (es : List Event) → AllOf IsStoring es → AllOf IsNoF
 unfailing_records [] of none = tt
 unfailing_records (Event.Record k ∷ es) of none = (tt, unfailing_records es of.1 none.1)
 unfailing_records (Event.StoreMarks k b ∷ es) of none = (tt, unfailing_records es of.1 none.1)
-unfailing_records (Event.WriteFails k MemberPart.Superblock ∷ es) of none = absurd none.0
-unfailing_records (Event.WriteFails k (MemberPart.BitmapSector b) ∷ es) of none = absurd none.0
+unfailing_records (Event.WriteFails k part ∷ es) of none = absurd none.0
 unfailing_records (e ∷ es) of none = absurd of.0
 
 noting_records : (e : Event) → IsNoting e → IsNoFailedRecord e

@@ -66,9 +66,7 @@ calm_of : (e : Event) → IsOnMembers e → (k : ℕ) × IsCalm k e
 calm_of (Event.Record k) of = (k, inl tt)
 calm_of (Event.StoreMarks k b) of = (k, inl tt)
 calm_of (Event.StoreLog k listed) of = (k, inl tt)
-calm_of (Event.WriteFails k MemberPart.Superblock) of = (k, inr refl)
-calm_of (Event.WriteFails k (MemberPart.BitmapSector b)) of = (k, inr refl)
-calm_of (Event.WriteFails k MemberPart.Log) of = (k, inr refl)
+calm_of (Event.WriteFails k part) of = (k, inr refl)
 calm_of e of = absurd of
 
 -- who is out of sync stays so

@@ -8,7 +8,7 @@ use Rattle.md_cert.specs.declared.slots.Slot.{Slot}
 use Rattle.md_kept_members.specs.Members.{made_due}
 use Rattle.md_kept_members.specs.TakingBack.{admitted_member, with_offset}
 use Rattle.md_kept_members.specs.View.{MemberView}
-use Rattle.md_model.specs.Events.{Event, MemberPart}
+use Rattle.md_model.specs.Events.{Event}
 use Rattle.md_state.specs.Members.{IsInSync}
 use Rattle.md_state.specs.NotingBad.{logged}
 use Rattle.md_state.specs.View.{ArrayView, MirrorView}
@@ -91,9 +91,7 @@ next_unshifted (Event.StoreMarks k b) old mid before between of none did un =
 next_unshifted (Event.Record k) old mid before between of none did un =
     let r = did.1 in
     set_unshifted old.array mid.array k (record r.member { due = false }) (ap (λ (a : ArrayView). a.members) r.array) un (λ is. un k r.member (record { member = r.may.at; in_sync = is }))
-next_unshifted (Event.WriteFails k MemberPart.Log) old mid before between of none did un = absurd none
-next_unshifted (Event.WriteFails k (MemberPart.BitmapSector b)) old mid before between of none did un = absurd none
-next_unshifted (Event.WriteFails k MemberPart.Superblock) old mid before between of none did un = absurd none
+next_unshifted (Event.WriteFails k part) old mid before between of none did un = absurd none
 next_unshifted e old mid before between of none did un = absurd of
 
 -- of their events nothing more is asked then
@@ -110,7 +108,5 @@ whole_lists (e ∷ es) previous old before Then turn of none un = (
         (λ m at. ap (λ (z : MemberView). z.superblock.bblog_shift) (same_Some m did.1.member (sym at ∙ did.1.in_sync.member)) ∙ un k did.1.member did.1.in_sync)
     one (Event.StoreMarks k b) of none did = tt
     one (Event.Record k) of none did = tt
-    one (Event.WriteFails k MemberPart.Log) of none did = absurd none
-    one (Event.WriteFails k (MemberPart.BitmapSector b)) of none did = absurd none
-    one (Event.WriteFails k MemberPart.Superblock) of none did = absurd none
+    one (Event.WriteFails k part) of none did = absurd none
     one e of none did = absurd of

@@ -66,64 +66,13 @@ pub record IsCalm (e : Event) : Type 0 where
   pub whole : (old new : MirrorView) → LeftWhole old e new
 
 pub copying_is_calm : (e : Event) → IsCopying e → IsCalm e
-copying_is_calm (Event.Begin n p) is = absurd is
-copying_is_calm (Event.Record k) is = absurd is
-copying_is_calm (Event.StoreMarks k b) is = absurd is
-copying_is_calm (Event.WriteMember n k) is = absurd is
-copying_is_calm (Event.Finish n) is = absurd is
-copying_is_calm (Event.ClearIdle c) is = absurd is
-copying_is_calm (Event.Fail k) is = absurd is
-copying_is_calm (Event.WriteFails k MemberPart.Superblock) is = absurd is
-copying_is_calm (Event.WriteFails k (MemberPart.BitmapSector b)) is = absurd is
-copying_is_calm (Event.WriteFails k (MemberPart.RequestData n)) is = absurd is
 copying_is_calm (Event.WriteFails k (MemberPart.CopiedChunk c)) is = record { of = tt; becomes = λ g w a. refl; whole = λ old new. tt }
 copying_is_calm (Event.Copy from k s) is = record { of = tt; becomes = λ g w a. refl; whole = λ old new. tt }
-copying_is_calm (Event.Resynced) is = absurd is
-copying_is_calm (Event.Unresynced) is = absurd is
-copying_is_calm (Event.MakeClean) is = absurd is
-copying_is_calm (Event.Remove k) is = absurd is
-copying_is_calm (Event.Add d left) is = absurd is
-copying_is_calm (Event.ReAdd own device left) is = absurd is
-copying_is_calm (Event.Fill k) is = absurd is
-copying_is_calm (Event.Prepare k) is = absurd is
-copying_is_calm (Event.RecordTargetFails k) is = absurd is
-copying_is_calm (Event.SpoilTarget k) is = absurd is
-copying_is_calm (Event.Enrol k role listed) is = absurd is
-copying_is_calm (Event.Admit k role listed) is = absurd is
-copying_is_calm (Event.Checkpoint k offset listed) is = absurd is
-copying_is_calm (Event.NoteBad k c) is = absurd is
-copying_is_calm (Event.StoreLog k listed) is = absurd is
-copying_is_calm (Event.WriteFails k MemberPart.Log) is = absurd is
+copying_is_calm e is = absurd is
 
 pub clearing_is_calm : (e : Event) → IsClearing e → IsCalm e
-clearing_is_calm (Event.Begin n p) is = absurd is
-clearing_is_calm (Event.Record k) is = absurd is
-clearing_is_calm (Event.StoreMarks k b) is = absurd is
-clearing_is_calm (Event.WriteMember n k) is = absurd is
-clearing_is_calm (Event.Finish n) is = absurd is
 clearing_is_calm (Event.ClearIdle c) is = record { of = tt; becomes = λ g w a. refl; whole = λ old new. tt }
-clearing_is_calm (Event.Fail k) is = absurd is
-clearing_is_calm (Event.WriteFails k MemberPart.Superblock) is = absurd is
-clearing_is_calm (Event.WriteFails k (MemberPart.BitmapSector b)) is = absurd is
-clearing_is_calm (Event.WriteFails k (MemberPart.RequestData n)) is = absurd is
-clearing_is_calm (Event.WriteFails k (MemberPart.CopiedChunk c)) is = absurd is
-clearing_is_calm (Event.Copy from k s) is = absurd is
-clearing_is_calm (Event.Resynced) is = absurd is
-clearing_is_calm (Event.Unresynced) is = absurd is
-clearing_is_calm (Event.MakeClean) is = absurd is
-clearing_is_calm (Event.Remove k) is = absurd is
-clearing_is_calm (Event.Add d left) is = absurd is
-clearing_is_calm (Event.ReAdd own device left) is = absurd is
-clearing_is_calm (Event.Fill k) is = absurd is
-clearing_is_calm (Event.Prepare k) is = absurd is
-clearing_is_calm (Event.RecordTargetFails k) is = absurd is
-clearing_is_calm (Event.SpoilTarget k) is = absurd is
-clearing_is_calm (Event.Enrol k role listed) is = absurd is
-clearing_is_calm (Event.Admit k role listed) is = absurd is
-clearing_is_calm (Event.Checkpoint k offset listed) is = absurd is
-clearing_is_calm (Event.NoteBad k c) is = absurd is
-clearing_is_calm (Event.StoreLog k listed) is = absurd is
-clearing_is_calm (Event.WriteFails k MemberPart.Log) is = absurd is
+clearing_is_calm e is = absurd is
 
 read_holds : (old new : MirrorView) (requests : Requests) (a : Content) → Rests old new → HoldsBetween (geometry_of old.array) a (world_of old requests) → HoldsBetween (geometry_of new.array) a (world_of new requests)
 read_holds old new requests a rests holds =

@@ -1,5 +1,5 @@
 -- A sector of a bitmap is stored: the data is as it was, so that members agree as before.
-use Rattle.std.proofs.Common.{◌≡◌, ℕ, ◌+◌, ◌*◌, ◌<◌, inl, inr, true, cond, List, [], ◌∷◌, length, length-set, Option, Some, None, drop, set, slice_get, refl, sym, ap, ◌∙◌, subst, arith}
+use Rattle.std.proofs.Common.{◌≡◌, ℕ, ◌+◌, ◌*◌, ◌<◌, inl, inr, cond, List, [], ◌∷◌, length, length-set, Option, Some, None, drop, set, slice_get, refl, sym, ap, ◌∙◌, subst, arith}
 use Rattle.std.proofs.lemmas.Bool.{cases_lt}
 use Rattle.std.proofs.lemmas.Option.{none-some, slice_get_within}
 use Rattle.md_bitmap.proofs.Padded.{length-padded}
@@ -19,7 +19,7 @@ use Rattle.md_state.specs.Members.{IsInSync}
 use Rattle.md_state.specs.StoringMarks.{StoresMarkSector}
 use Rattle.md_state.specs.View.{ArrayView, Disk, MirrorView}
 use Rattle.md_array.specs.Consistency.{IsConsistent}
-use Rattle.md_array.specs.InTurn.{AllOf, HaltsAt, IsSectorDue, Leads, Requests}
+use Rattle.md_array.specs.InTurn.{AllOf, IsSectorDue, Leads, Requests}
 use Rattle.md_array.specs.NotingResynced.{AllAgreeAt, IsServed, sector_of}
 use Rattle.md_array.specs.Worlds.{from_super, none_in_flight}
 use Rattle.md_array.proofs.Steps.Turns.{all_such}
@@ -31,6 +31,7 @@ use Rattle.md_metadata.specs.Storing.{HasAllMarks, IsMarking, IsNoFailure, Loses
 use Rattle.md_state.specs.MakingClean.{IsIdle, first_number}
 use Rattle.md_state.specs.Requests.{AreInFlight}
 use Rattle.md_array.proofs.General.Indices.{at_set_same, got_other}
+use Rattle.md_array.proofs.Steps.FailedParts.{halted_then}
 use Rattle.md_array.proofs.Steps.MarkSectors.{marks_stored_is_consistent}
 use Rattle.md_array.proofs.Worlds.Outside.{starts_at}
 use Rattle.md_array.proofs.Worlds.PartsApart.{marks_alone, parts_of}
@@ -174,67 +175,15 @@ leaves_along (Event.StoreMarks k b ∷ es) previous old before new after all sou
     let r = t.3.1 in
     let low = due_within old.array k b r.member r.may.in_sync t.2 in
     leaves_step k b old t.0 new sound low r (leaves_along es (Some (Event.StoreMarks k b)) t.0 t.1 new after all.1 (marks_stored_is_consistent k b old t.0 sound low r) t.5)
-leaves_along (Event.Begin number p ∷ es) previous old before new after all sound t = absurd all.0
-leaves_along (Event.Record k ∷ es) previous old before new after all sound t = absurd all.0
-leaves_along (Event.WriteMember number k ∷ es) previous old before new after all sound t = absurd all.0
-leaves_along (Event.Finish number ∷ es) previous old before new after all sound t = absurd all.0
-leaves_along (Event.ClearIdle chunk ∷ es) previous old before new after all sound t = absurd all.0
-leaves_along (Event.Fail k ∷ es) previous old before new after all sound t = absurd all.0
-leaves_along (Event.WriteFails k MemberPart.Superblock ∷ es) previous old before new after all sound t = absurd all.0
-leaves_along (Event.WriteFails k (MemberPart.BitmapSector b) ∷ es) previous old before new after all sound t = absurd all.0
-leaves_along (Event.WriteFails k (MemberPart.RequestData number) ∷ es) previous old before new after all sound t = absurd all.0
-leaves_along (Event.WriteFails k (MemberPart.CopiedChunk chunk) ∷ es) previous old before new after all sound t = absurd all.0
-leaves_along (Event.Copy from k s ∷ es) previous old before new after all sound t = absurd all.0
-leaves_along (Event.Resynced ∷ es) previous old before new after all sound t = absurd all.0
-leaves_along (Event.Unresynced ∷ es) previous old before new after all sound t = absurd all.0
-leaves_along (Event.MakeClean ∷ es) previous old before new after all sound t = absurd all.0
-leaves_along (Event.Remove k ∷ es) previous old before new after all sound t = absurd all.0
-leaves_along (Event.Add d left ∷ es) previous old before new after all sound t = absurd all.0
-leaves_along (Event.ReAdd own device left ∷ es) previous old before new after all sound t = absurd all.0
-leaves_along (Event.Fill k ∷ es) previous old before new after all sound t = absurd all.0
-leaves_along (Event.Prepare k ∷ es) previous old before new after all sound t = absurd all.0
-leaves_along (Event.RecordTargetFails k ∷ es) previous old before new after all sound t = absurd all.0
-leaves_along (Event.SpoilTarget k ∷ es) previous old before new after all sound t = absurd all.0
-leaves_along (Event.Enrol k role listed ∷ es) previous old before new after all sound t = absurd all.0
-leaves_along (Event.Admit k role listed ∷ es) previous old before new after all sound t = absurd all.0
-leaves_along (Event.Checkpoint k offset listed ∷ es) previous old before new after all sound t = absurd all.0
-leaves_along (Event.NoteBad k c ∷ es) previous old before new after all sound t = absurd all.0
-leaves_along (Event.StoreLog k listed ∷ es) previous old before new after all sound t = absurd all.0
-leaves_along (Event.WriteFails k MemberPart.Log ∷ es) previous old before new after all sound t = absurd all.0
+leaves_along (e ∷ es) previous old before new after all sound t = absurd all.0
 
 mark_is_calm : (e : Event) → IsMarkStored e → IsCalm e
 mark_is_calm (Event.StoreMarks k b) is = record { of = tt; becomes = λ g w a. refl; whole = λ old new. tt }
-mark_is_calm (Event.Begin number p) is = absurd is
-mark_is_calm (Event.Record k) is = absurd is
-mark_is_calm (Event.WriteMember number k) is = absurd is
-mark_is_calm (Event.Finish number) is = absurd is
-mark_is_calm (Event.ClearIdle chunk) is = absurd is
-mark_is_calm (Event.Fail k) is = absurd is
-mark_is_calm (Event.WriteFails k MemberPart.Superblock) is = absurd is
-mark_is_calm (Event.WriteFails k (MemberPart.BitmapSector b)) is = absurd is
-mark_is_calm (Event.WriteFails k (MemberPart.RequestData number)) is = absurd is
-mark_is_calm (Event.WriteFails k (MemberPart.CopiedChunk chunk)) is = absurd is
-mark_is_calm (Event.Copy from k s) is = absurd is
-mark_is_calm (Event.Resynced) is = absurd is
-mark_is_calm (Event.Unresynced) is = absurd is
-mark_is_calm (Event.MakeClean) is = absurd is
-mark_is_calm (Event.Remove k) is = absurd is
-mark_is_calm (Event.Add d left) is = absurd is
-mark_is_calm (Event.ReAdd own device left) is = absurd is
-mark_is_calm (Event.Fill k) is = absurd is
-mark_is_calm (Event.Prepare k) is = absurd is
-mark_is_calm (Event.RecordTargetFails k) is = absurd is
-mark_is_calm (Event.SpoilTarget k) is = absurd is
-mark_is_calm (Event.Enrol k role listed) is = absurd is
-mark_is_calm (Event.Admit k role listed) is = absurd is
-mark_is_calm (Event.Checkpoint k offset listed) is = absurd is
-mark_is_calm (Event.NoteBad k c) is = absurd is
-mark_is_calm (Event.StoreLog k listed) is = absurd is
-mark_is_calm (Event.WriteFails k MemberPart.Log) is = absurd is
+mark_is_calm e is = absurd is
 
 mark_is_stored : (e : Event) → IsMarking e → IsNoFailure e → IsMarkStored e
 mark_is_stored (Event.StoreMarks k b) is done = tt
-mark_is_stored (Event.WriteFails k (MemberPart.BitmapSector b)) is done = absurd done
+mark_is_stored (Event.WriteFails k part) is done = absurd done
 mark_is_stored e is done = absurd is
 
 all_stored : (es : List Event) → AllOf IsMarking es → AllOf IsNoFailure es → AllOf IsMarkStored es
@@ -279,32 +228,7 @@ stores_marks old new idle sound s =
 marking_of : (e : Event) → IsMarking e → IsOfResync e
 marking_of (Event.StoreMarks k b) is = tt
 marking_of (Event.WriteFails k (MemberPart.BitmapSector b)) is = tt
-marking_of (Event.Begin number p) is = absurd is
-marking_of (Event.Record k) is = absurd is
-marking_of (Event.WriteMember number k) is = absurd is
-marking_of (Event.Finish number) is = absurd is
-marking_of (Event.ClearIdle chunk) is = absurd is
-marking_of (Event.Fail k) is = absurd is
-marking_of (Event.WriteFails k MemberPart.Superblock) is = absurd is
-marking_of (Event.WriteFails k (MemberPart.RequestData number)) is = absurd is
-marking_of (Event.WriteFails k (MemberPart.CopiedChunk chunk)) is = absurd is
-marking_of (Event.Copy from k s) is = absurd is
-marking_of (Event.Resynced) is = absurd is
-marking_of (Event.Unresynced) is = absurd is
-marking_of (Event.MakeClean) is = absurd is
-marking_of (Event.Remove k) is = absurd is
-marking_of (Event.Add d left) is = absurd is
-marking_of (Event.ReAdd own device left) is = absurd is
-marking_of (Event.Fill k) is = absurd is
-marking_of (Event.Prepare k) is = absurd is
-marking_of (Event.RecordTargetFails k) is = absurd is
-marking_of (Event.SpoilTarget k) is = absurd is
-marking_of (Event.Enrol k role listed) is = absurd is
-marking_of (Event.Admit k role listed) is = absurd is
-marking_of (Event.Checkpoint k offset listed) is = absurd is
-marking_of (Event.NoteBad k c) is = absurd is
-marking_of (Event.StoreLog k listed) is = absurd is
-marking_of (Event.WriteFails k MemberPart.Log) is = absurd is
+marking_of e is = absurd is
 
 marking_goes : (old new : MirrorView) → metadata.GoesOn only_others only_others IsMarking old new → GoesOn old new
 marking_goes old new g = record {
@@ -328,38 +252,8 @@ loses_marks k old new idle s =
       faulty = s.faulty;
     }
 
-halted_at : (e : Event) (old new : MirrorView) → IsMarking e → HaltsAt old none_in_flight e new → new.array.halted ≡ true
-halted_at (Event.StoreMarks k b) old new is h = absurd h
-halted_at (Event.WriteFails k (MemberPart.BitmapSector b)) old new is h = ap (λ (a : ArrayView). a.halted) h.halts.array.array
-halted_at (Event.Begin number p) old new is h = absurd is
-halted_at (Event.Record k) old new is h = absurd is
-halted_at (Event.WriteMember number k) old new is h = absurd is
-halted_at (Event.Finish number) old new is h = absurd is
-halted_at (Event.ClearIdle chunk) old new is h = absurd is
-halted_at (Event.Fail k) old new is h = absurd is
-halted_at (Event.WriteFails k MemberPart.Superblock) old new is h = absurd is
-halted_at (Event.WriteFails k (MemberPart.RequestData number)) old new is h = absurd is
-halted_at (Event.WriteFails k (MemberPart.CopiedChunk chunk)) old new is h = absurd is
-halted_at (Event.Copy from k s) old new is h = absurd is
-halted_at (Event.Resynced) old new is h = absurd is
-halted_at (Event.Unresynced) old new is h = absurd is
-halted_at (Event.MakeClean) old new is h = absurd is
-halted_at (Event.Remove k) old new is h = absurd is
-halted_at (Event.Add d left) old new is h = absurd is
-halted_at (Event.ReAdd own device left) old new is h = absurd is
-halted_at (Event.Fill k) old new is h = absurd is
-halted_at (Event.Prepare k) old new is h = absurd is
-halted_at (Event.RecordTargetFails k) old new is h = absurd is
-halted_at (Event.SpoilTarget k) old new is h = absurd is
-halted_at (Event.Enrol k role listed) old new is h = absurd is
-halted_at (Event.Admit k role listed) old new is h = absurd is
-halted_at (Event.Checkpoint k offset listed) old new is h = absurd is
-halted_at (Event.NoteBad k c) old new is h = absurd is
-halted_at (Event.StoreLog k listed) old new is h = absurd is
-halted_at (Event.WriteFails k MemberPart.Log) old new is h = absurd is
-
 pub halts_marks : (old new : MirrorView) → IsIdle old.array → metadata.HaltsAfter only_others only_others IsMarking old new → HaltsIdle old new
 halts_marks old new idle h = record {
   halts = record { idle = idle; mid = h.mid; goes = marking_goes old h.mid h.goes; failing = h.failing; of = marking_of h.failing h.of; halts = h.halts };
-  halted = halted_at h.failing h.mid new h.of (h.halts none_in_flight);
+  halted = halted_then h.mid new none_in_flight h.failing (h.halts none_in_flight);
 }

@@ -43,9 +43,8 @@ module _ (g : Geometry) where
 
   unstored_step : (w : World) (e : Event) (w' : World) → IsOfResync e → IsNoFailure e → Step g w e w' → AgreeUnstored g w → AgreeUnstored g w'
   unstored_step w (Event.StoreMarks k b) w' of done step u = subst (AgreeUnstored g) (sym step.1.1) (unstored_marked w k b u)
-  unstored_step w (Event.WriteFails k (MemberPart.BitmapSector b)) w' of done step u = absurd done
+  unstored_step w (Event.WriteFails k part) w' of done step u = absurd done
   unstored_step w (Event.Copy from k s) w' of done step u = subst (AgreeUnstored g) (sym step.1.1) (unstored_copied w from k s step.1.0 u)
-  unstored_step w (Event.WriteFails k (MemberPart.CopiedChunk c)) w' of done step u = absurd done
   unstored_step w Event.Resynced w' of done step u = subst (AgreeUnstored g) (sym step.1.1) u
   unstored_step w (Event.ClearIdle c) w' of done step u = subst (AgreeUnstored g) (sym step.1.1) u
   unstored_step w e w' of done step u = absurd of

@@ -22,6 +22,7 @@ use Rattle.md_array.specs.Consistency.{IsConsistent}
 use Rattle.md_array.specs.InTurn.{HaltsAt, Requests}
 use Rattle.md_array.specs.Recording.{super_write}
 use Rattle.md_array.proofs.General.Indices.{at_set_same, got_in_map, got_other}
+use Rattle.md_array.proofs.Steps.FailedParts.{halting_write}
 use Rattle.md_laws.specs.Left.{contents_of}
 use Rattle.md_laws.specs.StopsWithin.{MayAllBeLeft}
 use Rattle.md_assembly.proofs.Indices.{got_within}
@@ -85,11 +86,7 @@ module _ (k : ℕ) (before after : List Disk) (d e : Disk) (was : slice_get befo
 -- ---- a write that halts the mirror
 -- the member to which it was
 abbrev pub member_of : Event → ℕ
-member_of (Event.WriteFails k MemberPart.Superblock) = k
-member_of (Event.WriteFails k (MemberPart.BitmapSector b)) = k
-member_of (Event.WriteFails k (MemberPart.RequestData n)) = k
-member_of (Event.WriteFails k (MemberPart.CopiedChunk c)) = k
-member_of (Event.WriteFails k MemberPart.Log) = k
+member_of (Event.WriteFails k part) = k
 member_of e = 0
 
 -- the two devices of a member
@@ -114,11 +111,7 @@ module _ (old new : MirrorView) (c : IsConsistent old) where
       pair_of old new h.disks.tried.as_many k (omega arith)
 
   pub halting_pair : (failing : Event) (requests : Requests) → HaltsAt old requests failing new → HasPair (member_of failing) old.disks new.disks
-  halting_pair (Event.WriteFails k MemberPart.Superblock) requests h = of_member k (super_write old.array h.member) h.member h.may.at h.halts
-  halting_pair (Event.WriteFails k (MemberPart.BitmapSector b)) requests h = of_member k h.write h.member h.may.in_sync.member h.halts
-  halting_pair (Event.WriteFails k (MemberPart.RequestData n)) requests h = of_member k (data_write h.3.member h.0) h.3.member h.3.may.intent.in_sync.member h.3.halts
-  halting_pair (Event.WriteFails k (MemberPart.CopiedChunk chunk)) requests h = of_member k (run_write h.copy.may.target h.sector h.bytes) h.copy.may.target h.copy.may.in_sync.member h.halts
-  halting_pair (Event.WriteFails k MemberPart.Log) requests h = of_member k h.write h.member h.in_sync.member h.halts
+  halting_pair (Event.WriteFails k part) requests h = let x = halting_write k old new requests part h in of_member k x.0 x.1 x.2 x.3
   halting_pair e requests h = absurd h
 
 abbrev pub told_mirror : (k : ℕ) (old new : MirrorView) → HasPair k old.disks new.disks → MirrorView
@@ -152,9 +145,6 @@ module _ (old new : MirrorView) where
 
   pub told_within : (failing : Event) (p : HasPair (member_of failing) old.disks new.disks) (requests : Requests) → HaltsAt old requests failing new
       → MayAllBeLeft old.disks (told_mirror (member_of failing) old new p).disks (contents_of new.disks)
-  told_within (Event.WriteFails k MemberPart.Superblock) p requests h = may_told k old.disks new.disks p.old p.new p.was p.is (super_write old.array h.member) h.halts.disks
-  told_within (Event.WriteFails k (MemberPart.BitmapSector b)) p requests h = may_told k old.disks new.disks p.old p.new p.was p.is h.write h.halts.disks
-  told_within (Event.WriteFails k (MemberPart.RequestData n)) p requests h = may_told k old.disks new.disks p.old p.new p.was p.is (data_write h.3.member h.0) h.3.halts.disks
-  told_within (Event.WriteFails k (MemberPart.CopiedChunk chunk)) p requests h = may_told k old.disks new.disks p.old p.new p.was p.is (run_write h.copy.may.target h.sector h.bytes) h.halts.disks
-  told_within (Event.WriteFails k MemberPart.Log) p requests h = may_told k old.disks new.disks p.old p.new p.was p.is h.write h.halts.disks
+  told_within (Event.WriteFails k part) p requests h =
+      let x = halting_write k old new requests part h in may_told k old.disks new.disks p.old p.new p.was p.is x.0 x.3.disks
   told_within e p requests h = absurd h
