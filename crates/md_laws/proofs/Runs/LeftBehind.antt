@@ -198,28 +198,7 @@ behind_life g small d opened t a es (more ∷ rest) final last b chunks is life 
 same_content : (g : Geometry) (w : World) (a : Content) (k : ℕ) (e : Event) → Leaves e k → Becomes g e w a a × ((spoiled : ℕ → Bool) → spoiled_after e w spoiled ≡ spoiled)
 same_content g w a k (Event.Fail j) it = (refl, λ _. refl)
 same_content g w a k (Event.WriteFails j part) it = (refl, λ _. refl)
-same_content g w a k (Event.Begin n p) it = absurd it
-same_content g w a k (Event.Record j) it = absurd it
-same_content g w a k (Event.StoreMarks j b) it = absurd it
-same_content g w a k (Event.WriteMember n j) it = absurd it
-same_content g w a k (Event.Finish n) it = absurd it
-same_content g w a k (Event.ClearIdle c) it = absurd it
-same_content g w a k (Event.Copy from j x) it = absurd it
-same_content g w a k Event.Resynced it = absurd it
-same_content g w a k Event.Unresynced it = absurd it
-same_content g w a k Event.MakeClean it = absurd it
-same_content g w a k (Event.Remove j) it = absurd it
-same_content g w a k (Event.Add number left) it = absurd it
-same_content g w a k (Event.ReAdd own device left) it = absurd it
-same_content g w a k (Event.Fill j) it = absurd it
-same_content g w a k (Event.Prepare j) it = absurd it
-same_content g w a k (Event.RecordTargetFails j) it = absurd it
-same_content g w a k (Event.SpoilTarget j) it = absurd it
-same_content g w a k (Event.Enrol j role listed) it = absurd it
-same_content g w a k (Event.Admit j role listed) it = absurd it
-same_content g w a k (Event.Checkpoint j offset listed) it = absurd it
-same_content g w a k (Event.NoteBad j c) it = absurd it
-same_content g w a k (Event.StoreLog j listed) it = absurd it
+same_content g w a k e it = absurd it
 
 pub failed_behind : (before : List Disk) (m : MirrorView) (a : Content) → IsStart before m → Holds (geometry_of m.array) a (world_of m none_in_flight)
     → (es : List Event) (rest : List (List Event)) (final : MirrorView) (t : Moment) (b : Content) → MirrorLifeWith m a es rest final t b

@@ -36,32 +36,13 @@ unread (e ∷ es) previous old before P t = (old, t.0, t.1, rests_same old, t.2,
 
 -- nothing is asked of the device
 pub left_whole : (e : Event) (old new : MirrorView) → IsNoFailedRecord e → LeftWhole old e new
-left_whole (Event.Begin n p) old new is = tt
-left_whole (Event.Record k) old new is = tt
-left_whole (Event.StoreMarks k b) old new is = tt
-left_whole (Event.WriteMember n k) old new is = tt
-left_whole (Event.Finish n) old new is = tt
-left_whole (Event.ClearIdle c) old new is = tt
-left_whole (Event.Fail k) old new is = tt
 left_whole (Event.WriteFails k MemberPart.Superblock) old new is = absurd is
 left_whole (Event.WriteFails k MemberPart.Log) old new is = absurd is
-left_whole (Event.WriteFails k part) old new is = tt
-left_whole (Event.Copy from k s) old new is = tt
-left_whole Event.Resynced old new is = tt
-left_whole Event.Unresynced old new is = tt
-left_whole Event.MakeClean old new is = tt
-left_whole (Event.Remove k) old new is = tt
-left_whole (Event.Add d left) old new is = tt
-left_whole (Event.ReAdd own device left) old new is = tt
-left_whole (Event.Fill k) old new is = tt
-left_whole (Event.Prepare k) old new is = tt
 left_whole (Event.RecordTargetFails k) old new is = absurd is
-left_whole (Event.SpoilTarget k) old new is = tt
 left_whole (Event.Enrol k role listed) old new is = absurd is
-left_whole (Event.Admit k role listed) old new is = tt
 left_whole (Event.Checkpoint k offset listed) old new is = absurd is
-left_whole (Event.NoteBad k c) old new is = tt
 left_whole (Event.StoreLog k listed) old new is = absurd is
+left_whole e old new is = tt
 
 -- a call's events go on with a mirror's run
 pub read_run : (es : List Event) (previous : Option Event) (h : Moment) (Then : MirrorView → Requests → Type 0) → ReadInTurn previous h.mirror h.requests es Then

@@ -166,26 +166,4 @@ module _ (g : Geometry) (a : Content) (w : World) (tracked : IsTracked g w) (t :
       (λ x clear. by_same (chunk_of g x) y
       (λ here. not_clear y s.1.1.marked s.1.1.stored (subst IsClear here clear))
       (λ away. s.1.2.outside x away))
-  behind_leaving (Event.WriteFails j MemberPart.Log) same w' s = absurd same
-  behind_leaving (Event.Begin n p) same w' s = absurd same
-  behind_leaving (Event.Record j) same w' s = absurd same
-  behind_leaving (Event.StoreMarks j b) same w' s = absurd same
-  behind_leaving (Event.WriteMember n j) same w' s = absurd same
-  behind_leaving (Event.Finish n) same w' s = absurd same
-  behind_leaving (Event.ClearIdle c) same w' s = absurd same
-  behind_leaving (Event.Copy from j x) same w' s = absurd same
-  behind_leaving Event.Resynced same w' s = absurd same
-  behind_leaving Event.Unresynced same w' s = absurd same
-  behind_leaving Event.MakeClean same w' s = absurd same
-  behind_leaving (Event.Remove j) same w' s = absurd same
-  behind_leaving (Event.Add number left) same w' s = absurd same
-  behind_leaving (Event.ReAdd own device left) same w' s = absurd same
-  behind_leaving (Event.Fill j) same w' s = absurd same
-  behind_leaving (Event.Prepare j) same w' s = absurd same
-  behind_leaving (Event.RecordTargetFails j) same w' s = absurd same
-  behind_leaving (Event.SpoilTarget j) same w' s = absurd same
-  behind_leaving (Event.Enrol j role listed) same w' s = absurd same
-  behind_leaving (Event.Admit j role listed) same w' s = absurd same
-  behind_leaving (Event.Checkpoint j offset listed) same w' s = absurd same
-  behind_leaving (Event.NoteBad j c) same w' s = absurd same
-  behind_leaving (Event.StoreLog j listed) same w' s = absurd same
+  behind_leaving e same w' s = absurd same

@@ -397,28 +397,7 @@ module _ (g : Geometry) (small : IsWithinLimits g) (opened : Super) (away : ℕ 
 still_away : (e : Event) (before : ℕ → Bool) (d : ℕ) → away_after e before d ≡ true → before d ≡ true
 still_away (Event.Add number left) before d x = (and_parts (before d) (not (eqb d number)) x).0
 still_away (Event.ReAdd own device left) before d x = (and_parts (before d) (not (eqb d own.number)) x).0
-still_away (Event.Remove k) before d x = x
-still_away (Event.Begin n p) before d x = x
-still_away (Event.Record k) before d x = x
-still_away (Event.StoreMarks k b) before d x = x
-still_away (Event.WriteMember n k) before d x = x
-still_away (Event.Finish n) before d x = x
-still_away (Event.ClearIdle c) before d x = x
-still_away (Event.Fail k) before d x = x
-still_away (Event.WriteFails k part) before d x = x
-still_away (Event.Copy from k s) before d x = x
-still_away Event.Resynced before d x = x
-still_away Event.Unresynced before d x = x
-still_away Event.MakeClean before d x = x
-still_away (Event.Fill k) before d x = x
-still_away (Event.Prepare k) before d x = x
-still_away (Event.RecordTargetFails k) before d x = x
-still_away (Event.SpoilTarget k) before d x = x
-still_away (Event.Enrol k role listed) before d x = x
-still_away (Event.Admit k role listed) before d x = x
-still_away (Event.Checkpoint k offset listed) before d x = x
-still_away (Event.NoteBad k c) before d x = x
-still_away (Event.StoreLog k listed) before d x = x
+still_away e before d x = x
 
 -- and no member has its number
 neither : (a b : Bool) → a ≡ false → b ≡ false → (a || b) ≡ false
