@@ -30,7 +30,7 @@ use Rattle.md_array.specs.ReadAsKept.{AreReadAsKept}
 use Rattle.md_array.specs.Recording.{super_write}
 use Rattle.md_array.specs.Worlds.{AreHonest, stored_on, world_of, super_in, block_on, from_super}
 
--- A device that had this superblock is written once, and stands behind the others then, none of which is used.
+-- A device that had this superblock is written once, and stands after the others then, none of which is used.
 pub record WritesLast (own : Super) (before after : List Disk) : Type 0 where
   pub was : Disk
   pub super : super_in (block_on was.content) ≡ Some own
@@ -44,7 +44,7 @@ pub record GoesAway (k : ℕ) (before after : List Disk) : Type 0 where
   pub at : slice_get before k ≡ Some was
   pub others : after ≡ remove before k
 
--- A device was written, by several writes, and stands behind the others then, none of which is used.
+-- A device was written, by several writes, and stands after the others then, none of which is used.
 pub record ComesLast (before after : List Disk) : Type 0 where
   pub was : Disk
   pub honest : was.honest ≡ true

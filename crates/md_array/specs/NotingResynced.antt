@@ -24,7 +24,8 @@ AllAgreeAt v s =
     (j k : ℕ) (m n : MemberView) (d e : Disk) → IsServed v j m d → IsServed v k n e
     → (Lists m s → ⊥) → (Lists n s → ⊥) → sector_of m d s ≡ sector_of n e s
 
--- so in each sector of a chunk that is marked
+-- Any two members in sync hold the same in each sector of a marked chunk, unless one of them lists the
+-- sector.
 abbrev pub AllAgreeWhereMarked : MirrorView → Type 0
 AllAgreeWhereMarked v =
     (s : ℕ) → s < v.array.chunks.size → is_set v.array.marks.bytes (s / v.array.chunks.sectors) ≡ true → AllAgreeAt v s

@@ -31,7 +31,8 @@ pub record IsOwnSuper (shared own : Superblock) (content : List ℕ) (v : Superb
   pub listed : (sector : ℕ) → is_listed v content sector ≡ is_listed own content sector
   pub no_newer : v.events ≤ shared.events
 
--- so is any superblock that is read there
+-- Any superblock that is read of this content is of the array, no newer, and places the member's parts as it
+-- is kept.
 abbrev pub HasOwnSuper : Superblock → Superblock → List ℕ → Type 0
 HasOwnSuper shared own content = (v : Superblock) → IsSuperOn content v → IsOwnSuper shared own content v
 

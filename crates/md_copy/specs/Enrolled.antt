@@ -12,12 +12,13 @@ use Rattle.md_copy.specs.declared.fault.RebuildFault.TheVariants.{LogFull, NoMem
 use Rattle.md_copy.specs.declared.rebuilt.Rebuilt.{Rebuilt}
 use Rattle.md_copy.specs.Preparing.{IsSetOf, IsWithin, is_in, uncopied_chunks}
 
--- its list needs more room than its log has, and nothing was written for it
+-- The target's list needs more room than its log has, and nothing was written for it.
 pub record HasNoRoom (target : ℕ) (copied orphans : Bitmap) (old new : MirrorView) : Type 0 where
   pub unchanged : new ≡ old
   pub full : HasFullLog target copied orphans old.array
 
--- So it is, and of what was copied these chunks are left to be recorded.
+-- The target's list needs more room than its log has, and nothing was written for it. Of the chunks that were
+-- copied these are left to be recorded.
 pub record LacksOwnRoom (target : ℕ) (copied orphans after : Bitmap) (old new : MirrorView) : Type 0 where
   pub unchanged : new ≡ old
   pub full : HasFullLog target copied orphans old.array

@@ -34,22 +34,22 @@ pub record MakesPass (target : ℕ) (chunks : List ℕ) (p : PassView) (before a
   pub counted : CountsFailed p.failed old new
   pub sound : IsConsistent new
 
--- And how far the target is rebuilt is recorded on it.
+-- A pass is made, and how far the target is rebuilt by it is recorded on the target.
 pub record RecordsPass (target : ℕ) (chunks : List ℕ) (p : PassView) (before after : Bitmap) (old new : MirrorView) : Type 0 where
   pub filled : MirrorView
   pub makes : MakesPass target chunks p before after old filled
   pub checkpoints : Checkpoints target after filled new
   pub sound : IsConsistent new
 
--- One of which slots failed. Their chunks are listed, and the lists stored.
+-- A pass is made of which slots failed. Their chunks are listed, and the lists stored.
 pub record ListsPass (target : ℕ) (chunks : List ℕ) (p : PassView) (before after : Bitmap) (old new : MirrorView) : Type 0 where
   pub recorded : MirrorView
   pub records : RecordsPass target chunks p before after old recorded
   pub some : p.failed ≢ []
   pub lists : ListsAll p.failed recorded new
 
--- Such passes, one after another, each over the chunks that failed in the one before: from these chunks to those that are left, and from the set
--- of those that were copied to the one after them.
+-- Passes of which slots failed, one after another, each over the chunks that failed in the one before: from
+-- these chunks to those that are left, and from the set of those that were copied to the one after them.
 abbrev pub AreListedPasses : ℕ → List PassView → List ℕ → List ℕ → Bitmap → Bitmap → MirrorView → MirrorView → Type 0
 AreListedPasses target [] chunks left before after old new = (left ≡ chunks) × (after ≡ before) × (new ≡ old)
 AreListedPasses target (p ∷ ps) chunks left before after old new =

@@ -126,14 +126,14 @@ KeepStates target failed old last =
     → (n.state ≡ m.state) ⊎ ((n.state ≡ Faulty) × AtDevice k old.disks last.disks (FailsWrite failed m))
 
 -- ---- what stands on the devices
--- The list of each other member of which a slot failed stands there, as it is in sync still: a write to it that failed would have made it faulty, or is
--- one of these, that halt a mirror.
+-- The list of each other member of which a slot failed stands on its device, as long as the member is in
+-- sync: a write to it that failed would have made it faulty, or is one of these, that halt a mirror.
 abbrev pub ListsStored : ℕ → (ℕ → Type 0) → List Slot → ArrayView → MirrorView → Type 0
 ListsStored target Halts failed old new =
     (k : ℕ) (m n : MemberView) (e : Disk) → k ≢ target → (Halts k → ⊥) → IsMember old k m → HasFailed failed m
     → IsMember new.array k n → is_in_sync n.state ≡ true → slice_get new.disks k ≡ Some e → e.honest ≡ true → HasListOn n.bad e.content
 
--- and of this member
+-- The list of this member stands on its device, if it is in sync.
 abbrev pub OwnListStored : MemberView → Disk → Type 0
 OwnListStored m d = is_in_sync m.state ≡ true → d.honest ≡ true → HasListOn m.bad d.content
 

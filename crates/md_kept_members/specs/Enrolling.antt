@@ -72,8 +72,8 @@ HasRoomFor v list = entries_needed list ≤ log_room v
 pub whole-supported : (feature_map : ℕ) → unsupported_features feature_map ≡ 0 → unsupported_features (bit_and feature_map 0xffff_fffd) ≡ 0
 whole-supported feature_map none = and_assoc 0xffff_fff4 feature_map 0xffff_fffd ∙ none
 
--- The superblock of a member that holds all of the array but for what this list says: bit 2 of the feature map is clear, and bit 8
--- set exactly where the list is not empty; the log is stored without a shift.
+-- The superblock of a member that holds all of the array but for what this list says. Its feature map has no
+-- RECOVERY_OFFSET, and BAD_BLOCKS exactly where the list is not empty. The log is stored without a shift.
 abbrev pub in_sync_superblock : List Run → Superblock → Superblock
 in_sync_superblock list v = record v {
   feature_map = with_list list (bit_and v.feature_map 0xffff_fffd);
@@ -88,7 +88,8 @@ in_sync_superblock list v = record v {
   };
 }
 
--- The superblock of a member in sync beside which its log is stored: bit 8 of the feature map tells of it, and the log has no shift.
+-- The superblock of a member in sync beside which its log is stored: BAD_BLOCKS in the feature map tells of
+-- the log, which has no shift.
 abbrev pub logged_superblock : List Run → Superblock → Superblock
 logged_superblock list v = record v {
   feature_map = with_list list v.feature_map;

@@ -46,6 +46,6 @@ pub record IsTakenBack (offset : ℕ) (info : MemberInfo) (m : MemberView) : Typ
 abbrev pub admitted_member : ℕ → MemberView → MemberView
 admitted_member role m = record m { superblock = recovering 0 m.superblock; state = Recovering role; due = false }
 
--- It is rebuilt up to this sector, and its superblock says so, with bit 2 as it is kept.
+-- A member is rebuilt up to this sector, and its superblock says so, with RECOVERY_OFFSET as it is kept.
 abbrev pub with_offset : ℕ → MemberView → MemberView
 with_offset offset m = record m { superblock = record m.superblock { recovery_offset = offset } }

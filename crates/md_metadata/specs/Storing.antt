@@ -162,24 +162,24 @@ pub record RecordsAll (old new : MirrorView) : Type 0 where
   pub stores : Stores IsRecording old new
   pub done : AllRecorded new.array
 
--- a sector of the bitmap is stored on member k
+-- A sector of the bitmap is stored on member k.
 pub record StoresOn (k block : ℕ) (old new : MirrorView) : Type 0 where
   pub step : StepsBy only_others only_others (IsSector k block) (Event.StoreMarks k block) old new
   pub ready : AllStayReady old.array new.array
   pub gives : StoresMarkSector k block old new
 
--- or the write of it failed: that member is faulty, or the mirror is halted
+-- The write of a sector of the bitmap failed on member k: the member is faulty, or the mirror is halted.
 abbrev pub SectorFails : ℕ → ℕ → MirrorView → MirrorView → PartFault → Type 0
 SectorFails k block old new Halted = HaltsStoring (IsSector k block) old new
 SectorFails k block old new (MemberFailed j) = (j ≡ k) × LosesStoring (IsSector k block) k old new
 
--- member k's superblock is stored
+-- Member k's superblock is stored.
 pub record RecordsOn (k : ℕ) (old new : MirrorView) : Type 0 where
   pub step : StepsBy only_others only_others IsRecording (Event.Record k) old new
   pub ready : AllStayReady old.array new.array
   pub done : (m : MemberView) → IsMember new.array k m → IsNotDue m
 
--- or the write of it failed
+-- The write of member k's superblock failed, and the member is faulty.
 pub record LosesRecording (k : ℕ) (old new : MirrorView) : Type 0 where
   pub step : StepsBy only_others only_others IsRecording (Event.RecordFails k) old new
   pub lost : recorded_count new.array < recorded_count old.array
@@ -187,7 +187,7 @@ pub record LosesRecording (k : ℕ) (old new : MirrorView) : Type 0 where
   pub was : IsUpToDate old.array k
   pub faulty : IsFaulty k new.array
 
--- so that the mirror is halted
+-- The write of member k's superblock failed, and the mirror is halted.
 pub record HaltsRecordingOn (k : ℕ) (old new : MirrorView) : Type 0 where
   pub stores : HaltsStoring IsRecording old new
   pub at_once : HaltsRecording k old new

@@ -24,17 +24,18 @@ IsListing k (Event.Record j) = j ≡ k
 IsListing k (Event.RecordFails j) = j ≡ k
 IsListing k e = ⊥
 
--- all three, in this order
+-- The log, the first sector of the bitmap and the superblock are stored, in this order.
 abbrev pub list_events : ℕ → (ℕ → Bool) → List Event
 list_events k listed = Event.StoreLog k listed ∷ Event.StoreMarks k 0 ∷ Event.Record k ∷ []
 
 -- ---- what is kept of the member
--- Its superblock tells of its list and is not due. What was stored of its marks as they are in memory is so still.
+-- A member's superblock tells of its list and is not due. What was stored of its marks as they are in memory
+-- is so still.
 pub record HasStoredList (marks : Bitmap) (m n : MemberView) : Type 0 where
   pub same : n ≡ record m { superblock = logged_superblock m.bad m.superblock; stored = n.stored; due = false }
   pub marked : (c : ℕ) → is_set m.stored.bytes c ≡ is_set marks.bytes c → is_set n.stored.bytes c ≡ is_set marks.bytes c
 
--- So it is of member k, which is in sync, and nothing else changes.
+-- Member k, which is in sync, has its list stored, and nothing else changes.
 pub record StoresListOf (k : ℕ) (old new : ArrayView) : Type 0 where
   pub before : MemberView
   pub in_sync : IsInSync old k before

@@ -57,7 +57,7 @@ pub record Newcomer : Type 0 where
   pub number : ℕ
   pub role : ℕ
   pub state : State
-  pub recovering : Bool  -- bit 2 of its feature map
+  pub recovering : Bool  -- RECOVERY_OFFSET of its feature map
   pub offset : ℕ  -- its recovery_offset
   pub device : Stored  -- as its laying out or its record leaves it
 
@@ -126,8 +126,9 @@ pub record MayReAdd (g : Geometry) (w : World) (own : Super) : Type 0 where
 abbrev pub HasNoOtherMarks : Geometry → World → Stored → Type 0
 HasNoOtherMarks g w device = (s : ℕ) → s < g.size → is_marked device (chunk_of g s) ≡ true → w.marks (chunk_of g s) ≡ true
 
--- Its superblock is written, with bit 2 and an offset, and nothing else. With the array's size as offset it lacks the marked chunks
--- alone. One that was used elsewhere since it left has the offset 0, and lacks every chunk.
+-- The device's superblock is written, with RECOVERY_OFFSET and an offset, and nothing else. With the array's
+-- size as offset it lacks the marked chunks alone. One that was used elsewhere since it left has the offset
+-- 0, and lacks every chunk.
 pub record IsTakenBack (g : Geometry) (w : World) (own : Super) (device left : Stored) : Type 0 where
   pub was : device.super ≡ Some own
   pub offset : ℕ

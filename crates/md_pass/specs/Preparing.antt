@@ -27,7 +27,7 @@ pub record IsOrdered (p : Preparation) : Type 0 where
   pub orders : All (λ r. IsOrderOf p.collector.slots r.source.role r.chunks.items) p.readings.items
   pub places : AreInTurn (map (λ (r : Reading). r.source.place) p.readings.items) p.places.items
 
--- so of this plan, for those of these sources that have a slot
+-- A preparation of this plan, for those of these sources that have a slot.
 pub record IsPreparedFor (slots : List Slot) (chunks : Chunks) (offset : ℕ) (sources : List Source) (p : Preparation) : Type 0 where
   pub copy : copying p.collector ≡ copy_of slots chunks offset
   pub ordered : IsOrdered p

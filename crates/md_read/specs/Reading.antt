@@ -32,15 +32,15 @@ pub record IsInRole (a : ArrayView) (role k : ℕ) : Type 0 where
 abbrev pub HasRole : ArrayView → ℕ → Type 0
 HasRole a role = (k : ℕ) × IsInRole a role k
 
--- a read of member k's device failed
+-- A read of member k's device failed.
 abbrev pub HasFailed : ℕ → MirrorView → MirrorView → Type 0
 HasFailed k old new = AtDevice k old.disks new.disks (λ d e. d.honest ≡ true → d.failures < e.failures)
 
--- member k, which is m, did not give the sector: it lists it, or failed
+-- Member k, which is m, did not give the sector: it lists it, or failed.
 abbrev pub HasNotGiven : ℕ → MemberView → ℕ → MirrorView → MirrorView → Type 0
 HasNotGiven k m s old new = Lists m s ⊎ HasFailed k old new
 
--- nor did any member in sync
+-- No member in sync gave the sector.
 abbrev pub NoneGives : ℕ → MirrorView → MirrorView → Type 0
 NoneGives s old new = (k : ℕ) (m : MemberView) → IsInSync old.array k m → HasNotGiven k m s old new
 
@@ -67,7 +67,8 @@ pub record GivesIn (role sector : ℕ) (bytes : List ℕ) (old new : MirrorView)
   pub unlisted : (s : ℕ) → sector ≤ s → s < sector + length bytes / 512 → Lists is.member s → ⊥
   pub holds : HoldsData old from sector bytes
 
--- So it is of a run of sectors; and of each of them, while the run was asked for, no member before it in the order of reading gave it.
+-- A run of sectors was given by the member in a role, which lists none of them. While the run was asked for,
+-- no member before it in the order of reading gave any of them.
 pub record GivesRun (sector : ℕ) (run : List ℕ) (old new : MirrorView) : Type 0 where
   pub rests : Rests old new
   pub whole : length run % 512 ≡ 0

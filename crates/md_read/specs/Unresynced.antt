@@ -27,7 +27,7 @@ IsMarkedAt a s = is_set a.marks.bytes (s / a.chunks.sectors) ≡ true
 abbrev pub IsUnmarkedAt : ArrayView → ℕ → Type 0
 IsUnmarkedAt a s = is_set a.marks.bytes (s / a.chunks.sectors) ≡ false
 
--- so it is of each of so many sectors from this one on
+-- Each of so many sectors from this one on is so.
 abbrev pub AllFrom : ℕ → ℕ → (ℕ → Type 0) → Type 0
 AllFrom sector sectors Of = (s : ℕ) → sector ≤ s → s < sector + sectors → Of s
 

@@ -40,7 +40,8 @@ IsOfResync Event.Resynced = Unit {0}
 IsOfResync (Event.ClearIdle c) = Unit {0}
 IsOfResync e = ⊥
 
--- Such events were done, one after another; devices were read between them, but none where only one member is in sync.
+-- Events of a resync were done, one after another. Devices were read between them, but none where only one
+-- member is in sync.
 pub record GoesOn (old new : MirrorView) : Type 0 where
   pub events : List Event
   pub steps : AllOf IsOfResync events
@@ -48,7 +49,7 @@ pub record GoesOn (old new : MirrorView) : Type 0 where
   pub by_steps : GoesBySteps events old new
   pub unread : IsAlone old.array → (previous : Option Event) (requests : Requests) → AreInFlight old.array requests → Leads previous old requests events new requests
 
--- So they were, and at the end it was kept that the array is not resynced.
+-- Events of a resync were done, one after another, and at the end it was kept that the array is not resynced.
 pub record GoesUnresynced (old new : MirrorView) : Type 0 where
   pub events : List Event
   pub steps : AllOf IsOfResync events
@@ -76,17 +77,18 @@ abbrev pub AgreeUnstored : Geometry → World → Type 0
 AgreeUnstored g w =
     (j k s : ℕ) → s < g.size → worlds.IsInSync w j → worlds.IsInSync w k → w.bad j s ≡ true → IsQuiet w s → AgreeAt (w.stored j) (w.stored k) s
 
--- This content turns into one that members in sync hold after it: the same in each chunk that had no mark in memory, and throughout where
--- the array was resynced.
+-- A content turns into one that members in sync hold after the resync. It is the same in each chunk that had
+-- no mark in memory, and throughout where the array was resynced.
 abbrev pub HasSettled : MirrorView → Requests → Content → MirrorView → Type 0
 HasSettled old requests a new =
     (b : Content) × HoldsBetween (geometry_of old.array) b (world_of new requests)
     × ((s : ℕ) → s < old.array.chunks.size → is_set old.array.marks.bytes (s / old.array.chunks.sectors) ≡ false → b s ≡ a s)
     × (old.array.resynced ≡ true → (s : ℕ) → s < old.array.chunks.size → b s ≡ a s)
 
--- So does one that members in sync held before it. A resync makes members agree where neither lists a sector in memory. A content is held
--- where a device lists nothing, so of an array that was not resynced it is asked that members agreed in the sectors between: in the life of
--- a mirror they do (`laws::resynced_in_life`).
+-- A content that members in sync held before a resync turns into one that they hold after it. A resync makes
+-- members agree where neither lists a sector in memory. A content is held where a device lists nothing, so of
+-- an array that was not resynced it is asked that members agreed in the sectors between: in the life of a
+-- mirror they do (`laws::resynced_in_life`).
 abbrev pub SettlesContent : MirrorView → MirrorView → Type 0
 SettlesContent old new =
     AreHonest old.disks → (requests : Requests) → AreInFlight old.array requests → (a : Content) → HoldsBetween (geometry_of old.array) a (world_of old requests)

@@ -93,8 +93,8 @@ pub record HasNoOtherMarks (a : ArrayView) (info : MemberInfo) : Type 0 where
   pub has_marks : info.marks ≡ Some marks
   pub among : (c : ℕ) → c < a.marks.chunks → is_set marks.bytes c ≡ true → is_set a.marks.bytes c ≡ true
 
--- So it lacks the marked chunks alone: its offset is the array's size. One that was used elsewhere since it left lacks every chunk: its
--- offset is 0.
+-- A device that has no other marks lacks the marked chunks alone: its offset is the array's size. One that
+-- was used elsewhere since it left lacks every chunk: its offset is 0.
 abbrev pub IsOffsetBack : ArrayView → MemberInfo → ℕ → Type 0
 IsOffsetBack a info offset = (HasNoOtherMarks a info × (offset ≡ a.chunks.size)) ⊎ ((HasNoOtherMarks a info → ⊥) × (offset ≡ 0))
 

@@ -34,7 +34,7 @@ pub record HasIntentStored (k : ℕ) (a : ArrayView) (p : PendingView) (m : Memb
   pub marked : AllInSync a (HasMarksOf a p)
   pub recorded : AllInSync a IsNotDue
 
--- and it lacks the bytes
+-- Member k lacks the request's bytes, and its intent is stored: the request's marks and all records are.
 pub record MayWrite (k : ℕ) (a : ArrayView) (p : PendingView) (m : MemberView) : Type 0 where
   pub intent : HasIntentStored k a p m
   pub unwritten : has_written p m.superblock.dev_number ≡ false

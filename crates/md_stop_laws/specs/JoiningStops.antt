@@ -23,13 +23,14 @@ use Rattle.md_laws.specs.StopsReadAs.{EndsInFirstSector, ReadsAs}
 use Rattle.md_laws.specs.StopsWithin.{IsLeftFailing, MayAllBeLeft}
 use Rattle.md_device_writes.specs.Writes.{IsAnyIn}
 
--- The device joined: by this event, and from there on a stop leaves that.
+-- The device joined by this event, and a stop after it leaves this.
 pub record IsStopJoined (e : Event) (t : Moment) (left : List Disk) : Type 0 where
   pub at : Moment
   pub run : MirrorRun t (e ∷ []) at
   pub is_left : IsLeft at left
 
--- It did not: the mirror's devices were left as they were, as a stop at this moment leaves them, and this stands on the one behind them.
+-- The device did not join. The mirror's devices were left as they were, as a stop at this moment leaves them,
+-- and this stands on the one after them.
 pub record IsLeftBeside (t : Moment) (left : List Disk) (Stands : List ℕ → Type 0) : Type 0 where
   pub beside : List ℕ
   pub are : contents_of left ≡ contents_of t.mirror.disks ++ beside ∷ []

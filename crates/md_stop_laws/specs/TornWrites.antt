@@ -22,7 +22,7 @@ use Rattle.md_laws.specs.Runs.{IsStart, Moment}
 use Rattle.md_stop_laws.specs.Departed.{NoneIsNewer}
 use Rattle.md_stop_laws.specs.HaltedCalls.{IsLeftSince}
 
--- the mirror of a moment, halted, over devices that a stop left
+-- The mirror of a moment, halted, over devices that a stop left.
 abbrev pub halted_over : Moment → List Disk → Moment
 halted_over t disks = record t { mirror = record { disks = disks; array = record t.mirror.array { halted = true } } }
 
@@ -51,7 +51,8 @@ OfOpenings Leaves Finds =
     → (es : List Event) (rest : List (List Event)) (final : MirrorView) (t : Moment) → MirrorLife m es rest final t
     → (left : List Disk) → Leaves t left → (next : MirrorView) (again : IsOpenedAfter final t left next) → Finds final t left next again
 
--- the same with the content that the life has there
+-- A statement holds of what a stop left at a moment of a life, of the content that the life has there, and of
+-- each opening after that.
 abbrev pub OfOpeningsWith : ((t : Moment) (left : List Disk) → Type 0) → (Moment → Content → MirrorView → Type 0) → Type 0
 OfOpeningsWith Leaves Finds =
     (before : List Disk) (m : MirrorView) (a : Content) → IsStart before m → Holds (geometry_of m.array) a (world_of m none_in_flight)
