@@ -60,12 +60,12 @@ parted_from (Some source) name = parted_text name source
 abbrev pub parted_line : Notices → List Text → Text → List ℕ
 parted_line n names = parted_from (name_in names n.source)
 
--- it is the member in this place
+-- The member in this place is the one that was asked of.
 abbrev pub is_place : Option ℕ → ℕ → Bool
 is_place None k = false
 is_place (Some j) k = j == k
 
--- but of the one that was asked of before
+-- The line on a member that was used without those in sync, but for the one that was asked of before.
 abbrev pub parted_at : Option ℕ → Notices → List Text → ℕ → List ℕ
 parted_at before n names k = if is_place before k then [] else line_at (parted_line n names) n.parted names k
 

@@ -23,7 +23,7 @@ pub record ComesBackReadied (k : ℕ) (device : Disk) (old new : MirrorView) : T
   pub readied : ResyncsIfNeeded old ready
   pub re_adds : ReAdds k device ready new
 
--- and gets what it lacks
+-- A device comes back, and is rebuilt in what it lacks.
 pub record ReAddsDevice (device : Disk) (old new : MirrorView) : Type 0 where
   pub k : ℕ
   pub joined : MirrorView
