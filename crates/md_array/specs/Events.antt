@@ -72,7 +72,7 @@ pub record IsSameBesideMissing (a : ArrayView) (m : MemberView) (old new : List 
 abbrev pub IsBesideArea : ℕ → ℕ → ℕ → ℕ → Type 0
 IsBesideArea start sectors at n = (at + n ≤ 512 * start) ⊎ (512 * (start + sectors) ≤ at)
 
--- they lie beside the bitmap of a member, and beside its log
+-- These bytes lie beside the bitmap of a member, and beside its log.
 pub record IsBesideMarks (m : MemberView) (at n : ℕ) : Type 0 where
   pub bitmap : IsBesideArea (from_super m.superblock.bitmap_offset) (bitmap_sectors m.stored.chunks) at n
   pub log : has_bad_block_log m.superblock ≡ true → IsBesideArea (from_super m.superblock.bblog_offset) m.superblock.bblog_size at n

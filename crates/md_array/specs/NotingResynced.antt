@@ -34,7 +34,7 @@ AllAgreeWhereMarked v =
 abbrev pub AreNoted : ArrayView → Type 0
 AreNoted a = (i c : ℕ) (m : MemberView) → IsInSync a i m → c < a.marks.chunks → is_set a.marks.bytes c ≡ true → is_set m.stored.bytes c ≡ true
 
--- it is kept that the array is resynced, or that it is not; nothing else changes
+-- In memory the array counts as resynced from now on, or as not; nothing else changes.
 pub record NotesResynced (is : Bool) (old new : MirrorView) : Type 0 where
   pub idle : IsIdle old.array
   pub disks : new.disks ≡ old.disks

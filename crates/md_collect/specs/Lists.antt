@@ -19,7 +19,7 @@ pub record IsTaken (old : Copied) (r : ReportView) (new : Copied) : Type 0 where
   pub counted : IsCounted r.chunk old.collector new.collector
   pub target : new.target ≡ with_report (copying old.collector) old.target r
 
--- it would, but the target was not written
+-- A report would be copied, but the target was not written.
 pub record IsSpoilt (old : Copied) (r : ReportView) (new : Copied) : Type 0 where
   pub first : refusal_of old.collector r ≡ None
   pub spoilt : new.collector ≡ record old.collector { spoiled = true }

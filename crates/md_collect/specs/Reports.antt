@@ -29,7 +29,7 @@ has_length chunks r = by_bytes r.bytes
     by_bytes None = true
     by_bytes (Some bytes) = length bytes == bytes_of chunks r.chunk
 
--- one of these has the chunk
+-- One of these reports has the chunk.
 abbrev pub is_among : List ReportView → ℕ → Bool
 is_among reports chunk = list_any (λ (r : ReportView). r.chunk == chunk) reports
 

@@ -38,12 +38,12 @@ pub record AreSets (copied kept orphans : Bitmap) (chunks : List ℕ) (v : Mirro
   pub orphans_are : IsSetOf v.array (is_in chunks) orphans
   pub chunks_are : chunks ≡ uncopied_chunks v.array m copied
 
--- It may come into sync with these sets.
+-- The target may come into sync with these sets.
 pub record HasSets (target : ℕ) (copied kept orphans : Bitmap) (chunks : List ℕ) (v : MirrorView) : Type 0 where
   pub may : MayEnrol target kept orphans v
   pub sets : AreSets copied kept orphans chunks v may.member
 
--- It does, and this is told of it and of these plans.
+-- The target comes into sync, and this is told of it and of these plans.
 pub record EnrolsCopied (target : ℕ) (plans : List Planned) (copied : Bitmap) (old new : MirrorView) (told : Rebuilt) : Type 0 where
   pub kept : Bitmap
   pub orphans : Bitmap
@@ -52,7 +52,7 @@ pub record EnrolsCopied (target : ℕ) (plans : List Planned) (copied : Bitmap) 
   pub passes_are : told.passes ≡ length plans
   pub plans_are : told.plans.items ≡ plans
 
--- It does not.
+-- The target does not come into sync, though it has its sets.
 pub record EndsWithSets (target : ℕ) (copied : Bitmap) (old : MirrorView) (Why : Bitmap → Bitmap → Type 0) : Type 0 where
   pub kept : Bitmap
   pub orphans : Bitmap
@@ -60,7 +60,7 @@ pub record EndsWithSets (target : ℕ) (copied : Bitmap) (old : MirrorView) (Why
   pub has : HasSets target copied kept orphans chunks old
   pub why : Why kept orphans
 
--- of the chunks that were copied these are left
+-- The target does not come into sync, and of the chunks that were copied these are left.
 abbrev pub FailsCopied : ℕ → Bitmap → Bitmap → MirrorView → MirrorView → RebuildFault → Type 0
 FailsCopied target copied after old new (LogFull k) = (k ≡ target) × EndsWithSets target copied old (λ kept orphans. LacksOwnRoom target kept orphans after old new)
 FailsCopied target copied after old new NoMemory = (new ≡ old) × IsWithin after copied

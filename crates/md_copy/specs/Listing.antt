@@ -201,7 +201,8 @@ pub record ListsAll (failed : List Slot) (old new : MirrorView) : Type 0 where
   pub out : (k : ℕ) (m n : MemberView) → IsMember old.array k m → IsMember new.array k n → is_in_sync m.state ≡ false → n ≡ m
   pub writes : WritesMetadata old new
 
--- They are not all listed: only in memory, or all are, and not all stored.
+-- The chunks of failed slots are not all listed: memory was refused or a log had no room, or all are listed
+-- in memory, and not all stored.
 abbrev pub StopsListing : List Slot → MirrorView → MirrorView → RebuildFault → Type 0
 StopsListing failed old new (LogFull k) = StopsNoting failed old new (LogFull k)
 StopsListing failed old new NoMemory = StopsNoting failed old new NoMemory

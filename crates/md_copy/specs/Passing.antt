@@ -106,13 +106,14 @@ pub record FailsListing (target : ℕ) (fault : RebuildFault) (chunks : List ℕ
   pub fails : StopsListing pass.failed recorded new fault
 
 -- ---- after a pass of which slots failed
--- They are listed, and these rows are the next table.
+-- The chunks of the slots that failed are listed, and these rows are the next table.
 pub record GoesOnWith (failed : List Slot) (old new : MirrorView) (rows : List Row) : Type 0 where
   pub lists : ListsAll failed old new
   pub chunks : chunks_of rows ≡ map (λ (s : Slot). s.chunk) failed
   pub sources : All (HasSources new.array) rows
 
--- They are not all listed; or they are, and memory was refused for the next table.
+-- The chunks of the slots that failed are not all listed; or they are, and memory was refused for the next
+-- table.
 abbrev pub StopsBetween : List Slot → MirrorView → MirrorView → RebuildFault → Type 0
 StopsBetween failed old new fault = StopsListing failed old new fault ⊎ (IsNoMemory fault × ListsAll failed old new)
 

@@ -47,7 +47,7 @@ pub record ServesThen (old new : ArrayView) (target k chunk : ℕ) : Type 0 wher
 abbrev pub IsServedThen : ArrayView → ArrayView → ℕ → ℕ → Type 0
 IsServedThen old new target chunk = (k : ℕ) × ServesThen old new target k chunk
 
--- these bytes lie in the member's data area, beside the chunks of a set
+-- These bytes lie in the member's data area, beside the chunks of a set.
 pub record IsBesideCopied (a : ArrayView) (m : MemberView) (copied : Bitmap) (at n : ℕ) : Type 0 where
   pub from : 512 * m.superblock.data_offset ≤ at
   pub to : at + n ≤ 512 * (m.superblock.data_offset + m.superblock.data_size)
@@ -153,8 +153,9 @@ abbrev pub HaltsTo : {new : MirrorView} → RunsOrHalts new → ℕ → Type 0
 HaltsTo (inl runs) k = ⊥
 HaltsTo (inr halts) k = IsFailureOf k halts.1.failing
 
--- It is rebuilt at the end of the call, also where a write that failed has halted the mirror after it came into sync. This is told of its passes, and
--- of the orphans. The lists that grew stand on the devices, and its own, but for that to which this write was.
+-- The target is rebuilt at the end of the call, also where a write that failed has halted the mirror after
+-- the target came into sync. This is told of its passes, and of the orphans. The lists that grew stand on the
+-- devices, and so does the target's, but for the member to which that write was.
 pub record HasRebuilt (target : ℕ) (told : Rebuilt) (old new : MirrorView) : Type 0 where
   pub passes : List PassView
   pub tells : Tells passes told.orphans.items told

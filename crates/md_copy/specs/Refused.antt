@@ -175,7 +175,7 @@ pub record NotesAll (s : Ending) : Type 0 where
   pub slots : pass.failed ≡ s.noted
 
 -- ---- the member that failed
--- it was kept up to date, and is faulty, and the mirror runs
+-- Member k was kept up to date, and is faulty, and the mirror runs.
 pub record IsLost (k : ℕ) (old new : ArrayView) : Type 0 where
   pub was : (m : MemberView) → IsMember old k m → is_recorded m.state ≡ true
   pub running : new.halted ≡ false
@@ -200,7 +200,7 @@ KeepsDataBeside sector m d e =
 abbrev pub KeepsDataBut : MemberView → MemberView → Disk → Disk → Type 0
 KeepsDataBut m n d e = KeepsData m d e ⊎ ((sector : ℕ) × IsFromMarks n sector × KeepsDataBeside sector m d e)
 
--- its device failed, it is in sync still, no other member is, and the mirror is halted
+-- Member k's device failed, the member is in sync still, no other is, and the mirror is halted.
 pub record HasHalted (k : ℕ) (old new : MirrorView) : Type 0 where
   pub failed : AtDevice k old.disks new.disks (Fails of_disks)
   pub halted : new.array.halted ≡ true

@@ -21,14 +21,14 @@ pub record IsOfChunk (chunks : Chunks) (offset chunk sector : ℕ) : Type 0 wher
   pub inside : InChunk chunks.sectors chunks.size chunk at
   pub is : sector ≡ offset + at
 
--- one of the first n chunks of a set has it
+-- One of the first n chunks of the set has the sector.
 pub record IsOfFirst (n : ℕ) (chunks : Chunks) (offset : ℕ) (set : Bitmap) (sector : ℕ) : Type 0 where
   pub chunk : ℕ
   pub early : chunk < n
   pub in_set : is_set set.bytes chunk ≡ true
   pub of_chunk : IsOfChunk chunks offset chunk sector
 
--- one of all does
+-- A chunk of the set has the sector.
 abbrev pub IsOf : Chunks → ℕ → Bitmap → ℕ → Type 0
 IsOf chunks offset set sector = IsOfFirst set.chunks chunks offset set sector
 
@@ -40,7 +40,8 @@ pub record AreRemovedTo (n : ℕ) (chunks : Chunks) (offset : ℕ) (set : Bitmap
 abbrev pub AreRemoved : Chunks → ℕ → Bitmap → List Run → List Run → Type 0
 AreRemoved chunks offset set old new = AreRemovedTo set.chunks chunks offset set old new
 
--- They are added. No list has sectors from 2^54 on, and no device.
+-- The sectors of the first n chunks of a set are added to a list. No list has sectors from 2^54 on, and no
+-- device.
 pub record AreAddedTo (n : ℕ) (chunks : Chunks) (offset : ℕ) (set : Bitmap) (old new : List Run) : Type 0 where
   pub canonical : IsCanonical new
   pub bad : (sector : ℕ) → IsBad new sector ↔ (IsBad old sector ⊎ (IsOfFirst n chunks offset set sector × (sector < 2 ^ 54)))

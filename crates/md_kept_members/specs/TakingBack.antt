@@ -42,7 +42,8 @@ pub record IsTakenBack (offset : ℕ) (info : MemberInfo) (m : MemberView) : Typ
   pub due : m.due ≡ false
 
 -- ---- a spare that is admitted, and how far it is rebuilt
--- It is recovering in a role from now on, and nothing of it is done. Its superblock is written first, so that it is not due.
+-- A spare is recovering in a role from now on, and nothing of it is done. Its superblock is written first, so
+-- that it is not due.
 abbrev pub admitted_member : ℕ → MemberView → MemberView
 admitted_member role m = record m { superblock = recovering 0 m.superblock; state = Recovering role; due = false }
 

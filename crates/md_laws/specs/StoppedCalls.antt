@@ -19,7 +19,7 @@ use Rattle.md_laws.specs.Runs.{IsStart, MirrorRun, Moment}
 use Rattle.md_laws.specs.StopsReadAs.{EndsInFirstSector}
 use Rattle.md_laws.specs.StopsWithin.{DiffersInFirst, MayAllBeLeft, MayBeLeft}
 
--- It holds at each moment of each life.
+-- A statement holds at each moment of each life.
 abbrev pub AtMoments : (Moment → Type 0) → Type 0
 AtMoments Holds =
     (before : List Disk) (m : MirrorView) → IsStart before m

@@ -34,11 +34,11 @@ abbrev pub IsStoringIf : Bool → Event → Type 0
 IsStoringIf true e = IsStoring e
 IsStoringIf false e = IsRecording e
 
--- it clears the marks of an array that is resynced and not degraded
+-- `stop` clears the marks of an array that is resynced and not degraded.
 abbrev pub clears_marks : ArrayView → Bool
 clears_marks a = a.resynced && not (is_degraded a)
 
--- it makes an array clean that is resynced and active
+-- `stop` makes an array clean that is resynced and active.
 abbrev pub makes_clean : ArrayView → Bool
 makes_clean a = a.resynced && not (a.shared.resync_offset == clean_offset)
 

@@ -127,7 +127,7 @@ abbrev pub FailsInSync : ArrayView → PartFault → Type 0
 FailsInSync a Halted = Unit {0}
 FailsInSync a (MemberFailed k) = (m : MemberView) × IsInSync a k m
 
--- they came to their end: of member k it holds, if it is in sync
+-- The events came to their end: of member k it holds, if it is in sync.
 pub record StoresAt (Of : Event → Type 0) (k : ℕ) (Done : MemberView → Type 0) (old new : MirrorView) : Type 0 where
   pub stores : Stores Of old new
   pub done : (m : MemberView) → IsInSync new.array k m → Done m
@@ -142,7 +142,7 @@ pub record StoresAll (Of : Event → Type 0) (Done : MemberView → Type 0) (old
   pub stores : Stores Of old new
   pub done : (i : ℕ) (m : MemberView) → IsInSync new.array i m → Done m
 
--- its superblock is not due, if it is one that is kept up to date
+-- A member's superblock is not due, if it is one that is kept up to date.
 abbrev pub IsRecorded : MemberView → Type 0
 IsRecorded m = is_recorded m.state ≡ true → IsNotDue m
 

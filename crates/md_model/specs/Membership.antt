@@ -78,7 +78,7 @@ joined w n =
       present = λ d. w.present d || eqb d n.number;
     }
 
--- Its superblock has the new count and the new roles.
+-- The superblock of a member that joins has the new count and the new roles.
 abbrev pub joined_super : World → ℕ → ℕ → Bool → ℕ → Super
 joined_super w d role recovering offset = record { number = d; events = w.events; role = put d role w.role; recovering = recovering; offset = offset }
 
@@ -95,7 +95,7 @@ pub record IsLeast (Fits : ℕ → Type 0) (d : ℕ) : Type 0 where
 abbrev pub IsNumber : Geometry → World → ℕ → Type 0
 IsNumber g w d = IsLeast (IsFree g w) d ⊎ (((e : ℕ) → IsFree g w e → ⊥) × IsLeast (λ e. w.present e ≡ false) d)
 
--- it is laid out as a spare: all chunks are marked, nothing is listed
+-- A device is laid out as a spare: all chunks are marked, nothing is listed.
 pub record IsLaidOut (g : Geometry) (w : World) (d : ℕ) (left : Stored) : Type 0 where
   pub super : left.super ≡ Some (joined_super w d 65535 false 0)
   pub listed : (s : ℕ) → left.listed s ≡ false

@@ -27,7 +27,7 @@ lacks in_sync recovering marked passed = not in_sync && (not recovering || (mark
 abbrev pub is_missing : Geometry → World → ℕ → ℕ → Bool
 is_missing g w k c = lacks (is_in_sync (w.state k)) (is_recovering (w.state k)) (w.marks c) (is_passed g (w.offset k) c)
 
--- It is rebuilt while nothing is in flight.
+-- Member k is rebuilt while nothing is in flight.
 pub record MayRebuild (w : World) (k : ℕ) : Type 0 where
   pub idle : IsIdle w
   pub target : is_target (w.state k) ≡ true

@@ -33,7 +33,7 @@ pub record IsPreparedFor (slots : List Slot) (chunks : Chunks) (offset : ℕ) (s
   pub ordered : IsOrdered p
   pub reads : sources_of p ≡ filter (λ s. has_slot slots s.role) sources
 
--- it can be carried out on these devices and this target
+-- A preparation can be carried out on these devices and this target.
 pub record CanCopy {D : Type 0} (g : Ghosts D) (p : Preparation) (now : PassState D) : Type 0 where
   pub ordered : IsOrdered p
   pub planned : ArePlanned p.collector.chunks p.collector.slots

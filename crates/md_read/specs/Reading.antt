@@ -169,7 +169,8 @@ AllOfGroupList mostly sector sectors a =
     (s : ℕ) → sector ≤ s → s < sector + sectors
     → (k : ℕ) (m : MemberView) → IsInSync a k m → is_write_mostly m.superblock ≡ mostly → Lists m s
 
--- one of them gave these sectors, and none of a lower role did
+-- A member in sync that is write-mostly or not, as it is asked, gave these sectors, and none of a lower role
+-- did.
 pub record GivesFirst (mostly : Bool) (sector : ℕ) (bytes : List ℕ) (old new : MirrorView) : Type 0 where
   pub role : ℕ
   pub given : GivesInGroup mostly role sector bytes old new

@@ -112,7 +112,7 @@ RefusesUnresynced sector bytes old new (fault.ReadFault k s) =
     MayReadSectors old.array sector (length bytes / 512) × EndsAt sector s bytes (fault.ReadFault k s) old new
 
 -- ---- the member that a resync copies from
--- of these sectors
+-- The source of these sectors.
 abbrev pub IsSourceOf : ℕ → ℕ → ArrayView → Source → Type 0
 IsSourceOf sector sectors a (source.Member k) = AllFrom sector sectors (λ s. IsSource k s a)
 IsSourceOf sector sectors a source.Nobody = AllFrom sector sectors (λ s. AllInSync a (λ m. Lists m s))

@@ -19,7 +19,7 @@ use Rattle.md_copy.specs.Rebuilding.{Rebuilds}
 use Rattle.md_copy.specs.Rebuilt.{failed_of}
 use Rattle.md_rebuild_laws.specs.RebuiltInLife.{HeldWhatItHad}
 
--- It holds at each moment of each life, with the content that the life has there.
+-- A statement holds at each moment of each life, with the content that the life has there.
 abbrev pub AtMomentsWith : (Moment → Content → Type 0) → Type 0
 AtMomentsWith Holds_at =
     (before : List Disk) (m : MirrorView) (a : Content) → IsStart before m → Holds (geometry_of m.array) a (world_of m none_in_flight)

@@ -24,7 +24,8 @@ use Rattle.md_copy.specs.declared.rebuilt.Rebuilt.{Rebuilt}
 use Rattle.md_copy.specs.Rebuilding.{Rebuilds}
 use Rattle.md_copy.specs.Rebuilt.{HasRebuilt}
 
--- It holds of each rebuild that is done at some moment of a life, with the content that the life has there.
+-- A statement holds of each rebuild that is done at some moment of a life, with the content that the life has
+-- there.
 abbrev pub OfRebuildsInLives : ((target : ℕ) (content : Content) (told : Rebuilt) (old new : MirrorView) → HasRebuilt target told old new → Type 0) → Type 0
 OfRebuildsInLives Of =
     (before : List Disk) (m : MirrorView) (a : Content) → IsStart before m → Holds (geometry_of m.array) a (world_of m none_in_flight)

@@ -140,8 +140,8 @@ pub record CopiesMarked (old new : MirrorView) : Type 0 where
   pub agree : AllAgreeWhereMarked new
 
 -- ---- why it does not come to its end
--- Of such sectors, in a marked chunk, this is the first that was not copied. Those before it agree. Member k is the one to give it, and
--- could not be read.
+-- The copying of sectors of a kind, in a marked chunk, came to this one, the first that was not copied. Those
+-- before it agree. Member k is the one to give it, and could not be read.
 pub record FailsReading (Of : ℕ → Type 0) (k chunk : ℕ) (old new : MirrorView) : Type 0 where
   pub sector : ℕ
   pub of : Of sector
@@ -182,7 +182,7 @@ GivingFails old new NoMemory = ⊥
 GivingFails old new (ReadFault k chunk) = ⊥
 GivingFails old new (MemberFailed k) = LosesCopying k old new
 
--- such sectors are not all copied
+-- The sectors of a kind are not all copied, for this fault.
 abbrev pub CopyingFails : (ℕ → Type 0) → MirrorView → MirrorView → ResyncFault → Type 0
 CopyingFails Of old new Halted = HaltsCopying old new
 CopyingFails Of old new (InFlight n) = ⊥

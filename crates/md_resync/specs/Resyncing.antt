@@ -117,7 +117,7 @@ pub record ComesTo (sector k chunk : ℕ) (events : List Event) (old new : Mirro
   pub before : (s : ℕ) → s < sector → is_set old.array.marks.bytes (s / old.array.chunks.sectors) ≡ true → AllAgreeAt new s
   pub none : AllOf (IsCopyBelow sector) events
 
--- it did not come to its end, and that is kept
+-- A resync did not come to its end, and that is kept.
 pub record EndsUnresynced (old new : MirrorView) : Type 0 where
   pub idle : IsIdle old.array
   pub goes : GoesUnresynced old new
@@ -178,7 +178,7 @@ RefusesResync old new (ReadFault k chunk) = ReadingFails k chunk old new
 RefusesResync old new (MemberFailed k) = LosesMember k old new
 
 -- ---- before it is kept that the array is not resynced
--- its events were done, none of them failed, and nothing is in flight
+-- Events of a resync were done, none of them failed, and nothing is in flight.
 pub record Advances (old new : MirrorView) : Type 0 where
   pub goes : GoesOn old new
   pub unfailing : AllOf IsNoFailure goes.events
@@ -267,7 +267,7 @@ pub record Agrees (old new : MirrorView) : Type 0 where
   pub agree : AllAgreeWhereMarked new
   pub content : KeepsContent old new
 
--- They are not made to agree: there are two, and not all sectors of marked chunks are copied.
+-- The members in sync are not made to agree: there are two, and not all sectors of marked chunks are copied.
 pub record AgreeingFails (old new : MirrorView) (fault : ResyncFault) : Type 0 where
   pub two : IsAlone old.array → ⊥
   pub copying : CopyingFails (IsMarkedAt old.array) old new fault

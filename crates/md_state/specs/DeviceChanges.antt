@@ -19,7 +19,7 @@ LeavesAsWas d e = d.honest ≡ true → LeavesOn (λ left. left ≡ d.content) d
 abbrev pub IsLeftAlone : Disk → Disk → Type 0
 IsLeftAlone d e = IsUnchanged d e × LeavesAsWas d e
 
--- it stays honest or not, and its failures are counted
+-- A device stays honest or not, and its failures are counted.
 pub record StaysHonest (old new : Disk) : Type 0 where
   pub honest : new.honest ≡ old.honest
   pub counted : old.failures ≤ new.failures

@@ -123,7 +123,7 @@ StaysOutNext =
     → IsFit (super_of opened.array.shared) (super_of next.array.shared) last.failed_at
     → (n : MemberView) → n.superblock.events ≤ opened.array.shared.events → IsOutSince opened last n → IsCalledOut next n ⊎ IsBehind next n))
 
--- such an opening, of which no device beside those that were left is found in sync
+-- An opening after a stop, of which no device beside those that were left is found in sync.
 pub record IsOpenedSince (opened : MirrorView) (last : Moment) (next : MirrorView) : Type 0 where
   pub found : List Disk
   pub devices : AreFoundAgain last found
@@ -132,8 +132,8 @@ pub record IsOpenedSince (opened : MirrorView) (last : Moment) (next : MirrorVie
   pub fit : IsFit (super_of opened.array.shared) (super_of next.array.shared) last.failed_at
   pub out : (j : ℕ) (n : MemberView) → IsMember next.array j n → devices.from j ≡ None → is_in_sync n.state ≡ false
 
--- It begins another life: the stored marks cover what the members in sync differ in. And each of these was in sync at the stop, on the same
--- device.
+-- An opening after a stop begins another life: the stored marks cover what the members in sync differ in.
+-- Each of these was in sync at the stop, on the same device.
 pub record BeginsSince (opened : MirrorView) (last : Moment) (next : MirrorView) (again : IsOpenedSince opened last next) : Type 0 where
   pub start : IsStart again.found next
   pub among : (k : ℕ) (n : MemberView) → IsInSync next.array k n → (i : ℕ) × (again.devices.from k ≡ Some i) × (o : MemberView) × IsInSync last.mirror.array i o

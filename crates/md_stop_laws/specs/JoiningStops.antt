@@ -37,7 +37,7 @@ pub record IsLeftBeside (t : Moment) (left : List Disk) (Stands : List ℕ → T
   pub is_left : IsLeft t t.mirror.disks
   pub stands : Stands beside
 
--- its superblock reads as when the device was given, or none can be read
+-- The device's superblock reads as when the device was given, or none can be read.
 abbrev pub IsGivenOrNone : Disk → List ℕ → Type 0
 IsGivenOrNone device c = ReadsAs (block_on c) (block_on device.content) ⊎ (super_in (block_on c) ≡ None)
 

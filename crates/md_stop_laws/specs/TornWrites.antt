@@ -37,13 +37,13 @@ pub record IsOpenedAfter (opened : MirrorView) (t : Moment) (left : List Disk) (
   pub fit : IsFit (super_of opened.array.shared) (super_of next.array.shared) t.failed_at
   pub out : (j : ℕ) (m : MemberView) → IsMember next.array j m → devices.from j ≡ None → is_in_sync m.state ≡ false
 
--- It begins another life: the stored marks cover what the members in sync differ in. And each of these was in sync before the stop, on the same
--- device.
+-- An opening after a stop begins another life: the stored marks cover what the members in sync differ in.
+-- Each of these was in sync before the stop, on the same device.
 pub record BeginsAfter (opened : MirrorView) (t : Moment) (left : List Disk) (next : MirrorView) (again : IsOpenedAfter opened t left next) : Type 0 where
   pub start : IsStart again.found next
   pub among : (k : ℕ) (n : MemberView) → IsInSync next.array k n → (i : ℕ) × (again.devices.from k ≡ Some i) × (o : MemberView) × IsInSync t.mirror.array i o
 
--- It holds of what a stop left at a moment of a life, and of each opening after that.
+-- A statement holds of what a stop left at a moment of a life, and of each opening after that.
 abbrev pub OfOpenings : ((t : Moment) (left : List Disk) → Type 0)
     → ((opened : MirrorView) (t : Moment) (left : List Disk) (next : MirrorView) → IsOpenedAfter opened t left next → Type 0) → Type 0
 OfOpenings Leaves Finds =
@@ -103,7 +103,8 @@ ContentAfterLoneMarks =
     → (t.mirror.array.resynced ≡ true) ⊎ ((world_of t.mirror t.requests).marks (chunk_of (geometry_of t.mirror.array) s) ≡ false) → c s ≡ b s)))
 
 -- ---- a log, of a member that is alone in sync
--- Its log was stored, no other member was in sync, and the write halted the mirror. The stop may have left any entries there.
+-- The log of a member that was alone in sync was stored, and the write halted the mirror. The stop may have
+-- left any entries there.
 pub record IsLeftByLoneLog (t : Moment) (left : List Disk) : Type 0 where
   pub on : ℕ
   pub new : MirrorView

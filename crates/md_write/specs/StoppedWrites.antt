@@ -13,7 +13,7 @@ use Rattle.md_metadata.specs.Stopping.{HaltsStop, IsStopping}
 use Rattle.md_write.specs.Writing.{HaltsWrite, Writes, events_of}
 
 -- ---- a write of whole sectors
--- that is done, whoever failed on the way
+-- A stop within a `write` that is done, whoever failed on the way.
 abbrev pub StopsInWrite : Type 0
 StopsInWrite =
     AtMoments (λ t.
