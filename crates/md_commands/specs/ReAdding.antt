@@ -36,7 +36,7 @@ pub record HandsBackUntried (device : Disk) (given : Option Disk) (old new : Mir
   pub is : given ≡ Some device
   pub refused : RefusesNeededResync old new fault
 
--- it does not come back, and is handed back
+-- The device does not come back, and is handed back.
 pub record HandsBackUnjoined (device : Disk) (given : Option Disk) (old new : MirrorView)
     (fault : ReAddFault) : Type 0 where
   pub ready : MirrorView
@@ -45,7 +45,7 @@ pub record HandsBackUnjoined (device : Disk) (given : Option Disk) (old new : Mi
   pub is : given ≡ Some back
   pub refused : RefusesReAdd device back ready new fault
 
--- it comes back, and is not rebuilt
+-- The device comes back, and is not rebuilt.
 pub record FailsToRebuildJoined (device : Disk) (old new : MirrorView) (fault : RebuildFault) : Type 0 where
   pub k : ℕ
   pub joined : MirrorView

@@ -43,7 +43,7 @@ fault_name Level = codes "Level"
 fault_name RaidDisks = codes "RaidDisks"
 fault_name NoMemory = codes "NoMemory"
 
--- its name, and the value of that which has one
+-- A line with the fault's name, and the value of that which has one.
 abbrev pub fault_line : List ℕ → SuperFault → List ℕ
 fault_line label (Feature bits) = line_text label (codes "Feature " ++ decimal bits)
 fault_line label fault = line_text label (fault_name fault)

@@ -13,7 +13,8 @@ use Rattle.md_signatures.specs.Table.{magics, md_magic}
 abbrev pub md_090_place : ℕ → Option ℕ
 md_090_place sectors = if nat_lt sectors 128 then None else Some (512 * (sectors / 128 * 128 - 128))
 
--- that of version 1.0 (super_1_load of md.c): the last multiple of 4 KiB after which there are 8 KiB
+-- The place of a superblock of version 1.0 (super_1_load of md.c): the last multiple of 4 KiB after which
+-- there are 8 KiB.
 abbrev pub md_10_place : ℕ → Option ℕ
 md_10_place sectors = if nat_lt sectors 16 then None else Some (512 * ((sectors - 16) / 8 * 8))
 
