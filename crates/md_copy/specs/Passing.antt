@@ -70,7 +70,8 @@ pub record CopiesAll (target : ℕ) (m : MemberView) (passes : List PassView) (b
   pub passes_are : passes ≡ listed ++ last ∷ []
 
 -- ---- where they end before that
--- After such passes, or before the first, it ended: these chunks were left, and those copied.
+-- The passes ended after some of which slots failed, or before the first: these chunks were left, and those
+-- copied.
 pub record EndsBetween (target : ℕ) (m : MemberView) (before : Bitmap) (old : MirrorView) (Why : List ℕ → Bitmap → MirrorView → Type 0) : Type 0 where
   pub passes : List PassView
   pub left : List ℕ
@@ -79,7 +80,7 @@ pub record EndsBetween (target : ℕ) (m : MemberView) (before : Bitmap) (old : 
   pub passed : AreListedPasses target passes (missing_chunks old.array m) left before copied old now
   pub why : Why left copied now
 
--- One was planned, and broken off with this fault.
+-- A pass was planned, and broken off with this fault.
 pub record BreaksOff (target : ℕ) (fault : RebuildFault) (chunks : List ℕ) (before after : Bitmap) (old new : MirrorView) : Type 0 where
   pub pass : PassView
   pub is : IsArrayPass old.array chunks pass
@@ -88,7 +89,7 @@ pub record BreaksOff (target : ℕ) (fault : RebuildFault) (chunks : List ℕ) (
   pub breaks : BreaksPass target member (slots_of pass) before after old new fault
   pub sound : IsConsistent new
 
--- One was made, and how far the target is rebuilt could not be recorded.
+-- A pass was made, and how far the target is rebuilt could not be recorded.
 pub record FailsRecording (target : ℕ) (chunks : List ℕ) (before : Bitmap) (old new : MirrorView) : Type 0 where
   pub pass : PassView
   pub after : Bitmap
@@ -97,7 +98,7 @@ pub record FailsRecording (target : ℕ) (chunks : List ℕ) (before : Bitmap) (
   pub fails : FailsToCheckpoint target after filled new
   pub sound : IsConsistent new
 
--- One was made and recorded, slots of it failed, and they are not all listed, with this fault.
+-- A pass was made and recorded, slots of it failed, and they are not all listed, with this fault.
 pub record FailsListing (target : ℕ) (fault : RebuildFault) (chunks : List ℕ) (before after : Bitmap) (old new : MirrorView) : Type 0 where
   pub pass : PassView
   pub recorded : MirrorView

@@ -28,7 +28,8 @@ pub record IsServedIn (members : List MemberView) (n : ℕ) (chunks : Chunks) (c
   pub serves : Serves chunks chunk role member
   pub flag : is_write_mostly member.superblock ≡ mostly
 
--- one of all members is
+-- A member is in sync in the role and lists no sector of the chunk. It is write-mostly or is not, as it is
+-- asked.
 abbrev pub IsServedAs : List MemberView → Chunks → ℕ → Bool → ℕ → Type 0
 IsServedAs members chunks chunk mostly role = IsServedIn members (length members) chunks chunk mostly role
 

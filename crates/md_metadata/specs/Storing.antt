@@ -132,12 +132,12 @@ pub record StoresAt (Of : Event → Type 0) (k : ℕ) (Done : MemberView → Typ
   pub stores : Stores Of old new
   pub done : (m : MemberView) → IsInSync new.array k m → Done m
 
--- of those before this one
+-- The events came to their end: of each member in sync before member k it holds.
 pub record StoresBelow (Of : Event → Type 0) (k : ℕ) (Done : MemberView → Type 0) (old new : MirrorView) : Type 0 where
   pub stores : Stores Of old new
   pub done : (i : ℕ) (m : MemberView) → i < k → IsInSync new.array i m → Done m
 
--- of all of them
+-- The events came to their end: of each member in sync it holds.
 pub record StoresAll (Of : Event → Type 0) (Done : MemberView → Type 0) (old new : MirrorView) : Type 0 where
   pub stores : Stores Of old new
   pub done : (i : ℕ) (m : MemberView) → IsInSync new.array i m → Done m
@@ -146,7 +146,7 @@ pub record StoresAll (Of : Event → Type 0) (Done : MemberView → Type 0) (old
 abbrev pub IsRecorded : MemberView → Type 0
 IsRecorded m = is_recorded m.state ≡ true → IsNotDue m
 
--- of member k it holds, in sync or not
+-- The events came to their end: member k's superblock is not due, if it is one that is kept up to date.
 pub record RecordsAt (k : ℕ) (old new : MirrorView) : Type 0 where
   pub stores : Stores IsRecording old new
   pub done : (m : MemberView) → IsMember new.array k m → IsRecorded m

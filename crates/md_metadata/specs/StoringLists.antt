@@ -50,7 +50,7 @@ pub record StoresList (k : ℕ) (old new : MirrorView) : Type 0 where
   pub list : goes.events ≡ list_events k listed
   pub array : StoresListOf k old.array new.array
 
--- One of its writes failed: the member is faulty, or the mirror is halted.
+-- A write by which the list was to be stored failed: the member is faulty, or the mirror is halted.
 abbrev pub ListFails : ℕ → MirrorView → MirrorView → PartFault → Type 0
 ListFails k old new Halted = HaltsAtWrite (IsListing k) k old new
 ListFails k old new (MemberFailed j) = (j ≡ k) × LosesStoring (IsListing k) k old new

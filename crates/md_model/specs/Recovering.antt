@@ -141,7 +141,9 @@ pub record IsAsPrepared (g : Geometry) (w : World) (k : ℕ) (left : Stored) : T
   pub offset : (own : Super) → left.super ≡ Some own → own.offset ≤ w.offset k
   pub listed : (s : ℕ) → s < g.size → left.listed s ≡ false → (w.bad k s ≡ false) ⊎ (is_missing g w k (chunk_of g s) ≡ true)
 
--- Both do, at any moment of a life; the second where each member in sync has the marks of memory stored, as filling asks it.
+-- A device says no more than the mirror keeps where its superblock and its log are as they were stored, or as
+-- they are within an enrolment, at any moment of a life. The second is so where each member in sync has the
+-- marks of memory stored, as filling asks it.
 abbrev pub SaysNoMore : Geometry → Super → History → Type 0
 SaysNoMore g opened h =
     (k : ℕ) (left : Stored) → is_recovering (h.now.state k) ≡ true

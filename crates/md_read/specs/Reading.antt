@@ -83,7 +83,7 @@ GivesInTurn sector [] old new = Rests old new
 GivesInTurn sector (run ∷ runs) old new =
     (mid : MirrorView) × GivesRun sector run old mid × GivesInTurn (sector + length run / 512) runs mid new
 
--- these bytes were given so
+-- These bytes were given, run by run.
 pub record GivesSectors (sector : ℕ) (bytes : List ℕ) (old new : MirrorView) : Type 0 where
   pub runs : List (List ℕ)
   pub joined : bytes ≡ concat runs
@@ -157,13 +157,14 @@ TriesRole mostly role sector was bytes old new answer.Failed = Rests old new × 
 TriesRole mostly role sector was bytes old new answer.Perhaps = Rests old new × (1 < length was / 512)
 
 -- ---- one group
--- none of its members in sync gave any of these sectors
+-- None of the members in sync of a group, those that are write-mostly or the others, gave any of these
+-- sectors.
 abbrev pub NoneOfGroupGives : Bool → ℕ → ℕ → MirrorView → MirrorView → Type 0
 NoneOfGroupGives mostly sector sectors old new =
     (s : ℕ) → sector ≤ s → s < sector + sectors
     → (k : ℕ) (m : MemberView) → IsInSync old.array k m → is_write_mostly m.superblock ≡ mostly → HasNotGiven k m s old new
 
--- all of its members in sync list all of them
+-- All members in sync of a group, those that are write-mostly or the others, list all of these sectors.
 abbrev pub AllOfGroupList : Bool → ℕ → ℕ → ArrayView → Type 0
 AllOfGroupList mostly sector sectors a =
     (s : ℕ) → sector ≤ s → s < sector + sectors

@@ -102,12 +102,14 @@ abbrev pub NoneIsNewer : (opened : MirrorView) (t : Moment) (found : List Disk) 
 NoneIsNewer opened t found devices next =
     (j : ℕ) (n : MemberView) → IsMember next.array j n → devices.from j ≡ None → n.superblock.events ≤ opened.array.shared.events
 
--- Why one of them is not found in sync: as of a device that an opening left out, data was let through and a member that was in sync is there, or
--- it is called out of sync; or it is behind.
+-- Why a device beside those that were left is not found in sync: it is behind, or its number was away and it
+-- is shut out. It is shut out where data was let through and a member that was in sync is there, or where it
+-- is called out of sync, as of a device that an opening left out.
 abbrev pub IsShutOutSince : (opened : MirrorView) (t : Moment) (found : List Disk) → AreFoundAgain t found → MemberView → Type 0
 IsShutOutSince opened t found devices n = ((t.away n.superblock.dev_number ≡ true) × IsShutOut opened t found devices n) ⊎ IsBehind opened n
 
--- An opening after a stop, by a superblock that is as new as the array was, and that has recorded the last failure, finds no such device in sync.
+-- An opening after a stop, by a superblock that is as new as the array was, and that has recorded the last
+-- failure, finds no device in sync that is shut out.
 abbrev pub FindsOutSince : Type 0
 FindsOutSince =
     OfDepartures (λ opened last.
@@ -115,7 +117,8 @@ FindsOutSince =
     → IsFit (super_of opened.array.shared) (super_of next.array.shared) last.failed_at
     → (j : ℕ) (n : MemberView) → IsMember next.array j n → devices.from j ≡ None → IsShutOutSince opened last found devices n → is_in_sync n.state ≡ false))
 
--- Of one that it has not, and that was out, the superblock that it keeps says so, or it is still behind: so it is out at the openings after it.
+-- The superblock that an opening keeps of the array says of a device which was out that it is out, or the
+-- device is still behind: so it is out at the openings after it.
 abbrev pub StaysOutNext : Type 0
 StaysOutNext =
     OfDepartures (λ opened last.

@@ -45,8 +45,8 @@ IsGivenOrNone device c = ReadsAs (block_on c) (block_on device.content) ⊎ (sup
 abbrev pub HasOtherMagic : List ℕ → Type 0
 HasOtherMagic block = number_at 4 0 block ≢ 0xa92b4efc
 
--- Within an `add` that answers `Ok`, where the superblocks end within their first sectors: the one that stands on the device, if there is one, and
--- the one that is written.
+-- A stop within an `add` that answers `Ok`, where the superblocks end within their first sectors: the one
+-- that stands on the device, if there is one, and the one that is written.
 abbrev pub StopsInAdd : Type 0
 StopsInAdd =
     AtMoments (λ t.
@@ -55,7 +55,8 @@ StopsInAdd =
     → (left : List Disk) → MayAllBeLeft (t.mirror.disks ++ device ∷ []) new.disks (contents_of left)
     → IsStopJoined (add_event k device t.mirror new r) t left ⊎ IsLeftBeside t left (IsGivenOrNone device)))
 
--- Within a `re_add` that does, likewise: there it reads as when it was given.
+-- A stop within a `re_add` that answers `Ok`, where both superblocks of the device end within their first
+-- sectors: the superblock reads as when the device was given, or the device has joined.
 abbrev pub StopsInReAdd : Type 0
 StopsInReAdd =
     AtMoments (λ t.

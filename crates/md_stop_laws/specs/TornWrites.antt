@@ -89,9 +89,10 @@ pub record IsLeftByLoneMarks (t : Moment) (left : List Disk) : Type 0 where
   pub since : IsLeftSince t.mirror.disks new.disks left
   pub header : (d : Disk) → slice_get left on ≡ Some d → HasWidth t.mirror.array.chunks.sectors call.member.superblock d.content
 
--- It is alone in sync then too, so that nothing differs. The content stays what it was in each sector that no request touched, and that the
--- member held: of a resynced array in each of these, else in each whose chunk had no mark in memory. But marks may be lost: of devices that
--- left before, and come back by `re_add` later, nothing is said.
+-- A member that was alone in sync is so after the stop, too, so that nothing differs. The content stays what
+-- it was in each sector that no request touched, and that the member held: of a resynced array in each of
+-- these, else in each whose chunk had no mark in memory. But marks may be lost: of devices that left before,
+-- and come back by `re_add` later, nothing is said.
 abbrev pub StartsAfterLoneMarks : Type 0
 StartsAfterLoneMarks = OfOpenings IsLeftByLoneMarks BeginsAfter
 
