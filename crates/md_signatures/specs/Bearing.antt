@@ -23,7 +23,7 @@ abbrev pub has_superblock : List ℕ → Option ℕ → Bool
 has_superblock content None = false
 has_superblock content (Some place) = has_sign content (sign place md_magic)
 
--- one of its magic numbers stands on the device
+-- A magic number of the signature stands on the device.
 abbrev pub has_magic : List ℕ → Signature → Bool
 has_magic content s = list_any (has_sign content) (magics s)
 
