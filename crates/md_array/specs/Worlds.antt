@@ -90,8 +90,8 @@ reads_log_on own content = list_bit own (block_on content) (super_in (block_on c
 unfoldable pub is_listed : Superblock → List ℕ → ℕ → Bool
 is_listed own content sector = reads_log_on own content && is_logged content (from_super own.bblog_offset) own.bblog_size own.bblog_shift sector
 
--- A sector of a device is listed in its log, if the log is read by the own fields alone, as it is once they
--- are stored.
+-- A sector of a device is listed in its log, where the own fields alone say whether the log is read, as they
+-- do once they are stored.
 unfoldable pub is_listed_next : Superblock → List ℕ → ℕ → Bool
 is_listed_next own content sector = reads_log own && is_logged content (from_super own.bblog_offset) own.bblog_size own.bblog_shift sector
 

@@ -141,8 +141,8 @@ pub record IsLeftEnrolled (t : Moment) (left : List Disk) : Type 0 where
 abbrev pub IsTargetCall : ℕ → MirrorView → MirrorView → Type 0
 IsTargetCall k old new = Admits k old new ⊎ (FailsToAdmit k old new ⊎ ((copied : Bitmap) × (Checkpoints k copied old new ⊎ FailsToCheckpoint k copied old new)))
 
--- What is left within `admit` or `checkpoint` of a member, where its superblock reads as before, or none is
--- read.
+-- What is left within `admit` of a spare or `checkpoint` of a recovering member, done or failed, where its
+-- superblock reads as before, or none is read.
 pub record IsLeftTargeting (t : Moment) (left : List Disk) : Type 0 where
   pub on : ℕ
   pub next : MirrorView

@@ -80,8 +80,8 @@ StopsStoring =
     → (left : List Disk) → StopsIn g.events None t.mirror t.requests (λ m r. (m ≡ new) × (r ≡ t.requests)) (g.leads None t.requests in_flight) left
     → IsStopStoring t left))
 
--- A stop where the target's superblock could not be stored. The failed write left it as it was, as it is
--- written, or as one that can't be decoded.
+-- A stop where the target's superblock could not be stored. It was left as it was, as it is written, or as
+-- one that can't be decoded.
 abbrev pub StopsUnrecorded : Type 0
 StopsUnrecorded =
     AtMoments (λ t.

@@ -15,7 +15,7 @@ use Rattle.md_state.specs.Rising.{HasSpentEvents}
 use Rattle.md_state.specs.View.{ArrayView}
 
 -- ---- whether it may come into sync
--- Member k is recovering in this role.
+-- Member k may come into sync in this role: it is recovering in it, the mirror runs, and the count can rise.
 pub record MayTakeRole (k : ℕ) (a : ArrayView) (role : ℕ) : Type 0 where
   pub running : a.halted ≡ false
   pub member : MemberView

@@ -36,7 +36,7 @@ pub record LeftInTime (a : ArrayView) (v : Superblock) : Type 0 where
   pub late : a.events_cleared ≤ v.events
   pub no_newer : v.events ≤ a.shared.events
 
--- A device left in time, is of this array, and has a bitmap.
+-- A device is of this array, has a bitmap, left its role, and left in time.
 pub record IsReAddable (a : ArrayView) (info : MemberInfo) : Type 0 where
   pub header : BitmapHeader
   pub has_header : info.header ≡ Some header
