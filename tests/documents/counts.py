@@ -33,6 +33,8 @@ QUESTION = re.compile(r"if let Err\((\w+)\) = [^;{]*?\{\s*return Err\(\1\);\s*\}
 FROM = re.compile(r"Err\((\w+)\) => (?:return )?Err\((?:\w+::)*\w+\(\1\)\)|if let Err\((\w+)\) = [^;{]*?\{\s*return Err\((?:\w+::)*\w+\(\2\)\);\s*\}")
 COINED = re.compile(r"(?:^|_|(?<=[a-z]))(?:[Ss]eat(?:ed|s)?|[Ll]anes?|[Ss]hel(?:f|ves)|[Ss]ettl(?:e[ds]?|ing))(?=_|$|[A-Z])")
 LEANING = re.compile(r"(?i)(?:the same|so (?!many|much)|and|nor|or|but|also|likewise|those of|then|else)\b")
+# A definition's comment also leans where its subject is the one of the comment above. In code that is the item itself.
+PRONOUN = re.compile(r"(?i)(?:its?|they|them|such|that|within (?:it|that)|one (?:was|is|that|does|did|of them|of its|in memory))\b")
 
 
 def sources():
@@ -104,14 +106,14 @@ def coined_words():
     return ["%s: %s" % pair for pair in sorted(found)]
 
 
-def leaning_comments(files, comment):
+def leaning_comments(files, comment, *patterns):
     """Comments that only say something after the item above: they begin as a sentence goes on."""
     reasons = []
     for file in files:
         before = ""
         for number, line in enumerate(file.read_text().splitlines(), 1):
             text = re.match(comment, line)
-            if text and not re.match(comment, before) and LEANING.match(line, text.end()):
+            if text and not re.match(comment, before) and any(pattern.match(line, text.end()) for pattern in patterns):
                 reasons.append("%s:%d" % (place(file), number))
             before = line
     return reasons
@@ -126,8 +128,8 @@ COUNTS = {
     "places where ? is spelled out": lambda: matches(QUESTION),
     "places where From is spelled out": lambda: matches(FROM),
     "names with coined words": coined_words,
-    "comments of definitions that lean on the line above": lambda: leaning_comments(definitions(), r"-- (?!-)"),
-    "comments of code that lean on the line above": lambda: leaning_comments(sources(), r"\s*//[/!]? "),
+    "comments of definitions that lean on the line above": lambda: leaning_comments(definitions(), r"-- (?!-)", LEANING, PRONOUN),
+    "comments of code that lean on the line above": lambda: leaning_comments(sources(), r"\s*//[/!]? ", LEANING),
 }
 
 

@@ -14,7 +14,7 @@ pub(crate) enum Shape {
     Nested,
     /// Each set of 20 sources once.
     Subsets,
-    /// The same, the largest numbers first.
+    /// Each set of 20 sources once, the largest numbers first.
     SubsetsDown,
     /// Random masks.
     Random,
@@ -22,7 +22,8 @@ pub(crate) enum Shape {
     Ladder,
     /// A source that falls, and random ones below it: in this order the chunks take what later ones need.
     Falling,
-    /// The same masks in another order: the highest source falls with each chunk, and begins anew after 32.
+    /// The masks of `Falling` in another order: the highest source falls with each chunk, and begins anew
+    /// after 32.
     FallMix,
 }
 

@@ -17,7 +17,7 @@ pub(crate) enum Call {
     Write(u64, usize),
     // Of so many sectors from this one on, of which the first so many are given, with these bytes.
     Read(u64, usize, usize, Data),
-    // The same as they would be after a resync.
+    // Of sectors as they would be after a resync.
     ReadUnresynced(u64, usize, usize, Data),
     Resync,
     Stop,
@@ -56,7 +56,7 @@ pub(crate) enum Answer {
     NotResynced(ResyncFault),
     NotStopped(StopFault),
     Counts(u32),
-    // And how many reads began and ended, and the sums of their roles and chunks.
+    // The mismatched chunks, how many reads began and ended, and the sums of their roles and chunks.
     Counted(Result<u32, CheckFault>, [u64; 4]),
     NotChecked(CheckFault),
     // The gate waited in vain.

@@ -53,7 +53,7 @@ impl Gate for Counting {
     }
 }
 
-// So often a source looks whether the other one has begun.
+// How often a source looks whether the other one has begun.
 const LOOKS: u32 = 1_000_000_000;
 
 // Holds the first read of each of two sources until that of the other has begun.

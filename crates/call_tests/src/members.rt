@@ -204,7 +204,7 @@ pub(crate) fn devices_of(
     Ok(devices)
 }
 
-// The same devices, which fail no more.
+// These devices, which fail no more.
 pub(crate) fn sound(alloc: Global, old: Vec<Testing>) -> Result<Vec<Testing>, Fail> {
     let mut devices = Vec::new(alloc);
     for device in old {

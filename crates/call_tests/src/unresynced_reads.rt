@@ -27,7 +27,8 @@ const BOTH: Data = Data(
     NONE_OTHER,
 );
 
-// The same, but for sectors 10 and 11, which the first member lists.
+// The marked chunks of the old data, but for sectors 10 and 11, which the first member lists. These two and
+// the other chunks are of the new data.
 const BUT_TWO: Data = Data(
     Filling::Chunks([0, 1, 2, 3, 4, 5, 6, WRITTEN]),
     (10, 2, WRITTEN),

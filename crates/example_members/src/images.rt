@@ -29,7 +29,7 @@ pub fn image(alloc: Global, superblock: &[u8; 4096]) -> Result<MemDevice, Fail>
     Ok(device)
 }
 
-/// The same with these bytes as the first 4096 of its bitmap.
+/// An image with this superblock, and these bytes as the first 4096 of its bitmap.
 pub fn member_image(
     alloc: Global,
     superblock: &[u8; 4096],

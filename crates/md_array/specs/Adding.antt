@@ -17,7 +17,7 @@ use Rattle.md_state.specs.View.{Disk, MirrorView, of_disks}
 use Rattle.md_array.specs.Events.{Happens}
 use Rattle.md_array.specs.Worlds.{stored_of}
 
--- It was laid out with this number, and stands last. No other device was used.
+-- A device was laid out with this number, and stands last. No other device was used.
 pub record LaysOutLast (k : ℕ) (device : Disk) (number : ℕ) (old new : MirrorView) : Type 0 where
   pub last : k ≡ length old.array.members
   pub short : sectors_of device.content ≤ 2 ^ 54  -- as long as any device
@@ -38,7 +38,7 @@ pub record Adds (k : ℕ) (device : Disk) (old new : MirrorView) : Type 0 where
   pub may : MayAdd old.array (sectors_of device.content) number
   pub comes : LaysOutLast k device number old new
 
--- One of the writes that lay it out failed, and none was made after it. The mirror is as before.
+-- A write by which the device was to be laid out failed, and none was made after it. The mirror is as before.
 pub record FailsToLayOut (device given : Disk) (number : ℕ) (old new : MirrorView) : Type 0 where
   pub unchanged : new ≡ old
   pub laid : NewMember

@@ -14,7 +14,7 @@ use Rattle.md_array.specs.Events.{Happens, listed_on}
 use Rattle.md_array.specs.Recording.{IsReadable, super_write}
 use Rattle.md_array.specs.Worlds.{block_on, super_in}
 
--- its superblock was written, once
+-- A spare is admitted: its superblock was written, once.
 pub record Admits (k : ℕ) (old new : MirrorView) : Type 0 where
   pub role : ℕ
   pub may : MayAdmit k old.array role
@@ -22,7 +22,7 @@ pub record Admits (k : ℕ) (old new : MirrorView) : Type 0 where
   pub readable : IsReadable (merged new.array.shared (admitted_member role may.member).superblock)  -- no condition: so it is of every superblock that is kept
   pub disks : IsWritten k (super_write new.array (admitted_member role may.member)) old.disks new.disks
 
--- that write failed, and in memory all is as before
+-- The write of the superblock by which a spare was to be admitted failed, and in memory all is as before.
 pub record FailsToAdmit (k : ℕ) (old new : MirrorView) : Type 0 where
   pub role : ℕ
   pub may : MayAdmit k old.array role
@@ -41,7 +41,7 @@ RefusesAdmit k old new NoMemory = Refuses old new ((role : ℕ) × MayAdmit k ol
 abbrev pub admit_event : {k : ℕ} {old new : MirrorView} → Admits k old new → Event
 admit_event {k} {old} {new} r = Event.Admit k r.role (listed_on new k)
 
--- this was done by the event
+-- An `admit` was done by this event.
 pub record DidAdmit (e : Event) (old new : MirrorView) : Type 0 where
   pub index : ℕ
   pub admits : Admits index old new

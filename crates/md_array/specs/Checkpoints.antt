@@ -34,7 +34,7 @@ pub record MayCheckpoint (k : ℕ) (copied : Bitmap) (v : MirrorView) : Type 0 w
   pub copied_chunks : copied.chunks ≡ v.array.marks.chunks
   pub holds : AreHonest v.disks → HoldsCopied v.disks v.array k copied
 
--- Its superblock was written with the next offset.
+-- A member's superblock was written with the next offset.
 pub record Checkpoints (k : ℕ) (copied : Bitmap) (old new : MirrorView) : Type 0 where
   pub may : MayCheckpoint k copied old
   pub offset : ℕ
@@ -43,7 +43,7 @@ pub record Checkpoints (k : ℕ) (copied : Bitmap) (old new : MirrorView) : Type
   pub array : new.array ≡ record old.array { members = set old.array.members k (record (with_offset offset may.member) { due = false }) }
   pub disks : IsWritten k (super_write old.array (with_offset offset may.member)) old.disks new.disks
 
--- that write failed, and in memory all is as before
+-- The write of a member's superblock with the next offset failed, and in memory all is as before.
 pub record FailsToCheckpoint (k : ℕ) (copied : Bitmap) (old new : MirrorView) : Type 0 where
   pub member : MemberView
   pub at : IsMember old.array k member
@@ -69,7 +69,7 @@ pub record MovesOffset (k offset had : ℕ) (old new : MirrorView) : Type 0 wher
 abbrev pub checkpoint_event : {k : ℕ} {copied : Bitmap} {old new : MirrorView} → Checkpoints k copied old new → Event
 checkpoint_event {k} {copied} {old} {new} r = Event.Checkpoint k r.offset (listed_on new k)
 
--- this was done by the event
+-- A `checkpoint` was done by this event.
 pub record DidCheckpoint (e : Event) (old new : MirrorView) : Type 0 where
   pub index : ℕ
   pub copied : Bitmap

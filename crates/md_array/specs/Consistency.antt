@@ -20,9 +20,10 @@ pub record HasPlaces (m : MemberView) (block : List ℕ) : Type 0 where
   pub bblog_size : number_at 2 186 block ≡ m.superblock.bblog_size
   pub bblog_offset : cast_signed w32 (number_at 4 188 block) ≡ m.superblock.bblog_offset
 
--- A device has a superblock, with the member's number, its own bit 2 of the feature map, and its places. What its log lists is listed
--- still once the superblock that is kept is stored, and that is in the bad set that is kept: chunks may be listed in memory that are
--- not stored yet, and a log that is stored may be read only by the next superblock.
+-- A device has a superblock, with the member's number, its own RECOVERY_OFFSET in the feature map or none,
+-- and its places. What its log lists is listed still once the superblock that is kept is stored, and that is
+-- in the bad set that is kept: chunks may be listed in memory that are not stored yet, and a log that is
+-- stored may be read only by the next superblock.
 pub record HasSuper (m : MemberView) (d : Disk) : Type 0 where
   pub super : Super
   pub is : super_in (block_on d.content) ≡ Some super
@@ -32,8 +33,8 @@ pub record HasSuper (m : MemberView) (d : Disk) : Type 0 where
   pub listed : (sector : ℕ) → is_listed m.superblock d.content sector ≡ true → is_listed_next m.superblock d.content sector ≡ true
   pub known : (sector : ℕ) → is_listed_next m.superblock d.content sector ≡ true → IsBad m.bad sector
 
--- So has that of each member in sync. Of the others none is asked: what they are is kept in memory, and a write to one that is
--- rebuilt may fail without making it faulty.
+-- The device of each member in sync has its superblock. Of other members none is asked: what they are is kept
+-- in memory, and a write to one that is rebuilt may fail without making it faulty.
 abbrev pub HaveSupers : MirrorView → Type 0
 HaveSupers v = (k : ℕ) (d : Disk) (m : MemberView) → slice_get v.disks k ≡ Some d → IsMember v.array k m → is_in_sync m.state ≡ true → d.honest ≡ true → HasSuper m d
 

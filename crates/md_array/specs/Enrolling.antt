@@ -114,8 +114,8 @@ pub record Enrols (k : ℕ) (copied orphans : Bitmap) (old new : MirrorView) : T
   pub are : AreEnrolWrites new.array member writes
   pub disks : IsUsedAlone k old.disks new.disks (λ d e. DoesWrites of_disks writes d e × KeepsData member d e)
 
--- One of these writes failed, and none was made after it. In memory all is as before, and the superblock was not written but by the
--- last of them.
+-- A write of the enrolment failed, and none was made after it. In memory all is as before, and the superblock
+-- was not written but by the last of the writes.
 pub record FailsToEnrol (k : ℕ) (copied orphans : Bitmap) (old new : MirrorView) : Type 0 where
   pub role : ℕ
   pub may : MayTakeRole k old.array role

@@ -34,7 +34,7 @@ with_writes disks k writes (Some d) = set disks k (record d { content = after d.
 abbrev pub first_writes : {k : ℕ} {copied orphans : Bitmap} {old new : MirrorView} → Enrols k copied orphans old new → List Write
 first_writes r = bitmap_writes r.are.start r.are.header r.member.stored (bitmap_sectors r.member.stored.chunks) ++ log_writes r.member.superblock r.member.bad
 
--- they are done, and nothing is changed in memory
+-- The mirror once the writes of an enrolment before its last are done. Nothing is changed in memory.
 abbrev pub prepared : {k : ℕ} {copied orphans : Bitmap} {old new : MirrorView} → Enrols k copied orphans old new → MirrorView
 prepared {k} {copied} {orphans} {old} {new} r = record old { disks = with_writes old.disks k (first_writes r) (slice_get old.disks k) }
 

@@ -30,7 +30,7 @@ use Rattle.md_array.specs.ReadAsKept.{AreReadAsKept}
 use Rattle.md_array.specs.Recording.{super_write}
 use Rattle.md_array.specs.Worlds.{AreHonest, stored_on, world_of, super_in, block_on, from_super}
 
--- A device that had this superblock is written once, and stands behind the others then, none of which is used.
+-- A device that had this superblock is written once, and stands after the others then, none of which is used.
 pub record WritesLast (own : Super) (before after : List Disk) : Type 0 where
   pub was : Disk
   pub super : super_in (block_on was.content) ≡ Some own
@@ -44,7 +44,7 @@ pub record GoesAway (k : ℕ) (before after : List Disk) : Type 0 where
   pub at : slice_get before k ≡ Some was
   pub others : after ≡ remove before k
 
--- A device was written, by several writes, and stands behind the others then, none of which is used.
+-- A device was written, by several writes, and stands after the others then, none of which is used.
 pub record ComesLast (before after : List Disk) : Type 0 where
   pub was : Disk
   pub honest : was.honest ≡ true
@@ -72,7 +72,7 @@ pub record IsSameBesideMissing (a : ArrayView) (m : MemberView) (old new : List 
 abbrev pub IsBesideArea : ℕ → ℕ → ℕ → ℕ → Type 0
 IsBesideArea start sectors at n = (at + n ≤ 512 * start) ⊎ (512 * (start + sectors) ≤ at)
 
--- they lie beside the bitmap of a member, and beside its log
+-- These bytes lie beside the bitmap of a member, and beside its log.
 pub record IsBesideMarks (m : MemberView) (at n : ℕ) : Type 0 where
   pub bitmap : IsBesideArea (from_super m.superblock.bitmap_offset) (bitmap_sectors m.stored.chunks) at n
   pub log : has_bad_block_log m.superblock ≡ true → IsBesideArea (from_super m.superblock.bblog_offset) m.superblock.bblog_size at n

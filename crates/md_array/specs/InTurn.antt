@@ -92,14 +92,14 @@ pub record IsPut (n : ℕ) (r : Option Request) (before after : Requests) : Type
   pub at : after n ≡ r
   pub others : (m : ℕ) → m ≢ n → after m ≡ before m
 
--- this device was taken back, by this event
+-- A device was taken back, by this event.
 pub record DidReAdd (e : Event) (old new : MirrorView) : Type 0 where
   pub index : ℕ
   pub device : Disk
   pub re_adds : ReAdds index device old new
   pub event : e ≡ re_add_event index device old new re_adds
 
--- this device was added, by this event
+-- A device was added, by this event.
 pub record DidAdd (e : Event) (old new : MirrorView) : Type 0 where
   pub index : ℕ
   pub device : Disk
@@ -150,7 +150,7 @@ InTurn previous old before (e ∷ es) Then =
     (mid : MirrorView) × (between : Requests) × IsInOrder previous old.array e × Did old before e mid between
     × (AreHonest old.disks → LeftWhole old e mid → Does old before e mid between) × InTurn (Some e) mid between es Then
 
--- they lead to this mirror, with these requests
+-- These events lead from the one mirror to the other, with their requests.
 abbrev pub Leads : Option Event → MirrorView → Requests → List Event → MirrorView → Requests → Type 0
 Leads previous old before es new after = InTurn previous old before es (λ m r. (m ≡ new) × (r ≡ after))
 

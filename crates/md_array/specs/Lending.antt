@@ -20,7 +20,7 @@ abbrev pub IsBesideChunk : Chunks → ℕ → ℕ → ℕ → ℕ → Type 0
 IsBesideChunk chunks offset at n c =
     (at + n ≤ 512 * (offset + c * chunks.sectors)) ⊎ (512 * (offset + c * chunks.sectors) + 512 * (min ((c + 1) * chunks.sectors) chunks.size - c * chunks.sectors) ≤ at)
 
--- they lie beside each chunk that the member lacks
+-- These bytes lie beside each chunk that the member lacks.
 abbrev pub IsBesideMissing : ArrayView → MemberView → ℕ → ℕ → Type 0
 IsBesideMissing a m at n = (c : ℕ) → c < a.marks.chunks → is_missing a m c ≡ true → IsBesideChunk a.chunks m.superblock.data_offset at n c
 

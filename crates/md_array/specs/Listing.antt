@@ -43,7 +43,7 @@ pub record StoresLog (k : ℕ) (old new : MirrorView) : Type 0 where
   pub array : new.array ≡ record old.array { members = set old.array.members k (logged member) }
   pub disks : AreWritten k (log_writes member.superblock member.bad) old.disks new.disks
 
--- one of them failed, and the member is faulty, or the mirror halted
+-- A write by which member k's log was to be stored failed, and the member is faulty, or the mirror halted.
 pub record FailsToStoreLog (k : ℕ) (old new : MirrorView) : Type 0 where
   pub running : old.array.halted ≡ false
   pub member : MemberView

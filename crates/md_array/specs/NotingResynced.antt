@@ -24,7 +24,8 @@ AllAgreeAt v s =
     (j k : ℕ) (m n : MemberView) (d e : Disk) → IsServed v j m d → IsServed v k n e
     → (Lists m s → ⊥) → (Lists n s → ⊥) → sector_of m d s ≡ sector_of n e s
 
--- so in each sector of a chunk that is marked
+-- Any two members in sync hold the same in each sector of a marked chunk, unless one of them lists the
+-- sector.
 abbrev pub AllAgreeWhereMarked : MirrorView → Type 0
 AllAgreeWhereMarked v =
     (s : ℕ) → s < v.array.chunks.size → is_set v.array.marks.bytes (s / v.array.chunks.sectors) ≡ true → AllAgreeAt v s
@@ -33,7 +34,7 @@ AllAgreeWhereMarked v =
 abbrev pub AreNoted : ArrayView → Type 0
 AreNoted a = (i c : ℕ) (m : MemberView) → IsInSync a i m → c < a.marks.chunks → is_set a.marks.bytes c ≡ true → is_set m.stored.bytes c ≡ true
 
--- it is kept that the array is resynced, or that it is not; nothing else changes
+-- In memory the array counts as resynced from now on, or as not; nothing else changes.
 pub record NotesResynced (is : Bool) (old new : MirrorView) : Type 0 where
   pub idle : IsIdle old.array
   pub disks : new.disks ≡ old.disks

@@ -36,7 +36,7 @@ pub record RecordsLast (k : ℕ) (device : Disk) (info : MemberInfo) (old new : 
   pub written : IsWritten 0 (super_write new.array takes.member) (device ∷ []) (now ∷ [])
   pub disks : new.disks ≡ old.disks ++ now ∷ []
 
--- It was read as a member that may be taken back, and was.
+-- A device was read as a member that may be taken back, and was.
 pub record ReAdds (k : ℕ) (device : Disk) (old new : MirrorView) : Type 0 where
   pub running : old.array.halted ≡ false
   pub info : MemberInfo
@@ -75,7 +75,7 @@ abbrev pub unread_as : MemberFault → ReAddFault
 unread_as member_fault.NoMemory = NoMemory
 unread_as fault = Member fault
 
--- it is not read as a member
+-- A device is not taken back, as it is not read as a member.
 pub record RefusesDevice (device handed_back : Disk) (old new : MirrorView) (fault : MemberFault) : Type 0 where
   pub running : old.array.halted ≡ false
   pub unchanged : new ≡ old
@@ -84,7 +84,7 @@ pub record RefusesDevice (device handed_back : Disk) (old new : MirrorView) (fau
   pub refused : members.RefusesMember device.content device.honest (device.failures < handed_back.failures) fault
   pub memory : fault ≢ member_fault.NoMemory
 
--- it was read as this, and may not be taken back
+-- A device was read as a member that may not be taken back.
 pub record RefusesInfo (device handed_back : Disk) (old new : MirrorView) (fault : ReAddFault) : Type 0 where
   pub running : old.array.halted ≡ false
   pub unchanged : new ≡ old
@@ -94,7 +94,7 @@ pub record RefusesInfo (device handed_back : Disk) (old new : MirrorView) (fault
   pub read : members.IsMember device.content device.honest info
   pub refused : RefusesToTakeBack old.array info fault
 
--- it was read as one that may be taken back
+-- A device is read as a member that may be taken back.
 abbrev pub MayComeBack : Disk → MirrorView → Type 0
 MayComeBack device old = (info : MemberInfo) × members.IsMember device.content device.honest info × MayReAdd old.array info
 

@@ -17,8 +17,8 @@ pub record IsSuperOn (content : List ℕ) (v : Superblock) : Type 0 where
   pub fields : IsSuper (block_on content) v
   pub sound : NoFault (block_on content)
 
--- It is of the array, and no newer. It places a member's parts where the own fields that are kept do, and its log lists the
--- same sectors, by the same shift where it is read.
+-- A superblock is of the array, and no newer. It places a member's parts where the own fields that are kept
+-- do, and its log lists the same sectors, by the same shift where it is read.
 pub record IsOwnSuper (shared own : Superblock) (content : List ℕ) (v : Superblock) : Type 0 where
   pub set_uuid : v.set_uuid ≡ shared.set_uuid
   pub size : v.size ≡ shared.size
@@ -31,7 +31,8 @@ pub record IsOwnSuper (shared own : Superblock) (content : List ℕ) (v : Superb
   pub listed : (sector : ℕ) → is_listed v content sector ≡ is_listed own content sector
   pub no_newer : v.events ≤ shared.events
 
--- so is any superblock that is read there
+-- Any superblock that is read of this content is of the array, no newer, and places the member's parts as it
+-- is kept.
 abbrev pub HasOwnSuper : Superblock → Superblock → List ℕ → Type 0
 HasOwnSuper shared own content = (v : Superblock) → IsSuperOn content v → IsOwnSuper shared own content v
 
@@ -39,7 +40,7 @@ HasOwnSuper shared own content = (v : Superblock) → IsSuperOn content v → Is
 abbrev pub chunk_size_on : Superblock → List ℕ → ℕ
 chunk_size_on own content = number_at 4 52 (header_on content (from_super own.bitmap_offset))
 
--- it is that of chunks of so many sectors
+-- The bitmap's header on a device tells of chunks of so many sectors.
 abbrev pub HasWidth : ℕ → Superblock → List ℕ → Type 0
 HasWidth sectors own content = chunk_size_on own content / 512 ≡ sectors
 

@@ -24,7 +24,7 @@ abbrev pub RefusesTarget : ℕ → MirrorView → MirrorView → TargetFaults �
 RefusesTarget k old new Halted = RefusesHalted old new
 RefusesTarget k old new TargetFault = LeavesUnrecorded k old new
 
--- so of a member that is rebuilt
+-- The write of the superblock of a member that is rebuilt failed.
 pub record FailsOnTarget (k : ℕ) (old new : MirrorView) : Type 0 where
   pub leaves : LeavesUnrecorded k old new
   pub rebuilt : is_rebuilt leaves.member.state ≡ true

@@ -32,7 +32,7 @@ RefusesArray before after (Assemble fault) = RefusesAssembly before fault
 RefusesArray before after NoMemory = Unit {0}
 RefusesArray before after _ = ⊥
 
--- they make an array, and storing its marks failed on member k
+-- These devices make an array, and storing its marks failed on member k.
 pub record FailsAtMember (before after : List Disk) (k : ℕ) : Type 0 where
   pub array : ArrayView
   pub is : IsArrayOf before array

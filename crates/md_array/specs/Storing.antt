@@ -58,7 +58,7 @@ IsMarkedBy a m d e = (NeedsMarks m → StoresMarks a m d e) × ((NeedsMarks m �
 abbrev pub IsMarked : ArrayView → ℕ → Disk → Disk → Type 0
 IsMarked a k d e = (m : MemberView) → IsMember a k m → IsMarkedBy a m d e
 
--- so it is on all members
+-- Marks were stored on each member where they are to be, and each other device is left alone.
 pub record AreMarked (before after : List Disk) (a : ArrayView) : Type 0 where
   pub same : AreSame before after
   pub each : EachPair (IsMarked a) before after

@@ -35,7 +35,7 @@ kind_of Faulty = model.State.Faulty
 abbrev pub super_of : Superblock → Super
 super_of v = record { number = v.dev_number; events = v.events; role = role_in v; recovering = has_recovery_offset v; offset = v.recovery_offset }
 
--- it, of the 4096 bytes of one
+-- The model's superblock, of the 4096 bytes of one.
 abbrev pub super_fields : List ℕ → Super
 super_fields block =
     record {
@@ -90,7 +90,8 @@ reads_log_on own content = list_bit own (block_on content) (super_in (block_on c
 unfoldable pub is_listed : Superblock → List ℕ → ℕ → Bool
 is_listed own content sector = reads_log_on own content && is_logged content (from_super own.bblog_offset) own.bblog_size own.bblog_shift sector
 
--- the same by the own fields alone, as it is once they are stored
+-- A sector of a device is listed in its log, where the own fields alone say whether the log is read, as they
+-- do once they are stored.
 unfoldable pub is_listed_next : Superblock → List ℕ → ℕ → Bool
 is_listed_next own content sector = reads_log own && is_logged content (from_super own.bblog_offset) own.bblog_size own.bblog_shift sector
 
@@ -98,7 +99,7 @@ is_listed_next own content sector = reads_log own && is_logged content (from_sup
 abbrev pub header_on : List ℕ → ℕ → List ℕ
 header_on content start = part content (512 * start) 256
 
--- its uuid and its size are the array's, and its state is 0
+-- A bitmap's header has the array's uuid and its size, and the state 0.
 abbrev pub header_fits : ArrayView → List ℕ → Bool
 header_fits a header = bytes_eq (bytes_at 16 8 header) a.shared.set_uuid && (number_at 8 40 header == a.shared.size) && (number_at 4 48 header == 0)
 

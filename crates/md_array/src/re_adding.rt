@@ -18,10 +18,10 @@ use md_members::{MemberFault, MemberInfo, read_member};
 use std::alloc::Global;
 
 impl<D: Device + Drop> Mirror<D> {
-    /// Takes a device back that left this array, as a member that is recovering in its own former role:
-    /// the event count rises, and its superblock is written, with bit 2 of the feature map. Its index is
-    /// that of the last member. The fault is the first in the order of `ReAddFault`, but that memory is taken
-    /// before the write. The device is given back with it, unwritten unless the fault is `WriteFault`.
+    /// Takes a device back that left this array, as a member that is recovering in its own former role: the
+    /// event count rises, and its superblock is written, with RECOVERY_OFFSET in the feature map. Its index
+    /// is that of the last member. The fault is the first in the order of `ReAddFault`, but that memory is
+    /// taken before the write. The device is given back with it, unwritten unless the fault is `WriteFault`.
     ///
     /// `missing` then names the marked chunks alone, or every chunk where the device may have been used elsewhere
     /// since it left. In the first case it has all others if it is as its failure left it and some role had no

@@ -56,7 +56,7 @@ pub(crate) fn store_superblock<D: Device>(
     store_fields(device, shared, &member.superblock)
 }
 
-/// So with these fields as the member's own.
+/// Writes a superblock with these fields as the member's own.
 pub(crate) fn store_fields<D: Device>(
     device: &mut D,
     shared: &Superblock,

@@ -17,7 +17,7 @@ IsStranger first m = m.superblock.set_uuid ≢ first.superblock.set_uuid
 abbrev pub HasSameNumber : MemberInfo → MemberInfo → Type 0
 HasSameNumber a b = a.superblock.dev_number ≡ b.superblock.dev_number
 
--- no bitmap was read: of a device that is where bit 1 of the superblock's feature map is clear
+-- No bitmap was read. Of a device that is where the superblock's feature map lacks BITMAP_OFFSET.
 abbrev pub LacksBitmap : MemberInfo → Type 0
 LacksBitmap m = m.header ≡ None
 

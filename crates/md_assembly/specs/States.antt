@@ -13,7 +13,7 @@ role_in v dev_number = slice_index_or v.roles dev_number 0xffff
 abbrev pub is_up_to_date : Superblock → Superblock → Bool
 is_up_to_date freshest own = nat_le freshest.events (own.events + 1)
 
--- the member's recovery is not done: bit 2 of its feature map
+-- The member's recovery is not done: its feature map has RECOVERY_OFFSET.
 abbrev pub has_recovery_offset : Superblock → Bool
 has_recovery_offset own = not (bit_and own.feature_map 2 == 0)
 

@@ -71,7 +71,7 @@ pub(crate) fn check_lent<D: Device + Send, G: Gate + Sync, R: Threads + Sync>(
     Ok(())
 }
 
-// The same of the first window of so many sectors alone, which is read of all members at once.
+// Compares the first window of so many sectors alone, which is read of all members at once.
 fn check_first<D: Device + Send, G: Gate + Sync, R: Threads + Sync>(
     rt: &R,
     gate: &G,

@@ -45,7 +45,7 @@ module _ (answered : Answers) (ask : Ask) (names : List Text) where
 abbrev pub question_of : {T R S W : Type 0} → AskerGhosts W → Session T R S W → Ask → List Text → Question
 question_of w session ask names = question (w.answered session.watch.now) ask names
 
--- it does not go on: nothing is done
+-- A command that was asked of does not go on: nothing is done.
 pub record Declines {V X : Type 0} (q : Question) (n : Notices) (before after : V) (old new : X)
     (result : Result (Unit {0}) CommandFault) : Type 0 where
   pub why : CommandFault

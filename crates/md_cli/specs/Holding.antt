@@ -41,7 +41,7 @@ pub record NotesHeldOnEach (before after : List Disk) (old new : Notices) : Type
   pub looks : LooksAtEach before after (held_each new.each)
   pub noted : new ≡ record old { each = new.each }
 
--- one of them is to be told of
+-- One of the devices holds what is to be told.
 abbrev pub one_needs_telling : {Z : Type 0} → Option (Vec Held Z) → Bool
 one_needs_telling each = list_any needs_telling (held_each each)
 

@@ -12,7 +12,7 @@ pub record Streams (R S : Type 0) : Type 0 where
 abbrev pub streams_of : {T R S W : Type 0} → Session T R S W → Streams R S
 streams_of session = record { input = session.input; output = session.out; missing = session.missing }
 
--- the same, and what was noticed of the array beside them
+-- The streams of a command that is done, and what was noticed of the array beside them.
 pub record Told (R S : Type 0) : Type 0 where
   pub streams : Streams R S
   pub notices : Notices

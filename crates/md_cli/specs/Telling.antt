@@ -39,7 +39,7 @@ abbrev pub line_of : (Text → List ℕ) → Option Text → List ℕ
 line_of line None = []
 line_of line (Some name) = line name
 
--- that of the member in a place, where it gets one
+-- The line of the member in a place, where it gets one.
 abbrev pub line_at : (Text → List ℕ) → List Bool → List Text → ℕ → List ℕ
 line_at line which names k = if get_or which k false then line_of line (slice_get names k) else []
 
@@ -60,12 +60,12 @@ parted_from (Some source) name = parted_text name source
 abbrev pub parted_line : Notices → List Text → Text → List ℕ
 parted_line n names = parted_from (name_in names n.source)
 
--- it is the member in this place
+-- The member in this place is the one that was asked of.
 abbrev pub is_place : Option ℕ → ℕ → Bool
 is_place None k = false
 is_place (Some j) k = j == k
 
--- but of the one that was asked of before
+-- The line on a member that was used without those in sync, but for the one that was asked of before.
 abbrev pub parted_at : Option ℕ → Notices → List Text → ℕ → List ℕ
 parted_at before n names k = if is_place before k then [] else line_at (parted_line n names) n.parted names k
 
@@ -183,7 +183,7 @@ unfoldable pub refused_text : Messages → Ask → List Text → Notices → Com
 refused_text messages ask names n why =
     noticed_text messages ask names n ++ (if has_joined why then lost_lines messages ask else [])
 
--- It was put out, or standard error has failed.
+-- The text was put out, or standard error has failed.
 abbrev pub PutsTold : {E : Type 0} → Ghosts E → E → E → List ℕ → Type 0
 PutsTold e old new text = Puts e.contents e.failed old new text ⊎ (e.failed new ≡ true)
 

@@ -68,7 +68,7 @@ fn with_name<'a>(
     Ok(all)
 }
 
-// The same, where the image that is to join stands last among the names.
+// Does a command where the image that is to join stands last among the names.
 fn with_images<
     I: Images,
     T: Threads + Wait + Sync,

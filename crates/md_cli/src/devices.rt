@@ -54,7 +54,7 @@ pub(crate) fn with_devices<
     open_devices(session, command, devices, notices, names)
 }
 
-// The same with devices that are only looked at: what is written to the array is kept in memory.
+// Does a command with devices that are only looked at: what is written to the array is kept in memory.
 fn look_at_devices<
     D: SharedRead + Drop + Sync,
     T: Threads + Wait + Sync,

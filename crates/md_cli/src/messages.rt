@@ -10,7 +10,8 @@ pub enum Messages {
     /// The fault, and then a line for people: the image that it is about, and what to do. And on which images
     /// marks were stored, what was noticed, and that what an added image held is lost.
     WithAdvice,
-    /// The same, where there is a terminal: what a command is asked of was shown there before it was done.
+    /// The fault and the line for people, where there is a terminal: what a command is asked of was shown
+    /// there before it was done.
     AtTerminal,
 }
 

@@ -194,7 +194,8 @@ fn read<D: Device + Drop, S: Sink>(
     Ok(read_array(alloc, mirror, sector, count, out)?)
 }
 
-// The same with zeros in the place of sectors that are not given. Which these are is noted, where all sectors are put out.
+// Puts out sectors with zeros in the place of those that are not given. Which these are is noted, where all
+// sectors are put out.
 fn read_filled<D: Device + Drop, T, R: Source + Drop, S: Sink + Drop, W>(
     session: &mut Session<'_, T, R, S, W>,
     opened: &mut Opened<D>,

@@ -85,7 +85,7 @@ fn put_parted<S: Sink>(
     }
 }
 
-// The same of the image that is overwritten, where it has a name.
+// Puts out the line on the image that is overwritten, where it has a name.
 fn put_parted_of<S: Sink>(
     out: &mut S,
     notices: &Notices,

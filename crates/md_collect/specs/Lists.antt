@@ -19,7 +19,7 @@ pub record IsTaken (old : Copied) (r : ReportView) (new : Copied) : Type 0 where
   pub counted : IsCounted r.chunk old.collector new.collector
   pub target : new.target ≡ with_report (copying old.collector) old.target r
 
--- it would, but the target was not written
+-- A report would be copied, but the target was not written.
 pub record IsSpoilt (old : Copied) (r : ReportView) (new : Copied) : Type 0 where
   pub first : refusal_of old.collector r ≡ None
   pub spoilt : new.collector ≡ record old.collector { spoiled = true }
@@ -31,12 +31,12 @@ Takes old r None new = IsTaken old r new
 Takes old r (Some TargetFault) new = IsSpoilt old r new
 Takes old r (Some why) new = (refusal_of old.collector r ≡ Some why) × (new ≡ old)
 
--- one after another
+-- Reports are taken one after another.
 abbrev pub TakesAll : Copied → List ReportView → Copied → Type 0
 TakesAll s [] last = last ≡ s
 TakesAll s (r ∷ rs) last = (answer : Option Refusal) × (mid : Copied) × Takes s r answer mid × TakesAll mid rs last
 
--- of this list those that count were taken, and the target holds them over what it held
+-- Those reports of the list that count were taken, and the target holds them over what it held.
 pub record HoldsCounted (copy : Copying) (target : List ℕ) (reports : List ReportView) (s : Copied) : Type 0 where
   pub same_copy : copying s.collector ≡ copy
   pub reported : (c : ℕ) → is_set s.collector.reported.bytes c ≡ is_among (counted copy reports) c
@@ -57,7 +57,8 @@ HoldsReports copy target reports s =
     HoldsCounted copy target reports s
     ⊎ ((front back : List ReportView) × (r : ReportView) × (reports ≡ front ++ (r ∷ back)) × HoldsUpTo copy target front r s)
 
--- From a fresh collector, whatever the list, its repeats and strangers and their order.
+-- What a target holds after a list of reports, from a fresh collector, whatever the list, its repeats and
+-- strangers and their order.
 abbrev pub EveryList : Type 0
 EveryList =
     (v : CollectorView) (target : List ℕ) (reports : List ReportView) (last : Copied)

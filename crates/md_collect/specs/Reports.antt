@@ -29,7 +29,7 @@ has_length chunks r = by_bytes r.bytes
     by_bytes None = true
     by_bytes (Some bytes) = length bytes == bytes_of chunks r.chunk
 
--- one of these has the chunk
+-- One of these reports has the chunk.
 abbrev pub is_among : List ReportView → ℕ → Bool
 is_among reports chunk = list_any (λ (r : ReportView). r.chunk == chunk) reports
 
@@ -38,7 +38,7 @@ is_among reports chunk = list_any (λ (r : ReportView). r.chunk == chunk) report
 abbrev pub counts : Copying → List ReportView → ReportView → Bool
 counts copy earlier r = is_planned copy.slots r.chunk r.source && (not (is_among earlier r.chunk) && has_length copy.chunks r)
 
--- those of the list that count, after these that did
+-- The reports that have counted, and after them those of the list that count.
 unfoldable pub counted_after : Copying → List ReportView → List ReportView → List ReportView
 counted_after copy earlier [] = earlier
 counted_after copy earlier (r ∷ rs) = counted_after copy (cond (counts copy earlier r) (earlier ++ (r ∷ [])) earlier) rs

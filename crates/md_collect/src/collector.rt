@@ -86,7 +86,7 @@ impl Collector {
         self.take_ref(target, &report)
     }
 
-    /// The same for a report whose memory is to be used again.
+    /// Takes a report whose memory is to be used again.
     #[tactic(auto, unfolding(crate::specs::Places::with_chunk), using(md_device::proofs::Leaving::leaves_none, crate::proofs::Stops::leaves_beside))]
     pub fn take_ref<D: Device>(&mut self, target: &mut D, report: &Report) -> Result<(), Refusal>
         requires { HasRoom (D.content target.old) self.old.offset self.old.chunks }

@@ -35,7 +35,7 @@ pub fn read_chunk<D: Device>(
     )
 }
 
-/// The same, in the memory of a list that is no longer wanted. It takes no memory where that list
+/// Reads a chunk into the memory of a list that is not needed any more. It takes no memory where that list
 /// has room for as many bytes as the chunk has.
 #[tactic(auto, unfolding(crate::specs::Places::chunk_on), using(md_device::proofs::Leaving::leaves_none))]
 pub fn read_chunk_into<D: Device>(

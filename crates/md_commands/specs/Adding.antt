@@ -12,7 +12,7 @@ use Rattle.md_commands.specs.Stopping.{FailsToStopArray}
 abbrev pub AddsDevice : Disk → MirrorView → MirrorView → Type 0
 AddsDevice device old new = (k : ℕ) × Adds k device old new
 
--- it does not, and comes back
+-- The device does not come in, and is handed back.
 pub record HandsBackUnadded (device : Disk) (given : Option Disk) (old new : MirrorView)
     (fault : AddFault) : Type 0 where
   pub back : Disk

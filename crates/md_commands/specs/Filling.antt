@@ -155,7 +155,7 @@ module _ {S : Type 0} (o : Ghosts S) (way : Way) where
   RefusesFilledPiece sector count was missing old new before after reason = ⊥
 
 -- ---- the command
--- it is the first of those that are missing
+-- The sector is the first of those that are missing.
 pub record IsFirst (missing : List Run) (s : ℕ) : Type 0 where
   pub is : IsBad missing s
   pub least : (t : ℕ) → IsBad missing t → s ≤ t

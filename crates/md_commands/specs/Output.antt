@@ -10,7 +10,7 @@ pub record PutsOut {S : Type 0} (s : Ghosts S) (old new : S) (bytes : List ℕ) 
   pub puts : Puts s.contents s.failed old new bytes
   pub flushed : s.is_flushed new
 
--- it failed
+-- The output failed.
 pub record FailsOutput {S : Type 0} (s : Ghosts S) (new : S) (fault : CommandFault) : Type 0 where
   pub is : fault ≡ OutputFault
   pub failed : s.failed new ≡ true

@@ -23,7 +23,7 @@ pub record ComesBackReadied (k : ℕ) (device : Disk) (old new : MirrorView) : T
   pub readied : ResyncsIfNeeded old ready
   pub re_adds : ReAdds k device ready new
 
--- and gets what it lacks
+-- A device comes back, and is rebuilt in what it lacks.
 pub record ReAddsDevice (device : Disk) (old new : MirrorView) : Type 0 where
   pub k : ℕ
   pub joined : MirrorView
@@ -36,7 +36,7 @@ pub record HandsBackUntried (device : Disk) (given : Option Disk) (old new : Mir
   pub is : given ≡ Some device
   pub refused : RefusesNeededResync old new fault
 
--- it does not come back, and is handed back
+-- The device does not come back, and is handed back.
 pub record HandsBackUnjoined (device : Disk) (given : Option Disk) (old new : MirrorView)
     (fault : ReAddFault) : Type 0 where
   pub ready : MirrorView
@@ -45,7 +45,7 @@ pub record HandsBackUnjoined (device : Disk) (given : Option Disk) (old new : Mi
   pub is : given ≡ Some back
   pub refused : RefusesReAdd device back ready new fault
 
--- it comes back, and is not rebuilt
+-- The device comes back, and is not rebuilt.
 pub record FailsToRebuildJoined (device : Disk) (old new : MirrorView) (fault : RebuildFault) : Type 0 where
   pub k : ℕ
   pub joined : MirrorView

@@ -49,7 +49,7 @@ IsReadyTo false sector count old way ready = IsReadied sector count old ready ×
 IsReadyTo true sector count old way ready =
     MayReadArray old.array sector count × IsWayFor old.array way × (ready ≡ old)
 
--- it is not
+-- The array is not ready to be read, or the sectors are not read.
 abbrev pub RefusesReady : Bool → ℕ → ℕ → MirrorView → MirrorView → CommandFault → Type 0
 RefusesReady readonly sector count old new (Read Halted) = RefusesRange sector count old new Halted
 RefusesReady readonly sector count old new (Read OutOfRange) = RefusesRange sector count old new OutOfRange

@@ -20,13 +20,13 @@ pub record RebuildsReadied (k : ℕ) (told : Rebuilt) (old new : MirrorView) : T
   pub readied : ResyncsIfNeeded old ready
   pub rebuilds : Rebuilds k told ready new
 
--- it is not rebuilt
+-- The member is not rebuilt.
 pub record FailsToRebuild (k : ℕ) (old new : MirrorView) (fault : RebuildFault) : Type 0 where
   pub ready : MirrorView
   pub readied : ResyncsIfNeeded old ready
   pub refused : RefusesRebuild k ready new fault
 
--- it is not, or the array is not stopped after it
+-- The member is not rebuilt, or the array is not stopped after that.
 abbrev pub RefusesReadied : ℕ → MirrorView → MirrorView → CommandFault → Type 0
 RefusesReadied k old new (Resync fault) = RefusesNeededResync old new fault
 RefusesReadied k old new (Rebuild fault) = FailsToRebuild k old new fault

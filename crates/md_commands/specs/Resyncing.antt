@@ -16,7 +16,7 @@ use Rattle.md_commands.specs.Stopping.{FailsToStop, StopsAfter}
 abbrev pub needs_resync : ArrayView → Bool
 needs_resync a = is_degraded a && not a.resynced
 
--- such an array is resynced, any other is left alone
+-- An array that needs a resync is resynced, any other is left alone.
 pub record ResyncsIfNeeded (old new : MirrorView) : Type 0 where
   pub resynced : needs_resync old.array ≡ true → Resyncs old new
   pub untouched : needs_resync old.array ≡ false → new ≡ old

@@ -2,13 +2,14 @@
 use Rattle.std.specs.Prelude.{◌≡◌, ℕ, ◌<◌, ◌≤◌, Bool, true, List, length, take, Option, Result, MatchResult}
 use Rattle.std.specs.Io.KnownBytes.{Consumes, IsAtEnd}
 
--- it gave these bytes, and did not fail in between
+-- The source gave these bytes, and did not fail in between.
 pub record Gives {I : Type 0} (remaining : I → Option (List ℕ)) (failed : I → Bool) (old new : I)
     (bytes : List ℕ) : Type 0 where
   pub consumes : Consumes (remaining old) (remaining new) bytes
   pub well : failed new ≡ failed old
 
--- it gave so many bytes, which stand at the front of the buffer: none only at its end, or where there is no room
+-- The source gave so many bytes, which stand at the front of the buffer: none only at its end, or where there
+-- is no room.
 pub record GivesFront {I : Type 0} (remaining : I → Option (List ℕ)) (failed : I → Bool) (old new : I)
     (buf : List ℕ) (n : ℕ) : Type 0 where
   pub few : n ≤ length buf

@@ -15,7 +15,7 @@ pub record StopsAfter (Through : MirrorView → Type 0) (new : MirrorView) : Typ
   pub through : Through mid
   pub stops : Stops mid new
 
--- it was not
+-- The array was not stopped.
 pub record FailsToStop (Through : MirrorView → Type 0) (new : MirrorView) (fault : StopFault) : Type 0 where
   pub mid : MirrorView
   pub through : Through mid

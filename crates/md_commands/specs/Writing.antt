@@ -21,7 +21,7 @@ pub record WritesReadied (sector : ℕ) (bytes : List ℕ) (old new : MirrorView
   pub readied : ResyncsIfNeeded old ready
   pub writes : Writes sector bytes ready new
 
--- they are not written
+-- The bytes are not written, for this fault.
 pub record FailsReadied (sector : ℕ) (bytes : List ℕ) (old new : MirrorView)
     (fault : BeginFault) : Type 0 where
   pub ready : MirrorView

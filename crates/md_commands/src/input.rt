@@ -35,7 +35,8 @@ fn read_input<I: Source>(alloc: Global, input: &mut I, size: u64) -> Result<Vec<
     read_pieces(alloc, input, size, &mut piece)
 }
 
-// The same, by pieces of at most so many bytes as this one has.
+// Reads an input to its end, or to one byte more than an array of so many sectors has, by pieces of at most
+// so many bytes as this one has.
 fn read_pieces<I: Source>(
     alloc: Global,
     input: &mut I,

@@ -112,7 +112,8 @@ pub fn read_array_filled<D: Device + Drop, S: Sink>(
     }
 }
 
-// The same. The sectors that are missing are noted, also where not all are put out.
+// Puts out sectors with zeros in the place of those that are not given. Which these are is noted, also where
+// not all sectors are put out.
 fn fill_array<D: Device + Drop, S: Sink>(
     alloc: Global,
     mirror: &mut Mirror<D>,

@@ -48,7 +48,7 @@ pub fn show_summary_json<D: Device + Drop, S: Sink>(
     put_summary_json(mirror, images, out)
 }
 
-/// The same in detail.
+/// Puts out an array in detail as a JSON object, of whose members these are the images. It stays as it is.
 pub fn show_detail_json<D: Device + Drop, S: Sink>(
     mirror: &Mirror<D>,
     images: &[&str],

@@ -9,12 +9,12 @@ use Rattle.md_copy.specs.declared.fault.RebuildFault.{RebuildFault}
 use Rattle.md_copy.specs.declared.fault.RebuildFault.TheVariants.{Halted, NotSpare, Dirty, InFlight, LogFull, NoMemory, TargetFault, MetadataFault, EventsFull}
 use Rattle.md_copy.specs.Targets.{IsTarget}
 
--- the mirror runs, and the member may be rebuilt
+-- The mirror runs, and the member may be rebuilt.
 pub record HasTarget (a : ArrayView) (m : MemberView) : Type 0 where
   pub running : a.halted ≡ false
   pub target : IsTarget a m
 
--- members in sync agree, too
+-- The mirror runs, the member may be rebuilt, and the members in sync agree.
 pub record IsSettled (a : ArrayView) (m : MemberView) : Type 0 where
   pub has_target : HasTarget a m
   pub resynced : a.resynced ≡ true
@@ -27,11 +27,12 @@ rises (Stale role) = 1
 rises Spare = 2
 rises Faulty = 1
 
--- it can rise as often
+-- The event count can rise as often as the rebuild of the member makes it rise.
 abbrev pub CanRise : ArrayView → MemberView → Type 0
 CanRise a m = a.shared.events + rises m.state < 2 ^ 64
 
--- and nothing is in flight, and the count can rise
+-- A rebuild may begin: the array and the member are ready for it, nothing is in flight, and the event count
+-- can rise.
 pub record MayRebuild (a : ArrayView) (m : MemberView) : Type 0 where
   pub settled : IsSettled a m
   pub idle : IsIdle a

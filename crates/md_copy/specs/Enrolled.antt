@@ -12,12 +12,13 @@ use Rattle.md_copy.specs.declared.fault.RebuildFault.TheVariants.{LogFull, NoMem
 use Rattle.md_copy.specs.declared.rebuilt.Rebuilt.{Rebuilt}
 use Rattle.md_copy.specs.Preparing.{IsSetOf, IsWithin, is_in, uncopied_chunks}
 
--- its list needs more room than its log has, and nothing was written for it
+-- The target's list needs more room than its log has, and nothing was written for it.
 pub record HasNoRoom (target : ℕ) (copied orphans : Bitmap) (old new : MirrorView) : Type 0 where
   pub unchanged : new ≡ old
   pub full : HasFullLog target copied orphans old.array
 
--- So it is, and of what was copied these chunks are left to be recorded.
+-- The target's list needs more room than its log has, and nothing was written for it. Of the chunks that were
+-- copied these are left to be recorded.
 pub record LacksOwnRoom (target : ℕ) (copied orphans after : Bitmap) (old new : MirrorView) : Type 0 where
   pub unchanged : new ≡ old
   pub full : HasFullLog target copied orphans old.array
@@ -37,12 +38,12 @@ pub record AreSets (copied kept orphans : Bitmap) (chunks : List ℕ) (v : Mirro
   pub orphans_are : IsSetOf v.array (is_in chunks) orphans
   pub chunks_are : chunks ≡ uncopied_chunks v.array m copied
 
--- It may come into sync with these sets.
+-- The target may come into sync with these sets.
 pub record HasSets (target : ℕ) (copied kept orphans : Bitmap) (chunks : List ℕ) (v : MirrorView) : Type 0 where
   pub may : MayEnrol target kept orphans v
   pub sets : AreSets copied kept orphans chunks v may.member
 
--- It does, and this is told of it and of these plans.
+-- The target comes into sync, and this is told of it and of these plans.
 pub record EnrolsCopied (target : ℕ) (plans : List Planned) (copied : Bitmap) (old new : MirrorView) (told : Rebuilt) : Type 0 where
   pub kept : Bitmap
   pub orphans : Bitmap
@@ -51,7 +52,7 @@ pub record EnrolsCopied (target : ℕ) (plans : List Planned) (copied : Bitmap) 
   pub passes_are : told.passes ≡ length plans
   pub plans_are : told.plans.items ≡ plans
 
--- It does not.
+-- The target does not come into sync, though it has its sets.
 pub record EndsWithSets (target : ℕ) (copied : Bitmap) (old : MirrorView) (Why : Bitmap → Bitmap → Type 0) : Type 0 where
   pub kept : Bitmap
   pub orphans : Bitmap
@@ -59,7 +60,7 @@ pub record EndsWithSets (target : ℕ) (copied : Bitmap) (old : MirrorView) (Why
   pub has : HasSets target copied kept orphans chunks old
   pub why : Why kept orphans
 
--- of the chunks that were copied these are left
+-- The target does not come into sync, and of the chunks that were copied these are left.
 abbrev pub FailsCopied : ℕ → Bitmap → Bitmap → MirrorView → MirrorView → RebuildFault → Type 0
 FailsCopied target copied after old new (LogFull k) = (k ≡ target) × EndsWithSets target copied old (λ kept orphans. LacksOwnRoom target kept orphans after old new)
 FailsCopied target copied after old new NoMemory = (new ≡ old) × IsWithin after copied

@@ -58,13 +58,13 @@ pub record NotesLists (failed : List Slot) (old new : MirrorView) : Type 0 where
   pub others : new.array ≡ record old.array { members = new.array.members }
   pub room : HaveRoom failed new.array
 
--- why the slot's chunk is not listed: its source's log has no room for it, or memory was refused
+-- Why the slot's chunk is not listed: its source's log has no room for it, or memory was refused.
 abbrev pub WhyNotNoted : Slot → ArrayView → RebuildFault → Type 0
 WhyNotNoted slot a (LogFull k) = IsSourceOf a k slot.source × HasFullLogFor k slot.chunk a
 WhyNotNoted slot a NoMemory = Unit {0}
 WhyNotNoted slot a fault = ⊥
 
--- so it is of a slot, and all is as before
+-- The chunk of this slot is not listed, for this fault, and all is as before.
 pub record RefusesSlot (slot : Slot) (old new : MirrorView) (fault : RebuildFault) : Type 0 where
   pub unchanged : new ≡ old
   pub why : WhyNotNoted slot old.array fault
@@ -122,7 +122,7 @@ pub record AreListsOf (failed : List Slot) (a : ArrayView) (stored : List (ℕ �
   pub only : All (λ (l : ℕ × (ℕ → Bool)). (m : MemberView) × IsMember a l.0 m × HasFailed failed m) stored
   pub rising : AllPairs (λ (l o : ℕ × (ℕ → Bool)). l.0 < o.0) stored
 
--- So of member k, and of no other.
+-- Member k's list is stored, if a slot of it failed, and that of no other member.
 pub record StoresListIf (failed : List Slot) (k : ℕ) (old new : MirrorView) : Type 0 where
   pub goes : GoesOn only_others only_others IsStoringList old new
   pub unfailing : AllOf IsNoFailure goes.events
@@ -147,13 +147,14 @@ pub record StoresLists (failed : List Slot) (old new : MirrorView) : Type 0 wher
   pub recorded : AllInSync new.array IsNotDue
   pub writes : WritesMetadata old new
 
--- An opening reads a superblock there, and in the log that this names are these sectors listed, and no others.
+-- An opening reads a superblock of this content, and in the log that it names are these sectors listed, and
+-- no others.
 pub record HasListOn (list : List Run) (content : List ℕ) : Type 0 where
   pub super : Superblock
   pub read : IsSuperOn content super
   pub listed : (sector : ℕ) → (is_listed super content sector ≡ true) ↔ IsBad list sector
 
--- so it is on this device, if it is honest
+-- The device of member k has this list, if it is honest.
 abbrev pub IsListOn : List Run → ℕ → MirrorView → Type 0
 IsListOn list k v = (e : Disk) → slice_get v.disks k ≡ Some e → e.honest ≡ true → HasListOn list e.content
 
@@ -200,7 +201,8 @@ pub record ListsAll (failed : List Slot) (old new : MirrorView) : Type 0 where
   pub out : (k : ℕ) (m n : MemberView) → IsMember old.array k m → IsMember new.array k n → is_in_sync m.state ≡ false → n ≡ m
   pub writes : WritesMetadata old new
 
--- They are not all listed: only in memory, or all are, and not all stored.
+-- The chunks of failed slots are not all listed: memory was refused or a log had no room, or all are listed
+-- in memory, and not all stored.
 abbrev pub StopsListing : List Slot → MirrorView → MirrorView → RebuildFault → Type 0
 StopsListing failed old new (LogFull k) = StopsNoting failed old new (LogFull k)
 StopsListing failed old new NoMemory = StopsNoting failed old new NoMemory

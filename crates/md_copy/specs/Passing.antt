@@ -34,22 +34,22 @@ pub record MakesPass (target : ℕ) (chunks : List ℕ) (p : PassView) (before a
   pub counted : CountsFailed p.failed old new
   pub sound : IsConsistent new
 
--- And how far the target is rebuilt is recorded on it.
+-- A pass is made, and how far the target is rebuilt by it is recorded on the target.
 pub record RecordsPass (target : ℕ) (chunks : List ℕ) (p : PassView) (before after : Bitmap) (old new : MirrorView) : Type 0 where
   pub filled : MirrorView
   pub makes : MakesPass target chunks p before after old filled
   pub checkpoints : Checkpoints target after filled new
   pub sound : IsConsistent new
 
--- One of which slots failed. Their chunks are listed, and the lists stored.
+-- A pass is made of which slots failed. Their chunks are listed, and the lists stored.
 pub record ListsPass (target : ℕ) (chunks : List ℕ) (p : PassView) (before after : Bitmap) (old new : MirrorView) : Type 0 where
   pub recorded : MirrorView
   pub records : RecordsPass target chunks p before after old recorded
   pub some : p.failed ≢ []
   pub lists : ListsAll p.failed recorded new
 
--- Such passes, one after another, each over the chunks that failed in the one before: from these chunks to those that are left, and from the set
--- of those that were copied to the one after them.
+-- Passes of which slots failed, one after another, each over the chunks that failed in the one before: from
+-- these chunks to those that are left, and from the set of those that were copied to the one after them.
 abbrev pub AreListedPasses : ℕ → List PassView → List ℕ → List ℕ → Bitmap → Bitmap → MirrorView → MirrorView → Type 0
 AreListedPasses target [] chunks left before after old new = (left ≡ chunks) × (after ≡ before) × (new ≡ old)
 AreListedPasses target (p ∷ ps) chunks left before after old new =
@@ -70,7 +70,8 @@ pub record CopiesAll (target : ℕ) (m : MemberView) (passes : List PassView) (b
   pub passes_are : passes ≡ listed ++ last ∷ []
 
 -- ---- where they end before that
--- After such passes, or before the first, it ended: these chunks were left, and those copied.
+-- The passes ended after some of which slots failed, or before the first: these chunks were left, and those
+-- copied.
 pub record EndsBetween (target : ℕ) (m : MemberView) (before : Bitmap) (old : MirrorView) (Why : List ℕ → Bitmap → MirrorView → Type 0) : Type 0 where
   pub passes : List PassView
   pub left : List ℕ
@@ -79,7 +80,7 @@ pub record EndsBetween (target : ℕ) (m : MemberView) (before : Bitmap) (old : 
   pub passed : AreListedPasses target passes (missing_chunks old.array m) left before copied old now
   pub why : Why left copied now
 
--- One was planned, and broken off with this fault.
+-- A pass was planned, and broken off with this fault.
 pub record BreaksOff (target : ℕ) (fault : RebuildFault) (chunks : List ℕ) (before after : Bitmap) (old new : MirrorView) : Type 0 where
   pub pass : PassView
   pub is : IsArrayPass old.array chunks pass
@@ -88,7 +89,7 @@ pub record BreaksOff (target : ℕ) (fault : RebuildFault) (chunks : List ℕ) (
   pub breaks : BreaksPass target member (slots_of pass) before after old new fault
   pub sound : IsConsistent new
 
--- One was made, and how far the target is rebuilt could not be recorded.
+-- A pass was made, and how far the target is rebuilt could not be recorded.
 pub record FailsRecording (target : ℕ) (chunks : List ℕ) (before : Bitmap) (old new : MirrorView) : Type 0 where
   pub pass : PassView
   pub after : Bitmap
@@ -97,7 +98,7 @@ pub record FailsRecording (target : ℕ) (chunks : List ℕ) (before : Bitmap) (
   pub fails : FailsToCheckpoint target after filled new
   pub sound : IsConsistent new
 
--- One was made and recorded, slots of it failed, and they are not all listed, with this fault.
+-- A pass was made and recorded, slots of it failed, and they are not all listed, with this fault.
 pub record FailsListing (target : ℕ) (fault : RebuildFault) (chunks : List ℕ) (before after : Bitmap) (old new : MirrorView) : Type 0 where
   pub pass : PassView
   pub recorded : MirrorView
@@ -106,13 +107,14 @@ pub record FailsListing (target : ℕ) (fault : RebuildFault) (chunks : List ℕ
   pub fails : StopsListing pass.failed recorded new fault
 
 -- ---- after a pass of which slots failed
--- They are listed, and these rows are the next table.
+-- The chunks of the slots that failed are listed, and these rows are the next table.
 pub record GoesOnWith (failed : List Slot) (old new : MirrorView) (rows : List Row) : Type 0 where
   pub lists : ListsAll failed old new
   pub chunks : chunks_of rows ≡ map (λ (s : Slot). s.chunk) failed
   pub sources : All (HasSources new.array) rows
 
--- They are not all listed; or they are, and memory was refused for the next table.
+-- The chunks of the slots that failed are not all listed; or they are, and memory was refused for the next
+-- table.
 abbrev pub StopsBetween : List Slot → MirrorView → MirrorView → RebuildFault → Type 0
 StopsBetween failed old new fault = StopsListing failed old new fault ⊎ (IsNoMemory fault × ListsAll failed old new)
 

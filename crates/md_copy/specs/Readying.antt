@@ -18,7 +18,7 @@ pub record AdmitsAfter (target : ℕ) (old admitted : MirrorView) : Type 0 where
   pub spare : is_spare admits.may.member.state ≡ true
   pub sound : IsConsistent admitted
 
--- And what this made due is stored.
+-- A spare is admitted, and what this made due is stored.
 pub record AdmitsFirst (target : ℕ) (old ready : MirrorView) : Type 0 where
   pub admitted : MirrorView
   pub after : AdmitsAfter target old admitted

@@ -19,8 +19,9 @@ use Rattle.md_copy.specs.Listing.{IsNoting, IsStoringList}
 use Rattle.md_copy.specs.Rebuilding.{LosesTarget, RefusesRebuild}
 
 -- ---- which events
--- Marks, lists and superblocks are stored; the target, a spare, is admitted; of it data change, how far it is rebuilt is recorded, its bitmap and
--- its log change, or its own record fails.
+-- The events of a rebuild before the target comes into sync. Marks, lists and superblocks are stored. The
+-- target, a spare, is admitted. Of it data change, how far it is rebuilt is recorded, its bitmap and its log
+-- change, or its own record fails.
 abbrev pub IsBeforeEnrol : ℕ → Event → Type 0
 IsBeforeEnrol target (Event.Record k) = Unit {0}
 IsBeforeEnrol target (Event.StoreMarks k b) = Unit {0}
@@ -36,22 +37,24 @@ IsBeforeEnrol target (Event.Admit k role listed) = k ≡ target
 IsBeforeEnrol target (Event.Checkpoint k offset listed) = k ≡ target
 IsBeforeEnrol target e = ⊥
 
--- these, or the target comes into sync
+-- The events of a rebuild: those before the target comes into sync, and the one by which it does.
 abbrev pub IsOfRebuild : ℕ → Event → Type 0
 IsOfRebuild target (Event.Enrol k role listed) = k ≡ target
 IsOfRebuild target e = IsBeforeEnrol target e
 
--- Or it is spoiled: a write failed by which it was to be admitted, to record how far it is rebuilt, or to come into sync, and left any superblock.
+-- The events of a rebuild that is not done: those before the target comes into sync, and the one that spoils
+-- it. A write failed then by which it was to be admitted, to record how far it is rebuilt, or to come into
+-- sync, and left any superblock.
 abbrev pub IsOfUnfinished : ℕ → Event → Type 0
 IsOfUnfinished target (Event.SpoilTarget k) = k ≡ target
 IsOfUnfinished target e = IsBeforeEnrol target e
 
--- what is due is stored, and nothing fails
+-- What is due is stored, and nothing fails.
 pub record AreStored (events : List Event) : Type 0 where
   pub stores : AllOf IsStoring events
   pub unfailing : AllOf IsNoFailure events
 
--- so it is, the target is admitted, and what is due then is stored
+-- What is due is stored, the target is admitted, and what is due then is stored.
 pub record AreOfAdmission (target : ℕ) (events : List Event) : Type 0 where
   pub before : List Event
   pub first : AreStored before
@@ -62,12 +65,13 @@ pub record AreOfAdmission (target : ℕ) (events : List Event) : Type 0 where
   pub list : events ≡ before ++ Event.Admit target role listed ∷ after
 
 -- ---- passes
--- each member's list is stored, and nothing fails
+-- Each member's list is stored, and nothing fails.
 pub record AreListsStored (events : List Event) : Type 0 where
   pub stores : AllOf IsStoringList events
   pub unfailing : AllOf IsNoFailure events
 
--- The target is filled, and this is recorded. What failed is noted, and then all lists are stored.
+-- The target is filled, and how far that came is recorded. What failed is noted, and then all lists are
+-- stored.
 pub record AreOfPass (target : ℕ) (events : List Event) : Type 0 where
   pub offset : ℕ
   pub listed : ℕ → Bool
@@ -77,7 +81,7 @@ pub record AreOfPass (target : ℕ) (events : List Event) : Type 0 where
   pub stores : AreListsStored stored
   pub list : events ≡ Event.Fill target ∷ Event.Checkpoint target offset listed ∷ (noted ++ stored)
 
--- so again and again
+-- These are the events of passes, one after another, and each part of the first list those of one pass.
 abbrev pub AreOfPasses : ℕ → List (List Event) → List Event → Type 0
 AreOfPasses target [] events = events ≡ []
 AreOfPasses target (first ∷ more) events = AreOfPass target first × ((rest : List Event) × AreOfPasses target more rest × (events ≡ first ++ rest))
@@ -118,7 +122,7 @@ pub record RebuildLeads (target : ℕ) (old new : MirrorView) : Type 0 where
   pub list : IsListOfRebuild target goes.leads.events
 
 -- ---- one that is refused
--- The target may be spoiled by the last of them, and by no other.
+-- The target may be spoiled by the last of these events, and by no other.
 pub record IsListOfUnfinished (target : ℕ) (events : List Event) : Type 0 where
   pub before : List Event
   pub first : AllOf (IsBeforeEnrol target) before
@@ -136,7 +140,7 @@ pub record FailsAtMarks {target : ℕ} {copied orphans : Bitmap} {old new : Mirr
   pub more : (f.disks.change disk left is left_is).0.rest ≢ []
 
 -- ---- which event stands for which fault
--- this event is the last
+-- This event is the last.
 abbrev pub EndsWith : Event → List Event → Type 0
 EndsWith e events = (before : List Event) × (events ≡ before ++ e ∷ [])
 
@@ -146,7 +150,7 @@ AreOfLeaving target events =
     (events ≡ [])
     ⊎ (((offset : ℕ) × (listed : ℕ → Bool) × (events ≡ Event.Checkpoint target offset listed ∷ [])) ⊎ (events ≡ Event.SpoilTarget target ∷ []))
 
--- a write to member k failed, and then at most this came
+-- A write to member k failed. At most it was tried after that to record how far the target is rebuilt.
 pub record FailsAtMember (target k : ℕ) (events : List Event) : Type 0 where
   pub before : List Event
   pub failing : Event
@@ -155,19 +159,20 @@ pub record FailsAtMember (target k : ℕ) (events : List Event) : Type 0 where
   pub leaving : AreOfLeaving target after
   pub list : events ≡ before ++ failing ∷ after
 
--- Or the write to it that failed halted the mirror.
+-- The write that the fault names was one to member k. The member is faulty by it, or the mirror is halted.
 abbrev pub TellsMember : {IsOf : Event → Type 0} {last new : MirrorView} → ℕ → ℕ → List Event → (last ≡ new) ⊎ HaltsIn IsOf last new → Type 0
 TellsMember target k events (inl same) = FailsAtMember target k events
 TellsMember target k events (inr halts) = IsFailureOf k halts.failing
 
--- a write to the target: of a pass, by which its offset was to be recorded, or one of `enrol`, before its last or the last
+-- The write that failed was one to the target: of a pass, by which its offset was to be recorded, or one of
+-- `enrol`, before its last or the last.
 abbrev pub TellsTarget : {target : ℕ} {m : MemberView} {none : Bitmap} {ready new : MirrorView} → LosesTarget target m none ready new → List Event → Type 0
 TellsTarget {target} (inl pass) events = EndsWith (Event.Fill target) events
 TellsTarget {target} (inr (inl recording)) events = EndsWith (Event.SpoilTarget target) events
 TellsTarget {target} (inr (inr ends)) events =
     (FailsAtMarks ends.why × EndsWith (Event.Prepare target) events) ⊎ (FailsAtSuper ends.why × EndsWith (Event.SpoilTarget target) events)
 
--- how far the target is rebuilt was recorded before the fault was answered, or could not be
+-- How far the target is rebuilt was recorded before the fault was answered, or could not be.
 abbrev pub TellsLeaving : {target : ℕ} {copied : Bitmap} {stopped new : MirrorView} → Leaves target copied stopped new → List Event → Type 0
 TellsLeaving {target} (inl halted) events = Unit {0}
 TellsLeaving {target} (inr (inl recorded)) events = (offset : ℕ) × (listed : ℕ → Bool) × EndsWith (Event.Checkpoint target offset listed) events
@@ -202,19 +207,19 @@ pub record LeadsUnadmitted (target : ℕ) (old new : MirrorView) : Type 0 where
   pub event : FailsOnTargetAlone target mid new
 
 -- ---- where a checkpoint fails
--- that before the fault is answered
+-- The checkpoint before the fault is answered fails.
 abbrev pub FailsLeaving : {target : ℕ} {copied : Bitmap} {stopped new : MirrorView} → Leaves target copied stopped new → Type 0
 FailsLeaving (inl halted) = ⊥
 FailsLeaving (inr (inl recorded)) = ⊥
 FailsLeaving (inr (inr fails)) = Unit {0}
 
--- that after a pass
+-- The checkpoint after a pass fails.
 abbrev pub FailsAfterPass : {target : ℕ} {m : MemberView} {none : Bitmap} {ready new : MirrorView} → LosesTarget target m none ready new → Type 0
 FailsAfterPass (inl pass) = ⊥
 FailsAfterPass (inr (inl recording)) = Unit {0}
 FailsAfterPass (inr (inr ends)) = ⊥
 
--- either
+-- A checkpoint fails: the one after a pass, or the one before the fault is answered.
 abbrev pub FailsCheckpoint : (target : ℕ) (old new : MirrorView) (fault : RebuildFault) → RefusesRebuild target old new fault → Type 0
 FailsCheckpoint target old new Halted h = ⊥
 FailsCheckpoint target old new NotSpare h = ⊥
@@ -231,8 +236,9 @@ FailsCheckpoint target old new NoMemory (inl first) = ⊥
 FailsCheckpoint target old new NoMemory (inr h) = FailsLeaving h.leaves
 FailsCheckpoint target old new (LogFull k) h = FailsLeaving h.leaves
 
--- Where that write left the old superblock or none, it is the event of a record that failed, too: then the next opening need not leave the target
--- out, and it is rebuilt from where it was before.
+-- The checkpoint failed. Where its write left the old superblock or none, it is the event of a record that
+-- failed, too: then the next opening need not leave the target out, and it is rebuilt from where it was
+-- before.
 pub record LeadsUnrecorded (target : ℕ) (old new : MirrorView) : Type 0 where
   pub copied : Bitmap
   pub mid : MirrorView

@@ -19,7 +19,7 @@ use Rattle.md_copy.specs.Preparing.{IsSetOf, IsWithin, Tells, uncopied_chunks}
 use Rattle.md_copy.specs.Readying.{FailsAdmission, LacksAdmission, Readies, StopsAdmitted}
 use Rattle.md_copy.specs.Storing.{FailsOnTarget, Settles, StopsAt}
 
--- It was checked, what is due is stored, and a spare is admitted. No chunk is copied yet.
+-- A rebuild was checked, what is due is stored, and a spare is admitted. No chunk is copied yet.
 pub record Begins (target : ℕ) (old ready : MirrorView) (none : Bitmap) : Type 0 where
   pub sound : IsConsistent old
   pub member : MemberView
@@ -38,7 +38,7 @@ pub record FillsBy (target : ℕ) (m : MemberView) (passes : List PassView) (non
   pub has : HasSets target copied kept orphans chunks filled
   pub sound : IsConsistent filled
 
--- It comes into sync, and the others are told.
+-- The target comes into sync, and the others are told.
 pub record EnrolsBy (target : ℕ) (m : MemberView) (passes : List PassView) (none copied kept orphans : Bitmap) (chunks : List ℕ) (ready new : MirrorView) : Type 0 where
   pub filled : MirrorView
   pub fills : FillsBy target m passes none copied kept orphans chunks ready filled
@@ -47,7 +47,7 @@ pub record EnrolsBy (target : ℕ) (m : MemberView) (passes : List PassView) (no
   pub sound : IsConsistent enrolled
   pub settles : Settles enrolled new
 
--- this is told of it
+-- The target is rebuilt, and this is told of it.
 pub record RebuildsReadied (target : ℕ) (m : MemberView) (none : Bitmap) (ready new : MirrorView) (told : Rebuilt) : Type 0 where
   pub passes : List PassView
   pub copied : Bitmap
@@ -116,21 +116,21 @@ pub record Rebuilds (target : ℕ) (told : Rebuilt) (old new : MirrorView) : Typ
   pub begins : Begins target old ready none
   pub rebuilds : RebuildsReadied target begins.now none ready new told
 
--- It was refused before anything was done.
+-- A rebuild was refused before anything was done.
 pub record RefusesAtOnce (target : ℕ) (fault : RebuildFault) (old new : MirrorView) : Type 0 where
   pub unchanged : new ≡ old
   pub member : MemberView
   pub at : IsMember old.array target member
   pub cannot : CannotRebuild old.array member fault
 
--- It might begin, and did not come so far that a pass may be planned.
+-- A rebuild might begin, and did not come so far that a pass may be planned.
 pub record EndsStoring (target : ℕ) (old : MirrorView) (Why : Type 0) : Type 0 where
   pub member : MemberView
   pub at : IsMember old.array target member
   pub may : MayRebuild old.array member
   pub why : Why
 
--- It came so far.
+-- A rebuild came so far that a pass may be planned, and ended later.
 pub record EndsReadied (target : ℕ) (old : MirrorView) (Why : MemberView → Bitmap → MirrorView → Type 0) : Type 0 where
   pub ready : MirrorView
   pub none : Bitmap

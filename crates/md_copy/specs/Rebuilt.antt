@@ -47,7 +47,7 @@ pub record ServesThen (old new : ArrayView) (target k chunk : ℕ) : Type 0 wher
 abbrev pub IsServedThen : ArrayView → ArrayView → ℕ → ℕ → Type 0
 IsServedThen old new target chunk = (k : ℕ) × ServesThen old new target k chunk
 
--- these bytes lie in the member's data area, beside the chunks of a set
+-- These bytes lie in the member's data area, beside the chunks of a set.
 pub record IsBesideCopied (a : ArrayView) (m : MemberView) (copied : Bitmap) (at n : ℕ) : Type 0 where
   pub from : 512 * m.superblock.data_offset ≤ at
   pub to : at + n ≤ 512 * (m.superblock.data_offset + m.superblock.data_size)
@@ -126,14 +126,14 @@ KeepStates target failed old last =
     → (n.state ≡ m.state) ⊎ ((n.state ≡ Faulty) × AtDevice k old.disks last.disks (FailsWrite failed m))
 
 -- ---- what stands on the devices
--- The list of each other member of which a slot failed stands there, as it is in sync still: a write to it that failed would have made it faulty, or is
--- one of these, that halt a mirror.
+-- The list of each other member of which a slot failed stands on its device, as long as the member is in
+-- sync: a write to it that failed would have made it faulty, or is one of these, that halt a mirror.
 abbrev pub ListsStored : ℕ → (ℕ → Type 0) → List Slot → ArrayView → MirrorView → Type 0
 ListsStored target Halts failed old new =
     (k : ℕ) (m n : MemberView) (e : Disk) → k ≢ target → (Halts k → ⊥) → IsMember old k m → HasFailed failed m
     → IsMember new.array k n → is_in_sync n.state ≡ true → slice_get new.disks k ≡ Some e → e.honest ≡ true → HasListOn n.bad e.content
 
--- and of this member
+-- The list of this member stands on its device, if it is in sync.
 abbrev pub OwnListStored : MemberView → Disk → Type 0
 OwnListStored m d = is_in_sync m.state ≡ true → d.honest ≡ true → HasListOn m.bad d.content
 
@@ -153,8 +153,9 @@ abbrev pub HaltsTo : {new : MirrorView} → RunsOrHalts new → ℕ → Type 0
 HaltsTo (inl runs) k = ⊥
 HaltsTo (inr halts) k = IsFailureOf k halts.1.failing
 
--- It is rebuilt at the end of the call, also where a write that failed has halted the mirror after it came into sync. This is told of its passes, and
--- of the orphans. The lists that grew stand on the devices, and its own, but for that to which this write was.
+-- The target is rebuilt at the end of the call, also where a write that failed has halted the mirror after
+-- the target came into sync. This is told of its passes, and of the orphans. The lists that grew stand on the
+-- devices, and so does the target's, but for the member to which that write was.
 pub record HasRebuilt (target : ℕ) (told : Rebuilt) (old new : MirrorView) : Type 0 where
   pub passes : List PassView
   pub tells : Tells passes told.orphans.items told

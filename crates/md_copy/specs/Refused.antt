@@ -63,20 +63,20 @@ pub record HasMade (s : Ending) (old : ArrayView) : Type 0 where
   pub few : length (s.listed ++ s.last) ≤ most_failures old + 1
 
 -- ---- the target
--- these bytes lie in the member's data area, beside the chunks that it lacks
+-- These bytes lie in the member's data area, beside the chunks that it lacks.
 pub record IsBesideLacking (a : ArrayView) (m : MemberView) (at n : ℕ) : Type 0 where
   pub from : 512 * m.superblock.data_offset ≤ at
   pub to : at + n ≤ 512 * (m.superblock.data_offset + m.superblock.data_size)
   pub beside : IsBesideMissing a m at n
 
--- No pass was planned, and it is what it was.
+-- No pass was planned, and the target is what it was.
 pub record IsAsBefore (s : Ending) (now : MemberView) : Type 0 where
   pub listed : s.listed ≡ []
   pub last : s.last ≡ []
   pub state : now.state ≡ s.member.state
   pub offset : now.superblock.recovery_offset ≡ s.member.superblock.recovery_offset
 
--- No pass was planned. It was a spare, and is recovering from the start.
+-- No pass was planned. The target was a spare, and is recovering from the start.
 pub record IsAdmitted (s : Ending) (now : MemberView) : Type 0 where
   pub listed : s.listed ≡ []
   pub last : s.last ≡ []
@@ -84,52 +84,58 @@ pub record IsAdmitted (s : Ending) (now : MemberView) : Type 0 where
   pub recovering : is_recovering now.state ≡ true
   pub offset : now.superblock.recovery_offset ≡ 0
 
--- how far a member was rebuilt: one that is not recovering, not at all
+-- How far a member was rebuilt: one that is not recovering, not at all.
 abbrev pub offset_of : MemberView → ℕ
 offset_of m = cond (is_recovering m.state) m.superblock.recovery_offset 0
 
--- How far it is rebuilt, of which these chunks were copied: as far as it was, or up to the first chunk that it lacked and that was not copied, or of
--- which it lists a sector, or to the end, whichever is the furthest.
+-- How far a member is rebuilt, of which these chunks were copied: as far as it was, or up to the first chunk
+-- that it lacked and that was not copied, or of which it lists a sector, or to the end, whichever is the
+-- furthest.
 pub record IsRebuiltTo (a : ArrayView) (m : MemberView) (copied : Bitmap) (offset : ℕ) : Type 0 where
   pub from : offset_of m ≤ offset
   pub below : (c : ℕ) → c < a.marks.chunks → Stops a m copied c → offset ≤ max (offset_of m) (c * a.chunks.sectors)
   pub upto : (a.chunks.size ≤ offset) ⊎ ((c : ℕ) × (c < a.marks.chunks) × Stops a m copied c × (c * a.chunks.sectors ≤ offset))
 
--- Passes might be made. It is recovering, and rebuilt so far.
+-- Passes might be made. The target is recovering, and rebuilt as far as they came.
 pub record IsRebuiltSoFar (a : ArrayView) (s : Ending) (now : MemberView) : Type 0 where
   pub recovering : is_recovering now.state ≡ true
   pub to : IsRebuiltTo a s.member s.copied now.superblock.recovery_offset
 
--- what the passes copied that were listed, and no more than the last one copied too; of one that was broken off, than it was to copy
+-- What counts as copied: all that those passes copied of which the failed slots are listed, and at most what
+-- the last pass copied or was to copy, too.
 pub record HasCopied (s : Ending) : Type 0 where
   pub listed : (c : ℕ) → IsCopiedIn s.listed c → is_set s.copied.bytes c ≡ true
   pub only : (c : ℕ) → is_set s.copied.bytes c ≡ true → IsCopiedIn (s.listed ++ s.last) c
 
 -- ---- the lists
--- An opening reads a superblock there, and in the log that this names are these sectors listed, and no others.
+-- An opening reads a superblock of this content, and in the log that it names are these sectors listed, and
+-- no others.
 pub record HasListed (Known : ℕ → Type 0) (content : List ℕ) : Type 0 where
   pub super : Superblock
   pub read : IsSuperOn content super
   pub listed : (sector : ℕ) → (is_listed super content sector ≡ true) ↔ Known sector
 
--- Or these, and none that is not in the list.
+-- An opening reads a superblock of this content. In the log that it names are these sectors listed, and no
+-- sector that is not in this list.
 pub record HasListWithin (Known : ℕ → Type 0) (list : List Run) (content : List ℕ) : Type 0 where
   pub super : Superblock
   pub read : IsSuperOn content super
   pub known : (sector : ℕ) → Known sector → is_listed super content sector ≡ true
   pub only : (sector : ℕ) → is_listed super content sector ≡ true → IsBad list sector
 
--- the sector is in the member's list, or of a slot of it that failed
+-- The sector is in the member's list, or of a slot of it that failed.
 abbrev pub IsKnown : ArrayView → List Slot → MemberView → ℕ → Type 0
 IsKnown old stored m sector = IsBad m.bad sector ⊎ IsOfFailed old.chunks stored m sector
 
--- So it is of each other member in sync of which one of these slots failed: its list before, and the chunks of these slots.
+-- On the device of each other member in sync of which one of these slots failed stand its list of before and
+-- the chunks of these slots.
 abbrev pub ListsStand : ℕ → List Slot → ArrayView → MirrorView → Type 0
 ListsStand target stored old new =
     (k : ℕ) (m n : MemberView) (e : Disk) → k ≢ target → IsMember old k m → HasFailed stored m → IsMember new.array k n → is_in_sync n.state ≡ true
     → slice_get new.disks k ≡ Some e → e.honest ≡ true → HasListed (IsKnown old stored m) e.content
 
--- Or these, and no more than its list in memory: lists of the last pass may be stored.
+-- On the device of each other member in sync of which one of these slots failed stand its list of before and
+-- the chunks of these slots, and no more than its list in memory has: lists of the last pass may be stored.
 abbrev pub ListsStandWithin : ℕ → List Slot → ArrayView → MirrorView → Type 0
 ListsStandWithin target stored old new =
     (k : ℕ) (m n : MemberView) (e : Disk) → k ≢ target → IsMember old k m → HasFailed stored m → IsMember new.array k n → is_in_sync n.state ≡ true
@@ -162,14 +168,14 @@ pub record LacksOwnRoomFor (target : ℕ) (s : Ending) (old new : ArrayView) : T
   pub orphans_are : (c : ℕ) → is_set orphans.bytes c ≡ is_in (uncopied_chunks old s.member s.copied) c
   pub full : HasFullLog target kept orphans new
 
--- All of them are.
+-- All slots of the last pass that failed are listed in memory.
 pub record NotesAll (s : Ending) : Type 0 where
   pub pass : PassView
   pub last : s.last ≡ pass ∷ []
   pub slots : pass.failed ≡ s.noted
 
 -- ---- the member that failed
--- it was kept up to date, and is faulty, and the mirror runs
+-- Member k was kept up to date, and is faulty, and the mirror runs.
 pub record IsLost (k : ℕ) (old new : ArrayView) : Type 0 where
   pub was : (m : MemberView) → IsMember old k m → is_recorded m.state ≡ true
   pub running : new.halted ≡ false
@@ -194,7 +200,7 @@ KeepsDataBeside sector m d e =
 abbrev pub KeepsDataBut : MemberView → MemberView → Disk → Disk → Type 0
 KeepsDataBut m n d e = KeepsData m d e ⊎ ((sector : ℕ) × IsFromMarks n sector × KeepsDataBeside sector m d e)
 
--- its device failed, it is in sync still, no other member is, and the mirror is halted
+-- Member k's device failed, the member is in sync still, no other is, and the mirror is halted.
 pub record HasHalted (k : ℕ) (old new : MirrorView) : Type 0 where
   pub failed : AtDevice k old.disks new.disks (Fails of_disks)
   pub halted : new.array.halted ≡ true
@@ -218,8 +224,9 @@ pub record EndsWithTarget (target : ℕ) (s : Ending) (now : MemberView) (old ne
   pub noted : s.noted ≡ []
   pub stand : ListsStand target (failed_of s.listed) old.array new
 
--- The mirror runs. So it is of the target, which may be rebuilt further, by what the last pass had copied. Memory was refused while slots that failed
--- were listed; or all that is listed stands on the devices.
+-- The mirror runs. The target is what it was, or it is recovering, rebuilt as far as the passes had copied
+-- that were listed, or further by what the last one had. Memory was refused while slots that failed were
+-- listed; or all that is listed stands on the devices.
 pub record EndsWithoutMemory (target : ℕ) (s : Ending) (now : MemberView) (old new : MirrorView) : Type 0 where
   pub running : new.array.halted ≡ false
   pub target_is : IsAsBefore s now ⊎ (IsRebuiltSoFar old.array s now × HasCopied s)
@@ -235,14 +242,14 @@ pub record EndsWithoutRoom (target k : ℕ) (s : Ending) (now : MemberView) (old
   pub noted : ((k ≡ target) × LacksOwnRoomFor target s old.array new.array) ⊎ NotesSome s (LacksRoomFor k new.array)
   pub stand : ListsStand target (failed_of s.listed) old.array new
 
--- It was to store marks or a superblock before a pass. The target is what it was, or was admitted.
+-- Member k was to store marks or a superblock before a pass. The target is what it was, or was admitted.
 pub record LosesBefore (k : ℕ) (s : Ending) (now : MemberView) (old new : MirrorView) : Type 0 where
   pub target_is : IsAsBefore s now ⊎ IsAdmitted s now
   pub noted : s.noted ≡ []
   pub kept : (m n : MemberView) → IsMember old.array k m → IsMember new.array k n → AtDevice k old.disks new.disks (KeepsDataBut m n)
 
--- It was to store its list after a pass, as slots of it failed. All that failed in this pass is listed in memory. The target is recovering, rebuilt as far
--- as the passes have copied, the last among them.
+-- Member k was to store its list after a pass, as slots of it failed. All that failed in this pass is listed
+-- in memory. The target is recovering, rebuilt as far as the passes have copied, the last among them.
 pub record LosesSource (k : ℕ) (s : Ending) (now : MemberView) (old new : MirrorView) : Type 0 where
   pub rebuilt : IsRebuiltSoFar old.array s now
   pub copied : AreCopiedBy (s.listed ++ s.last) s.copied

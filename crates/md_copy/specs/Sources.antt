@@ -34,11 +34,11 @@ pub record IsTableIn (a : ArrayView) (m : MemberView) (rows : List Row) : Type 0
   pub lacking : All (λ row. IsLacking a m row.chunk) rows
   pub sources : All (HasSources a) rows
 
--- a member is in sync in the role
+-- A member is in sync in the role.
 abbrev pub IsInSyncAs : ArrayView → ℕ → Type 0
 IsInSyncAs a role = (k : ℕ) × (m : MemberView) × IsMember a k m × (is_in_sync_as role m.state ≡ true)
 
--- so is one that is write-mostly, or one that is not
+-- A member is in sync in the role, and write-mostly or not, as it is asked.
 abbrev pub IsInSyncWith : ArrayView → Bool → ℕ → Type 0
 IsInSyncWith a mostly role = (k : ℕ) × (m : MemberView) × IsMember a k m × (is_in_sync_as role m.state ≡ true) × (is_write_mostly m.superblock ≡ mostly)
 

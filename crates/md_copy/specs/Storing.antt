@@ -62,8 +62,8 @@ pub record SettlesAll (old new : MirrorView) : Type 0 where
   pub recorded : AllRecorded new.array
   pub running : new.array.halted ≡ false
 
--- Or after some of it the write of a superblock, or of the first sector of a bitmap, failed on a member that can't be made faulty, and the mirror is
--- halted.
+-- After some of what was due was stored, the write of a superblock, or of the first sector of a bitmap,
+-- failed on a member that can't be made faulty, and the mirror is halted.
 pub record HaltsSettling (old new : MirrorView) : Type 0 where
   pub mid : MirrorView
   pub goes : GoesOn only_others only_others IsStoring old mid

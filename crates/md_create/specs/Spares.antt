@@ -6,8 +6,8 @@ use Rattle.md_bitmap.specs.Sound.{chunk_count}
 use Rattle.md_create.specs.declared.params.NewMember.{NewMember}
 use Rattle.md_create.specs.Values.{HasMarks, device_uuid_of}
 
--- Its superblock, beside the fields of the array as they are once it has come in. A field that the array has otherwise, as its
--- layout, is 0 until its first record.
+-- A spare's superblock, beside the fields of the array as they are once it has come in. A field that the
+-- array has otherwise, as its layout, is 0 until its first record.
 pub record IsSpareSuper (array : Superblock) (number sectors : ℕ) (v : Superblock) : Type 0 where
   pub feature_map : v.feature_map ≡ 1
   pub set_uuid : v.set_uuid ≡ array.set_uuid

@@ -18,7 +18,7 @@ pub record Faulty (D : Type 0) : Type 0 where
   pub writes : ℕ
   pub failed : ℕ
 
--- it is stored as the tuple of its fields
+-- A device that fails on demand is stored as the tuple of its fields.
 abbrev pub faulty_code : {D : Type 0} → Coded D → Coded (Faulty D)
 faulty_code {D} code =
     code_by (D × (List ℕ × (ℕ × (ℕ × (Bool × (ℕ × ℕ)))))) (coded× code (coded× (coded_list coded_ℕ) (coded× coded_ℕ (coded× coded_ℕ (coded× coded_bool (coded× coded_ℕ coded_ℕ))))))

@@ -15,7 +15,7 @@ pub record Overlay (D : Type 0) : Type 0 where
   -- how many writes found no memory
   pub refused : ℕ
 
--- it is stored as the tuple of its fields
+-- An overlay is stored as the tuple of its fields.
 abbrev pub overlay_code : {D : Type 0} → Coded D → Coded (Overlay D)
 overlay_code {D} code = code_by (D × (List ℕ × ℕ)) (coded× code (coded× (coded_list coded_ℕ) coded_ℕ)) (λ d. (d.inner, (d.content, d.refused))) (λ p. record { inner = p.0; content = p.1.0; refused = p.1.1 }) (λ _. refl)
 

@@ -22,7 +22,7 @@ IsSeen bytes f = Stands bytes f
 abbrev pub is_chunk_size : ℕ → Bool
 is_chunk_size size = is_power_of_two size && nat_le 512 size
 
--- that a fault is seen, as a test
+-- Whether a fault is seen, as a test.
 abbrev pub stands : List ℕ → BitmapFault → Bool
 stands bytes fault.Magic = not (number_at 4 0 bytes == 0x6d746962)
 stands bytes fault.Version = not (number_at 4 4 bytes == 4)

@@ -20,7 +20,7 @@ right_aligned n text = replicate (n - length text) 32 ++ text
 unfoldable pub hex8_text : ℕ → List ℕ
 hex8_text n = encode_lower (to_be_bytes w32 n)
 
--- its hex digits without the zeros in front, but for the last
+-- The number's hex digits without the zeros in front, but for the last.
 unfoldable pub hex_text : ℕ → List ℕ
 hex_text n = drop (length (take_while (λ d. d == 48) (take 7 (hex8_text n)))) (hex8_text n)
 

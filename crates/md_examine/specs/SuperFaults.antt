@@ -14,7 +14,7 @@ IsSeen bytes Checksum = (number_at 4 220 bytes ≤ 1920) × Stands bytes Checksu
 IsSeen bytes NoMemory = ⊥
 IsSeen bytes fault = Stands bytes fault
 
--- the same, as a test
+-- Whether the fault stands, and can be told, as a test.
 abbrev pub stands : List ℕ → SuperFault → Bool
 stands bytes Magic = not (number_at 4 0 bytes == 0xa92b4efc)
 stands bytes Major = not (number_at 4 4 bytes == 1)
@@ -43,7 +43,7 @@ fault_name Level = codes "Level"
 fault_name RaidDisks = codes "RaidDisks"
 fault_name NoMemory = codes "NoMemory"
 
--- its name, and the value of that which has one
+-- A line with the fault's name, and the value of that which has one.
 abbrev pub fault_line : List ℕ → SuperFault → List ℕ
 fault_line label (Feature bits) = line_text label (codes "Feature " ++ decimal bits)
 fault_line label fault = line_text label (fault_name fault)

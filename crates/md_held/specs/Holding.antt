@@ -14,8 +14,8 @@ use Rattle.md_state.specs.View.{Disk, of_disks}
 use Rattle.md_held.specs.declared.held.Held.{Held}
 use Rattle.md_held.specs.declared.held.Held.TheVariants.{Nothing, Unseen, Member, Signed}
 
--- It is told before the device is overwritten. Of one that was not looked at nobody knows what it is, and that is told too: so what
--- can't be told of it is no way to overwrite it untold.
+-- What a device holds is told before the device is overwritten. Of one that was not looked at nobody knows
+-- what it is, and that is told too: so what can't be told of it is no way to overwrite it untold.
 abbrev pub needs_telling : Held → Bool
 needs_telling Nothing = false
 needs_telling Unseen = true
@@ -39,7 +39,7 @@ pub record HasNoSuper (d e : Disk) : Type 0 where
 abbrev pub borne : Disk → List Signature
 borne d = filter (bears d.content) signatures
 
--- it bears the signature and, where no call failed, none before that
+-- The device bears the signature and, where no call failed, none before that.
 pub record BearsFirst (d e : Disk) (s : Signature) : Type 0 where
   pub bears_it : d.honest ≡ true → bears d.content s ≡ true
   pub first : d.honest ≡ true → e.failures ≡ d.failures → (rest : List Signature) × (borne d ≡ s ∷ rest)

@@ -13,7 +13,7 @@ pub record Named (D : Type 0) : Type 0 where
   pub changeable : Bool
   pub asked : Bool
 
--- it is stored as the tuple of its fields
+-- An image in memory is stored as the tuple of its fields.
 abbrev pub named_code : {D : Type 0} → Coded D → Coded (Named D)
 named_code {D} code =
     code_by (List ℕ × (Option D × (Bool × Bool))) (coded× (coded_list coded_ℕ) (coded× (coded_option code) (coded× coded_bool coded_bool)))

@@ -13,6 +13,6 @@ longer = prefixes coded_ptr
 unfoldable pub page_owns : ℕ → List Ptr → Fml
 page_owns name addresses = at_least longer name addresses
 
--- it is exactly these, and whoever owns this may add to it
+-- The addresses of a list are exactly these, and whoever owns this may add to them.
 unfoldable pub book_owns : ℕ → List Ptr → Fml
 book_owns name addresses = fsep (page_owns name addresses) (latest longer full_share name addresses)

@@ -7,7 +7,7 @@ use Rattle.md_inflight.specs.declared.chain.Chain.{Chain}
 use Rattle.md_inflight.specs.contracts.node.Node.{the_row as node_row}
 use Rattle.md_inflight.specs.contracts.chain.Chain.{the_row}
 
--- the same chain with another node at p
+-- The chain with another node at p.
 abbrev pub with_node : {T : Type 0} → Chain T → Ptr → Node T → Chain T
 with_node c p node = record c { nodes = change_at p (λ _. node) c.nodes; apart = apart_change p (λ _. node) c.nodes c.apart }
 

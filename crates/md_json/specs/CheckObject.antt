@@ -11,15 +11,15 @@ use Rattle.md_json.specs.ArrayObjects.{members_fields}
 use Rattle.md_json.specs.BadblocksObject.{run_object}
 use Rattle.md_json.specs.Objects.{Field, field, list_of, report_of, whole}
 
--- the sectors of a chunk in the array
+-- The sectors of a chunk in the array.
 abbrev pub sectors_of : Chunks → ℕ → Run
 sectors_of chunks c = record { start = c * chunks.sectors; len = min ((c + 1) * chunks.sectors) chunks.size - c * chunks.sectors }
 
--- those of a chunk of the set
+-- The sectors of a chunk, if the set has the chunk.
 abbrev pub sectors_where_set : Chunks → Bitmap → ℕ → List Run
 sectors_where_set chunks set c = if is_set set.bytes c then sectors_of chunks c ∷ [] else []
 
--- those of each chunk of the set among the first n, rising
+-- The sectors of each chunk of the set among the first n, rising.
 abbrev pub ranges_to : Chunks → Bitmap → ℕ → List Run
 ranges_to chunks set n = flat_map (sectors_where_set chunks set) (range_with_len 0 n)
 

@@ -17,7 +17,7 @@ abbrev pub text_or_null : Option (List ℕ) → Data
 text_or_null (Some text) = string text
 text_or_null None = null
 
--- the same of a word
+-- A word as a string, or null where there is none.
 abbrev pub word_or_null : Option (Bor (List ℕ)) → Data
 word_or_null (Some word) = string word.now
 word_or_null None = null

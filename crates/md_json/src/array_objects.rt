@@ -32,7 +32,8 @@ pub fn summary_json<S: Sink, D: Device + Drop>(
     Ok(())
 }
 
-/// The same in detail.
+/// Writes an array in detail as an object, alone in its line, with its members, of which `images` are the
+/// names. It takes no memory, and fails only where the sink has failed.
 pub fn detail_json<S: Sink, D: Device + Drop>(
     out: &mut S,
     mirror: &Mirror<D>,

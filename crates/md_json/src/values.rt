@@ -44,7 +44,7 @@ pub(crate) fn key<S: Sink>(out: &mut S, name: &str) -> Result<(), SinkFault>
     Ok(())
 }
 
-/// The same after a comma.
+/// Puts out a comma, the name of a value, and a colon.
 #[tactic(auto, using(md_examine::proofs::Puts::puts_then))]
 pub(crate) fn next_key<S: Sink>(out: &mut S, name: &str) -> Result<(), SinkFault>
     ensures { PutsOrFails S.contents S.failed out.old out.new (44 ∷ key_text name.now) result }

@@ -21,14 +21,14 @@ pub record IsOfChunk (chunks : Chunks) (offset chunk sector : ℕ) : Type 0 wher
   pub inside : InChunk chunks.sectors chunks.size chunk at
   pub is : sector ≡ offset + at
 
--- one of the first n chunks of a set has it
+-- One of the first n chunks of the set has the sector.
 pub record IsOfFirst (n : ℕ) (chunks : Chunks) (offset : ℕ) (set : Bitmap) (sector : ℕ) : Type 0 where
   pub chunk : ℕ
   pub early : chunk < n
   pub in_set : is_set set.bytes chunk ≡ true
   pub of_chunk : IsOfChunk chunks offset chunk sector
 
--- one of all does
+-- A chunk of the set has the sector.
 abbrev pub IsOf : Chunks → ℕ → Bitmap → ℕ → Type 0
 IsOf chunks offset set sector = IsOfFirst set.chunks chunks offset set sector
 
@@ -40,7 +40,8 @@ pub record AreRemovedTo (n : ℕ) (chunks : Chunks) (offset : ℕ) (set : Bitmap
 abbrev pub AreRemoved : Chunks → ℕ → Bitmap → List Run → List Run → Type 0
 AreRemoved chunks offset set old new = AreRemovedTo set.chunks chunks offset set old new
 
--- They are added. No list has sectors from 2^54 on, and no device.
+-- The sectors of the first n chunks of a set are added to a list. No list has sectors from 2^54 on, and no
+-- device.
 pub record AreAddedTo (n : ℕ) (chunks : Chunks) (offset : ℕ) (set : Bitmap) (old new : List Run) : Type 0 where
   pub canonical : IsCanonical new
   pub bad : (sector : ℕ) → IsBad new sector ↔ (IsBad old sector ⊎ (IsOfFirst n chunks offset set sector × (sector < 2 ^ 54)))
@@ -72,8 +73,8 @@ HasRoomFor v list = entries_needed list ≤ log_room v
 pub whole-supported : (feature_map : ℕ) → unsupported_features feature_map ≡ 0 → unsupported_features (bit_and feature_map 0xffff_fffd) ≡ 0
 whole-supported feature_map none = and_assoc 0xffff_fff4 feature_map 0xffff_fffd ∙ none
 
--- The superblock of a member that holds all of the array but for what this list says: bit 2 of the feature map is clear, and bit 8
--- set exactly where the list is not empty; the log is stored without a shift.
+-- The superblock of a member that holds all of the array but for what this list says. Its feature map has no
+-- RECOVERY_OFFSET, and BAD_BLOCKS exactly where the list is not empty. The log is stored without a shift.
 abbrev pub in_sync_superblock : List Run → Superblock → Superblock
 in_sync_superblock list v = record v {
   feature_map = with_list list (bit_and v.feature_map 0xffff_fffd);
@@ -88,7 +89,8 @@ in_sync_superblock list v = record v {
   };
 }
 
--- The superblock of a member in sync beside which its log is stored: bit 8 of the feature map tells of it, and the log has no shift.
+-- The superblock of a member in sync beside which its log is stored: BAD_BLOCKS in the feature map tells of
+-- the log, which has no shift.
 abbrev pub logged_superblock : List Run → Superblock → Superblock
 logged_superblock list v = record v {
   feature_map = with_list list v.feature_map;

@@ -9,7 +9,7 @@ use Rattle.md_badblocks.specs.declared.run.Run.{Run}
 use Rattle.md_members.specs.declared.info.MemberInfo.{MemberInfo}
 use Rattle.md_members.specs.Members.{reads_log}
 
--- the feature map beside this list of bad blocks: bit 8 is set exactly where the list is not empty
+-- The feature map beside this list of bad blocks: it has BAD_BLOCKS exactly where the list is not empty.
 abbrev pub with_list : List Run → ℕ → ℕ
 with_list [] feature_map = bit_and feature_map 0xffff_fff7
 with_list (run ∷ runs) feature_map = bit_or feature_map 8

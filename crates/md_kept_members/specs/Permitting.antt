@@ -13,12 +13,13 @@ pub record ListsAny (chunks : Chunks) (chunk : ℕ) (m : MemberView) : Type 0 wh
   pub inside : InChunk chunks.sectors chunks.size chunk sector
   pub bad : IsBad m.bad (m.superblock.data_offset + sector)
 
--- the member is in sync in the role, and lists none
+-- The member is in sync in the role, and lists none.
 pub record Serves (chunks : Chunks) (chunk role : ℕ) (m : MemberView) : Type 0 where
   pub in_sync : is_in_sync_as role m.state ≡ true
   pub unlisted : ListsAny chunks chunk m → ⊥
 
--- so is one of the first n members, which is write-mostly or is not
+-- One of the first n members is in sync in the role and lists no sector of the chunk. It is write-mostly or
+-- is not, as it is asked.
 pub record IsServedIn (members : List MemberView) (n : ℕ) (chunks : Chunks) (chunk : ℕ) (mostly : Bool) (role : ℕ) : Type 0 where
   pub at : ℕ
   pub member : MemberView
@@ -27,7 +28,8 @@ pub record IsServedIn (members : List MemberView) (n : ℕ) (chunks : Chunks) (c
   pub serves : Serves chunks chunk role member
   pub flag : is_write_mostly member.superblock ≡ mostly
 
--- one of all members is
+-- A member is in sync in the role and lists no sector of the chunk. It is write-mostly or is not, as it is
+-- asked.
 abbrev pub IsServedAs : List MemberView → Chunks → ℕ → Bool → ℕ → Type 0
 IsServedAs members chunks chunk mostly role = IsServedIn members (length members) chunks chunk mostly role
 

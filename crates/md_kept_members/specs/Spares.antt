@@ -7,7 +7,7 @@ use Rattle.md_assembly.specs.Assembled.{IsFreshest}
 use Rattle.md_assembly.specs.declared.state.MemberState.TheVariants.{Spare}
 use Rattle.md_kept_members.specs.View.{MemberView}
 
--- It was laid out with these, so that its superblock is not due. It lists nothing.
+-- A spare as it was laid out: its superblock is not due, and it lists nothing.
 abbrev pub kept_spare : Superblock → BitmapHeader → Bitmap → MemberView
 kept_spare v h marks = record { superblock = v; header = h; stored = marks; bad = []; state = Spare; due = false }
 

@@ -42,10 +42,11 @@ pub record IsTakenBack (offset : ℕ) (info : MemberInfo) (m : MemberView) : Typ
   pub due : m.due ≡ false
 
 -- ---- a spare that is admitted, and how far it is rebuilt
--- It is recovering in a role from now on, and nothing of it is done. Its superblock is written first, so that it is not due.
+-- A spare is recovering in a role from now on, and nothing of it is done. Its superblock is written first, so
+-- that it is not due.
 abbrev pub admitted_member : ℕ → MemberView → MemberView
 admitted_member role m = record m { superblock = recovering 0 m.superblock; state = Recovering role; due = false }
 
--- It is rebuilt up to this sector, and its superblock says so, with bit 2 as it is kept.
+-- A member is rebuilt up to this sector, and its superblock says so, with RECOVERY_OFFSET as it is kept.
 abbrev pub with_offset : ℕ → MemberView → MemberView
 with_offset offset m = record m { superblock = record m.superblock { recovery_offset = offset } }

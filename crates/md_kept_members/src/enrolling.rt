@@ -31,7 +31,7 @@ pub fn in_sync(
     })
 }
 
-// The same chunks are marked in it, and no bit past the last is set.
+// Marks of the same chunks as these. No bit past the last is set.
 fn same_marks(alloc: Global, marks: &Marks) -> Result<Marks, AllocError>
     ensures { IfOk result (HasMarksOf marks.now) }
 {

@@ -19,7 +19,7 @@ pub(crate) fn stored_next(v: Superblock, bad: &BadSet) -> Superblock
     next
 }
 
-/// The feature map, whose bit 8 tells whether the log lists bad blocks.
+/// The feature map, whose BAD_BLOCKS tells whether the log lists bad blocks.
 pub(crate) fn with_list(feature_map: u32, bad: &BadSet) -> u32
     ensures { result ≡ with_list bad.now feature_map }
 {

@@ -28,14 +28,15 @@ abbrev pub StandsAfter : (MirrorView → Type 0) → MirrorView → List (List �
 StandsAfter IsDone old left =
     (left ≡ map (λ d. d.content) old.disks) ⊎ ((other : MirrorView) × IsDone other × (map (λ d. d.content) other.disks ≡ left))
 
--- Of a sector of a bitmap: its step is `store_marks`.
+-- A sector of a bitmap that is left done or not done stands as before or after `store_marks`.
 abbrev pub StopsAtHaltedMarks : Type 0
 StopsAtHaltedMarks =
     (k block : ℕ) (old new : MirrorView) (left : List (List ℕ)) → IsConsistent old → AreHonest old.disks → block < bitmap_sectors old.array.marks.chunks
     → (h : HaltsStoringMarks k block old new) → MayAllBeLeft old.disks new.disks left → IsDoneOrNot k h.write old.disks left
     → StandsAfter (λ other. StoresMarkSector k block old other × Happens old (Event.StoreMarks k block) other) old left
 
--- Of a log: its step is `store_log`, which is an event where the log was read without a shift, or stored since.
+-- A log that is left done or not done stands as before or after `store_log`, which is an event where the log
+-- was read without a shift, or stored since.
 abbrev pub StopsAtHaltedLog : Type 0
 StopsAtHaltedLog =
     (k : ℕ) (old new : MirrorView) (left : List (List ℕ)) → IsConsistent old → AreHonest old.disks
@@ -46,7 +47,7 @@ StopsAtHaltedLog =
 abbrev pub IsLeftInSectors : ℕ → ℕ → List ℕ → List Disk → List (List ℕ) → Type 0
 IsLeftInSectors k sector bytes before left = (d : Disk) (c : List ℕ) → slice_get before k ≡ Some d → slice_get left k ≡ Some c → IsMixed sector bytes d.content c
 
--- of sectors that are copied, some of which are copied then
+-- Sectors of a copy that are left as they were or as written stand as after a copy of some of them.
 abbrev pub StopsAtHaltedCopies : Type 0
 StopsAtHaltedCopies =
     (k chunk : ℕ) (old new : MirrorView) (left : List (List ℕ)) → IsConsistent old → AreHonest old.disks → (h : HaltsCopying k chunk old new)

@@ -34,11 +34,11 @@ use Rattle.md_laws.specs.StopsWithin.{MayAllBeLeft}
 abbrev pub contents_of : List Disk → List (List ℕ)
 contents_of disks = map (λ d. d.content) disks
 
--- within a call that leads from the mirror at t to the next one
+-- What is left within a call that leads from the mirror at t to the next one.
 abbrev pub IsLeftWithin : Moment → MirrorView → List Disk → Type 0
 IsLeftWithin t next left = MayAllBeLeft t.mirror.disks next.disks (contents_of left)
 
--- Within `write_member`, whatever comes of the write.
+-- What is left within `write_member`, whatever comes of the write.
 pub record IsLeftWriting (t : Moment) (left : List Disk) : Type 0 where
   pub request : PendingView
   pub others : ℕ → Option Request
@@ -50,8 +50,8 @@ pub record IsLeftWriting (t : Moment) (left : List Disk) : Type 0 where
   pub call : WritesTo on t.mirror next request then ⊎ (FailsToWrite on t.mirror next request then ⊎ HaltsWritingTo on t.mirror next request then)
   pub within : IsLeftWithin t next left
 
--- Within `record` or `record_target`, whatever comes of the write, where it left the old superblock, the new one or none: a premise on
--- such stops.
+-- What is left within `record` or `record_target`, whatever comes of the write, where it left the old
+-- superblock, the new one or none: a premise on such stops.
 pub record IsLeftRecording (t : Moment) (left : List Disk) : Type 0 where
   pub on : ℕ
   pub next : MirrorView
@@ -59,8 +59,9 @@ pub record IsLeftRecording (t : Moment) (left : List Disk) : Type 0 where
   pub within : IsLeftWithin t next left
   pub super : (m : MemberView) → IsMember t.mirror.array on m → AtDevice on t.mirror.disks left (IsOldNewOrNone (super_write t.mirror.array m).bytes)
 
--- Within `record`, without that premise: the write is done, and both superblocks, the one that stands there and the one that is
--- written, end within the first sector.
+-- What is left within `record`, without the premise that the superblock is the old one, the new one or none.
+-- The write is done, and both superblocks, the one that stands there and the one that is written, end within
+-- the first sector.
 pub record IsLeftRecordingShort (t : Moment) (left : List Disk) : Type 0 where
   pub on : ℕ
   pub next : MirrorView
@@ -69,7 +70,8 @@ pub record IsLeftRecordingShort (t : Moment) (left : List Disk) : Type 0 where
   pub old : (d : Disk) → slice_get t.mirror.disks on ≡ Some d → EndsInFirstSector (block_on d.content)
   pub new : EndsInFirstSector (super_write t.mirror.array call.member).bytes
 
--- Within `store_marks`, where its write is done. One that fails is a failure that awaits its record.
+-- What is left within `store_marks`, where its write is done. One that fails is a failure that awaits its
+-- record.
 pub record IsLeftStoring (t : Moment) (left : List Disk) : Type 0 where
   pub on : ℕ
   pub block : ℕ
@@ -78,22 +80,24 @@ pub record IsLeftStoring (t : Moment) (left : List Disk) : Type 0 where
   pub call : StoresMarkSector on block t.mirror next
   pub within : IsLeftWithin t next left
 
--- While the devices are lent to a rebuild of one member, which writes its data in chunks that it lacks: its contract says what the devices
--- are when they come back, and what a stop leaves until then.
+-- What is left while the devices are lent to a rebuild of one member, which writes its data in chunks that it
+-- lacks. The rebuild's contract says what the devices are when they come back, and what a stop leaves until
+-- then.
 pub record IsLeftFilling (t : Moment) (left : List Disk) : Type 0 where
   pub on : ℕ
   pub next : MirrorView
   pub call : Fills on t.mirror next
   pub within : IsLeftWithin t next left
 
--- While the bitmap and the log of a member are stored, before its superblock.
+-- What is left while the bitmap and the log of a member are stored, before its superblock.
 pub record IsLeftPreparing (t : Moment) (left : List Disk) : Type 0 where
   pub on : ℕ
   pub next : MirrorView
   pub call : Prepares on t.mirror next
   pub within : IsLeftWithin t next left
 
--- Within `enrol`, as long as the superblock of the member stands as before: its bitmap and its log are being stored.
+-- What is left within `enrol`, as long as the superblock of the member stands as before: its bitmap and its
+-- log are being stored.
 pub record IsLeftEnrolling (t : Moment) (left : List Disk) : Type 0 where
   pub on : ℕ
   pub copied : Bitmap
@@ -104,7 +108,8 @@ pub record IsLeftEnrolling (t : Moment) (left : List Disk) : Type 0 where
   pub within : IsLeftWithin t next left
   pub super : AtDevice on t.mirror.disks left (λ d e. block_on e.content ≡ block_on d.content)
 
--- Within the `re_add` after which t is, where the superblock of the device that it takes back reads as after the call.
+-- What is left within the `re_add` after which t is, where the superblock of the device that it takes back
+-- reads as after the call.
 pub record IsLeftTakingBack (t : Moment) (left : List Disk) : Type 0 where
   pub on : ℕ
   pub device : Disk
@@ -114,9 +119,9 @@ pub record IsLeftTakingBack (t : Moment) (left : List Disk) : Type 0 where
   pub within : MayAllBeLeft (before.disks ++ device ∷ []) t.mirror.disks (contents_of left)
   pub reads : AtDevice (length before.disks) t.mirror.disks left (λ now e. ReadsAs (block_on e.content) (block_on now.content))
 
--- Within the `enrol` after which t is, where the superblock of the member stands as after the call. Before the call an opening would have
--- read there what was kept of it (`every_run`, clause `read_as_kept`): of one whose superblock was spoiled, the new one may have stood there
--- from the first.
+-- What is left within the `enrol` after which t is, where the superblock of the member stands as after the
+-- call. Before the call an opening would have read there what was kept of it (`every_run`, clause
+-- `read_as_kept`): of one whose superblock was spoiled, the new one may have stood there from the first.
 pub record IsLeftEnrolled (t : Moment) (left : List Disk) : Type 0 where
   pub on : ℕ
   pub copied : Bitmap
@@ -136,7 +141,8 @@ pub record IsLeftEnrolled (t : Moment) (left : List Disk) : Type 0 where
 abbrev pub IsTargetCall : ℕ → MirrorView → MirrorView → Type 0
 IsTargetCall k old new = Admits k old new ⊎ (FailsToAdmit k old new ⊎ ((copied : Bitmap) × (Checkpoints k copied old new ⊎ FailsToCheckpoint k copied old new)))
 
--- Within such a call of a spare, or of a member that is recovering, where its superblock reads as before, or none is read.
+-- What is left within `admit` of a spare or `checkpoint` of a recovering member, done or failed, where its
+-- superblock reads as before, or none is read.
 pub record IsLeftTargeting (t : Moment) (left : List Disk) : Type 0 where
   pub on : ℕ
   pub next : MirrorView
@@ -145,7 +151,8 @@ pub record IsLeftTargeting (t : Moment) (left : List Disk) : Type 0 where
   pub within : IsLeftWithin t next left
   pub super : AtDevice on t.mirror.disks left (λ d e. ReadsAs (block_on e.content) (block_on d.content) ⊎ (super_in (block_on e.content) ≡ None))
 
--- Within the one after which t is, where it reads as after the call.
+-- What is left within the `admit` or `checkpoint` after which t is, where the member's superblock reads as
+-- after the call.
 pub record IsLeftTargeted (t : Moment) (left : List Disk) : Type 0 where
   pub on : ℕ
   pub before : MirrorView

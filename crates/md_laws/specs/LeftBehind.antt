@@ -20,15 +20,16 @@ use Rattle.md_array.specs.Worlds.{from_super, none_in_flight, stored_of, world_o
 use Rattle.md_laws.specs.Lives.{IsReopened, MirrorLifeWith}
 use Rattle.md_laws.specs.Runs.{HasRested, IsStart, Moment, RestsThenDoes, opened_as, then_as}
 
--- a run before each event of which some role has no member in sync, with the content before it and after it
+-- A run before each event of which some role has no member in sync, with the content before it and after it.
 abbrev pub DegradedRunWith : Moment → Content → List Event → Moment → Content → Type 0
 DegradedRunWith t a [] last b = HasRested t last × (b ≡ a)
 DegradedRunWith t a (e ∷ es) last b =
     (m : MirrorView) × (requests : ℕ → Option Request) × (c : Content) × (is_degraded t.mirror.array ≡ true) × RestsThenDoes t.mirror t.requests e m requests
     × Becomes (geometry_of t.mirror.array) e (world_of t.mirror t.requests) a c × DegradedRunWith (then_as t e m requests) c es last b
 
--- A life from any moment on, likewise: events, a stop when some role has no member in sync too, and an opening, events again, and
--- so on. The opening before gave the mirror opened, and the last one the mirror final.
+-- A life from any moment on, in which some role has no member in sync before each event and at each stop. It
+-- has events, a stop and an opening, events again, and so on. The opening before gave the mirror opened, and
+-- the last one the mirror final.
 abbrev pub DegradedLifeWith : MirrorView → Moment → Content → List Event → List (List Event) → MirrorView → Moment → Content → Type 0
 DegradedLifeWith opened t a es [] final last b = (final ≡ opened) × DegradedRunWith t a es last b
 DegradedLifeWith opened t a es (more ∷ rest) final last b =
@@ -48,10 +49,11 @@ pub record Fails (t : Moment) (k : ℕ) : Type 0 where
 abbrev pub failed_then : (t : Moment) (k : ℕ) → Fails t k → Moment
 failed_then t k f = then_as t f.event f.mirror f.requests
 
--- A member that was in sync fails at any moment of a mirror's life. As long as some role stays empty after that, its device, as
--- the failure left it, differs from the content only in chunks that are marked, in memory and on each member in sync; in sectors
--- that its log does not list. So it is where other members fail too, leave and come, where it leaves itself, and where the mirror is
--- stopped and opened again, from some of its devices.
+-- A member that was in sync fails at any moment of a mirror's life. As long as some role stays empty after
+-- that, its device, as the failure left it, differs from the content only in chunks that are marked, in
+-- memory and on each member in sync. That is said of sectors that its log does not list. Meanwhile other
+-- members may fail, leave and come, it may leave itself, and the mirror may be stopped and opened again, from
+-- some of its devices.
 abbrev pub LiesBehind : Type 0
 LiesBehind =
     (before : List Disk) (m : MirrorView) (a : Content) → IsStart before m → Holds (geometry_of m.array) a (world_of m none_in_flight)
@@ -72,8 +74,9 @@ pub record FailsWithLog (t : Moment) (k : ℕ) : Type 0 where
 abbrev pub log_failed_then : (t : Moment) (k : ℕ) → FailsWithLog t k → Moment
 log_failed_then t k f = then_as t (Event.WriteFails k MemberPart.Log) f.mirror f.requests
 
--- Then its log may be any. So it lies behind likewise in sectors that it did not list before, and that what counts of it does not list: that
--- has the data of its device, and a list with no less than its device had.
+-- A member that failed because its log could not be stored may have any log. Its device lies behind the
+-- content by what is marked, too, in sectors that neither the log of before nor the one that counts lists.
+-- This is said of a device that has the data of the member's device, and lists no less than that had.
 abbrev pub LogLiesBehind : Type 0
 LogLiesBehind =
     (before : List Disk) (m : MirrorView) (a : Content) → IsStart before m → Holds (geometry_of m.array) a (world_of m none_in_flight)
@@ -96,8 +99,9 @@ pub record IsLeftOut (opened : MirrorView) (t : Moment) (k : ℕ) (next : Mirror
   pub superblock : Superblock
   pub has : IsSuperOn device.content superblock
 
--- So it is of a member that was in sync at a stop, within a call or between two, at any moment of a mirror's life: from the next opening
--- on, as long as some role has no member in sync.
+-- A member that was in sync at a stop lies behind the content by what is marked, as the stop left it: from
+-- the next opening on, as long as some role has no member in sync. The stop may come within a call or between
+-- two, at any moment of a mirror's life.
 abbrev pub MissingLiesBehind : Type 0
 MissingLiesBehind =
     (before : List Disk) (m : MirrorView) (a : Content) → IsStart before m → Holds (geometry_of m.array) a (world_of m none_in_flight)
@@ -112,14 +116,15 @@ MissingLiesBehind =
 abbrev pub IsStill : MemberView → List ℕ → List ℕ → Type 0
 IsStill m left now = SameOutside (512 * from_super m.superblock.bitmap_offset) (512 * bitmap_sectors m.stored.chunks) left now
 
--- Where such a device is taken back, the event is told (`JoinsBehind`): it lies behind the content by what is marked, or its offset is 0, so
--- that it lacks every chunk. So the chunks that `missing` names suffice.
+-- Where a device that is still as it was left is taken back, the event is told (`JoinsBehind`): the device
+-- lies behind the content by what is marked, or its offset is 0, so that it lacks every chunk. The chunks
+-- that `missing` names suffice then.
 abbrev pub JoinsAsLeft : Geometry → MemberView → List ℕ → Moment → Content → Type 0
 JoinsAsLeft g m left t a =
     (j : ℕ) (device : Disk) (new : MirrorView) (r : ReAdds j device t.mirror new) → device.honest ≡ true → IsStill m left device.content
     → JoinsBehind g (re_add_event j device t.mirror new r) (world_of t.mirror t.requests) a
 
--- so one that failed, as the failure left it,
+-- A member that failed, as the failure left it, joins as one that lies behind by what is marked.
 abbrev pub FailedJoins : Type 0
 FailedJoins =
     (before : List Disk) (m : MirrorView) (a : Content) → IsStart before m → Holds (geometry_of m.array) a (world_of m none_in_flight)
@@ -129,7 +134,7 @@ FailedJoins =
     → DegradedLifeWith final (failed_then t k f) b more others newest last c
     → JoinsAsLeft (geometry_of m.array) o d.content last c
 
--- and one that was in sync at a stop, as the stop left it
+-- A member that was in sync at a stop, as the stop left it, joins as one that lies behind by what is marked.
 abbrev pub MissingJoins : Type 0
 MissingJoins =
     (before : List Disk) (m : MirrorView) (a : Content) → IsStart before m → Holds (geometry_of m.array) a (world_of m none_in_flight)
@@ -139,8 +144,8 @@ MissingJoins =
     → DegradedLifeWith next (opened_as next) c more others newest last d
     → JoinsAsLeft (geometry_of m.array) r.member r.device.content last d
 
--- So one whose log could not be stored, if the log that is read of it then has no less than it had before: that is asked, as a failed write may
--- have left any.
+-- A member whose log could not be stored joins as one that lies behind by what is marked, if the log that is
+-- read of it then has no less than it had before. That is asked, as a failed write may have left any log.
 abbrev pub LogJoins : Type 0
 LogJoins =
     (before : List Disk) (m : MirrorView) (a : Content) → IsStart before m → Holds (geometry_of m.array) a (world_of m none_in_flight)

@@ -82,7 +82,7 @@ pub record IsFurther (opened : MirrorView) (t : Moment) (m : MemberView) : Type 
   pub no_newer : m.superblock.events ≤ opened.array.shared.events
   pub away : t.away m.superblock.dev_number ≡ true
 
--- so each of these that was not left
+-- Each device that is not one of those that were left is a further one.
 abbrev pub AreFurther : (opened : MirrorView) (t : Moment) (before : List Disk) → AreFoundAgain t before → MirrorView → Type 0
 AreFurther opened t before devices next = (j : ℕ) (m : MemberView) → IsMember next.array j m → devices.from j ≡ None → IsFurther opened t m
 
@@ -115,15 +115,16 @@ MirrorLife m es [] final last = (final ≡ m) × MirrorRun (opened_as m) es last
 MirrorLife m es (more ∷ rest) final last =
     (t : Moment) × (next : MirrorView) × MirrorRun (opened_as m) es t × IsReopened m t next × MirrorLife next more rest final last
 
--- it holds of the array, the superblock of the last opening and the past since then, at each moment of each life
+-- A statement of the array, the superblock of the last opening and the past since then holds at each moment
+-- of each life.
 abbrev pub AtEachMoment : (Geometry → Super → History → Type 0) → Type 0
 AtEachMoment Holds =
     (before : List Disk) (m : MirrorView) → IsStart before m
     → (es : List Event) (rest : List (List Event)) (final : MirrorView) (last : Moment) → MirrorLife m es rest final last
     → Holds (geometry_of m.array) (super_of final.array.shared) (history_of last)
 
--- the same with the array's content. An opening may change it where each member that is found in sync has the chunk's mark,
--- and nowhere else.
+-- A mirror's life with the array's content. An opening may change the content where each member that is found
+-- in sync has the chunk's mark, and nowhere else.
 abbrev pub MirrorLifeWith : MirrorView → Content → List Event → List (List Event) → MirrorView → Moment → Content → Type 0
 MirrorLifeWith m a es [] final last b = (final ≡ m) × MirrorRunWith (opened_as m) a es last b
 MirrorLifeWith m a es (more ∷ rest) final last b =
@@ -131,7 +132,8 @@ MirrorLifeWith m a es (more ∷ rest) final last b =
     × MirrorRunWith (opened_as m) a es t c × IsReopened m t next × BecomesAtOpening (geometry_of next.array) (world_of next none_in_flight) c d
     × MirrorLifeWith next d more rest final last b
 
--- at each enrolment of a life it is told, likewise
+-- At each enrolment of a life it is told of the content that the new member holds it in the chunks that it
+-- did not lack.
 abbrev pub MirrorLifeTellsEnrolments : (m : MirrorView) (a : Content) (es : List Event) (rest : List (List Event)) (final : MirrorView) (last : Moment)
     → MirrorLife m es rest final last → Type 0
 MirrorLifeTellsEnrolments m a es [] final last life = MirrorRunTellsEnrolments (opened_as m) a es last life.1
@@ -148,7 +150,7 @@ ContentGoesAlongTold =
     → (es : List Event) (rest : List (List Event)) (final : MirrorView) (last : Moment) (life : MirrorLife m es rest final last)
     → MirrorLifeTellsEnrolments m a es rest final last life → (b : Content) × MirrorLifeWith m a es rest final last b
 
--- And they hold it wherever it went.
+-- The members in sync hold the content at each moment of a life that it goes along.
 abbrev pub KeepsContent : Type 0
 KeepsContent =
     (before : List Disk) (m : MirrorView) (a : Content) → IsStart before m → Holds (geometry_of m.array) a (world_of m none_in_flight)

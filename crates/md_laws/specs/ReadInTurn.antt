@@ -16,7 +16,8 @@ ReadInTurn previous old before (e ∷ es) Then =
     (rested mid : MirrorView) × (between : Requests) × Rests old rested × IsInOrder previous rested.array e × Did rested before e mid between
     × (AreHonest rested.disks → LeftWhole rested e mid → Does rested before e mid between) × ReadInTurn (Some e) mid between es Then
 
--- they lead to this mirror, with these requests
+-- These events lead from the one mirror to the other, with their requests, and devices may be read between
+-- them.
 abbrev pub LeadsReading : Option Event → MirrorView → Requests → List Event → MirrorView → Requests → Type 0
 LeadsReading previous old before es new after = ReadInTurn previous old before es (λ m r. (m ≡ new) × (r ≡ after))
 

@@ -38,12 +38,13 @@ SaysNoMore t left k =
 abbrev pub KeepsOffset : MirrorView → ℕ → Type 0
 KeepsOffset m k = (own : Super) → ((world_of m none_in_flight).stored k).super ≡ Some own → own.offset ≤ (world_of m none_in_flight).offset k
 
--- Of such a member it is so after the opening.
+-- Right after an opening that kept the offset of a member, its device says no more than the mirror keeps of
+-- it.
 abbrev pub SaysNoMoreWhenOpened : Type 0
 SaysNoMoreWhenOpened = (before : List Disk) (m : MirrorView) → IsStart before m → (k : ℕ) → KeepsOffset m k → SaysNoMore (opened_as m) m.disks k
 
--- Where they are all kept, the offset that is told by what any stop leaves until the next opening is no greater, unless the member is
--- spoiled.
+-- Where an opening kept every offset, the offset that is told by what any stop leaves until the next opening
+-- is no greater than the one in memory, unless the member is spoiled.
 abbrev pub OffsetsAreKept : Type 0
 OffsetsAreKept =
     (before : List Disk) (m : MirrorView) → IsStart before m → ((k : ℕ) → KeepsOffset m k)
@@ -52,8 +53,9 @@ OffsetsAreKept =
     → (own : Super) → (stored_on t.mirror.array (slice_get t.mirror.array.members k) (slice_get left k)).super ≡ Some own
     → own.offset ≤ (world_of t.mirror t.requests).offset k
 
--- And the device lists what the list in memory has, where the superblock can be read that such a stop left of a member that is rebuilt. Its log
--- has to be known (`Moment`), and the stop not to have come while it was being stored.
+-- Where an opening kept every offset, a member that is rebuilt says no more at a stop than the mirror kept of
+-- it, if the superblock can be read that the stop left. Its log has to be known (`Moment`), and the stop not
+-- to have come while the log was being stored.
 abbrev pub SaysNoMoreWhereKnown : Type 0
 SaysNoMoreWhereKnown =
     (before : List Disk) (m : MirrorView) → IsStart before m → ((k : ℕ) → KeepsOffset m k)
@@ -61,22 +63,23 @@ SaysNoMoreWhereKnown =
     → (k : ℕ) → is_target ((world_of t.mirror t.requests).state k) ≡ true → t.spoiled k ≡ false → t.log_unknown k ≡ false → (IsStoring t left is k → ⊥)
     → (own : Super) → (stored_on t.mirror.array (slice_get t.mirror.array.members k) (slice_get left k)).super ≡ Some own → SaysNoMore t left k
 
--- Of one whose list in memory is empty it is so in any case.
+-- A member whose list in memory is empty says no more at a stop, whatever its log.
 abbrev pub SaysNoMoreWithoutList : Type 0
 SaysNoMoreWithoutList =
     (before : List Disk) (m : MirrorView) → IsStart before m → ((k : ℕ) → KeepsOffset m k)
     → (es : List Event) (t : Moment) → MirrorRun (opened_as m) es t → (left : List Disk) → IsLeft t left
     → (k : ℕ) → t.spoiled k ≡ false → ((s : ℕ) → (world_of t.mirror t.requests).bad k s ≡ false) → SaysNoMore t left k
 
--- So what such a device says is known, from an opening that took no offset as 0 on.
+-- What a stop left of the device of a member that is rebuilt is known to say no more: the opening kept every
+-- offset, the member's log is known, and the stop did not come while it was being stored.
 pub record IsKnown (opened : MirrorView) (t : Moment) (left : List Disk) (is : IsLeft t left) (k : ℕ) : Type 0 where
   pub offsets : (j : ℕ) → KeepsOffset opened j
   pub rebuilt : is_target ((world_of t.mirror t.requests).state k) ≡ true
   pub log : t.log_unknown k ≡ false
   pub beside : IsStoring t left is k → ⊥
 
--- A recovering member of the next mirror is such a device that was left, and it is known or told that it says no more; or it is told of what it
--- has, as of one that was left out before.
+-- A recovering member of the next mirror has a device that was left, and it is known or told that this says
+-- no more than the mirror kept of it. Or it is told what the device has, as of one that was left out before.
 abbrev pub MirrorOpensBehind : (opened : MirrorView) (t : Moment) (next : MirrorView) → IsReopened opened t next → Content → Type 0
 MirrorOpensBehind opened t next again b =
     (j : ℕ) → is_recovering ((world_of next none_in_flight).state j) ≡ true
@@ -84,7 +87,8 @@ MirrorOpensBehind opened t next again b =
     ⊎ IsBehind (geometry_of next.array) b (recovered (geometry_of next.array) (world_of next none_in_flight) j) (world_of next none_in_flight)
 
 -- ---- lives
--- So it is told at each `re_add` and at each opening of a life.
+-- At each `re_add` of a life it is told what the device has, and at each opening what the members have that
+-- recover then.
 abbrev pub MirrorLifeJoins : (m : MirrorView) (a : Content) (es : List Event) (rest : List (List Event)) (final : MirrorView) (last : Moment) (b : Content)
     → MirrorLifeWith m a es rest final last b → Type 0
 MirrorLifeJoins m a es [] final last b life = MirrorRunJoins (opened_as m) a es last b life.1
@@ -92,8 +96,9 @@ MirrorLifeJoins m a es (more ∷ rest) final last b life =
     MirrorRunJoins (opened_as m) a es life.0 life.2 life.4 × MirrorOpensBehind m life.0 life.1 life.5 life.3
     × MirrorLifeJoins life.1 life.3 more rest final last b life.7
 
--- Then it holds at each moment: a recovering member differs from the content, on sectors that it does not list, only in chunks that are
--- marked, or that its offset has not passed.
+-- At each moment of a life that is told what its recovering members have, a recovering member differs from
+-- the content, on sectors that it does not list, only in chunks that are marked, or that its offset has not
+-- passed.
 abbrev pub KeepsRecovering : Type 0
 KeepsRecovering =
     (before : List Disk) (m : MirrorView) (a : Content) → IsStart before m → Holds (geometry_of m.array) a (world_of m none_in_flight)
@@ -102,7 +107,8 @@ KeepsRecovering =
     → MirrorLifeJoins m a es rest final last b life
     → RecoveringHolds (geometry_of m.array) b (world_of last.mirror last.requests)
 
--- The same premises of a run and a life of which no content is known yet: whatever it has become by then.
+-- At each `re_add` of a run of which no content is known yet it is told what the device has, whatever the
+-- content has become by then.
 abbrev pub MirrorRunTells : (t : Moment) (a : Content) (es : List Event) (last : Moment) → MirrorRun t es last → Type 0
 MirrorRunTells t a [] last run = Unit {0}
 MirrorRunTells t a (e ∷ es) last run =
@@ -117,8 +123,9 @@ MirrorLifeTells m a es (more ∷ rest) final last life =
     × ((b c : Content) → MirrorRunWith (opened_as m) a es life.0 b → BecomesAtOpening (geometry_of life.1.array) (world_of life.1 none_in_flight) b c
     → MirrorOpensBehind m life.0 life.1 life.3 c × MirrorLifeTells life.1 c more rest final last life.4)
 
--- A content that the members in sync hold at the first opening, and those that recover where they lack nothing, goes along every such life.
--- At enrolments nothing is asked.
+-- A content that the members in sync hold at the first opening, and those that recover where they lack
+-- nothing, goes along every life that is told what its recovering members have. At enrolments nothing is
+-- asked.
 abbrev pub ContentGoesAlong : Type 0
 ContentGoesAlong =
     (before : List Disk) (m : MirrorView) (a : Content) → IsStart before m → Holds (geometry_of m.array) a (world_of m none_in_flight)

@@ -12,12 +12,12 @@ use Rattle.md_laws.specs.Left.{contents_of}
 use Rattle.md_laws.specs.Lives.{AreFoundAgain}
 use Rattle.md_laws.specs.Runs.{IsStart, MirrorRun, Moment, history_of, opened_as}
 
--- device j of these, as this array reads it, unless it is one of those that were left
+-- Device j of those that are opened, as this array reads it, unless it is one of those that were left.
 abbrev pub further_on : (t : Moment) (before : List Disk) → AreFoundAgain t before → ArrayView → ℕ → Stored
 further_on t before devices next j =
     unwrap_or (option_map (λ (_ : ℕ). nothing_stored) (devices.from j)) ((world_on before next none_in_flight).stored j)
 
--- the same after the places of so many members
+-- The devices that were not left, as this array reads them, at the places after those of so many members.
 abbrev pub returned : (t : Moment) (before : List Disk) → AreFoundAgain t before → ArrayView → ℕ → ℕ → Stored
 returned t before devices next members k = further_on t before devices next (k - members)
 

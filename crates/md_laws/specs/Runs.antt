@@ -36,7 +36,7 @@ log_unknown_after (Event.Add number left) w before = put w.members false before
 log_unknown_after (Event.ReAdd own device left) w before = put w.members false before
 log_unknown_after e w before = before
 
--- the same of the mirror's world
+-- What the model's laws speak of at a moment: the mirror's world and its past.
 abbrev pub history_of : Moment → History
 history_of t = record { now = world_of t.mirror t.requests; failed_at = t.failed_at; tried = t.tried; away = t.away; spoiled = t.spoiled }
 
@@ -66,13 +66,13 @@ pub record RestsThenDoes (old : MirrorView) (before : ℕ → Option Request) (e
   pub rests : Rests old mid
   pub does : Does mid before e new after
 
--- these events, one after another, lead from the one moment to the other
+-- These events, one after another, lead from the one moment to the other.
 abbrev pub MirrorRun : Moment → List Event → Moment → Type 0
 MirrorRun t [] last = HasRested t last
 MirrorRun t (e ∷ es) last =
     (m : MirrorView) × (requests : ℕ → Option Request) × RestsThenDoes t.mirror t.requests e m requests × MirrorRun (then_as t e m requests) es last
 
--- the same with the array's content, before them and after them
+-- A run with the array's content, before its events and after them.
 abbrev pub MirrorRunWith : Moment → Content → List Event → Moment → Content → Type 0
 MirrorRunWith t a [] last b = HasRested t last × (b ≡ a)
 MirrorRunWith t a (e ∷ es) last b =

@@ -15,28 +15,31 @@ use Rattle.md_array.specs.Worlds.{AreHonest}
 use Rattle.md_laws.specs.Left.{IsTargetCall}
 use Rattle.md_laws.specs.StopsWithin.{MayAllBeLeft}
 
--- the write of a superblock might leave this that failed
+-- A write of the superblock that failed might leave this.
 pub record IsLeftSpoiled (k : ℕ) (old : MirrorView) (left : List (List ℕ)) : Type 0 where
   pub other : MirrorView
   pub spoils : SpoilsTarget k old other
   pub contents : map (λ d. d.content) other.disks ≡ left
 
--- So it is within `admit`, `checkpoint` and the record of a member that is rebuilt, whatever comes of the write: the stop is one after the
--- event `SpoilTarget`, and the next opening has to leave the device out. (Where the superblock reads as before the call or as after it, or
--- none is read, it may be there: `IsLeft`.)
+-- What a stop leaves within `admit`, `checkpoint` or the record of a member that is rebuilt, a failed write
+-- of its superblock might leave, whatever comes of the write. The stop is one after the event `SpoilTarget`,
+-- and the next opening has to leave the device out. (Where the superblock reads as before the call or as
+-- after it, or none is read, it may be there: `IsLeft`.)
 abbrev pub StopsAsSpoiled : Type 0
 StopsAsSpoiled =
     (k : ℕ) (m : MemberView) (old new : MirrorView) (left : List (List ℕ)) → AreHonest old.disks → IsMember old.array k m → is_rebuilt m.state ≡ true
     → IsTargetCall k old new ⊎ (Records k old new ⊎ LeavesUnrecorded k old new) → MayAllBeLeft old.disks new.disks left → IsLeftSpoiled k old left
 
--- Within `enrol` it is one after a preparing, or after that and such a write.
+-- A stop within an `enrol` that is done is one after a preparing, or after that and a failed write of the
+-- superblock.
 abbrev pub StopsAtEnrolAsSpoiled : Type 0
 StopsAtEnrolAsSpoiled =
     (k : ℕ) (copied orphans : Bitmap) (old new : MirrorView) (left : List (List ℕ)) → IsConsistent old → AreHonest old.disks → MayEnrol k copied orphans old
     → Enrols k copied orphans old new → MayAllBeLeft old.disks new.disks left
     → (mid : MirrorView) × Prepares k old mid × ((map (λ d. d.content) mid.disks ≡ left) ⊎ IsLeftSpoiled k mid left)
 
--- So it is within one of which that write fails.
+-- A stop within an `enrol` of which the write of the superblock fails is one after a preparing, or after that
+-- and such a write.
 abbrev pub StopsAtFailedEnrolAsSpoiled : Type 0
 StopsAtFailedEnrolAsSpoiled =
     (k : ℕ) (copied orphans : Bitmap) (old new : MirrorView) (left : List (List ℕ)) → IsConsistent old → AreHonest old.disks → MayEnrol k copied orphans old

@@ -19,18 +19,20 @@ use Rattle.md_laws.specs.Runs.{IsStart, MirrorRun, Moment}
 use Rattle.md_laws.specs.StopsReadAs.{EndsInFirstSector}
 use Rattle.md_laws.specs.StopsWithin.{DiffersInFirst, MayAllBeLeft, MayBeLeft}
 
--- It holds at each moment of each life.
+-- A statement holds at each moment of each life.
 abbrev pub AtMoments : (Moment → Type 0) → Type 0
 AtMoments Holds =
     (before : List Disk) (m : MirrorView) → IsStart before m
     → (es : List Event) (rest : List (List Event)) (final : MirrorView) (t : Moment) → MirrorLife m es rest final t → Holds t
 
 -- ---- where the stop came
--- The superblock of member k that was being stored was left as it was, as it is written, or as one that can't be decoded;
+-- The superblock of member k that was being stored was left as it was, as it is written, or as one that can't
+-- be decoded.
 abbrev pub LeavesSuperWhole : ℕ → MirrorView → List Disk → Type 0
 LeavesSuperWhole k old left = (m : MemberView) → IsMember old.array k m → AtDevice k old.disks left (IsOldNewOrNone (super_write old.array m).bytes)
 
--- or both end within the first sector, the one that stands there and the one that is written, as those of at most 128 roles do.
+-- The superblock that stands on member k and the one that is written both end within the first sector, as
+-- those of at most 128 roles do.
 pub record AreSupersShort (k : ℕ) (old : MirrorView) : Type 0 where
   pub stands : (d : Disk) → slice_get old.disks k ≡ Some d → EndsInFirstSector (block_on d.content)
   pub comes : (m : MemberView) → IsMember old.array k m → EndsInFirstSector (super_write old.array m).bytes
@@ -66,8 +68,9 @@ StopsIn [] previous old before Then t left = ⊥
 StopsIn (e ∷ es) previous old before Then t left =
     (MayAllBeLeft old.disks t.0.disks (contents_of left) × IsLeftWhole e old t.0 left) ⊎ StopsIn es (Some e) t.0 t.1 Then t.5 left
 
--- What is asked of the events until then: before the stop, what is asked of each event of a call (`AllLeftWhole`); and of a log that was being
--- stored, that it was read without a shift. Of those behind the stop nothing is.
+-- What is asked of the events up to a stop. Before the stop it is what is asked of each event of a call
+-- (`AllLeftWhole`). Of a log that was being stored it is that it was read without a shift. Of events after
+-- the stop nothing is asked.
 abbrev pub IsUnshifted : Event → MirrorView → Type 0
 IsUnshifted (Event.StoreLog k listed) old = HasNoShift k old
 IsUnshifted e old = Unit {0}
@@ -87,21 +90,23 @@ abbrev pub BeginsWhole : Event → Type 0
 BeginsWhole (Event.Begin n r) = HasWholeSectors r
 BeginsWhole e = Unit {0}
 
--- these events write the request's bytes
+-- These events write the request's bytes.
 abbrev pub IsWrittenBy : ℕ → List Event → Type 0
 IsWrittenBy n [] = ⊥
 IsWrittenBy n (Event.WriteMember m k ∷ es) = (m ≡ n) ⊎ IsWrittenBy n es
 IsWrittenBy n (Event.WriteFails k (MemberPart.RequestData m) ∷ es) = (m ≡ n) ⊎ IsWrittenBy n es
 IsWrittenBy n (e ∷ es) = IsWrittenBy n es
 
--- So is each that is in flight and whose bytes they write, and each that they begin, as `begin` asks of its caller.
+-- Each request that is in flight and whose bytes these events write is of whole sectors. Each request that
+-- they begin is, too, as `begin` asks of its caller.
 pub record AreWhole (es : List Event) (requests : Requests) : Type 0 where
   pub in_flight : (n : ℕ) (r : Request) → IsWrittenBy n es → requests n ≡ Some r → HasWholeSectors r
   pub begun : AllOf BeginsWhole es
 
 -- ---- what it leaves
--- It is a stop of a run: the first of these events lead from this moment to one from which on a stop leaves that. So the laws over lives
--- speak of it. (Where a write failed in the last of them, it may have left other bytes in its range than at its end.)
+-- What is left is a stop of a run: the first of these events lead from this moment to one at which a stop
+-- leaves it. The laws over lives speak of such a stop. (Where a write failed in the last of them, it may have
+-- left other bytes in its range than at its end.)
 pub record IsStopOf (es : List Event) (t : Moment) (left : List Disk) : Type 0 where
   pub done : List Event
   pub rest : List Event
@@ -110,7 +115,7 @@ pub record IsStopOf (es : List Event) (t : Moment) (left : List Disk) : Type 0 w
   pub run : MirrorRun t done at
   pub is_left : IsLeft at left
 
--- Wherever a life has come to, a call did these events.
+-- At any moment of a life a call does these events, and a stop comes within one of them.
 abbrev pub StopsAtSteps : Type 0
 StopsAtSteps =
     AtMoments (λ t.
@@ -125,7 +130,8 @@ IsLeftHalting (Event.WriteFails k MemberPart.Superblock) old left = LeavesSuperW
 IsLeftHalting (Event.WriteFails k (MemberPart.RequestData n)) old left = Unit {0}
 IsLeftHalting e old left = contents_of left ≡ contents_of old.disks
 
--- Or it did these, and then a write failed that halted the mirror: the stop came after them, before that write or within it.
+-- At any moment of a life a call does these events, and then a write fails that halts the mirror. The stop
+-- comes after the events, before that write or within it.
 abbrev pub StopsAtHalts : Type 0
 StopsAtHalts =
     AtMoments (λ t.
@@ -135,8 +141,8 @@ StopsAtHalts =
     → (left : List Disk) → MayAllBeLeft mid.disks new.disks (contents_of left) → IsLeftHalting failing mid left → IsStopOf es t left))
 
 -- ---- each stop of which a device tells
--- The devices stand where they stood, and each tells of the stops: so at the steps of a write, of a stop and of a resync. Of a copy the write of
--- a run of sectors tells.
+-- The devices stand where they stood, and each tells of the stops, at the steps of a write, of a stop and of
+-- a resync. Of a copy the write of a run of sectors tells.
 abbrev pub IsToldOf : Event → Type 0
 IsToldOf (Event.Copy from k s) = ⊥
 IsToldOf (Event.Remove k) = ⊥

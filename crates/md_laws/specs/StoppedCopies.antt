@@ -14,7 +14,7 @@ abbrev pub copies_at : ℕ → ℕ → List ℕ → List Event
 copies_at from k [] = []
 copies_at from k (s ∷ ss) = Event.Copy from k s ∷ copies_at from k ss
 
--- such a mirror has this on its devices, after events of some of the sectors
+-- A mirror of which some of the sectors were copied, by events, has this on its devices.
 pub record IsCopiedInPart (k : ℕ) (old : MirrorView) (left : List (List ℕ)) : Type 0 where
   pub from : ℕ
   pub sectors : List ℕ

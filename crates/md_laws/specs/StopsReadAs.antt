@@ -29,8 +29,8 @@ pub record ReadsAs (one other : List ℕ) : Type 0 where
   pub map : number_at 4 8 one ≡ number_at 4 8 other
   pub read : (v : Superblock) → IsSuper one v → NoFault one → IsSuper other v × NoFault other
 
--- A stop at any moment of `re_add` leaves each device of the array as it was. The superblock of the one that is taken back, which
--- stands behind them, reads as before the call or as after it.
+-- A stop at any moment of `re_add` leaves each device of the array as it was. The superblock of the one that
+-- is taken back, which stands after them, reads as before the call or as after it.
 abbrev pub ReadsAtReAdd : Type 0
 ReadsAtReAdd =
     (k : ℕ) (device : Disk) (old new : MirrorView) (left : List (List ℕ)) → AreHonest old.disks → device.honest ≡ true → (r : ReAdds k device old new)
@@ -38,8 +38,9 @@ ReadsAtReAdd =
     → MayAllBeLeft (old.disks ++ device ∷ []) new.disks left
     → IsLeftBut (length old.disks) (λ was c. ReadsAs (block_on c) (block_on was) ⊎ ReadsAs (block_on c) (block_on r.recorded.now.content)) (old.disks ++ device ∷ []) left
 
--- One at any moment of `add` leaves all as it is after the call; or each device of the array as it was, and the new one, which
--- stands behind them, with the wipe of its old superblock cut short, or with zeros in place of one.
+-- A stop at any moment of `add` leaves all as it is after the call; or each device of the array as it was,
+-- and the new one, which stands after them, with the wipe of its old superblock cut short, or with zeros in
+-- place of one.
 abbrev pub ReadsAtAdd : Type 0
 ReadsAtAdd =
     (k : ℕ) (device : Disk) (old new : MirrorView) (left : List (List ℕ)) → device.honest ≡ true → (r : Adds k device old new)

@@ -29,16 +29,17 @@ use Rattle.md_array.specs.ReAdding.{FailsToReAdd, ReAdds, RefusesReAdd}
 use Rattle.md_array.specs.Recording.{super_write, write_of}
 use Rattle.md_array.specs.Worlds.{AreHonest, from_super}
 
--- a stop since the device was d, and until it was e, might have left this
+-- A stop since the device was d, and until it was e, might have left this.
 abbrev pub MayBeLeft : Disk → Disk → List ℕ → Type 0
 MayBeLeft d e left = (left ≡ d.content) ⊎ ((i : ℕ) × (slice_get (drop (length d.stops) e.stops) i ≡ Some left))
 
--- so of each device. Nothing is said of the order between calls on two of them.
+-- Each device is as a stop between the two might have left it. Nothing is said of the order between calls on
+-- two of them.
 pub record MayAllBeLeft (before after : List Disk) (left : List (List ℕ)) : Type 0 where
   pub as_many : length left ≡ length before
   pub each : (k : ℕ) (d e : Disk) (c : List ℕ) → slice_get before k ≡ Some d → slice_get after k ≡ Some e → slice_get left k ≡ Some c → MayBeLeft d e c
 
--- each device but k is as it was, and of k this holds
+-- Each device but k is as it was, and of k this holds.
 pub record IsLeftBut (k : ℕ) (P : List ℕ → List ℕ → Type 0) (before : List Disk) (left : List (List ℕ)) : Type 0 where
   pub as_many : length left ≡ length before
   pub others : (j : ℕ) → j ≢ k → (d : Disk) (c : List ℕ) → slice_get before j ≡ Some d → slice_get left j ≡ Some c → c ≡ d.content
@@ -49,21 +50,23 @@ abbrev pub StopsInMemory : Type 0
 StopsInMemory =
     (disks : List Disk) (left : List (List ℕ)) → MayAllBeLeft disks disks left → left ≡ map (λ d. d.content) disks
 
--- So does one within `remove`, the device that is handed back among them: it stands where it stood before.
+-- A stop within `remove` leaves each device as it was. The device that is handed back counts as one that
+-- stands where it stood before.
 abbrev pub StopsAtRemoval : Type 0
 StopsAtRemoval =
     (k : ℕ) (disk : Disk) (old new : MirrorView) (left : List (List ℕ)) → Removes k disk old new → MayAllBeLeft old.disks (insert new.disks k disk) left
     → left ≡ map (λ d. d.content) old.disks
 
--- A stop at any moment of `re_add` leaves each device of the array as it was, and the one that is taken back, which stands behind
--- them, with each sector of its superblock as it was or as written: one that reads it leaves it as it was.
+-- A stop at any moment of `re_add` leaves each device of the array as it was. The one that is taken back,
+-- which stands after them, it leaves with each sector of its superblock as it was or as written.
 abbrev pub StopsAtReAdd : Type 0
 StopsAtReAdd =
     (k : ℕ) (device : Disk) (old new : MirrorView) (left : List (List ℕ)) → AreHonest old.disks → device.honest ≡ true → (r : ReAdds k device old new)
     → MayAllBeLeft (old.disks ++ device ∷ []) new.disks left
     → IsLeftBut (length old.disks) (λ was c. IsCutShort was (super_write new.array r.recorded.takes.member ∷ []) c) (old.disks ++ device ∷ []) left
 
--- Where that write fails, a stop leaves this device as it was, or with any bytes in the superblock's range;
+-- A stop within a `re_add` of which the write fails leaves the device that is taken back as it was, or with
+-- any bytes in the superblock's range.
 abbrev pub StopsAtFailedReAdd : Type 0
 StopsAtFailedReAdd =
     (device given : Disk) (old new : MirrorView) (left : List (List ℕ)) → device.honest ≡ true → (f : FailsToReAdd device given old new)
@@ -71,99 +74,104 @@ StopsAtFailedReAdd =
     → IsLeftBut (length old.disks) (IsAnyIn (write_of (joined_shared old.array f.fails.member.superblock.dev_number (own_role f.info.superblock)) f.fails.member))
     (old.disks ++ device ∷ []) left
 
--- where it is refused for any other reason, each device as it was.
+-- A stop within a `re_add` that is refused for any other reason leaves each device as it was.
 abbrev pub StopsAtRefusedReAdd : Type 0
 StopsAtRefusedReAdd =
     (device given : Disk) (old new : MirrorView) (left : List (List ℕ)) (fault : ReAddFault) → fault ≢ re_add_fault.WriteFault → device.honest ≡ true
     → RefusesReAdd device given old new fault → MayAllBeLeft (old.disks ++ device ∷ []) (new.disks ++ given ∷ []) left
     → IsLeftBut (length old.disks) (λ was c. c ≡ was) (old.disks ++ device ∷ []) left
 
--- A stop at any moment of `add` leaves each device of the array as it was, and the new one, which stands behind them, as it was, as
--- laid out, or half laid out.
+-- A stop at any moment of `add` leaves each device of the array as it was. The new one, which stands after
+-- them, it leaves as it was, as laid out, or half laid out.
 abbrev pub StopsAtAdd : Type 0
 StopsAtAdd =
     (k : ℕ) (device : Disk) (old new : MirrorView) (left : List (List ℕ)) → device.honest ≡ true → (r : Adds k device old new)
     → MayAllBeLeft (old.disks ++ device ∷ []) new.disks left
     → IsLeftBut (length old.disks) (λ was c. IsHalfLaidOut was r.comes.laid c) (old.disks ++ device ∷ []) left
 
--- the first of these writes were done, and the next of them was cut short; or all of them were done, and then one failed
+-- The first of these writes were done, and the next of them was cut short. Or all of them were done, and then
+-- one failed.
 abbrev pub IsLeftFailing : List Write → Write → List ℕ → List ℕ → Type 0
 IsLeftFailing done failed old left = IsCutShort old done left ⊎ IsAnyIn failed (content_after old done) left
 
--- Where one of the writes that lay it out fails, a stop leaves what those before it leave, or any bytes in its range.
+-- A stop within an `add` of which a write fails leaves of the new device what the writes before it leave, or
+-- any bytes in its range.
 abbrev pub StopsAtFailedAdd : Type 0
 StopsAtFailedAdd =
     (device given : Disk) (old new : MirrorView) (left : List (List ℕ)) → device.honest ≡ true → (f : FailsToAdd device given old new)
     → MayAllBeLeft (old.disks ++ device ∷ []) (new.disks ++ given ∷ []) left
     → IsLeftBut (length old.disks) (IsLeftFailing f.fails.writes.done f.fails.writes.tried) (old.disks ++ device ∷ []) left
 
--- Where it is refused for any other reason, each device is left as it was.
+-- A stop within an `add` that is refused for any other reason leaves each device as it was.
 abbrev pub StopsAtRefusedAdd : Type 0
 StopsAtRefusedAdd =
     (device given : Disk) (old new : MirrorView) (left : List (List ℕ)) (fault : AddFault) → fault ≢ WriteFault → RefusesAdd device given old new fault
     → MayAllBeLeft (old.disks ++ device ∷ []) (new.disks ++ given ∷ []) left → left ≡ map (λ d. d.content) (old.disks ++ device ∷ [])
 
--- A stop at any moment of a step that writes to device k leaves every other as it was, and k with each sector of the write as it
--- was or as written;
+-- A stop at any moment of a step that writes to device k leaves every other as it was, and k with each sector
+-- of the write as it was or as written.
 abbrev pub StopsAtWrite : Type 0
 StopsAtWrite =
     (k : ℕ) (w : Write) (before after : List Disk) (left : List (List ℕ)) → AreHonest before → IsWritten k w before after → MayAllBeLeft before after left
     → IsLeftBut k (λ old c. IsCutShort old (w ∷ []) c) before left
 
--- and where that is one sector, it is done or is not;
+-- Where a step writes one sector to device k, a stop within it leaves that sector as it was or as written.
 abbrev pub StopsAtSector : Type 0
 StopsAtSector =
     (k : ℕ) (w : Write) (before after : List Disk) (left : List (List ℕ)) → length w.bytes ≡ 512 → AreHonest before → IsWritten k w before after → MayAllBeLeft before after left
     → IsLeftBut k (λ old c. (c ≡ old) ⊎ (c ≡ written old w.sector w.bytes)) before left
 
--- of one whose write fails, with any bytes in its range.
+-- A stop within a step whose write to device k fails leaves every other as it was, and k with any bytes in
+-- the write's range.
 abbrev pub StopsAtFailure : Type 0
 StopsAtFailure =
     (k : ℕ) (w : Write) (before after : List Disk) (left : List (List ℕ)) → AreHonest before → IsFailed k w before after → MayAllBeLeft before after left
     → IsLeftBut k (IsAnyIn w) before left
 
--- What a stop leaves within a write that fails, that write might leave at its end. So it is a stop after the event, over other
--- bytes.
+-- What a stop leaves within a write that fails, that write might leave at its end. It is a stop after the
+-- event, over other bytes.
 abbrev pub StopsAsFailed : Type 0
 StopsAsFailed =
     (k : ℕ) (w : Write) (old new : MirrorView) (left : List (List ℕ)) → AreHonest old.disks → FailsWriting k w old new → MayAllBeLeft old.disks new.disks left
     → (other : MirrorView) × FailsWriting k w old other × (map (λ d. d.content) other.disks ≡ left)
 
--- So it is within a filling: another one might leave that at its end.
+-- What a stop leaves within a filling, another filling might leave at its end.
 abbrev pub StopsAsFilled : Type 0
 StopsAsFilled =
     (k : ℕ) (old new : MirrorView) (left : List (List ℕ)) → AreHonest old.disks → Fills k old new → MayAllBeLeft old.disks new.disks left
     → (other : MirrorView) × Fills k old other × (map (λ d. d.content) other.disks ≡ left)
 
--- and within a preparing
+-- What a stop leaves within a preparing, another preparing might leave at its end.
 abbrev pub StopsAsPrepared : Type 0
 StopsAsPrepared =
     (k : ℕ) (old new : MirrorView) (left : List (List ℕ)) → AreHonest old.disks → Prepares k old new → MayAllBeLeft old.disks new.disks left
     → (other : MirrorView) × Prepares k old other × (map (λ d. d.content) other.disks ≡ left)
 
--- A stop at any moment of `enrol` leaves every other device as it was, and that of the member with the first of its writes done and the
--- next one cut short;
+-- A stop at any moment of `enrol` leaves every other device as it was, and that of the member with the first
+-- of its writes done and the next one cut short.
 abbrev pub StopsAtEnrol : Type 0
 StopsAtEnrol =
     (k : ℕ) (copied orphans : Bitmap) (old new : MirrorView) (left : List (List ℕ)) → AreHonest old.disks → (r : Enrols k copied orphans old new)
     → MayAllBeLeft old.disks new.disks left → IsLeftBut k (λ was c. IsCutShort was r.writes c) old.disks left
 
--- where one of them fails, with those before it done, or cut short, or with any bytes in its range.
+-- A stop within an `enrol` of which a write fails leaves every other device as it was. It leaves that of the
+-- member with the writes before the failed one done, or cut short, or with any bytes in the failed one's
+-- range.
 abbrev pub StopsAtFailedEnrol : Type 0
 StopsAtFailedEnrol =
     (k : ℕ) (copied orphans : Bitmap) (old new : MirrorView) (left : List (List ℕ)) → AreHonest old.disks → FailsToEnrol k copied orphans old new
     → MayAllBeLeft old.disks new.disks left
     → IsLeftBut k (λ was c. (done : List Write) × (tried : Write) × IsLeftFailing done tried was c) old.disks left
 
--- What it leaves within one that is done, are devices of which k alone was written, in the write's range: as of a torn write of
--- data.
+-- What a stop leaves within a write to device k that is done, are devices of which k alone was written, in
+-- the write's range. A torn write of data is such, too.
 abbrev pub StopsAsTried : Type 0
 StopsAsTried =
     (k : ℕ) (w : Write) (before after : List Disk) (left : List (List ℕ)) → AreHonest before → IsWritten k w before after → MayAllBeLeft before after left
     → (disks : List Disk) × IsTried k w before disks × (map (λ d. d.content) disks ≡ left)
 
--- Where a stop left all of a write's range as it was or all as written, it is before the write or after it: so of a superblock,
--- unless eight sectors of two make one that can be decoded.
+-- Where a stop left all of a write's range as it was or all as written, it is before the write or after it. A
+-- superblock is left so, unless eight sectors of two make one that can be decoded.
 abbrev pub StopsUndivided : Type 0
 StopsUndivided =
     (k : ℕ) (w : Write) (before after : List Disk) (left : List (List ℕ)) → AreHonest before → IsWritten k w before after → MayAllBeLeft before after left
@@ -171,8 +179,8 @@ StopsUndivided =
     → (held c w.sector (length w.bytes) ≡ held d.content w.sector (length w.bytes)) ⊎ (held c w.sector (length w.bytes) ≡ w.bytes))
     → (left ≡ map (λ d. d.content) before) ⊎ (left ≡ map (λ d. d.content) after)
 
--- What a stop might have left of the devices of an event. One that leaves is not used: it stands where it stood. One that comes in or
--- comes back stands behind the others, before the event too.
+-- What a stop might have left of the devices of an event. A device that leaves is not used, and stands where
+-- it stood. One that comes in or comes back stands after the others, before the event too.
 abbrev pub MayBeLeftBy : (e : Event) (before after : List Disk) → WritesOnce e before after → List (List ℕ) → Type 0
 MayBeLeftBy (Event.Remove k) before after w left = MayAllBeLeft before (insert after k w.was) left
 MayBeLeftBy (Event.Add number new) before after w left = MayAllBeLeft (before ++ w.was ∷ []) after left
@@ -227,7 +235,8 @@ abbrev pub DiffersInFirst : MemberView → List ℕ → Type 0
 DiffersInFirst m old =
     (i : ℕ) → 0 < i → i < m.superblock.bblog_size → held old (from_super m.superblock.bblog_offset + i) 512 ≡ held (log_bytes m.bad (log_room m.superblock)) i 512
 
--- A stop at any moment of a `store_log` that is done is before it or after it then. Of a longer log that is cut short nothing is said.
+-- A stop at any moment of a `store_log` that is done is before it or after it, where the log differs in its
+-- first sector alone. Of a longer log that is cut short nothing is said.
 abbrev pub StopsAtLog : Type 0
 StopsAtLog =
     (k : ℕ) (old new : MirrorView) (left : List (List ℕ)) → AreHonest old.disks → (r : StoresLog k old new)

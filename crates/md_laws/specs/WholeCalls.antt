@@ -26,19 +26,19 @@ use Rattle.md_array.specs.Spoiling.{SpoilsTarget}
 use Rattle.md_array.specs.Worlds.{AreHonest}
 use Rattle.md_laws.specs.Runs.{MirrorRun, Moment}
 
--- From any moment of a mirror such a call is a run, and ends where the call says: so the laws over runs speak of it, and of a stop
--- within one of its events.
+-- From any moment of a mirror a call that is a list of events is a run, and ends where the call says. The
+-- laws over runs speak of it, and of a stop within one of its events.
 abbrev pub CallsAreRuns : Type 0
 CallsAreRuns =
     (es : List Event) (previous : Option Event) (t : Moment) (new : MirrorView) (after : Requests) (leads : Leads previous t.mirror t.requests es new after)
     → AreHonest t.mirror.disks → AllLeftWhole es previous t.mirror t.requests (λ m r. (m ≡ new) × (r ≡ after)) leads
     → (last : Moment) × MirrorRun t es last × ((last.mirror ≡ new) × (last.requests ≡ after))
 
--- a run after a run
+-- A run after a run is a run.
 abbrev pub RunsGoOn : Type 0
 RunsGoOn = (es fs : List Event) (t mid last : Moment) → MirrorRun t es mid → MirrorRun mid fs last → MirrorRun t (es ++ fs) last
 
--- `fail` and `remove` are such calls, of one event each, whatever their devices are.
+-- `fail` and `remove` are lists of one event each, whatever their devices are.
 abbrev pub FailIsACall : Type 0
 FailIsACall =
     (k : ℕ) (old new : MirrorView) → IsConsistent old → FailsMember k old new
@@ -49,40 +49,41 @@ RemoveIsACall =
     (k : ℕ) (disk : Disk) (old new : MirrorView) → IsConsistent old → Removes k disk old new
     → (previous : Option Event) (requests : Requests) → AreInFlight old.array requests → Leads previous old requests (Event.Remove k ∷ []) new requests
 
--- So is `add`, where the new device does what it answers,
+-- `add` is a list of one event, where the new device does what it answers.
 abbrev pub AddIsACall : Type 0
 AddIsACall =
     (k : ℕ) (device : Disk) (old new : MirrorView) → IsConsistent old → device.honest ≡ true → (r : Adds k device old new)
     → (previous : Option Event) (requests : Requests) → AreInFlight old.array requests
     → Leads previous old requests (add_event k device old new r ∷ []) new requests
 
--- and `re_add`, where the device that it takes back does what it answers.
+-- `re_add` is a list of one event, where the device that it takes back does what it answers.
 abbrev pub ReAddIsACall : Type 0
 ReAddIsACall =
     (k : ℕ) (device : Disk) (old new : MirrorView) → IsConsistent old → device.honest ≡ true → (r : ReAdds k device old new)
     → (previous : Option Event) (requests : Requests) → AreInFlight old.array requests
     → Leads previous old requests (re_add_event k device old new r ∷ []) new requests
 
--- A rebuild is in the list too: data that is given to one member while the devices are lent,
+-- Data that a rebuild gives to one member while the devices are lent is an event.
 abbrev pub FillIsACall : Type 0
 FillIsACall =
     (k : ℕ) (old new : MirrorView) → IsConsistent old → Fills k old new
     → (previous : Option Event) (requests : Requests) → AreInFlight old.array requests → Leads previous old requests (Event.Fill k ∷ []) new requests
 
--- a write of its superblock that failed,
+-- A failed write of the superblock of a member that is rebuilt is an event.
 abbrev pub TargetFailureIsACall : Type 0
 TargetFailureIsACall =
     (k : ℕ) (old new : MirrorView) → IsConsistent old → FailsOnTarget k old new
     → (previous : Option Event) (requests : Requests) → AreInFlight old.array requests → Leads previous old requests (Event.RecordTargetFails k ∷ []) new requests
 
--- its bitmap and its log stored, in part or whole,
+-- The bitmap and the log of a member that is rebuilt are stored, in part or whole, by one event.
 abbrev pub PrepareIsACall : Type 0
 PrepareIsACall =
     (k : ℕ) (old new : MirrorView) → IsConsistent old → Prepares k old new
     → (previous : Option Event) (requests : Requests) → AreInFlight old.array requests → Leads previous old requests (Event.Prepare k ∷ []) new requests
 
--- and `enrol`: it is prepared, and then it comes into sync. That is an event of the model where some content is held: by the members in
--- sync, and by the new one in the chunks that it did not lack.
+-- `enrol` is two events: the member is prepared, and then it comes into sync. The second is an event of the
+-- model where some content is held: by the members in sync, and by the new one in the chunks that it did not
+-- lack.
 abbrev pub EnrolIsACall : Type 0
 EnrolIsACall =
     (k : ℕ) (copied orphans : Bitmap) (old new : MirrorView) → IsConsistent old → IsConsistent new → MayEnrol k copied orphans old
@@ -90,7 +91,8 @@ EnrolIsACall =
     → (previous : Option Event) (requests : Requests) → AreInFlight old.array requests
     → Leads previous old requests (Event.Prepare k ∷ enrol_event r ∷ []) new requests
 
--- Where the write of its superblock fails, it is prepared and spoiled, whatever that write left.
+-- An `enrol` of which the write of the superblock fails is two events: the member is prepared and spoiled,
+-- whatever that write left.
 abbrev pub FailedEnrolIsACall : Type 0
 FailedEnrolIsACall =
     (k : ℕ) (copied orphans : Bitmap) (old new : MirrorView) → IsConsistent old → MayEnrol k copied orphans old
@@ -98,50 +100,50 @@ FailedEnrolIsACall =
     → (previous : Option Event) (requests : Requests) → AreInFlight old.array requests
     → Leads previous old requests (Event.Prepare k ∷ Event.SpoilTarget k ∷ []) new requests
 
--- Any such write that failed spoils it, that of a record too.
+-- Any failed write of its superblock spoils a member that is rebuilt, that of a record too.
 abbrev pub SpoilIsACall : Type 0
 SpoilIsACall =
     (k : ℕ) (old new : MirrorView) → IsConsistent old → SpoilsTarget k old new
     → (previous : Option Event) (requests : Requests) → AreInFlight old.array requests → Leads previous old requests (Event.SpoilTarget k ∷ []) new requests
 
--- So is `admit` of a spare,
+-- `admit` of a spare is one event.
 abbrev pub AdmitIsACall : Type 0
 AdmitIsACall =
     (k : ℕ) (old new : MirrorView) → IsConsistent old → (r : Admits k old new) → is_spare r.may.member.state ≡ true
     → (previous : Option Event) (requests : Requests) → AreInFlight old.array requests → Leads previous old requests (admit_event r ∷ []) new requests
 
--- one that fails,
+-- An `admit` of a spare that fails is one event, which spoils the spare.
 abbrev pub FailedAdmitIsACall : Type 0
 FailedAdmitIsACall =
     (k : ℕ) (old new : MirrorView) → IsConsistent old → (f : FailsToAdmit k old new) → is_spare f.may.member.state ≡ true
     → (previous : Option Event) (requests : Requests) → AreInFlight old.array requests → Leads previous old requests (Event.SpoilTarget k ∷ []) new requests
 
--- and `checkpoint`: that is an event of the model where some content is held by the members in sync.
+-- `checkpoint` is one event of the model where some content is held by the members in sync.
 abbrev pub CheckpointIsACall : Type 0
 CheckpointIsACall =
     (k : ℕ) (copied : Bitmap) (old new : MirrorView) → IsConsistent old → (r : Checkpoints k copied old new)
     → (previous : Option Event) (requests : Requests) → AreInFlight old.array requests → Leads previous old requests (checkpoint_event r ∷ []) new requests
 
--- One that fails is an event in any case.
+-- A `checkpoint` of a recovering member that fails is an event in any case.
 abbrev pub FailedCheckpointIsACall : Type 0
 FailedCheckpointIsACall =
     (k : ℕ) (copied : Bitmap) (old new : MirrorView) → IsConsistent old → (f : FailsToCheckpoint k copied old new) → is_recovering f.member.state ≡ true
     → (previous : Option Event) (requests : Requests) → AreInFlight old.array requests → Leads previous old requests (Event.SpoilTarget k ∷ []) new requests
 
--- A list that grows is in the list: in memory, of a member in sync of a resynced array,
+-- A list of bad blocks grows in memory by one event, of a member in sync of a resynced array.
 abbrev pub NoteBadIsACall : Type 0
 NoteBadIsACall =
     (k chunk : ℕ) (old new : MirrorView) → IsConsistent old → NotesChunk k chunk old new → ((m : MemberView) → IsMember old.array k m → is_in_sync m.state ≡ true)
     → old.array.resynced ≡ true → IsWhole k chunk old
     → (previous : Option Event) (requests : Requests) → AreInFlight old.array requests → Leads previous old requests (Event.NoteBad k chunk ∷ []) new requests
 
--- its log stored, where that was read without a shift or stored since,
+-- A log is stored by one event, where it was read without a shift or stored since.
 abbrev pub StoreLogIsACall : Type 0
 StoreLogIsACall =
     (k : ℕ) (old new : MirrorView) → IsConsistent old → (r : StoresLog k old new) → IsCanonical r.member.bad
     → (previous : Option Event) (requests : Requests) → AreInFlight old.array requests → Leads previous old requests (Event.StoreLog k (listed_on new k) ∷ []) new requests
 
--- and a write of the log that failed.
+-- A failed write of a log is one event.
 abbrev pub StoreLogFailureIsACall : Type 0
 StoreLogFailureIsACall =
     (k : ℕ) (old new : MirrorView) → IsConsistent old → FailsToStoreLog k old new

@@ -87,8 +87,8 @@ pub fn every_run()
     // but for requests in flight.
     ensures agrees_unstored { AtEachMoment AgreesUnstored }
 
-    // So each member in sync of the mirror that is opened then was in sync; and each that was, and is there, is in sync, where each
-    // of these has recorded all but the last change.
+    // Each member in sync of the mirror that is opened then was in sync. Each that was in sync, and is there,
+    // is in sync, where each of these has recorded all but the last change.
     ensures finds_in_sync { FindsInSync }
     ensures finds_all { FindsAll }
 
@@ -96,11 +96,11 @@ pub fn every_run()
     // member that was.
     ensures keeps_out { AtEachMoment KeepsOut }
 
-    // One that the superblock of the last opening calls out of sync stays so, with data or without.
+    // A device that the superblock of the last opening calls out of sync stays so, with data or without.
     ensures stays_out { AtEachMoment StaysOut }
 
-    // So a further device is no member in sync of the mirror that is opened, where data was let through and a member that was
-    // in sync is there, or where the superblock of the opening before calls it out of sync.
+    // A further device is no member in sync of the mirror that is opened, where data was let through and a
+    // member that was in sync is there, or where the superblock of the opening before calls it out of sync.
     ensures finds_out { FindsOut }
 
     // There is a content that the members in sync hold at the first opening; any such content goes along the
@@ -145,9 +145,9 @@ pub fn leaving_members()
     ensures log { LogLiesBehind }
     ensures missing { MissingLiesBehind }
 
-    // So a `re_add` that takes back such a device, still as it was left, takes back one of which the content is known in all chunks
-    // but the marked ones; or its offset is 0, and it lacks every chunk. Of one whose log could not be stored it is asked that the log
-    // has no less then than before.
+    // A `re_add` that takes back a device that is still as it was left, takes back one of which the content
+    // is known in all chunks but the marked ones; or its offset is 0, and it lacks every chunk. Of a member
+    // whose log could not be stored it is asked that the log has no less then than before.
     ensures failed_joins { FailedJoins }
     ensures log_joins { LogJoins }
     ensures missing_joins { MissingJoins }
@@ -200,10 +200,10 @@ pub fn stops_at_steps()
     ensures sector { StopsAtSector }
     ensures failed { StopsAtFailure }
 
-    // So a stop within the call of an event is before it, after it, or within its one write; and what it leaves
+    // A stop within the call of an event is before it, after it, or within its one write. What it leaves
     // within a write, the same write might leave that failed, or was torn. What it leaves while a member is
-    // filled or prepared, another filling or preparing might leave. Within a call by which a member that is rebuilt tells of it, it is
-    // a stop after `SpoilTarget`, whatever it leaves.
+    // filled or prepared, another filling or preparing might leave. Within a call by which a member that is
+    // rebuilt tells of it, the stop is one after `SpoilTarget`, whatever it leaves.
     ensures event { StopsAtEvents }
     ensures as_failed { StopsAsFailed }
     ensures as_tried { StopsAsTried }

@@ -43,7 +43,8 @@ pub fn rebuilding_calls()
     ensures spoil { SpoilIsACall }
 {}
 
-/// So are `admit` of a spare, and `checkpoint` of a member that is recovering, done or failed.
+/// `admit` of a spare, and `checkpoint` of a member that is recovering, are lists of one event each, done or
+/// failed.
 pub fn recovering_calls()
     ensures admit { AdmitIsACall }
     ensures failed_admit { FailedAdmitIsACall }
@@ -60,8 +61,9 @@ pub fn listing_calls()
     ensures stopped { StopsAtLog }
 {}
 
-/// So is a call that reads devices before its events and after the last (`LeadsReading`), and writes no
-/// superblock that fails unless its member is spoiled, enrols no member, and stores no checkpoint and no log.
+/// A call that reads devices before its events and after the last (`LeadsReading`) is a run, too. It writes
+/// no superblock that fails unless its member is spoiled, enrols no member, and stores no checkpoint and no
+/// log.
 pub fn every_reading_call()
     ensures { ReadingCallsAreRuns }
 {}
@@ -73,11 +75,12 @@ pub fn stopped_copies()
     ensures { StopsAtCopies }
 {}
 
-/// What a stop leaves within a whole call, before, in or after each write of each of its steps, a stop of a run leaves:
-/// of the first of its events, or of none. So `every_run` says of it what the next opening finds. It is so of every
-/// list of steps, and of one that ends by a write that halted the mirror, as `write`, `stop` and the storing of a rebuild
-/// do them. Within a superblock's write it is asked that the old one, the new one or none was left, unless it is done and
-/// neither is longer than a sector. Of events behind the stop nothing is asked.
+/// What a stop leaves within a whole call, before, in or after each write of each of its steps, a stop of a
+/// run leaves: of the first of its events, or of none. So `every_run` says of it what the next opening finds.
+/// It is so of every list of steps, and of one that ends by a write that halted the mirror, as `write`,
+/// `stop` and the storing of a rebuild do them. Within a superblock's write it is asked that the old one, the
+/// new one or none was left, unless it is done and neither is longer than a sector. Of events after the stop
+/// nothing is asked.
 pub fn stopped_calls()
     ensures steps { StopsAtSteps }
     ensures halts { StopsAtHalts }

@@ -12,7 +12,7 @@ is_numeral radix digits = nat_lt 0 (length digits) && list_all (λ c. nat_lt (di
 unfoldable pub numeral : ℕ → List ℕ → Option ℕ
 numeral radix digits = if is_numeral radix digits && nat_lt (digits_value radix digits) (2 ^ 64) then Some (digits_value radix digits) else None
 
--- it begins with 0x or 0X
+-- The field begins with 0x or 0X.
 abbrev pub is_hexadecimal : List ℕ → Bool
 is_hexadecimal field = slice_index field 0 == 48 && (slice_index field 1 == 120 || slice_index field 1 == 88)
 

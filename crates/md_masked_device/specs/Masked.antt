@@ -16,7 +16,7 @@ pub record Masked (D : Type 0) : Type 0 where
   -- how many calls failed though the device below did not
   pub refused : ℕ
 
--- it is stored as the tuple of its fields
+-- A run of sectors, and a masked device, are stored as the tuples of their fields.
 abbrev pub run_code : Coded Run
 run_code = code_by (ℕ × ℕ) (coded× coded_ℕ coded_ℕ) (λ r. (r.start, r.len)) (λ p. record { start = p.0; len = p.1 }) (λ _. refl)
 

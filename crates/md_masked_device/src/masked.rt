@@ -52,7 +52,7 @@ impl<D> MaskedDevice<D> {
         }
     }
 
-    /// The same mask over another device, and the copy that was below it. Takes no memory.
+    /// Moves the mask over another device. Answers that, and the copy that was below it. Takes no memory.
     pub fn moved_over<E>(self, inner: E) -> (MaskedDevice<E>, D)
         ensures moved { result.0 ≡ record { inner = inner; mask = self.mask; disk = self.disk; refused = self.refused } }
         ensures copy { result.1 ≡ self.inner }

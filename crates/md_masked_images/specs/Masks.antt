@@ -49,13 +49,13 @@ pub record IsLacking {I D : Type 0} (i : ImagesGhosts I D) (g : Ghosts D) (name 
   pub sized : i.known images ≡ true → HasSize g (i.device_at images name) size
   pub lacks : IsReadAs size map missing
 
--- the map is refused with this fault as one of the image under a name
+-- The map is refused with this fault as one of the image under a name.
 pub record IsNoMap {I D : Type 0} (i : ImagesGhosts I D) (g : Ghosts D) (name map : List ℕ) (images : I) (fault : MapFault) : Type 0 where
   pub size : ℕ
   pub sized : i.known images ≡ true → HasSize g (i.device_at images name) size
   pub refused : IsRefused size map fault
 
--- so it is, or the image can't be looked at
+-- What the copy lacks can't be told: the map is refused, or the image can't be looked at.
 abbrev pub RefusesLacking : {I D : Type 0} → ImagesGhosts I D → Ghosts D → List ℕ → List ℕ → I → LackingFault → Type 0
 RefusesLacking i g name map images (lacking.Map fault) = IsNoMap i g name map images fault
 RefusesLacking i g name map images (lacking.Image fault) = Unit {0}

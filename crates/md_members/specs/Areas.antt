@@ -42,11 +42,11 @@ log_area v = from_super v.bblog_offset v.bblog_size
 abbrev pub bitmap_area : Superblock → ℕ → Area
 bitmap_area v sectors = from_super v.bitmap_offset sectors
 
--- there is a bitmap: bit 1 of the feature map
+-- There is a bitmap: the feature map has BITMAP_OFFSET.
 abbrev pub has_bitmap : Superblock → Bool
 has_bitmap v = not (bit_and v.feature_map 1 == 0)
 
--- the log has entries: bit 8 of the feature map
+-- The log has entries: the feature map has BAD_BLOCKS.
 abbrev pub has_bad_blocks : Superblock → Bool
 has_bad_blocks v = not (bit_and v.feature_map 8 == 0)
 
@@ -57,11 +57,12 @@ pub record LogIsPlaced (sectors : ℕ) (v : Superblock) : Type 0 where
   pub from_super : AreApart super_area (log_area v)
   pub from_data : AreApart (data_area v) (log_area v)
 
--- an area has no sector in common with the log, where there is one
+-- An area has no sector in common with the log, where there is one.
 abbrev pub IsApartFromLog : Superblock → Area → Type 0
 IsApartFromLog v a = has_bad_block_log v ≡ true → AreApart (log_area v) a
 
--- so is the bitmap, where it takes so many sectors, and it is apart from the log
+-- The bitmap, where it takes so many sectors, is on the device and apart from the superblock, the data and
+-- the log.
 pub record BitmapIsPlaced (sectors : ℕ) (v : Superblock) (width : ℕ) : Type 0 where
   pub within : IsWithin sectors (bitmap_area v width)
   pub from_super : AreApart super_area (bitmap_area v width)

@@ -36,7 +36,7 @@ abbrev pub UnlessReadFault : {T : Type 0} → Result T MemberFault → Type 0 �
 UnlessReadFault (Err ReadFault) Holds = Unit {0}
 UnlessReadFault _ Holds = Holds
 
--- it has the sectors up to the superblock's end
+-- A device has the sectors up to the superblock's end.
 abbrev pub IsLong : List ℕ → Type 0
 IsLong content = 512 * 16 ≤ length content
 

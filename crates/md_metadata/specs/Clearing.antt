@@ -17,7 +17,7 @@ pub record MayClearAll (a : ArrayView) : Type 0 where
   pub resynced : a.resynced ≡ true
   pub full : is_degraded a ≡ false
 
--- of the array nothing but marks changed, and of the devices nothing
+-- Nothing but marks of the array changed, and nothing of the devices.
 pub record ChangesMarksAlone (old new : MirrorView) : Type 0 where
   pub goes : LeadsBy IsClearing old new
   pub disks : new.disks ≡ old.disks
@@ -29,7 +29,7 @@ pub record ClearsMark (chunk : ℕ) (old new : MirrorView) : Type 0 where
   pub marks_alone : ChangesMarksAlone old new
   pub bits : (c : ℕ) → is_set new.array.marks.bytes c ≡ (not (c == chunk) && is_set old.array.marks.bytes c)
 
--- no chunk has one
+-- No chunk has a mark any more.
 pub record ClearsAll (old new : MirrorView) : Type 0 where
   pub marks_alone : ChangesMarksAlone old new
   pub none : (c : ℕ) → is_set new.array.marks.bytes c ≡ false

@@ -48,7 +48,7 @@ pub record GoesOn (F G : Requests → Requests) (IsOf : Event → Type 0) (old n
   pub sound : IsConsistent new
   pub pending : (o : PendingView) → IsPending old.array o → IsPending new.array o
 
--- The same, whatever becomes of the marks and of the array's fields.
+-- Events of a kind, one after another, whatever becomes of the marks and of the array's fields.
 pub record LeadsBy (IsOf : Event → Type 0) (old new : MirrorView) : Type 0 where
   pub events : List Event
   pub steps : AllOf IsOf events

@@ -23,41 +23,42 @@ IsStopping (Event.WriteFails k MemberPart.Superblock) = Unit {0}
 IsStopping (Event.WriteFails k (MemberPart.BitmapSector b)) = Unit {0}
 IsStopping e = ⊥
 
--- one in memory
+-- An event of `stop` in memory.
 abbrev pub IsSettling : Event → Type 0
 IsSettling (Event.ClearIdle c) = Unit {0}
 IsSettling Event.MakeClean = Unit {0}
 IsSettling e = ⊥
 
--- what it stores: superblocks, each with the first sector of its bitmap, and marks where they were cleared
+-- What `stop` stores: superblocks, each with the first sector of its bitmap, and marks where they were
+-- cleared.
 abbrev pub IsStoringIf : Bool → Event → Type 0
 IsStoringIf true e = IsStoring e
 IsStoringIf false e = IsRecording e
 
--- it clears the marks of an array that is resynced and not degraded
+-- `stop` clears the marks of an array that is resynced and not degraded.
 abbrev pub clears_marks : ArrayView → Bool
 clears_marks a = a.resynced && not (is_degraded a)
 
--- it makes an array clean that is resynced and active
+-- `stop` makes an array clean that is resynced and active.
 abbrev pub makes_clean : ArrayView → Bool
 makes_clean a = a.resynced && not (a.shared.resync_offset == clean_offset)
 
--- nothing is in flight, and the count rises where it has to
+-- `stop` may be done: nothing is in flight, and the count rises where it has to.
 pub record MayStop (a : ArrayView) : Type 0 where
   pub idle : IsIdle a
   pub unspent : makes_clean a ≡ true → HasSpentEvents a → ⊥
 
--- the marks after it
+-- The marks after `stop`.
 pub record IsCleared (old new : ArrayView) : Type 0 where
   pub chunks : new.marks.chunks ≡ old.marks.chunks
   pub bits : (c : ℕ) → is_set new.marks.bytes c ≡ (not (clears_marks old) && is_set old.marks.bytes c)
 
--- all that it changes in memory before anything is stored
+-- All that `stop` changes in memory before anything is stored.
 pub record IsSettled (old new : ArrayView) : Type 0 where
   pub marks : IsCleared old new
   pub array : new ≡ record (cond (makes_clean old) (made_clean old) old) { marks = new.marks }
 
--- by events in memory alone
+-- By events in memory alone all is changed in memory that `stop` changes there.
 pub record Settles (old new : MirrorView) : Type 0 where
   pub goes : LeadsBy IsSettling old new
   pub disks : new.disks ≡ old.disks

@@ -119,26 +119,26 @@ abbrev pub FailsInSync : ArrayView → PartFault → Type 0
 FailsInSync a Halted = Unit {0}
 FailsInSync a (MemberFailed k) = (m : MemberView) × IsInSync a k m
 
--- they came to their end: of member k it holds, if it is in sync
+-- The events came to their end: of member k it holds, if it is in sync.
 pub record StoresAt (Of : Event → Type 0) (k : ℕ) (Done : MemberView → Type 0) (old new : MirrorView) : Type 0 where
   pub stores : Stores Of old new
   pub done : (m : MemberView) → IsInSync new.array k m → Done m
 
--- of those before this one
+-- The events came to their end: of each member in sync before member k it holds.
 pub record StoresBelow (Of : Event → Type 0) (k : ℕ) (Done : MemberView → Type 0) (old new : MirrorView) : Type 0 where
   pub stores : Stores Of old new
   pub done : (i : ℕ) (m : MemberView) → i < k → IsInSync new.array i m → Done m
 
--- of all of them
+-- The events came to their end: of each member in sync it holds.
 pub record StoresAll (Of : Event → Type 0) (Done : MemberView → Type 0) (old new : MirrorView) : Type 0 where
   pub stores : Stores Of old new
   pub done : (i : ℕ) (m : MemberView) → IsInSync new.array i m → Done m
 
--- its superblock is not due, if it is one that is kept up to date
+-- A member's superblock is not due, if it is one that is kept up to date.
 abbrev pub IsRecorded : MemberView → Type 0
 IsRecorded m = is_recorded m.state ≡ true → IsNotDue m
 
--- of member k it holds, in sync or not
+-- The events came to their end: member k's superblock is not due, if it is one that is kept up to date.
 pub record RecordsAt (k : ℕ) (old new : MirrorView) : Type 0 where
   pub stores : Stores IsRecording old new
   pub done : (m : MemberView) → IsMember new.array k m → IsRecorded m
@@ -154,24 +154,24 @@ pub record RecordsAll (old new : MirrorView) : Type 0 where
   pub stores : Stores IsRecording old new
   pub done : AllRecorded new.array
 
--- a sector of the bitmap is stored on member k
+-- A sector of the bitmap is stored on member k.
 pub record StoresOn (k block : ℕ) (old new : MirrorView) : Type 0 where
   pub step : StepsBy only_others only_others (IsSector k block) (Event.StoreMarks k block) old new
   pub ready : AllStayReady old.array new.array
   pub gives : StoresMarkSector k block old new
 
--- or the write of it failed: that member is faulty, or the mirror is halted
+-- The write of a sector of the bitmap failed on member k: the member is faulty, or the mirror is halted.
 abbrev pub SectorFails : ℕ → ℕ → MirrorView → MirrorView → PartFault → Type 0
 SectorFails k block old new Halted = HaltsStoring (IsSector k block) old new
 SectorFails k block old new (MemberFailed j) = (j ≡ k) × LosesStoring (IsSector k block) k old new
 
--- member k's superblock is stored
+-- Member k's superblock is stored.
 pub record RecordsOn (k : ℕ) (old new : MirrorView) : Type 0 where
   pub step : StepsBy only_others only_others IsRecording (Event.Record k) old new
   pub ready : AllStayReady old.array new.array
   pub done : (m : MemberView) → IsMember new.array k m → IsNotDue m
 
--- or the write of it failed
+-- The write of member k's superblock failed, and the member is faulty.
 pub record LosesRecording (k : ℕ) (old new : MirrorView) : Type 0 where
   pub step : StepsBy only_others only_others IsRecording (Event.WriteFails k MemberPart.Superblock) old new
   pub lost : recorded_count new.array < recorded_count old.array
@@ -179,7 +179,7 @@ pub record LosesRecording (k : ℕ) (old new : MirrorView) : Type 0 where
   pub was : IsUpToDate old.array k
   pub faulty : IsFaulty k new.array
 
--- so that the mirror is halted
+-- The write of member k's superblock failed, and the mirror is halted.
 pub record HaltsRecordingOn (k : ℕ) (old new : MirrorView) : Type 0 where
   pub stores : HaltsStoring IsRecording old new
   pub at_once : HaltsRecording k old new

@@ -24,17 +24,18 @@ IsListing k (Event.Record j) = j ≡ k
 IsListing k (Event.WriteFails j MemberPart.Superblock) = j ≡ k
 IsListing k e = ⊥
 
--- all three, in this order
+-- The log, the first sector of the bitmap and the superblock are stored, in this order.
 abbrev pub list_events : ℕ → (ℕ → Bool) → List Event
 list_events k listed = Event.StoreLog k listed ∷ Event.StoreMarks k 0 ∷ Event.Record k ∷ []
 
 -- ---- what is kept of the member
--- Its superblock tells of its list and is not due. What was stored of its marks as they are in memory is so still.
+-- A member's superblock tells of its list and is not due. What was stored of its marks as they are in memory
+-- is so still.
 pub record HasStoredList (marks : Bitmap) (m n : MemberView) : Type 0 where
   pub same : n ≡ record m { superblock = logged_superblock m.bad m.superblock; stored = n.stored; due = false }
   pub marked : (c : ℕ) → is_set m.stored.bytes c ≡ is_set marks.bytes c → is_set n.stored.bytes c ≡ is_set marks.bytes c
 
--- So it is of member k, which is in sync, and nothing else changes.
+-- Member k, which is in sync, has its list stored, and nothing else changes.
 pub record StoresListOf (k : ℕ) (old new : ArrayView) : Type 0 where
   pub before : MemberView
   pub in_sync : IsInSync old k before
@@ -49,7 +50,7 @@ pub record StoresList (k : ℕ) (old new : MirrorView) : Type 0 where
   pub list : goes.events ≡ list_events k listed
   pub array : StoresListOf k old.array new.array
 
--- One of its writes failed: the member is faulty, or the mirror is halted.
+-- A write by which the list was to be stored failed: the member is faulty, or the mirror is halted.
 abbrev pub ListFails : ℕ → MirrorView → MirrorView → PartFault → Type 0
 ListFails k old new Halted = HaltsAtWrite (IsListing k) k old new
 ListFails k old new (MemberFailed j) = (j ≡ k) × LosesStoring (IsListing k) k old new

@@ -2,8 +2,8 @@
 use Rattle.std.specs.Prelude.{◌≡◌, ℕ, ◌+◌, ◌*◌, ◌<◌, ◌≤◌, Bool, true, false, cond, ◌&&◌, ◌||◌, eqb, List, [], Option, Some, None}
 use Rattle.md_model.specs.Sectors.{Geometry, chunk_of}
 
--- what assembly reads of a superblock (md_p.h): dev_number, events, dev_roles (65535 past their end), bit 2 of the feature map
--- and recovery_offset, in sectors of the array
+-- What assembly reads of a superblock (md_p.h): dev_number, events, dev_roles (65535 past their end),
+-- RECOVERY_OFFSET in the feature map, and recovery_offset, in sectors of the array.
 pub record Super : Type 0 where
   pub number : ℕ
   pub events : ℕ

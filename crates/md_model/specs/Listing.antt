@@ -13,6 +13,7 @@ pub record MayNoteBad (w : World) (k : ℕ) : Type 0 where
   pub in_sync : IsInSync w k
   pub resynced : w.resynced ≡ true
 
--- store_log: the log is stored, and the superblock is due. Where bit 8 is clear the log is not read yet: the list is the one before.
+-- store_log: the log is stored, and the superblock is due. Where the feature map has no BAD_BLOCKS the log is
+-- not read yet: the list is the one before.
 abbrev pub log_stored : World → ℕ → (ℕ → Bool) → World
 log_stored w k listed = record w { stored = put k (record (w.stored k) { listed = listed }) w.stored; due = put k true w.due }

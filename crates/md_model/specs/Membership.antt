@@ -57,7 +57,7 @@ pub record Newcomer : Type 0 where
   pub number : ℕ
   pub role : ℕ
   pub state : State
-  pub recovering : Bool  -- bit 2 of its feature map
+  pub recovering : Bool  -- RECOVERY_OFFSET of its feature map
   pub offset : ℕ  -- its recovery_offset
   pub device : Stored  -- as its laying out or its record leaves it
 
@@ -78,7 +78,7 @@ joined w n =
       present = λ d. w.present d || eqb d n.number;
     }
 
--- Its superblock has the new count and the new roles.
+-- The superblock of a member that joins has the new count and the new roles.
 abbrev pub joined_super : World → ℕ → ℕ → Bool → ℕ → Super
 joined_super w d role recovering offset = record { number = d; events = w.events; role = put d role w.role; recovering = recovering; offset = offset }
 
@@ -95,7 +95,7 @@ pub record IsLeast (Fits : ℕ → Type 0) (d : ℕ) : Type 0 where
 abbrev pub IsNumber : Geometry → World → ℕ → Type 0
 IsNumber g w d = IsLeast (IsFree g w) d ⊎ (((e : ℕ) → IsFree g w e → ⊥) × IsLeast (λ e. w.present e ≡ false) d)
 
--- it is laid out as a spare: all chunks are marked, nothing is listed
+-- A device is laid out as a spare: all chunks are marked, nothing is listed.
 pub record IsLaidOut (g : Geometry) (w : World) (d : ℕ) (left : Stored) : Type 0 where
   pub super : left.super ≡ Some (joined_super w d 65535 false 0)
   pub listed : (s : ℕ) → left.listed s ≡ false
@@ -126,8 +126,9 @@ pub record MayReAdd (g : Geometry) (w : World) (own : Super) : Type 0 where
 abbrev pub HasNoOtherMarks : Geometry → World → Stored → Type 0
 HasNoOtherMarks g w device = (s : ℕ) → s < g.size → is_marked device (chunk_of g s) ≡ true → w.marks (chunk_of g s) ≡ true
 
--- Its superblock is written, with bit 2 and an offset, and nothing else. With the array's size as offset it lacks the marked chunks
--- alone. One that was used elsewhere since it left has the offset 0, and lacks every chunk.
+-- The device's superblock is written, with RECOVERY_OFFSET and an offset, and nothing else. With the array's
+-- size as offset it lacks the marked chunks alone. One that was used elsewhere since it left has the offset
+-- 0, and lacks every chunk.
 pub record IsTakenBack (g : Geometry) (w : World) (own : Super) (device left : Stored) : Type 0 where
   pub was : device.super ≡ Some own
   pub offset : ℕ

@@ -27,7 +27,7 @@ lacks in_sync recovering marked passed = not in_sync && (not recovering || (mark
 abbrev pub is_missing : Geometry → World → ℕ → ℕ → Bool
 is_missing g w k c = lacks (is_in_sync (w.state k)) (is_recovering (w.state k)) (w.marks c) (is_passed g (w.offset k) c)
 
--- It is rebuilt while nothing is in flight.
+-- Member k is rebuilt while nothing is in flight.
 pub record MayRebuild (w : World) (k : ℕ) : Type 0 where
   pub idle : IsIdle w
   pub target : is_target (w.state k) ≡ true
@@ -49,12 +49,12 @@ pub record LeftByFilling (g : Geometry) (w : World) (k : ℕ) (left : Stored) : 
 pub record LeftByPreparing (w : World) (k : ℕ) (left : Stored) : Type 0 where
   pub rest : left ≡ record (w.stored k) { bits = left.bits; bitmap_events = left.bitmap_events; bitmap_fits = left.bitmap_fits; listed = left.listed }
 
--- A member takes a role by its superblock, which has the new count and the new roles. By bit 8 other sectors may be listed than before.
--- The roles grow to its number, if they have to.
+-- A member takes a role by its superblock, which has the new count and the new roles. By its BAD_BLOCKS other
+-- sectors may be listed than before. The roles grow to its number, if they have to.
 pub record Taking : Type 0 where
   pub role : ℕ
   pub state : State
-  pub recovering : Bool  -- bit 2 of its feature map
+  pub recovering : Bool  -- RECOVERY_OFFSET of its feature map
   pub offset : ℕ
   pub listed : ℕ → Bool  -- by its device
   pub known : ℕ → Bool
@@ -77,8 +77,8 @@ takes_role w k t =
       entries = grown w (w.number k);
     }
 
--- Enrol: it is in sync; bit 2 of the feature map is clear, and the offset 0. The count rises before that, so that every other
--- superblock is due. Whether the array is clean, and its marks, stay.
+-- Enrol: the member is in sync; its feature map has no RECOVERY_OFFSET, and the offset is 0. The count rises
+-- before that, so that every other superblock is due. Whether the array is clean, and its marks, stay.
 abbrev pub as_in_sync : World → ℕ → (ℕ → Bool) → Taking
 as_in_sync w role listed = record { role = role; state = InSync; recovering = false; offset = 0; listed = listed; known = w.marks; bad = listed }
 
@@ -113,8 +113,9 @@ pub record MayEnrol (g : Geometry) (w : World) (k role : ℕ) (listed : ℕ → 
   pub copied : (s : ℕ) → s < g.size → is_missing g w k (chunk_of g s) ≡ true → listed s ≡ false → (j : ℕ) × IsInSync w j × ((w.stored j).listed s ≡ false)
   pub unlisted : (s : ℕ) → s < g.size → w.bad k s ≡ true → listed s ≡ false → (j : ℕ) × IsInSync w j × ((w.stored j).listed s ≡ false)
 
--- Admit: a spare takes a free role, and is recovering from then on, with bit 2 and the offset 0. Its superblock says so before any other
--- one tells of the role: else it would be found in sync by them (`NeededGuards`, `AdmitsLast`).
+-- Admit: a spare takes a free role, and is recovering from then on, with RECOVERY_OFFSET and the offset 0.
+-- Its superblock says so before any other one tells of the role: else it would be found in sync by them
+-- (`NeededGuards`, `AdmitsLast`).
 abbrev pub as_recovering : World → ℕ → ℕ → (ℕ → Bool) → Taking
 as_recovering w k role listed = record { role = role; state = Recovering; recovering = true; offset = 0; listed = listed; known = w.known k; bad = w.bad k }
 

@@ -12,7 +12,8 @@ use Rattle.md_model.specs.Lives.{Life, Reopens}
 use Rattle.md_model.specs.Content.{Content, Becomes, BecomesAtOpening, Holds, HoldsAtRest, RunWith, LifeWith, Anyhow, IsTold}
 use Rattle.md_model.specs.Behind.{IsBehind, IsDegraded}
 
--- What counts of it: it lists what its list in memory has, and may hold anything in a chunk that its offset has not passed.
+-- What counts of a recovering member: it lists what its list in memory has, and may hold anything in a chunk
+-- that its offset has not passed.
 abbrev pub recovered : Geometry → World → ℕ → Stored
 recovered g w k = record (w.stored k) { listed = λ s. w.bad k s || not (is_passed g (w.offset k) (chunk_of g s)) }
 
@@ -21,13 +22,14 @@ recovered g w k = record (w.stored k) { listed = λ s. w.bad k s || not (is_pass
 abbrev pub RecoveringHolds : Geometry → Content → World → Type 0
 RecoveringHolds g a w = (k : ℕ) → is_recovering (w.state k) ≡ true → IsBehind g a (recovered g w k) w
 
--- So it differs from the content on unlisted sectors only in its missing chunks.
+-- A recovering member that lies behind by what is marked differs from the content on unlisted sectors only in
+-- its missing chunks.
 abbrev pub DiffersInMissing : Type 0
 DiffersInMissing =
     (g : Geometry) (a : Content) (w : World) → RecoveringHolds g a w
     → (k s : ℕ) → s < g.size → is_recovering (w.state k) ≡ true → w.bad k s ≡ false → is_missing g w k (chunk_of g s) ≡ false → (w.stored k).content s ≡ a s
 
--- And where the rest was copied, it holds the content when it comes into sync.
+-- A recovering member of which the missing chunks were copied holds the content when it comes into sync.
 abbrev pub TellsRecovering : Type 0
 TellsRecovering =
     (g : Geometry) (a : Content) (w : World) → RecoveringHolds g a w → HoldsAtRest g a w
@@ -43,16 +45,18 @@ abbrev pub RunJoins : (g : Geometry) (h : History) (a : Content) (es : List Even
 RunJoins g h a [] last b run = Unit {0}
 RunJoins g h a (e ∷ es) last b run = JoinsBehind g e h.now a × RunJoins g (then_in h e run.0) run.1 es last b run.5
 
--- A device says no more than the mirror keeps of its member. Its offset is no greater; and it lists what the list in memory has, but for
--- chunks that the offset has not passed, or that each member in sync has marked. So it is after each record of a recovering member, and
--- within an enrolment, which may take sectors of missing chunks off the log before it stores the superblock; until a write to it fails, of
--- a superblock or a log: then the stored offset may be greater, or the log be any.
+-- A device says no more than the mirror keeps of its member. Its offset is no greater. It lists what the list
+-- in memory has, but for chunks that the offset has not passed, or that each member in sync has marked. It
+-- does so after each record of a recovering member, and within an enrolment, which may take sectors of
+-- missing chunks off the log before it stores the superblock. Once a write to it fails, of a superblock or a
+-- log, the stored offset may be greater, or the log be any.
 pub record IsAsKept (g : Geometry) (w : World) (k : ℕ) (left : Stored) : Type 0 where
   pub offset : (own : Super) → left.super ≡ Some own → own.offset ≤ w.offset k
   pub listed : (own : Super) → left.super ≡ Some own → (s : ℕ) → s < g.size → left.listed s ≡ false → is_passed g own.offset (chunk_of g s) ≡ true
       → (i : ℕ) → IsInSync w i → (w.stored i).bits (chunk_of g s) ≡ false → w.bad k s ≡ false
 
--- At an opening each recovering member is such a device that was left; or what it has is told, as of one that the opening before left out.
+-- At an opening each recovering member has a device that was left and says no more than the mirror kept; or
+-- what it has is told, as of one that the opening before left out.
 abbrev pub OpensBehind : (g : Geometry) (opened : Super) (h : History) (first : Super) (next : World) → Reopens g opened h first next → Content → Type 0
 OpensBehind g opened h first next r b =
     (k : ℕ) → is_recovering (next.state k) ≡ true
@@ -65,7 +69,8 @@ LifeJoins g opened h a es (more ∷ rest) final last b life =
     RunJoins g h a es life.0 life.1 life.5 × OpensBehind g opened life.0 life.2 life.3 life.6 life.4
     × LifeJoins g life.2 (opening life.3) life.4 more rest final last b life.8
 
--- At every moment of such a life each recovering member holds that, if it did at the first: for images from outside the caller's word.
+-- At every moment of a life that is told what joins it, each recovering member lies behind by what is marked,
+-- if it did at the first: for images from outside that is the caller's word.
 abbrev pub KeepsRecovering : Type 0
 KeepsRecovering =
     (g : Geometry) (opened : Super) (w : World) (a : Content) → IsStart g opened w → Holds g a w → RecoveringHolds g a w
@@ -73,7 +78,8 @@ KeepsRecovering =
     → LifeJoins g opened (opening w) a es rest final last b life
     → RecoveringHolds g b last.now
 
--- One that fails, or is missing at the next opening, stays so as long as some role is empty: so what it has may be told when it comes back.
+-- A recovering member that fails, or is missing at the next opening, lies behind by what is marked as long as
+-- some role is empty. So what it has may be told when it comes back.
 abbrev pub RecoveringBehind : Type 0
 RecoveringBehind =
     (g : Geometry) (opened : Super) (w : World) (a : Content) → IsStart g opened w → Holds g a w → RecoveringHolds g a w
@@ -84,8 +90,9 @@ RecoveringBehind =
     → LifeWith g (IsDegraded g) final then b more others newest last c
     → IsBehind g c (recovered g then.now k) last.now
 
--- One that might be enrolled lies behind with all that it has, by the list that was to come or a longer one. So it stays, whatever comes of its
--- superblock: where that could not be stored, and stands or does not, its device may be taken back by this.
+-- A recovering member that might be enrolled lies behind with all that it has, by the list that was to come
+-- or a longer one. It stays so, whatever comes of its superblock: where that could not be stored, and stands
+-- or does not, its device may be taken back by this.
 abbrev pub FailedEnrolBehind : Type 0
 FailedEnrolBehind =
     (g : Geometry) (opened : Super) (w : World) (a : Content) → IsStart g opened w → Holds g a w → RecoveringHolds g a w
@@ -97,7 +104,8 @@ FailedEnrolBehind =
     → LifeWith g (IsDegraded g) final then b more others newest last c
     → IsBehind g c device last.now
 
--- the same premises of a run and a life of which no content is known yet: whatever it has become by then
+-- At each `re_add` of a run of which no content is known yet it is told that the device lies behind by what
+-- is marked, whatever the content has become by then.
 abbrev pub RunTellsJoins : (g : Geometry) (h : History) (a : Content) (es : List Event) (last : History) → Run g h es last → Type 0
 RunTellsJoins g h a [] last run = Unit {0}
 RunTellsJoins g h a (e ∷ es) last run = JoinsBehind g e h.now a × ((b : Content) → Becomes g e h.now a b → RunTellsJoins g (then_in h e run.0) b es last run.2)
@@ -110,7 +118,8 @@ LifeTellsJoins g opened w a es (more ∷ rest) final last life =
     × ((b c : Content) → RunWith g Anyhow (opening w) a es life.0 b → BecomesAtOpening g life.2 b c
     → OpensBehind g opened life.0 life.1 life.2 life.4 c × LifeTellsJoins g life.1 life.2 c more rest final last life.5)
 
--- Along each such life a content goes, and nothing is asked at its enrolments: a recovering member holds it where it lacked nothing.
+-- A content goes along each life that is told what joins it, and nothing is asked at its enrolments: a
+-- recovering member holds it where it lacked nothing.
 abbrev pub HasContentResumed : Type 0
 HasContentResumed =
     (g : Geometry) (opened : Super) (w : World) (a : Content) → IsStart g opened w → Holds g a w → RecoveringHolds g a w
@@ -119,18 +128,22 @@ HasContentResumed =
     → (b : Content) × LifeWith g Anyhow opened (opening w) a es rest final last b
 
 -- ---- which devices say no more than is kept
--- Between its calls, if no write to it failed: a record, an admission and a checkpoint store the superblock as it is kept, and the log was
--- read at the opening, or was stored since.
+-- Between the calls on a member its device says no more than the mirror keeps, if no write to it failed: a
+-- record, an admission and a checkpoint store the superblock as it is kept, and the log was read at the
+-- opening, or was stored since.
 pub record IsAsStored (w : World) (k : ℕ) (left : Stored) : Type 0 where
   pub offset : (own : Super) → left.super ≡ Some own → own.offset ≤ w.offset k
   pub listed : (s : ℕ) → left.listed s ≡ false → w.bad k s ≡ false
 
--- Within an enrolment, of which some first writes were done: the log may lack sectors of chunks that the member lacked, which were copied.
+-- Within an enrolment, of which some first writes were done, the log may lack sectors of chunks that the
+-- member lacked, which were copied.
 pub record IsAsPrepared (g : Geometry) (w : World) (k : ℕ) (left : Stored) : Type 0 where
   pub offset : (own : Super) → left.super ≡ Some own → own.offset ≤ w.offset k
   pub listed : (s : ℕ) → s < g.size → left.listed s ≡ false → (w.bad k s ≡ false) ⊎ (is_missing g w k (chunk_of g s) ≡ true)
 
--- Both do, at any moment of a life; the second where each member in sync has the marks of memory stored, as filling asks it.
+-- A device says no more than the mirror keeps where its superblock and its log are as they were stored, or as
+-- they are within an enrolment, at any moment of a life. The second is so where each member in sync has the
+-- marks of memory stored, as filling asks it.
 abbrev pub SaysNoMore : Geometry → Super → History → Type 0
 SaysNoMore g opened h =
     (k : ℕ) (left : Stored) → is_recovering (h.now.state k) ≡ true

@@ -9,7 +9,7 @@ use Rattle.md_state.specs.View.{ArrayView}
 abbrev pub is_member : List MemberView → ℕ → Bool
 is_member members number = list_any (λ m. m.superblock.dev_number == number) members
 
--- it is that of the device which is to join, where that is of the array
+-- The number is that of the device which is to join, where that is of the array.
 abbrev pub is_joining : Option ℕ → ℕ → Bool
 is_joining None number = false
 is_joining (Some joining) number = joining == number

@@ -12,11 +12,11 @@ use md_device::Device;
 /// An array has no more members.
 pub const MAX_MEMBERS: usize = 64;
 
-/// Nor more roles.
+/// An array has no more roles.
 pub const MAX_ROLES: usize = 32;
 
-/// What a command was asked to do with a member: the place of one that left, which the others behind it follow, and of
-/// one that it made faulty.
+/// What a command was asked to do with a member: the place of one that left, which the others after it
+/// follow, and of one that it made faulty.
 #[derive(Clone, Copy, Debug)]
 pub struct Asked {
     pub left: Option<usize>,

@@ -10,11 +10,11 @@ use Rattle.md_pass.specs.Beside.{SameBesideCopied, has_chunk}
 use Rattle.md_workers.specs.Lanes.{HasRead, OnlyRead, slots_read}
 use Rattle.md_pass.specs.Settling.{Books}
 
--- of these chunks, those that were not copied
+-- The chunk was not copied.
 abbrev pub is_left : Bitmap → ℕ → Bool
 is_left copied c = not (is_set copied.bytes c)
 
--- how many of the first n of these chunks were not copied
+-- How many of the first n of these chunks were not copied.
 abbrev pub count_left : Bitmap → List ℕ → ℕ → ℕ
 count_left copied chunks n = count_by (is_left copied) (take n chunks)
 

@@ -27,13 +27,13 @@ pub record IsOrdered (p : Preparation) : Type 0 where
   pub orders : All (λ r. IsOrderOf p.collector.slots r.source.role r.chunks.items) p.readings.items
   pub places : AreInTurn (map (λ (r : Reading). r.source.place) p.readings.items) p.places.items
 
--- so of this plan, for those of these sources that have a slot
+-- A preparation of this plan, for those of these sources that have a slot.
 pub record IsPreparedFor (slots : List Slot) (chunks : Chunks) (offset : ℕ) (sources : List Source) (p : Preparation) : Type 0 where
   pub copy : copying p.collector ≡ copy_of slots chunks offset
   pub ordered : IsOrdered p
   pub reads : sources_of p ≡ filter (λ s. has_slot slots s.role) sources
 
--- it can be carried out on these devices and this target
+-- A preparation can be carried out on these devices and this target.
 pub record CanCopy {D : Type 0} (g : Ghosts D) (p : Preparation) (now : PassState D) : Type 0 where
   pub ordered : IsOrdered p
   pub planned : ArePlanned p.collector.chunks p.collector.slots

@@ -83,7 +83,7 @@ pub fn copy_pass<D: Device + Drop + Send, G: Gate + Sync, R: Threads + Wait + Sy
     )
 }
 
-// The same for a plan that was prepared. The blanks name the ledgers of its board.
+// Makes a pass of a plan that was prepared. The blanks name the ledgers of its board.
 fn copy_prepared<
     D: Device + Drop + Send,
     G: Gate + Sync,

@@ -26,7 +26,7 @@ failed_chunks p = map (λ s. s.chunk) p.failed
 abbrev pub Copies : ℕ → PassView → Type 0
 Copies c p = Any (λ s. (s.chunk ≡ c) × (Contains p.failed s → ⊥)) (slots_of p)
 
--- one of the passes did
+-- One of these passes copied the chunk.
 abbrev pub IsCopiedIn : List PassView → ℕ → Type 0
 IsCopiedIn passes c = Any (Copies c) passes
 

@@ -21,7 +21,7 @@ pub record SomeChunk (cells : List Cell) (mask : ℕ) : Type 0 where
   pub within : at < length cells
   pub has_chunks : HoldsAt (HasChunks mask) cells at
 
--- the same cells in another order
+-- The new cells are the old ones in another order.
 pub record IsReordered (old new : List Cell) : Type 0 where
   pub long : length new ≡ length old
   pub counts : (q : ℕ → Bool) → count_with q new ≡ count_with q old

@@ -47,7 +47,7 @@ RefusesSector content honest Failed superblock TooShort = ⊥
 abbrev pub size_of_log : List ℕ → ℕ
 size_of_log superblock = number_at 2 186 superblock
 
--- it has none
+-- The superblock tells of no log.
 abbrev pub HasNoLog : List ℕ → Type 0
 HasNoLog superblock = (size_of_log superblock ≡ 0) ⊎ (log_offset superblock ≡ pos 0)
 

@@ -32,15 +32,15 @@ pub record IsInRole (a : ArrayView) (role k : ℕ) : Type 0 where
 abbrev pub HasRole : ArrayView → ℕ → Type 0
 HasRole a role = (k : ℕ) × IsInRole a role k
 
--- a read of member k's device failed
+-- A read of member k's device failed.
 abbrev pub HasFailed : ℕ → MirrorView → MirrorView → Type 0
 HasFailed k old new = AtDevice k old.disks new.disks (λ d e. d.honest ≡ true → d.failures < e.failures)
 
--- member k, which is m, did not give the sector: it lists it, or failed
+-- Member k, which is m, did not give the sector: it lists it, or failed.
 abbrev pub HasNotGiven : ℕ → MemberView → ℕ → MirrorView → MirrorView → Type 0
 HasNotGiven k m s old new = Lists m s ⊎ HasFailed k old new
 
--- nor did any member in sync
+-- No member in sync gave the sector.
 abbrev pub NoneGives : ℕ → MirrorView → MirrorView → Type 0
 NoneGives s old new = (k : ℕ) (m : MemberView) → IsInSync old.array k m → HasNotGiven k m s old new
 
@@ -67,7 +67,8 @@ pub record GivesIn (role sector : ℕ) (bytes : List ℕ) (old new : MirrorView)
   pub unlisted : (s : ℕ) → sector ≤ s → s < sector + length bytes / 512 → Lists is.member s → ⊥
   pub holds : HoldsData old from sector bytes
 
--- So it is of a run of sectors; and of each of them, while the run was asked for, no member before it in the order of reading gave it.
+-- A run of sectors was given by the member in a role, which lists none of them. While the run was asked for,
+-- no member before it in the order of reading gave any of them.
 pub record GivesRun (sector : ℕ) (run : List ℕ) (old new : MirrorView) : Type 0 where
   pub rests : Rests old new
   pub whole : length run % 512 ≡ 0
@@ -82,7 +83,7 @@ GivesInTurn sector [] old new = Rests old new
 GivesInTurn sector (run ∷ runs) old new =
     (mid : MirrorView) × GivesRun sector run old mid × GivesInTurn (sector + length run / 512) runs mid new
 
--- these bytes were given so
+-- These bytes were given, run by run.
 pub record GivesSectors (sector : ℕ) (bytes : List ℕ) (old new : MirrorView) : Type 0 where
   pub runs : List (List ℕ)
   pub joined : bytes ≡ concat runs
@@ -156,19 +157,21 @@ TriesRole mostly role sector was bytes old new answer.Failed = Rests old new × 
 TriesRole mostly role sector was bytes old new answer.Perhaps = Rests old new × (1 < length was / 512)
 
 -- ---- one group
--- none of its members in sync gave any of these sectors
+-- None of the members in sync of a group, those that are write-mostly or the others, gave any of these
+-- sectors.
 abbrev pub NoneOfGroupGives : Bool → ℕ → ℕ → MirrorView → MirrorView → Type 0
 NoneOfGroupGives mostly sector sectors old new =
     (s : ℕ) → sector ≤ s → s < sector + sectors
     → (k : ℕ) (m : MemberView) → IsInSync old.array k m → is_write_mostly m.superblock ≡ mostly → HasNotGiven k m s old new
 
--- all of its members in sync list all of them
+-- All members in sync of a group, those that are write-mostly or the others, list all of these sectors.
 abbrev pub AllOfGroupList : Bool → ℕ → ℕ → ArrayView → Type 0
 AllOfGroupList mostly sector sectors a =
     (s : ℕ) → sector ≤ s → s < sector + sectors
     → (k : ℕ) (m : MemberView) → IsInSync a k m → is_write_mostly m.superblock ≡ mostly → Lists m s
 
--- one of them gave these sectors, and none of a lower role did
+-- A member in sync that is write-mostly or not, as it is asked, gave these sectors, and none of a lower role
+-- did.
 pub record GivesFirst (mostly : Bool) (sector : ℕ) (bytes : List ℕ) (old new : MirrorView) : Type 0 where
   pub role : ℕ
   pub given : GivesInGroup mostly role sector bytes old new

@@ -27,12 +27,13 @@ IsMarkedAt a s = is_set a.marks.bytes (s / a.chunks.sectors) ≡ true
 abbrev pub IsUnmarkedAt : ArrayView → ℕ → Type 0
 IsUnmarkedAt a s = is_set a.marks.bytes (s / a.chunks.sectors) ≡ false
 
--- so it is of each of so many sectors from this one on
+-- Each of so many sectors from this one on is so.
 abbrev pub AllFrom : ℕ → ℕ → (ℕ → Type 0) → Type 0
 AllFrom sector sectors Of = (s : ℕ) → sector ≤ s → s < sector + sectors → Of s
 
 -- ---- sectors that were given
--- Of marked chunks: a resync would copy each of these sectors from this member, which gave them.
+-- These sectors are of marked chunks, and were given by the member from which a resync would copy each of
+-- them.
 pub record GivesAsSource (sector : ℕ) (run : List ℕ) (old new : MirrorView) : Type 0 where
   pub rests : Rests old new
   pub whole : length run % 512 ≡ 0
@@ -41,7 +42,7 @@ pub record GivesAsSource (sector : ℕ) (run : List ℕ) (old new : MirrorView) 
   pub source : AllFrom sector (length run / 512) (λ s. IsSource from s old.array)
   pub holds : HoldsData old from sector run
 
--- of other chunks: they were given as a `read` gives them
+-- These sectors are of chunks without a mark, and were given as a `read` gives them.
 pub record GivesUnmarked (sector : ℕ) (run : List ℕ) (old new : MirrorView) : Type 0 where
   pub unmarked : AllFrom sector (length run / 512) (IsUnmarkedAt old.array)
   pub gives : GivesRun sector run old new
@@ -49,7 +50,7 @@ pub record GivesUnmarked (sector : ℕ) (run : List ℕ) (old new : MirrorView) 
 abbrev pub GivesPart : ℕ → List ℕ → MirrorView → MirrorView → Type 0
 GivesPart sector run old new = GivesAsSource sector run old new ⊎ GivesUnmarked sector run old new
 
--- one after another
+-- Parts of a range were given, one after another.
 abbrev pub PartsInTurn : ℕ → List (List ℕ) → MirrorView → MirrorView → Type 0
 PartsInTurn sector [] old new = Rests old new
 PartsInTurn sector (run ∷ runs) old new =
@@ -112,7 +113,7 @@ RefusesUnresynced sector bytes old new (fault.ReadFault k s) =
     MayReadSectors old.array sector (length bytes / 512) × EndsAt sector s bytes (fault.ReadFault k s) old new
 
 -- ---- the member that a resync copies from
--- of these sectors
+-- The source of these sectors.
 abbrev pub IsSourceOf : ℕ → ℕ → ArrayView → Source → Type 0
 IsSourceOf sector sectors a (source.Member k) = AllFrom sector sectors (λ s. IsSource k s a)
 IsSourceOf sector sectors a source.Nobody = AllFrom sector sectors (λ s. AllInSync a (λ m. Lists m s))

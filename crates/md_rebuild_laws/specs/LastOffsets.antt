@@ -22,18 +22,19 @@ use Rattle.md_copy.specs.Sources.{missing_chunks}
 use Rattle.md_rebuild_laws.specs.StoppedRebuilds.{IsSuperWhole}
 
 -- ---- what stands there
--- A superblock is read there, and it says this offset.
+-- A superblock is read of this content, and it says this offset.
 pub record SaysOffset (content : List ℕ) (offset : ℕ) : Type 0 where
   pub super : Superblock
   pub read : IsSuperOn content super
   pub each : (v : Superblock) → IsSuperOn content v → v.recovery_offset ≡ offset
 
--- so it is of the target's device, if this is honest, with the offset that is kept
+-- The superblock on the target's device says the offset that memory has, if the device is honest.
 abbrev pub HasOffset : ℕ → MirrorView → Type 0
 HasOffset target v =
     (m : MemberView) (d : Disk) → IsMember v.array target m → slice_get v.disks target ≡ Some d → d.honest ≡ true → SaysOffset d.content m.superblock.recovery_offset
 
--- So it is of one that is recovering before a rebuild, unless its superblock is due.
+-- Before a rebuild the superblock on the device of a recovering target says the offset that memory has, if
+-- the device is honest and the superblock is not due.
 abbrev pub HasOffsetBefore : ℕ → MirrorView → Type 0
 HasOffsetBefore target v =
     (m : MemberView) (d : Disk) → IsMember v.array target m → is_recovering m.state ≡ true → m.due ≡ false → slice_get v.disks target ≡ Some d → d.honest ≡ true
@@ -48,7 +49,8 @@ pub record HasCome (target : ℕ) (left : List ℕ) (copied : Bitmap) (old now :
   pub passed : AreListedPasses target passes (missing_chunks ready.array begins.now) left none copied ready now
   pub had : HasOffsetBefore target old
 
--- Whatever a stop leaves on the way, it says the offset that was kept as this began.
+-- Whatever a stop leaves between two mirrors, the target's superblock says the offset that memory had in the
+-- first.
 abbrev pub FindsOffset : ℕ → MirrorView → MirrorView → Type 0
 FindsOffset target v w =
     (left : List Disk) → MayAllBeLeft v.disks w.disks (contents_of left) → (m : MemberView) (d e : Disk) → IsMember v.array target m
@@ -56,17 +58,20 @@ FindsOffset target v w =
     → SaysOffset stop.content m.superblock.recovery_offset
 
 -- ---- the laws
--- Where a pass begins it stands there: as the admission stored it, or the pass before, or as it stood there before the call.
+-- Where a pass begins, the target's superblock says the offset that memory has. It was stored by the
+-- admission or by the pass before, or it stood there before the call.
 abbrev pub OffsetStands : Type 0
 OffsetStands = (target : ℕ) (chunks : List ℕ) (copied : Bitmap) (old now : MirrorView) → HasCome target chunks copied old now → HasOffset target now
 
--- A stop finds it while the target gets its chunks, whatever comes of it;
+-- A stop while the target gets its chunks finds the offset that memory had as the pass began, whatever comes
+-- of the copying.
 abbrev pub StopsCopyingFind : Type 0
 StopsCopyingFind =
     (target : ℕ) (chunks : List ℕ) (copied : Bitmap) (old now new : MirrorView) → HasCome target chunks copied old now
     → (p : PassView) → IsArrayPass now.array chunks p → (m : MemberView) → IsMember now.array target m → IsFilling target m (slots_of p) now new → FindsOffset target now new
 
--- and where it is stored how far the pass came, this offset or the next one, if the stop left the superblock as it was or as written.
+-- A stop while it is stored how far a pass came finds the offset that memory had before, or the new one, if
+-- it left the superblock as it was or as it is written.
 abbrev pub StopsStoringFind : Type 0
 StopsStoringFind =
     (target : ℕ) (chunks : List ℕ) (copied after : Bitmap) (old now filled new : MirrorView) → HasCome target chunks copied old now
@@ -75,20 +80,20 @@ StopsStoringFind =
     → (m n : MemberView) (d e stop : Disk) → IsMember filled.array target m → IsMember new.array target n → slice_get filled.disks target ≡ Some d → slice_get new.disks target ≡ Some e
     → d.honest ≡ true → slice_get left target ≡ Some stop → SaysOffset stop.content m.superblock.recovery_offset ⊎ SaysOffset stop.content n.superblock.recovery_offset
 
--- From then on it finds the next one: while the lists of sources are stored,
+-- Once it is stored how far a pass came, a stop while the lists of sources are stored finds the new offset.
 abbrev pub StopsListingFind : Type 0
 StopsListingFind =
     (target : ℕ) (chunks : List ℕ) (copied after : Bitmap) (old now recorded new : MirrorView) → HasCome target chunks copied old now
     → (p : PassView) → RecordsPass target chunks p copied after now recorded → ListsAll p.failed recorded new → FindsOffset target recorded new
 
--- also where that fails.
+-- A stop finds the new offset where a list of a source could not be stored, too.
 abbrev pub StopsUnlistedFind : Type 0
 StopsUnlistedFind =
     (target k : ℕ) (chunks : List ℕ) (copied after : Bitmap) (old now recorded noted new : MirrorView) → HasCome target chunks copied old now
     → (p : PassView) → RecordsPass target chunks p copied after now recorded → NotesLists p.failed recorded noted → StopsAtList p.failed k noted new → FindsOffset target noted new
 
--- And an opening finds it: of a member that is recovering then it keeps the offset that is read, or 0 if its superblock is from before marks were last
--- cleared.
+-- An opening keeps the offset that is read of a recovering member. It keeps 0 instead if the superblock is
+-- from before marks were last cleared.
 abbrev pub OpeningsFind : Type 0
 OpeningsFind =
     (before : List Disk) (a : ArrayView) → IsArrayOf before a → AreHonest before → (k offset : ℕ) (d : Disk) (m : MemberView) → slice_get before k ≡ Some d → IsMember a k m

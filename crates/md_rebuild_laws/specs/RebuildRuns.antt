@@ -19,7 +19,7 @@ use Rattle.md_copy.specs.Rebuilding.{Rebuilds}
 use Rattle.md_copy.specs.Rebuilt.{failed_of}
 use Rattle.md_rebuild_laws.specs.RebuiltInLife.{HeldWhatItHad}
 
--- It holds at each moment of each life, with the content that the life has there.
+-- A statement holds at each moment of each life, with the content that the life has there.
 abbrev pub AtMomentsWith : (Moment → Content → Type 0) → Type 0
 AtMomentsWith Holds_at =
     (before : List Disk) (m : MirrorView) (a : Content) → IsStart before m → Holds (geometry_of m.array) a (world_of m none_in_flight)
@@ -46,8 +46,8 @@ RebuildIsARun =
     ((target : ℕ) (told : Rebuilt) (new : MirrorView) (h : Rebuilds target told t.mirror new) → LogsUnshifted (failed_of h.rebuilds.passes) t.mirror
     → HeldWhatItHad target content t.mirror → RunsTo (IsOfRebuild target) t content h.rebuilds.by.enrolled))
 
--- So it is to the end of the call, where what is due then is stored: by these events, of which each write of a superblock that failed left the
--- old superblock, the new one or none.
+-- The rebuild is a run to the end of the call, too, where what is due then is stored: by these events, of
+-- which each write of a superblock that failed left the old superblock, the new one or none.
 abbrev pub RebuildRunsOn : Type 0
 RebuildRunsOn =
     AtMomentsWith (λ t content.

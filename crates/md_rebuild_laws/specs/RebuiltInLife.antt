@@ -24,7 +24,8 @@ use Rattle.md_copy.specs.declared.rebuilt.Rebuilt.{Rebuilt}
 use Rattle.md_copy.specs.Rebuilding.{Rebuilds}
 use Rattle.md_copy.specs.Rebuilt.{HasRebuilt}
 
--- It holds of each rebuild that is done at some moment of a life, with the content that the life has there.
+-- A statement holds of each rebuild that is done at some moment of a life, with the content that the life has
+-- there.
 abbrev pub OfRebuildsInLives : ((target : ℕ) (content : Content) (told : Rebuilt) (old new : MirrorView) → HasRebuilt target told old new → Type 0) → Type 0
 OfRebuildsInLives Of =
     (before : List Disk) (m : MirrorView) (a : Content) → IsStart before m → Holds (geometry_of m.array) a (world_of m none_in_flight)
@@ -49,28 +50,31 @@ HeldWhatItHad target content old =
 abbrev pub HasNothing : MemberView → Type 0
 HasNothing m = (is_spare m.state ≡ true) ⊎ ((is_recovering m.state ≡ true) × (m.superblock.recovery_offset ≡ 0))
 
--- It lacks every chunk, so nothing is asked of it.
+-- A member of which nothing is rebuilt lacks every chunk, and nothing is asked of it.
 abbrev pub NewHadNothing : Type 0
 NewHadNothing =
     (target : ℕ) (content : Content) (old : MirrorView) (m : MemberView) → IsConsistent old → IsMember old.array target m → HasNothing m → HeldWhatItHad target content old
 
--- One that lacks the marked chunks alone, as one that was re-added does, held it, if the device that left lies behind the content by what is
--- marked, and it still has the data of that device in chunks without a mark, and lists there what that listed, or more.
+-- A member that lacks the marked chunks alone, as one that was re-added does, held the content where it
+-- lacked nothing, if the device that left lies behind the content by what is marked. The member still has the
+-- data of that device in chunks without a mark, and lists there what that listed, or more.
 abbrev pub TakenBackHeldIt : Type 0
 TakenBackHeldIt =
     (t : Moment) (target : ℕ) (content : Content) (m : MemberView) → IsMember t.mirror.array target m → is_re_added t.mirror.array m ≡ true
     → (device : Stored) → IsBehind (geometry_of t.mirror.array) content device (world_of t.mirror t.requests)
     → IsRebuiltFrom (geometry_of t.mirror.array) device (world_of t.mirror t.requests) target (lists_of t.mirror.array m) → HeldWhatItHad target content t.mirror
 
--- So did every member that is not in sync, if at that moment a recovering member differs from the content only in what it lacks: by what is
--- marked, and by what its offset has not passed.
+-- Every member that is not in sync held the content where it lacked nothing, if at that moment a recovering
+-- member differs from the content only in what it lacks: by what is marked, and by what its offset has not
+-- passed.
 abbrev pub RecoveringHeldIt : Type 0
 RecoveringHeldIt =
     (t : Moment) (target : ℕ) (content : Content) (m : MemberView) → IsMember t.mirror.array target m → is_in_sync m.state ≡ false
     → RecoveringHolds (geometry_of t.mirror.array) content (world_of t.mirror t.requests) → HeldWhatItHad target content t.mirror
 
--- So it is at each moment of a life that is told what its recovering members have: those of the first opening, each device that is taken
--- back, and of those that a later opening finds what `MirrorLifeJoins` asks.
+-- Members that are not in sync hold the content where they lack nothing, at each moment of a life that is
+-- told what its recovering members have: those of the first opening, each device that is taken back, and of
+-- those that a later opening finds what `MirrorLifeJoins` asks.
 abbrev pub HeldInLives : Type 0
 HeldInLives =
     (before : List Disk) (m : MirrorView) (a : Content) → IsStart before m → Holds (geometry_of m.array) a (world_of m none_in_flight)
@@ -79,14 +83,16 @@ HeldInLives =
     → MirrorLifeJoins m a es rest final last b life
     → (target : ℕ) (n : MemberView) → IsMember last.mirror.array target n → is_in_sync n.state ≡ false → HeldWhatItHad target b last.mirror
 
--- A member that did holds it on each sector of the array that it does not list afterwards.
+-- A rebuilt member that held the content where it lacked nothing holds it afterwards on each sector of the
+-- array that it does not list.
 abbrev pub RebuildsContent : Type 0
 RebuildsContent = OfRebuildsInLives (λ target content told old new r.
     (HeldWhatItHad target content old → (e : Disk) → slice_get new.disks target ≡ Some e
     → (s : ℕ) → s < old.array.chunks.size → (IsBad r.rebuilt.now.bad (r.rebuilt.member.superblock.data_offset + s) → ⊥)
     → part e.content (512 * (r.rebuilt.member.superblock.data_offset + s)) 512 ≡ content s))
 
--- So it does in each such life, with nothing asked of it.
+-- In a life that is told what its recovering members have, a rebuilt member holds the content on each sector
+-- that it does not list, with nothing asked of the member.
 abbrev pub RebuildsResumed : Type 0
 RebuildsResumed =
     (before : List Disk) (m : MirrorView) (a : Content) → IsStart before m → Holds (geometry_of m.array) a (world_of m none_in_flight)

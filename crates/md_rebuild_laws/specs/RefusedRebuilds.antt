@@ -26,7 +26,7 @@ use Rattle.md_copy.specs.Rebuilt.{failed_of}
 use Rattle.md_rebuild_laws.specs.RebuildRuns.{AtMomentsWith, LogsUnshifted, RunsTo}
 use Rattle.md_rebuild_laws.specs.StoppedRebuilds.{HasPassed, IsStopBefore, IsStopUnfinished, IsSuperWhole}
 
--- Memory was refused, or a log had no room, with these chunks copied. So far it came.
+-- A rebuild came to this mirror, with these chunks copied. Then memory was refused, or a log had no room.
 pub record HasStopped (target : ℕ) (copied : Bitmap) (old stopped : MirrorView) : Type 0 where
   pub ready : MirrorView
   pub none : Bitmap
@@ -46,20 +46,21 @@ passes_then (inr (k, inr e)) = e.1.passes
 abbrev pub HasUnshifted : {target : ℕ} {copied : Bitmap} {old stopped : MirrorView} → HasStopped target copied old stopped → Type 0
 HasUnshifted {target} {copied} {old} {stopped} h = LogsUnshifted (failed_of (passes_then h.why)) old
 
--- So far it is a run, along which the content stays.
+-- A rebuild up to the refusal is a run, along which the content stays.
 abbrev pub RefusedIsARun : Type 0
 RefusedIsARun =
     AtMomentsWith (λ t content.
     ((target : ℕ) (copied : Bitmap) (stopped : MirrorView) (h : HasStopped target copied t.mirror stopped) → HasUnshifted h → RunsTo (IsBeforeEnrol target) t content stopped))
 
--- while it is recorded then how far the target is rebuilt
+-- A stop after the refusal, while it is recorded how far the target is rebuilt.
 abbrev pub StopsLeaving : Type 0
 StopsLeaving =
     AtMoments (λ t.
     ((target : ℕ) (copied : Bitmap) (stopped new : MirrorView) (h : HasStopped target copied t.mirror stopped) → HasUnshifted h → Checkpoints target copied stopped new
     → (left : List Disk) → MayAllBeLeft stopped.disks new.disks (contents_of left) → IsSuperWhole target stopped new left → IsStopBefore target t left))
 
--- or that fails
+-- A stop after the refusal, where it can't be recorded how far the target is rebuilt, and its superblock
+-- stays.
 abbrev pub StopsUnleft : Type 0
 StopsUnleft =
     AtMoments (λ t.
@@ -67,7 +68,7 @@ StopsUnleft =
     → (left : List Disk) → MayAllBeLeft stopped.disks new.disks (contents_of left) → AtDevice target stopped.disks left (λ d e. block_on e.content ≡ block_on d.content)
     → IsStopBefore target t left))
 
--- Whatever stands in place of its superblock.
+-- A stop after the refusal, recorded or not, whatever stands in place of the target's superblock.
 abbrev pub StopsLeavingAnyhow : Type 0
 StopsLeavingAnyhow =
     AtMoments (λ t.
@@ -76,8 +77,9 @@ StopsLeavingAnyhow =
     → (left : List Disk) → MayAllBeLeft stopped.disks new.disks (contents_of left) → IsStopUnfinished target t left))
 
 -- ---- where a list of a source could not be stored
--- So far it came, by these events: of them a write may have failed, and each that did left of a superblock the old one, the new one or none; each log
--- was read without a shift, or stored since (`AllLeftWhole`). The target is recovering still.
+-- A rebuild came to this mirror by these events. Some of their writes may have failed. Each write of a
+-- superblock that did left the old one, the new one or none. Each log was read without a shift, or stored
+-- since (`AllLeftWhole`). The target is recovering still.
 pub record HasLost (target : ℕ) (t : Moment) (last : MirrorView) : Type 0 where
   pub chunks : List ℕ
   pub copied : Bitmap
@@ -97,14 +99,15 @@ pub record HasLost (target : ℕ) (t : Moment) (last : MirrorView) : Type 0 wher
 abbrev pub LostIsARun : Type 0
 LostIsARun = AtMomentsWith (λ t content. ((target : ℕ) (last : MirrorView) → HasLost target t last → RunsTo (IsBeforeEnrol target) t content last))
 
--- while it is recorded then how far the target is rebuilt
+-- A stop after a list was lost, while it is recorded how far the target is rebuilt.
 abbrev pub StopsLeavingLost : Type 0
 StopsLeavingLost =
     AtMoments (λ t.
     ((target : ℕ) (nothing : Bitmap) (last new : MirrorView) → HasLost target t last → Checkpoints target nothing last new
     → (left : List Disk) → MayAllBeLeft last.disks new.disks (contents_of left) → IsSuperWhole target last new left → IsStopBefore target t left))
 
--- or that fails
+-- A stop after a list was lost, where it can't be recorded how far the target is rebuilt, and its superblock
+-- stays.
 abbrev pub StopsUnleftLost : Type 0
 StopsUnleftLost =
     AtMoments (λ t.
@@ -112,7 +115,7 @@ StopsUnleftLost =
     → (left : List Disk) → MayAllBeLeft last.disks new.disks (contents_of left) → AtDevice target last.disks left (λ d e. block_on e.content ≡ block_on d.content)
     → IsStopBefore target t left))
 
--- whatever stands in place of its superblock
+-- A stop after a list was lost, recorded or not, whatever stands in place of the target's superblock.
 abbrev pub StopsLeavingLostAnyhow : Type 0
 StopsLeavingLostAnyhow =
     AtMoments (λ t.

@@ -39,8 +39,8 @@ use Rattle.md_rebuild_laws.specs.RebuildRuns.{AtMomentsWith, LogsUnshifted}
 use Rattle.md_rebuild_laws.specs.RebuiltInLife.{HeldWhatItHad}
 
 -- ---- what it leaves
--- It is a stop of a run of events of this kind: they lead from this moment to one from which on a stop leaves that. So the laws over lives
--- speak of it.
+-- What is left is a stop of a run of events of this kind: they lead from this moment to one at which a stop
+-- leaves it. The laws over lives speak of such a stop.
 pub record IsStopAfter (Of : Event → Type 0) (t : Moment) (left : List Disk) : Type 0 where
   pub events : List Event
   pub steps : AllOf Of events
@@ -48,23 +48,25 @@ pub record IsStopAfter (Of : Event → Type 0) (t : Moment) (left : List Disk) :
   pub run : MirrorRun t events at
   pub is_left : IsLeft at left
 
--- So it is, and the target is not in sync yet.
+-- What is left is a stop of a run before the enrolment, and the target is not in sync yet.
 pub record IsStopBefore (target : ℕ) (t : Moment) (left : List Disk) : Type 0 where
   pub after : IsStopAfter (IsBeforeEnrol target) t left
   pub out : (m : MemberView) → IsMember after.at.mirror.array target m → is_in_sync m.state ≡ false
 
--- So it is, and at the last the target may be spoiled: then the next opening has to leave it out.
+-- What is left is a stop of a run in which the target may be spoiled. The target is not in sync yet. Where it
+-- is spoiled, the next opening has to leave it out.
 pub record IsStopUnfinished (target : ℕ) (t : Moment) (left : List Disk) : Type 0 where
   pub after : IsStopAfter (IsOfUnfinished target) t left
   pub out : (m : MemberView) → IsMember after.at.mirror.array target m → is_in_sync m.state ≡ false
 
--- So it is of a run in which the target came into sync, and the content stays what it was: the members in sync hold it, and the target is one
--- of them.
+-- What is left is a stop of a run in which the target came into sync. The content stays what it was: the
+-- members in sync hold it, and the target is one of them.
 pub record IsStopEnrolled (target : ℕ) (t : Moment) (content : Content) (left : List Disk) : Type 0 where
   pub after : IsStopAfter (IsOfRebuild target) t left
   pub content_stays : MirrorRunWith t content after.events after.at content
 
--- So it is, of events by which marks and superblocks are stored, and who was out of sync is so still.
+-- What is left is a stop of a run of events by which marks and superblocks are stored. Each member that was
+-- out of sync is so still.
 pub record IsStopStoring (t : Moment) (left : List Disk) : Type 0 where
   pub after : IsStopAfter IsStoring t left
   pub out : (k : ℕ) (m n : MemberView) → IsMember t.mirror.array k m → IsMember after.at.mirror.array k n → is_in_sync m.state ≡ false → is_in_sync n.state ≡ false
@@ -78,7 +80,8 @@ StopsStoring =
     → (left : List Disk) → StopsIn g.events None t.mirror t.requests (λ m r. (m ≡ new) × (r ≡ t.requests)) (g.leads None t.requests in_flight) left
     → IsStopStoring t left))
 
--- the superblock of the target could not be stored: it was left as it was, as it is written, or as one that can't be decoded
+-- A stop where the target's superblock could not be stored. It was left as it was, as it is written, or as
+-- one that can't be decoded.
 abbrev pub StopsUnrecorded : Type 0
 StopsUnrecorded =
     AtMoments (λ t.
@@ -91,14 +94,14 @@ abbrev pub IsSuperWhole : ℕ → MirrorView → MirrorView → List Disk → Ty
 IsSuperWhole target old new left =
     AtDevice target old.disks left (λ d e. block_on e.content ≡ block_on d.content) ⊎ AtDevice target new.disks left (λ d e. block_on e.content ≡ block_on d.content)
 
--- its superblock is written, once
+-- A stop while the superblock of the spare is written, once.
 abbrev pub StopsAdmitting : Type 0
 StopsAdmitting =
     AtMoments (λ t.
     ((target : ℕ) (admitted : MirrorView) (h : AdmitsAfter target t.mirror admitted)
     → (left : List Disk) → MayAllBeLeft h.stored.disks admitted.disks (contents_of left) → IsSuperWhole target h.stored admitted left → IsStopBefore target t left))
 
--- or that write fails, and left it as it was
+-- A stop where the write by which the spare is admitted fails, and left its superblock as it was.
 abbrev pub StopsUnadmitted : Type 0
 StopsUnadmitted =
     AtMoments (λ t.
@@ -107,7 +110,7 @@ StopsUnadmitted =
     → IsStopBefore target t left))
 
 -- ---- in a pass
--- It has begun, and made these passes, or none: these chunks are left, and those are copied.
+-- A rebuild has begun, and made these passes, or none: these chunks are left, and those are copied.
 pub record HasPassed (target : ℕ) (left : List ℕ) (copied : Bitmap) (old now : MirrorView) : Type 0 where
   pub ready : MirrorView
   pub none : Bitmap
@@ -116,7 +119,7 @@ pub record HasPassed (target : ℕ) (left : List ℕ) (copied : Bitmap) (old now
   pub passed : AreListedPasses target passes (missing_chunks ready.array begins.now) left none copied ready now
   pub unshifted : LogsUnshifted (failed_of passes) old
 
--- while the target gets its chunks, whatever comes of it
+-- A stop while the target gets its chunks, whatever comes of the copying.
 abbrev pub StopsFilling : Type 0
 StopsFilling =
     AtMoments (λ t.
@@ -124,7 +127,7 @@ StopsFilling =
     → (p : PassView) → IsArrayPass now.array chunks p → (m : MemberView) → IsMember now.array target m → IsFilling target m (slots_of p) now new
     → (left : List Disk) → MayAllBeLeft now.disks new.disks (contents_of left) → IsStopBefore target t left))
 
--- while it is recorded how far it is rebuilt
+-- A stop while it is recorded how far the pass came.
 abbrev pub StopsRecording : Type 0
 StopsRecording =
     AtMoments (λ t.
@@ -132,7 +135,7 @@ StopsRecording =
     → (p : PassView) → MakesPass target chunks p copied after now filled → Checkpoints target after filled new
     → (left : List Disk) → MayAllBeLeft filled.disks new.disks (contents_of left) → IsSuperWhole target filled new left → IsStopBefore target t left))
 
--- or that fails, and left its superblock as it was
+-- A stop where it can't be recorded how far the pass came, and the target's superblock stays as it was.
 abbrev pub StopsPassUnrecorded : Type 0
 StopsPassUnrecorded =
     AtMoments (λ t.
@@ -141,14 +144,16 @@ StopsPassUnrecorded =
     → (left : List Disk) → MayAllBeLeft filled.disks new.disks (contents_of left) → AtDevice target filled.disks left (λ d e. block_on e.content ≡ block_on d.content)
     → IsStopBefore target t left))
 
--- Wherever a life has come to, as where a rebuild ends with a fault, it is recorded of a member that is recovering how far it is rebuilt.
+-- A stop at any moment of a life, while it is recorded of a recovering member how far it is rebuilt, as where
+-- a rebuild ends with a fault.
 abbrev pub StopsAtCheckpoint : Type 0
 StopsAtCheckpoint =
     AtMoments (λ t.
     ((target : ℕ) (copied : Bitmap) (new : MirrorView) → Checkpoints target copied t.mirror new
     → (left : List Disk) → MayAllBeLeft t.mirror.disks new.disks (contents_of left) → IsSuperWhole target t.mirror new left → IsStopBefore target t left))
 
--- or that fails
+-- A stop at any moment of a life, where it can't be recorded of a recovering member how far it is rebuilt,
+-- and its superblock stays as it was.
 abbrev pub StopsAtFailedCheckpoint : Type 0
 StopsAtFailedCheckpoint =
     AtMoments (λ t.
@@ -156,8 +161,9 @@ StopsAtFailedCheckpoint =
     → (left : List Disk) → MayAllBeLeft t.mirror.disks new.disks (contents_of left) → AtDevice target t.mirror.disks left (λ d e. block_on e.content ≡ block_on d.content)
     → IsStopBefore target t left))
 
--- While the lists of sources are stored: by these events, of which some may have failed. Each log is one that was read without a shift, or stored
--- since, and each superblock that failed left the old one, the new one or none (`AllLeftWhole`).
+-- A stop while the lists of sources are stored: by these events, of which some may have failed. Each log was
+-- read without a shift, or stored since. Each failed write of a superblock left the old one, the new one or
+-- none (`AllLeftWhole`).
 abbrev pub StopsListing : Type 0
 StopsListing =
     AtMoments (λ t.
@@ -169,7 +175,7 @@ StopsListing =
     → IsStopBefore target t left))
 
 -- ---- while it comes into sync
--- All passes are made, and it may come into sync.
+-- All passes are made, and the target may come into sync.
 pub record HasFilled (target : ℕ) (kept orphans : Bitmap) (old filled : MirrorView) : Type 0 where
   pub ready : MirrorView
   pub none : Bitmap
@@ -180,7 +186,7 @@ pub record HasFilled (target : ℕ) (kept orphans : Bitmap) (old filled : Mirror
   pub fills : FillsBy target begins.now passes none copied kept orphans chunks ready filled
   pub unshifted : LogsUnshifted (failed_of passes) old
 
--- as long as its superblock stands as before
+-- A stop within the enrolment, where the target's superblock stands as before it.
 abbrev pub StopsEnrolling : Type 0
 StopsEnrolling =
     AtMoments (λ t.
@@ -188,7 +194,7 @@ StopsEnrolling =
     → (left : List Disk) → MayAllBeLeft filled.disks new.disks (contents_of left) → AtDevice target filled.disks left (λ d e. block_on e.content ≡ block_on d.content)
     → IsStopBefore target t left))
 
--- or a write of its bitmap or its log fails
+-- A stop where a write of the target's bitmap or of its log fails in the enrolment.
 abbrev pub StopsUnenrolled : Type 0
 StopsUnenrolled =
     AtMoments (λ t.
@@ -196,8 +202,9 @@ StopsUnenrolled =
     → (f : FailsToEnrol target kept orphans filled new) → FailsAtMarks f
     → (left : List Disk) → MayAllBeLeft filled.disks new.disks (contents_of left) → IsStopBefore target t left))
 
--- Where its superblock stands as after it, the target is in sync. Of the target it is asked that it held the content where it lacked nothing.
--- That its superblock was not spoiled is not asked: how far it is rebuilt was recorded on it right before.
+-- A stop within the enrolment, where the target's superblock stands as after it: the target is in sync. Of
+-- the target it is asked that it held the content where it lacked nothing. That its superblock was not
+-- spoiled is not asked: how far it is rebuilt was recorded on it right before.
 abbrev pub StopsEnrolled : Type 0
 StopsEnrolled =
     AtMomentsWith (λ t content.
@@ -206,7 +213,7 @@ StopsEnrolled =
     → (left : List Disk) → MayAllBeLeft filled.disks new.disks (contents_of left) → AtDevice target new.disks left (λ d e. block_on e.content ≡ block_on d.content)
     → IsStopEnrolled target t content left))
 
--- so it is while marks and superblocks are stored after that
+-- A stop while marks and superblocks are stored after the enrolment: the target is in sync.
 abbrev pub StopsSettling : Type 0
 StopsSettling =
     AtMomentsWith (λ t content.
@@ -224,21 +231,21 @@ StopsTelling =
     ((target : ℕ) (new : MirrorView) (e : EndsStoring target t.mirror (FailsOnTarget target t.mirror new))
     → (left : List Disk) → MayAllBeLeft e.why.mid.disks new.disks (contents_of left) → IsStopUnfinished target t left))
 
--- while it is admitted
+-- A stop while the spare is admitted, whatever its superblock.
 abbrev pub StopsAdmittingAnyhow : Type 0
 StopsAdmittingAnyhow =
     AtMoments (λ t.
     ((target : ℕ) (admitted : MirrorView) (h : AdmitsAfter target t.mirror admitted)
     → (left : List Disk) → MayAllBeLeft h.stored.disks admitted.disks (contents_of left) → IsStopUnfinished target t left))
 
--- or that fails
+-- A stop where the admission fails, whatever the superblock of the spare.
 abbrev pub StopsUnadmittedAnyhow : Type 0
 StopsUnadmittedAnyhow =
     AtMoments (λ t.
     ((target : ℕ) (new : MirrorView) (h : FailsAdmission target t.mirror new)
     → (left : List Disk) → MayAllBeLeft h.stored.disks new.disks (contents_of left) → IsStopUnfinished target t left))
 
--- while it is recorded how far it is rebuilt
+-- A stop while it is recorded how far the pass came, done or failed, whatever the target's superblock.
 abbrev pub StopsRecordingAnyhow : Type 0
 StopsRecordingAnyhow =
     AtMoments (λ t.
@@ -246,7 +253,8 @@ StopsRecordingAnyhow =
     → (p : PassView) → MakesPass target chunks p copied after now filled → Checkpoints target after filled new ⊎ FailsToCheckpoint target after filled new
     → (left : List Disk) → MayAllBeLeft filled.disks new.disks (contents_of left) → IsStopUnfinished target t left))
 
--- so wherever a life has come to
+-- A stop at any moment of a life, while it is recorded of a recovering member how far it is rebuilt, done or
+-- failed, whatever its superblock.
 abbrev pub StopsAtCheckpointAnyhow : Type 0
 StopsAtCheckpointAnyhow =
     AtMoments (λ t.
@@ -254,14 +262,14 @@ StopsAtCheckpointAnyhow =
     → ((m : MemberView) → IsMember t.mirror.array target m → is_recovering m.state ≡ true)
     → (left : List Disk) → MayAllBeLeft t.mirror.disks new.disks (contents_of left) → IsStopUnfinished target t left))
 
--- while it comes into sync
+-- A stop within the enrolment, whatever the target's superblock.
 abbrev pub StopsEnrollingAnyhow : Type 0
 StopsEnrollingAnyhow =
     AtMoments (λ t.
     ((target : ℕ) (kept orphans : Bitmap) (filled new : MirrorView) → HasFilled target kept orphans t.mirror filled → Enrols target kept orphans filled new
     → (left : List Disk) → MayAllBeLeft filled.disks new.disks (contents_of left) → IsStopUnfinished target t left))
 
--- or the last write of that fails
+-- A stop where the last write of the enrolment fails, that of the superblock, whatever it left.
 abbrev pub StopsUnenrolledAnyhow : Type 0
 StopsUnenrolledAnyhow =
     AtMoments (λ t.
@@ -277,12 +285,13 @@ OfSuper = ℕ → MirrorView → MirrorView → List Disk → Type 0
 abbrev pub Anyhow : OfSuper
 Anyhow target old new left = Unit {0}
 
--- the stop came while what is due was stored
+-- The stop came while what is due was stored.
 abbrev pub StopsFirst : (old new : MirrorView) → StoresFirst old new → (requests : Requests) → AreInFlight old.array requests → List Disk → Type 0
 StopsFirst old new first requests in_flight left =
     StopsIn first.stores.goes.events None old requests (λ m r. (m ≡ new) × (r ≡ requests)) (first.stores.goes.leads None requests in_flight) left
 
--- So it came; or, of a spare, before it was admitted, while it was, or while what was due then was stored.
+-- The stop came before the first pass. Of a recovering target it came while what is due was stored. Of a
+-- spare it came before the admission, within it, or while what was due then was stored.
 abbrev pub StopsReadying : OfSuper → (target : ℕ) (m : MemberView) (old ready : MirrorView) → Readies target m old ready → (requests : Requests) → AreInFlight old.array requests → List Disk → Type 0
 StopsReadying Super target m old ready (inl h) requests in_flight left = StopsFirst old ready h.1 requests in_flight left
 StopsReadying Super target m old ready (inr h) requests in_flight left =
@@ -290,32 +299,33 @@ StopsReadying Super target m old ready (inr h) requests in_flight left =
     ⊎ ((MayAllBeLeft h.1.after.stored.disks h.1.admitted.disks (contents_of left) × Super target h.1.after.stored h.1.admitted left)
     ⊎ ((then : AreInFlight h.1.admitted.array requests) × StopsFirst h.1.admitted ready h.1.then requests then left))
 
--- It came within a pass: while the target was filled, or while how far that came was recorded.
+-- The stop came within a pass: while the target was filled, or while it was recorded how far that came.
 abbrev pub StopsInPass : OfSuper → (target : ℕ) (chunks : List ℕ) (p : PassView) (before after : Bitmap) (old new : MirrorView) → RecordsPass target chunks p before after old new → List Disk → Type 0
 StopsInPass Super target chunks p before after old new h left =
     MayAllBeLeft old.disks h.filled.disks (contents_of left) ⊎ (MayAllBeLeft h.filled.disks new.disks (contents_of left) × Super target h.filled new left)
 
--- or while the lists were stored of what failed in it
+-- The stop came within a pass, or while the lists were stored of what failed in it.
 abbrev pub StopsInListed : OfSuper → (target : ℕ) (chunks : List ℕ) (p : PassView) (before after : Bitmap) (old new : MirrorView) → ListsPass target chunks p before after old new → Requests → List Disk → Type 0
 StopsInListed Super target chunks p before after old new h requests left =
     StopsInPass Super target chunks p before after old h.recorded h.records left
     ⊎ ((in_flight : AreInFlight h.lists.noted.array requests)
     × StopsIn h.lists.stores.goes.events None h.lists.noted requests (λ m r. (m ≡ new) × (r ≡ requests)) (h.lists.stores.goes.leads None requests in_flight) left)
 
--- so within one of several
+-- The stop came within one of several passes of which slots failed.
 abbrev pub StopsInPasses : OfSuper → (target : ℕ) (passes : List PassView) (chunks rest : List ℕ) (before after : Bitmap) (old new : MirrorView) → AreListedPasses target passes chunks rest before after old new
     → Requests → List Disk → Type 0
 StopsInPasses Super target [] chunks rest before after old new h requests left = ⊥
 StopsInPasses Super target (p ∷ ps) chunks rest before after old new h requests left =
     StopsInListed Super target chunks p before h.0 old h.1 h.2 requests left ⊎ StopsInPasses Super target ps (failed_chunks p) rest h.0 after h.1 new h.3 requests left
 
--- or within the last
+-- The stop came within one of the passes of which slots failed, or within the last one.
 abbrev pub StopsCopying : OfSuper → (target : ℕ) (m : MemberView) (passes : List PassView) (before after : Bitmap) (old new : MirrorView) → CopiesAll target m passes before after old new → Requests → List Disk → Type 0
 StopsCopying Super target m passes before after old new h requests left =
     StopsInPasses Super target h.listed (missing_chunks old.array m) h.left before h.mid old h.now h.passed requests left
     ⊎ StopsInPass Super target h.left h.last h.mid after h.now new h.records left
 
--- It came until a pass might be planned; or within the passes, while the target came into sync, or while what was due then was stored.
+-- The stop came before the first pass, within the passes, while the target came into sync, or while what was
+-- due then was stored.
 abbrev pub StopsWithin : OfSuper → (target : ℕ) (told : Rebuilt) (old new : MirrorView) → Rebuilds target told old new → (requests : Requests) → AreInFlight old.array requests → List Disk → Type 0
 StopsWithin Super target told old new h requests in_flight left =
     StopsReadying Super target h.begins.member old h.ready h.begins.first requests in_flight left
@@ -325,7 +335,8 @@ StopsWithin Super target told old new h requests in_flight left =
     × AllLeftWhole g.events None h.rebuilds.by.enrolled requests (λ m r. (m ≡ settled) × (r ≡ requests)) (g.leads None requests then)
     × StopsIn g.events None h.rebuilds.by.enrolled requests (λ m r. (m ≡ settled) × (r ≡ requests)) (g.leads None requests then) left)))
 
--- Whenever it came, the target is not in sync yet, or the enrolment is done and the members in sync hold the content.
+-- Whenever the stop came, the target is not in sync yet, or the enrolment is done and the members in sync
+-- hold the content.
 abbrev pub StopsInRebuild : Type 0
 StopsInRebuild =
     AtMomentsWith (λ t content.
@@ -334,7 +345,8 @@ StopsInRebuild =
     → (in_flight : AreInFlight t.mirror.array t.requests) (left : List Disk) → StopsWithin IsSuperWhole target told t.mirror new h t.requests in_flight left
     → IsStopBefore target t left ⊎ IsStopEnrolled target t content left))
 
--- So it is with nothing asked of the target's superblock at the stop; but the target may be spoiled then.
+-- With nothing asked of the target's superblock at the stop, the target is not in sync yet, and may be
+-- spoiled; or the enrolment is done and the members in sync hold the content.
 abbrev pub StopsAnyhow : Type 0
 StopsAnyhow =
     AtMomentsWith (λ t content.

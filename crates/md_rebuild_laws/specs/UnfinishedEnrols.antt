@@ -9,13 +9,14 @@ use Rattle.md_laws.specs.Left.{IsLeft, IsLeftWithin}
 use Rattle.md_laws.specs.Runs.{Moment}
 use Rattle.md_copy.specs.RebuildEvents.{FailsAtMarks}
 
--- It is a member that is prepared, in part: so it is the event `Prepare`, whatever that write left.
+-- An `enrol` of which a write of the bitmap or of the log failed is the event `Prepare`, whatever that write
+-- left: a member that is prepared, in part.
 abbrev pub UnfinishedEnrolsPrepare : Type 0
 UnfinishedEnrolsPrepare =
     (k : ℕ) (copied orphans : Bitmap) (old new : MirrorView) → IsConsistent old → MayEnrol k copied orphans old
     → (f : FailsToEnrol k copied orphans old new) → FailsAtMarks f → Prepares k old new
 
--- A stop at any moment within it is one of a run: so the laws over lives speak of it.
+-- A stop at any moment within such an `enrol` is one of a run, and the laws over lives speak of it.
 abbrev pub StopsUnfinishedEnrol : Type 0
 StopsUnfinishedEnrol =
     (t : Moment) (k : ℕ) (copied orphans : Bitmap) (new : MirrorView) → IsConsistent t.mirror → MayEnrol k copied orphans t.mirror

@@ -64,7 +64,7 @@ pub fn stopped_rebuilds()
     ensures enrolling_anyhow { StopsEnrollingAnyhow }
     ensures unenrolled_anyhow { StopsUnenrolledAnyhow }
 
-    // So of a rebuild that is done, whenever the stop came.
+    // A stop at any moment of a rebuild that is done.
     ensures done { StopsInRebuild }
     ensures anyhow { StopsAnyhow }
 {}

@@ -46,19 +46,19 @@ pub record Copies (Of : ℕ → Type 0) (old new : MirrorView) : Type 0 where
   pub array : new.array ≡ old.array
 
 -- ---- of which sectors that is said
--- those from this one on, and before that one
+-- The sector lies from the first of these on, and before the second.
 abbrev pub IsBetween : ℕ → ℕ → ℕ → Type 0
 IsBetween start end s = (start ≤ s) × (s < end)
 
--- those of these bytes
+-- The sector is one of those that these bytes take from this sector on.
 abbrev pub IsAmong : ℕ → List ℕ → ℕ → Type 0
 IsAmong sector bytes = IsBetween sector (sector + length bytes / 512)
 
--- those of a chunk
+-- The sector is of this chunk of the array.
 abbrev pub IsOfChunk : ArrayView → ℕ → ℕ → Type 0
 IsOfChunk a chunk s = (s < a.chunks.size) × (s / a.chunks.sectors ≡ chunk)
 
--- those of marked chunks
+-- The sector is of a marked chunk of the array.
 abbrev pub IsMarkedAt : ArrayView → ℕ → Type 0
 IsMarkedAt a s = (s < a.chunks.size) × (is_set a.marks.bytes (s / a.chunks.sectors) ≡ true)
 
@@ -75,7 +75,7 @@ pub record IsRun (from sector : ℕ) (bytes : List ℕ) (v : MirrorView) : Type 
   pub source : (s : ℕ) → sector ≤ s → s < sector + sectors → IsSource from s v.array
   pub holds : HoldsData v from sector bytes
 
--- the sector is none of those of the bytes
+-- The sector is none of those of the bytes.
 abbrev pub IsBeside : ℕ → List ℕ → ℕ → Type 0
 IsBeside sector bytes s = (s < sector) ⊎ (512 * sector + length bytes ≤ 512 * s)
 
@@ -86,14 +86,15 @@ pub record GivesTo (k sector : ℕ) (bytes : List ℕ) (old new : MirrorView) : 
   pub kept : (j : ℕ) → HoldsData old j sector bytes → HoldsData new j sector bytes
   pub agree : (s : ℕ) → IsBeside sector bytes s → AllAgreeAt old s → AllAgreeAt new s
 
--- so has each member in sync before this one
+-- Each member in sync before member k has the bytes. Who had them has them, and members that agreed in
+-- another sector agree there.
 pub record GivesBelow (k sector : ℕ) (bytes : List ℕ) (old new : MirrorView) : Type 0 where
   pub copies : Copies (IsAmong sector bytes) old new
   pub given : (j : ℕ) (m : MemberView) → j < k → IsInSync new.array j m → HoldsData new j sector bytes
   pub kept : (j : ℕ) → HoldsData old j sector bytes → HoldsData new j sector bytes
   pub agree : (s : ℕ) → IsBeside sector bytes s → AllAgreeAt old s → AllAgreeAt new s
 
--- so has each
+-- Each member in sync has the bytes, and members that agreed in another sector agree there.
 pub record GivesAll (sector : ℕ) (bytes : List ℕ) (old new : MirrorView) : Type 0 where
   pub copies : Copies (IsAmong sector bytes) old new
   pub given : (j : ℕ) (m : MemberView) → IsInSync new.array j m → HoldsData new j sector bytes
@@ -117,13 +118,13 @@ pub record CopiesRun (sector end next : ℕ) (old new : MirrorView) : Type 0 whe
   pub within : next ≤ end
   pub agrees : AgreesTo sector next old new
 
--- in each sector of a chunk
+-- Members in sync agree in each sector of this chunk, and wherever they agreed.
 pub record CopiesChunk (chunk : ℕ) (old new : MirrorView) : Type 0 where
   pub copies : Copies (IsOfChunk old.array chunk) old new
   pub agree : (s : ℕ) → s < old.array.chunks.size → s / old.array.chunks.sectors ≡ chunk → AllAgreeAt new s
   pub still : (s : ℕ) → AllAgreeAt old s → AllAgreeAt new s
 
--- so it is, if the chunk is marked
+-- Members in sync agree in each sector of this chunk, if it is marked, and wherever they agreed.
 pub record CopiesIfMarked (chunk : ℕ) (old new : MirrorView) : Type 0 where
   pub copies : Copies (IsOfChunk old.array chunk) old new
   pub agree : is_set old.array.marks.bytes chunk ≡ true → (s : ℕ) → s < old.array.chunks.size → s / old.array.chunks.sectors ≡ chunk → AllAgreeAt new s
@@ -139,8 +140,8 @@ pub record CopiesMarked (old new : MirrorView) : Type 0 where
   pub agree : AllAgreeWhereMarked new
 
 -- ---- why it does not come to its end
--- Of such sectors, in a marked chunk, this is the first that was not copied. Those before it agree. Member k is the one to give it, and
--- could not be read.
+-- The copying of sectors of a kind, in a marked chunk, came to this one, the first that was not copied. Those
+-- before it agree. Member k is the one to give it, and could not be read.
 pub record FailsReading (Of : ℕ → Type 0) (k chunk : ℕ) (old new : MirrorView) : Type 0 where
   pub sector : ℕ
   pub of : Of sector
@@ -163,7 +164,7 @@ pub record LosesCopying (k : ℕ) (old new : MirrorView) : Type 0 where
   pub idle : IsIdle new.array
   pub faulty : IsFaulty k new.array
 
--- and can't be made faulty, so that the mirror is halted
+-- A member could not be written that can't be made faulty, so that the mirror is halted.
 pub record HaltsCopying (old new : MirrorView) : Type 0 where
   pub mid : MirrorView
   pub goes : CopyingGoesOn old mid
@@ -181,7 +182,7 @@ GivingFails old new NoMemory = ⊥
 GivingFails old new (ReadFault k chunk) = ⊥
 GivingFails old new (MemberFailed k) = LosesCopying k old new
 
--- such sectors are not all copied
+-- The sectors of a kind are not all copied, for this fault.
 abbrev pub CopyingFails : (ℕ → Type 0) → MirrorView → MirrorView → ResyncFault → Type 0
 CopyingFails Of old new Halted = HaltsCopying old new
 CopyingFails Of old new (InFlight n) = ⊥

@@ -40,7 +40,8 @@ IsOfResync Event.Resynced = Unit {0}
 IsOfResync (Event.ClearIdle c) = Unit {0}
 IsOfResync e = ⊥
 
--- Such events were done, one after another; devices were read between them, but none where only one member is in sync.
+-- Events of a resync were done, one after another. Devices were read between them, but none where only one
+-- member is in sync.
 pub record GoesOn (old new : MirrorView) : Type 0 where
   pub events : List Event
   pub steps : AllOf IsOfResync events
@@ -48,7 +49,7 @@ pub record GoesOn (old new : MirrorView) : Type 0 where
   pub by_steps : GoesBySteps events old new
   pub unread : IsAlone old.array → (previous : Option Event) (requests : Requests) → AreInFlight old.array requests → Leads previous old requests events new requests
 
--- So they were, and at the end it was kept that the array is not resynced.
+-- Events of a resync were done, one after another, and at the end it was kept that the array is not resynced.
 pub record GoesUnresynced (old new : MirrorView) : Type 0 where
   pub events : List Event
   pub steps : AllOf IsOfResync events
@@ -76,17 +77,18 @@ abbrev pub AgreeUnstored : Geometry → World → Type 0
 AgreeUnstored g w =
     (j k s : ℕ) → s < g.size → worlds.IsInSync w j → worlds.IsInSync w k → w.bad j s ≡ true → IsQuiet w s → AgreeAt (w.stored j) (w.stored k) s
 
--- This content turns into one that members in sync hold after it: the same in each chunk that had no mark in memory, and throughout where
--- the array was resynced.
+-- A content turns into one that members in sync hold after the resync. It is the same in each chunk that had
+-- no mark in memory, and throughout where the array was resynced.
 abbrev pub HasSettled : MirrorView → Requests → Content → MirrorView → Type 0
 HasSettled old requests a new =
     (b : Content) × HoldsBetween (geometry_of old.array) b (world_of new requests)
     × ((s : ℕ) → s < old.array.chunks.size → is_set old.array.marks.bytes (s / old.array.chunks.sectors) ≡ false → b s ≡ a s)
     × (old.array.resynced ≡ true → (s : ℕ) → s < old.array.chunks.size → b s ≡ a s)
 
--- So does one that members in sync held before it. A resync makes members agree where neither lists a sector in memory. A content is held
--- where a device lists nothing, so of an array that was not resynced it is asked that members agreed in the sectors between: in the life of
--- a mirror they do (`laws::resynced_in_life`).
+-- A content that members in sync held before a resync turns into one that they hold after it. A resync makes
+-- members agree where neither lists a sector in memory. A content is held where a device lists nothing, so of
+-- an array that was not resynced it is asked that members agreed in the sectors between: in the life of a
+-- mirror they do (`laws::resynced_in_life`).
 abbrev pub SettlesContent : MirrorView → MirrorView → Type 0
 SettlesContent old new =
     AreHonest old.disks → (requests : Requests) → AreInFlight old.array requests → (a : Content) → HoldsBetween (geometry_of old.array) a (world_of old requests)
@@ -115,7 +117,7 @@ pub record ComesTo (sector k chunk : ℕ) (events : List Event) (old new : Mirro
   pub before : (s : ℕ) → s < sector → is_set old.array.marks.bytes (s / old.array.chunks.sectors) ≡ true → AllAgreeAt new s
   pub none : AllOf (IsCopyBelow sector) events
 
--- it did not come to its end, and that is kept
+-- A resync did not come to its end, and that is kept.
 pub record EndsUnresynced (old new : MirrorView) : Type 0 where
   pub idle : IsIdle old.array
   pub goes : GoesUnresynced old new
@@ -176,7 +178,7 @@ RefusesResync old new (ReadFault k chunk) = ReadingFails k chunk old new
 RefusesResync old new (MemberFailed k) = LosesMember k old new
 
 -- ---- before it is kept that the array is not resynced
--- its events were done, none of them failed, and nothing is in flight
+-- Events of a resync were done, none of them failed, and nothing is in flight.
 pub record Advances (old new : MirrorView) : Type 0 where
   pub goes : GoesOn old new
   pub unfailing : AllOf IsNoFailure goes.events
@@ -265,7 +267,7 @@ pub record Agrees (old new : MirrorView) : Type 0 where
   pub agree : AllAgreeWhereMarked new
   pub content : KeepsContent old new
 
--- They are not made to agree: there are two, and not all sectors of marked chunks are copied.
+-- The members in sync are not made to agree: there are two, and not all sectors of marked chunks are copied.
 pub record AgreeingFails (old new : MirrorView) (fault : ResyncFault) : Type 0 where
   pub two : IsAlone old.array → ⊥
   pub copying : CopyingFails (IsMarkedAt old.array) old new fault

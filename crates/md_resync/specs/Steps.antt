@@ -51,7 +51,7 @@ StepsInTurn old before (MirrorStep.CopyRun r ∷ steps) Then =
     (rested mid : MirrorView) × Rests old rested × CopiesTo r.to r.sector r.bytes rested mid
     × ((previous : Option Event) → Leads previous rested before (copies_in r) mid before) × StepsInTurn mid before steps Then
 
--- they lead to this mirror, with these requests
+-- These steps lead from the one mirror to the other, with their requests.
 abbrev pub StepsLead : MirrorView → Requests → List MirrorStep → MirrorView → Requests → Type 0
 StepsLead old before steps new after = StepsInTurn old before steps (λ m r. (m ≡ new) × (r ≡ after))
 

@@ -21,7 +21,8 @@ StopsInSteps [] old before Then t left = ⊥
 StopsInSteps (MirrorStep.Single e ∷ steps) old before Then t left = MayAllBeLeft t.0.disks t.1.disks (contents_of left) ⊎ StopsInSteps steps t.1 t.2 Then t.8 left
 StopsInSteps (MirrorStep.CopyRun r ∷ steps) old before Then t left = MayAllBeLeft t.0.disks t.1.disks (contents_of left) ⊎ StopsInSteps steps t.1 before Then t.5 left
 
--- It is a stop of a run of such events: they lead from this moment to one from which on a stop leaves that.
+-- What is left is a stop of a run of events of a resync: they lead from this moment to one at which a stop
+-- leaves it.
 pub record IsStopOfRun (t : Moment) (left : List Disk) : Type 0 where
   pub events : List Event
   pub steps : AllOf IsResyncing events
@@ -29,7 +30,8 @@ pub record IsStopOfRun (t : Moment) (left : List Disk) : Type 0 where
   pub run : MirrorRun t events at
   pub is_left : IsLeft at left
 
--- So it is wherever a life has come to, whatever comes of the resync, and whatever was left. (Of a write that halts the mirror this is said before it.)
+-- At any moment of a life what a stop within a resync leaves is a stop of a run, whatever comes of the
+-- resync, and whatever was left. (Of a write that halts the mirror this is said before it.)
 abbrev pub StopsAreOfRuns : Type 0
 StopsAreOfRuns =
     AtMoments (λ t.

@@ -42,7 +42,7 @@ pub fn resync<D: Device + Drop>(alloc: Global, mirror: &mut Mirror<D>) -> Result
     }
 }
 
-// Does all of it while nothing is in flight, but for what is kept where it does not come to its end.
+// Resynchronises while nothing is in flight, but for what is kept where it does not come to its end.
 fn resync_idle<D: Device + Drop>(alloc: Global, mirror: &mut Mirror<D>) -> Result<(), ResyncFault>
     requires sound { IsConsistent mirror.old }
     requires idle { IsIdle mirror.old.array }
@@ -57,7 +57,7 @@ fn resync_idle<D: Device + Drop>(alloc: Global, mirror: &mut Mirror<D>) -> Resul
     resync_through(mirror, &mut buffer, &mut held)
 }
 
-// So through buffers of one length.
+// Resynchronises while nothing is in flight, through buffers of one length.
 fn resync_through<D: Device + Drop>(
     mirror: &mut Mirror<D>,
     buffer: &mut [u8],

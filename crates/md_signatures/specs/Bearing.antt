@@ -13,7 +13,8 @@ use Rattle.md_signatures.specs.Table.{magics, md_magic}
 abbrev pub md_090_place : ℕ → Option ℕ
 md_090_place sectors = if nat_lt sectors 128 then None else Some (512 * (sectors / 128 * 128 - 128))
 
--- that of version 1.0 (super_1_load of md.c): the last multiple of 4 KiB after which there are 8 KiB
+-- The place of a superblock of version 1.0 (super_1_load of md.c): the last multiple of 4 KiB after which
+-- there are 8 KiB.
 abbrev pub md_10_place : ℕ → Option ℕ
 md_10_place sectors = if nat_lt sectors 16 then None else Some (512 * ((sectors - 16) / 8 * 8))
 
@@ -22,7 +23,7 @@ abbrev pub has_superblock : List ℕ → Option ℕ → Bool
 has_superblock content None = false
 has_superblock content (Some place) = has_sign content (sign place md_magic)
 
--- one of its magic numbers stands on the device
+-- A magic number of the signature stands on the device.
 abbrev pub has_magic : List ℕ → Signature → Bool
 has_magic content s = list_any (has_sign content) (magics s)
 

@@ -23,7 +23,7 @@ pub record IsLeastFree (a : ArrayView) (role : ℕ) : Type 0 where
 abbrev pub AreAllTaken : ArrayView → Type 0
 AreAllTaken a = (r : ℕ) → r < a.shared.raid_disks → is_taken a r ≡ true
 
--- it gets a role, if a superblock has room for its number
+-- A member gets a role, if a superblock has room for its number.
 pub record GetsRole (a : ArrayView) (m : MemberView) (role : ℕ) : Type 0 where
   pub small : m.superblock.dev_number < 1920
   pub least : IsLeastFree a role

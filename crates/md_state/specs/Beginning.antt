@@ -42,7 +42,7 @@ pub record HasMarked (a : ArrayView) (sector sectors : ℕ) (new : Bitmap) : Typ
 abbrev pub counted : ArrayView → ArrayView
 counted a = cond (has_to_rise a) (risen a (not (is_degraded a))) a
 
--- it is clean no more
+-- The array is clean no more.
 abbrev pub active_offset : ℕ → ℕ
 active_offset offset = cond (offset == clean_offset) 0 offset
 
@@ -62,7 +62,7 @@ pub record Begins (sector : ℕ) (bytes : List ℕ) (old new : MirrorView) (p : 
   pub array : new.array ≡ with_request (counted old.array) sector (length bytes / 512) new.array.marks
   pub pending : p ≡ record { ticket = record { name = old.array.requests.name; number = old.array.requests.next }; sector = sector; bytes = bytes; written = [] }
 
--- it has no sector, or some past the end
+-- A request has no sector, or some past the end.
 pub record IsOutOfRange (a : ArrayView) (sector sectors : ℕ) : Type 0 where
   pub running : a.halted ≡ false
   pub out : IsInRange a sector sectors → ⊥

@@ -3,15 +3,15 @@ use Rattle.std.specs.Prelude.{◌≡◌, ℕ, ◌<◌, ◌≤◌, true, List, le
 use Rattle.md_device.specs.Stops.{LeavesMore}
 use Rattle.md_state.specs.View.{Disk}
 
--- a device is what it was
+-- A device is what it was.
 abbrev pub IsUnchanged : Disk → Disk → Type 0
 IsUnchanged old new = new.content ≡ old.content
 
--- between two moments of it a stop leaves what has P
+-- Between two moments of a device a stop leaves what has P.
 abbrev pub LeavesOn : (List ℕ → Type 0) → Disk → Disk → Type 0
 LeavesOn P d e = LeavesMore d.stops e.stops P
 
--- and nothing but what it was
+-- Between two moments of an honest device a stop leaves what the device was at the first.
 abbrev pub LeavesAsWas : Disk → Disk → Type 0
 LeavesAsWas d e = d.honest ≡ true → LeavesOn (λ left. left ≡ d.content) d e
 
@@ -19,7 +19,7 @@ LeavesAsWas d e = d.honest ≡ true → LeavesOn (λ left. left ≡ d.content) d
 abbrev pub IsLeftAlone : Disk → Disk → Type 0
 IsLeftAlone d e = IsUnchanged d e × LeavesAsWas d e
 
--- it stays honest or not, and its failures are counted
+-- A device stays honest or not, and its failures are counted.
 pub record StaysHonest (old new : Disk) : Type 0 where
   pub honest : new.honest ≡ old.honest
   pub counted : old.failures ≤ new.failures

@@ -23,7 +23,7 @@ pub record IsWritten (k : ℕ) (w : Write) (before after : List Disk) : Type 0 w
   pub done : AtDevice k before after (λ d e. d.honest ≡ true → e.content ≡ written d.content w.sector w.bytes)
   pub within : AtDevice k before after (λ d e. d.honest ≡ true → LeavesOn (IsCutShort d.content (w ∷ [])) d e)
 
--- it failed: any bytes may stand in its range, and a stop within it leaves so
+-- The write failed: any bytes may stand in its range, and a stop within it leaves so.
 pub record IsFailed (k : ℕ) (w : Write) (before after : List Disk) : Type 0 where
   pub tried : IsTried k w before after
   pub failed : AtDevice k before after (λ d e. d.honest ≡ true → d.failures < e.failures)

@@ -15,7 +15,7 @@ use Rattle.md_state.specs.Rising.{HasSpentEvents}
 use Rattle.md_state.specs.View.{ArrayView}
 
 -- ---- whether it may come into sync
--- it is recovering in this role
+-- Member k may come into sync in this role: it is recovering in it, the mirror runs, and the count can rise.
 pub record MayTakeRole (k : ℕ) (a : ArrayView) (role : ℕ) : Type 0 where
   pub running : a.halted ≡ false
   pub member : MemberView
@@ -45,7 +45,7 @@ pub record ComesWith (k role : ℕ) (copied orphans : Bitmap) (a : ArrayView) (n
   pub room : HasRoomFor member.superblock list
   pub comes : ComesIntoSync role list a.marks member n
 
--- its log has no room for its list
+-- Member k's log has no room for its list.
 pub record HasFullLog (k : ℕ) (copied orphans : Bitmap) (a : ArrayView) : Type 0 where
   pub member : MemberView
   pub at : IsMember a k member

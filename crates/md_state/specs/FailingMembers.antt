@@ -29,14 +29,14 @@ pub record FailsMember (k : ℕ) (old new : MirrorView) : Type 0 where
   pub disks : new.disks ≡ old.disks
   pub array : Fails k old.array new.array
 
--- one that is neither in sync nor recovering
+-- Member k is neither in sync nor recovering.
 pub record IsNotActive (k : ℕ) (a : ArrayView) : Type 0 where
   pub running : a.halted ≡ false
   pub member : MemberView
   pub at : IsMember a k member
   pub out : is_active member.state ≡ false
 
--- No other member is in sync. As some member is so while the mirror runs, it is this one.
+-- No member but member k is in sync. As some member is so while the mirror runs, it is this one.
 pub record IsLastMember (k : ℕ) (a : ArrayView) : Type 0 where
   pub runs : IsRunningWith k a
   pub last : IsLastInSync a.members k

@@ -50,7 +50,8 @@ abbrev pub IsServed : ArrayView → ℕ → ℕ → Type 0
 IsServed a chunk role =
     (k : ℕ) × (m : MemberView) × IsMember a k m × (is_in_sync_as role m.state ≡ true) × IsUnlisted a chunk m
 
--- So does a member that is not write-mostly, in some role. Roles of members in sync are below raid_disks, and that is at most 32.
+-- Some member in sync that is not write-mostly serves the chunk: it lists no sector of it. Roles of members
+-- in sync are below raid_disks, and that is at most 32.
 abbrev pub IsServedPlainly : ArrayView → ℕ → Type 0
 IsServedPlainly a chunk =
     (role : ℕ) × (role < 32) × (k : ℕ) × (m : MemberView) × IsMember a k m × (is_in_sync_as role m.state ≡ true) × IsUnlisted a chunk m

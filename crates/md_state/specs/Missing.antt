@@ -18,7 +18,7 @@ has_passed a m chunk = is_passed (geometry_of a) m.superblock.recovery_offset ch
 abbrev pub is_missing : ArrayView → MemberView → ℕ → Bool
 is_missing a m chunk = lacks (is_in_sync m.state) (is_recovering m.state) (is_set a.marks.bytes chunk) (has_passed a m chunk)
 
--- It is recovering, and lacks the marked chunks alone: it was taken back, or is rebuilt up to the end.
+-- A member is recovering, and lacks the marked chunks alone: it was taken back, or is rebuilt up to the end.
 abbrev pub is_re_added : ArrayView → MemberView → Bool
 is_re_added a m = is_recovering m.state && leb a.chunks.size m.superblock.recovery_offset
 

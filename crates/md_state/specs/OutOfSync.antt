@@ -5,14 +5,14 @@ use Rattle.md_kept_members.specs.View.{MemberView}
 use Rattle.md_state.specs.Members.{IsMember}
 use Rattle.md_state.specs.View.{ArrayView}
 
--- one that is not in sync
+-- Member k is not in sync.
 pub record IsNotInSync (k : ℕ) (a : ArrayView) : Type 0 where
   pub running : a.halted ≡ false
   pub member : MemberView
   pub at : IsMember a k member
   pub out : is_in_sync member.state ≡ false
 
--- one that is stale or has failed
+-- Member k is stale or has failed.
 pub record IsInactive (k : ℕ) (a : ArrayView) : Type 0 where
   pub running : a.halted ≡ false
   pub member : MemberView

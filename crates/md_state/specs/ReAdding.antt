@@ -18,7 +18,7 @@ use Rattle.md_state.specs.Joining.{HasMostMembers, joined}
 use Rattle.md_state.specs.Rising.{HasSpentEvents, has_number}
 use Rattle.md_state.specs.View.{ArrayView}
 
--- It is of this array, and is cut into the same chunks.
+-- A device is of this array, and is cut into the same chunks.
 pub record IsOfArray (a : ArrayView) (v : Superblock) (h : BitmapHeader) : Type 0 where
   pub set_uuid : v.set_uuid ≡ a.shared.set_uuid
   pub size : v.size ≡ a.shared.size
@@ -31,12 +31,12 @@ pub record LeftItsRole (a : ArrayView) (v : Superblock) : Type 0 where
   pub whole : has_recovery_offset v ≡ false
   pub has_role : own_role v < a.shared.raid_disks
 
--- It left when the array had no more events than now, and marks were last cleared no later than that.
+-- A device left when the array had no more events than now, and marks were last cleared no later than that.
 pub record LeftInTime (a : ArrayView) (v : Superblock) : Type 0 where
   pub late : a.events_cleared ≤ v.events
   pub no_newer : v.events ≤ a.shared.events
 
--- it has a bitmap, too
+-- A device is of this array, has a bitmap, left its role, and left in time.
 pub record IsReAddable (a : ArrayView) (info : MemberInfo) : Type 0 where
   pub header : BitmapHeader
   pub has_header : info.header ≡ Some header
@@ -48,7 +48,7 @@ pub record IsReAddable (a : ArrayView) (info : MemberInfo) : Type 0 where
 abbrev pub is_taken : ArrayView → ℕ → Bool
 is_taken a role = list_any (λ m. takes_role role m.state) a.members
 
--- it may be taken back
+-- A device may be taken back.
 pub record MayReAdd (a : ArrayView) (info : MemberInfo) : Type 0 where
   pub room : HasMostMembers a → ⊥
   pub fits : IsReAddable a info
@@ -67,7 +67,7 @@ is_elsewhere v number Faulty = false
 abbrev pub has_elsewhere : ArrayView → Superblock → Bool
 has_elsewhere a v = list_any (λ m. is_elsewhere v m.superblock.dev_number m.state) a.members
 
--- Its role is given it, but it is more than one event behind.
+-- A device is given its role, but is more than one event behind.
 abbrev pub is_stale : MemberState → Bool
 is_stale (Stale role) = true
 is_stale (InSync role) = false
@@ -82,8 +82,8 @@ pub record HasNoOtherClearing (a : ArrayView) (v : Superblock) (h : BitmapHeader
   pub together : has_elsewhere a v ≡ false  -- by its superblock each member in sync is in its role
   pub no_copy : is_stale (state_of a.shared v) ≡ false  -- the array has not gone on with it: it is no older copy of its device
 
--- Its bitmap is accepted, and each chunk that it marks is marked in the array; nor were marks cleared on one of them alone: nothing tells
--- that it was written to alone since it left.
+-- A device's bitmap is accepted, and each chunk that it marks is marked in the array. Marks were not cleared
+-- on one of the two alone. So nothing tells that the device was written to alone since it left.
 pub record HasNoOtherMarks (a : ArrayView) (info : MemberInfo) : Type 0 where
   pub header : BitmapHeader
   pub has_header : info.header ≡ Some header
@@ -93,8 +93,8 @@ pub record HasNoOtherMarks (a : ArrayView) (info : MemberInfo) : Type 0 where
   pub has_marks : info.marks ≡ Some marks
   pub among : (c : ℕ) → c < a.marks.chunks → is_set marks.bytes c ≡ true → is_set a.marks.bytes c ≡ true
 
--- So it lacks the marked chunks alone: its offset is the array's size. One that was used elsewhere since it left lacks every chunk: its
--- offset is 0.
+-- A device that has no other marks lacks the marked chunks alone: its offset is the array's size. One that
+-- was used elsewhere since it left lacks every chunk: its offset is 0.
 abbrev pub IsOffsetBack : ArrayView → MemberInfo → ℕ → Type 0
 IsOffsetBack a info offset = (HasNoOtherMarks a info × (offset ≡ a.chunks.size)) ⊎ ((HasNoOtherMarks a info → ⊥) × (offset ≡ 0))
 

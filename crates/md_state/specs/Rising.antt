@@ -16,7 +16,7 @@ has_number a dev_number = list_any (λ m. eqb m.superblock.dev_number dev_number
 abbrev pub is_absent : ArrayView → ℕ → Bool
 is_absent a dev_number = nat_lt (role_in a.shared dev_number) a.shared.raid_disks && not (has_number a dev_number)
 
--- such entries become those of failed devices
+-- The roles of absent members become those of failed devices where the count rises.
 abbrev pub roles_at_rise : ArrayView → List ℕ
 roles_at_rise a = map (λ d. cond (is_absent a d) faulty_role (role_in a.shared d)) (range_with_len 0 (length a.shared.roles))
 

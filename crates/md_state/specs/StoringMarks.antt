@@ -17,7 +17,7 @@ use Rattle.md_state.specs.DiskWrites.{IsWritten}
 use Rattle.md_state.specs.Trying.{Refuses, RefusesHalted, FailsWriting, HaltsWriting}
 use Rattle.md_state.specs.OutOfSync.{IsNotInSync}
 
--- the write of a sector of a member's bitmap, the header's among them
+-- The write of a sector of a member's bitmap, the header's among them.
 pub record IsMarkWrite (a : ArrayView) (m : MemberView) (block : ℕ) (w : Write) : Type 0 where
   pub start : ℕ
   pub starts : BitmapStartsAt m.superblock start
@@ -25,7 +25,7 @@ pub record IsMarkWrite (a : ArrayView) (m : MemberView) (block : ℕ) (w : Write
   pub header_is : IsHeaderFor a m header
   pub is : w ≡ bitmap_write start header a.marks block
 
--- so it is kept of member k
+-- Of member k it is kept that a sector of its bitmap is stored.
 pub record HasStoredOf (k block : ℕ) (m : MemberView) (old new : ArrayView) : Type 0 where
   pub stored : Bitmap
   pub has_stored : HasStored old.marks m.stored block stored

@@ -5,7 +5,7 @@ use Rattle.md_state.specs.View.{MirrorView}
 use Rattle.md_state.specs.DiskWrites.{IsFailed}
 use Rattle.md_state.specs.Rising.{Fails, Halts}
 
--- it is refused for this reason, and all is as before
+-- A call is refused for this reason, and all is as before.
 pub record Refuses (old new : MirrorView) (Reason : Type 0) : Type 0 where
   pub unchanged : new ≡ old
   pub reason : Reason

@@ -20,7 +20,7 @@ data_write m p = record { sector = m.superblock.data_offset + p.sector; bytes = 
 abbrev pub HasMarksOf : ArrayView → PendingView → MemberView → Type 0
 HasMarksOf a p m = (s : ℕ) → p.sector ≤ s → s < p.sector + request_sectors p → is_set m.stored.bytes (s / a.chunks.sectors) ≡ true
 
--- its stored marks have the chunks from the first on and below the end
+-- A member's stored marks have the chunks from the first on and below the end.
 abbrev pub HasMarksFrom : ℕ → ℕ → MemberView → Type 0
 HasMarksFrom first end m = (c : ℕ) → first ≤ c → c < end → is_set m.stored.bytes c ≡ true
 
@@ -34,7 +34,7 @@ pub record HasIntentStored (k : ℕ) (a : ArrayView) (p : PendingView) (m : Memb
   pub marked : AllInSync a (HasMarksOf a p)
   pub recorded : AllInSync a IsNotDue
 
--- and it lacks the bytes
+-- Member k lacks the request's bytes, and its intent is stored: the request's marks and all records are.
 pub record MayWrite (k : ℕ) (a : ArrayView) (p : PendingView) (m : MemberView) : Type 0 where
   pub intent : HasIntentStored k a p m
   pub unwritten : has_written p m.superblock.dev_number ≡ false

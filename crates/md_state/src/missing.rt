@@ -79,7 +79,7 @@ impl Array {
     }
 }
 
-// The same chunks are marked in it.
+// Marks of the same chunks as these.
 fn copied(alloc: Global, marks: &Marks) -> Result<Marks, AllocError>
     ensures chunks { IfOk result (λ copy. copy.chunks ≡ marks.now.chunks) }
     ensures bits { IfOk result (λ copy. (c : ℕ) → c < marks.now.chunks

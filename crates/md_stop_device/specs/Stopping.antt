@@ -11,6 +11,6 @@ pub record Stopping (D : Type 0) : Type 0 where
   -- how many writes were made to fail
   pub failed : ℕ
 
--- it is stored as the tuple of its fields
+-- A device that stops is stored as the tuple of its fields.
 abbrev pub stopping_code : {D : Type 0} → Coded D → Coded (Stopping D)
 stopping_code {D} code = code_by (D × (ℕ × ℕ)) (coded× code (coded× coded_ℕ coded_ℕ)) (λ d. (d.inner, (d.torn_from, d.failed))) (λ p. record { inner = p.0; torn_from = p.1.0; failed = p.1.1 }) (λ _. refl)

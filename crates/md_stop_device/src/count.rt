@@ -35,8 +35,8 @@ impl Fuse {
         Ok(Fuse { seen, writes })
     }
 
-    /// The same count for one more holder, as a device that stops with the others. `AllocError` comes only where the count
-    /// has as many holders as a `usize` counts.
+    /// Shares the count with one more holder, as a device that stops with the others. `AllocError` comes only
+    /// where the count has as many holders as a `usize` counts.
     pub fn share(&self) -> Result<Fuse, AllocError> {
         let seen = Arc::try_clone(&self.seen)?;
         Ok(Fuse {

@@ -29,7 +29,7 @@ AllAgreeOnDevices v s =
     (j k : ℕ) (m n : MemberView) (d e : Disk) → IsServed v j m d → IsServed v k n e
     → IsUnlistedOn m d s → IsUnlistedOn n e s → sector_of m d s ≡ sector_of n e s
 
--- so in each sector of the array
+-- Any two members in sync hold the same in each sector of the array that the device of neither lists.
 abbrev pub IsAgreed : MirrorView → Type 0
 IsAgreed v = (s : ℕ) → s < v.array.chunks.size → AllAgreeOnDevices v s
 
@@ -43,6 +43,6 @@ pub record LeavesAgreed (t : Moment) (new : MirrorView) : Type 0 where
   pub agree_on_devices : IsAgreed new
   pub agree : (s : ℕ) → s < new.array.chunks.size → AllAgreeAt new s
 
--- So does each, wherever a life has come to.
+-- Each resync that is done, at any moment of a life, leaves the members in sync agreed.
 abbrev pub ResyncsAgree : Type 0
 ResyncsAgree = AtMoments (λ t. ((new : MirrorView) → Resyncs t.mirror new → LeavesAgreed t new))

@@ -16,7 +16,7 @@ use Rattle.md_array.specs.Worlds.{block_on, super_in, super_of}
 use Rattle.md_laws.specs.Lives.{AreFoundAgain, IsCalledOut, IsShutOut, MirrorLife}
 use Rattle.md_laws.specs.Runs.{IsStart, MirrorRun, Moment, RestsThenDoes, then_as}
 
--- it failed, or is a spare: no role is its own
+-- The member failed, or is a spare: no role is its own.
 abbrev pub HasNoRole : MemberState → Type 0
 HasNoRole Faulty = Unit {0}
 HasNoRole Spare = Unit {0}
@@ -35,14 +35,16 @@ pub record LeavesAt (t : Moment) (k : ℕ) : Type 0 where
   pub requests : ℕ → Option Request
   pub does : RestsThenDoes t.mirror t.requests (Event.Remove k) mirror requests
 
--- From then on its number is one that no member has, until it is given out again.
+-- From the moment at which a member leaves, its number is one that no member has, until it is given out
+-- again.
 abbrev pub after_leaving : (t : Moment) (k : ℕ) → LeavesAt t k → Moment
 after_leaving t k l =
     record (then_as t (Event.Remove k) l.mirror l.requests) { away = λ d. (then_as t (Event.Remove k) l.mirror l.requests).away d || eqb d l.member.superblock.dev_number }
 
--- A mirror that was opened as m has come to this moment: by a life of which `opened` is the last mirror that was opened; or, after so many members
--- left since, by a run from right after the last of these, when the mirror was `opened`. So what is said of devices that an opening left out
--- is said of those that left, too. (A stale member that leaves is an event of such a run: its superblock says enough.)
+-- A mirror that was opened as m has come to this moment: by a life of which `opened` is the last mirror that
+-- was opened; or, after so many members left since, by a run from right after the last of these, when the
+-- mirror was `opened`. So what is said of devices that an opening left out is said of those that left, too.
+-- (A stale member that leaves is an event of such a run: its superblock says enough.)
 abbrev pub StandsSince : MirrorView → ℕ → MirrorView → Moment → Type 0
 StandsSince m zero opened last = (es : List Event) × (rest : List (List Event)) × MirrorLife m es rest opened last
 StandsSince m (suc n) opened last =
@@ -53,21 +55,23 @@ abbrev pub OfDepartures : ((opened : MirrorView) (last : Moment) → Type 0) →
 OfDepartures Holds = (before : List Disk) (m : MirrorView) → IsStart before m → (n : ℕ) (opened : MirrorView) (last : Moment) → StandsSince m n opened last → Holds opened last
 
 -- ---- what keeps a device out
--- by its superblock it is two events or more behind the array as that was opened
+-- A device is two events or more behind the array as that was opened, by its superblock.
 abbrev pub IsBehind : MirrorView → MemberView → Type 0
 IsBehind opened n = n.superblock.events + 1 < opened.array.shared.events
 
--- No member has had its number, and the superblock that was kept calls it out of sync; or it is behind.
+-- No member has had the device's number, and the superblock that was kept calls it out of sync; or it is
+-- behind.
 abbrev pub IsOutSince : MirrorView → Moment → MemberView → Type 0
 IsOutSince opened t n = ((t.away n.superblock.dev_number ≡ true) × IsCalledOut opened n) ⊎ IsBehind opened n
 
--- So it is of the one that leaves without a role, right after that;
+-- The device of a member that leaves without a role is out right after that.
 abbrev pub LeavesOut : Type 0
 LeavesOut =
     OfDepartures (λ opened t.
     ((k : ℕ) (l : LeavesAt t k) (n : MemberView) → n.superblock.dev_number ≡ l.member.superblock.dev_number → IsOutSince l.mirror (after_leaving t k l) n))
 
--- of a stale member, whenever it leaves, as long as its superblock is no newer than the one that its device has then;
+-- The device of a stale member is behind, whenever that leaves, as long as its superblock is no newer than
+-- the one that the device has then.
 abbrev pub StaleIsBehind : Type 0
 StaleIsBehind =
     OfDepartures (λ opened t.
@@ -75,7 +79,8 @@ StaleIsBehind =
     → (d : Disk) → slice_get t.mirror.disks k ≡ Some d → (own : Super) → super_in (block_on d.content) ≡ Some own
     → (n : MemberView) → n.superblock.events ≤ own.events → IsBehind opened n))
 
--- and of each of which it was so, after another one left. So it is of one whose number is away, where data was let through since.
+-- A device that is out stays so after another one left. One whose number is away is out then, too, where data
+-- was let through since.
 abbrev pub StaysOutSince : Type 0
 StaysOutSince =
     OfDepartures (λ opened t.
@@ -97,12 +102,14 @@ abbrev pub NoneIsNewer : (opened : MirrorView) (t : Moment) (found : List Disk) 
 NoneIsNewer opened t found devices next =
     (j : ℕ) (n : MemberView) → IsMember next.array j n → devices.from j ≡ None → n.superblock.events ≤ opened.array.shared.events
 
--- Why one of them is not found in sync: as of a device that an opening left out, data was let through and a member that was in sync is there, or
--- it is called out of sync; or it is behind.
+-- Why a device beside those that were left is not found in sync: it is behind, or its number was away and it
+-- is shut out. It is shut out where data was let through and a member that was in sync is there, or where it
+-- is called out of sync, as of a device that an opening left out.
 abbrev pub IsShutOutSince : (opened : MirrorView) (t : Moment) (found : List Disk) → AreFoundAgain t found → MemberView → Type 0
 IsShutOutSince opened t found devices n = ((t.away n.superblock.dev_number ≡ true) × IsShutOut opened t found devices n) ⊎ IsBehind opened n
 
--- An opening after a stop, by a superblock that is as new as the array was, and that has recorded the last failure, finds no such device in sync.
+-- An opening after a stop, by a superblock that is as new as the array was, and that has recorded the last
+-- failure, finds no device in sync that is shut out.
 abbrev pub FindsOutSince : Type 0
 FindsOutSince =
     OfDepartures (λ opened last.
@@ -110,7 +117,8 @@ FindsOutSince =
     → IsFit (super_of opened.array.shared) (super_of next.array.shared) last.failed_at
     → (j : ℕ) (n : MemberView) → IsMember next.array j n → devices.from j ≡ None → IsShutOutSince opened last found devices n → is_in_sync n.state ≡ false))
 
--- Of one that it has not, and that was out, the superblock that it keeps says so, or it is still behind: so it is out at the openings after it.
+-- The superblock that an opening keeps of the array says of a device which was out that it is out, or the
+-- device is still behind: so it is out at the openings after it.
 abbrev pub StaysOutNext : Type 0
 StaysOutNext =
     OfDepartures (λ opened last.
@@ -118,7 +126,7 @@ StaysOutNext =
     → IsFit (super_of opened.array.shared) (super_of next.array.shared) last.failed_at
     → (n : MemberView) → n.superblock.events ≤ opened.array.shared.events → IsOutSince opened last n → IsCalledOut next n ⊎ IsBehind next n))
 
--- such an opening, of which no device beside those that were left is found in sync
+-- An opening after a stop, of which no device beside those that were left is found in sync.
 pub record IsOpenedSince (opened : MirrorView) (last : Moment) (next : MirrorView) : Type 0 where
   pub found : List Disk
   pub devices : AreFoundAgain last found
@@ -127,8 +135,8 @@ pub record IsOpenedSince (opened : MirrorView) (last : Moment) (next : MirrorVie
   pub fit : IsFit (super_of opened.array.shared) (super_of next.array.shared) last.failed_at
   pub out : (j : ℕ) (n : MemberView) → IsMember next.array j n → devices.from j ≡ None → is_in_sync n.state ≡ false
 
--- It begins another life: the stored marks cover what the members in sync differ in. And each of these was in sync at the stop, on the same
--- device.
+-- An opening after a stop begins another life: the stored marks cover what the members in sync differ in.
+-- Each of these was in sync at the stop, on the same device.
 pub record BeginsSince (opened : MirrorView) (last : Moment) (next : MirrorView) (again : IsOpenedSince opened last next) : Type 0 where
   pub start : IsStart again.found next
   pub among : (k : ℕ) (n : MemberView) → IsInSync next.array k n → (i : ℕ) × (again.devices.from k ≡ Some i) × (o : MemberView) × IsInSync last.mirror.array i o

@@ -17,13 +17,14 @@ LeavesAsOpened =
     → (k : ℕ) (n : MemberView) → IsMember m.array k n → (d : Disk) → slice_get m.disks k ≡ Some d → (c : List ℕ) → slice_get left k ≡ Some c
     → IsAsLeft m.array n d.content c
 
--- these are found again, all of them, as after a stop right after the opening
+-- The devices of a mirror are found again, all of them, as after a stop right after its opening.
 pub record AreAsOpened (m : MirrorView) (found : List Disk) : Type 0 where
   pub devices : AreFoundAgain (opened_as m) found
   pub left : devices.left ≡ m.disks
   pub all : AreAllLeft (opened_as m) found devices
 
--- So what it left may be opened as after such a stop: all that the laws over lives say of the next opening is said of this one.
+-- What an interrupted first opening left may be opened as after a stop right after a whole one: all that the
+-- laws over lives say of the next opening is said of this one.
 abbrev pub IsFoundAsOpened : Type 0
 IsFoundAsOpened =
     (before : List Disk) (m : MirrorView) → IsStart before m → (left : List (List ℕ)) → IsHalfOpened m.array before left

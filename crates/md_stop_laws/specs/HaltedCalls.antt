@@ -21,9 +21,11 @@ abbrev pub IsLeftSince : (before after left : List Disk) → Type 0
 IsLeftSince before after left = MayAllBeLeft before after (contents_of left) ⊎ (contents_of left ≡ contents_of after)
 
 -- ---- what is asked
--- Within a write that halted the mirror, and after it, by its kind. Of a superblock, that the old one, the new one or none was left; of a sector of a bitmap and
--- of a log, that the write was left done or not done, of a log too that it was read without a shift, or stored since; of a copy, each sector as
--- it was or as written. Of data that are written nothing is asked.
+-- What is asked of a stop within a write that halted the mirror, and after it, by the kind of the write. Of a
+-- superblock it is that the old one, the new one or none was left. Of a sector of a bitmap and of a log it is
+-- that the write was left done or not done, and of a log that it was read without a shift, or stored since,
+-- too. Of a copy it is that each sector was left as it was or as written. Of data that are written nothing is
+-- asked.
 abbrev pub IsLeftByHalt : (failing : Event) (old new : MirrorView) (requests : Requests) → HaltsAt old requests failing new → List Disk → Type 0
 IsLeftByHalt (Event.WriteFails k MemberPart.Superblock) old new requests h left = LeavesSuperWhole k old left
 IsLeftByHalt (Event.WriteFails k (MemberPart.RequestData n)) old new requests h left = Unit {0}
@@ -34,14 +36,15 @@ IsLeftByHalt (Event.WriteFails k (MemberPart.CopiedChunk c)) old new requests h 
 IsLeftByHalt e old new requests h left = ⊥
 
 -- ---- what is said
--- The events that stand in place of that write: the step done; of a copy, some of its sectors.
+-- The events that stand in place of the write that halted the mirror: the step done; of a copy, some of its
+-- sectors.
 abbrev pub IsInstead : Event → List Event → Type 0
 IsInstead (Event.WriteFails k (MemberPart.BitmapSector b)) es = es ≡ Event.StoreMarks k b ∷ []
 IsInstead (Event.WriteFails k MemberPart.Log) es = (listed : ℕ → Bool) × (es ≡ Event.StoreLog k listed ∷ [])
 IsInstead (Event.WriteFails k (MemberPart.CopiedChunk c)) es = (from : ℕ) × (sectors : List ℕ) × (es ≡ copies_at from k sectors)
 IsInstead e es = ⊥
 
--- These events lead on, and then such in place of the write: from there on a stop leaves that.
+-- These events lead on, and then such as stand in place of the write. A stop after them leaves this.
 pub record IsStopInstead (es : List Event) (failing : Event) (t : Moment) (left : List Disk) : Type 0 where
   pub instead : List Event
   pub is_instead : IsInstead failing instead
@@ -49,11 +52,12 @@ pub record IsStopInstead (es : List Event) (failing : Event) (t : Moment) (left 
   pub run : MirrorRun t (es ++ instead) at
   pub is_left : IsLeft at left
 
--- It is a stop of a run: of these events, or with such behind them. So the laws over lives speak of it.
+-- What is left is a stop of a run: of these events, or of these and such as stand in place of the write after
+-- them. The laws over lives speak of such a stop.
 abbrev pub IsStopAtHalt : List Event → Event → Moment → List Disk → Type 0
 IsStopAtHalt es failing t left = IsStopOf es t left ⊎ IsStopInstead es failing t left
 
--- Wherever a life has come to, a call did these events, and then a write failed that halted the mirror.
+-- At any moment of a life a call does these events, and then a write fails that halts the mirror.
 abbrev pub StopsAtEachHalt : Type 0
 StopsAtEachHalt =
     AtMoments (λ t.
@@ -62,7 +66,7 @@ StopsAtEachHalt =
     → (failing : Event) (new : MirrorView) (halts : HaltsAt mid between failing new) → AreWhole (es ++ failing ∷ []) t.requests
     → (left : List Disk) → IsLeftSince mid.disks new.disks left → IsLeftByHalt failing mid new between halts left → IsStopAtHalt es failing t left))
 
--- So it is of `write`,
+-- A stop within a `write` that halts the mirror, or after it, is one of a run.
 abbrev pub StopsAtHaltedWrite : Type 0
 StopsAtHaltedWrite =
     AtMoments (λ t.
@@ -71,7 +75,7 @@ StopsAtHaltedWrite =
     → (left : List Disk) → IsLeftSince h.mid.disks new.disks left
     → IsLeftByHalt h.failing h.mid new (among h.last t.requests) (h.halts t.requests) left → IsStopAtHalt (begun_events h) h.failing t left))
 
--- of `stop`,
+-- A stop within the call `stop` that halts the mirror, or after it, is one of a run.
 abbrev pub StopsAtHaltedStop : Type 0
 StopsAtHaltedStop =
     AtMoments (λ t.
@@ -80,7 +84,7 @@ StopsAtHaltedStop =
     → (left : List Disk) → IsLeftSince h.halts.mid.disks new.disks left
     → IsLeftByHalt h.halts.failing h.halts.mid new t.requests (h.halts.halts t.requests) left → IsStopAtHalt h.goes.events h.halts.failing t left))
 
--- and of `resync`.
+-- A stop within a `resync` that halts the mirror, or after it, is one of a run.
 abbrev pub StopsAtHaltedResync : Type 0
 StopsAtHaltedResync =
     AtMoments (λ t.

@@ -23,20 +23,21 @@ use Rattle.md_laws.specs.StopsReadAs.{EndsInFirstSector, ReadsAs}
 use Rattle.md_laws.specs.StopsWithin.{IsLeftFailing, MayAllBeLeft}
 use Rattle.md_device_writes.specs.Writes.{IsAnyIn}
 
--- The device joined: by this event, and from there on a stop leaves that.
+-- The device joined by this event, and a stop after it leaves this.
 pub record IsStopJoined (e : Event) (t : Moment) (left : List Disk) : Type 0 where
   pub at : Moment
   pub run : MirrorRun t (e ∷ []) at
   pub is_left : IsLeft at left
 
--- It did not: the mirror's devices were left as they were, as a stop at this moment leaves them, and this stands on the one behind them.
+-- The device did not join. The mirror's devices were left as they were, as a stop at this moment leaves them,
+-- and this stands on the one after them.
 pub record IsLeftBeside (t : Moment) (left : List Disk) (Stands : List ℕ → Type 0) : Type 0 where
   pub beside : List ℕ
   pub are : contents_of left ≡ contents_of t.mirror.disks ++ beside ∷ []
   pub is_left : IsLeft t t.mirror.disks
   pub stands : Stands beside
 
--- its superblock reads as when the device was given, or none can be read
+-- The device's superblock reads as when the device was given, or none can be read.
 abbrev pub IsGivenOrNone : Disk → List ℕ → Type 0
 IsGivenOrNone device c = ReadsAs (block_on c) (block_on device.content) ⊎ (super_in (block_on c) ≡ None)
 
@@ -44,8 +45,8 @@ IsGivenOrNone device c = ReadsAs (block_on c) (block_on device.content) ⊎ (sup
 abbrev pub HasOtherMagic : List ℕ → Type 0
 HasOtherMagic block = number_at 4 0 block ≢ 0xa92b4efc
 
--- Within an `add` that answers `Ok`, where the superblocks end within their first sectors: the one that stands on the device, if there is one, and
--- the one that is written.
+-- A stop within an `add` that answers `Ok`, where the superblocks end within their first sectors: the one
+-- that stands on the device, if there is one, and the one that is written.
 abbrev pub StopsInAdd : Type 0
 StopsInAdd =
     AtMoments (λ t.
@@ -54,7 +55,8 @@ StopsInAdd =
     → (left : List Disk) → MayAllBeLeft (t.mirror.disks ++ device ∷ []) new.disks (contents_of left)
     → IsStopJoined (add_event k device t.mirror new r) t left ⊎ IsLeftBeside t left (IsGivenOrNone device)))
 
--- Within a `re_add` that does, likewise: there it reads as when it was given.
+-- A stop within a `re_add` that answers `Ok`, where both superblocks of the device end within their first
+-- sectors: the superblock reads as when the device was given, or the device has joined.
 abbrev pub StopsInReAdd : Type 0
 StopsInReAdd =
     AtMoments (λ t.

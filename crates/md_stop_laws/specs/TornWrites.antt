@@ -22,7 +22,7 @@ use Rattle.md_laws.specs.Runs.{IsStart, Moment}
 use Rattle.md_stop_laws.specs.Departed.{NoneIsNewer}
 use Rattle.md_stop_laws.specs.HaltedCalls.{IsLeftSince}
 
--- the mirror of a moment, halted, over devices that a stop left
+-- The mirror of a moment, halted, over devices that a stop left.
 abbrev pub halted_over : Moment → List Disk → Moment
 halted_over t disks = record t { mirror = record { disks = disks; array = record t.mirror.array { halted = true } } }
 
@@ -37,13 +37,13 @@ pub record IsOpenedAfter (opened : MirrorView) (t : Moment) (left : List Disk) (
   pub fit : IsFit (super_of opened.array.shared) (super_of next.array.shared) t.failed_at
   pub out : (j : ℕ) (m : MemberView) → IsMember next.array j m → devices.from j ≡ None → is_in_sync m.state ≡ false
 
--- It begins another life: the stored marks cover what the members in sync differ in. And each of these was in sync before the stop, on the same
--- device.
+-- An opening after a stop begins another life: the stored marks cover what the members in sync differ in.
+-- Each of these was in sync before the stop, on the same device.
 pub record BeginsAfter (opened : MirrorView) (t : Moment) (left : List Disk) (next : MirrorView) (again : IsOpenedAfter opened t left next) : Type 0 where
   pub start : IsStart again.found next
   pub among : (k : ℕ) (n : MemberView) → IsInSync next.array k n → (i : ℕ) × (again.devices.from k ≡ Some i) × (o : MemberView) × IsInSync t.mirror.array i o
 
--- It holds of what a stop left at a moment of a life, and of each opening after that.
+-- A statement holds of what a stop left at a moment of a life, and of each opening after that.
 abbrev pub OfOpenings : ((t : Moment) (left : List Disk) → Type 0)
     → ((opened : MirrorView) (t : Moment) (left : List Disk) (next : MirrorView) → IsOpenedAfter opened t left next → Type 0) → Type 0
 OfOpenings Leaves Finds =
@@ -51,7 +51,8 @@ OfOpenings Leaves Finds =
     → (es : List Event) (rest : List (List Event)) (final : MirrorView) (t : Moment) → MirrorLife m es rest final t
     → (left : List Disk) → Leaves t left → (next : MirrorView) (again : IsOpenedAfter final t left next) → Finds final t left next again
 
--- the same with the content that the life has there
+-- A statement holds of what a stop left at a moment of a life, of the content that the life has there, and of
+-- each opening after that.
 abbrev pub OfOpeningsWith : ((t : Moment) (left : List Disk) → Type 0) → (Moment → Content → MirrorView → Type 0) → Type 0
 OfOpeningsWith Leaves Finds =
     (before : List Disk) (m : MirrorView) (a : Content) → IsStart before m → Holds (geometry_of m.array) a (world_of m none_in_flight)
@@ -88,9 +89,10 @@ pub record IsLeftByLoneMarks (t : Moment) (left : List Disk) : Type 0 where
   pub since : IsLeftSince t.mirror.disks new.disks left
   pub header : (d : Disk) → slice_get left on ≡ Some d → HasWidth t.mirror.array.chunks.sectors call.member.superblock d.content
 
--- It is alone in sync then too, so that nothing differs. The content stays what it was in each sector that no request touched, and that the
--- member held: of a resynced array in each of these, else in each whose chunk had no mark in memory. But marks may be lost: of devices that
--- left before, and come back by `re_add` later, nothing is said.
+-- A member that was alone in sync is so after the stop, too, so that nothing differs. The content stays what
+-- it was in each sector that no request touched, and that the member held: of a resynced array in each of
+-- these, else in each whose chunk had no mark in memory. But marks may be lost: of devices that left before,
+-- and come back by `re_add` later, nothing is said.
 abbrev pub StartsAfterLoneMarks : Type 0
 StartsAfterLoneMarks = OfOpenings IsLeftByLoneMarks BeginsAfter
 
@@ -102,7 +104,8 @@ ContentAfterLoneMarks =
     → (t.mirror.array.resynced ≡ true) ⊎ ((world_of t.mirror t.requests).marks (chunk_of (geometry_of t.mirror.array) s) ≡ false) → c s ≡ b s)))
 
 -- ---- a log, of a member that is alone in sync
--- Its log was stored, no other member was in sync, and the write halted the mirror. The stop may have left any entries there.
+-- The log of a member that was alone in sync was stored, and the write halted the mirror. The stop may have
+-- left any entries there.
 pub record IsLeftByLoneLog (t : Moment) (left : List Disk) : Type 0 where
   pub on : ℕ
   pub new : MirrorView

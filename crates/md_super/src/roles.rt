@@ -72,7 +72,7 @@ impl Roles {
 impl Roles {
     ghost use Rattle.std.specs.Prelude.{IfOk};
 
-    /// The same roles.
+    /// A copy of the roles.
     pub fn try_clone(&self, alloc: Global) -> Result<Roles, AllocError>
         ensures { IfOk result (λ copy. copy ≡ self.now) }
     {

@@ -32,13 +32,13 @@ pub const FEATURE_RECOVERY_OFFSET: u32 = 2;
 /// `MD_FEATURE_BAD_BLOCKS` of `md_p.h`: the bad block log has entries.
 pub const FEATURE_BAD_BLOCKS: u32 = 8;
 
-/// A version 1.2 superblock of a RAID-1 array. The fields are those of `struct mdp_superblock_1` of
-/// `md_p.h` under their names, but for the magic number and the major version, which never differ,
-/// and the padding; `roles` stands for `max_dev` and `dev_roles`. Sizes and offsets are in sectors
-/// of 512 bytes; `bitmap_offset` and `bblog_offset` count from the superblock. The low 40 bits of
-/// `ctime` and `utime` are seconds and the top 24 microseconds. A `resync_offset` of all ones is a
-/// clean array. Bit 1 of `devflags` is write-mostly, bit 2 failfast. The entries of the bad block
-/// log are shifted left by `bblog_shift` bits.
+/// A version 1.2 superblock of a RAID-1 array. The fields are those of `struct mdp_superblock_1` of `md_p.h`
+/// under their names, but for the magic number and the major version, which never differ, and the padding;
+/// `roles` stands for `max_dev` and `dev_roles`. Sizes and offsets are in sectors of 512 bytes;
+/// `bitmap_offset` and `bblog_offset` count from the superblock. The low 40 bits of `ctime` and `utime` are
+/// seconds and the top 24 microseconds. A `resync_offset` of all ones is a clean array. `devflags` has
+/// WriteMostly1 (1) and FailFast1 (2). The entries of the bad block log are shifted left by `bblog_shift`
+/// bits.
 #[derive(Debug, Drop)]
 pub struct Superblock {
     pub feature_map: u32,

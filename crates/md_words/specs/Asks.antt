@@ -139,7 +139,7 @@ long_task_of (re_adds name) = Some long.Rebuild
 long_task_of (rebuilds k) = Some long.Rebuild
 long_task_of _ = None
 
--- the same of a command as it was parsed
+-- The options of `create` as they were parsed.
 abbrev pub options_of : CreateOptions → Options
 options_of o = record {
   level = o.level.now;

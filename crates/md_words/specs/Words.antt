@@ -47,23 +47,23 @@ completed a = with_rule (with_rule a verbose_rule) image_rule
 abbrev pub bare_app : Text → App
 bare_app name = completed (new_app name)
 
--- an option that says of an image which sectors it lacks
+-- An option that says of an image which sectors it lacks.
 abbrev pub with_map : App → App
 with_map a = with_rule a (texts_rule (codes "map"))
 
--- one that may be asked to change no image
+-- A command that may be asked to change no image.
 abbrev pub with_readonly : App → App
 with_readonly a = with_rule a (flag_rule (codes "readonly"))
 
--- one whose report may be a JSON object
+-- A command whose report may be a JSON object.
 abbrev pub with_json : App → App
 with_json a = with_rule a (flag_rule (codes "json"))
 
--- one that shows an image, and may show it as it stands
+-- A command that shows an image, and may show it as it stands.
 abbrev pub examine_app : Text → App
 examine_app name = completed (with_json (with_rule (new_app name) (flag_rule (codes "all"))))
 
--- one that shows an array, the plan of a rebuild, or sectors, or compares the members
+-- A command that shows an array, the plan of a rebuild, or sectors, or compares the members.
 abbrev pub with_images : App → App
 with_images a = completed (with_map (with_readonly a))
 
@@ -73,7 +73,7 @@ assemble_app = completed (with_readonly (with_json (new_app (codes "assemble")))
 abbrev pub array_app : Text → App
 array_app name = with_images (with_json (new_app name))
 
--- one that makes the members agree
+-- A command that makes the members agree.
 abbrev pub resync_app : App
 resync_app = completed (with_map (new_app (codes "resync")))
 
@@ -104,7 +104,7 @@ with_run a = with_rule a (flag_rule (codes "run"))
 abbrev pub device_app : Text → App
 device_app name = completed (with_run (with_device (new_app name)))
 
--- one by which a member gets the data that it lacks
+-- A command by which a member gets the data that it lacks.
 abbrev pub rebuild_app : App
 rebuild_app = completed (with_map (with_run (with_member (new_app (codes "rebuild")))))
 

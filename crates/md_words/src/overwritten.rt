@@ -11,6 +11,6 @@ pub enum Overwritten {
     NewDevice,
     /// What was written to the image that comes back, and not to the others.
     ReturningDevice,
-    /// The same of the member with this index.
+    /// What was written to the member with this index, and not to the others.
     Member(u32),
 }

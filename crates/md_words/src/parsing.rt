@@ -160,7 +160,7 @@ fn position_of(images: &[&str], name: &str) -> Option<usize>
     images.iter().position(|image| *image == name)
 }
 
-// The same as an index.
+// The index among images of the first of this name.
 fn place_in(images: &[&str], name: &str) -> Option<u32>
     ensures { result ≡ place_in (map (λ s. s.now) images.now) name.now }
 {
@@ -191,7 +191,7 @@ fn member_named(found: &ArgMatches<'_>) -> Option<u32>
     }
 }
 
-// The same, 0 where it names none.
+// The index of the member that a command names, or 0 where it names none.
 fn member_in(found: &ArgMatches<'_>) -> u32
     ensures { result ≡ member_in (rows_of (found_of found.now)) }
 {

@@ -87,7 +87,7 @@ abbrev pub HasMarksIn : ℕ → ℕ → ℕ → MemberView → Type 0
 HasMarksIn block first end m = (c : ℕ) → first ≤ c → c < end → block_of c ≡ block → is_set m.stored.bytes c ≡ true
 
 -- ---- a request
--- it has these chunks
+-- A request has these chunks, and they are marked in memory.
 pub record AreChunksOf (a : ArrayView) (p : PendingView) (first end : ℕ) : Type 0 where
   pub are : AreMarked a first end
   pub first_is : first ≡ first_chunk a.chunks p
@@ -98,13 +98,13 @@ pub record IsLater (p q : PendingView) : Type 0 where
   pub request : q ≡ record p { written = q.written }
   pub more : (d : ℕ) → has_written p d ≡ true → has_written q d ≡ true
 
--- it goes on by its events, from one part of a round to another
+-- A request goes on by its events, from one part of a round to another.
 pub record Advances (from to : Part) (p q : PendingView) (old new : MirrorView) : Type 0 where
   pub goes : GoesOn (among p) (among q) (IsOfRequest old.array.chunks p) old new
   pub rounds : LeavesAt from to goes.events
   pub later : IsLater p q
 
--- its bytes are written, and what is kept in memory of the array is as before
+-- A request's bytes are written, and what is kept in memory of the array is as before.
 pub record WritesOn (p q : PendingView) (old new : MirrorView) : Type 0 where
   pub advances : Advances Part.Bytes Part.Bytes p q old new
   pub still : IsPending new.array q

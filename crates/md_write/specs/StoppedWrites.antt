@@ -13,7 +13,7 @@ use Rattle.md_metadata.specs.Stopping.{HaltsStop, IsStopping}
 use Rattle.md_write.specs.Writing.{HaltsWrite, Writes, events_of}
 
 -- ---- a write of whole sectors
--- that is done, whoever failed on the way
+-- A stop within a `write` that is done, whoever failed on the way.
 abbrev pub StopsInWrite : Type 0
 StopsInWrite =
     AtMoments (λ t.
@@ -22,7 +22,7 @@ StopsInWrite =
     → LeftWholeUntil (events_of w.request w.events) None t.mirror t.requests (λ m r. (m ≡ new) × (r ≡ t.requests)) (w.happens None t.requests in_flight).done left stop
     → IsStopOf (events_of w.request w.events) t left))
 
--- the events of one that was halted, before the write that halted it
+-- The events of a `write` that was halted, before the failed write that halted it.
 abbrev pub begun_events : {sector : ℕ} {bytes : List ℕ} {old new : MirrorView} → HaltsWrite sector bytes old new → List Event
 begun_events h = Event.Begin h.request.ticket.number (request_of h.request) ∷ h.events
 
@@ -34,7 +34,7 @@ StopsInHaltedWrite =
     → LeftWholeUntil (begun_events h) None t.mirror t.requests (λ m r. (m ≡ h.mid) × (r ≡ among h.last t.requests)) (h.happens None t.requests in_flight) left stop
     → IsStopOf (begun_events h) t left))
 
--- within that write
+-- A stop within the failed write that halted a `write`.
 abbrev pub StopsHaltingWrite : Type 0
 StopsHaltingWrite =
     AtMoments (λ t.
@@ -43,7 +43,8 @@ StopsHaltingWrite =
     → (left : List Disk) → MayAllBeLeft h.mid.disks new.disks (contents_of left) → IsLeftHalting h.failing h.mid left → IsStopOf (begun_events h) t left))
 
 -- ---- a `stop`
--- The list of its events, of one that is done, at which a member failed, or that was halted, before the write that halted it.
+-- A stop within the events of a `stop` that is done, at which a member failed, or that was halted: then
+-- before the failed write that halted it.
 abbrev pub StopsInStop : Type 0
 StopsInStop =
     AtMoments (λ t.
@@ -51,7 +52,7 @@ StopsInStop =
     → (left : List Disk) (stop : StopsIn g.events None t.mirror t.requests (λ m r. (m ≡ mid) × (r ≡ t.requests)) (g.leads None t.requests in_flight) left)
     → LeftWholeUntil g.events None t.mirror t.requests (λ m r. (m ≡ mid) × (r ≡ t.requests)) (g.leads None t.requests in_flight) left stop → IsStopOf g.events t left))
 
--- within that write
+-- A stop within the failed write that halted `stop`.
 abbrev pub StopsHaltingStop : Type 0
 StopsHaltingStop =
     AtMoments (λ t.

@@ -25,8 +25,8 @@ pub record HasReceived (p : Request) (old new : MirrorView) (others : Requests) 
 abbrev pub events_of : PendingView → List Event → List Event
 events_of p events = Event.Begin p.ticket.number (request_of p) ∷ (events ++ Event.Finish p.ticket.number ∷ [])
 
--- They were done, and lead to the new mirror. Where devices do what they answer, and each failed write of a superblock left the
--- old one, the new one or none, the members have the bytes.
+-- A request's events were done, and lead to the new mirror. Where devices do what they answer, and each
+-- failed write of a superblock left the old one, the new one or none, the members have the bytes.
 pub record IsWritten (p : PendingView) (events : List Event) (previous : Option Event) (others : Requests) (old new : MirrorView) : Type 0 where
   pub done : Leads previous old others (events_of p events) new others
   pub received : AreHonest old.disks → AllLeftWhole (events_of p events) previous old others (λ m r. (m ≡ new) × (r ≡ others)) done

@@ -12,7 +12,7 @@ pub fn within_write()
     ensures halting { StopsHaltingWrite }
 {}
 
-/// So it is of `stop`, whatever it answers.
+/// What a stop leaves within `stop`, a stop of a run leaves, whatever `stop` answers.
 pub fn within_stop()
     ensures steps { StopsInStop }
     ensures halting { StopsHaltingStop }

@@ -116,7 +116,7 @@ pub(crate) const NOTHING: (u64, u64, u64, u64) = (u64::MAX, 0, 0, 0);
 // Sector 8 of the array with the bytes that the steps write.
 pub(crate) const SECTOR_8: (u64, u64, u64, u64) = (8, 8, 512, 512 * 0xa5);
 
-// The same of one byte more, which is the k-th of the data.
+// What is written with one byte more, which is the k-th of the data.
 fn with(so_far: (u64, u64, u64, u64), k: usize, byte: u8) -> (u64, u64, u64, u64) {
     let (first, _, count, sum) = so_far;
     let sector = k as u64 / 512;

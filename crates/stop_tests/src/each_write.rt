@@ -103,7 +103,7 @@ fn stop_at_each<R: Abort + Threads + Wait + Sync>(
     Err(Fail::new("there is no end of writes"))
 }
 
-// So are other calls on what is left each time.
+// The calls are stopped at each write in turn, and other calls on what is left each time are, too.
 fn stop_twice<R: Abort + Threads + Wait + Sync>(
     rt: &R,
     alloc: Global,

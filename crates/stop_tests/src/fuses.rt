@@ -25,7 +25,7 @@ fn fill(device: &mut Stopping, byte: u8) -> bool
     device.write(2, &[byte; 1024]).is_ok()
 }
 
-// So of the sectors before it.
+// Fills the two sectors before the data with a byte. Answers whether that was written.
 fn fill_first(device: &mut Stopping, byte: u8) -> bool
     requires { length device.old.inner ≡ 2048 }
     ensures { length device.new.inner ≡ 2048 }

@@ -26,7 +26,7 @@ pub(crate) fn is_accepted(alloc: Global, image: &mut MemDevice) -> Result<bool, 
     }
 }
 
-// Those of the images that are accepted, and the others.
+// Sorts images: those that are accepted, and the others.
 pub(crate) fn sorted_out(
     alloc: Global,
     images: Vec<MemDevice>,
@@ -57,7 +57,7 @@ pub(crate) fn agrees<R: Abort + Threads + Wait + Sync>(
     same_at(rt, &("a check", at), run.check(rt, alloc), Ok(0));
 }
 
-// So once members that lack data are rebuilt.
+// The array agrees once members that lack data are rebuilt.
 fn rebuilds<R: Abort + Threads + Wait + Sync>(
     rt: &R,
     alloc: Global,

@@ -33,7 +33,7 @@ fn expect_planned(rt: &impl Abort, made: &Planned, table: &Large) {
     same(rt, "the certificate's rounds and one", shown, rounds);
     let list = certificate.chunks.as_slice();
     holds(rt, "the certificate's chunks", list.len() >= chunks);
-    // Those of the one source alone.
+    // The certificate's chunks are those of the one source alone.
     if runs.len() == 2 {
         same(rt, "how many", list.len(), chunks);
         same(rt, "the first", list.first().copied(), Some(0));

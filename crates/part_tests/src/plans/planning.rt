@@ -46,7 +46,7 @@ fn verdict(
     Ok(verdict)
 }
 
-/// The same of a certificate of these chunks.
+/// The checker's verdict on a certificate of these chunks.
 pub(crate) fn verdict_with(
     alloc: Global,
     table: &Table,

@@ -22,7 +22,7 @@ const FAILED: Shown = Shown {
     ..CLEAN
 };
 
-// Then sector 8 was written.
+// Once one of two members has failed and sector 8 was written.
 const WRITTEN: Shown = Shown {
     events: 12,
     marks: (1, Some(1)),
@@ -79,7 +79,7 @@ const CHANGES: [Worked; 21] = [
 // Marks were last cleared at the events of both.
 const CLEARED: [Field; 1] = [Field::Map(32, 8, 10)];
 
-// The same device with events before that is not taken back.
+// A device is not taken back whose events are before those at which marks were last cleared.
 const COMES_TOO_LATE: [Worked; 5] = [
     (Step::Write(8), Answer::Done),
     (
