@@ -30,7 +30,9 @@ impl<D: Device + Drop> Mirror<D> {
     /// - whose bitmap is not accepted, or marks a chunk that the array does not;
     /// - whose marks were last cleared at a later event count than the array's;
     /// - whose superblock has a member that is in sync here in another role, or in none: it was used without it;
-    /// - that the array's superblock has in a role, more than one event ahead of it: it is an older copy.
+    /// - that the array's superblock has in a role, more than one event ahead of it: it is an older copy;
+    /// - after which another one came in by the array's superblock, which has a role, or has failed: it may have been
+    ///   rebuilt in the role of this one.
     pub fn re_add(&mut self, alloc: Global, device: D) -> Result<usize, (D, ReAddFault)>
         requires sound { IsConsistent self.old }
         ensures gives { MatchResult result (λ k. ReAdds k (disk_of D.Device device) self.old self.new)

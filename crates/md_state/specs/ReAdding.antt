@@ -1,7 +1,7 @@
 -- A device that left is taken back in its former role (super_1_validate and hot_add_disk in the kernel's md driver, which let it by
 -- events_cleared; the other conditions and their order are this project's own).
-use Rattle.std.specs.Prelude.{◌≡◌, ◌⊎◌, ℕ, ◌≤◌, ◌<◌, ◌/◌, ◌==◌, Bool, true, false, not, Some}
-use Rattle.std.specs.List.{list_any}
+use Rattle.std.specs.Prelude.{◌≡◌, ◌⊎◌, ℕ, ◌≤◌, ◌<◌, ◌/◌, ◌==◌, Bool, true, false, not, ◌&&◌, if◌then◌else◌, length, Some}
+use Rattle.std.specs.List.{list_any, range_with_len}
 use Rattle.md_super.specs.declared.superblock.Superblock.{Superblock}
 use Rattle.md_bitmap.specs.declared.header.BitmapHeader.{BitmapHeader}
 use Rattle.md_bitmap.specs.Marks.{Bitmap, is_set}
@@ -75,12 +75,24 @@ is_stale (Recovering role) = false
 is_stale Spare = false
 is_stale Faulty = false
 
+-- A device came in after a superblock was written: it has a role, and had another one or none, or it has failed, and was in no use. (By its
+-- entry in the roles, and the one in that superblock. 0xffff is the entry of a spare; the kernel writes it of a device that left, too.)
+abbrev pub came_since : (entry before : ℕ) → Bool
+came_since entry before =
+    if entry == 0xfffe then before == 0xffff else
+    not (entry == 0xffff) && not (entry == before)
+
+-- By the array's superblock some device came in after this one was written.
+abbrev pub has_newcomer : ArrayView → Superblock → Bool
+has_newcomer a v = list_any (λ d. came_since (role_in a.shared d) (role_in v d)) (range_with_len 0 (length a.shared.roles))
+
 -- Nothing tells that marks were cleared on the device alone since it left, or in the array without it. (events_cleared of md-bitmap.h is the
 -- count at which the array was last full, when marks are cleared. The kernel's recovery of another device clears marks and leaves it.)
 pub record HasNoOtherClearing (a : ArrayView) (v : Superblock) (h : BitmapHeader) : Type 0 where
   pub cleared : h.events_cleared ≤ a.events_cleared  -- less where the array's count was stored after the device left
   pub together : has_elsewhere a v ≡ false  -- by its superblock each member in sync is in its role
   pub no_copy : is_stale (state_of a.shared v) ≡ false  -- the array has not gone on with it: it is no older copy of its device
+  pub no_newcomer : has_newcomer a v ≡ false  -- no device has come in that may have had its role, and has failed or is not here
 
 -- A device's bitmap is accepted, and each chunk that it marks is marked in the array. Marks were not cleared
 -- on one of the two alone. So nothing tells that the device was written to alone since it left.

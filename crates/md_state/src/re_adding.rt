@@ -2,7 +2,7 @@
 ghost use Rattle.std.specs.Prelude.{◌≡◌, ◌↔◌, ◌<◌, ◌≤◌, ℕ, IsTrue, MatchResult, Some, true};
 ghost use Rattle.md_bitmap.specs.Marks.{Bitmap, is_set};
 ghost use Rattle.md_kept_members.specs.Remembering.{IsWhole};
-ghost use Rattle.md_state.specs.ReAdding.{HasNoOtherClearing, HasNoOtherMarks, IsOffsetBack, IsOfArray, IsReAddable, LeftInTime, LeftItsRole, MayReAdd, RefusesToTakeBack, has_elsewhere, is_elsewhere, is_stale, is_taken};
+ghost use Rattle.md_state.specs.ReAdding.{HasNoOtherClearing, HasNoOtherMarks, IsOffsetBack, IsOfArray, IsReAddable, LeftInTime, LeftItsRole, MayReAdd, RefusesToTakeBack, came_since, has_elsewhere, has_newcomer, is_elsewhere, is_stale, is_taken};
 
 use crate::array::Array;
 use crate::joining::MOST_MEMBERS;
@@ -10,7 +10,7 @@ use md_assembly::{MemberState, state_of};
 use md_bitmap::{BitmapHeader, Marks};
 use md_faults::ReAddFault;
 use md_members::{MemberInfo, accepted};
-use md_super::{FEATURE_RECOVERY_OFFSET, Superblock};
+use md_super::{FAULTY, FEATURE_RECOVERY_OFFSET, SPARE, Superblock};
 
 // Whether the superblock has a device that is in sync, of this number and state, in another role, or in none.
 fn is_elsewhere(own: &Superblock, number: u32, state: MemberState) -> bool
@@ -27,6 +27,16 @@ fn is_stale(state: MemberState) -> bool
     ensures { result ≡ is_stale state }
 {
     matches!(state, MemberState::Stale(_))
+}
+
+// Whether a device came in after a superblock was written: its entry now, and the one that it had there.
+fn came_since(entry: u16, before: u16) -> bool
+    ensures { result ≡ came_since entry before }
+{
+    if entry == FAULTY {
+        return before == SPARE;
+    }
+    entry != SPARE && entry != before
 }
 
 impl Array {
@@ -50,8 +60,8 @@ impl Array {
     }
 
     /// The offset that a device comes back with: the array's size where it lacks the marked chunks alone,
-    /// and 0 where it was used elsewhere since it left, or is an older copy of its device, so that it lacks every
-    /// chunk.
+    /// and 0 where it was used elsewhere since it left, is an older copy of its device, or may have been replaced
+    /// since, so that it lacks every chunk.
     pub fn offset_back(&self, info: &MemberInfo) -> u64
         requires whole { IsWhole info.now }
         requires chunks { (marks : Bitmap) → info.now.marks ≡ Some marks → self.now.marks.chunks ≤ marks.chunks }
@@ -88,6 +98,7 @@ impl Array {
         header.events_cleared <= self.events_cleared
             && !self.has_elsewhere(own)
             && !is_stale(state_of(&self.shared, own))
+            && !self.has_newcomer(own)
     }
 
     // Whether by the superblock some member in sync is in another role, or in none.
@@ -99,6 +110,14 @@ impl Array {
             member.superblock.dev_number,
             member.state,
         ))
+    }
+
+    // Whether by the array's superblock some device came in after this one was written.
+    fn has_newcomer(&self, own: &Superblock) -> bool
+        ensures { result ≡ has_newcomer self.now own.now }
+    {
+        (0..self.shared.roles.max_dev())
+            .any(|number| came_since(self.shared.role_of(number), own.role_of(number)))
     }
 
     // Whether each chunk that is marked in these is marked in memory.

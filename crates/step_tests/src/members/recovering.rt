@@ -313,9 +313,30 @@ const AHEAD: Image = Image {
     ..FIRST
 };
 
+// Opened alone. A third device had the role of the other member, and has failed.
+const REPLACED: Image = Image {
+    also: &[
+        Field::Super(220, 4, 3),
+        Field::Super(258, 2, 0xfffe),
+        Field::Super(260, 2, 0xfffe),
+    ],
+    ..FIRST
+};
+
+// Opened alone. A third device has that role, and is not here.
+const IN_ITS_ROLE: Image = Image {
+    also: &[
+        Field::Super(220, 4, 3),
+        Field::Super(258, 2, 0xfffe),
+        Field::Super(260, 2, 1),
+    ],
+    ..FIRST
+};
+
 // A device with a mark that the array lacks was used elsewhere, and lacks everything. So does one by whose superblock the member in
-// sync has no role, and one that is an older copy.
-const USED_ELSEWHERE: [Chapter; 6] = [
+// sync has no role, one that is an older copy, and one that does not know of a device which failed, or which has its role. Of a device
+// that had failed by its superblock it knows.
+const USED_ELSEWHERE: [Chapter; 10] = [
     Chapter {
         images: &[FIRST, SECOND],
         steps: &[
@@ -398,6 +419,54 @@ const USED_ELSEWHERE: [Chapter; 6] = [
             (Step::Bring(&SECOND, &[]), Answer::Joined(1)),
             (Step::Lack(1), EVERYTHING),
             (Step::Member(1), NOT_ALL),
+        ]],
+        stored: &[],
+    },
+    Chapter {
+        images: &[REPLACED],
+        steps: &[&[
+            (Step::Bring(&SECOND, &[]), Answer::Joined(1)),
+            (Step::Lack(1), EVERYTHING),
+            (Step::Member(1), NOT_ALL),
+        ]],
+        stored: &[],
+    },
+    Chapter {
+        images: &[IN_ITS_ROLE],
+        steps: &[&[
+            (Step::Bring(&SECOND, &[]), Answer::Joined(1)),
+            (Step::Lack(1), EVERYTHING),
+            (Step::Member(1), NOT_ALL),
+        ]],
+        stored: &[],
+    },
+    Chapter {
+        images: &[IN_ITS_ROLE],
+        steps: &[&[
+            (
+                Step::Bring(
+                    &SECOND,
+                    &[Field::Super(220, 4, 3), Field::Super(260, 2, 0xfffe)],
+                ),
+                Answer::Joined(1),
+            ),
+            (Step::Lack(1), EVERYTHING),
+            (Step::Member(1), NOT_ALL),
+        ]],
+        stored: &[],
+    },
+    Chapter {
+        images: &[REPLACED],
+        steps: &[&[
+            (
+                Step::Bring(
+                    &SECOND,
+                    &[Field::Super(220, 4, 3), Field::Super(260, 2, 0xfffe)],
+                ),
+                Answer::Joined(1),
+            ),
+            (Step::Lack(1), Answer::Lacks(0, None)),
+            (Step::Member(1), RE_ADDED),
         ]],
         stored: &[],
     },
