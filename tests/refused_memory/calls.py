@@ -74,7 +74,7 @@ FAILS = {
     "md_collect::Collector::new": ("part_tests", "collector_reports::each_planned_chunk_is_taken_once", "AllocError"),
     "md_copy::table": ("call_tests", "rebuilds::rebuild_with_orphan", "no memory: table"),
     "md_copy::rebuild": ("call_tests", "rebuilds::rebuild_with_orphan", "no memory: rebuild"),
-    "md_device::MemDevice::new": ("stop_tests", "fuses::data_are_torn", "AllocError"),
+    "md_device::MemDevice::new": ("crash_tests", "fuses::data_are_torn", "AllocError"),
     "md_images::MemImages::add": ("command_tests", "faults_in_memory::images_that_fail", "AllocError"),
     "md_images::MemImages::add_protected": ("command_tests", "faults_in_memory::images_that_fail", "AllocError"),
     "md_inflight::Inflight::push_back": ("part_tests", "requests::removed_in_any_order", "NoMemory"),
@@ -84,7 +84,7 @@ FAILS = {
     "md_masked_images::mask_images": ("notice_tests", "masked_images::a_mask_is_kept_with_its_image", "no memory: mask_images"),
     "md_plan::plan": ("part_tests", "plans::small_tables::plan_needs_a_move", "NoMemory"),
     "md_signatures::find_signatures": ("notice_tests", "signatures::all_are_found_in_order", "AllocError"),
-    "md_stop_device::Fuse::new": ("stop_tests", "fuses::metadata_stay", "AllocError"),
+    "md_crash_device::Fuse::new": ("crash_tests", "fuses::metadata_stay", "AllocError"),
 }
 
 # A command of the program that answers `NoMemory'.
@@ -117,7 +117,7 @@ ANSWERS = {
 }
 
 # These take no memory: they say so where a count is spent.
-TAKES_NONE = {"md_stop_device::Fuse::share"}
+TAKES_NONE = {"md_crash_device::Fuse::share"}
 
 NOT_SHIPPED = re.compile(r"(.*_tests|example_members|bench_parts|mdcli)$")
 TYPE = re.compile(r"^pub (?:enum|struct) (\w+)[^;{]*\{(.*?)^\}", re.M | re.S)

@@ -22,7 +22,7 @@ SUITES = {
     "part_tests": r"plans::(large|random)_tables::|requests::ten_thousand_in_reverse",
     "step_tests": r"\w+::every_order::",
     "call_tests": None,
-    "stop_tests": r"each_write::|lives::",
+    "crash_tests": r"each_write::|lives::",
     "notice_tests": None,
     "command_tests": None,
 }

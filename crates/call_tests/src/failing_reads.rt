@@ -27,7 +27,7 @@ impl Device for Counted {
 
     ghost failures = { λ _. 0 };
 
-    ghost stops = { λ _. [] };
+    ghost crashes = { λ _. [] };
 
     fn sectors(&self) -> u64 {
         self.device.sectors()

@@ -1,6 +1,6 @@
 // Members of the vault's array, whose sectors are filled with a byte each, on devices that fail where they are told to.
 use crate::data::{Data, NUMBERED, SECTORS, WHOLE};
-use example_members::{bitmap, member_image, put, sealed, vault};
+use example_members::{bitmap, member_image, put, seal, vault};
 use md_device::{Device, FaultDevice, MemDevice};
 use std::alloc::Global;
 use std::test::Fail;
@@ -91,14 +91,14 @@ fn superblock_of(member: &Member) -> [u8; 4096] {
     put(&mut b, 200, &member.events.to_le_bytes());
     match member.third {
         Some(role) => with_third(b, role),
-        None => sealed(b, 2),
+        None => seal(b, 2),
     }
 }
 
 fn with_third(mut b: [u8; 4096], role: u16) -> [u8; 4096] {
     put(&mut b, 220, &3u32.to_le_bytes());
     put(&mut b, 260, &role.to_le_bytes());
-    sealed(b, 3)
+    seal(b, 3)
 }
 
 fn bitmap_of(member: &Member) -> [u8; 4096] {
@@ -166,7 +166,7 @@ fn add(alloc: Global, devices: &mut Vec<Testing>, member: &Member) -> Result<(),
     Ok(())
 }
 
-fn varied(member: &Member, k: usize, vary: Vary, number: u64) -> Member {
+fn variant_of(member: &Member, k: usize, vary: Vary, number: u64) -> Member {
     match vary {
         Vary::Unreadable(j) if j == k => Member {
             bad: (number, 1),
@@ -188,7 +188,7 @@ fn add_all(
     number: u64,
 ) -> Result<(), Fail> {
     for (k, member) in members.iter().enumerate() {
-        add(alloc, devices, &varied(member, k, vary, number))?;
+        add(alloc, devices, &variant_of(member, k, vary, number))?;
     }
     Ok(())
 }

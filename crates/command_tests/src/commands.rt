@@ -1,7 +1,7 @@
 // Commands over images in memory, one after another.
 use crate::checks::{holds, reads};
 use crate::errors::Errors;
-use crate::images::{HeldImages, Image, expect_kept_under, held};
+use crate::images::{HeldImages, Image, expect_kept_under, held_images};
 use crate::silent::Silent;
 use md_cli::{Messages, Session, run};
 use md_commands::{Input, Source};
@@ -125,7 +125,7 @@ pub(crate) fn play<R: Abort + Threads + Wait + Sync>(
     cases: &[Case],
 ) -> Result<(), Fail> {
     for case in cases {
-        let mut images = held(alloc, case.images)?;
+        let mut images = held_images(alloc, case.images)?;
         let given = give_all(rt, alloc, &mut images, case);
         drop(images);
         given?;

@@ -18,7 +18,7 @@ impl Device for BadDevice {
 
     ghost failures = { λ _. 0 };
 
-    ghost stops = { λ _. [] };
+    ghost crashes = { λ _. [] };
 
     fn sectors(&self) -> u64 {
         self.memory.sectors()

@@ -2,7 +2,7 @@
 // that is full. The images stay as they are.
 use crate::checks::holds;
 use crate::commands::{Case, Command, DONE, play, runs};
-use crate::images::{HeldImages, Image, MEMBER, expect_kept_under, held};
+use crate::images::{HeldImages, Image, MEMBER, expect_kept_under, held_images};
 use crate::silent::Silent;
 use md_cli::{Messages, Session};
 use md_commands::Input;
@@ -92,7 +92,7 @@ fn fills<R: Abort + Threads + Wait + Sync>(
 #[test]
 fn full_output(rt: HostRuntime) -> Result<(), Fail> {
     let alloc = rt.alloc();
-    let mut images = held(alloc, &[MEMBER])?;
+    let mut images = held_images(alloc, &[MEMBER])?;
     let filled = fills(&rt, alloc, &mut images);
     drop(images);
     filled

@@ -1,7 +1,7 @@
 // The images in memory that commands are given.
 use crate::checks::holds;
 use crate::devices::BadDevice;
-use example_members::{bitmap, member_image, put, sealed, vault, zeros};
+use example_members::{bitmap, member_image, put, seal, vault, zeros};
 use md_device::MemDevice;
 use md_images::{Access, Images, MemImages};
 use std::alloc::Global;
@@ -43,7 +43,7 @@ fn superblock_of(number: u32, has_log: bool) -> [u8; 4096] {
     if !has_log {
         put(&mut superblock, 186, &[0; 6]);
     }
-    sealed(superblock, 2)
+    seal(superblock, 2)
 }
 
 fn device_of(alloc: Global, image: &Image) -> Result<BadDevice, Fail> {
@@ -65,7 +65,7 @@ fn add(alloc: Global, images: &mut HeldImages, image: &Image) -> Result<(), Fail
     Ok(())
 }
 
-pub(crate) fn held(alloc: Global, images: &[Image]) -> Result<HeldImages, Fail> {
+pub(crate) fn held_images(alloc: Global, images: &[Image]) -> Result<HeldImages, Fail> {
     let mut held = MemImages::new(alloc);
     for image in images {
         add(alloc, &mut held, image)?;

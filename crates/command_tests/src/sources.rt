@@ -1,7 +1,7 @@
 // Commands whose input is a reader of which some reads are interrupted, and others fail.
 use crate::checks::holds;
 use crate::commands::runs;
-use crate::images::{HeldImages, MEMBER, expect_kept_under, held};
+use crate::images::{HeldImages, MEMBER, expect_kept_under, held_images};
 use crate::silent::Silent;
 use md_cli::{Messages, Session};
 use md_commands::Input;
@@ -74,7 +74,7 @@ fn ends_with<R: Abort + Threads + Wait + Sync>(
 #[test]
 fn a_write_goes_on_after_an_interrupted_read(rt: HostRuntime) -> Result<(), Fail> {
     let alloc = rt.alloc();
-    let mut images = held(alloc, &[MEMBER])?;
+    let mut images = held_images(alloc, &[MEMBER])?;
     let steps = [
         Step::IsInterrupted,
         Step::Gives(&SECTOR),
@@ -99,7 +99,7 @@ fn keeps_the_image<R: Abort + Threads + Wait + Sync>(
 #[test]
 fn nothing_is_written_after_a_failed_read(rt: HostRuntime) -> Result<(), Fail> {
     let alloc = rt.alloc();
-    let mut images = held(alloc, &[MEMBER])?;
+    let mut images = held_images(alloc, &[MEMBER])?;
     let steps = [Step::Gives(&SECTOR), Step::Fails];
     let kept = keeps_the_image(&rt, alloc, &mut images, &steps);
     drop(images);

@@ -6,5 +6,5 @@ mod metadata;
 mod small_members;
 
 pub use images::{image, member_image, zeros};
-pub use metadata::{bitmap, put, sealed, vault};
-pub use small_members::{SMALL_DATA, copied, small_image, small_member, small_metadata};
+pub use metadata::{bitmap, put, seal, vault};
+pub use small_members::{SMALL_DATA, copy_of, small_image, small_member, small_metadata};

@@ -64,7 +64,7 @@ pub fn bitmap() -> [u8; 4096] {
 }
 
 /// A superblock with the checksum that its fields and so many roles have.
-pub fn sealed(mut superblock: [u8; 4096], roles: u32) -> [u8; 4096]
+pub fn seal(mut superblock: [u8; 4096], roles: u32) -> [u8; 4096]
     requires { roles ≤ 1920 }
 {
     let sum = checksum(&superblock, roles);

@@ -1,6 +1,6 @@
 // Members of the example array on small devices, which have room for its metadata and its data and no more.
 use crate::images::zeros;
-use crate::metadata::{bitmap, put, sealed, vault};
+use crate::metadata::{bitmap, put, seal, vault};
 use md_device::{Device, MemDevice};
 use std::alloc::Global;
 use std::test::Fail;
@@ -34,7 +34,7 @@ pub fn small_image(
     marks: &[u8; 4096],
 ) -> Result<MemDevice, Fail> {
     let mut device = zeros(alloc, SMALL_SECTORS)?;
-    device.write(8, &sealed(superblock, 2))?;
+    device.write(8, &seal(superblock, 2))?;
     device.write(SMALL_BITMAP, marks)?;
     Ok(device)
 }
@@ -46,7 +46,7 @@ pub fn small_member(alloc: Global, number: u32) -> Result<MemDevice, Fail> {
 }
 
 /// A device with the same bytes.
-pub fn copied(alloc: Global, device: &MemDevice) -> Result<MemDevice, Fail> {
+pub fn copy_of(alloc: Global, device: &MemDevice) -> Result<MemDevice, Fail> {
     let bytes = device.bytes().to_vec(alloc)?;
     if bytes.len() % 512 != 0 {
         return Err(Fail::new("a part of a sector"));

@@ -43,7 +43,7 @@ pub mod EnrolledWorld
 pub mod EnrolledEvent
 -- An enrolment fails by the write of its superblock: the member is prepared, and spoiled, and those are the model's events.
 pub mod EnrolSpoils
--- What a stop leaves of a member's device within the writes of an enrolment: its bitmap and its log have changed at most, or all of them are
+-- What a crash leaves of a member's device within the writes of an enrolment: its bitmap and its log have changed at most, or all of them are
 -- stored, and the superblock has changed at most.
 pub mod CutBefore
 -- A member has another offset in memory: the mirror stays consistent, and its world has that offset.

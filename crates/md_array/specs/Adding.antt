@@ -1,9 +1,9 @@
 -- A new device comes in as a spare: it is laid out, and stands last.
 use Rattle.std.specs.Prelude.{◌≡◌, ℕ, ◌^◌, ◌≤◌, true, [], ◌∷◌, ◌++◌, length, slice_get, ⊤, Some, Result, MatchResult}
 use Rattle.md_create.specs.declared.params.NewMember.{NewMember}
-use Rattle.md_create.specs.Layout.{IsHalfLaidOut, IsLaidOut, KeepsOthers, writes_of}
-use Rattle.md_create.specs.ReadBack.{IsReadable}
-use Rattle.md_members.specs.Members.{sectors_of}
+use Rattle.md_create.specs.Layout.{IsHalfLaidOut, IsLaidOutAs, KeepsOthers, writes_of}
+use Rattle.md_create.specs.ReadBack.{IsReadBack}
+use Rattle.md_members.specs.Members.{sectors_of_device}
 use Rattle.md_model.specs.Events.{Event}
 use Rattle.md_device_writes.specs.Writes.{DoesWrites, FailsInWrites}
 use Rattle.md_kept_members.specs.Spares.{kept_spare}
@@ -20,14 +20,14 @@ use Rattle.md_array.specs.Worlds.{stored_of}
 -- A device was laid out with this number, and stands last. No other device was used.
 pub record LaysOutLast (k : ℕ) (device : Disk) (number : ℕ) (old new : MirrorView) : Type 0 where
   pub last : k ≡ length old.array.members
-  pub short : sectors_of device.content ≤ 2 ^ 54  -- as long as any device
+  pub short : sectors_of_device device.content ≤ 2 ^ 54  -- as long as any device
   pub laid : NewMember
-  pub spare : IsSpareOf old.array number (sectors_of device.content) laid
-  pub readable : IsReadable laid.superblock  -- no condition: so it is of every superblock that is laid out
+  pub spare : IsSpareOf old.array number (sectors_of_device device.content) laid
+  pub readable : IsReadBack laid.superblock  -- no condition: so it is of every superblock that is laid out
   pub now : Disk
   pub writes : DoesWrites of_disks (writes_of laid) device now
   pub outside : KeepsOthers laid device.content now.content
-  pub laid_out : device.honest ≡ true → IsLaidOut device.content laid now.content
+  pub laid_out : device.honest ≡ true → IsLaidOutAs device.content laid now.content
   pub within : device.honest ≡ true → LeavesOn (IsHalfLaidOut device.content laid) device now
   pub array : new.array ≡ added old.array laid
   pub disks : new.disks ≡ old.disks ++ now ∷ []
@@ -35,14 +35,14 @@ pub record LaysOutLast (k : ℕ) (device : Disk) (number : ℕ) (old new : Mirro
 -- the device may come in, and did
 pub record Adds (k : ℕ) (device : Disk) (old new : MirrorView) : Type 0 where
   pub number : ℕ
-  pub may : MayAdd old.array (sectors_of device.content) number
+  pub may : MayAdd old.array (sectors_of_device device.content) number
   pub comes : LaysOutLast k device number old new
 
 -- A write by which the device was to be laid out failed, and none was made after it. The mirror is as before.
 pub record FailsToLayOut (device given : Disk) (number : ℕ) (old new : MirrorView) : Type 0 where
   pub unchanged : new ≡ old
   pub laid : NewMember
-  pub spare : IsSpareOf old.array number (sectors_of device.content) laid
+  pub spare : IsSpareOf old.array number (sectors_of_device device.content) laid
   pub writes : FailsInWrites of_disks (writes_of laid) device given
   pub outside : KeepsOthers laid device.content given.content
 
@@ -55,11 +55,11 @@ RefusesToLayOut device given number old new _ = ⊥
 pub record RefusesUnwritten (device given : Disk) (old new : MirrorView) (fault : AddFault) : Type 0 where
   pub unchanged : new ≡ old
   pub untouched : given ≡ device
-  pub refused : RefusesToAdd old.array (sectors_of device.content) fault
+  pub refused : RefusesToAdd old.array (sectors_of_device device.content) fault
 
 pub record FailsToAdd (device given : Disk) (old new : MirrorView) : Type 0 where
   pub number : ℕ
-  pub may : MayAdd old.array (sectors_of device.content) number
+  pub may : MayAdd old.array (sectors_of_device device.content) number
   pub fails : FailsToLayOut device given number old new
 
 -- Nothing is written. That memory was short is not said.
@@ -67,7 +67,7 @@ pub record LacksMemoryToAdd (device given : Disk) (old new : MirrorView) : Type 
   pub unchanged : new ≡ old
   pub untouched : given ≡ device
   pub number : ℕ
-  pub may : MayAdd old.array (sectors_of device.content) number
+  pub may : MayAdd old.array (sectors_of_device device.content) number
 
 abbrev pub RefusesAdd : Disk → Disk → MirrorView → MirrorView → AddFault → Type 0
 RefusesAdd device given old new Halted = RefusesUnwritten device given old new Halted

@@ -4,7 +4,7 @@ use Rattle.md_assembly.specs.States.{is_recovering}
 use Rattle.md_bitmap.specs.Marks.{Bitmap}
 use Rattle.md_faults.specs.declared.enrol_fault.TargetFault.{TargetFault as TargetFaults}
 use Rattle.md_faults.specs.declared.enrol_fault.TargetFault.TheVariants.{Halted, TargetFault}
-use Rattle.md_kept_members.specs.TakingBack.{with_offset}
+use Rattle.md_kept_members.specs.TakingBack.{with_recovery_offset}
 use Rattle.md_kept_members.specs.View.{MemberView}
 use Rattle.md_model.specs.Content.{Content}
 use Rattle.md_model.specs.Events.{Event}
@@ -16,7 +16,7 @@ use Rattle.md_state.specs.Trying.{RefusesHalted}
 use Rattle.md_state.specs.View.{MirrorView}
 use Rattle.md_super.specs.Merge.{merged}
 use Rattle.md_array.specs.Admitting.{FailsAsTarget}
-use Rattle.md_array.specs.Enrolling.{HasContent, HoldsCopied}
+use Rattle.md_array.specs.Enrolling.{HoldsContent, HoldsCopied}
 use Rattle.md_array.specs.Events.{Happens, listed_on}
 use Rattle.md_array.specs.NotingResynced.{AreNoted}
 use Rattle.md_array.specs.Recording.{IsReadable, super_write}
@@ -39,9 +39,9 @@ pub record Checkpoints (k : ℕ) (copied : Bitmap) (old new : MirrorView) : Type
   pub may : MayCheckpoint k copied old
   pub offset : ℕ
   pub next : IsNextOffset old.array may.member copied offset
-  pub readable : IsReadable (merged old.array.shared (with_offset offset may.member).superblock)  -- no condition: so it is of every superblock that is kept
-  pub array : new.array ≡ record old.array { members = set old.array.members k (record (with_offset offset may.member) { due = false }) }
-  pub disks : IsWritten k (super_write old.array (with_offset offset may.member)) old.disks new.disks
+  pub readable : IsReadable (merged old.array.shared (with_recovery_offset offset may.member).superblock)  -- no condition: so it is of every superblock that is kept
+  pub array : new.array ≡ record old.array { members = set old.array.members k (record (with_recovery_offset offset may.member) { due = false }) }
+  pub disks : IsWritten k (super_write old.array (with_recovery_offset offset may.member)) old.disks new.disks
 
 -- The write of a member's superblock with the next offset failed, and in memory all is as before.
 pub record FailsToCheckpoint (k : ℕ) (copied : Bitmap) (old new : MirrorView) : Type 0 where
@@ -51,8 +51,8 @@ pub record FailsToCheckpoint (k : ℕ) (copied : Bitmap) (old new : MirrorView) 
   pub next : IsNextOffset old.array member copied offset
   pub running : old.array.halted ≡ false
   pub array : new.array ≡ old.array
-  pub readable : IsReadable (merged old.array.shared (with_offset offset member).superblock)
-  pub disks : IsFailed k (super_write old.array (with_offset offset member)) old.disks new.disks
+  pub readable : IsReadable (merged old.array.shared (with_recovery_offset offset member).superblock)
+  pub disks : IsFailed k (super_write old.array (with_recovery_offset offset member)) old.disks new.disks
 
 abbrev pub RefusesCheckpoint : ℕ → Bitmap → MirrorView → MirrorView → TargetFaults → Type 0
 RefusesCheckpoint k copied old new Halted = RefusesHalted old new
@@ -84,5 +84,5 @@ IfCheckpointFailed P Halted = ⊤
 abbrev pub CheckpointHappens : ℕ → MirrorView → MirrorView → {T : Type 0} → Result T TargetFaults → Type 0
 CheckpointHappens k old new result =
     MatchResult result
-    (λ _. (offset : ℕ) × ((content : Content) → HasContent old.disks old.array content → Happens old (Event.Checkpoint k offset (listed_on new k)) new))
+    (λ _. (offset : ℕ) × ((content : Content) → HoldsContent old.disks old.array content → Happens old (Event.Checkpoint k offset (listed_on new k)) new))
     (IfCheckpointFailed (FailsAsTarget k old new))

@@ -11,7 +11,7 @@ use Rattle.md_state.specs.Requests.{AreInside}
 use Rattle.md_array.specs.Fits.{Fits}
 use Rattle.md_array.specs.Worlds.{super_in, block_on, is_listed, is_listed_next}
 use Rattle.md_badblocks.specs.Runs.{IsBad}
-use Rattle.md_state.specs.InMemory.{HasChunks, HasRoles}
+use Rattle.md_state.specs.InMemory.{HasMarksOfSize, HasRoles}
 
 -- these 4096 bytes of a superblock place the member's parts where its own fields do
 pub record HasPlaces (m : MemberView) (block : List ℕ) : Type 0 where
@@ -42,6 +42,6 @@ HaveSupers v = (k : ℕ) (d : Disk) (m : MemberView) → slice_get v.disks k ≡
 pub record IsConsistent (v : MirrorView) : Type 0 where
   pub fits : Fits v.disks v.array
   pub roles : HasRoles v.array
-  pub chunks : HasChunks v.array
+  pub chunks : HasMarksOfSize v.array
   pub inside : AreInside v.array
   pub supers : v.array.halted ≡ false → HaveSupers v

@@ -10,8 +10,8 @@ use Rattle.md_bitmap.specs.Chunks.{InChunk}
 use Rattle.md_bitmap.specs.Marks.{Bitmap, is_set}
 use Rattle.md_badblocks.specs.declared.run.Run.{Run}
 use Rattle.md_badblocks.specs.Log.{log_bytes}
-use Rattle.md_members.specs.Areas.{IsPlaced, bitmap_sectors, has_bitmap}
-use Rattle.md_members.specs.Members.{sectors_of}
+use Rattle.md_members.specs.Areas.{AreAreasPlaced, bitmap_sectors, has_bitmap}
+use Rattle.md_members.specs.Members.{sectors_of_device}
 use Rattle.md_members.specs.Reading.{BitmapStartsAt}
 use Rattle.md_model.specs.Content.{Content}
 use Rattle.md_model.specs.Sectors.{put}
@@ -31,18 +31,18 @@ use Rattle.md_state.specs.Trying.{Refuses}
 use Rattle.md_state.specs.View.{ArrayView, Disk, MirrorView, of_disks}
 use Rattle.md_array.specs.ReadAsKept.{AreReadAsKept}
 use Rattle.md_array.specs.Recording.{IsReadable, write_of}
-use Rattle.md_array.specs.Worlds.{AreHonest, from_super, is_listed}
+use Rattle.md_array.specs.Worlds.{AreHonest, sector_from_super, is_listed}
 
 -- ---- its conditions
 -- Where the array's content is held: each member in sync holds it in each sector that its device does not list.
-pub record HasContent (disks : List Disk) (a : ArrayView) (content : Content) : Type 0 where
+pub record HoldsContent (disks : List Disk) (a : ArrayView) (content : Content) : Type 0 where
   pub held : (k : ℕ) (d : Disk) (m : MemberView) → slice_get disks k ≡ Some d → IsInSync a k m
       → (s : ℕ) → s < a.chunks.size → is_listed m.superblock d.content (m.superblock.data_offset + s) ≡ false → part d.content (512 * (m.superblock.data_offset + s)) 512 ≡ content s
 
 -- Of a copy: whatever content the members in sync hold, member k holds it in each copied chunk.
 abbrev pub HoldsCopied : List Disk → ArrayView → ℕ → Bitmap → Type 0
 HoldsCopied disks a k copied =
-    (content : Content) → HasContent disks a content
+    (content : Content) → HoldsContent disks a content
     → (d : Disk) (m : MemberView) → slice_get disks k ≡ Some d → IsMember a k m
     → (c s : ℕ) → c < copied.chunks → is_set copied.bytes c ≡ true → InChunk a.chunks.sectors a.chunks.size c s → part d.content (512 * (m.superblock.data_offset + s)) 512 ≡ content s
 
@@ -64,16 +64,16 @@ pub record MayEnrol (k : ℕ) (copied orphans : Bitmap) (v : MirrorView) : Type 
 -- ---- what is written
 -- A member's parts lie on a device, and its log has room for its list: all of it but its data may be stored there.
 pub record IsStorable (n : MemberView) (content : List ℕ) : Type 0 where
-  pub long : 16 ≤ sectors_of content
+  pub long : 16 ≤ sectors_of_device content
   pub has : has_bitmap n.superblock ≡ true
-  pub placed : IsPlaced (sectors_of content) n.superblock (bitmap_sectors n.stored.chunks)
+  pub placed : AreAreasPlaced (sectors_of_device content) n.superblock (bitmap_sectors n.stored.chunks)
   pub few_chunks : n.stored.chunks ≤ 1048576
   pub room : HasRoomFor n.superblock n.bad
 
 -- a list is stored in the log that a superblock names, where it names one
 abbrev pub log_writes : Superblock → List Run → List Write
 log_writes own list =
-    if has_bad_block_log own then record { sector = from_super own.bblog_offset; bytes = log_bytes list (log_room own) } ∷ [] else []
+    if has_bad_block_log own then record { sector = sector_from_super own.bblog_offset; bytes = log_bytes list (log_room own) } ∷ [] else []
 
 -- what stores all of a member but its data: its marks with this header, from this sector on, the bitmap's first sector last; its log;
 -- and its superblock beside these fields of the array
@@ -102,7 +102,7 @@ pub record IsUsedAlone (k : ℕ) (before after : List Disk) (Change : Disk → D
   pub change : AtDevice k before after Change
 
 -- ---- what comes of it
--- All was written. At each moment a stop leaves the first of the writes done, and the next one cut short (`DoesWrites.within`).
+-- All was written. At each moment a crash leaves the first of the writes done, and the next one cut short (`DoesWrites.within`).
 pub record Enrols (k : ℕ) (copied orphans : Bitmap) (old new : MirrorView) : Type 0 where
   pub role : ℕ
   pub may : MayTakeRole k old.array role

@@ -12,7 +12,7 @@ use Rattle.md_state.specs.Missing.{is_missing}
 use Rattle.md_state.specs.View.{Disk, MirrorView}
 use Rattle.md_device_writes.specs.Bitmaps.{bitmap_writes}
 use Rattle.md_device_writes.specs.Writes.{Write, after}
-use Rattle.md_array.specs.Enrolling.{Enrols, FailsToEnrol, HasContent, log_writes}
+use Rattle.md_array.specs.Enrolling.{Enrols, FailsToEnrol, HoldsContent, log_writes}
 use Rattle.md_array.specs.Events.{IsChangedAlone, IsSameBesideMarks}
 use Rattle.md_array.specs.Filling.{MayRebuild}
 use Rattle.md_array.specs.Worlds.{lists_of}
@@ -55,7 +55,7 @@ pub record DidEnrol (e : Event) (mid new : MirrorView) : Type 0 where
 -- In chunks that it does not lack a member that comes into sync holds the content, in each sector that it does not list then. So do the
 -- members in sync throughout.
 pub record IsHeldBy (k : ℕ) (listed : ℕ → Bool) (content : Content) (v : MirrorView) : Type 0 where
-  pub in_sync : HasContent v.disks v.array content
+  pub in_sync : HoldsContent v.disks v.array content
   pub told : (d : Disk) (m : MemberView) → slice_get v.disks k ≡ Some d → IsMember v.array k m
       → (s : ℕ) → s < v.array.chunks.size → is_missing v.array m (s / v.array.chunks.sectors) ≡ false → listed s ≡ false
       → part d.content (512 * (m.superblock.data_offset + s)) 512 ≡ content s

@@ -28,7 +28,7 @@ use Rattle.md_state.specs.Requests.{AreInFlight, among, request_of}
 use Rattle.md_array.specs.Lending.{IsBesideMissing}
 use Rattle.md_array.specs.ReadAsKept.{AreReadAsKept}
 use Rattle.md_array.specs.Recording.{super_write}
-use Rattle.md_array.specs.Worlds.{AreHonest, stored_on, world_of, super_in, block_on, from_super}
+use Rattle.md_array.specs.Worlds.{AreHonest, stored_on, world_of, super_in, block_on, sector_from_super}
 
 -- A device that had this superblock is written once, and stands after the others then, none of which is used.
 pub record WritesLast (own : Super) (before after : List Disk) : Type 0 where
@@ -54,7 +54,7 @@ pub record ComesLast (before after : List Disk) : Type 0 where
   pub disks : after ≡ before ++ now ∷ []
 
 -- Device k alone was written: the others may have been read. What it holds then stands in this relation to what it held, and so does
--- what a stop leaves of it.
+-- what a crash leaves of it.
 pub record IsChangedAlone (k : ℕ) (Related : List ℕ → List ℕ → Type 0) (before after : List Disk) : Type 0 where
   pub as_many : length after ≡ length before
   pub others : (j : ℕ) → j ≢ k → AtDevice j before after (λ d e. StaysHonest d e × IsLeftAlone d e)
@@ -74,16 +74,16 @@ IsBesideArea start sectors at n = (at + n ≤ 512 * start) ⊎ (512 * (start + s
 
 -- These bytes lie beside the bitmap of a member, and beside its log.
 pub record IsBesideMarks (m : MemberView) (at n : ℕ) : Type 0 where
-  pub bitmap : IsBesideArea (from_super m.superblock.bitmap_offset) (bitmap_sectors m.stored.chunks) at n
-  pub log : has_bad_block_log m.superblock ≡ true → IsBesideArea (from_super m.superblock.bblog_offset) m.superblock.bblog_size at n
+  pub bitmap : IsBesideArea (sector_from_super m.superblock.bitmap_offset) (bitmap_sectors m.stored.chunks) at n
+  pub log : has_bad_block_log m.superblock ≡ true → IsBesideArea (sector_from_super m.superblock.bblog_offset) m.superblock.bblog_size at n
 
 -- two contents of a member's device that are the same but for its bitmap and its log
 pub record IsSameBesideMarks (m : MemberView) (old new : List ℕ) : Type 0 where
   pub size : length new ≡ length old
   pub beside : (at n : ℕ) → IsBesideMarks m at n → part new at n ≡ part old at n
 
--- A write failed, and any bytes may stand in its range. What a stop within it leaves is not told here.
-pub record HasFailed (k : ℕ) (w : Write) (before after : List Disk) : Type 0 where
+-- A write failed, and any bytes may stand in its range. What a crash within it leaves is not told here.
+pub record HasWriteFailed (k : ℕ) (w : Write) (before after : List Disk) : Type 0 where
   pub tried : IsTried k w before after
   pub failed : AtDevice k before after (λ d e. d.honest ≡ true → d.failures < e.failures)
 
@@ -109,7 +109,7 @@ WritesOnce (Event.Fail k) before after = after ≡ before
 WritesOnce (Event.Fill k) before after = (a : ArrayView) × (m : MemberView) × IsChangedAlone k (IsSameBesideMissing a m) before after
 WritesOnce (Event.Prepare k) before after = (m : MemberView) × IsChangedAlone k (IsSameBesideMarks m) before after
 WritesOnce (Event.RecordTargetFails k) before after = (w : Write) × IsFailed k w before after
-WritesOnce (Event.SpoilTarget k) before after = (w : Write) × HasFailed k w before after
+WritesOnce (Event.SpoilTarget k) before after = (w : Write) × HasWriteFailed k w before after
 WritesOnce (Event.Enrol k role listed) before after = (w : Write) × IsDone k w before after
 WritesOnce (Event.Admit k role listed) before after = (w : Write) × IsWritten k w before after
 WritesOnce (Event.Checkpoint k offset listed) before after = (w : Write) × IsWritten k w before after
@@ -139,7 +139,7 @@ KeepsLists e w w' = ⊤
 -- By the event the mirror goes from its world with these requests in flight to that with those. A content that the members in
 -- sync held before it, they hold after it, changed as the event says; and who was written of a request in flight has its bytes.
 -- An opening reads what is kept, if it did before. The devices do what they answer still, and one is written at most: what a
--- stop within that leaves is of its write (`stops_at_steps`).
+-- stop within that leaves is of its write (`crashes_at_steps`).
 pub record Does (old : MirrorView) (before : ℕ → Option Request) (e : Event) (new : MirrorView) (after : ℕ → Option Request) : Type 0 where
   pub honest : AreHonest new.disks
   pub writes : WritesOnce e old.disks new.disks

@@ -1,8 +1,8 @@
 -- Devices and the array that is kept of them fit one another, so that marks may be stored on the members.
 use Rattle.std.specs.Prelude.{◌≡◌, ℕ, ◌^◌, ◌≤◌, true, List, length, slice_get, Some}
-use Rattle.md_bitmap.specs.Sound.{IsSound}
-use Rattle.md_members.specs.Areas.{IsPlaced, bitmap_sectors, has_bitmap}
-use Rattle.md_members.specs.Members.{reads_log, sectors_of}
+use Rattle.md_bitmap.specs.Sound.{IsSoundHeader}
+use Rattle.md_members.specs.Areas.{AreAreasPlaced, bitmap_sectors, has_bitmap}
+use Rattle.md_members.specs.Members.{reads_log, sectors_of_device}
 use Rattle.md_kept_members.specs.View.{MemberView}
 use Rattle.md_state.specs.View.{Disk, ArrayView}
 use Rattle.md_state.specs.Members.{IsMember}
@@ -15,12 +15,12 @@ TellsOfList m = is_rebuilt m.state ≡ true → (sector : ℕ) → lies_in m.bad
 
 -- A member's parts lie on its device, and its chunks fit the size of the array.
 pub record FitsMember (a : ArrayView) (m : MemberView) (d : Disk) : Type 0 where
-  pub long : 16 ≤ sectors_of d.content
-  pub short : sectors_of d.content ≤ 2 ^ 54  -- as long as any device
+  pub long : 16 ≤ sectors_of_device d.content
+  pub short : sectors_of_device d.content ≤ 2 ^ 54  -- as long as any device
   pub has : has_bitmap m.superblock ≡ true
-  pub placed : IsPlaced (sectors_of d.content) m.superblock (bitmap_sectors m.stored.chunks)
+  pub placed : AreAreasPlaced (sectors_of_device d.content) m.superblock (bitmap_sectors m.stored.chunks)
   pub few_chunks : m.stored.chunks ≤ 1048576
-  pub sound : IsSound a.shared.size m.header.chunksize
+  pub sound : IsSoundHeader a.shared.size m.header.chunksize
   pub told : TellsOfList m
 
 -- as many devices as members, and each fits its member

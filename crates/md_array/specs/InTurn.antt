@@ -21,7 +21,7 @@ use Rattle.md_state.specs.WritingMember.{FailsToWrite, HaltsWritingTo, IsNotDue,
 use Rattle.md_state.specs.Requests.{request_of}
 use Rattle.md_state.specs.CopyingData.{CopiesSector, FailsToCopy, HaltsCopying}
 use Rattle.md_array.specs.Recording.{FailsToRecord, HaltsRecording, Records, super_write}
-use Rattle.md_array.specs.Enrolling.{HasContent}
+use Rattle.md_array.specs.Enrolling.{HoldsContent}
 use Rattle.md_array.specs.Enrolments.{DidEnrol, IsHeldBy, Prepares}
 use Rattle.md_array.specs.Filling.{Fills}
 use Rattle.md_array.specs.RecordingTarget.{FailsOnTarget}
@@ -46,7 +46,7 @@ LeftWhole old (Event.WriteFails k MemberPart.Superblock) new =
     (m : MemberView) → IsMember old.array k m → AtDevice k old.disks new.disks (IsOldNewOrNone (super_write old.array m).bytes)
 LeftWhole old (Event.RecordTargetFails k) new =
     (m : MemberView) → IsMember old.array k m → AtDevice k old.disks new.disks (IsOldNewOrNone (super_write old.array m).bytes)
-LeftWhole old (Event.Checkpoint k offset listed) new = (content : Content) × HasContent old.disks old.array content
+LeftWhole old (Event.Checkpoint k offset listed) new = (content : Content) × HoldsContent old.disks old.array content
 LeftWhole old (Event.StoreLog k listed) new = HasNoShift k old
 LeftWhole old (Event.WriteFails k MemberPart.Log) new = HasNoShift k old
 LeftWhole old (Event.Enrol k role listed) new = (content : Content) × IsHeldBy k listed content old

@@ -26,7 +26,7 @@ IsBesideMissing a m at n = (c : ℕ) → c < a.marks.chunks → is_missing a m c
 
 -- A device as it was lent, and as it comes back. Of a member that is being rebuilt data in its missing chunks may differ; of any
 -- other nothing does.
-pub record ComesBack (a : ArrayView) (m : MemberView) (d e : Disk) : Type 0 where
+pub record ComesBackFromLoan (a : ArrayView) (m : MemberView) (d e : Disk) : Type 0 where
   pub stays : StaysHonest d e
   pub size : length e.content ≡ length d.content
   pub beside : (at n : ℕ) → IsBesideMissing a m at n → part e.content at n ≡ part d.content at n
@@ -35,7 +35,7 @@ pub record ComesBack (a : ArrayView) (m : MemberView) (d e : Disk) : Type 0 wher
 -- as many, in their order
 pub record ComeBack (a : ArrayView) (before after : List Disk) : Type 0 where
   pub as_many : length after ≡ length before
-  pub each : (k : ℕ) (d e : Disk) (m : MemberView) → slice_get before k ≡ Some d → slice_get after k ≡ Some e → IsMember a k m → ComesBack a m d e
+  pub each : (k : ℕ) (d e : Disk) (m : MemberView) → slice_get before k ≡ Some d → slice_get after k ≡ Some e → IsMember a k m → ComesBackFromLoan a m d e
 
 -- The devices were lent by a consistent mirror in which nothing was in flight, and are back.
 pub record AreBack (old : MirrorView) (before after : List Disk) : Type 0 where

@@ -26,8 +26,8 @@ abbrev pub RefusesChunk : ℕ → ℕ → MirrorView → MirrorView → NoteFaul
 RefusesChunk k chunk old new fault = Refuses old new (WhyUnlisted k chunk old.array fault)
 
 -- No list has sectors from 2^54 on, and no device: so the whole chunk is listed then.
-abbrev pub IsWhole : ℕ → ℕ → MirrorView → Type 0
-IsWhole k chunk v = (m : MemberView) → IsMember v.array k m → (s : ℕ) → InChunk v.array.chunks.sectors v.array.chunks.size chunk s → m.superblock.data_offset + s < 2 ^ 54
+abbrev pub IsBelowListLimit : ℕ → ℕ → MirrorView → Type 0
+IsBelowListLimit k chunk v = (m : MemberView) → IsMember v.array k m → (s : ℕ) → InChunk v.array.chunks.sectors v.array.chunks.size chunk s → m.superblock.data_offset + s < 2 ^ 54
 
 -- ---- on the device
 -- these writes were done on device k, of which there is one at most
@@ -63,13 +63,13 @@ pub record HaltsStoringLog (k : ℕ) (old new : MirrorView) : Type 0 where
   pub among : log_writes member.superblock member.bad ≡ write ∷ []
   pub halts : HaltsWriting k write old new
 
-abbrev pub RefusesLog : ℕ → MirrorView → MirrorView → StoreFault → Type 0
-RefusesLog k old new Halted = RefusesHalted old new ⊎ HaltsStoringLog k old new
-RefusesLog k old new NotActive = ⊥
-RefusesLog k old new (MemberFailed j) = (j ≡ k) × FailsToStoreLog k old new
+abbrev pub RefusesStoreLog : ℕ → MirrorView → MirrorView → StoreFault → Type 0
+RefusesStoreLog k old new Halted = RefusesHalted old new ⊎ HaltsStoringLog k old new
+RefusesStoreLog k old new NotActive = ⊥
+RefusesStoreLog k old new (MemberFailed j) = (j ≡ k) × FailsToStoreLog k old new
 
 -- ---- the events
--- The log was read without a shift, or stored since. Of a stop between the log and the superblock of one that was read with another shift
+-- The log was read without a shift, or stored since. Of a crash between the log and the superblock of one that was read with another shift
 -- nothing is said: so the two are no events of their own there.
 abbrev pub HasNoShift : ℕ → MirrorView → Type 0
 HasNoShift k v = (m : MemberView) → IsMember v.array k m → m.superblock.bblog_shift ≡ 0

@@ -13,7 +13,7 @@ abbrev pub sector_of : MemberView → Disk → ℕ → List ℕ
 sector_of m d s = held d.content (m.superblock.data_offset + s) 512
 
 -- a member in sync, with its device, which does what it answers
-pub record IsServed (v : MirrorView) (k : ℕ) (m : MemberView) (d : Disk) : Type 0 where
+pub record IsHonestMember (v : MirrorView) (k : ℕ) (m : MemberView) (d : Disk) : Type 0 where
   pub in_sync : IsInSync v.array k m
   pub disk : slice_get v.disks k ≡ Some d
   pub honest : d.honest ≡ true
@@ -21,7 +21,7 @@ pub record IsServed (v : MirrorView) (k : ℕ) (m : MemberView) (d : Disk) : Typ
 -- Any two members in sync hold the same in this sector, unless one of them lists it.
 abbrev pub AllAgreeAt : MirrorView → ℕ → Type 0
 AllAgreeAt v s =
-    (j k : ℕ) (m n : MemberView) (d e : Disk) → IsServed v j m d → IsServed v k n e
+    (j k : ℕ) (m n : MemberView) (d e : Disk) → IsHonestMember v j m d → IsHonestMember v k n e
     → (Lists m s → ⊥) → (Lists n s → ⊥) → sector_of m d s ≡ sector_of n e s
 
 -- Any two members in sync hold the same in each sector of a marked chunk, unless one of them lists the

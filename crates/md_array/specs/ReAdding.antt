@@ -7,7 +7,7 @@ use Rattle.md_members.specs.Members as members
 use Rattle.md_super.specs.Merge.{merged}
 use Rattle.md_model.specs.Devices.{Super}
 use Rattle.md_model.specs.Events.{Event}
-use Rattle.md_kept_members.specs.TakingBack.{IsTakenBack, own_role}
+use Rattle.md_kept_members.specs.TakingBack.{IsKeptTakenBack, own_role}
 use Rattle.md_kept_members.specs.View.{MemberView}
 use Rattle.md_faults.specs.declared.re_add_fault.ReAddFault.{ReAddFault}
 use Rattle.md_faults.specs.declared.re_add_fault.ReAddFault.TheVariants.{Halted, Member, Full, NotReAddable, NoRole, EventsFull, WriteFault, NoMemory}
@@ -29,7 +29,7 @@ IsOnlyRead before after = IsLeftAlone before after × StaysHonest before after
 -- The superblock of the device, as the reading left it, was written once, as the mirror keeps it, and the device stands last.
 pub record RecordsLast (k : ℕ) (device : Disk) (info : MemberInfo) (old new : MirrorView) : Type 0 where
   pub last : k ≡ length old.array.members
-  pub short : members.sectors_of device.content ≤ 2 ^ 54  -- as long as any device
+  pub short : members.sectors_of_device device.content ≤ 2 ^ 54  -- as long as any device
   pub takes : TakesBack info old.array new.array
   pub readable : IsReadable (merged new.array.shared takes.member.superblock)  -- no condition: so it is of every superblock that is kept
   pub now : Disk
@@ -40,7 +40,7 @@ pub record RecordsLast (k : ℕ) (device : Disk) (info : MemberInfo) (old new : 
 pub record ReAdds (k : ℕ) (device : Disk) (old new : MirrorView) : Type 0 where
   pub running : old.array.halted ≡ false
   pub info : MemberInfo
-  pub read : members.IsMember device.content device.honest info
+  pub read : members.IsReadMember device.content device.honest info
   pub after_reading : Disk
   pub only_read : IsOnlyRead device after_reading
   pub unfailing : after_reading.failures ≡ device.failures  -- no read is tried again
@@ -52,7 +52,7 @@ pub record FailsToRecordLast (device handed_back : Disk) (info : MemberInfo) (ol
   pub member : MemberView
   pub offset : ℕ
   pub offset_is : IsOffsetBack old.array info offset
-  pub taken : IsTakenBack offset info member
+  pub taken : IsKeptTakenBack offset info member
   pub failed : IsFailed 0 (write_of (joined_shared old.array member.superblock.dev_number (own_role info.superblock)) member) (device ∷ []) (handed_back ∷ [])
 
 abbrev pub RefusesToRecordLast : Disk → Disk → MemberInfo → MirrorView → MirrorView → ReAddFault → Type 0
@@ -63,7 +63,7 @@ RefusesToRecordLast device handed_back info old new _ = ⊥
 pub record FailsToReAdd (device handed_back : Disk) (old new : MirrorView) : Type 0 where
   pub running : old.array.halted ≡ false
   pub info : MemberInfo
-  pub read : members.IsMember device.content device.honest info
+  pub read : members.IsReadMember device.content device.honest info
   pub may : MayReAdd old.array info
   pub after_reading : Disk
   pub only_read : IsOnlyRead device after_reading
@@ -91,15 +91,15 @@ pub record RefusesInfo (device handed_back : Disk) (old new : MirrorView) (fault
   pub only_read : IsOnlyRead device handed_back
   pub unfailing : handed_back.failures ≡ device.failures
   pub info : MemberInfo
-  pub read : members.IsMember device.content device.honest info
+  pub read : members.IsReadMember device.content device.honest info
   pub refused : RefusesToTakeBack old.array info fault
 
 -- A device is read as a member that may be taken back.
 abbrev pub MayComeBack : Disk → MirrorView → Type 0
-MayComeBack device old = (info : MemberInfo) × members.IsMember device.content device.honest info × MayReAdd old.array info
+MayComeBack device old = (info : MemberInfo) × members.IsReadMember device.content device.honest info × MayReAdd old.array info
 
 -- Nothing is written: there was no memory to read it, or it may come back. That memory was short is not said.
-pub record LacksMemory (device handed_back : Disk) (old new : MirrorView) : Type 0 where
+pub record LacksMemoryToReAdd (device handed_back : Disk) (old new : MirrorView) : Type 0 where
   pub running : old.array.halted ≡ false
   pub unchanged : new ≡ old
   pub only_read : IsOnlyRead device handed_back
@@ -115,7 +115,7 @@ RefusesReAdd device handed_back old new NotReAddable = RefusesInfo device handed
 RefusesReAdd device handed_back old new NoRole = RefusesInfo device handed_back old new NoRole
 RefusesReAdd device handed_back old new EventsFull = RefusesInfo device handed_back old new EventsFull
 RefusesReAdd device handed_back old new WriteFault = FailsToReAdd device handed_back old new
-RefusesReAdd device handed_back old new NoMemory = LacksMemory device handed_back old new
+RefusesReAdd device handed_back old new NoMemory = LacksMemoryToReAdd device handed_back old new
 
 -- the event of the model: what the device had, and has, is by the fields that are kept of it
 abbrev pub re_add_event : (k : ℕ) (device : Disk) (old new : MirrorView) → ReAdds k device old new → Event
@@ -125,7 +125,7 @@ re_add_event k device old new r =
 
 -- By the event the device comes in as it was read, with its superblock written and nothing else changed. What is said of its bytes is
 -- said of one that does what it answers.
-pub record ComesBack (k : ℕ) (device : Disk) (old new : MirrorView) : Type 0 where
+pub record ComesBackReAdded (k : ℕ) (device : Disk) (old new : MirrorView) : Type 0 where
   pub own : Super
   pub was : super_in (block_on device.content) ≡ Some own
   pub member : MemberView
@@ -135,4 +135,4 @@ pub record ComesBack (k : ℕ) (device : Disk) (old new : MirrorView) : Type 0 w
   pub happens : Happens old (Event.ReAdd own (stored_of new.array member device.content) (stored_of new.array member now.content)) new
 
 abbrev pub ReAddHappens : Disk → MirrorView → MirrorView → {E : Type 0} → Result ℕ E → Type 0
-ReAddHappens device old new result = MatchResult result (λ k. device.honest ≡ true → ComesBack k device old new) (λ _. ⊤)
+ReAddHappens device old new result = MatchResult result (λ k. device.honest ≡ true → ComesBackReAdded k device old new) (λ _. ⊤)

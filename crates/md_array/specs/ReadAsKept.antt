@@ -2,7 +2,7 @@
 use Rattle.std.specs.Prelude.{◌≡◌, ◌⊎◌, ℕ, ◌/◌, ◌<◌, ◌≤◌, Bool, true, false, List, slice_get, Some}
 use Rattle.md_format.specs.Fields.{number_at}
 use Rattle.md_super.specs.declared.superblock.Superblock.{Superblock}
-use Rattle.md_super.specs.Faults.{NoFault}
+use Rattle.md_super.specs.Faults.{NoSuperFault}
 use Rattle.md_super.specs.Format.{IsSuper}
 use Rattle.md_members.specs.Members.{reads_log}
 use Rattle.md_kept_members.specs.View.{MemberView}
@@ -10,12 +10,12 @@ use Rattle.md_assembly.specs.States.{is_recorded}
 use Rattle.md_state.specs.Members.{IsMember}
 use Rattle.md_state.specs.Missing.{is_rebuilt}
 use Rattle.md_state.specs.View.{Disk, ArrayView, MirrorView}
-use Rattle.md_array.specs.Worlds.{block_on, from_super, header_on, is_listed}
+use Rattle.md_array.specs.Worlds.{block_on, sector_from_super, header_on, is_listed}
 
 -- this superblock is read on a device
 pub record IsSuperOn (content : List ℕ) (v : Superblock) : Type 0 where
   pub fields : IsSuper (block_on content) v
-  pub sound : NoFault (block_on content)
+  pub sound : NoSuperFault (block_on content)
 
 -- A superblock is of the array, and no newer. It places a member's parts where the own fields that are kept
 -- do, and its log lists the same sectors, by the same shift where it is read.
@@ -38,7 +38,7 @@ HasOwnSuper shared own content = (v : Superblock) → IsSuperOn content v → Is
 
 -- the chunk size in the header of a member's bitmap, in bytes
 abbrev pub chunk_size_on : Superblock → List ℕ → ℕ
-chunk_size_on own content = number_at 4 52 (header_on content (from_super own.bitmap_offset))
+chunk_size_on own content = number_at 4 52 (header_on content (sector_from_super own.bitmap_offset))
 
 -- The bitmap's header on a device tells of chunks of so many sectors.
 abbrev pub HasWidth : ℕ → Superblock → List ℕ → Type 0

@@ -13,24 +13,24 @@ use Rattle.md_array.specs.declared.fault.OpenFault.TheVariants.{Member, NoMemory
 -- each device was read as a member
 pub record AreRead (disks : List Disk) (infos : List MemberInfo) : Type 0 where
   pub as_many : length infos ≡ length disks
-  pub each : (k : ℕ) (d : Disk) (info : MemberInfo) → slice_get disks k ≡ Some d → slice_get infos k ≡ Some info → members.IsMember d.content d.honest info
-  pub short : (k : ℕ) (d : Disk) → slice_get disks k ≡ Some d → members.sectors_of d.content ≤ 2 ^ 54  -- as long as any device
+  pub each : (k : ℕ) (d : Disk) (info : MemberInfo) → slice_get disks k ≡ Some d → slice_get infos k ≡ Some info → members.IsReadMember d.content d.honest info
+  pub short : (k : ℕ) (d : Disk) → slice_get disks k ≡ Some d → members.sectors_of_device d.content ≤ 2 ^ 54  -- as long as any device
 
 -- device k is not read as a member for this reason, and all before it are
-pub record RefusesMember (before after : List Disk) (k : ℕ) (fault : MemberFault) : Type 0 where
+pub record RefusesDeviceRead (before after : List Disk) (k : ℕ) (fault : MemberFault) : Type 0 where
   pub disk : Disk
   pub is : slice_get before k ≡ Some disk
   pub refused : members.RefusesMember disk.content disk.honest (FailsAt before after k) fault
   pub memory : fault ≢ member_fault.NoMemory
-  pub earlier : (j : ℕ) (d : Disk) → j < k → slice_get before j ≡ Some d → (info : MemberInfo) × members.IsMember d.content d.honest info
+  pub earlier : (j : ℕ) (d : Disk) → j < k → slice_get before j ≡ Some d → (info : MemberInfo) × members.IsReadMember d.content d.honest info
 
 -- the fault of opening, where device k is not read as a member for this reason
-abbrev pub refusal_of : ℕ → MemberFault → OpenFault
-refusal_of k NoMemoryOfMember = NoMemory
-refusal_of k fault = Member k fault
+abbrev pub open_fault_of : ℕ → MemberFault → OpenFault
+open_fault_of k NoMemoryOfMember = NoMemory
+open_fault_of k fault = Member k fault
 
 -- why reading them all ends
-abbrev pub RefusesRead : List Disk → List Disk → OpenFault → Type 0
-RefusesRead before after (Member k fault) = RefusesMember before after k fault
-RefusesRead before after NoMemory = Unit {0}
-RefusesRead before after _ = ⊥
+abbrev pub RefusesReading : List Disk → List Disk → OpenFault → Type 0
+RefusesReading before after (Member k fault) = RefusesDeviceRead before after k fault
+RefusesReading before after NoMemory = Unit {0}
+RefusesReading before after _ = ⊥

@@ -2,7 +2,7 @@
 use Rattle.std.specs.Prelude.{◌≡◌, ◌⊎◌, ℕ, true, false, length, set}
 use Rattle.md_super.specs.declared.superblock.Superblock.{Superblock}
 use Rattle.md_super.specs.Encoding.{super_bytes}
-use Rattle.md_super.specs.Faults.{NoFault}
+use Rattle.md_super.specs.Faults.{NoSuperFault}
 use Rattle.md_super.specs.Format.{IsSuper}
 use Rattle.md_super.specs.Merge.{merged}
 use Rattle.md_device_writes.specs.Writes.{Write}
@@ -31,7 +31,7 @@ pub record IsReadable (v : Superblock) : Type 0 where
   pub size : length (super_bytes v) ≡ 4096
   pub sum : ℕ  -- the checksum in them
   pub fields : IsSuper (super_bytes v) (record v { sb_csum = sum })
-  pub sound : NoFault (super_bytes v)
+  pub sound : NoSuperFault (super_bytes v)
 
 -- member k may be recorded
 pub record MayRecord (k : ℕ) (a : ArrayView) (m : MemberView) : Type 0 where

@@ -12,7 +12,7 @@ use Rattle.md_state.specs.View.{MirrorView}
 use Rattle.md_array.specs.Events.{Happens, IsOldNewOrNone}
 use Rattle.md_array.specs.Recording.{MayRecord, super_write}
 
--- The write failed. In memory all is as it was, so that the member's record is due still. A stop within the write leaves any bytes in
+-- The write failed. In memory all is as it was, so that the member's record is due still. A crash within the write leaves any bytes in
 -- its range (`disks.within`).
 pub record LeavesUnrecorded (k : ℕ) (old new : MirrorView) : Type 0 where
   pub member : MemberView

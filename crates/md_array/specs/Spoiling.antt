@@ -5,7 +5,7 @@ use Rattle.md_state.specs.Members.{IsMember}
 use Rattle.md_state.specs.Missing.{is_rebuilt}
 use Rattle.md_state.specs.View.{MirrorView}
 use Rattle.md_device_writes.specs.Writes.{Write}
-use Rattle.md_array.specs.Events.{HasFailed}
+use Rattle.md_array.specs.Events.{HasWriteFailed}
 
 -- The write was that of `admit`, `checkpoint` or `enrol`, and is as long as a superblock. In memory all is as it was: the member is what it
 -- was, and its superblock may be stored anew.
@@ -18,4 +18,4 @@ pub record SpoilsTarget (k : ℕ) (old new : MirrorView) : Type 0 where
   pub write : Write
   pub sector : write.sector ≡ 8
   pub size : length write.bytes ≡ 4096
-  pub disks : HasFailed k write old.disks new.disks
+  pub disks : HasWriteFailed k write old.disks new.disks

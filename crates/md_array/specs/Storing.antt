@@ -26,9 +26,9 @@ pub record AreMarkWrites (a : ArrayView) (m : MemberView) (start : ℕ) (writes 
 abbrev pub IsSameOutsideBitmap : MemberView → ℕ → Disk → Disk → Type 0
 IsSameOutsideBitmap m start old new = SameOutside (512 * start) (512 * bitmap_sectors m.stored.chunks) old.content new.content
 
--- A device before and after the marks were stored on it. At each moment a stop leaves the first of the writes done, and the next
+-- A device before and after the marks were stored on it. At each moment a crash leaves the first of the writes done, and the next
 -- one cut short.
-pub record StoresMarks (a : ArrayView) (m : MemberView) (old new : Disk) : Type 0 where
+pub record StoresMarksOn (a : ArrayView) (m : MemberView) (old new : Disk) : Type 0 where
   pub start : ℕ
   pub writes : List Write
   pub are : AreMarkWrites a m start writes
@@ -53,27 +53,27 @@ pub record FailsToStore (a : ArrayView) (m : MemberView) (old new : Disk) : Type
 
 -- where marks are to be stored on a member they were, and else its device is left alone
 abbrev pub IsMarkedBy : ArrayView → MemberView → Disk → Disk → Type 0
-IsMarkedBy a m d e = (NeedsMarks m → StoresMarks a m d e) × ((NeedsMarks m → ⊥) → IsLeftAlone d e)
+IsMarkedBy a m d e = (NeedsMarks m → StoresMarksOn a m d e) × ((NeedsMarks m → ⊥) → IsLeftAlone d e)
 
-abbrev pub IsMarked : ArrayView → ℕ → Disk → Disk → Type 0
-IsMarked a k d e = (m : MemberView) → IsMember a k m → IsMarkedBy a m d e
+abbrev pub AreMarksOnDisk : ArrayView → ℕ → Disk → Disk → Type 0
+AreMarksOnDisk a k d e = (m : MemberView) → IsMember a k m → IsMarkedBy a m d e
 
 -- Marks were stored on each member where they are to be, and each other device is left alone.
-pub record AreMarked (before after : List Disk) (a : ArrayView) : Type 0 where
+pub record AreMarksOnDisks (before after : List Disk) (a : ArrayView) : Type 0 where
   pub same : AreSame before after
-  pub each : EachPair (IsMarked a) before after
+  pub each : EachPair (AreMarksOnDisk a) before after
 
 -- storing the marks on member k failed: they are stored on the members before it, and the devices after it are left alone
-pub record StopsAtMember (a : ArrayView) (before after : List Disk) (k : ℕ) : Type 0 where
+pub record EndsAtMember (a : ArrayView) (before after : List Disk) (k : ℕ) : Type 0 where
   pub same : AreSame before after
   pub member : MemberView
   pub at : IsMember a k member
   pub needs : NeedsMarks member
   pub failed : (d e : Disk) → slice_get before k ≡ Some d → slice_get after k ≡ Some e → FailsToStore a member d e
-  pub earlier : EachPair (λ j d e. j < k → IsMarked a j d e) before after
+  pub earlier : EachPair (λ j d e. j < k → AreMarksOnDisk a j d e) before after
   pub later : EachPair (λ j d e. k < j → IsLeftAlone d e) before after
 
 -- why storing the marks ends
-abbrev pub RefusesMarks : ArrayView → List Disk → List Disk → OpenFault → Type 0
-RefusesMarks a before after (MetadataFault k) = StopsAtMember a before after k
-RefusesMarks a before after _ = ⊥
+abbrev pub RefusesStoringMarks : ArrayView → List Disk → List Disk → OpenFault → Type 0
+RefusesStoringMarks a before after (MetadataFault k) = EndsAtMember a before after k
+RefusesStoringMarks a before after _ = ⊥

@@ -9,7 +9,7 @@ use Rattle.md_device.specs.Splice.{part}
 use Rattle.md_format.specs.Fields.{number_at, bytes_at}
 use Rattle.md_super.specs.declared.superblock.Superblock.{Superblock}
 use Rattle.md_super.specs.declared.fault.SuperFault.{SuperFault}
-use Rattle.md_super.specs.Faults.{fault_of}
+use Rattle.md_super.specs.Faults.{super_fault_of}
 use Rattle.md_super.specs.Log.{has_bad_block_log}
 use Rattle.md_super.specs.Format.{roles_in}
 use Rattle.md_bitmap.specs.Marks.{is_set}
@@ -36,8 +36,8 @@ abbrev pub super_of : Superblock → Super
 super_of v = record { number = v.dev_number; events = v.events; role = role_in v; recovering = has_recovery_offset v; offset = v.recovery_offset }
 
 -- The model's superblock, of the 4096 bytes of one.
-abbrev pub super_fields : List ℕ → Super
-super_fields block =
+abbrev pub super_of_block : List ℕ → Super
+super_of_block block =
     record {
       number = number_at 4 160 block;
       events = number_at 8 200 block;
@@ -48,10 +48,10 @@ super_fields block =
 
 -- the superblock in these bytes, where no fault is found
 unfoldable pub super_in : List ℕ → Option Super
-super_in block = by_fault (fault_of block)
+super_in block = by_fault (super_fault_of block)
   where
     by_fault : Option SuperFault → Option Super
-    by_fault None = Some (super_fields block)
+    by_fault None = Some (super_of_block block)
     by_fault (Some f) = None
 
 -- the superblock of a device, at sector 8
@@ -63,8 +63,8 @@ abbrev pub sector_at : ℤ → ℕ
 sector_at (pos n) = n
 sector_at (negsuc n) = 0
 
-abbrev pub from_super : ℤ → ℕ
-from_super offset = sector_at (pos 8 +ℤ offset)
+abbrev pub sector_from_super : ℤ → ℕ
+sector_from_super offset = sector_at (pos 8 +ℤ offset)
 
 -- the sector lies in one of the runs
 abbrev pub lies_in : List Run → ℕ → Bool
@@ -86,14 +86,14 @@ reads_log_on own content = list_bit own (block_on content) (super_in (block_on c
 
 -- A sector of a device is listed in its log. Whether the log is read goes by the bit on the device: a log is stored before the
 -- superblock that tells of it, and in between an opening reads none. The shift is the one that is kept, by which the log was read
--- or was stored since. Of a stop right after a log of another shift was replaced nothing is said.
+-- or was stored since. Of a crash right after a log of another shift was replaced nothing is said.
 unfoldable pub is_listed : Superblock → List ℕ → ℕ → Bool
-is_listed own content sector = reads_log_on own content && is_logged content (from_super own.bblog_offset) own.bblog_size own.bblog_shift sector
+is_listed own content sector = reads_log_on own content && is_logged content (sector_from_super own.bblog_offset) own.bblog_size own.bblog_shift sector
 
 -- A sector of a device is listed in its log, where the own fields alone say whether the log is read, as they
 -- do once they are stored.
 unfoldable pub is_listed_next : Superblock → List ℕ → ℕ → Bool
-is_listed_next own content sector = reads_log own && is_logged content (from_super own.bblog_offset) own.bblog_size own.bblog_shift sector
+is_listed_next own content sector = reads_log own && is_logged content (sector_from_super own.bblog_offset) own.bblog_size own.bblog_shift sector
 
 -- the header of the bitmap at this sector
 abbrev pub header_on : List ℕ → ℕ → List ℕ
@@ -107,7 +107,7 @@ header_fits a header = bytes_eq (bytes_at 16 8 header) a.shared.set_uuid && (num
 -- its superblock moves none; whether its log is read is by the device.
 abbrev pub stored_of : ArrayView → MemberView → List ℕ → Stored
 stored_of a m content =
-    let start : ℕ = from_super m.superblock.bitmap_offset in
+    let start : ℕ = sector_from_super m.superblock.bitmap_offset in
     record {
       super = super_in (block_on content);
       content = λ s. cond (nat_lt s a.chunks.size) (part content (512 * (m.superblock.data_offset + s)) 512) [];

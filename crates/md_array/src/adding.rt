@@ -1,6 +1,6 @@
 // Adding a new device as a spare.
 ghost use Rattle.std.specs.Prelude.{◌≡◌, IfOk, MatchResult};
-ghost use Rattle.md_members.specs.Members.{sectors_of};
+ghost use Rattle.md_members.specs.Members.{sectors_of_device};
 ghost use Rattle.md_requests.specs.Pending.{PendingView};
 ghost use Rattle.md_state.specs.Adding.{IsSpareOf, MayAdd, spare_role};
 ghost use Rattle.md_state.specs.Joining.{joined_shared};
@@ -46,7 +46,7 @@ impl<D: Device + Drop> Mirror<D> {
         number: u32,
     ) -> Result<usize, (D, AddFault)>
         requires sound { IsConsistent self.old }
-        requires may { MayAdd self.old.array (sectors_of (D.content device)) number }
+        requires may { MayAdd self.old.array (sectors_of_device (D.content device)) number }
         ensures { MatchResult result (λ k. LaysOutLast k (disk_of D.Device device) number self.old self.new)
             (λ e. RefusesToLayOut (disk_of D.Device device) (disk_of D.Device e.0) number self.old self.new e.1) }
     {

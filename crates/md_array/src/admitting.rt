@@ -18,7 +18,7 @@ use std::alloc::Global;
 impl<D: Device + Drop> Mirror<D> {
     /// Member k, a spare, takes the least free role and is recovering from then on: its superblock is
     /// written, with RECOVERY_OFFSET in the feature map and the offset 0, before any other one tells of the
-    /// role. So no stop leaves it in sync by the others. The event count rises, and `record` stores the
+    /// role. So no crash leaves it in sync by the others. The event count rises, and `record` stores the
     /// superblocks of the others later. The fault is the first in the order of `AdmitFault`.
     pub fn admit(&mut self, alloc: Global, k: usize) -> Result<(), AdmitFault>
         requires within { k < length self.old.array.members }

@@ -3,7 +3,7 @@ ghost use Rattle.std.specs.Prelude.{◌≡◌, ◌*◌, ◌≤◌, ◌≤ℤ◌,
 ghost use Rattle.md_badblocks.specs.Runs.{IsCanonical};
 ghost use Rattle.md_device.specs.Splice.{SameOutside};
 ghost use Rattle.md_super.specs.Log.{has_bad_block_log};
-ghost use Rattle.md_array.specs.Worlds.{from_super};
+ghost use Rattle.md_array.specs.Worlds.{sector_from_super};
 ghost use Rattle.md_super.specs.Merge.{merged};
 ghost use Rattle.md_members.specs.Reading.{BitmapStartsAt, LogStartsAt};
 ghost use Rattle.md_device_writes.specs.Writes.{MakesWrites};
@@ -28,7 +28,7 @@ use std::alloc::Global;
 impl<D: Device + Drop> Mirror<D> {
     /// Member k, which is recovering, comes into sync: its missing chunks were copied, but for the
     /// orphans, which it lists as bad from then on. Its marks are stored, sector 0 of the bitmap last, then
-    /// its log, and last its superblock, so that no stop leaves one that tells of data which it lacks. The
+    /// its log, and last its superblock, so that no crash leaves one that tells of data which it lacks. The
     /// event count rises, and `record` stores the superblocks of the others later. The fault is the first
     /// in the order of `EnrolFault`.
     pub fn enrol(
@@ -93,7 +93,7 @@ pub(crate) fn store_log<D: Device>(device: &mut D, member: &Member) -> Result<()
     requires { IsStorable member.now (D.content device.old) }
     ensures canonical { IsCanonical member.now.bad }
     ensures writes { MakesWrites D.Device (log_writes member.now.superblock member.now.bad) device.old device.new result }
-    ensures outside { has_bad_block_log member.now.superblock ≡ true → SameOutside (512 * from_super member.now.superblock.bblog_offset) (512 * member.now.superblock.bblog_size) (D.content device.old) (D.content device.new) }
+    ensures outside { has_bad_block_log member.now.superblock ≡ true → SameOutside (512 * sector_from_super member.now.superblock.bblog_offset) (512 * member.now.superblock.bblog_size) (D.content device.old) (D.content device.new) }
     ensures untouched { has_bad_block_log member.now.superblock ≡ false → device.new ≡ device.old }
     ensures data { KeepsData member.now (disk_of D.Device device.old) (disk_of D.Device device.new) }
 {

@@ -7,7 +7,7 @@ ghost use Rattle.md_state.specs.View.{disk_of};
 ghost use Rattle.md_state.specs.Missing.{is_re_added};
 ghost use Rattle.md_state.specs.Members.{IsMember, IsPermitted, is_degraded};
 ghost use Rattle.md_array.specs.Consistency.{IsConsistent};
-ghost use Rattle.md_array.specs.InSyncCount.{in_sync_count};
+ghost use Rattle.md_array.specs.InSyncCount.{count_in_sync};
 
 use md_assembly::MemberState;
 use md_badblocks::BadSet;
@@ -153,7 +153,7 @@ impl<D: Device + Drop> Mirror<D> {
     /// disks, since the roles of members in sync differ and are below raid_disks.
     pub fn degraded(&self) -> bool
         ensures roles { result ≡ is_degraded self.now.array }
-        ensures counted { IsConsistent self.now → IsTrue result ↔ (in_sync_count self.now.array < self.now.array.shared.raid_disks) }
+        ensures counted { IsConsistent self.now → IsTrue result ↔ (count_in_sync self.now.array < self.now.array.shared.raid_disks) }
     {
         self.array.is_degraded()
     }

@@ -7,7 +7,7 @@ ghost use Rattle.md_requests.specs.Pending.{PendingView};
 ghost use Rattle.md_state.specs.Members.{IsMember};
 ghost use Rattle.md_state.specs.Requests.{IsPending};
 ghost use Rattle.md_array.specs.Consistency.{IsConsistent};
-ghost use Rattle.md_array.specs.Listing.{IsWhole, NoteHappens, NotesChunk, RefusesChunk};
+ghost use Rattle.md_array.specs.Listing.{IsBelowListLimit, NoteHappens, NotesChunk, RefusesChunk};
 
 use crate::mirror::Mirror;
 use md_device::Device;
@@ -24,7 +24,7 @@ impl<D: Device + Drop> Mirror<D> {
         requires in_sync { (m : MemberView) → IsMember self.old.array k m → is_in_sync m.state ≡ true }
         requires resynced { self.old.array.resynced ≡ true }
         ensures gives { MatchResult result (λ _. NotesChunk k chunk self.old self.new) (RefusesChunk k chunk self.old self.new) }
-        ensures whole { IsWhole k chunk self.old }
+        ensures whole { IsBelowListLimit k chunk self.old }
         ensures event { NoteHappens k chunk self.old self.new result }
         ensures sound { IsConsistent self.new }
         ensures pending { (p : PendingView) → IsPending self.old.array p → IsPending self.new.array p }

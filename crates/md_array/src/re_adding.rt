@@ -1,6 +1,6 @@
 // Taking a device back that left.
 ghost use Rattle.std.specs.Prelude.{◌≡◌, ◌≤◌, MatchResult};
-ghost use Rattle.md_members.specs.Members.{sectors_of};
+ghost use Rattle.md_members.specs.Members.{sectors_of_device};
 ghost use Rattle.md_kept_members.specs.Remembering.{IsWhole};
 ghost use Rattle.md_requests.specs.Pending.{PendingView};
 ghost use Rattle.md_state.specs.ReAdding.{MayReAdd};
@@ -65,7 +65,7 @@ impl<D: Device + Drop> Mirror<D> {
         requires sound { IsConsistent self.old }
         requires whole { IsWhole info }
         requires may { MayReAdd self.old.array info }
-        requires long { 16 ≤ sectors_of (D.content device) }
+        requires long { 16 ≤ sectors_of_device (D.content device) }
         ensures { MatchResult result (λ k. RecordsLast k (disk_of D.Device device) info self.old self.new)
             (λ e. RefusesToRecordLast (disk_of D.Device device) (disk_of D.Device e.0) info self.old self.new e.1) }
     {

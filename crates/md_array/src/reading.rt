@@ -2,7 +2,7 @@
 ghost use Rattle.std.specs.Prelude.{◌≡◌, ◌<◌, MatchResult, map};
 ghost use Rattle.md_state.specs.DeviceChanges.{IsUntouched};
 ghost use Rattle.md_state.specs.View.{disk_of};
-ghost use Rattle.md_array.specs.Reading.{AreRead, RefusesRead, refusal_of};
+ghost use Rattle.md_array.specs.Reading.{AreRead, RefusesReading, open_fault_of};
 
 use crate::fault::OpenFault;
 use md_device::Device;
@@ -16,7 +16,7 @@ pub(crate) fn read_members<D: Device>(
 ) -> Result<Vec<MemberInfo>, OpenFault>
     ensures untouched { IsUntouched (map (disk_of D.Device) devices.old) (map (disk_of D.Device) devices.new) }
     ensures read { MatchResult result (λ infos. AreRead (map (disk_of D.Device) devices.old) infos.items)
-        (RefusesRead (map (disk_of D.Device) devices.old) (map (disk_of D.Device) devices.new)) }
+        (RefusesReading (map (disk_of D.Device) devices.old) (map (disk_of D.Device) devices.new)) }
 {
     let mut infos = Vec::with_capacity(alloc, devices.len())?;
     for k in 0..devices.len() {
@@ -31,7 +31,7 @@ pub(crate) fn read_members<D: Device>(
 
 // The fault of opening, where device k is not read as a member.
 fn refusal(k: usize, fault: MemberFault) -> OpenFault
-    ensures { result ≡ refusal_of k fault }
+    ensures { result ≡ open_fault_of k fault }
 {
     match fault {
         MemberFault::NoMemory => OpenFault::NoMemory,

@@ -1,7 +1,7 @@
 // Storing a member's superblock.
 ghost use Rattle.std.specs.Prelude.{◌≡◌, ◌<◌, ◌≤◌, ◌*◌, [], ◌∷◌, MatchResult, length};
 ghost use Rattle.md_device.specs.Splice.{SameOutside};
-ghost use Rattle.md_members.specs.Members.{sectors_of};
+ghost use Rattle.md_members.specs.Members.{sectors_of_device};
 ghost use Rattle.md_super.specs.Merge.{merged};
 ghost use Rattle.md_device_writes.specs.Writes.{MakesWrites};
 ghost use Rattle.md_requests.specs.Pending.{PendingView};
@@ -48,7 +48,7 @@ pub(crate) fn store_superblock<D: Device>(
     shared: &Superblock,
     member: &Member,
 ) -> Result<(), WriteFault>
-    requires { 16 ≤ sectors_of (D.content device.old) }
+    requires { 16 ≤ sectors_of_device (D.content device.old) }
     ensures writes { MakesWrites D.Device (write_of shared.now member.now ∷ []) device.old device.new result }
     ensures outside { SameOutside (512 * 8) (length (write_of shared.now member.now).bytes) (D.content device.old) (D.content device.new) }
     ensures readable { IsReadable (merged shared.now member.now.superblock) }
@@ -62,7 +62,7 @@ pub(crate) fn store_fields<D: Device>(
     shared: &Superblock,
     own: &Superblock,
 ) -> Result<(), WriteFault>
-    requires { 16 ≤ sectors_of (D.content device.old) }
+    requires { 16 ≤ sectors_of_device (D.content device.old) }
     ensures writes { MakesWrites D.Device (own_write shared.now own.now ∷ []) device.old device.new result }
     ensures outside { SameOutside (512 * 8) (length (own_write shared.now own.now).bytes) (D.content device.old) (D.content device.new) }
     ensures readable { IsReadable (merged shared.now own.now) }

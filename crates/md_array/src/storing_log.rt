@@ -7,7 +7,7 @@ ghost use Rattle.md_requests.specs.Pending.{PendingView};
 ghost use Rattle.md_state.specs.Members.{IsMember};
 ghost use Rattle.md_state.specs.Requests.{IsPending};
 ghost use Rattle.md_array.specs.Consistency.{IsConsistent};
-ghost use Rattle.md_array.specs.Listing.{RefusesLog, StoreLogHappens, StoresLog};
+ghost use Rattle.md_array.specs.Listing.{RefusesStoreLog, StoreLogHappens, StoresLog};
 
 use crate::enrolling::store_log;
 use crate::mirror::Mirror;
@@ -23,7 +23,7 @@ impl<D: Device + Drop> Mirror<D> {
         requires in_sync { (m : MemberView) → IsMember self.old.array k m → is_in_sync m.state ≡ true }
         requires room { (m : MemberView) → IsMember self.old.array k m → HasRoomFor m.superblock m.bad }
         requires sound { IsConsistent self.old }
-        ensures gives { MatchResult result (λ _. StoresLog k self.old self.new) (RefusesLog k self.old self.new) }
+        ensures gives { MatchResult result (λ _. StoresLog k self.old self.new) (RefusesStoreLog k self.old self.new) }
         ensures event { StoreLogHappens k self.old self.new result }
         ensures sound { IsConsistent self.new }
         ensures pending { (p : PendingView) → IsPending self.old.array p → IsPending self.new.array p }

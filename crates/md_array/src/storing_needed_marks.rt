@@ -5,7 +5,7 @@ ghost use Rattle.md_kept_members.specs.Members.{NeedsMarks};
 ghost use Rattle.md_state.specs.DeviceChanges.{StaysHonest};
 ghost use Rattle.md_state.specs.View.{disk_of};
 ghost use Rattle.md_array.specs.Fits.{Fits, FitsMember};
-ghost use Rattle.md_array.specs.Storing.{AreMarked, FailsToStore, IsMarkedBy, RefusesMarks, StoresMarks};
+ghost use Rattle.md_array.specs.Storing.{AreMarksOnDisks, FailsToStore, IsMarkedBy, RefusesStoringMarks, StoresMarksOn};
 
 use crate::fault::OpenFault;
 use md_device::{Device, WriteFault};
@@ -21,8 +21,8 @@ pub(crate) fn store_needed_marks<D: Device>(
     array: &Array,
 ) -> Result<(), OpenFault>
     requires { Fits (map (disk_of D.Device) devices.old) array.now }
-    ensures { MatchResult result (λ _. AreMarked (map (disk_of D.Device) devices.old) (map (disk_of D.Device) devices.new) array.now)
-        (RefusesMarks array.now (map (disk_of D.Device) devices.old) (map (disk_of D.Device) devices.new)) }
+    ensures { MatchResult result (λ _. AreMarksOnDisks (map (disk_of D.Device) devices.old) (map (disk_of D.Device) devices.new) array.now)
+        (RefusesStoringMarks array.now (map (disk_of D.Device) devices.old) (map (disk_of D.Device) devices.new)) }
 {
     for k in 0..devices.len() {
         let member = &array.members[k];
@@ -59,7 +59,7 @@ pub(crate) fn store_marks_on<D: Device>(
 ) -> Result<(), WriteFault>
     requires { FitsMember array.now member.now (disk_of D.Device device.old) }
     ensures stays { StaysHonest (disk_of D.Device device.old) (disk_of D.Device device.new) }
-    ensures ok { OnOk result (StoresMarks array.now member.now (disk_of D.Device device.old) (disk_of D.Device device.new)) }
+    ensures ok { OnOk result (StoresMarksOn array.now member.now (disk_of D.Device device.old) (disk_of D.Device device.new)) }
     ensures fails { OnErr result (FailsToStore array.now member.now (disk_of D.Device device.old) (disk_of D.Device device.new)) }
 {
     let start = bitmap_start(&member.superblock);

@@ -7,7 +7,7 @@ use Rattle.std.proofs.lemmas.Option.{slice_get-map, slice_get_within}
 use Rattle.md_super.specs.declared.superblock.Superblock.{Superblock}
 use Rattle.md_members.specs.declared.info.MemberInfo.{MemberInfo}
 use Rattle.md_assembly.specs.declared.state.MemberState.{MemberState}
-use Rattle.md_assembly.specs.Assembled.{ByFreshest, IsFreshest, superblocks}
+use Rattle.md_assembly.specs.Assembled.{ByFreshest, IsFirstFreshest, superblocks}
 use Rattle.md_assembly.specs.States.{states_by}
 use Rattle.md_assembly.proofs.Indices.{got_same, got_within}
 
@@ -83,7 +83,7 @@ pub block_of : (members : List MemberInfo) (i : ℕ) (m : MemberInfo) → slice_
 block_of members i m e = slice_get-map (λ (m : MemberInfo). m.superblock) members i ∙ ap (option_map (λ (m : MemberInfo). m.superblock)) e
 
 -- the freshest of all
-pub freshest_of_all : (members : List MemberInfo) (n best : ℕ) → length members ≤ n → IsFreshestOf members n best → (v : Superblock) × IsFreshest (superblocks members) best v
+pub freshest_of_all : (members : List MemberInfo) (n best : ℕ) → length members ≤ n → IsFreshestOf members n best → (v : Superblock) × IsFirstFreshest (superblocks members) best v
 freshest_of_all members n best all f = (
   f.member.superblock,
   record {
@@ -103,7 +103,7 @@ freshest_of_all members n best all f = (
 )
 
 -- there is one freshest superblock
-pub one_freshest : (all : List Superblock) (i j : ℕ) (v w : Superblock) → IsFreshest all i v → IsFreshest all j w → v ≡ w
+pub one_freshest : (all : List Superblock) (i j : ℕ) (v w : Superblock) → IsFirstFreshest all i v → IsFirstFreshest all j w → v ≡ w
 one_freshest all i j v w f g =
     let below = f.greatest j w g.listed in
     let above = g.greatest i v f.listed in
@@ -114,16 +114,16 @@ one_freshest all i j v w f g =
     got_same all i v w f.listed (subst (λ (k : ℕ). slice_get all k ≡ Some w) at g.listed)
 
 -- what holds by some freshest superblock holds by this one
-pub by_this : (Fact : List MemberState → Type 0) (all : List Superblock) (i : ℕ) (v : Superblock) → IsFreshest all i v → ByFreshest Fact all → Fact (states_by v all)
+pub by_this : (Fact : List MemberState → Type 0) (all : List Superblock) (i : ℕ) (v : Superblock) → IsFirstFreshest all i v → ByFreshest Fact all → Fact (states_by v all)
 by_this Fact all i v f by =
     let same : by.superblock ≡ v = one_freshest all by.index i by.superblock v by.freshest f in
     subst (λ (w : Superblock). Fact (states_by w all)) same by.holds
 
-pub by_freshest : (Fact : List MemberState → Type 0) (all : List Superblock) (i : ℕ) (v : Superblock) → IsFreshest all i v → Fact (states_by v all) → ByFreshest Fact all
+pub by_freshest : (Fact : List MemberState → Type 0) (all : List Superblock) (i : ℕ) (v : Superblock) → IsFirstFreshest all i v → Fact (states_by v all) → ByFreshest Fact all
 by_freshest Fact all i v f h = record { index = i; superblock = v; freshest = f; holds = h }
 
 -- the freshest superblock is that of the member at its index
-pub freshest_at : (members : List MemberInfo) (i : ℕ) (m : MemberInfo) (v : Superblock) → slice_get members i ≡ Some m → IsFreshest (superblocks members) i v → IsFreshest (superblocks members) i m.superblock
+pub freshest_at : (members : List MemberInfo) (i : ℕ) (m : MemberInfo) (v : Superblock) → slice_get members i ≡ Some m → IsFirstFreshest (superblocks members) i v → IsFirstFreshest (superblocks members) i m.superblock
 freshest_at members i m v listed f =
     let same : v ≡ m.superblock = got_same (superblocks members) i v m.superblock f.listed (block_of members i m listed) in
-    subst (λ (w : Superblock). IsFreshest (superblocks members) i w) same f
+    subst (λ (w : Superblock). IsFirstFreshest (superblocks members) i w) same f

@@ -4,38 +4,38 @@ use Rattle.std.proofs.lemmas.Bool.{cases_lt}
 use Rattle.md_members.specs.declared.info.MemberInfo.{MemberInfo}
 use Rattle.md_assembly.specs.declared.fault.AssembleFault.{AssembleFault}
 use Rattle.md_assembly.specs.declared.fault.AssembleFault.TheVariants.{Empty, Stranger, DoubleNumber, NoBitmap, Geometry, DoubleRole, NotEnough, NoMemory}
-use Rattle.md_assembly.specs.Faults.{HasOtherGeometry, IsDoubleRole, IsFirstFault, IsStranger, LacksBitmap, NoFault, NoneBeforePlace, RepeatsNumber, Stands, place}
+use Rattle.md_assembly.specs.Faults.{HasOtherGeometry, IsDoubleRole, IsFirstAssembleFault, IsStranger, LacksBitmap, NoAssembleFault, NoneBeforePlace, RepeatsNumber, AssembleFaultStands, assemble_fault_place}
 use Rattle.md_assembly.specs.Listed.{MemberAt, PairAt}
 
 -- none stands before a place, nor at it
-next_place : (members : List MemberInfo) (n : ℕ) → NoneBeforePlace members n → ((f : AssembleFault) → place f ≡ n → Stands members f → ⊥) → NoneBeforePlace members (n + 1)
+next_place : (members : List MemberInfo) (n : ℕ) → NoneBeforePlace members n → ((f : AssembleFault) → assemble_fault_place f ≡ n → AssembleFaultStands members f → ⊥) → NoneBeforePlace members (n + 1)
 next_place members n before none f lt s =
-    elim (cases_lt (place f) n) [
+    elim (cases_lt (assemble_fault_place f) n) [
       | inl less ↦ before f less s
-      | inr more ↦ let at : place f ≡ n = omega arith in none f at s
+      | inr more ↦ let at : assemble_fault_place f ≡ n = omega arith in none f at s
     ]
 
-no_stranger : (members : List MemberInfo) → ((i : ℕ) → PairAt IsStranger members 0 i → ⊥) → (f : AssembleFault) → place f ≡ 3 → Stands members f → ⊥
+no_stranger : (members : List MemberInfo) → ((i : ℕ) → PairAt IsStranger members 0 i → ⊥) → (f : AssembleFault) → assemble_fault_place f ≡ 3 → AssembleFaultStands members f → ⊥
 no_stranger members none (Stranger i) at s = none i s.holds
 no_stranger members none _ at s = absurd (omega arith)
 
-no_number : (members : List MemberInfo) → ((j : ℕ) → RepeatsNumber members j → ⊥) → (f : AssembleFault) → place f ≡ 4 → Stands members f → ⊥
+no_number : (members : List MemberInfo) → ((j : ℕ) → RepeatsNumber members j → ⊥) → (f : AssembleFault) → assemble_fault_place f ≡ 4 → AssembleFaultStands members f → ⊥
 no_number members none (DoubleNumber i j) at s = none j s.2.holds
 no_number members none _ at s = absurd (omega arith)
 
-no_bitmap : (members : List MemberInfo) → ((i : ℕ) → MemberAt LacksBitmap members i → ⊥) → (f : AssembleFault) → place f ≡ 5 → Stands members f → ⊥
+no_bitmap : (members : List MemberInfo) → ((i : ℕ) → MemberAt LacksBitmap members i → ⊥) → (f : AssembleFault) → assemble_fault_place f ≡ 5 → AssembleFaultStands members f → ⊥
 no_bitmap members none (NoBitmap i) at s = none i s.holds
 no_bitmap members none _ at s = absurd (omega arith)
 
-no_geometry : (members : List MemberInfo) → ((i : ℕ) → PairAt HasOtherGeometry members 0 i → ⊥) → (f : AssembleFault) → place f ≡ 6 → Stands members f → ⊥
+no_geometry : (members : List MemberInfo) → ((i : ℕ) → PairAt HasOtherGeometry members 0 i → ⊥) → (f : AssembleFault) → assemble_fault_place f ≡ 6 → AssembleFaultStands members f → ⊥
 no_geometry members none (Geometry i) at s = none i s.holds
 no_geometry members none _ at s = absurd (omega arith)
 
-no_double_role : (members : List MemberInfo) → ((role : ℕ) → IsDoubleRole members role → ⊥) → (f : AssembleFault) → place f ≡ 7 → Stands members f → ⊥
+no_double_role : (members : List MemberInfo) → ((role : ℕ) → IsDoubleRole members role → ⊥) → (f : AssembleFault) → assemble_fault_place f ≡ 7 → AssembleFaultStands members f → ⊥
 no_double_role members none (DoubleRole role) at s = none role s.holds
 no_double_role members none _ at s = absurd (omega arith)
 
-enough : (members : List MemberInfo) → (Stands members NotEnough → ⊥) → (f : AssembleFault) → place f ≡ 8 → Stands members f → ⊥
+enough : (members : List MemberInfo) → (AssembleFaultStands members NotEnough → ⊥) → (f : AssembleFault) → assemble_fault_place f ≡ 8 → AssembleFaultStands members f → ⊥
 enough members none NotEnough at s = none s
 enough members none _ at s = absurd (omega arith)
 
@@ -54,10 +54,10 @@ geometry_passes members before none = next_place members 6 before (no_geometry m
 pub roles_pass : (members : List MemberInfo) → NoneBeforePlace members 7 → ((role : ℕ) → IsDoubleRole members role → ⊥) → NoneBeforePlace members 8
 roles_pass members before none = next_place members 7 before (no_double_role members none)
 
-pub enough_passes : (members : List MemberInfo) → NoneBeforePlace members 8 → (Stands members NotEnough → ⊥) → NoFault members
+pub enough_passes : (members : List MemberInfo) → NoneBeforePlace members 8 → (AssembleFaultStands members NotEnough → ⊥) → NoAssembleFault members
 enough_passes members before none = next_place members 8 before (enough members none)
 
-pub memory_is_last : (members : List MemberInfo) → NoFault members → IsFirstFault members NoMemory
+pub memory_is_last : (members : List MemberInfo) → NoAssembleFault members → IsFirstAssembleFault members NoMemory
 memory_is_last members none = record { stands = tt; first = none }
 
 -- members in which no fault of the list itself stands are some

@@ -10,7 +10,7 @@ abbrev pub superblocks : List MemberInfo → List Superblock
 superblocks members = map (λ m. m.superblock) members
 
 -- the superblock at the index has the greatest events, and is the first listed that has
-pub record IsFreshest (all : List Superblock) (i : ℕ) (v : Superblock) : Type 0 where
+pub record IsFirstFreshest (all : List Superblock) (i : ℕ) (v : Superblock) : Type 0 where
   pub listed : slice_get all i ≡ Some v
   pub greatest : (j : ℕ) (w : Superblock) → slice_get all j ≡ Some w → w.events ≤ v.events
   pub first : (j : ℕ) (w : Superblock) → slice_get all j ≡ Some w → w.events ≡ v.events → i ≤ j
@@ -19,11 +19,11 @@ pub record IsFreshest (all : List Superblock) (i : ℕ) (v : Superblock) : Type 
 pub record ByFreshest (Fact : List MemberState → Type 0) (all : List Superblock) : Type 0 where
   pub index : ℕ
   pub superblock : Superblock
-  pub freshest : IsFreshest all index superblock
+  pub freshest : IsFirstFreshest all index superblock
   pub holds : Fact (states_by superblock all)
 
 -- the array that the members make
 pub record IsAssembled (members : List MemberInfo) (assembly : Assembly) : Type 0 where
   pub superblock : Superblock
-  pub freshest : IsFreshest (superblocks members) assembly.freshest superblock
+  pub freshest : IsFirstFreshest (superblocks members) assembly.freshest superblock
   pub states : assembly.states.items ≡ states_by superblock (superblocks members)

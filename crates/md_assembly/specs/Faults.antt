@@ -40,41 +40,41 @@ abbrev pub IsDoubleRole : List MemberInfo → ℕ → Type 0
 IsDoubleRole members role = ByFreshest (λ states. 1 < count_by (takes_role role) states) (superblocks members)
 
 -- the fault stands; running out of memory can always be found
-abbrev pub Stands : List MemberInfo → AssembleFault → Type 0
-Stands members Empty = length members ≡ 0
-Stands members TooMany = 64 < length members
-Stands members (Stranger i) = IsLeast (PairAt IsStranger members 0) i
-Stands members (DoubleNumber i j) = (i < j) × PairAt HasSameNumber members i j × IsLeast (RepeatsNumber members) j
-Stands members (NoBitmap i) = IsLeast (MemberAt LacksBitmap members) i
-Stands members (Geometry i) = IsLeast (PairAt HasOtherGeometry members 0) i
-Stands members (DoubleRole role) = IsLeast (IsDoubleRole members) role
-Stands members NotEnough = ByFreshest (λ states. list_any is_in_sync states ≡ false) (superblocks members)
-Stands members NoMemory = Unit {0}
+abbrev pub AssembleFaultStands : List MemberInfo → AssembleFault → Type 0
+AssembleFaultStands members Empty = length members ≡ 0
+AssembleFaultStands members TooMany = 64 < length members
+AssembleFaultStands members (Stranger i) = IsLeast (PairAt IsStranger members 0) i
+AssembleFaultStands members (DoubleNumber i j) = (i < j) × PairAt HasSameNumber members i j × IsLeast (RepeatsNumber members) j
+AssembleFaultStands members (NoBitmap i) = IsLeast (MemberAt LacksBitmap members) i
+AssembleFaultStands members (Geometry i) = IsLeast (PairAt HasOtherGeometry members 0) i
+AssembleFaultStands members (DoubleRole role) = IsLeast (IsDoubleRole members) role
+AssembleFaultStands members NotEnough = ByFreshest (λ states. list_any is_in_sync states ≡ false) (superblocks members)
+AssembleFaultStands members NoMemory = Unit {0}
 
 -- the place of a fault in the order in which they are looked for
-abbrev pub place : AssembleFault → ℕ
-place Empty = 1
-place TooMany = 2
-place (Stranger i) = 3
-place (DoubleNumber i j) = 4
-place (NoBitmap i) = 5
-place (Geometry i) = 6
-place (DoubleRole role) = 7
-place NotEnough = 8
-place NoMemory = 9
+abbrev pub assemble_fault_place : AssembleFault → ℕ
+assemble_fault_place Empty = 1
+assemble_fault_place TooMany = 2
+assemble_fault_place (Stranger i) = 3
+assemble_fault_place (DoubleNumber i j) = 4
+assemble_fault_place (NoBitmap i) = 5
+assemble_fault_place (Geometry i) = 6
+assemble_fault_place (DoubleRole role) = 7
+assemble_fault_place NotEnough = 8
+assemble_fault_place NoMemory = 9
 
 -- no fault before the n-th place stands
 abbrev pub NoneBeforePlace : List MemberInfo → ℕ → Type 0
-NoneBeforePlace members n = NoneBefore (Stands members) place n
+NoneBeforePlace members n = NoneBefore (AssembleFaultStands members) assemble_fault_place n
 
 -- no fault stands besides NoMemory
-abbrev pub NoFault : List MemberInfo → Type 0
-NoFault members = NoneBeforePlace members 9
+abbrev pub NoAssembleFault : List MemberInfo → Type 0
+NoAssembleFault members = NoneBeforePlace members 9
 
 -- the fault stands, and none that is looked for before it
-abbrev pub IsFirstFault : List MemberInfo → AssembleFault → Type 0
-IsFirstFault members f = IsFirst (Stands members) place f
+abbrev pub IsFirstAssembleFault : List MemberInfo → AssembleFault → Type 0
+IsFirstAssembleFault members f = IsFirst (AssembleFaultStands members) assemble_fault_place f
 
 -- what a check of the faults at a place finds, once those at the earlier places are found not to stand
 abbrev pub IsChecked : {T : Type 0} → List MemberInfo → ℕ → Result T AssembleFault → Type 0
-IsChecked members n result = MatchResult result (λ _. NoneBeforePlace members (n + 1)) (IsFirstFault members)
+IsChecked members n result = MatchResult result (λ _. NoneBeforePlace members (n + 1)) (IsFirstAssembleFault members)

@@ -18,15 +18,15 @@ abbrev pub has_recovery_offset : Superblock → Bool
 has_recovery_offset own = not (bit_and own.feature_map 2 == 0)
 
 -- the state of a member whose role this is: 0xfffe is that of a failed device
-abbrev pub state_by : Superblock → Superblock → ℕ → MemberState
-state_by freshest own role =
+abbrev pub state_by_role : Superblock → Superblock → ℕ → MemberState
+state_by_role freshest own role =
     if role == 0xfffe then Faulty else
     if nat_le freshest.raid_disks role then Spare else
     if not (is_up_to_date freshest own) then Stale role else
     if has_recovery_offset own then Recovering role else InSync role
 
 unfoldable pub state_of : Superblock → Superblock → MemberState
-state_of freshest own = state_by freshest own (role_in freshest own.dev_number)
+state_of freshest own = state_by_role freshest own (role_in freshest own.dev_number)
 
 -- the states of all members
 abbrev pub states_by : Superblock → List Superblock → List MemberState

@@ -1,7 +1,7 @@
 // What array members make.
 ghost use Rattle.std.specs.Prelude.{◌≡◌, IfOk, IfErr, OnOk};
 ghost use Rattle.md_assembly.specs.Assembled.{IsAssembled};
-ghost use Rattle.md_assembly.specs.Faults.{IsFirstFault, NoFault};
+ghost use Rattle.md_assembly.specs.Faults.{IsFirstAssembleFault, NoAssembleFault};
 
 use crate::checks::check_members;
 use crate::fault::AssembleFault;
@@ -25,8 +25,8 @@ pub struct Assembly {
 /// `NoMemory` comes last: only where no other fault stands.
 pub fn assemble(alloc: Global, members: &[MemberInfo]) -> Result<Assembly, AssembleFault>
     ensures ok { IfOk result (λ a. IsAssembled members.now a) }
-    ensures sound { OnOk result (NoFault members.now) }
-    ensures refused { IfErr result (λ f. IsFirstFault members.now f) }
+    ensures sound { OnOk result (NoAssembleFault members.now) }
+    ensures refused { IfErr result (λ f. IsFirstAssembleFault members.now f) }
 {
     check_members(members)?;
     let freshest = freshest_of(members);

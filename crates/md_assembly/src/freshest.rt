@@ -1,7 +1,7 @@
 // The freshest superblock.
 ghost use Rattle.std.specs.Prelude.{◌<◌, length};
 ghost use Rattle.md_super.specs.declared.superblock.Superblock.{Superblock};
-ghost use Rattle.md_assembly.specs.Assembled.{IsFreshest, superblocks};
+ghost use Rattle.md_assembly.specs.Assembled.{IsFirstFreshest, superblocks};
 
 use md_members::MemberInfo;
 
@@ -9,7 +9,7 @@ use md_members::MemberInfo;
 pub(crate) fn freshest_of(members: &[MemberInfo]) -> usize
     requires some { 0 < length members.now }
     ensures within { result < length members.now }
-    ensures freshest { (v : Superblock) × IsFreshest (superblocks members.now) result v }
+    ensures freshest { (v : Superblock) × IsFirstFreshest (superblocks members.now) result v }
 {
     let mut freshest = 0;
     for (i, member) in members.iter().enumerate() {

@@ -12,6 +12,6 @@ abbrev pub chunk_count : ℕ → ℕ → ℕ
 chunk_count sync_size chunksize = div_ceil (sync_size * 512) chunksize
 
 -- what every header keeps
-pub record IsSound (sync_size chunksize : ℕ) : Type 0 where
+pub record IsSoundHeader (sync_size chunksize : ℕ) : Type 0 where
   pub chunk_size : IsChunkSize chunksize
   pub few_chunks : chunk_count sync_size chunksize ≤ 1048576

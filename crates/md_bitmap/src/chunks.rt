@@ -1,7 +1,7 @@
 // The chunks of an array.
 ghost use Rattle.std.specs.Prelude.{◌≡◌, ◌+◌, ◌-◌, ◌*◌, ◌/◌, ◌<◌, ◌≤◌, ◌↔◌, min, ℕ};
 ghost use Rattle.std.specs.Int.{div_ceil};
-ghost use Rattle.md_bitmap.specs.Sound.{IsSound, chunk_count};
+ghost use Rattle.md_bitmap.specs.Sound.{IsSoundHeader, chunk_count};
 ghost use Rattle.md_bitmap.specs.Chunks.{IsChunking, InChunk};
 
 use crate::header::SECTOR_BYTES;
@@ -17,7 +17,7 @@ pub struct Chunks {
 impl Chunks {
     /// The chunks of an array of `size` sectors, where the bitmap's chunks have `chunksize` bytes.
     pub fn new(size: u64, chunksize: u32) -> Chunks
-        requires { IsSound size chunksize }
+        requires { IsSoundHeader size chunksize }
         ensures sectors { result.sectors ≡ chunksize / 512 }
         ensures size { result.size ≡ size }
         ensures count { div_ceil result.size result.sectors ≡ chunk_count size chunksize }

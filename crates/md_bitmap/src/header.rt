@@ -2,8 +2,8 @@
 ghost use Rattle.std.specs.Prelude.{◌≡◌, ◌<◌, ◌&&◌, ◌++◌, take, nat_le, IsTrue, ◌↔◌, IfOk, OnOk, IfErr};
 ghost use Rattle.md_format.specs.FirstFault.{IsFirst};
 ghost use Rattle.std.specs.Int.{is_power_of_two};
-ghost use Rattle.md_bitmap.specs.Sound.{IsChunkSize, IsSound, chunk_count};
-ghost use Rattle.md_bitmap.specs.Faults.{Stands, place, NoneStands, fault_of};
+ghost use Rattle.md_bitmap.specs.Sound.{IsChunkSize, IsSoundHeader, chunk_count};
+ghost use Rattle.md_bitmap.specs.Faults.{BitmapFaultStands, bitmap_fault_place, NoneStands, bitmap_fault_of};
 
 use crate::fault::BitmapFault;
 use md_format::{array_at, put_bytes, put_u32, put_u64, u32_at, u64_at, uuid_at};
@@ -36,7 +36,7 @@ pub struct BitmapHeader {
     pub sectors_reserved: u32,
     pub nodes: u32,
     pub cluster_name: [u8; 64],
-    pub ghost sound: { IsSound sync_size chunksize },
+    pub ghost sound: { IsSoundHeader sync_size chunksize },
 }
 
 impl BitmapHeader {
@@ -46,7 +46,7 @@ impl BitmapHeader {
     pub fn decode(bytes: &[u8; 256]) -> Result<BitmapHeader, BitmapFault>
         ensures ok { IfOk result (λ v. IsHeader bytes.now v) }
         ensures sound { OnOk result (NoneStands bytes.now) }
-        ensures refused { IfErr result (λ f. IsFirst (Stands bytes.now) place f) }
+        ensures refused { IfErr result (λ f. IsFirst (BitmapFaultStands bytes.now) bitmap_fault_place f) }
     {
         match first_fault(bytes) {
             Some(fault) => Err(fault),
@@ -131,9 +131,9 @@ impl BitmapHeader {
     }
 }
 
-#[tactic(auto, unfolding(crate::specs::Faults::fault_of))]
+#[tactic(auto, unfolding(crate::specs::Faults::bitmap_fault_of))]
 fn first_fault(bytes: &[u8; 256]) -> Option<BitmapFault>
-    ensures { result ≡ fault_of bytes.now }
+    ensures { result ≡ bitmap_fault_of bytes.now }
 {
     if u32_at(bytes, 0) != MAGIC {
         return Some(BitmapFault::Magic);

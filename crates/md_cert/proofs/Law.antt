@@ -10,7 +10,7 @@ use Rattle.md_cert.specs.declared.slots.Slot.{Slot}
 use Rattle.md_cert.specs.declared.plan.Plan.{Plan}
 use Rattle.md_cert.specs.declared.plan.Certificate.{Certificate}
 use Rattle.md_cert.specs.Sources.{has, count_below, count_sources}
-use Rattle.md_cert.specs.Tables.{mask_of, planned_chunks, IsTable}
+use Rattle.md_cert.specs.Tables.{mask_of_chunk, planned_chunks, IsTable}
 use Rattle.md_cert.specs.Assignments.{HasRounds, IsAssignment, load, Least, IsShort, gives_any}
 use Rattle.md_cert.specs.Plans.{IsCertified, SlotsRise, HasTurn, NoRepeatBelow}
 use Rattle.md_cert.proofs.Bits.{has_below}
@@ -34,9 +34,9 @@ too_few table rises chunks n source short assigned few =
     let within : AllByRecursion (IsIn (planned_chunks table)) chunks = recursion_from_All (IsIn (planned_chunks table)) chunks (λ k d lt. planned_in table (get_or chunks k d) (short.given k d lt)) in
     let given : AllByRecursion (λ x. true ≡ true → (source x < 32) × (P (source x) ≡ true)) chunks =
     recursion_from_All (λ x. true ≡ true → (source x < 32) × (P (source x) ≡ true)) chunks
-    (λ k d lt t. let it : has (mask_of table (get_or chunks k d)) (source (get_or chunks k d)) ≡ true = assigned (get_or chunks k d) (short.given k d lt) in (
-      has_below (mask_of table (get_or chunks k d)) (source (get_or chunks k d)) it,
-      list_any_at (λ chunk. has (mask_of table chunk) (source (get_or chunks k d))) chunks k d lt it,
+    (λ k d lt t. let it : has (mask_of_chunk table (get_or chunks k d)) (source (get_or chunks k d)) ≡ true = assigned (get_or chunks k d) (short.given k d lt) in (
+      has_below (mask_of_chunk table (get_or chunks k d)) (source (get_or chunks k d)) it,
+      list_any_at (λ chunk. has (mask_of_chunk table chunk) (source (get_or chunks k d))) chunks k d lt it,
     )) in
     let each : (s : ℕ) → s < 32 → count_by (λ x. true && eqb (source x) s) chunks ≤ n =
     λ s lt. let le : count_by (λ x. eqb (source x) s) chunks ≤ load table source s = count_within (λ x. eqb (source x) s) (planned_chunks table) chunks up (planned_up table rises) within in
@@ -78,7 +78,7 @@ record SlotOf (slots : List Slot) (chunk : ℕ) : Type 0 where
   within : at < length slots
   is : (d : Slot) → (get_or slots at d).chunk ≡ chunk
 
-slot_of : (table : List Row) (plan : Plan) (certificate : Certificate) → IsCertified table plan certificate → (chunk : ℕ) → (mask_of table chunk ≡ 0 → ⊥) → SlotOf plan.slots chunk
+slot_of : (table : List Row) (plan : Plan) (certificate : Certificate) → IsCertified table plan certificate → (chunk : ℕ) → (mask_of_chunk table chunk ≡ 0 → ⊥) → SlotOf plan.slots chunk
 slot_of table plan certificate h chunk some =
     let row : RowOf table chunk = row_of table chunk some in
     let r : Row = record { chunk = 0; mask = 0 } in
@@ -130,14 +130,14 @@ certified_least table plan certificate is_table h =
     let d : Slot = record { chunk = 0; source = 0; round = 0 } in
     let source : ℕ → ℕ = value_of (λ s. s.source) slots in
     let round : ℕ → ℕ = value_of (λ s. s.round) slots in
-    let M : ℕ → Type 0 = λ chunk. mask_of table chunk ≡ 0 → ⊥ in
+    let M : ℕ → Type 0 = λ chunk. mask_of_chunk table chunk ≡ 0 → ⊥ in
     let there : (chunk : ℕ) → M chunk → SlotOf slots chunk = slot_of table plan certificate h in
     let source_at : (chunk : ℕ) (m : M chunk) → source chunk ≡ (get_or slots (there chunk m).at d).source = λ chunk m. value_at (λ s. s.source) slots h.rising chunk (there chunk m) d in
     let round_at : (chunk : ℕ) (m : M chunk) → round chunk ≡ (get_or slots (there chunk m).at d).round = λ chunk m. value_at (λ s. s.round) slots h.rising chunk (there chunk m) d in
     let assigned : IsAssignment table source = λ chunk some.
     let at = there chunk some in
-    let it : has (mask_of table (get_or slots at.at d).chunk) (get_or slots at.at d).source ≡ true = h.allowed at.at d at.within in
-    ap (λ n. has (mask_of table chunk) n) (source_at chunk some) ∙ ap (λ n. has (mask_of table n) (get_or slots at.at d).source) (sym (at.is d)) ∙ it in
+    let it : has (mask_of_chunk table (get_or slots at.at d).chunk) (get_or slots at.at d).source ≡ true = h.allowed at.at d at.within in
+    ap (λ n. has (mask_of_chunk table chunk) n) (source_at chunk some) ∙ ap (λ n. has (mask_of_chunk table n) (get_or slots at.at d).source) (sym (at.is d)) ∙ it in
     let masks = planned_masks table rises in
     let up = planned_up table rises in
     let same : (s r x y : ℕ) → r < plan.rounds → M x → M y → (eqb (source x) s && eqb (round x) r) ≡ true → (eqb (source y) s && eqb (round y) r) ≡ true → x ≡ y = λ s r x y in_time m n p q.

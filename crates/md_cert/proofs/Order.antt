@@ -9,17 +9,17 @@ use Rattle.md_cert.specs.declared.plan.Certificate.{Certificate}
 use Rattle.md_cert.specs.declared.verdict.Verdict.{Verdict}
 use Rattle.md_cert.specs.declared.verdict.Verdict.TheVariants.{Yes, NotRising, Forbidden, Uncovered, DoubleSlot, RoundTooLate, NotShort}
 use Rattle.md_cert.specs.Sources.{has}
-use Rattle.md_cert.specs.Tables.{mask_of}
-use Rattle.md_cert.specs.Verdicts.{AreRising, IsVerdict, Stands, order}
+use Rattle.md_cert.specs.Tables.{mask_of_chunk}
+use Rattle.md_cert.specs.Verdicts.{AreRising, IsVerdict, VerdictStands, order}
 use Rattle.md_cert.specs.Plans.{Certifies, IsCertified, IsPlanned, NoRepeatBelow}
 use Rattle.md_cert.proofs.Bits.{has_below}
 
 -- no fault stands that is looked for before the n-th
 abbrev pub Before : List Row → Plan → Certificate → ℕ → Type 0
-Before table plan certificate n = (w : Verdict) → order w < n → Stands table plan certificate w → ⊥
+Before table plan certificate n = (w : Verdict) → order w < n → VerdictStands table plan certificate w → ⊥
 
 abbrev pub AllAllowed : List Row → List Slot → Type 0
-AllAllowed table slots = All (λ s. has (mask_of table s.chunk) s.source ≡ true) slots
+AllAllowed table slots = All (λ s. has (mask_of_chunk table s.chunk) s.source ≡ true) slots
 
 abbrev pub AllCovered : List Row → List Slot → Type 0
 AllCovered table slots = All (λ r. r.mask ≢ 0 → IsPlanned slots r.chunk) table
@@ -28,7 +28,7 @@ abbrev pub AllInTime : ℕ → List Slot → Type 0
 AllInTime rounds slots = All (λ s. s.round < rounds) slots
 
 pub sources_within : (table : List Row) (slots : List Slot) → AllAllowed table slots → All (λ s. s.source < 32) slots
-sources_within table slots allowed k d within = has_below (mask_of table (get_or slots k d).chunk) (get_or slots k d).source (allowed k d within)
+sources_within table slots allowed k d within = has_below (mask_of_chunk table (get_or slots k d).chunk) (get_or slots k d).source (allowed k d within)
 
 some_row : Row
 some_row = record { chunk = 0; mask = 0 }

@@ -3,12 +3,12 @@ use Rattle.std.specs.Prelude.{◌≡◌, ◌≢◌, ◌⊎◌, ℕ, ◌*◌, ◌
 use Rattle.std.specs.List.{list_any, AllPairs}
 use Rattle.md_cert.specs.declared.table.Row.{Row}
 use Rattle.md_cert.specs.Sources.{has, count_sources}
-use Rattle.md_cert.specs.Tables.{mask_of, planned_chunks}
+use Rattle.md_cert.specs.Tables.{mask_of_chunk, planned_chunks}
 
 -- each chunk that some source may give is given by such a source
 abbrev pub IsAssignment : List Row → (ℕ → ℕ) → Type 0
 IsAssignment table source =
-    (chunk : ℕ) → mask_of table chunk ≢ 0 → has (mask_of table chunk) (source chunk) ≡ true
+    (chunk : ℕ) → mask_of_chunk table chunk ≢ 0 → has (mask_of_chunk table chunk) (source chunk) ≡ true
 
 -- how many chunks a source gives
 abbrev pub load : List Row → (ℕ → ℕ) → ℕ → ℕ
@@ -28,10 +28,10 @@ pub record Least (table : List Row) (n : ℕ) : Type 0 where
 
 -- the source may give some chunk of the set
 abbrev pub gives_any : List Row → List ℕ → ℕ → Bool
-gives_any table chunks s = list_any (λ chunk. has (mask_of table chunk) s) chunks
+gives_any table chunks s = list_any (λ chunk. has (mask_of_chunk table chunk) s) chunks
 
 -- a set of chunks that has too few sources for n rounds
 pub record IsShort (table : List Row) (chunks : List ℕ) (n : ℕ) : Type 0 where
   pub rising : AllPairs (λ a b. a < b) chunks
-  pub given : All (λ chunk. mask_of table chunk ≢ 0) chunks
+  pub given : All (λ chunk. mask_of_chunk table chunk ≢ 0) chunks
   pub more : n * count_sources (gives_any table chunks) < length chunks

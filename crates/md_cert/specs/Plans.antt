@@ -7,7 +7,7 @@ use Rattle.md_cert.specs.declared.plan.Plan.{Plan}
 use Rattle.md_cert.specs.declared.plan.Certificate.{Certificate}
 use Rattle.md_cert.specs.Assignments.{IsShort}
 use Rattle.md_cert.specs.Sources.{has}
-use Rattle.md_cert.specs.Tables.{mask_of}
+use Rattle.md_cert.specs.Tables.{mask_of_chunk}
 
 -- each slot's chunk is below those of all later slots
 abbrev pub SlotsRise : List Slot → Type 0
@@ -48,7 +48,7 @@ Certifies table plan certificate =
 pub record IsCertified (table : List Row) (plan : Plan) (certificate : Certificate) : Type 0 where
   pub rising : SlotsRise plan.slots
   pub certificate_rising : ChunksRise certificate.chunks
-  pub allowed : All (λ s. has (mask_of table s.chunk) s.source ≡ true) plan.slots
+  pub allowed : All (λ s. has (mask_of_chunk table s.chunk) s.source ≡ true) plan.slots
   pub covered : All (λ r. r.mask ≢ 0 → IsPlanned plan.slots r.chunk) table
   pub single : NoRepeatBelow plan.slots plan.rounds (length plan.slots)
   pub in_time : All (λ s. s.round < plan.rounds) plan.slots

@@ -7,18 +7,18 @@ use Rattle.md_cert.specs.declared.table.Row.{Row}
 pub record IsTable (rows : List Row) : Type 0 where
   pub rising : AllPairs (λ a b. a.chunk < b.chunk) rows
 
-abbrev pub chunks_of : List Row → List ℕ
-chunks_of rows = map (λ r. r.chunk) rows
+abbrev pub chunks_of_rows : List Row → List ℕ
+chunks_of_rows rows = map (λ r. r.chunk) rows
 
 -- the mask of a chunk, 0 where the table does not have it
-abbrev pub mask_of : List Row → ℕ → ℕ
-mask_of [] chunk = 0
-mask_of (r ∷ rest) chunk = if r.chunk == chunk then r.mask else mask_of rest chunk
+abbrev pub mask_of_chunk : List Row → ℕ → ℕ
+mask_of_chunk [] chunk = 0
+mask_of_chunk (r ∷ rest) chunk = if r.chunk == chunk then r.mask else mask_of_chunk rest chunk
 
 -- the chunks that some source may give
 abbrev pub planned_chunks : List Row → List ℕ
-planned_chunks rows = chunks_of (filter (λ r. not (r.mask == 0)) rows)
+planned_chunks rows = chunks_of_rows (filter (λ r. not (r.mask == 0)) rows)
 
 -- the chunks that no source may give
 abbrev pub orphans_of : List Row → List ℕ
-orphans_of rows = chunks_of (filter (λ r. r.mask == 0) rows)
+orphans_of rows = chunks_of_rows (filter (λ r. r.mask == 0) rows)

@@ -9,7 +9,7 @@ use Rattle.md_cert.specs.declared.verdict.Verdict.{Verdict}
 use Rattle.md_cert.specs.declared.verdict.Verdict.TheVariants.{Yes, NotRising, Forbidden, Uncovered, DoubleSlot, RoundTooLate, NotShort}
 use Rattle.md_cert.specs.Plans.{Certifies, ChunksRise, IsPlanned, IsRepeat, NoRepeatBelow, SlotsRise}
 use Rattle.md_cert.specs.Sources.{has}
-use Rattle.md_cert.specs.Tables.{mask_of}
+use Rattle.md_cert.specs.Tables.{mask_of_chunk}
 
 -- the index of the first element of which the fact holds
 pub record IsFirstAt {X : Type 0} (Fact : X → Type 0) (xs : List X) (at : ℕ) : Type 0 where
@@ -32,7 +32,7 @@ AreRising plan certificate = SlotsRise plan.slots × ChunksRise certificate.chun
 
 -- the table does not have the chunk, or its mask does not have the source
 abbrev pub IsForbidden : List Row → Slot → Type 0
-IsForbidden table slot = has (mask_of table slot.chunk) slot.source ≡ false
+IsForbidden table slot = has (mask_of_chunk table slot.chunk) slot.source ≡ false
 
 -- some source may give the chunk, and no slot has it
 abbrev pub IsUncovered : List Slot → Row → Type 0
@@ -42,15 +42,15 @@ abbrev pub IsTooLate : ℕ → Slot → Type 0
 IsTooLate rounds slot = rounds ≤ slot.round
 
 -- the fault stands, at its first place
-abbrev pub Stands : List Row → Plan → Certificate → Verdict → Type 0
-Stands table plan certificate NotRising = AreRising plan certificate → ⊥
-Stands table plan certificate (Forbidden chunk) = IsFirstSlot (IsForbidden table) plan.slots chunk
-Stands table plan certificate (Uncovered chunk) = IsFirstChunk (IsUncovered plan.slots) table chunk
-Stands table plan certificate (DoubleSlot source round) =
+abbrev pub VerdictStands : List Row → Plan → Certificate → Verdict → Type 0
+VerdictStands table plan certificate NotRising = AreRising plan certificate → ⊥
+VerdictStands table plan certificate (Forbidden chunk) = IsFirstSlot (IsForbidden table) plan.slots chunk
+VerdictStands table plan certificate (Uncovered chunk) = IsFirstChunk (IsUncovered plan.slots) table chunk
+VerdictStands table plan certificate (DoubleSlot source round) =
     (at : ℕ) × IsRepeat plan.slots plan.rounds source round at × NoRepeatBelow plan.slots plan.rounds at
-Stands table plan certificate (RoundTooLate chunk) = IsFirstSlot (IsTooLate plan.rounds) plan.slots chunk
-Stands table plan certificate NotShort = Certifies table plan certificate → ⊥
-Stands table plan certificate Yes = Unit {0}
+VerdictStands table plan certificate (RoundTooLate chunk) = IsFirstSlot (IsTooLate plan.rounds) plan.slots chunk
+VerdictStands table plan certificate NotShort = Certifies table plan certificate → ⊥
+VerdictStands table plan certificate Yes = Unit {0}
 
 -- the order in which the faults are looked for; Yes comes after all of them
 abbrev pub order : Verdict → ℕ
@@ -64,5 +64,5 @@ order Yes = 7
 
 -- the verdict: it stands, and nothing stands that is looked for before it
 pub record IsVerdict (table : List Row) (plan : Plan) (certificate : Certificate) (v : Verdict) : Type 0 where
-  pub stands : Stands table plan certificate v
-  pub first : (w : Verdict) → order w < order v → Stands table plan certificate w → ⊥
+  pub stands : VerdictStands table plan certificate v
+  pub first : (w : Verdict) → order w < order v → VerdictStands table plan certificate w → ⊥

@@ -3,7 +3,7 @@ ghost use Rattle.std.specs.Prelude.{◌≡◌, ◌≢◌, ◌<◌, ◌≤◌, tr
 ghost use Rattle.std.specs.List.{AllWithin, HoldsAt};
 ghost use Rattle.md_cert.specs.Plans.{IsPlanned, SlotsRise};
 ghost use Rattle.md_cert.specs.Sources.{has};
-ghost use Rattle.md_cert.specs.Tables.{IsTable, mask_of};
+ghost use Rattle.md_cert.specs.Tables.{IsTable, mask_of_chunk};
 ghost use Rattle.md_cert.specs.Verdicts.{IsFirstChunk, IsFirstSlot, IsForbidden, IsUncovered};
 
 use crate::seek::{mask_at, seek_row, seek_slot};
@@ -16,7 +16,7 @@ pub(crate) fn first_forbidden(rows: &[Row], slots: &[Slot]) -> Option<u32>
     requires table { IsTable rows.now }
     requires rising { SlotsRise slots.now }
     ensures { MatchOption result
-        (All (λ s. has (mask_of rows.now s.chunk) s.source ≡ true) slots.now)
+        (All (λ s. has (mask_of_chunk rows.now s.chunk) s.source ≡ true) slots.now)
         (IsFirstSlot (IsForbidden rows.now) slots.now) }
 {
     let mut at = 0;

@@ -1,7 +1,7 @@
 // Two rising lists gone through side by side.
 ghost use Rattle.std.specs.Prelude.{◌≡◌, ℕ, ◌<◌, ◌≤◌, length};
 ghost use Rattle.std.specs.List.{AllWithin, HoldsAt};
-ghost use Rattle.md_cert.specs.Tables.{IsTable, mask_of};
+ghost use Rattle.md_cert.specs.Tables.{IsTable, mask_of_chunk};
 
 use crate::slots::Slot;
 use crate::table::Row;
@@ -26,7 +26,7 @@ pub(crate) fn mask_at(rows: &[Row], at: usize, chunk: u32) -> u32
     requires table { IsTable rows.now }
     requires below { AllWithin (λ r. r.chunk < chunk) rows.now 0 at }
     requires from { at < length rows.now → HoldsAt (λ r. chunk ≤ r.chunk) rows.now at }
-    ensures { result ≡ mask_of rows.now chunk }
+    ensures { result ≡ mask_of_chunk rows.now chunk }
 {
     if at < rows.len() && rows[at].chunk == chunk {
         rows[at].mask

@@ -3,7 +3,7 @@ ghost use Rattle.std.specs.Prelude.{◌≡◌, ◌≢◌, ℕ, All, MatchBool, M
 ghost use Rattle.md_cert.specs.Assignments.{gives_any};
 ghost use Rattle.md_cert.specs.Plans.{Certifies, ChunksRise};
 ghost use Rattle.md_cert.specs.Sources.{has};
-ghost use Rattle.md_cert.specs.Tables.{IsTable, mask_of};
+ghost use Rattle.md_cert.specs.Tables.{IsTable, mask_of_chunk};
 
 use crate::plan::{Certificate, Plan};
 use crate::seek::{mask_at, seek_row};
@@ -35,7 +35,7 @@ pub(crate) fn certifies(rows: &[Row], plan: &Plan, certificate: &Certificate) ->
 fn union_of(rows: &[Row], chunks: &[u32]) -> Option<u32>
     requires table { IsTable rows.now }
     requires rising { ChunksRise chunks.now }
-    ensures { let AllGiven = All (λ chunk. mask_of rows.now chunk ≢ 0) chunks.now in MatchOption result
+    ensures { let AllGiven = All (λ chunk. mask_of_chunk rows.now chunk ≢ 0) chunks.now in MatchOption result
         (AllGiven → ⊥)
         (λ mask. AllGiven × ((s : ℕ) → has mask s ≡ gives_any rows.now chunks.now s)) }
 {

@@ -10,8 +10,8 @@ mod TakenInTurn
 mod RunByRun
 -- Windows that were read: what the buffers show is what the devices show.
 mod WindowsRead
--- Seats stand for the members of a mirror.
-mod SeatedMembers
+-- Readers stand for the members of a mirror.
+mod MemberReaders
 -- What was read of a sector is compared with the first that shows it.
 mod WindowCompared
 -- A list that was lent as a slice comes back as the slice was left.

@@ -24,7 +24,7 @@ pub record UsesInSync (old new : MirrorView) : Type 0 where
 
 -- The set is that of the chunks of the mirror before in which two differ. Nothing was written, nothing was in flight, and no
 -- read failed.
-pub record Finds (old new : MirrorView) (set : Bitmap) : Type 0 where
+pub record FindsMismatches (old new : MirrorView) (set : Bitmap) : Type 0 where
   pub idle : IsIdle old.array
   pub rests : Rests old new
   pub uses : UsesInSync old new

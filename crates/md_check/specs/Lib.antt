@@ -1,8 +1,8 @@
 -- What members show in the sectors of an array, and the chunks in which two of them differ.
 pub mod Differences
--- Seats: a member's device each, with what is read of it in a window.
-pub mod Seats
--- What a worker reads of its seat's member.
+-- Readers: a member's device each, with what is read of it in a window.
+pub mod Readers
+-- What a worker reads of its reader's member.
 pub mod Readings
 -- What a member's worker has to know of it, made before its device is lent.
 pub mod Plans

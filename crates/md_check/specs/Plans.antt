@@ -5,7 +5,7 @@ use Rattle.md_assembly.specs.States.{is_in_sync}
 use Rattle.md_kept_members.specs.View.{MemberView}
 use Rattle.md_state.specs.Members.{IsMember}
 use Rattle.md_state.specs.View.{ArrayView}
-use Rattle.md_check.specs.declared.seat.Seat.{Seat}
+use Rattle.md_check.specs.declared.reader.Reader.{Reader}
 use Rattle.md_check.specs.declared.order.Order.{Order}
 
 -- the order for a member's worker, with room for so many bytes
@@ -20,10 +20,10 @@ pub record AreOrders (a : ArrayView) (room : ℕ) (orders : List Order) : Type 0
   pub as_many : length orders ≡ length a.members
   pub each : (k : ℕ) (m : MemberView) (order : Order) → IsMember a k m → slice_get orders k ≡ Some order → IsOrderFor m room order
 
--- the seat of a device whose worker has this order
-pub record IsSeatOf {D : Type 0} (order : Order) (device : D) (seat : Seat D) : Type 0 where
-  pub device_is : seat.device ≡ device
-  pub role : seat.role ≡ order.role
-  pub offset : seat.offset ≡ order.offset
-  pub listed : seat.listed ≡ order.listed
-  pub bytes : seat.bytes ≡ order.bytes
+-- the reader of a device whose worker has this order
+pub record IsReaderOf {D : Type 0} (order : Order) (device : D) (reader : Reader D) : Type 0 where
+  pub device_is : reader.device ≡ device
+  pub role : reader.role ≡ order.role
+  pub offset : reader.offset ≡ order.offset
+  pub listed : reader.listed ≡ order.listed
+  pub bytes : reader.bytes ≡ order.bytes

@@ -1,4 +1,4 @@
--- What a worker reads of its seat's member.
+-- What a worker reads of its reader's member.
 use Rattle.std.specs.Prelude.{◌≡◌, ℕ, ◌+◌, ◌*◌, ◌/◌, ◌<◌, ◌≤◌, true, is_some, List, length, slice_index_or, Some, None}
 use Rattle.md_device.specs.Device.{held}
 use Rattle.md_device.specs.declared.device.Device.{Ghosts}
@@ -6,10 +6,10 @@ use Rattle.md_bitmap.specs.declared.chunks.Chunks.{Chunks}
 use Rattle.md_bitmap.specs.Chunks.{InChunk}
 use Rattle.md_badblocks.specs.declared.run.Run.{Run}
 use Rattle.md_badblocks.specs.Runs.{IsBad}
-use Rattle.md_collect.specs.Reading.{Fails}
-use Rattle.md_check.specs.declared.seat.Seat.{Seat}
+use Rattle.md_collect.specs.Reading.{CountsFailure}
+use Rattle.md_check.specs.declared.reader.Reader.{Reader}
 use Rattle.md_check.specs.declared.lent.Missed.{Missed}
-use Rattle.md_check.specs.Seats.{HasNotFailed, HaveNotFailed, OnlySeatRead, shown}
+use Rattle.md_check.specs.Readers.{HasNotFailed, HaveNotFailed, OnlyReaderRead, shown_of}
 
 -- In each of n sectors of the array from this one on that is not listed, the bytes are those of a member whose data start at this
 -- sector of its device.
@@ -26,14 +26,14 @@ pub record IsToRead (chunks : Chunks) (listed : List Run) (from n c : ℕ) : Typ
 
 module _ {D : Type 0} (g : Ghosts D) where
   -- the member is read, and could not be in a chunk that has one of these n sectors, which it does not list
-  pub record MissesChunk (chunks : Chunks) (from n : ℕ) (old new : Seat D) (c : ℕ) : Type 0 where
+  pub record MissesChunk (chunks : Chunks) (from n : ℕ) (old new : Reader D) (c : ℕ) : Type 0 where
     pub reads : is_some old.role ≡ true
     pub read : IsToRead chunks old.listed from n c
-    pub fails : Fails g old.device new.device
+    pub fails : CountsFailure g old.device new.device
 
-  -- a seat before and after it was read into its buffer: this many sectors from this one on
-  pub record HasRead (chunks : Chunks) (from sectors : ℕ) (old new : Seat D) : Type 0 where
-    pub read : OnlySeatRead g old new
+  -- a reader before and after it was read into its buffer: this many sectors from this one on
+  pub record HasReadSectors (chunks : Chunks) (from sectors : ℕ) (old new : Reader D) : Type 0 where
+    pub read : OnlyReaderRead g old new
     pub long : length new.bytes.items ≡ length old.bytes.items
     pub alike_kept : new.alike ≡ old.alike
     pub gave : new.missed ≡ None → is_some old.role ≡ true → g.honest old.device ≡ true
@@ -41,28 +41,28 @@ module _ {D : Type 0} (g : Ghosts D) where
     pub missed : (c : ℕ) → new.missed ≡ Some c → MissesChunk chunks from sectors old new c
     pub unfailing : new.missed ≡ None → HasNotFailed g old new
 
-  -- a seat before and after a turn, in which the window of so many sectors from this one on was read of it, and n sectors were to be read:
+  -- a reader before and after a turn, in which the window of so many sectors from this one on was read of it, and n sectors were to be read:
   -- `lead` was read of the first member
-  pub record HasTurned (chunks : Chunks) (from sectors n : ℕ) (lead : List ℕ) (old new : Seat D) : Type 0 where
-    pub read : OnlySeatRead g old new
+  pub record HasTurned (chunks : Chunks) (from sectors n : ℕ) (lead : List ℕ) (old new : Reader D) : Type 0 where
+    pub read : OnlyReaderRead g old new
     pub long : length new.bytes.items ≡ length old.bytes.items
     pub gave : new.missed ≡ None → is_some old.role ≡ true → g.honest old.device ≡ true
-        → HasUnlisted (g.content old.device) old.offset old.listed from sectors (shown lead new)
-    pub size : 512 * sectors ≤ length (shown lead new)
+        → HasUnlisted (g.content old.device) old.offset old.listed from sectors (shown_of lead new)
+    pub size : 512 * sectors ≤ length (shown_of lead new)
     pub missed : (c : ℕ) → new.missed ≡ Some c → MissesChunk chunks from n old new c
     pub unfailing : new.missed ≡ None → HasNotFailed g old new
 
   -- these bytes are what the member has in the window from this sector on
-  abbrev pub IsLead : ℕ → List ℕ → Seat D → Type 0
-  IsLead from lead seat = is_some seat.role ≡ true → g.honest seat.device ≡ true → HasUnlisted (g.content seat.device) seat.offset seat.listed from (length lead / 512) lead
+  abbrev pub IsLead : ℕ → List ℕ → Reader D → Type 0
+  IsLead from lead reader = is_some reader.role ≡ true → g.honest reader.device ≡ true → HasUnlisted (g.content reader.device) reader.offset reader.listed from (length lead / 512) lead
 
-  -- the next window, too, was read of the seat's member
-  abbrev pub HasLed : ℕ → ℕ → Seat D → Seat D → Type 0
+  -- the next window, too, was read of the reader's member
+  abbrev pub HasLed : ℕ → ℕ → Reader D → Reader D → Type 0
   HasLed next ahead old new = new.missed ≡ None → is_some old.role ≡ true → g.honest old.device ≡ true
       → HasUnlisted (g.content old.device) old.offset old.listed next ahead new.bytes.items
 
-  -- this is so of the seat that is named, and of none before it
-  pub record MissesIn (chunks : Chunks) (olds news : List (Seat D)) (missed : Missed) : Type 0 where
+  -- this is so of the reader that is named, and of none before it
+  pub record MissesIn (chunks : Chunks) (olds news : List (Reader D)) (missed : Missed) : Type 0 where
     pub within : missed.member < length olds
-    pub misses : (d : Seat D) → MissesChunk chunks 0 chunks.size (slice_index_or olds missed.member d) (slice_index_or news missed.member d) missed.chunk
+    pub misses : (d : Reader D) → MissesChunk chunks 0 chunks.size (slice_index_or olds missed.member d) (slice_index_or news missed.member d) missed.chunk
     pub earlier : HaveNotFailed g missed.member olds news

@@ -8,12 +8,12 @@ ghost use Rattle.md_state.specs.Members.{IsAlone};
 ghost use Rattle.md_state.specs.Rests.{Rests};
 ghost use Rattle.md_array.specs.Consistency.{IsConsistent};
 ghost use Rattle.md_array.specs.Worlds.{AreHonest};
-ghost use Rattle.md_check.specs.Checking.{Checks, Finds, MarksMembers, RefusesCheck};
+ghost use Rattle.md_check.specs.Checking.{Checks, FindsMismatches, MarksMembers, RefusesCheck};
 
 use crate::fault::CheckFault;
 use crate::lent::{WINDOW, check_lent};
 use crate::order::orders_for;
-use crate::seats::{leave_seats, seats_of};
+use crate::readers::{leave_readers, readers_of};
 use md_array::Mirror;
 use md_bitmap::Marks;
 use md_device::Device;
@@ -21,7 +21,7 @@ use md_workers::Gate;
 use std::alloc::Global;
 use std::thread::Threads;
 
-/// Finds the chunks in which two members in sync differ in a sector that neither lists as bad. Listed sectors are not read,
+/// FindsMismatches the chunks in which two members in sync differ in a sector that neither lists as bad. Listed sectors are not read,
 /// nor is any device where fewer than two members are in sync.
 ///
 /// Each member in sync is read by a worker of its own, in windows of 1 MiB and each chunk by itself; the
@@ -37,7 +37,7 @@ pub fn find_mismatches<D: Device + Drop + Send, G: Gate + Sync, R: Threads + Syn
     gate: &G,
 ) -> Result<Marks, CheckFault>
     requires sound { IsConsistent mirror.old }
-    ensures gives { MatchResult result (Finds mirror.old mirror.new) (RefusesCheck mirror.old mirror.new) }
+    ensures gives { MatchResult result (FindsMismatches mirror.old mirror.new) (RefusesCheck mirror.old mirror.new) }
     ensures sound { IsConsistent mirror.new }
 {
     if mirror.halted() {
@@ -104,12 +104,12 @@ fn mark_mismatches<D: Device + Drop + Send, G: Gate + Sync, R: Threads + Sync>(
     let chunks = mirror.chunks();
     let room = 512 * WINDOW.min(chunks.size) as usize;
     let mut orders = orders_for(alloc, mirror, room)?;
-    let mut seats = Vec::with_capacity(alloc, orders.len())?;
+    let mut readers = Vec::with_capacity(alloc, orders.len())?;
     let mut lead = vec![in alloc; 0u8; room]?;
     let mut devices = mirror.lend(alloc);
-    seats_of(&mut devices, &mut orders, &mut seats);
-    let answer = check_lent(rt, gate, chunks, &mut lead, &mut seats, marks);
-    leave_seats(&mut seats, &mut devices);
+    readers_of(&mut devices, &mut orders, &mut readers);
+    let answer = check_lent(rt, gate, chunks, &mut lead, &mut readers, marks);
+    leave_readers(&mut readers, &mut devices);
     mirror.give_back(devices);
     match answer {
         Ok(()) => Ok(()),

@@ -5,13 +5,13 @@ ghost use Rattle.std.specs.List.{All};
 ghost use Rattle.md_device.specs.Splice.{part};
 ghost use Rattle.md_badblocks.specs.Runs.{IsBad};
 ghost use Rattle.md_check.specs.Differences.{AddsDifferent, DifferIn};
-ghost use Rattle.md_check.specs.Seats.{SeatShows, in_window, shown};
+ghost use Rattle.md_check.specs.Readers.{ReaderShows, in_window, shown_of};
 
 use crate::alike::are_alike;
-use crate::seat::Seat;
+use crate::reader::Reader;
 use md_bitmap::{Chunks, Marks};
 
-impl<D> Seat<D> {
+impl<D> Reader<D> {
     // Whether the member is in sync and does not list the sector.
     fn shows(&self, sector: u64) -> bool
         ensures { (result ≡ true) ↔ ((is_some self.now.role ≡ true) × (IsBad self.now.listed sector → ⊥)) }
@@ -20,8 +20,8 @@ impl<D> Seat<D> {
     }
 
     // What was read of the window, of which these bytes were read of the first member.
-    fn shown<'a>(&'a self, lead: &'a [u8]) -> &'a [u8]
-        ensures { result.now ≡ shown lead.now self.now }
+    fn shown_bytes<'a>(&'a self, lead: &'a [u8]) -> &'a [u8]
+        ensures { result.now ≡ shown_of lead.now self.now }
     {
         if self.alike {
             lead
@@ -32,9 +32,9 @@ impl<D> Seat<D> {
 }
 
 /// Marks each chunk in which two members in sync differ in a sector of the window that neither lists, of which window
-/// `lead` was read of the first member. Where all seats are alike there is none.
+/// `lead` was read of the first member. Where all readers are alike there is none.
 pub(crate) fn mark_window<D>(
-    seats: &[Seat<D>],
+    readers: &[Reader<D>],
     lead: &[u8],
     chunks: Chunks,
     from: u64,
@@ -42,46 +42,46 @@ pub(crate) fn mark_window<D>(
     marks: &mut Marks,
 )
     requires inside { from + sectors ≤ chunks.size }
-    requires size { All (λ seat. 512 * sectors ≤ length (shown lead.now seat)) seats.now }
+    requires size { All (λ reader. 512 * sectors ≤ length (shown_of lead.now reader)) readers.now }
     requires marks { marks.old.chunks ≡ div_ceil chunks.size chunks.sectors }
-    ensures { AddsDifferent (SeatShows (in_window lead.now from) seats.now) chunks from (from + sectors) marks.old marks.new }
+    ensures { AddsDifferent (ReaderShows (in_window lead.now from) readers.now) chunks from (from + sectors) marks.old marks.new }
 {
-    if are_alike(seats) {
+    if are_alike(readers) {
         return;
     }
     for at in 0..sectors {
-        if differ_in(seats, lead, from, from + at) {
+        if differ_in(readers, lead, from, from + at) {
             marks.mark(chunks.chunk_of(from + at));
         }
     }
 }
 
 // Whether two members in sync differ in a sector of the window that neither lists.
-fn differ_in<D>(seats: &[Seat<D>], lead: &[u8], from: u64, sector: u64) -> bool
+fn differ_in<D>(readers: &[Reader<D>], lead: &[u8], from: u64, sector: u64) -> bool
     requires from { from ≤ sector }
-    requires inside { All (λ seat. 512 * (sector - from) + 512 ≤ length (shown lead.now seat)) seats.now }
-    ensures { (result ≡ true) ↔ DifferIn (SeatShows (in_window lead.now from) seats.now) sector }
+    requires inside { All (λ reader. 512 * (sector - from) + 512 ≤ length (shown_of lead.now reader)) readers.now }
+    ensures { (result ≡ true) ↔ DifferIn (ReaderShows (in_window lead.now from) readers.now) sector }
 {
-    let Some(first) = first_showing(seats, sector) else {
+    let Some(first) = first_showing(readers, sector) else {
         return false;
     };
     let at = 512 * (sector - from) as usize;
-    for k in 0..seats.len() {
-        if seats[k].shows(sector) && !is_same(&seats[first], &seats[k], lead, at) {
+    for k in 0..readers.len() {
+        if readers[k].shows(sector) && !is_same(&readers[first], &readers[k], lead, at) {
             return true;
         }
     }
     false
 }
 
-// The first seat whose member is in sync and does not list the sector.
-fn first_showing<D>(seats: &[Seat<D>], sector: u64) -> Option<usize>
+// The first reader whose member is in sync and does not list the sector.
+fn first_showing<D>(readers: &[Reader<D>], sector: u64) -> Option<usize>
     ensures { MatchOption result
-        ((k : ℕ) (seat : Seat D) → slice_get seats.now k ≡ Some seat → is_some seat.role ≡ true → (IsBad seat.listed sector → ⊥) → ⊥)
-        (λ k. (seat : Seat D) × (slice_get seats.now k ≡ Some seat) × (is_some seat.role ≡ true) × (IsBad seat.listed sector → ⊥)) }
+        ((k : ℕ) (reader : Reader D) → slice_get readers.now k ≡ Some reader → is_some reader.role ≡ true → (IsBad reader.listed sector → ⊥) → ⊥)
+        (λ k. (reader : Reader D) × (slice_get readers.now k ≡ Some reader) × (is_some reader.role ≡ true) × (IsBad reader.listed sector → ⊥)) }
 {
-    for k in 0..seats.len() {
-        if seats[k].shows(sector) {
+    for k in 0..readers.len() {
+        if readers[k].shows(sector) {
             return Some(k);
         }
     }
@@ -89,10 +89,10 @@ fn first_showing<D>(seats: &[Seat<D>], sector: u64) -> Option<usize>
 }
 
 // Whether the same was read of two members in the sector at this place of the window.
-fn is_same<D>(one: &Seat<D>, other: &Seat<D>, lead: &[u8], at: usize) -> bool
-    requires one { at + 512 ≤ length (shown lead.now one.now) }
-    requires other { at + 512 ≤ length (shown lead.now other.now) }
-    ensures { (result ≡ true) ↔ (part (shown lead.now one.now) at 512 ≡ part (shown lead.now other.now) at 512) }
+fn is_same<D>(one: &Reader<D>, other: &Reader<D>, lead: &[u8], at: usize) -> bool
+    requires one { at + 512 ≤ length (shown_of lead.now one.now) }
+    requires other { at + 512 ≤ length (shown_of lead.now other.now) }
+    ensures { (result ≡ true) ↔ (part (shown_of lead.now one.now) at 512 ≡ part (shown_of lead.now other.now) at 512) }
 {
-    one.shown(lead)[at..at + 512] == other.shown(lead)[at..at + 512]
+    one.shown_bytes(lead)[at..at + 512] == other.shown_bytes(lead)[at..at + 512]
 }

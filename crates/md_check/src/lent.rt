@@ -5,11 +5,11 @@ ghost use Rattle.std.specs.List.{All};
 ghost use Rattle.md_bitmap.specs.Marks.{is_set};
 ghost use Rattle.md_check.specs.Differences.{AreDifferent};
 ghost use Rattle.md_check.specs.Readings.{MissesIn};
-ghost use Rattle.md_check.specs.Seats.{AreHonest, AreSeatsRead, HaveNotFailed, IsSeated, SeatShows, on_device};
+ghost use Rattle.md_check.specs.Readers.{AreReadersHonest, AreReadersRead, HaveNotFailed, HasDataOnDevice, ReaderShows, on_device};
 
 use crate::alike::first_read;
 use crate::compare::mark_window;
-use crate::seat::Seat;
+use crate::reader::Reader;
 use crate::turn::{first_turn, turn};
 use crate::window::Window;
 use md_bitmap::{Chunks, Marks};
@@ -36,35 +36,35 @@ pub(crate) fn check_lent<D: Device + Send, G: Gate + Sync, R: Threads + Sync>(
     gate: &G,
     chunks: Chunks,
     lead: &mut Vec<u8>,
-    seats: &mut Vec<Seat<D>>,
+    readers: &mut Vec<Reader<D>>,
     marks: &mut Marks,
 ) -> Result<(), Missed>
-    requires seated { All (λ seat. IsSeated D.Device chunks seat) seats.old.items }
-    requires room { All (λ seat. 512 * min 2048 chunks.size ≤ length seat.bytes.items) seats.old.items }
+    requires read_here { All (λ reader. HasDataOnDevice D.Device chunks reader) readers.old.items }
+    requires room { All (λ reader. 512 * min 2048 chunks.size ≤ length reader.bytes.items) readers.old.items }
     requires lead { 512 * min 2048 chunks.size ≤ length lead.old.items }
     requires marks { marks.old.chunks ≡ div_ceil chunks.size chunks.sectors }
     requires none { (c : ℕ) → is_set marks.old.bytes c ≡ false }
     ensures chunks { marks.new.chunks ≡ marks.old.chunks }
-    ensures different { OnOk result (AreHonest D.Device seats.old.items
-        → AreDifferent (SeatShows (on_device D.Device) seats.old.items) chunks chunks.size marks.new) }
-    ensures unfailing { OnOk result (HaveNotFailed D.Device (length seats.old.items) seats.old.items seats.new.items) }
-    ensures missed { IfErr result (λ missed. MissesIn D.Device chunks seats.old.items seats.new.items missed) }
-    ensures read { AreSeatsRead D.Device seats.old.items seats.new.items }
+    ensures different { OnOk result (AreReadersHonest D.Device readers.old.items
+        → AreDifferent (ReaderShows (on_device D.Device) readers.old.items) chunks chunks.size marks.new) }
+    ensures unfailing { OnOk result (HaveNotFailed D.Device (length readers.old.items) readers.old.items readers.new.items) }
+    ensures missed { IfErr result (λ missed. MissesIn D.Device chunks readers.old.items readers.new.items missed) }
+    ensures read { AreReadersRead D.Device readers.old.items readers.new.items }
 {
-    let first = first_read(seats.as_slice()).unwrap_or(0);
+    let first = first_read(readers.as_slice()).unwrap_or(0);
     let mut from = WINDOW.min(chunks.size);
-    check_first(rt, gate, chunks, from, seats, marks)?;
+    check_first(rt, gate, chunks, from, readers, marks)?;
     let mut sectors = 0;
     while from < chunks.size {
         let ahead = WINDOW.min(chunks.size - from - sectors);
         let window = Window { first, from, ahead };
         let bytes = &lead.as_slice()[..512 * sectors as usize];
-        turn(rt, gate, chunks, window, bytes, seats);
-        if let Some(missed) = first_missed(seats.as_slice()) {
+        turn(rt, gate, chunks, window, bytes, readers);
+        if let Some(missed) = first_missed(readers.as_slice()) {
             return Err(missed);
         }
-        mark_window(seats.as_slice(), bytes, chunks, from, sectors, marks);
-        exchange(seats.as_mut_slice(), first, lead);
+        mark_window(readers.as_slice(), bytes, chunks, from, sectors, marks);
+        exchange(readers.as_mut_slice(), first, lead);
         from += sectors;
         sectors = ahead;
     }
@@ -77,53 +77,53 @@ fn check_first<D: Device + Send, G: Gate + Sync, R: Threads + Sync>(
     gate: &G,
     chunks: Chunks,
     sectors: u64,
-    seats: &mut Vec<Seat<D>>,
+    readers: &mut Vec<Reader<D>>,
     marks: &mut Marks,
 ) -> Result<(), Missed>
     requires inside { sectors ≤ chunks.size }
-    requires seated { All (λ seat. IsSeated D.Device chunks seat) seats.old.items }
-    requires room { All (λ seat. 512 * sectors ≤ length seat.bytes.items) seats.old.items }
+    requires read_here { All (λ reader. HasDataOnDevice D.Device chunks reader) readers.old.items }
+    requires room { All (λ reader. 512 * sectors ≤ length reader.bytes.items) readers.old.items }
     requires marks { marks.old.chunks ≡ div_ceil chunks.size chunks.sectors }
     requires none { (c : ℕ) → is_set marks.old.bytes c ≡ false }
     ensures chunks { marks.new.chunks ≡ marks.old.chunks }
-    ensures different { OnOk result (AreHonest D.Device seats.old.items
-        → AreDifferent (SeatShows (on_device D.Device) seats.old.items) chunks sectors marks.new) }
-    ensures unfailing { OnOk result (HaveNotFailed D.Device (length seats.old.items) seats.old.items seats.new.items) }
-    ensures missed { IfErr result (λ missed. MissesIn D.Device chunks seats.old.items seats.new.items missed) }
-    ensures read { AreSeatsRead D.Device seats.old.items seats.new.items }
-    ensures long { (k : ℕ) (d : _) → k < length seats.old.items
-        → length (slice_index_or seats.new.items k d).bytes.items ≡ length (slice_index_or seats.old.items k d).bytes.items }
+    ensures different { OnOk result (AreReadersHonest D.Device readers.old.items
+        → AreDifferent (ReaderShows (on_device D.Device) readers.old.items) chunks sectors marks.new) }
+    ensures unfailing { OnOk result (HaveNotFailed D.Device (length readers.old.items) readers.old.items readers.new.items) }
+    ensures missed { IfErr result (λ missed. MissesIn D.Device chunks readers.old.items readers.new.items missed) }
+    ensures read { AreReadersRead D.Device readers.old.items readers.new.items }
+    ensures long { (k : ℕ) (d : _) → k < length readers.old.items
+        → length (slice_index_or readers.new.items k d).bytes.items ≡ length (slice_index_or readers.old.items k d).bytes.items }
 {
-    first_turn(rt, gate, chunks, sectors, seats);
-    if let Some(missed) = first_missed(seats.as_slice()) {
+    first_turn(rt, gate, chunks, sectors, readers);
+    if let Some(missed) = first_missed(readers.as_slice()) {
         return Err(missed);
     }
-    mark_window(seats.as_slice(), &[], chunks, 0, sectors, marks);
+    mark_window(readers.as_slice(), &[], chunks, 0, sectors, marks);
     Ok(())
 }
 
 // What was read ahead of the first member is what the next window is compared with.
-fn exchange<D>(seats: &mut [Seat<D>], first: usize, lead: &mut Vec<u8>)
-    ensures len { length seats.new ≡ length seats.old }
-    ensures first { (k : ℕ) (d : _) → k < length seats.old → k ≡ first
-        → (slice_index_or seats.new k d ≡ record (slice_index_or seats.old k d) { bytes = lead.old }) × (lead.new ≡ (slice_index_or seats.old k d).bytes) }
-    ensures others { (k : ℕ) (d : _) → k < length seats.old → (k ≡ first → ⊥) → slice_index_or seats.new k d ≡ slice_index_or seats.old k d }
-    ensures none { length seats.old ≤ first → lead.new ≡ lead.old }
+fn exchange<D>(readers: &mut [Reader<D>], first: usize, lead: &mut Vec<u8>)
+    ensures len { length readers.new ≡ length readers.old }
+    ensures first { (k : ℕ) (d : _) → k < length readers.old → k ≡ first
+        → (slice_index_or readers.new k d ≡ record (slice_index_or readers.old k d) { bytes = lead.old }) × (lead.new ≡ (slice_index_or readers.old k d).bytes) }
+    ensures others { (k : ℕ) (d : _) → k < length readers.old → (k ≡ first → ⊥) → slice_index_or readers.new k d ≡ slice_index_or readers.old k d }
+    ensures none { length readers.old ≤ first → lead.new ≡ lead.old }
 {
-    if first < seats.len() {
-        mem::swap(&mut seats[first].bytes, lead);
+    if first < readers.len() {
+        mem::swap(&mut readers[first].bytes, lead);
     }
 }
 
-// The first seat whose worker noted a chunk.
-fn first_missed<D>(seats: &[Seat<D>]) -> Option<Missed>
+// The first reader whose worker noted a chunk.
+fn first_missed<D>(readers: &[Reader<D>]) -> Option<Missed>
     ensures { MatchOption result
-        (All (λ seat. seat.missed ≡ None) seats.now)
-        (λ missed. (missed.member < length seats.now) × ((d : _) → (slice_index_or seats.now missed.member d).missed ≡ Some missed.chunk)
-        × ((k : ℕ) (d : _) → k < missed.member → (slice_index_or seats.now k d).missed ≡ None)) }
+        (All (λ reader. reader.missed ≡ None) readers.now)
+        (λ missed. (missed.member < length readers.now) × ((d : _) → (slice_index_or readers.now missed.member d).missed ≡ Some missed.chunk)
+        × ((k : ℕ) (d : _) → k < missed.member → (slice_index_or readers.now k d).missed ≡ None)) }
 {
-    for k in 0..seats.len() {
-        if let Some(chunk) = seats[k].missed {
+    for k in 0..readers.len() {
+        if let Some(chunk) = readers[k].missed {
             return Some(Missed { member: k, chunk });
         }
     }

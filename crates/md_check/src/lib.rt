@@ -10,8 +10,8 @@ mod lent;
 mod listed;
 mod order;
 mod reading;
-mod seat;
-mod seats;
+mod reader;
+mod readers;
 mod turn;
 mod window;
 

@@ -3,12 +3,12 @@ ghost use Rattle.std.specs.Prelude.{◌≡◌, ◌+◌, ◌*◌, ◌/◌, ◌%�
 ghost use Rattle.md_device.specs.Device.{held};
 ghost use Rattle.md_badblocks.specs.Runs.{IsBad};
 ghost use Rattle.md_collect.specs.Places.{HasRoom};
-ghost use Rattle.md_collect.specs.Reading.{Fails};
-ghost use Rattle.md_workers.specs.Lanes.{OnlyRead};
-ghost use Rattle.md_check.specs.Readings.{HasLed, HasRead, HasTurned, HasUnlisted, IsLead, IsToRead};
-ghost use Rattle.md_check.specs.Seats.{IsSeated, IsUsed};
+ghost use Rattle.md_collect.specs.Reading.{CountsFailure};
+ghost use Rattle.md_workers.specs.Queues.{OnlyRead};
+ghost use Rattle.md_check.specs.Readings.{HasLed, HasReadSectors, HasTurned, HasUnlisted, IsLead, IsToRead};
+ghost use Rattle.md_check.specs.Readers.{HasDataOnDevice, IsUsed};
 
-use crate::seat::Seat;
+use crate::reader::Reader;
 use crate::window::{Part, Window};
 use md_badblocks::BadSet;
 use md_bitmap::Chunks;
@@ -18,7 +18,7 @@ use md_workers::Gate;
 // How many sectors are compared at once, 64 KiB: what was just read is then still in the processor's cache.
 const BLOCK: usize = 128 * 512;
 
-/// A seat's part of a turn: of the first member the next window is read, and of any other the window, which is compared
+/// A reader's part of a turn: of the first member the next window is read, and of any other the window, which is compared
 /// with what was read of the first one. At the first read that fails it ends, and notes the chunk.
 pub(crate) fn work<D: Device, G: Gate>(
     gate: &G,
@@ -26,75 +26,75 @@ pub(crate) fn work<D: Device, G: Gate>(
     window: Window,
     lead: &[u8],
     k: usize,
-    seat: &mut Seat<D>,
+    reader: &mut Reader<D>,
 )
     requires whole { length lead.now % 512 ≡ 0 }
     requires inside { window.from + length lead.now / 512 + window.ahead ≤ chunks.size }
-    requires room { length lead.now ≤ length seat.old.bytes.items }
-    requires ahead { 512 * window.ahead ≤ length seat.old.bytes.items }
-    requires seated { IsSeated D.Device chunks seat.old }
-    requires lead { k ≡ window.first → IsLead D.Device window.from lead.now seat.old }
-    ensures turned { HasTurned D.Device chunks window.from (length lead.now / 512) (length lead.now / 512 + window.ahead) lead.now seat.old seat.new }
-    ensures led { k ≡ window.first → HasLed D.Device (window.from + length lead.now / 512) window.ahead seat.old seat.new }
+    requires room { length lead.now ≤ length reader.old.bytes.items }
+    requires ahead { 512 * window.ahead ≤ length reader.old.bytes.items }
+    requires read_here { HasDataOnDevice D.Device chunks reader.old }
+    requires lead { k ≡ window.first → IsLead D.Device window.from lead.now reader.old }
+    ensures turned { HasTurned D.Device chunks window.from (length lead.now / 512) (length lead.now / 512 + window.ahead) lead.now reader.old reader.new }
+    ensures led { k ≡ window.first → HasLed D.Device (window.from + length lead.now / 512) window.ahead reader.old reader.new }
 {
     if k == window.first {
-        seat.alike = true;
+        reader.alike = true;
         let next = window.from + lead.len() as u64 / 512;
-        fill(gate, chunks, next, window.ahead, seat);
+        fill(gate, chunks, next, window.ahead, reader);
     } else {
-        follow(gate, chunks, window.from, lead, seat);
+        follow(gate, chunks, window.from, lead, reader);
     }
 }
 
-/// Reads the first window of so many sectors into the seat's own buffer.
-pub(crate) fn begin<D: Device, G: Gate>(gate: &G, chunks: Chunks, sectors: u64, seat: &mut Seat<D>)
+/// Reads the first window of so many sectors into the reader's own buffer.
+pub(crate) fn begin<D: Device, G: Gate>(gate: &G, chunks: Chunks, sectors: u64, reader: &mut Reader<D>)
     requires inside { sectors ≤ chunks.size }
-    requires room { 512 * sectors ≤ length seat.old.bytes.items }
-    requires seated { IsSeated D.Device chunks seat.old }
-    ensures { HasTurned D.Device chunks 0 sectors sectors [] seat.old seat.new }
+    requires room { 512 * sectors ≤ length reader.old.bytes.items }
+    requires read_here { HasDataOnDevice D.Device chunks reader.old }
+    ensures { HasTurned D.Device chunks 0 sectors sectors [] reader.old reader.new }
 {
-    seat.alike = false;
-    fill(gate, chunks, 0, sectors, seat);
+    reader.alike = false;
+    fill(gate, chunks, 0, sectors, reader);
 }
 
-// Reads so many sectors from this one on into the seat's buffer, if its member is in sync.
-fn fill<D: Device, G: Gate>(gate: &G, chunks: Chunks, from: u64, sectors: u64, seat: &mut Seat<D>)
+// Reads so many sectors from this one on into the reader's buffer, if its member is in sync.
+fn fill<D: Device, G: Gate>(gate: &G, chunks: Chunks, from: u64, sectors: u64, reader: &mut Reader<D>)
     requires inside { from + sectors ≤ chunks.size }
-    requires room { 512 * sectors ≤ length seat.old.bytes.items }
-    requires seated { IsSeated D.Device chunks seat.old }
-    ensures { HasRead D.Device chunks from sectors seat.old seat.new }
+    requires room { 512 * sectors ≤ length reader.old.bytes.items }
+    requires read_here { HasDataOnDevice D.Device chunks reader.old }
+    ensures { HasReadSectors D.Device chunks from sectors reader.old reader.new }
 {
-    seat.missed = None;
-    let Some(role) = seat.role else {
+    reader.missed = None;
+    let Some(role) = reader.role else {
         return;
     };
-    if let Err(chunk) = read_into(gate, chunks, Part { from, sectors }, role, seat) {
-        seat.missed = Some(chunk);
+    if let Err(chunk) = read_into(gate, chunks, Part { from, sectors }, role, reader) {
+        reader.missed = Some(chunk);
     }
 }
 
-// Reads the window, of which these bytes were read of the first member, if the seat's member is in sync.
-fn follow<D: Device, G: Gate>(gate: &G, chunks: Chunks, from: u64, lead: &[u8], seat: &mut Seat<D>)
+// Reads the window, of which these bytes were read of the first member, if the reader's member is in sync.
+fn follow<D: Device, G: Gate>(gate: &G, chunks: Chunks, from: u64, lead: &[u8], reader: &mut Reader<D>)
     requires whole { length lead.now % 512 ≡ 0 }
     requires inside { from + length lead.now / 512 ≤ chunks.size }
-    requires room { length lead.now ≤ length seat.old.bytes.items }
-    requires seated { IsSeated D.Device chunks seat.old }
-    ensures { HasTurned D.Device chunks from (length lead.now / 512) (length lead.now / 512) lead.now seat.old seat.new }
+    requires room { length lead.now ≤ length reader.old.bytes.items }
+    requires read_here { HasDataOnDevice D.Device chunks reader.old }
+    ensures { HasTurned D.Device chunks from (length lead.now / 512) (length lead.now / 512) lead.now reader.old reader.new }
 {
-    let was_alike = seat.alike;
-    seat.missed = None;
-    seat.alike = true;
-    let Some(role) = seat.role else {
+    let was_alike = reader.alike;
+    reader.missed = None;
+    reader.alike = true;
+    let Some(role) = reader.role else {
         return;
     };
-    let answer = if was_alike && !seat.listed.meets(from, lead.len() as u64 / 512) {
-        read_beside(gate, chunks, from, lead, role, seat)
+    let answer = if was_alike && !reader.listed.meets(from, lead.len() as u64 / 512) {
+        read_beside(gate, chunks, from, lead, role, reader)
     } else {
-        is_block_alike(gate, chunks, from, lead, role, seat)
+        is_block_alike(gate, chunks, from, lead, role, reader)
     };
     match answer {
-        Ok(alike) => seat.alike = alike,
-        Err(chunk) => seat.missed = Some(chunk),
+        Ok(alike) => reader.alike = alike,
+        Err(chunk) => reader.missed = Some(chunk),
     }
 }
 
@@ -107,24 +107,24 @@ fn read_beside<D: Device, G: Gate>(
     from: u64,
     lead: &[u8],
     role: u8,
-    seat: &mut Seat<D>,
+    reader: &mut Reader<D>,
 ) -> Result<bool, u32>
     requires whole { length lead.now % 512 ≡ 0 }
     requires inside { from + length lead.now / 512 ≤ chunks.size }
-    requires room { length lead.now ≤ length seat.old.bytes.items }
-    requires seated { HasRoom (D.content seat.old.device) seat.old.offset chunks }
-    ensures used { IsUsed D.Device seat.old seat.new }
-    ensures gave { IfOk result (λ alike. D.honest seat.old.device ≡ true
-        → HasUnlisted (D.content seat.old.device) seat.old.offset seat.old.listed from (length lead.now / 512)
-        (if alike then lead.now else seat.new.bytes.items)) }
-    ensures unfailing { OnOk result (D.failures seat.new.device ≡ D.failures seat.old.device) }
-    ensures missed { IfErr result (λ c. IsToRead chunks seat.old.listed from (length lead.now / 512) c) }
-    ensures failed { OnErr result (Fails D.Device seat.old.device seat.new.device) }
+    requires room { length lead.now ≤ length reader.old.bytes.items }
+    requires read_here { HasRoom (D.content reader.old.device) reader.old.offset chunks }
+    ensures used { IsUsed D.Device reader.old reader.new }
+    ensures gave { IfOk result (λ alike. D.honest reader.old.device ≡ true
+        → HasUnlisted (D.content reader.old.device) reader.old.offset reader.old.listed from (length lead.now / 512)
+        (if alike then lead.now else reader.new.bytes.items)) }
+    ensures unfailing { OnOk result (D.failures reader.new.device ≡ D.failures reader.old.device) }
+    ensures missed { IfErr result (λ c. IsToRead chunks reader.old.listed from (length lead.now / 512) c) }
+    ensures failed { OnErr result (CountsFailure D.Device reader.old.device reader.new.device) }
 {
-    if is_read_alike(gate, chunks, from, lead, role, seat)? {
+    if is_read_alike(gate, chunks, from, lead, role, reader)? {
         return Ok(true);
     }
-    is_block_alike(gate, chunks, from, lead, role, seat)
+    is_block_alike(gate, chunks, from, lead, role, reader)
 }
 
 // Reads a window block by block, and answers whether these bytes were read. It ends at the first block that is not the
@@ -135,25 +135,25 @@ fn is_read_alike<D: Device, G: Gate>(
     from: u64,
     lead: &[u8],
     role: u8,
-    seat: &mut Seat<D>,
+    reader: &mut Reader<D>,
 ) -> Result<bool, u32>
     requires whole { length lead.now % 512 ≡ 0 }
     requires inside { from + length lead.now / 512 ≤ chunks.size }
-    requires room { length lead.now ≤ length seat.old.bytes.items }
-    requires seated { HasRoom (D.content seat.old.device) seat.old.offset chunks }
-    ensures used { IsUsed D.Device seat.old seat.new }
-    ensures gave { IfOk result (λ alike. alike ≡ true → D.honest seat.old.device ≡ true
-        → HasUnlisted (D.content seat.old.device) seat.old.offset seat.old.listed from (length lead.now / 512) lead.now) }
-    ensures unfailing { OnOk result (D.failures seat.new.device ≡ D.failures seat.old.device) }
-    ensures missed { IfErr result (λ c. IsToRead chunks seat.old.listed from (length lead.now / 512) c) }
-    ensures failed { OnErr result (Fails D.Device seat.old.device seat.new.device) }
+    requires room { length lead.now ≤ length reader.old.bytes.items }
+    requires read_here { HasRoom (D.content reader.old.device) reader.old.offset chunks }
+    ensures used { IsUsed D.Device reader.old reader.new }
+    ensures gave { IfOk result (λ alike. alike ≡ true → D.honest reader.old.device ≡ true
+        → HasUnlisted (D.content reader.old.device) reader.old.offset reader.old.listed from (length lead.now / 512) lead.now) }
+    ensures unfailing { OnOk result (D.failures reader.new.device ≡ D.failures reader.old.device) }
+    ensures missed { IfErr result (λ c. IsToRead chunks reader.old.listed from (length lead.now / 512) c) }
+    ensures failed { OnErr result (CountsFailure D.Device reader.old.device reader.new.device) }
 {
     let mut done = 0;
     while done < lead.len() {
         let len = BLOCK.min(lead.len() - done);
         let sector = from + done as u64 / 512;
         let block = &lead[done..done + len];
-        let alike = is_block_alike(gate, chunks, sector, block, role, seat)?;
+        let alike = is_block_alike(gate, chunks, sector, block, role, reader)?;
         if !alike {
             return Ok(false);
         }
@@ -169,23 +169,23 @@ fn is_block_alike<D: Device, G: Gate>(
     from: u64,
     block: &[u8],
     role: u8,
-    seat: &mut Seat<D>,
+    reader: &mut Reader<D>,
 ) -> Result<bool, u32>
     requires whole { length block.now % 512 ≡ 0 }
     requires inside { from + length block.now / 512 ≤ chunks.size }
-    requires room { length block.now ≤ length seat.old.bytes.items }
-    requires seated { HasRoom (D.content seat.old.device) seat.old.offset chunks }
-    ensures used { IsUsed D.Device seat.old seat.new }
-    ensures gave { IfOk result (λ alike. D.honest seat.old.device ≡ true
-        → HasUnlisted (D.content seat.old.device) seat.old.offset seat.old.listed from (length block.now / 512)
-        (if alike then block.now else seat.new.bytes.items)) }
-    ensures unfailing { OnOk result (D.failures seat.new.device ≡ D.failures seat.old.device) }
-    ensures missed { IfErr result (λ c. IsToRead chunks seat.old.listed from (length block.now / 512) c) }
-    ensures failed { OnErr result (Fails D.Device seat.old.device seat.new.device) }
+    requires room { length block.now ≤ length reader.old.bytes.items }
+    requires read_here { HasRoom (D.content reader.old.device) reader.old.offset chunks }
+    ensures used { IsUsed D.Device reader.old reader.new }
+    ensures gave { IfOk result (λ alike. D.honest reader.old.device ≡ true
+        → HasUnlisted (D.content reader.old.device) reader.old.offset reader.old.listed from (length block.now / 512)
+        (if alike then block.now else reader.new.bytes.items)) }
+    ensures unfailing { OnOk result (D.failures reader.new.device ≡ D.failures reader.old.device) }
+    ensures missed { IfErr result (λ c. IsToRead chunks reader.old.listed from (length block.now / 512) c) }
+    ensures failed { OnErr result (CountsFailure D.Device reader.old.device reader.new.device) }
 {
     let sectors = block.len() as u64 / 512;
-    read_into(gate, chunks, Part { from, sectors }, role, seat)?;
-    Ok(begins_so(seat.bytes.as_slice(), block))
+    read_into(gate, chunks, Part { from, sectors }, role, reader)?;
+    Ok(begins_so(reader.bytes.as_slice(), block))
 }
 
 // Whether the first bytes are these.
@@ -196,33 +196,33 @@ fn begins_so(bytes: &[u8], block: &[u8]) -> bool
     &bytes[..block.len()] == block
 }
 
-// Reads sectors into the front of the seat's buffer.
+// Reads sectors into the front of the reader's buffer.
 fn read_into<D: Device, G: Gate>(
     gate: &G,
     chunks: Chunks,
     part: Part,
     role: u8,
-    seat: &mut Seat<D>,
+    reader: &mut Reader<D>,
 ) -> Result<(), u32>
     requires inside { part.from + part.sectors ≤ chunks.size }
-    requires fits { 512 * part.sectors ≤ length seat.old.bytes.items }
-    requires seated { HasRoom (D.content seat.old.device) seat.old.offset chunks }
-    ensures used { IsUsed D.Device seat.old seat.new }
-    ensures gave { OnOk result (D.honest seat.old.device ≡ true
-        → HasUnlisted (D.content seat.old.device) seat.old.offset seat.old.listed part.from part.sectors seat.new.bytes.items) }
-    ensures unfailing { OnOk result (D.failures seat.new.device ≡ D.failures seat.old.device) }
-    ensures missed { IfErr result (λ c. IsToRead chunks seat.old.listed part.from part.sectors c) }
-    ensures failed { OnErr result (Fails D.Device seat.old.device seat.new.device) }
+    requires fits { 512 * part.sectors ≤ length reader.old.bytes.items }
+    requires read_here { HasRoom (D.content reader.old.device) reader.old.offset chunks }
+    ensures used { IsUsed D.Device reader.old reader.new }
+    ensures gave { OnOk result (D.honest reader.old.device ≡ true
+        → HasUnlisted (D.content reader.old.device) reader.old.offset reader.old.listed part.from part.sectors reader.new.bytes.items) }
+    ensures unfailing { OnOk result (D.failures reader.new.device ≡ D.failures reader.old.device) }
+    ensures missed { IfErr result (λ c. IsToRead chunks reader.old.listed part.from part.sectors c) }
+    ensures failed { OnErr result (CountsFailure D.Device reader.old.device reader.new.device) }
 {
     read_part(
         gate,
-        &mut seat.device,
+        &mut reader.device,
         role,
-        seat.offset,
-        &seat.listed,
+        reader.offset,
+        &reader.listed,
         chunks,
         part,
-        seat.bytes.as_mut_slice(),
+        reader.bytes.as_mut_slice(),
     )
 }
 
@@ -245,7 +245,7 @@ fn read_part<D: Device, G: Gate>(
         → HasUnlisted (D.content device.old) offset listed.now part.from part.sectors buf.new) }
     ensures unfailing { OnOk result (D.failures device.new ≡ D.failures device.old) }
     ensures missed { IfErr result (λ c. IsToRead chunks listed.now part.from part.sectors c) }
-    ensures failed { OnErr result (Fails D.Device device.old device.new) }
+    ensures failed { OnErr result (CountsFailure D.Device device.old device.new) }
 {
     let mut done = 0;
     while done < part.sectors {
@@ -278,7 +278,7 @@ fn read_front<D: Device, G: Gate>(
         → HasUnlisted (D.content device.old) offset listed.now sector n buf.new) }
     ensures unfailing { OnOk result (D.failures device.new ≡ D.failures device.old) }
     ensures missed { IfErr result (λ c. IsToRead chunks listed.now sector 1 c) }
-    ensures failed { OnErr result (Fails D.Device device.old device.new) }
+    ensures failed { OnErr result (CountsFailure D.Device device.old device.new) }
 {
     let chunk = chunks.chunk_of(sector);
     let (start, sectors) = chunks.range(chunk);
@@ -324,7 +324,7 @@ fn read_run<D: Device>(
     ensures gave { OnOk result (D.honest device.old ≡ true
         → buf.new ≡ held (D.content device.old) (offset + sector) (length buf.old)) }
     ensures unfailing { OnOk result (D.failures device.new ≡ D.failures device.old) }
-    ensures failed { OnErr result (Fails D.Device device.old device.new) }
+    ensures failed { OnErr result (CountsFailure D.Device device.old device.new) }
 {
     let _limit = device.sectors();
     device.read(offset + sector, buf)

@@ -2,10 +2,10 @@
 ghost use Rattle.std.specs.Prelude.{◌≡◌, ◌+◌, ◌*◌, ◌/◌, ◌%◌, ◌<◌, ◌≤◌, [], ℕ, length, slice_index_or};
 ghost use Rattle.std.specs.List.{All};
 ghost use Rattle.md_check.specs.Readings.{HasLed, HasTurned, IsLead};
-ghost use Rattle.md_check.specs.Seats.{IsSeated};
+ghost use Rattle.md_check.specs.Readers.{HasDataOnDevice};
 
 use crate::reading::{begin, work};
-use crate::seat::Seat;
+use crate::reader::Reader;
 use crate::window::Window;
 use md_bitmap::Chunks;
 use md_device::Device;
@@ -14,7 +14,7 @@ use std::thread;
 use std::thread::Threads;
 
 /// The window is read of each member but the first one, and compared with `lead`, which was read of that one; and the next
-/// window is read of the first member. Each has a worker of its own: the list of seats is halved until each thread has
+/// window is read of the first member. Each has a worker of its own: the list of readers is halved until each thread has
 /// one. Where the system starts no thread they go one after another.
 pub(crate) fn turn<D: Device + Send, G: Gate + Sync, R: Threads + Sync>(
     rt: &R,
@@ -22,29 +22,29 @@ pub(crate) fn turn<D: Device + Send, G: Gate + Sync, R: Threads + Sync>(
     chunks: Chunks,
     window: Window,
     lead: &[u8],
-    seats: &mut Vec<Seat<D>>,
+    readers: &mut Vec<Reader<D>>,
 )
     requires whole { length lead.now % 512 ≡ 0 }
     requires inside { window.from + length lead.now / 512 + window.ahead ≤ chunks.size }
-    requires room { All (λ seat. length lead.now ≤ length seat.bytes.items) seats.old.items }
-    requires ahead { All (λ seat. 512 * window.ahead ≤ length seat.bytes.items) seats.old.items }
-    requires seated { All (λ seat. IsSeated D.Device chunks seat) seats.old.items }
-    requires lead { (k : ℕ) (d : _) → k < length seats.old.items → k ≡ window.first
-        → IsLead D.Device window.from lead.now (slice_index_or seats.old.items k d) }
-    ensures len { length seats.new.items ≡ length seats.old.items }
-    ensures turned { (k : ℕ) (d : _) → k < length seats.old.items
+    requires room { All (λ reader. length lead.now ≤ length reader.bytes.items) readers.old.items }
+    requires ahead { All (λ reader. 512 * window.ahead ≤ length reader.bytes.items) readers.old.items }
+    requires read_here { All (λ reader. HasDataOnDevice D.Device chunks reader) readers.old.items }
+    requires lead { (k : ℕ) (d : _) → k < length readers.old.items → k ≡ window.first
+        → IsLead D.Device window.from lead.now (slice_index_or readers.old.items k d) }
+    ensures len { length readers.new.items ≡ length readers.old.items }
+    ensures turned { (k : ℕ) (d : _) → k < length readers.old.items
         → HasTurned D.Device chunks window.from (length lead.now / 512) (length lead.now / 512 + window.ahead) lead.now
-        (slice_index_or seats.old.items k d) (slice_index_or seats.new.items k d) }
-    ensures led { (k : ℕ) (d : _) → k < length seats.old.items → k ≡ window.first
+        (slice_index_or readers.old.items k d) (slice_index_or readers.new.items k d) }
+    ensures led { (k : ℕ) (d : _) → k < length readers.old.items → k ≡ window.first
         → HasLed D.Device (window.from + length lead.now / 512) window.ahead
-        (slice_index_or seats.old.items k d) (slice_index_or seats.new.items k d) }
+        (slice_index_or readers.old.items k d) (slice_index_or readers.new.items k d) }
 {
-    let threads = seats.len().max(1);
+    let threads = readers.len().max(1);
     thread::for_each_mut(
         rt,
-        seats.as_mut_slice(),
+        readers.as_mut_slice(),
         threads,
-        &|k, seat| work(gate, chunks, window, lead, k, seat),
+        &|k, reader| work(gate, chunks, window, lead, k, reader),
     );
 }
 
@@ -54,20 +54,20 @@ pub(crate) fn first_turn<D: Device + Send, G: Gate + Sync, R: Threads + Sync>(
     gate: &G,
     chunks: Chunks,
     sectors: u64,
-    seats: &mut Vec<Seat<D>>,
+    readers: &mut Vec<Reader<D>>,
 )
     requires inside { sectors ≤ chunks.size }
-    requires room { All (λ seat. 512 * sectors ≤ length seat.bytes.items) seats.old.items }
-    requires seated { All (λ seat. IsSeated D.Device chunks seat) seats.old.items }
-    ensures len { length seats.new.items ≡ length seats.old.items }
-    ensures turned { (k : ℕ) (d : _) → k < length seats.old.items
-        → HasTurned D.Device chunks 0 sectors sectors [] (slice_index_or seats.old.items k d) (slice_index_or seats.new.items k d) }
+    requires room { All (λ reader. 512 * sectors ≤ length reader.bytes.items) readers.old.items }
+    requires read_here { All (λ reader. HasDataOnDevice D.Device chunks reader) readers.old.items }
+    ensures len { length readers.new.items ≡ length readers.old.items }
+    ensures turned { (k : ℕ) (d : _) → k < length readers.old.items
+        → HasTurned D.Device chunks 0 sectors sectors [] (slice_index_or readers.old.items k d) (slice_index_or readers.new.items k d) }
 {
-    let threads = seats.len().max(1);
+    let threads = readers.len().max(1);
     thread::for_each_mut(
         rt,
-        seats.as_mut_slice(),
+        readers.as_mut_slice(),
         threads,
-        &|_, seat| begin(gate, chunks, sectors, seat),
+        &|_, reader| begin(gate, chunks, sectors, reader),
     );
 }

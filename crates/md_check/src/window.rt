@@ -1,7 +1,7 @@
 // Which sectors are read and compared.
 
 /// The window that is compared in a turn begins at the sector `from`. Behind it `ahead` sectors more are read of the
-/// first member in sync, that of the seat with index `first`.
+/// first member in sync, that of the reader with index `first`.
 #[derive(Clone, Copy)]
 pub(crate) struct Window {
     pub(crate) first: usize,

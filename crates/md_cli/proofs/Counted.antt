@@ -5,18 +5,18 @@ use Rattle.std.specs.List.{filter, filter_map, range_with_len}
 use Rattle.std.proofs.lemmas.List.{length-append, length-map}
 use Rattle.clap.specs.Words.{Text}
 use Rattle.md_create.specs.Geometry.{HasDevice, IsGeometry}
-use Rattle.md_create.specs.Values.{AreMembers, device_of, devices_of}
+use Rattle.md_create.specs.Values.{AreMembers, device_of_member, devices_of}
 use Rattle.md_create.specs.declared.params.CreateParams.{CreateParams}
 use Rattle.md_create.specs.declared.params.NewMember.{NewMember}
 use Rattle.md_state.specs.View.{Disk}
 use Rattle.md_cli.specs.Creating.{first_size, sectors_on, sizes_of}
-use Rattle.md_images.specs.Taking.{Word, image_list, is_missing}
+use Rattle.md_images.specs.Taking.{Word, image_list, is_missing_word}
 use Rattle.md_images.proofs.Listed.{is_image, word_at}
 
 -- how many of the words name images
 abbrev present : List Text → ℕ
 present [] = 0
-present (w ∷ ws) = cond (is_missing true w) (present ws) (1 + present ws)
+present (w ∷ ws) = cond (is_missing_word true w) (present ws) (1 + present ws)
 
 -- the element after a front, and the front that ends with it
 at_front : {X : Type 0} (front rest : List X) (x d : X) → slice_index_or (front ++ x ∷ rest) (length front) d ≡ x
@@ -38,8 +38,8 @@ listed_from front (w ∷ words) a e =
     subst (λ (all : List Text). length (filter (is_image true) (map (word_at all) (range_with_len (a + 1) (length words)))) ≡ present words) (append_assoc front (w ∷ []) words)
     (listed_from (front ++ w ∷ []) words (a + 1) (longer_front front w ∙ ap (λ (n : ℕ). n + 1) e)) in
     let here : slice_index_or (front ++ w ∷ words) a [] ≡ w = ap (λ (n : ℕ). slice_index_or (front ++ w ∷ words) n []) (sym e) ∙ at_front front words w [] in
-    filtered (is_missing true (slice_index_or (front ++ w ∷ words) a [])) (word_at (front ++ w ∷ words) a) rest (present words) later
-    ∙ ap (λ (t : Text). cond (is_missing true t) (present words) (1 + present words)) here
+    filtered (is_missing_word true (slice_index_or (front ++ w ∷ words) a [])) (word_at (front ++ w ∷ words) a) rest (present words) later
+    ∙ ap (λ (t : Text). cond (is_missing_word true t) (present words) (1 + present words)) here
 
 image_count : (words : List Text) → length (image_list true words) ≡ present words
 unfolding image_list
@@ -74,7 +74,7 @@ device_count sizes = devices_from [] sizes 0 refl
 sizes_there : (words : List Text) (disks : List Disk) → present words ≤ length disks → there (sizes_of words disks) ≡ present words
 unfolding sizes_of
 sizes_there [] disks enough = refl
-sizes_there (w ∷ words) disks enough = by (is_missing true w) disks enough (sizes_there words)
+sizes_there (w ∷ words) disks enough = by (is_missing_word true w) disks enough (sizes_there words)
   where
     by : (b : Bool) (ds : List Disk) → cond b (present words) (1 + present words) ≤ length ds → ((xs : List Disk) → present words ≤ length xs → there (sizes_of words xs) ≡ present words)
         → there (cond b (None ∷ sizes_of words ds) (first_size ds ∷ sizes_of words (drop 1 ds))) ≡ cond b (present words) (1 + present words)
@@ -86,7 +86,7 @@ sizes_there (w ∷ words) disks enough = by (is_missing true w) disks enough (si
 role_of : (words : List Text) (disks : List Disk) (k : ℕ) (d : Disk) → k < present words → slice_get disks k ≡ Some d → (role : ℕ) × HasDevice (sizes_of words disks) role (sectors_on d)
 unfolding sizes_of
 role_of [] disks k d lt is = absurd (omega (arith, lt))
-role_of (w ∷ words) disks k d lt is = by (is_missing true w) disks k lt is (role_of words)
+role_of (w ∷ words) disks k d lt is = by (is_missing_word true w) disks k lt is (role_of words)
   where
     by : (b : Bool) (ds : List Disk) (i : ℕ) → i < cond b (present words) (1 + present words) → slice_get ds i ≡ Some d → ((xs : List Disk) (j : ℕ) (x : Disk) → j < present words → slice_get xs j ≡ Some x → (role : ℕ) × HasDevice (sizes_of words xs) role (sectors_on x))
         → (role : ℕ) × HasDevice (cond b (None ∷ sizes_of words ds) (first_size ds ∷ sizes_of words (drop 1 ds))) role (sectors_on d)
@@ -102,7 +102,7 @@ module _ (params : CreateParams) (words : List Text) (disks : List Disk) (as_man
   -- as many members as devices
   pub member_count : (size : ℕ) (members : List NewMember) → AreMembers params (sizes_of words disks) size members → length members ≡ length disks
   member_count size members are =
-      sym (length-map members device_of) ∙ ap length are.devices ∙ device_count (sizes_of words disks) ∙ sizes_there words disks (omega (arith, enough)) ∙ enough
+      sym (length-map members device_of_member) ∙ ap length are.devices ∙ device_count (sizes_of words disks) ∙ sizes_there words disks (omega (arith, enough)) ∙ enough
 
   -- each device has room for what stands in front of the data
   pub has_room : (size : ℕ) → IsGeometry params (sizes_of words disks) size → (k : ℕ) (d : Disk) → k < length disks → slice_get disks k ≡ Some d → 2048 ≤ sectors_on d

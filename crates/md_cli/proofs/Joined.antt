@@ -4,7 +4,7 @@ use Rattle.std.proofs.Common.{◌≡◌, ◌∙◌, ◌+◌, false, List, [], �
 use Rattle.std.specs.List.{filter}
 use Rattle.std.proofs.lemmas.List.{length-append, map-append}
 use Rattle.std.proofs.lemmas.List.FromFn.{length-map-range_with_len}
-use Rattle.md_images.specs.Taking.{Text, Word, image_list, numbered}
+use Rattle.md_images.specs.Taking.{Text, Word, image_list, numbered_words}
 use Rattle.md_images.proofs.Listed.{is_image, word_at}
 use Rattle.md_state.specs.View.{disk_of}
 
@@ -15,7 +15,7 @@ all_listed (w ∷ words) = ap (λ (rest : List Word). w ∷ rest) (all_listed wo
 
 pub all_named : (names : List Text) → length (image_list false names) ≡ length names
 unfolding image_list
-all_named names = ap length (all_listed (numbered names)) ∙ length-map-range_with_len (word_at names) 0 (length names)
+all_named names = ap length (all_listed (numbered_words names)) ∙ length-map-range_with_len (word_at names) 0 (length names)
 
 module _ {D : Type 0} (g : Ghosts D) where
   -- the last of the devices, and those before it

@@ -8,7 +8,7 @@ use Rattle.md_create.specs.declared.params.NewMember.{NewMember}
 use Rattle.md_create.specs.Layout.{writes_of}
 use Rattle.md_create.specs.Writes.{DoesWrites, FailsInWrites}
 use Rattle.md_state.specs.View.{Disk, disk_of}
-use Rattle.md_cli.specs.Creating.{AreLaidOut, At, FailsToLayOut, LaysOut}
+use Rattle.md_cli.specs.Creating.{AreLaidOut, At, FailsInLayout, LaysOut}
 use Rattle.md_array.proofs.General.Indices.{got_other, at_set_same}
 use Rattle.md_kept_members.proofs.Members.Indices.{cases_more}
 
@@ -59,8 +59,8 @@ module _ (before now : List Disk) (members : List NewMember) (n : ℕ) (d e : Di
     later = λ k lt. got_other now n k e (λ same. omega (arith, same, lt)) ∙ so.rest k (omega (arith, lt));
   }
 
-  pub stopped_here : FailsToLayOut d e m → At FailsToLayOut before (set now n e) members n
-  stopped_here related = at_place FailsToLayOut before (set now n e) members n n d e m refl was is_now member related
+  pub stopped_here : FailsInLayout d e m → At FailsInLayout before (set now n e) members n
+  stopped_here related = at_place FailsInLayout before (set now n e) members n n d e m refl was is_now member related
 
 pub all_laid : (before now : List Disk) (members : List NewMember) (n : ℕ) → IsLaidTo before now members n → AreLaidOut before now members n
 all_laid before now members n so = record { as_many = so.as_many; each = so.each; later = λ k lt. so.rest k (omega (arith, lt)) }
@@ -70,7 +70,7 @@ module _ {D : Type 0} (g : Ghosts D) (d e : D) (m : NewMember) where
   pub does_on_disk : DoesWrites g (writes_of m) d e → LaysOut (disk_of g d) (disk_of g e) m
   does_on_disk h = record { kept = record { size = h.kept.size; honest_kept = h.kept.honest_kept; counted = h.kept.counted }; unfailing = h.unfailing; all_done = h.all_done; within = h.within }
 
-  pub stops_on_disk : FailsInWrites g (writes_of m) d e → FailsToLayOut (disk_of g d) (disk_of g e) m
+  pub stops_on_disk : FailsInWrites g (writes_of m) d e → FailsInLayout (disk_of g d) (disk_of g e) m
   stops_on_disk h = record { kept = record { size = h.kept.size; honest_kept = h.kept.honest_kept; counted = h.kept.counted }; failed = h.failed; done = h.done; tried = h.tried; rest = h.rest; order = h.order; outside = h.outside; within = h.within }
 
 -- the first list of devices with one that was written to

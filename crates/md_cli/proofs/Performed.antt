@@ -16,11 +16,11 @@ use Rattle.md_examine.specs.declared.sink.Sink.{Ghosts as SinkGhosts}
 use Rattle.md_state.specs.View.{Disk, disk_of}
 use Rattle.md_images.specs.Taking.{Text}
 use Rattle.md_words.specs.declared.form.CheckForm.TheVariants as check_form
-use Rattle.md_words.specs.Asks.{Ask, device_of, leaving_of, examines, examines_bitmap, examines_badblocks, creates, assembles, details, plans, reads, checks, writes, resyncs, stops, fails, removes, adds, re_adds, rebuilds}
+use Rattle.md_words.specs.Asks.{Ask, device_to_add, leaving_of, examines, examines_bitmap, examines_badblocks, creates, assembles, details, plans, reads, checks, writes, resyncs, stops, fails, removes, adds, re_adds, rebuilds}
 use Rattle.md_commands.specs.declared.fault.CommandFault.{CommandFault}
 use Rattle.md_cli.specs.declared.notices.Notices.{Notices}
 use Rattle.md_cli.specs.Asking.{PerformsOrDeclines, Question}
-use Rattle.md_cli.specs.Opened.{OpenedView, count, moves_device, place_of, with_beside}
+use Rattle.md_cli.specs.Opened.{OpenedView, count, moves_device, beside_place, with_beside}
 use Rattle.md_cli.specs.Performing.{Performs}
 use Rattle.md_cli.specs.Streams.{Streams}
 
@@ -28,7 +28,7 @@ use Rattle.md_cli.specs.Streams.{Streams}
 -- the array has its place among them, and there is one only where one may leave or join.
 pub record AllBack (ask : Ask) (before after : List Disk) (was left : Option Disk) : Type 0 where
   pub as_many : length after + count left ≡ length before + count was
-  pub within : is_some left ≡ true → place_of ask (length after) ≤ length after
+  pub within : is_some left ≡ true → beside_place ask (length after) ≤ length after
   pub moves : is_some left ≡ true → moves_device ask ≡ true
 
 none_there : {X : Type 0} (o : Option X) → is_some o ≡ false → o ≡ None
@@ -61,7 +61,7 @@ left_within k before after None h e = absurd (true≢false (sym e))
 left_within k before after (Some d) h e = let place = slice_get_within before k d h.0 in omega (arith, place, h.1)
 
 module _ {R S : Type 0} (r : SourceGhosts R) (s : SinkGhosts S) (names : List Text) (before after : OpenedView) (old new : Streams R S) where
-  pub all_kept : (ask : Ask) (result : Result (Unit {0}) CommandFault) → is_some before.beside ≡ is_some (device_of ask) → Performs r s names ask before after old new result → AllBack ask before.mirror.disks after.mirror.disks before.beside after.beside
+  pub all_kept : (ask : Ask) (result : Result (Unit {0}) CommandFault) → is_some before.beside ≡ is_some (device_to_add ask) → Performs r s names ask before after old new result → AllBack ask before.mirror.disks after.mirror.disks before.beside after.beside
   all_kept (examines form) result brings h = absurd h
   all_kept (examines_bitmap form) result brings h = absurd h
   all_kept (examines_badblocks form) result brings h = absurd h
@@ -121,12 +121,12 @@ module _ {R S : Type 0} (r : SourceGhosts R) (s : SinkGhosts S) (names : List Te
   }
 
 -- one that is to join comes last
-pub joins_last : (ask : Ask) → is_some (device_of ask) ≡ true → leaving_of ask ≡ None
+pub joins_last : (ask : Ask) → is_some (device_to_add ask) ≡ true → leaving_of ask ≡ None
 joins_last (removes k) e = absurd (true≢false (sym e))
 joins_last _ e = refl
 
 -- where the members make no array, the device that was to join comes back too
-pub refused_back : (ask : Ask) (before after : List Disk) (was : Option Disk) → is_some was ≡ is_some (device_of ask) → length after ≡ length before → AllBack ask before after was was
+pub refused_back : (ask : Ask) (before after : List Disk) (was : Option Disk) → is_some was ≡ is_some (device_to_add ask) → length after ≡ length before → AllBack ask before after was was
 refused_back ask before after was brings same = record {
   as_many = ap (λ (n : ℕ). n + count was) same;
   within = λ there. rw (joins_last ask (sym brings ∙ there)) (le_refl _);
@@ -134,7 +134,7 @@ refused_back ask before after was brings same = record {
 }
 
 -- also where it was declined
-pub all_answered : {R S : Type 0} (r : SourceGhosts R) (s : SinkGhosts S) (q : Question) (names : List Text) (n : Notices) (before after : OpenedView) (old new : Streams R S) (ask : Ask) (result : Result (Unit {0}) CommandFault) → is_some before.beside ≡ is_some (device_of ask)
+pub all_answered : {R S : Type 0} (r : SourceGhosts R) (s : SinkGhosts S) (q : Question) (names : List Text) (n : Notices) (before after : OpenedView) (old new : Streams R S) (ask : Ask) (result : Result (Unit {0}) CommandFault) → is_some before.beside ≡ is_some (device_to_add ask)
     → PerformsOrDeclines r s q names ask n before after old new result → AllBack ask before.mirror.disks after.mirror.disks before.beside after.beside
 all_answered r s q names n before after old new ask result brings (inl h) = all_kept r s names before after old new ask result brings h.performs
 all_answered r s q names n before after old new ask result brings (inr d) =
@@ -177,15 +177,15 @@ module _ {D : Type 0} (g : Ghosts D) (ask : Ask) (members given : List D) (was l
       let fits = enough (back.moves (seen_there (disk_of g) left there)) in
       omega (arith, fits, sum_is, one_counted left there)
 
-  pub within_back : is_some left ≡ true → place_of ask (length given) ≤ length given
-  within_back there = subst (λ (n : ℕ). place_of ask n ≤ n) (sym long) (back.within (seen_there (disk_of g) left there))
+  pub within_back : is_some left ≡ true → beside_place ask (length given) ≤ length given
+  within_back there = subst (λ (n : ℕ). beside_place ask n ≤ n) (sym long) (back.within (seen_there (disk_of g) left there))
 
   pub as_many_back : (all : List D) → all ≡ with_beside ask given left → length all ≡ length members + count was
   as_many_back all is = by left all is sum_is within_back
     where
-      by : (o : Option D) (ds : List D) → ds ≡ with_beside ask given o → length given + count o ≡ length members + count was → (is_some o ≡ true → place_of ask (length given) ≤ length given) → length ds ≡ length members + count was
+      by : (o : Option D) (ds : List D) → ds ≡ with_beside ask given o → length given + count o ≡ length members + count was → (is_some o ≡ true → beside_place ask (length given) ≤ length given) → length ds ≡ length members + count was
       by None ds e sum fits = ap length e ∙ sym (plus_zero (length given)) ∙ sum
-      by (Some d) ds e sum fits = ap length e ∙ length-insert given (place_of ask (length given)) d (fits refl) ∙ sum
+      by (Some d) ds e sum fits = ap length e ∙ length-insert given (beside_place ask (length given)) d (fits refl) ∙ sum
 
   pub shown_back : (all : List D) → all ≡ with_beside ask given left → map (disk_of g) all ≡ with_beside ask after (option_map (disk_of g) left)
   shown_back all is = ap (map (disk_of g)) is ∙ by left
@@ -193,5 +193,5 @@ module _ {D : Type 0} (g : Ghosts D) (ask : Ask) (members given : List D) (was l
       by : (o : Option D) → map (disk_of g) (with_beside ask given o) ≡ with_beside ask after (option_map (disk_of g) o)
       by None = are
       by (Some d) =
-          map-insert (disk_of g) given (place_of ask (length given)) d
-          ∙ ap₂ (λ (n : ℕ) (ds : List Disk). insert ds (place_of ask n) (disk_of g d)) long are
+          map-insert (disk_of g) given (beside_place ask (length given)) d
+          ∙ ap₂ (λ (n : ℕ) (ds : List Disk). insert ds (beside_place ask n) (disk_of g d)) long are

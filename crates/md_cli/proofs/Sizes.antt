@@ -8,11 +8,11 @@ use Rattle.std.proofs.lemmas.Nat.{div-mul-add}
 use Rattle.clap.specs.Words.{Text}
 use Rattle.md_state.specs.View.{Disk, disk_of}
 use Rattle.md_cli.specs.Creating.{first_size, sizes_of}
-use Rattle.md_images.specs.Taking.{is_missing}
+use Rattle.md_images.specs.Taking.{is_missing_word}
 use Rattle.md_images.proofs.Listed.{text_at, no_text}
 
 -- what the first word adds
-sizes_step : (word : Text) (words : List Text) (disks : List Disk) → sizes_of (word ∷ words) disks ≡ cond (is_missing true word) (None ∷ sizes_of words disks) (first_size disks ∷ sizes_of words (drop 1 disks))
+sizes_step : (word : Text) (words : List Text) (disks : List Disk) → sizes_of (word ∷ words) disks ≡ cond (is_missing_word true word) (None ∷ sizes_of words disks) (first_size disks ∷ sizes_of words (drop 1 disks))
 unfolding sizes_of
 sizes_step word words disks = refl
 
@@ -46,18 +46,18 @@ module _ (names : List (Bor Text)) (disks : List Disk) (sizes : List (Option ℕ
   abbrev word : Text
   word = (slice_index_or names place no_text).now
 
-  opened : sizes_of (drop place words) (drop next disks) ≡ cond (is_missing true word) (None ∷ sizes_of (drop (place + 1) words) (drop next disks)) (first_size (drop next disks) ∷ sizes_of (drop (place + 1) words) (drop 1 (drop next disks)))
+  opened : sizes_of (drop place words) (drop next disks) ≡ cond (is_missing_word true word) (None ∷ sizes_of (drop (place + 1) words) (drop next disks)) (first_size (drop next disks) ∷ sizes_of (drop (place + 1) words) (drop 1 (drop next disks)))
   opened =
       let inside : place < length words = subst (λ (n : ℕ). place < n) (sym (length-map names (λ s. s.now))) lt in
       ap (λ (ws : List Text). sizes_of ws (drop next disks)) (drop_more words place [] inside ∙ ap (λ (t : Text). t ∷ drop (place + 1) words) (text_at names place lt))
       ∙ sizes_step word (drop (place + 1) words) (drop next disks)
 
-  pub none_sized : is_missing true word ≡ true → IsSizedTo names disks (sizes ++ None ∷ []) (place + 1) next
+  pub none_sized : is_missing_word true word ≡ true → IsSizedTo names disks (sizes ++ None ∷ []) (place + 1) next
   none_sized missing =
       append_assoc sizes (None ∷ []) (sizes_of (drop (place + 1) words) (drop next disks))
       ∙ ap (λ rest. sizes ++ rest) (sym (opened ∙ ap (λ b. cond b (None ∷ sizes_of (drop (place + 1) words) (drop next disks)) (first_size (drop next disks) ∷ sizes_of (drop (place + 1) words) (drop 1 (drop next disks)))) missing)) ∙ so
 
-  pub one_sized : is_missing true word ≡ false → IsSizedTo names disks (sizes ++ first_size (drop next disks) ∷ []) (place + 1) (next + 1)
+  pub one_sized : is_missing_word true word ≡ false → IsSizedTo names disks (sizes ++ first_size (drop next disks) ∷ []) (place + 1) (next + 1)
   one_sized there =
       append_assoc sizes (first_size (drop next disks) ∷ []) (sizes_of (drop (place + 1) words) (drop (next + 1) disks))
       ∙ ap (λ ds. sizes ++ first_size (drop next disks) ∷ sizes_of (drop (place + 1) words) ds) (sym (drop_one disks next))

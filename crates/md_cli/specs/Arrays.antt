@@ -17,7 +17,7 @@ use Rattle.md_images.specs.declared.fault.ImagesFault.{ImagesFault}
 use Rattle.md_images.specs.declared.images.Images.{Ghosts as ImagesGhosts}
 use Rattle.md_images.specs.Images.{allows}
 use Rattle.md_images.specs.Taking.{ArePut, AreUnder, IsDistinct, IsThere, RefusesImages, Word, names_of}
-use Rattle.md_words.specs.Asks.{Ask, device_of, is_readonly}
+use Rattle.md_words.specs.Asks.{Ask, device_to_add, is_readonly}
 use Rattle.md_commands.specs.Faults.{of_images}
 use Rattle.md_commands.specs.declared.fault.CommandFault.{CommandFault}
 use Rattle.md_commands.specs.declared.fault.CommandFault.TheVariants.{NoMemory, Open}
@@ -31,7 +31,7 @@ use Rattle.md_cli.specs.Streams.{Told}
 -- a device that is only looked at, and over which what is written is kept in memory: no call on it has failed yet, and no
 -- stop leaves any of what is written
 abbrev pub overlaid : Disk → Disk
-overlaid d = record d { failures = 0; stops = [] }
+overlaid d = record d { failures = 0; crashes = [] }
 
 module _ {X : Type 0} where
   -- they are not opened as a mirror, and nothing is read or put out
@@ -103,7 +103,7 @@ module _ {R S : Type 0} (r : SourceGhosts R) (s : SinkGhosts S) (q : Question) (
     pub seen : Option Disk
     pub noted : Notices
     pub are : before ≡ with_last members device
-    pub brings : is_some device ≡ is_some (device_of ask)
+    pub brings : is_some device ≡ is_some (device_to_add ask)
     pub looks : NotesHeldOnJoining device seen old.notices noted
     pub done : OpensMembers members seen after (record old { notices = noted }) new result
 
@@ -150,7 +150,7 @@ module _ {R S : Type 0} (r : SourceGhosts R) (s : SinkGhosts S) (q : Question) (
 
 -- the image words, and after them the one of the image that is to join the array
 abbrev pub names_with : Ask → List Text → List Text
-names_with ask names = with_last names (device_of ask)
+names_with ask names = with_last names (device_to_add ask)
 
 -- What is done with devices, as contracts see them before and after, and with the output, or with both streams.
 abbrev pub Work : Type 0 → Type 1

@@ -25,8 +25,8 @@ Question = Notices → Result (Unit {0}) CommandFault → Type 0
 
 module _ (answered : Answers) (ask : Ask) (names : List Text) where
   -- It goes on. Where it is to be asked first, these very lines were shown, and the answer was yes.
-  abbrev pub IsAgreed : Notices → Type 0
-  IsAgreed n = asks_first ask n ≡ true → answered (first_text ask names n) true
+  abbrev pub IsConfirmed : Notices → Type 0
+  IsConfirmed n = asks_first ask n ≡ true → answered (first_text ask names n) true
 
   -- why it does not: the answer was no, or there was no memory for the lines
   abbrev pub IsWhyNot : Notices → CommandFault → Type 0
@@ -39,7 +39,7 @@ module _ (answered : Answers) (ask : Ask) (names : List Text) where
     pub why : IsWhyNot n fault
 
   abbrev pub question : Question
-  question n result = MatchResult result (λ _. IsAgreed n) (IsDeclined n)
+  question n result = MatchResult result (λ _. IsConfirmed n) (IsDeclined n)
 
 -- the question that a session's watch is asked
 abbrev pub question_of : {T R S W : Type 0} → AskerGhosts W → Session T R S W → Ask → List Text → Question
@@ -57,7 +57,7 @@ pub record Declines {V X : Type 0} (q : Question) (n : Notices) (before after : 
 module _ {R S : Type 0} (r : SourceGhosts R) (s : SinkGhosts S) (q : Question) (names : List Text) (ask : Ask)
     (n : Notices) where
   -- it goes on, and is done or refused
-  pub record GoesOn (before after : OpenedView) (old new : Streams R S)
+  pub record GoesOnAgreed (before after : OpenedView) (old new : Streams R S)
       (result : Result (Unit {0}) CommandFault) : Type 0 where
     pub agreed : q n (Ok tt)
     pub performs : Performs r s names ask before after old new result
@@ -67,4 +67,4 @@ module _ {R S : Type 0} (r : SourceGhosts R) (s : SinkGhosts S) (q : Question) (
   abbrev pub PerformsOrDeclines : OpenedView → OpenedView → Streams R S → Streams R S
       → Result (Unit {0}) CommandFault → Type 0
   PerformsOrDeclines before after old new result =
-      GoesOn before after old new result ⊎ Declines q n before after old new result
+      GoesOnAgreed before after old new result ⊎ Declines q n before after old new result

@@ -19,24 +19,24 @@ abbrev pub set_name_of : Text → Option (List ℕ)
 set_name_of name = if nat_lt 32 (length name) then None else Some (name ++ replicate (32 - length name) 0)
 
 -- KiB in bytes, which are to fit 32 bits
-abbrev pub bytes_of : ℕ → Option ℕ
-bytes_of kib = if nat_lt (1024 * kib) (2 ^ 32) then Some (1024 * kib) else None
+abbrev pub bytes_of_kib : ℕ → Option ℕ
+bytes_of_kib kib = if nat_lt (1024 * kib) (2 ^ 32) then Some (1024 * kib) else None
 
 -- KiB in sectors, which are to fit 64 bits
-abbrev pub sectors_of : Option ℕ → Option (Option ℕ)
-sectors_of None = Some None
-sectors_of (Some kib) = if nat_lt (2 * kib) (2 ^ 64) then Some (Some (2 * kib)) else None
+abbrev pub sectors_of_kib : Option ℕ → Option (Option ℕ)
+sectors_of_kib None = Some None
+sectors_of_kib (Some kib) = if nat_lt (2 * kib) (2 ^ 64) then Some (Some (2 * kib)) else None
 
 -- why the options are refused with so many image words, looked for in this order
-unfoldable pub option_fault : Options → ℕ → Option OptionFault
-option_fault o count =
+unfoldable pub create_option_fault : Options → ℕ → Option OptionFault
+create_option_fault o count =
     first_fault (
     check (is_raid1 o.level) BadLevel
     ∷ check (is_some (parsed o.uuid)) BadUuid
     ∷ check (is_some (set_name_of o.name)) BadName
     ∷ check (count == o.raid_devices) BadCount
-    ∷ check (is_some (bytes_of o.bitmap_chunk)) BadChunk
-    ∷ check (is_some (sectors_of o.size)) BadSize
+    ∷ check (is_some (bytes_of_kib o.bitmap_chunk)) BadChunk
+    ∷ check (is_some (sectors_of_kib o.size)) BadSize
     ∷ [])
 
 -- what the array is to be made from
@@ -44,7 +44,7 @@ pub record AreParamsOf (o : Options) (p : CreateParams) : Type 0 where
   pub set_uuid : Some p.set_uuid ≡ parsed o.uuid
   pub name : Some p.name ≡ set_name_of o.name
   pub ctime : p.ctime ≡ o.time
-  pub size : Some p.size ≡ sectors_of o.size
-  pub chunk_bytes : Some p.chunk_bytes ≡ bytes_of o.bitmap_chunk
+  pub size : Some p.size ≡ sectors_of_kib o.size
+  pub chunk_bytes : Some p.chunk_bytes ≡ bytes_of_kib o.bitmap_chunk
   pub assume_clean : p.assume_clean ≡ o.assume_clean
   pub write_mostly : p.write_mostly ≡ o.write_mostly

@@ -17,7 +17,7 @@ use Rattle.md_cli.specs.Arrays.{ShowsDevices}
 use Rattle.md_cli.specs.Holding.{NotesHeldOnEach}
 use Rattle.md_cli.specs.Asking.{Declines, Question}
 use Rattle.md_cli.specs.Streams.{Told}
-use Rattle.md_images.specs.Taking.{Word, image_list, is_missing}
+use Rattle.md_images.specs.Taking.{Word, image_list, is_missing_word}
 
 -- the sectors of a device
 abbrev pub sectors_on : Disk → ℕ
@@ -32,7 +32,7 @@ first_size (d ∷ ds) = Some (sectors_on d)
 unfoldable pub sizes_of : List Text → List Disk → List (Option ℕ)
 sizes_of [] disks = []
 sizes_of (word ∷ words) disks =
-    if is_missing true word then None ∷ sizes_of words disks
+    if is_missing_word true word then None ∷ sizes_of words disks
     else first_size disks ∷ sizes_of words (drop 1 disks)
 
 -- device k before and after
@@ -45,8 +45,8 @@ At Related before after members k =
 abbrev pub LaysOut : Disk → Disk → NewMember → Type 0
 LaysOut d e m = DoesWrites of_disks (writes_of m) d e
 
-abbrev pub FailsToLayOut : Disk → Disk → NewMember → Type 0
-FailsToLayOut d e m = FailsInWrites of_disks (writes_of m) d e
+abbrev pub FailsInLayout : Disk → Disk → NewMember → Type 0
+FailsInLayout d e m = FailsInWrites of_disks (writes_of m) d e
 
 -- the first n members are laid out, each on its device, and nothing is done to the devices after the n-th
 pub record AreLaidOut (before after : List Disk) (members : List NewMember) (n : ℕ) : Type 0 where
@@ -80,13 +80,13 @@ module _ (params : CreateParams) (words : List Text) where
 
 module _ {S : Type 0} (s : Ghosts S) (list : List Word) (members : List NewMember) where
   -- A write fails while a member is laid out, which is named by the place of its image word.
-  pub record StopsOnDevice (before after : List Disk) (old new : S)
+  pub record FailsOnDevice (before after : List Disk) (old new : S)
       (result : Result (Unit {0}) CommandFault) : Type 0 where
     pub place : ℕ
     pub within : place < length before
     pub is : result ≡ Err (fault.MetadataFault (slice_index_or list place (0, [])).0)
     pub laid_out : AreLaidOut before after members place
-    pub stopped : At FailsToLayOut before after members place
+    pub stopped : At FailsInLayout before after members place
     pub unwritten : new ≡ old
 
   -- All members are laid out, and the devices are opened and shown in a line.
@@ -98,7 +98,7 @@ module _ {S : Type 0} (s : Ghosts S) (list : List Word) (members : List NewMembe
 
   abbrev pub LaysOutOn : List Disk → List Disk → S → S → Result (Unit {0}) CommandFault → Type 0
   LaysOutOn before after old new result =
-      StopsOnDevice before after old new result ⊎ LaysOutAll before after old new result
+      FailsOnDevice before after old new result ⊎ LaysOutAll before after old new result
 
 -- The members are laid out, where the question allows it.
 pub record LaysOutAgreed {S : Type 0} (s : Ghosts S) (q : Question) (n : Notices) (list : List Word)

@@ -7,7 +7,7 @@ use Rattle.md_bitmap.specs.Marks.{Bitmap as BitmapValue}
 use Rattle.md_members.specs.declared.info.MemberInfo.{MemberInfo}
 use Rattle.md_members.specs.declared.fault.MemberFault.TheVariants as member
 use Rattle.md_members.specs.Reading.{IsRead, ReadsSuper, RefusesSuper}
-use Rattle.md_members.specs.Members.{IsMember, RefusesMember}
+use Rattle.md_members.specs.Members.{IsReadMember, RefusesMember}
 use Rattle.md_examine.specs.Sink.{Puts}
 use Rattle.md_examine.specs.SuperblockReport.{examine_text}
 use Rattle.md_examine.specs.BitmapReport.{bitmap_report}
@@ -18,10 +18,10 @@ use Rattle.md_examine.specs.LogFields.{log_all_text}
 use Rattle.md_examine.specs.declared.super_fields.Found.{Found}
 use Rattle.md_json.specs.BadblocksObject.{badblocks_object}
 use Rattle.md_json.specs.BitmapObject.{bitmap_object}
-use Rattle.md_json.specs.Objects.{line_of}
+use Rattle.md_json.specs.Objects.{object_line}
 use Rattle.md_json.specs.SuperblockObject.{superblock_object}
 use Rattle.md_raw_members.specs.Elsewhere.{FindsElsewhere}
-use Rattle.md_raw_members.specs.Raw.{IsArea, IsBitmapSector, RefusesBitmap, RefusesBytes, RefusesLog}
+use Rattle.md_raw_members.specs.Raw.{IsArea, IsBitmapSector, RefusesRawBitmap, RefusesRawSuper, RefusesRawLog}
 use Rattle.md_raw_members.specs.declared.fault.RawFault.{RawFault}
 use Rattle.md_raw_members.specs.declared.fault.RawFault.TheVariants as raw
 use Rattle.md_words.specs.Asks.{Ask, examines, examines_badblocks, examines_bitmap}
@@ -66,17 +66,17 @@ abbrev pub ShownBy : Ask → List ℕ → Bool → Type 0 → List ℕ → Type 
 ShownBy (examines image_form.Text) content honest Failed text =
     (v : SuperblockValue) × ReadsSuper content honest v × (text ≡ examine_text v)
 ShownBy (examines_bitmap image_form.Text) content honest Failed text =
-    (info : MemberInfo) × (h : BitmapHeader) × (m : BitmapValue) × IsMember content honest info
+    (info : MemberInfo) × (h : BitmapHeader) × (m : BitmapValue) × IsReadMember content honest info
     × (info.header ≡ Some h) × (info.marks ≡ Some m) × (text ≡ bitmap_report h m)
 ShownBy (examines_badblocks image_form.Text) content honest Failed text =
-    (info : MemberInfo) × IsMember content honest info × (text ≡ badblocks_report info.bad)
+    (info : MemberInfo) × IsReadMember content honest info × (text ≡ badblocks_report info.bad)
 ShownBy (examines image_form.Json) content honest Failed text =
-    (v : SuperblockValue) × ReadsSuper content honest v × (text ≡ line_of (superblock_object v))
+    (v : SuperblockValue) × ReadsSuper content honest v × (text ≡ object_line (superblock_object v))
 ShownBy (examines_bitmap image_form.Json) content honest Failed text =
-    (info : MemberInfo) × (h : BitmapHeader) × (m : BitmapValue) × IsMember content honest info
-    × (info.header ≡ Some h) × (info.marks ≡ Some m) × (text ≡ line_of (bitmap_object h m))
+    (info : MemberInfo) × (h : BitmapHeader) × (m : BitmapValue) × IsReadMember content honest info
+    × (info.header ≡ Some h) × (info.marks ≡ Some m) × (text ≡ object_line (bitmap_object h m))
 ShownBy (examines_badblocks image_form.Json) content honest Failed text =
-    (info : MemberInfo) × IsMember content honest info × (text ≡ line_of (badblocks_object info.bad))
+    (info : MemberInfo) × IsReadMember content honest info × (text ≡ object_line (badblocks_object info.bad))
 ShownBy (examines image_form.Raw) content honest Failed text = ShowsSuper content honest Failed text
 ShownBy (examines_bitmap image_form.Raw) content honest Failed text = ShowsBitmap content honest text
 ShownBy (examines_badblocks image_form.Raw) content honest Failed text = ShowsLog content honest text
@@ -98,22 +98,22 @@ RefusedBy (examines image_form.Text) content honest Failed (Member f) = RefusesS
 RefusedBy (examines_bitmap image_form.Text) content honest Failed (Member f) =
     RefusesMember content honest Failed f
 RefusedBy (examines_bitmap image_form.Text) content honest Failed NoBitmap =
-    (info : MemberInfo) × IsMember content honest info × ((info.header ≡ None) ⊎ (info.marks ≡ None))
+    (info : MemberInfo) × IsReadMember content honest info × ((info.header ≡ None) ⊎ (info.marks ≡ None))
 RefusedBy (examines_badblocks image_form.Text) content honest Failed (Member f) =
     RefusesMember content honest Failed f
 RefusedBy (examines image_form.Json) content honest Failed (Member f) = RefusesSuper content honest Failed f
 RefusedBy (examines_bitmap image_form.Json) content honest Failed (Member f) =
     RefusesMember content honest Failed f
 RefusedBy (examines_bitmap image_form.Json) content honest Failed NoBitmap =
-    (info : MemberInfo) × IsMember content honest info × ((info.header ≡ None) ⊎ (info.marks ≡ None))
+    (info : MemberInfo) × IsReadMember content honest info × ((info.header ≡ None) ⊎ (info.marks ≡ None))
 RefusedBy (examines_badblocks image_form.Json) content honest Failed (Member f) =
     RefusesMember content honest Failed f
 RefusedBy (examines image_form.Raw) content honest Failed fault =
-    IsRaw (RefusesBytes content honest Failed) fault
+    IsRaw (RefusesRawSuper content honest Failed) fault
 RefusedBy (examines_bitmap image_form.Raw) content honest Failed fault =
-    IsRaw (RefusesBitmap content honest Failed) fault
+    IsRaw (RefusesRawBitmap content honest Failed) fault
 RefusedBy (examines_badblocks image_form.Raw) content honest Failed fault =
-    IsRaw (RefusesLog content honest Failed) fault
+    IsRaw (RefusesRawLog content honest Failed) fault
 RefusedBy _ content honest Failed _ = ⊥
 
 -- a refusal, before which nothing is written, or an output that failed while a report was written

@@ -5,7 +5,7 @@ use Rattle.md_kept_members.specs.View.{MemberView}
 use Rattle.md_notices.specs.declared.noticing.Asked.{Asked}
 use Rattle.md_assembly.specs.declared.state.MemberState.{MemberState}
 use Rattle.md_assembly.specs.States.{is_spare}
-use Rattle.md_notices.specs.Noticing.{AreMarked, AreUnnamed, all_dropped, all_parted, all_states, in_sync_count}
+use Rattle.md_notices.specs.Noticing.{WereMarkedAtOpening, AreUnnamed, all_dropped, all_parted, all_states, in_sync_count}
 use Rattle.md_notices.specs.Parting.{IsFirstInSync, NoneInSync}
 use Rattle.md_words.specs.Asks.{Ask, failing_of, leaving_of, overwritten_by, tells_parted}
 use Rattle.md_words.specs.declared.overwritten.Overwritten.{Overwritten}
@@ -40,7 +40,7 @@ parted_members ask members = if tells_parted ask then all_parted members else re
 -- As the array was opened, where what the device holds that is to join it was noted before. That is no device which misses, where
 -- it is of the array.
 pub record NotesOpening (ask : Ask) (a : ArrayView) (old n : Notices) : Type 0 where
-  pub marked : AreMarked a.members n.marked
+  pub marked : WereMarkedAtOpening a.members n.marked
   pub alone : n.alone ≡ (if in_sync_count a.members == 1 then n.source else None)
   pub parted : n.parted ≡ parted_members ask a.members
   pub source : MatchOption n.source (NoneInSync a.members (length a.members)) (IsFirstInSync a.members)

@@ -1,7 +1,7 @@
 -- What commands do with an opened array.
 use Rattle.std.specs.Prelude.{◌≡◌, ℕ, Bool, true, false, List, Some, Result, MatchResult}
 use Rattle.md_commands.specs.declared.source.Source.{Ghosts as SourceGhosts}
-use Rattle.md_commands.specs.Adding.{AddsDevice, KeepsDevice, RefusesToAdd}
+use Rattle.md_commands.specs.Adding.{AddsDevice, KeepsDevice, RefusesAddedDevice}
 use Rattle.md_commands.specs.Checking.{ChecksMembers, ListsMismatches, RefusesToCheck, RefusesToList}
 use Rattle.md_commands.specs.Failing.{RefusesToFail}
 use Rattle.md_commands.specs.Filling.{ReadsFilled}
@@ -41,11 +41,11 @@ module _ {S : Type 0} (s : SinkGhosts S) where
       (RefusesReadonly s sector count before.mirror after.mirror old new)
 
   -- the same, or with zeros in the place of sectors that are not given; then which these are is noted, where all are put out
-  abbrev pub ReadsSectors : {R : Type 0} → ℕ → ℕ → Bool → Bool → OpenedView → OpenedView → Streams R S
+  abbrev pub PerformsRead : {R : Type 0} → ℕ → ℕ → Bool → Bool → OpenedView → OpenedView → Streams R S
       → Streams R S → Result (Unit {0}) CommandFault → Type 0
-  ReadsSectors sector count false readonly before after old new result =
+  PerformsRead sector count false readonly before after old new result =
       ShowsSectors sector count readonly before after old.output new.output result
-  ReadsSectors sector count true readonly before after old new result =
+  PerformsRead sector count true readonly before after old new result =
       ReadsFilled s readonly sector count before.mirror after.mirror old.output new.output new.missing result
 
   -- The members in sync are compared, and in how many chunks two differ is put out, or which these are.
@@ -65,7 +65,7 @@ module _ {S : Type 0} (s : SinkGhosts S) where
       (RefusesToList s before.mirror after.mirror old new)
 
   -- Member k leaves, and then the array is stopped and shown. Its device stands beside the array then.
-  pub record Removes (k : ℕ) (before after : OpenedView) (old new : S)
+  pub record PerformsRemove (k : ℕ) (before after : OpenedView) (old new : S)
       (result : Result (Unit {0}) CommandFault) : Type 0 where
     pub handed_back : HandsBack k before.mirror.disks after.mirror.disks after.beside
     pub removes : MatchResult result
@@ -73,17 +73,17 @@ module _ {S : Type 0} (s : SinkGhosts S) where
         (RefusesToRemove s k before.mirror after.mirror old new)
 
   -- The device beside the array joins it, and then the array is stopped and shown. If it does not join, it stands there again.
-  pub record Adds (before after : OpenedView) (old new : S)
+  pub record PerformsAdd (before after : OpenedView) (old new : S)
       (result : Result (Unit {0}) CommandFault) : Type 0 where
     pub device : Disk
     pub is : before.beside ≡ Some device
     pub kept : KeepsDevice before.mirror.disks after.mirror.disks after.beside
     pub adds : MatchResult result
         (λ _. StopsArrayAfter s (AddsDevice device before.mirror) after.mirror old new)
-        (RefusesToAdd s device after.beside before.mirror after.mirror old new)
+        (RefusesAddedDevice s device after.beside before.mirror after.mirror old new)
 
   -- it comes back, and gets what it lacks
-  pub record ReAdds (before after : OpenedView) (old new : S)
+  pub record PerformsReAdd (before after : OpenedView) (old new : S)
       (result : Result (Unit {0}) CommandFault) : Type 0 where
     pub device : Disk
     pub is : before.beside ≡ Some device
@@ -111,7 +111,7 @@ module _ {R S : Type 0} (r : SourceGhosts R) (s : SinkGhosts S) (names : List Te
       (RefusesToPlan s before.mirror.array k old.output new.output)
   Performs (reads sector count fill readonly) before after old new result =
       (after.beside ≡ before.beside) × (new.input ≡ old.input)
-      × ReadsSectors s sector count fill readonly before after old new result
+      × PerformsRead s sector count fill readonly before after old new result
   Performs (checks form readonly) before after old new result =
       (after.beside ≡ before.beside) × (new.input ≡ old.input)
       × ShowsMismatches s form names before after old.output new.output result
@@ -136,11 +136,11 @@ module _ {R S : Type 0} (r : SourceGhosts R) (s : SinkGhosts S) (names : List Te
       (λ _. StopsArrayAfter s (FailsMember k before.mirror) after.mirror old.output new.output)
       (RefusesToFail s k before.mirror after.mirror old.output new.output)
   Performs (removes k) before after old new result =
-      (new.input ≡ old.input) × Removes s k before after old.output new.output result
+      (new.input ≡ old.input) × PerformsRemove s k before after old.output new.output result
   Performs (adds name) before after old new result =
-      (new.input ≡ old.input) × Adds s before after old.output new.output result
+      (new.input ≡ old.input) × PerformsAdd s before after old.output new.output result
   Performs (re_adds name) before after old new result =
-      (new.input ≡ old.input) × ReAdds s before after old.output new.output result
+      (new.input ≡ old.input) × PerformsReAdd s before after old.output new.output result
   Performs (rebuilds k) before after old new result =
       (after.beside ≡ before.beside) × (new.input ≡ old.input)
       × MatchResult result

@@ -13,7 +13,7 @@ use Rattle.md_commands.specs.declared.source.Source.{Ghosts as SourceGhosts}
 use Rattle.md_examine.specs.declared.sink.Sink.{Ghosts as SinkGhosts}
 use Rattle.md_cli.specs.Asking.{Answers, question}
 use Rattle.md_cli.specs.Arrays.{KeepsImages, UsesImages, WorksOn, names_with}
-use Rattle.md_cli.specs.CreateOptions.{AreParamsOf, option_fault}
+use Rattle.md_cli.specs.CreateOptions.{AreParamsOf, create_option_fault}
 use Rattle.md_cli.specs.Creating.{CreatesOn}
 use Rattle.md_cli.specs.Examining.{ExaminesOne}
 use Rattle.md_cli.specs.declared.notices.Notices.{Notices}
@@ -27,14 +27,14 @@ status_of (Ok _) = 0
 status_of (Err _) = 1
 
 -- nothing is done: no image is touched, nothing is read from the input, and nothing is written to the output
-abbrev pub IsIdle : {I X : Type 0} → I → I → X → X → Type 0
-IsIdle before after old new = (after ≡ before) × (new ≡ old)
+abbrev pub IsAllUntouched : {I X : Type 0} → I → I → X → X → Type 0
+IsAllUntouched before after old new = (after ≡ before) × (new ≡ old)
 
 module _ {I D S : Type 0} (i : ImagesGhosts I D) (g : DeviceGhosts D) (s : SinkGhosts S) where
   -- a report on one image
   pub record ExaminesImage (ask : Ask) (words : List Text) (before after : I) (old new : S)
       (result : Result (Unit {0}) CommandFault) : Type 0 where
-    pub count : length words ≢ 1 → (result ≡ Err fault.BadCount) × IsIdle before after old new
+    pub count : length words ≢ 1 → (result ≡ Err fault.BadCount) × IsAllUntouched before after old new
     pub one : (name : Text) → words ≡ name ∷ []
         → ExaminesOne ask g s.contents s.failed (i.known before) (i.device_at before) (i.device_at after) name
         old new result
@@ -43,16 +43,16 @@ module _ {I D S : Type 0} (i : ImagesGhosts I D) (g : DeviceGhosts D) (s : SinkG
 pub record RefusesOptions {I X : Type 0} (o : Options) (words : List Text) (before after : I) (old new : X)
     (result : Result (Unit {0}) CommandFault) : Type 0 where
   pub first : OptionFault
-  pub is_first : option_fault o (length words) ≡ Some first
+  pub is_first : create_option_fault o (length words) ≡ Some first
   pub refused : result ≡ Err (fault.Options first)
-  pub idle : IsIdle before after old new
+  pub idle : IsAllUntouched before after old new
 
 module _ {I D R S : Type 0} (i : ImagesGhosts I D) (g : DeviceGhosts D) (s : SinkGhosts S)
     (answered : Answers) where
   -- an array is made: the options are refused, or they say what it is made from
   pub record Creates (o : Options) (words : List Text) (before after : I) (old new : Told R S)
       (result : Result (Unit {0}) CommandFault) : Type 0 where
-    pub sound : option_fault o (length words) ≡ None
+    pub sound : create_option_fault o (length words) ≡ None
     pub params : CreateParams
     pub params_are : AreParamsOf o params
     pub done : UsesImages i g (CreatesOn s (question answered (creates o) words) params words) Change
@@ -74,19 +74,19 @@ module _ {I D R S : Type 0} (i : ImagesGhosts I D) (g : DeviceGhosts D) (r : Sou
         (access_of ask) (image_list false (names_with ask words)) before after old new result
 
   -- What each command does with the images that its words name. The input is read by `write` alone.
-  abbrev pub Does : Ask → List Text → I → I → Told R S → Told R S → Result (Unit {0}) CommandFault → Type 0
-  Does (examines form) words before after old new result =
+  abbrev pub DoesAsked : Ask → List Text → I → I → Told R S → Told R S → Result (Unit {0}) CommandFault → Type 0
+  DoesAsked (examines form) words before after old new result =
       (new.streams.input ≡ old.streams.input)
       × ExaminesImage i g s (examines form) words before after old.streams.output new.streams.output result
-  Does (examines_bitmap form) words before after old new result =
+  DoesAsked (examines_bitmap form) words before after old new result =
       (new.streams.input ≡ old.streams.input) × ExaminesImage i g s (examines_bitmap form) words before after
       old.streams.output new.streams.output result
-  Does (examines_badblocks form) words before after old new result =
+  DoesAsked (examines_badblocks form) words before after old new result =
       (new.streams.input ≡ old.streams.input) × ExaminesImage i g s (examines_badblocks form) words before
       after old.streams.output new.streams.output result
-  Does (creates o) words before after old new result =
+  DoesAsked (creates o) words before after old new result =
       MakesArray i g s answered o words before after old new result
-  Does ask words before after old new result = OpensArray ask words before after old new result
+  DoesAsked ask words before after old new result = OpensArray ask words before after old new result
 
   -- the command's own answer, whose status this is, and what it noticed, which is told beside it
   pub record DoesCommand (telling : Result (Unit {0}) CommandFault → Notices → Type 0) (ask : Ask)
@@ -94,6 +94,6 @@ module _ {I D R S : Type 0} (i : ImagesGhosts I D) (g : DeviceGhosts D) (r : Sou
     pub result : Result (Unit {0}) CommandFault
     pub status_is : status ≡ status_of result
     pub noticed : Notices
-    pub does : Does ask words before after (record { streams = old; notices = nothing })
+    pub does : DoesAsked ask words before after (record { streams = old; notices = nothing })
         (record { streams = new; notices = noticed }) result
     pub told : telling result noticed

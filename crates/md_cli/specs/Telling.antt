@@ -10,10 +10,10 @@ use Rattle.md_examine.specs.declared.sink.Sink.{Ghosts}
 use Rattle.md_held.specs.declared.held.Held.{Held}
 use Rattle.md_held.specs.declared.held.Held.TheVariants.{Nothing, Unseen, Member, Signed}
 use Rattle.md_held.specs.Holding.{is_unseen}
-use Rattle.md_images.specs.Taking.{is_missing}
-use Rattle.md_notices.specs.Lines.{dropped_text, forgotten_text, held_text, lost_text, marked_text, parted_text, standing_text, uncompared_text, unnamed_text, unseen_text}
+use Rattle.md_images.specs.Taking.{is_missing_word}
+use Rattle.md_notices.specs.Lines.{dropped_text, forgotten_text, held_text, lost_text, marked_line_text, parted_text, identity_text, uncompared_text, unnamed_text, unseen_text}
 use Rattle.md_signatures.specs.Texts.{text_of}
-use Rattle.md_words.specs.Asks.{Ask, adds, checks, device_of, overwritten_by}
+use Rattle.md_words.specs.Asks.{Ask, adds, checks, device_to_add, overwritten_by}
 use Rattle.md_words.specs.declared.overwritten.Overwritten.{Overwritten}
 use Rattle.md_words.specs.declared.overwritten.Overwritten.TheVariants as overwritten
 use Rattle.md_cli.specs.declared.messages.Messages.{Messages}
@@ -35,13 +35,13 @@ is_at_terminal WithAdvice = false
 is_at_terminal AtTerminal = true
 
 -- the line of a name that is there
-abbrev pub line_of : (Text → List ℕ) → Option Text → List ℕ
-line_of line None = []
-line_of line (Some name) = line name
+abbrev pub line_of_name : (Text → List ℕ) → Option Text → List ℕ
+line_of_name line None = []
+line_of_name line (Some name) = line name
 
 -- The line of the member in a place, where it gets one.
 abbrev pub line_at : (Text → List ℕ) → List Bool → List Text → ℕ → List ℕ
-line_at line which names k = if get_or which k false then line_of line (slice_get names k) else []
+line_at line which names k = if get_or which k false then line_of_name line (slice_get names k) else []
 
 -- the name of the member in a place, where there is one
 abbrev pub name_in : List Text → Option ℕ → Option Text
@@ -50,7 +50,7 @@ name_in names (Some k) = slice_get names k
 
 -- ---- marks that were stored
 abbrev pub marked_at : Notices → List Text → ℕ → List ℕ
-marked_at n = line_at marked_text n.marked
+marked_at n = line_at marked_line_text n.marked
 
 -- ---- members that were used without those in sync, of which one is named
 abbrev pub parted_from : Option Text → Text → List ℕ
@@ -61,13 +61,13 @@ abbrev pub parted_line : Notices → List Text → Text → List ℕ
 parted_line n names = parted_from (name_in names n.source)
 
 -- The member in this place is the one that was asked of.
-abbrev pub is_place : Option ℕ → ℕ → Bool
-is_place None k = false
-is_place (Some j) k = j == k
+abbrev pub is_asked_place : Option ℕ → ℕ → Bool
+is_asked_place None k = false
+is_asked_place (Some j) k = j == k
 
 -- The line on a member that was used without those in sync, but for the one that was asked of before.
-abbrev pub parted_at : Option ℕ → Notices → List Text → ℕ → List ℕ
-parted_at before n names k = if is_place before k then [] else line_at (parted_line n names) n.parted names k
+abbrev pub parted_line_at : Option ℕ → Notices → List Text → ℕ → List ℕ
+parted_line_at before n names k = if is_asked_place before k then [] else line_at (parted_line n names) n.parted names k
 
 -- ---- devices that were not named
 abbrev pub unnamed_line : Option ℕ → ℕ → List ℕ
@@ -81,14 +81,14 @@ unnamed_at n role = unnamed_line (get_or n.unnamed role None) role
 abbrev pub dropped_line : Notices → Text → List ℕ
 dropped_line n name = dropped_text name n.in_sync n.raid_disks
 
-abbrev pub dropped_at : Notices → List Text → ℕ → List ℕ
-dropped_at n = line_at (dropped_line n) n.dropped
+abbrev pub dropped_line_at : Notices → List Text → ℕ → List ℕ
+dropped_line_at n = line_at (dropped_line n) n.dropped
 
 -- ---- what images hold
 abbrev pub held_line : Text → Held → List ℕ
 held_line name Nothing = []
 held_line name Unseen = unseen_text name
-held_line name (Member v) = standing_text name v
+held_line name (Member v) = identity_text name v
 held_line name (Signed s) = held_text name (text_of s)
 
 abbrev pub held_line_of : Text → Option Held → List ℕ
@@ -106,11 +106,11 @@ returning_line n names name = if is_unseen n.held then unseen_text name else par
 -- Of the images of which an array is made. Words that stand for a missing member have none: this is the place among the images of
 -- the one that the word names in this place.
 abbrev pub place_among : List Text → ℕ → ℕ
-place_among names k = count_by (λ name. not (is_missing true name)) (take k names)
+place_among names k = count_by (λ name. not (is_missing_word true name)) (take k names)
 
 abbrev pub each_at : List Held → List Text → ℕ → List ℕ
 each_at each names k =
-    if is_missing true (get_or names k []) then []
+    if is_missing_word true (get_or names k []) then []
     else held_line_of (get_or names k []) (slice_get each (place_among names k))
 
 abbrev pub each_lines : List Held → List Text → List ℕ
@@ -120,13 +120,13 @@ each_lines each names = flat_map (each_at each names) (range_with_len 0 (length 
 unfoldable pub first_by : Overwritten → Option Text → List Text → Notices → List ℕ
 first_by overwritten.Nothing device names n = []
 first_by overwritten.Images device names n = each_lines (held_each n.each) names
-first_by overwritten.NewDevice device names n = line_of (new_line n) device
-first_by overwritten.ReturningDevice device names n = line_of (returning_line n names) device
-first_by (overwritten.Member k) device names n = line_of (parted_line n names) (slice_get names k)
+first_by overwritten.NewDevice device names n = line_of_name (new_line n) device
+first_by overwritten.ReturningDevice device names n = line_of_name (returning_line n names) device
+first_by (overwritten.Member k) device names n = line_of_name (parted_line n names) (slice_get names k)
 
 abbrev pub first_text : Ask → List Text → Notices → List ℕ
 first_text ask names n =
-    if asks_first ask n then first_by (overwritten_by ask) (device_of ask) names n else []
+    if asks_first ask n then first_by (overwritten_by ask) (device_to_add ask) names n else []
 
 -- the member that was asked of
 abbrev pub asked_member : Overwritten → Bool → Option ℕ
@@ -138,13 +138,13 @@ abbrev pub marked_lines : List Text → Notices → List ℕ
 marked_lines names n = flat_map (marked_at n names) (range_with_len 0 64)
 
 abbrev pub parted_lines : Option ℕ → List Text → Notices → List ℕ
-parted_lines before names n = flat_map (parted_at before n names) (range_with_len 0 64)
+parted_lines before names n = flat_map (parted_line_at before n names) (range_with_len 0 64)
 
 abbrev pub unnamed_lines : Notices → List ℕ
 unnamed_lines n = flat_map (unnamed_at n) (range_with_len 0 32)
 
 abbrev pub dropped_lines : List Text → Notices → List ℕ
-dropped_lines names n = flat_map (dropped_at n names) (range_with_len 0 64)
+dropped_lines names n = flat_map (dropped_line_at n names) (range_with_len 0 64)
 
 -- At a terminal what was said before is not said again.
 abbrev pub first_unless : Messages → Ask → List Text → Notices → List ℕ
@@ -159,7 +159,7 @@ noticed_text messages ask names n =
 
 -- a check that is done compared nothing, where one member is in sync alone
 abbrev pub uncompared_lines : Ask → List Text → Notices → List ℕ
-uncompared_lines (checks form readonly) names n = line_of uncompared_text (name_in names n.alone)
+uncompared_lines (checks form readonly) names n = line_of_name uncompared_text (name_in names n.alone)
 uncompared_lines ask names n = []
 
 -- what an image held that was added is lost
@@ -189,8 +189,8 @@ PutsTold e old new text = Puts e.contents e.failed old new text ⊎ (e.failed ne
 
 -- What standard error is told of what was noticed. Of a command that is refused nothing more is said here than that it is told last,
 -- where more is told of a fault than its line.
-abbrev pub Tells : {E : Type 0} → Ghosts E → Messages → Ask → List Text → E → E
+abbrev pub TellsNoticed : {E : Type 0} → Ghosts E → Messages → Ask → List Text → E → E
     → Result (Unit {0}) CommandFault → Notices → Type 0
-Tells e messages ask names old new (Ok _) n = PutsTold e old new (told_text messages ask names n)
-Tells {E = E} e messages ask names old new (Err why) n =
+TellsNoticed e messages ask names old new (Ok _) n = PutsTold e old new (told_text messages ask names n)
+TellsNoticed {E = E} e messages ask names old new (Err why) n =
     has_advice messages ≡ true → (mid : E) × PutsTold e mid new (refused_text messages ask names n why)

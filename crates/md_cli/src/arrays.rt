@@ -1,7 +1,7 @@
 // The commands that open the array that images make.
 ghost use Rattle.std.specs.Prelude.{◌≡◌, ◌<◌, ◌++◌, ◌∷◌, [], IfOk, false, is_some, length, true};
 ghost use Rattle.md_images.specs.Taking.{image_list};
-ghost use Rattle.md_words.specs.Asks.{access_of, ask_of, device_of, is_readonly, opens_array};
+ghost use Rattle.md_words.specs.Asks.{access_of, ask_of, device_to_add, is_readonly, opens_array};
 ghost use Rattle.md_cli.specs.Arrays.{KeepsImages, UsesImages, WorksOn, names_with, texts};
 ghost use Rattle.md_cli.specs.Asking.{question_of};
 ghost use Rattle.md_cli.specs.Streams.{told_of};
@@ -83,7 +83,7 @@ fn with_images<
     notices: &mut Notices,
 ) -> Result<(), CommandFault>
     requires opens { opens_array (ask_of command) ≡ true }
-    requires brings { is_some (device_of (ask_of command)) ≡ true → 0 < length names.now }
+    requires brings { is_some (device_to_add (ask_of command)) ≡ true → 0 < length names.now }
     ensures gives { UsesImages I.Images I.Dev.Device
         (WorksOn R.Source S.Sink
         (question_of W.Asker session.old (ask_of command.entry) (texts names.now)) (texts names.now)

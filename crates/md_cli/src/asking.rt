@@ -1,7 +1,7 @@
 // Commands that may be asked first.
 ghost use Rattle.std.specs.Prelude.{◌≡◌, IfOk, is_some, true};
 ghost use Rattle.md_array.specs.Consistency.{IsConsistent};
-ghost use Rattle.md_words.specs.Asks.{ask_of, device_of, opens_array};
+ghost use Rattle.md_words.specs.Asks.{ask_of, device_to_add, opens_array};
 ghost use Rattle.md_cli.specs.Arrays.{texts};
 ghost use Rattle.md_cli.specs.Asking.{PerformsOrDeclines, question, question_of};
 ghost use Rattle.md_cli.specs.Opened.{opened_view};
@@ -39,7 +39,7 @@ pub(crate) fn perform_asked<
 ) -> Result<(), CommandFault>
     requires sound { IsConsistent opened.old.mirror }
     requires opens { opens_array (ask_of command) ≡ true }
-    requires brings { is_some opened.old.beside ≡ is_some (device_of (ask_of command)) }
+    requires brings { is_some opened.old.beside ≡ is_some (device_to_add (ask_of command)) }
     ensures answers { PerformsOrDeclines R.Source S.Sink
         (question_of W.Asker session.old (ask_of command.entry) (texts names.now)) (texts names.now)
         (ask_of command.entry) notices.now (opened_view D.Device opened.old) (opened_view D.Device opened.new)

@@ -2,7 +2,7 @@
 ghost use Rattle.std.specs.Prelude.{◌≡◌, ℕ, IfOk, IfErr, None, Some};
 ghost use Rattle.uuid.specs.Text.{parsed};
 ghost use Rattle.md_words.specs.Asks.{options_of};
-ghost use Rattle.md_cli.specs.CreateOptions.{AreParamsOf, bytes_of, is_raid1, option_fault, sectors_of, set_name_of};
+ghost use Rattle.md_cli.specs.CreateOptions.{AreParamsOf, bytes_of_kib, is_raid1, create_option_fault, sectors_of_kib, set_name_of};
 
 use md_commands::OptionFault;
 use md_create::CreateParams;
@@ -37,13 +37,13 @@ fn set_name_of(name: &str) -> Option<[u8; 32]>
 }
 
 fn bytes_of(kib: u32) -> Option<u32>
-    ensures { result ≡ bytes_of kib }
+    ensures { result ≡ bytes_of_kib kib }
 {
     kib.checked_mul(1024)
 }
 
 fn sectors_of(kib: Option<u64>) -> Option<Option<u64>>
-    ensures { result ≡ sectors_of kib }
+    ensures { result ≡ sectors_of_kib kib }
 {
     match kib {
         None => Some(None),
@@ -55,14 +55,14 @@ fn sectors_of(kib: Option<u64>) -> Option<Option<u64>>
 }
 
 /// What the array is made from, for so many image words, or the first fault of the options.
-#[tactic(auto, unfolding(crate::specs::CreateOptions::option_fault))]
+#[tactic(auto, unfolding(crate::specs::CreateOptions::create_option_fault))]
 pub(crate) fn params_of(
     options: &CreateOptions<'_>,
     count: usize,
 ) -> Result<CreateParams, OptionFault>
-    ensures sound { IfOk result (λ _. option_fault (options_of options.now) count ≡ None) }
+    ensures sound { IfOk result (λ _. create_option_fault (options_of options.now) count ≡ None) }
     ensures params { IfOk result (AreParamsOf (options_of options.now)) }
-    ensures refused { IfErr result (λ f. option_fault (options_of options.now) count ≡ Some f) }
+    ensures refused { IfErr result (λ f. create_option_fault (options_of options.now) count ≡ Some f) }
 {
     if !is_raid1(options.level) {
         return Err(OptionFault::BadLevel);

@@ -1,7 +1,7 @@
 // What commands do with the devices of images, as an array.
 ghost use Rattle.std.specs.Prelude.{◌≡◌, ◌+◌, ◌<◌, ◌≤◌, [], IfOk, is_some, length, option_map, true, vec_capacity};
 ghost use Rattle.md_state.specs.View.{disk_of};
-ghost use Rattle.md_words.specs.Asks.{ask_of, device_of, is_readonly, opens_array};
+ghost use Rattle.md_words.specs.Asks.{ask_of, device_to_add, is_readonly, opens_array};
 ghost use Rattle.md_cli.specs.Arrays.{LooksAtDevices, OpensDevices, OpensMembers, WorksOn, answer_of_overlays, disks, texts};
 ghost use Rattle.md_cli.specs.Asking.{question_of};
 ghost use Rattle.md_cli.specs.Opened.{count, moves_device};
@@ -37,7 +37,7 @@ pub(crate) fn with_devices<
     names: &[&str],
 ) -> (Vec<D>, Result<(), CommandFault>)
     requires opens { opens_array (ask_of command) ≡ true }
-    requires brings { is_some (device_of (ask_of command)) ≡ true → 0 < length devices.items }
+    requires brings { is_some (device_to_add (ask_of command)) ≡ true → 0 < length devices.items }
     ensures as_many { length result.0.items ≡ length devices.items }
     ensures kept { is_readonly (ask_of command.entry) ≡ true → result.0.items ≡ devices.items }
     ensures gives { WorksOn R.Source S.Sink
@@ -69,7 +69,7 @@ fn look_at_devices<
     names: &[&str],
 ) -> Result<(), CommandFault>
     requires opens { opens_array (ask_of command) ≡ true }
-    requires brings { is_some (device_of (ask_of command)) ≡ true → 0 < length devices.now }
+    requires brings { is_some (device_to_add (ask_of command)) ≡ true → 0 < length devices.now }
     ensures gives { LooksAtDevices R.Source S.Sink
         (question_of W.Asker session.old (ask_of command.entry) (texts names.now)) (texts names.now)
         (ask_of command.entry)
@@ -114,7 +114,7 @@ fn open_devices<
     names: &[&str],
 ) -> (Vec<D>, Result<(), CommandFault>)
     requires opens { opens_array (ask_of command) ≡ true }
-    requires brings { is_some (device_of (ask_of command)) ≡ true → 0 < length devices.items }
+    requires brings { is_some (device_to_add (ask_of command)) ≡ true → 0 < length devices.items }
     ensures as_many { length result.0.items ≡ length devices.items }
     ensures gives { OpensDevices R.Source S.Sink
         (question_of W.Asker session.old (ask_of command.entry) (texts names.now)) (texts names.now)
@@ -164,7 +164,7 @@ fn open_members<
     names: &[&str],
 ) -> (Vec<D>, Result<(), CommandFault>)
     requires opens { opens_array (ask_of command) ≡ true }
-    requires brings { is_some beside ≡ is_some (device_of (ask_of command)) }
+    requires brings { is_some beside ≡ is_some (device_to_add (ask_of command)) }
     requires empty { list.items ≡ [] }
     requires room { moves_device (ask_of command) ≡ true →
         length members.items + count beside ≤ vec_capacity list }

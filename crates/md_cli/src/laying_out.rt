@@ -2,7 +2,7 @@
 ghost use Rattle.std.specs.Prelude.{◌≡◌, ◌≤◌, ◌<◌, ◌*◌, ℕ, Some, length, slice_get};
 ghost use Rattle.md_state.specs.View.{Disk};
 ghost use Rattle.md_cli.specs.Arrays.{disks};
-ghost use Rattle.md_cli.specs.Creating.{AreLaidOut, At, FailsToLayOut};
+ghost use Rattle.md_cli.specs.Creating.{AreLaidOut, At, FailsInLayout};
 
 use md_create::{NewMember, lay_out};
 use md_device::Device;
@@ -17,7 +17,7 @@ pub(crate) fn lay_out_each<D: Device>(devices: &mut [D], members: &[NewMember]) 
     ensures laid_out { AreLaidOut (disks D.Device devices.old) (disks D.Device devices.new)
         members.now result }
     ensures stopped { result < length devices.old
-        → At FailsToLayOut (disks D.Device devices.old) (disks D.Device devices.new) members.now result }
+        → At FailsInLayout (disks D.Device devices.old) (disks D.Device devices.new) members.now result }
 {
     for place in 0..devices.len() {
         if lay_out(&mut devices[place], &members[place]).is_err() {

@@ -1,7 +1,7 @@
 // An opened array, and a device beside it.
 ghost use Rattle.std.specs.Prelude.{◌≡◌, ◌<◌, ◌≤◌, [], IfErr, IfOk, is_some, length, true, vec_capacity};
-ghost use Rattle.md_words.specs.Asks.{ask_of, device_of, leaving_of};
-ghost use Rattle.md_cli.specs.Opened.{moves_device, place_of, with_beside};
+ghost use Rattle.md_words.specs.Asks.{ask_of, device_to_add, leaving_of};
+ghost use Rattle.md_cli.specs.Opened.{moves_device, beside_place, with_beside};
 
 use md_array::Mirror;
 use md_device::Device;
@@ -35,7 +35,7 @@ pub(crate) fn room_for<D>(
 
 // The place among all devices of the one beside the array: that of the member that left, or the last.
 fn place_of(command: Command<'_>, last: usize) -> usize
-    ensures { result ≡ place_of (ask_of command.entry) last }
+    ensures { result ≡ beside_place (ask_of command.entry) last }
 {
     match command.leaving() {
         Some(member) => member as usize,
@@ -54,7 +54,7 @@ pub(crate) fn all_back<D: Drop>(
     requires empty { list.items ≡ [] }
     requires room { is_some beside ≡ true → length members.items < vec_capacity list }
     requires within { is_some beside ≡ true →
-        place_of (ask_of command) (length members.items) ≤ length members.items }
+        beside_place (ask_of command) (length members.items) ≤ length members.items }
     ensures { result.items ≡ with_beside (ask_of command.entry) members.items beside }
 {
     let Some(device) = beside else {

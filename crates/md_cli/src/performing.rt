@@ -1,14 +1,14 @@
 // What commands do with an opened array.
 ghost use Rattle.std.specs.Prelude.{◌≡◌, IfOk, MatchResult, false, is_some, true};
 ghost use Rattle.md_array.specs.Consistency.{IsConsistent};
-ghost use Rattle.md_words.specs.Asks.{ask_of, device_of, fills, opens_array};
+ghost use Rattle.md_words.specs.Asks.{ask_of, device_to_add, fills, opens_array};
 ghost use Rattle.md_commands.specs.Filling.{ReadsFilled};
 ghost use Rattle.md_commands.specs.Objects.{detail_shown, plan_shown, summary_shown};
 ghost use Rattle.md_commands.specs.Output.{ShowsText};
 ghost use Rattle.md_commands.specs.Planning.{RefusesToPlan, ShowsPlan};
 ghost use Rattle.md_cli.specs.Arrays.{texts};
 ghost use Rattle.md_cli.specs.Opened.{opened_view};
-ghost use Rattle.md_cli.specs.Performing.{Adds, Performs, ReAdds, ReadsSectors, Removes, ShowsMismatches, ShowsSectors};
+ghost use Rattle.md_cli.specs.Performing.{PerformsAdd, Performs, PerformsReAdd, PerformsRead, PerformsRemove, ShowsMismatches, ShowsSectors};
 ghost use Rattle.md_cli.specs.Streams.{streams_of};
 
 use crate::opened::Opened;
@@ -43,7 +43,7 @@ pub(crate) fn perform<
 ) -> Result<(), CommandFault>
     requires sound { IsConsistent opened.old.mirror }
     requires opens { opens_array (ask_of command) ≡ true }
-    requires brings { is_some opened.old.beside ≡ is_some (device_of (ask_of command)) }
+    requires brings { is_some opened.old.beside ≡ is_some (device_to_add (ask_of command)) }
     ensures performs { Performs R.Source S.Sink (texts names.now) (ask_of command.entry)
         (opened_view D.Device opened.old) (opened_view D.Device opened.new)
         (streams_of session.old) (streams_of session.new) result }
@@ -159,7 +159,7 @@ fn read_sectors<D: Device + Drop, T, R: Source + Drop, S: Sink + Drop, W>(
     requires sound { IsConsistent opened.old.mirror }
     ensures kept { (opened_view D.Device opened.new).beside ≡ (opened_view D.Device opened.old).beside }
     ensures input { session.new.input ≡ session.old.input }
-    ensures reads { ReadsSectors S.Sink sector count fill readonly
+    ensures reads { PerformsRead S.Sink sector count fill readonly
         (opened_view D.Device opened.old) (opened_view D.Device opened.new)
         (streams_of session.old) (streams_of session.new) result }
     ensures noted { fill ≡ false → session.new.missing ≡ session.old.missing }
@@ -241,14 +241,14 @@ fn check<D: Device + Drop + Send, T: Threads + Sync, W: Watch + Sync, S: Sink>(
     }
 }
 
-// Removes the member with this index. Its device stands beside the array then, if it left.
+// PerformsRemove the member with this index. Its device stands beside the array then, if it left.
 fn remove<D: Device + Drop, S: Sink>(
     opened: &mut Opened<D>,
     member: u32,
     out: &mut S,
 ) -> Result<(), CommandFault>
     requires sound { IsConsistent opened.old.mirror }
-    ensures removes { Removes S.Sink member
+    ensures removes { PerformsRemove S.Sink member
         (opened_view D.Device opened.old) (opened_view D.Device opened.new) out.old out.new result }
     ensures flushed { IfOk result (λ _. S.is_flushed out.new) }
 {
@@ -257,7 +257,7 @@ fn remove<D: Device + Drop, S: Sink>(
     Ok(removed?)
 }
 
-// Adds the device that stands beside the array. If it does not join, it stands there again.
+// PerformsAdd the device that stands beside the array. If it does not join, it stands there again.
 fn add<D: Device + Drop, S: Sink>(
     alloc: Global,
     opened: &mut Opened<D>,
@@ -265,7 +265,7 @@ fn add<D: Device + Drop, S: Sink>(
 ) -> Result<(), CommandFault>
     requires sound { IsConsistent opened.old.mirror }
     requires some { is_some opened.old.beside ≡ true }
-    ensures adds { Adds S.Sink
+    ensures adds { PerformsAdd S.Sink
         (opened_view D.Device opened.old) (opened_view D.Device opened.new) out.old out.new result }
     ensures flushed { IfOk result (λ _. S.is_flushed out.new) }
 {
@@ -287,7 +287,7 @@ fn re_add<D: Device + Drop + Send, T: Threads + Wait + Sync, W: Watch + Sync, S:
 ) -> Result<(), CommandFault>
     requires sound { IsConsistent opened.old.mirror }
     requires some { is_some opened.old.beside ≡ true }
-    ensures re_adds { ReAdds S.Sink
+    ensures re_adds { PerformsReAdd S.Sink
         (opened_view D.Device opened.old) (opened_view D.Device opened.new) out.old out.new result }
     ensures flushed { IfOk result (λ _. S.is_flushed out.new) }
 {

@@ -1,4 +1,4 @@
 pub mod Search
 pub mod Counts
 pub mod Lists
-pub mod Stops
+pub mod Crashes

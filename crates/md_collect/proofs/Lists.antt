@@ -3,16 +3,16 @@ use Rattle.std.proofs.Common.{◌≡◌, ℕ, length, ◌+◌, ◌*◌, ◌==◌
 use Rattle.std.proofs.Math.Bool.{or_comm, or-false}
 use Rattle.std.proofs.lemmas.List.{length_push}
 use Rattle.md_device.specs.Splice.{SameOutside}
-use Rattle.md_collect.specs.Places.{start_of, bytes_of}
+use Rattle.md_collect.specs.Places.{start_of, bytes_of_chunk}
 use Rattle.std.proofs.lemmas.List.Folds.{list_any-append}
 use Rattle.std.proofs.lemmas.Bool.Decides.{nat_tests}
 use Rattle.md_bitmap.specs.Marks.{is_set, count_set}
 use Rattle.md_collect.specs.declared.refusal.Refusal.{Refusal}
 use Rattle.md_collect.specs.declared.refusal.Refusal.TheVariants.{Spoiled, Stranger, Double, Length, TargetFault}
-use Rattle.md_collect.specs.Reports.{ReportView, Copying, is_among, is_planned, has_length, counts, counted, counted_after, with_report, with_all}
-use Rattle.md_collect.specs.Collecting.{CollectorView, copying, refusal_of, reports_of}
+use Rattle.md_collect.specs.Reports.{ReportView, Copying, is_among, is_planned, has_length, counts, counted_reports, counted_after, with_report, with_all}
+use Rattle.md_collect.specs.Collecting.{CollectorView, copying, report_refusal, reports_of}
 use Rattle.md_collect.proofs.Counts.{count_set-none, count_set-more}
-use Rattle.md_collect.specs.Lists.{Copied, IsTaken, IsSpoilt, Takes, TakesAll, HoldsCounted, HoldsUpTo, HoldsReports, EveryList}
+use Rattle.md_collect.specs.Lists.{Copied, IsTaken, IsTargetSpoilt, Takes, TakesAll, HoldsCounted, HoldsUpTo, HoldsReports, EveryList}
 
 counted_more_after : (copy : Copying) (earlier reports : List ReportView) (r : ReportView)
     → counted_after copy earlier (reports ++ (r ∷ [])) ≡ cond (counts copy (counted_after copy earlier reports) r) (counted_after copy earlier reports ++ (r ∷ [])) (counted_after copy earlier reports)
@@ -21,7 +21,7 @@ counted_more_after copy earlier [] r = refl
 counted_more_after copy earlier (x ∷ xs) r = counted_more_after copy (cond (counts copy earlier x) (earlier ++ (x ∷ [])) earlier) xs r
 
 counted_more : (copy : Copying) (reports : List ReportView) (r : ReportView)
-    → counted copy (reports ++ (r ∷ [])) ≡ cond (counts copy (counted copy reports) r) (counted copy reports ++ (r ∷ [])) (counted copy reports)
+    → counted_reports copy (reports ++ (r ∷ [])) ≡ cond (counts copy (counted_reports copy reports) r) (counted_reports copy reports ++ (r ∷ [])) (counted_reports copy reports)
 counted_more copy reports r = counted_more_after copy [] reports r
 
 with_more : (copy : Copying) (target : List ℕ) (reports : List ReportView) (r : ReportView) → with_all copy target (reports ++ (r ∷ [])) ≡ with_report copy (with_all copy target reports) r
@@ -90,23 +90,23 @@ all_spoilt s last (r ∷ rs) spoiled (answer, mid, takes, all) =
 module _ {copy : Copying} {target : List ℕ} where
   -- what the collector asks is what counts
   asked : (done : List ReportView) (s : Copied) (r : ReportView) → HoldsCounted copy target done s
-      → refusal_of s.collector r ≡ first_of s.collector.spoiled (is_planned copy.slots r.chunk r.source) (is_among (counted copy done) r.chunk) (has_length copy.chunks r)
+      → report_refusal s.collector r ≡ first_of s.collector.spoiled (is_planned copy.slots r.chunk r.source) (is_among (counted_reports copy done) r.chunk) (has_length copy.chunks r)
   unfolding first_of
   asked done s r at =
       let slots : s.collector.slots ≡ copy.slots = ap (λ (c : Copying). c.slots) at.same_copy in
       let chunks : s.collector.chunks ≡ copy.chunks = ap (λ (c : Copying). c.chunks) at.same_copy in
       rw (slots, chunks, at.reported r.chunk) refl
 
-  does_count : (done : List ReportView) (s : Copied) (r : ReportView) → HoldsCounted copy target done s → refusal_of s.collector r ≡ None → counts copy (counted copy done) r ≡ true
+  does_count : (done : List ReportView) (s : Copied) (r : ReportView) → HoldsCounted copy target done s → report_refusal s.collector r ≡ None → counts copy (counted_reports copy done) r ≡ true
   does_count done s r at none = none_stands s.collector.spoiled _ _ _ (sym (asked done s r at) ∙ none)
 
-  does_not : (done : List ReportView) (s : Copied) (r : ReportView) (why : Refusal) → HoldsCounted copy target done s → refusal_of s.collector r ≡ Some why → counts copy (counted copy done) r ≡ false
-  does_not done s r why at some = one_stands why _ _ _ (ap (λ b. first_of b (is_planned copy.slots r.chunk r.source) (is_among (counted copy done) r.chunk) (has_length copy.chunks r)) (sym at.whole) ∙ sym (asked done s r at) ∙ some)
+  does_not : (done : List ReportView) (s : Copied) (r : ReportView) (why : Refusal) → HoldsCounted copy target done s → report_refusal s.collector r ≡ Some why → counts copy (counted_reports copy done) r ≡ false
+  does_not done s r why at some = one_stands why _ _ _ (ap (λ b. first_of b (is_planned copy.slots r.chunk r.source) (is_among (counted_reports copy done) r.chunk) (has_length copy.chunks r)) (sym at.whole) ∙ sym (asked done s r at) ∙ some)
 
-  unset : (done : List ReportView) (s : Copied) (r : ReportView) → HoldsCounted copy target done s → refusal_of s.collector r ≡ None → is_set s.collector.reported.bytes r.chunk ≡ false
+  unset : (done : List ReportView) (s : Copied) (r : ReportView) → HoldsCounted copy target done s → report_refusal s.collector r ≡ None → is_set s.collector.reported.bytes r.chunk ≡ false
   unset done s r at none = at.reported r.chunk ∙ not_double s.collector.spoiled _ _ _ (sym (asked done s r at) ∙ none)
 
-  one_more : (done : List ReportView) (s mid : Copied) (r : ReportView) → HoldsCounted copy target done s → IsTaken s r mid → reports_of mid.collector ≡ length (counted copy done) + 1
+  one_more : (done : List ReportView) (s mid : Copied) (r : ReportView) → HoldsCounted copy target done s → IsTaken s r mid → reports_of mid.collector ≡ length (counted_reports copy done) + 1
   one_more done s mid r at is =
       let more = count_set-more s.collector.reported.bytes mid.collector.reported.bytes r.chunk s.collector.reported.chunks is.counted.within (unset done s r at is.first) is.counted.reported in
       let before = at.number in
@@ -115,18 +115,18 @@ module _ {copy : Copying} {target : List ℕ} where
 
   taken : (done : List ReportView) (s mid : Copied) (r : ReportView) → HoldsCounted copy target done s → IsTaken s r mid → HoldsCounted copy target (done ++ (r ∷ [])) mid
   taken done s mid r at is =
-      let longer : counted copy (done ++ (r ∷ [])) ≡ counted copy done ++ (r ∷ []) = counted_more copy done r ∙ ap (λ b. cond b (counted copy done ++ (r ∷ [])) (counted copy done)) (does_count done s r at is.first) in
+      let longer : counted_reports copy (done ++ (r ∷ [])) ≡ counted_reports copy done ++ (r ∷ []) = counted_more copy done r ∙ ap (λ b. cond b (counted_reports copy done ++ (r ∷ [])) (counted_reports copy done)) (does_count done s r at is.first) in
       record {
         same_copy = ap copying is.counted.kept ∙ at.same_copy;
-        reported = λ c. is.counted.reported c ∙ ap (λ b. c == r.chunk || b) (at.reported c) ∙ sym (among_more (counted copy done) r c) ∙ ap (λ xs. is_among xs c) (sym longer);
-        number = one_more done s mid r at is ∙ sym (length_push (counted copy done) r) ∙ sym (ap (λ (xs : List ReportView). length xs) longer);
-        holds = is.target ∙ ap (λ c. with_report c s.target r) at.same_copy ∙ ap (λ t. with_report copy t r) at.holds ∙ sym (with_more copy target (counted copy done) r) ∙ ap (with_all copy target) (sym longer);
+        reported = λ c. is.counted.reported c ∙ ap (λ b. c == r.chunk || b) (at.reported c) ∙ sym (among_more (counted_reports copy done) r c) ∙ ap (λ xs. is_among xs c) (sym longer);
+        number = one_more done s mid r at is ∙ sym (length_push (counted_reports copy done) r) ∙ sym (ap (λ (xs : List ReportView). length xs) longer);
+        holds = is.target ∙ ap (λ c. with_report c s.target r) at.same_copy ∙ ap (λ t. with_report copy t r) at.holds ∙ sym (with_more copy target (counted_reports copy done) r) ∙ ap (with_all copy target) (sym longer);
         whole = ap (λ (v : CollectorView). v.spoiled) is.counted.kept ∙ at.whole;
       }
 
-  refused : (done : List ReportView) (s mid : Copied) (r : ReportView) (why : Refusal) → HoldsCounted copy target done s → refusal_of s.collector r ≡ Some why → mid ≡ s → HoldsCounted copy target (done ++ (r ∷ [])) mid
+  refused : (done : List ReportView) (s mid : Copied) (r : ReportView) (why : Refusal) → HoldsCounted copy target done s → report_refusal s.collector r ≡ Some why → mid ≡ s → HoldsCounted copy target (done ++ (r ∷ [])) mid
   refused done s mid r why at some same =
-      let shorter : counted copy (done ++ (r ∷ [])) ≡ counted copy done = counted_more copy done r ∙ ap (λ b. cond b (counted copy done ++ (r ∷ [])) (counted copy done)) (does_not done s r why at some) in
+      let shorter : counted_reports copy (done ++ (r ∷ [])) ≡ counted_reports copy done = counted_more copy done r ∙ ap (λ b. cond b (counted_reports copy done ++ (r ∷ [])) (counted_reports copy done)) (does_not done s r why at some) in
       record {
         same_copy = ap (λ (x : Copied). copying x.collector) same ∙ at.same_copy;
         reported = λ c. ap (λ (x : Copied). is_set x.collector.reported.bytes c) same ∙ at.reported c ∙ ap (λ xs. is_among xs c) (sym shorter);
@@ -135,14 +135,14 @@ module _ {copy : Copying} {target : List ℕ} where
         whole = ap (λ (x : Copied). x.collector.spoiled) same ∙ at.whole;
       }
 
-  spoilt : (done : List ReportView) (s mid : Copied) (r : ReportView) → HoldsCounted copy target done s → IsSpoilt s r mid → HoldsUpTo copy target done r mid
+  spoilt : (done : List ReportView) (s mid : Copied) (r : ReportView) → HoldsCounted copy target done s → IsTargetSpoilt s r mid → HoldsUpTo copy target done r mid
   spoilt done s mid r at is =
-      let Outside : Copying → List ℕ → Type 0 = λ c t. SameOutside (512 * (c.offset + start_of c.chunks r.chunk)) (bytes_of c.chunks r.chunk) t mid.target in
+      let Outside : Copying → List ℕ → Type 0 = λ c t. SameOutside (512 * (c.offset + start_of c.chunks r.chunk)) (bytes_of_chunk c.chunks r.chunk) t mid.target in
       record {
         counts = does_count done s r at is.first;
         reported = λ c. ap (λ (v : CollectorView). is_set v.reported.bytes c) is.spoilt ∙ at.reported c;
         number = ap reports_of is.spoilt ∙ at.number;
-        outside = subst (λ c. Outside c (with_all copy target (counted copy done))) at.same_copy (subst (λ t. Outside (copying s.collector) t) at.holds is.outside);
+        outside = subst (λ c. Outside c (with_all copy target (counted_reports copy done))) at.same_copy (subst (λ t. Outside (copying s.collector) t) at.holds is.outside);
         spoiled = ap (λ (v : CollectorView). v.spoiled) is.spoilt;
       }
 

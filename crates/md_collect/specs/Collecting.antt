@@ -31,7 +31,7 @@ abbrev pub copying : CollectorView → Copying
 copying v = record { slots = v.slots; chunks = v.chunks; offset = v.offset }
 
 -- nothing was reported yet
-pub record IsFresh (v : CollectorView) : Type 0 where
+pub record IsUnreported (v : CollectorView) : Type 0 where
   pub none : (c : ℕ) → is_set v.reported.bytes c ≡ false
   pub whole : v.spoiled ≡ false
 
@@ -40,8 +40,8 @@ abbrev pub reports_of : CollectorView → ℕ
 reports_of v = count_set v.reported.bytes v.reported.chunks
 
 -- why a report does not count: the first reason that stands
-abbrev pub refusal_of : CollectorView → ReportView → Option Refusal
-refusal_of v r =
+abbrev pub report_refusal : CollectorView → ReportView → Option Refusal
+report_refusal v r =
     cond v.spoiled (Some Spoiled)
     (cond (not (is_planned v.slots r.chunk r.source)) (Some Stranger)
     (cond (is_set v.reported.bytes r.chunk) (Some Double)

@@ -4,9 +4,9 @@ use Rattle.md_device.specs.Splice.{SameOutside}
 use Rattle.md_bitmap.specs.Marks.{is_set}
 use Rattle.md_collect.specs.declared.refusal.Refusal.{Refusal}
 use Rattle.md_collect.specs.declared.refusal.Refusal.TheVariants.{TargetFault}
-use Rattle.md_collect.specs.Places.{start_of, bytes_of}
-use Rattle.md_collect.specs.Reports.{ReportView, Copying, is_among, counts, counted, with_report, with_all}
-use Rattle.md_collect.specs.Collecting.{CollectorView, copying, refusal_of, reports_of, IsCounted, IsFresh}
+use Rattle.md_collect.specs.Places.{start_of, bytes_of_chunk}
+use Rattle.md_collect.specs.Reports.{ReportView, Copying, is_among, counts, counted_reports, with_report, with_all}
+use Rattle.md_collect.specs.Collecting.{CollectorView, copying, report_refusal, reports_of, IsCounted, IsUnreported}
 
 -- a collector, and what its target holds
 pub record Copied : Type 0 where
@@ -15,21 +15,21 @@ pub record Copied : Type 0 where
 
 -- the report counts
 pub record IsTaken (old : Copied) (r : ReportView) (new : Copied) : Type 0 where
-  pub first : refusal_of old.collector r ≡ None
+  pub first : report_refusal old.collector r ≡ None
   pub counted : IsCounted r.chunk old.collector new.collector
   pub target : new.target ≡ with_report (copying old.collector) old.target r
 
 -- A report would be copied, but the target was not written.
-pub record IsSpoilt (old : Copied) (r : ReportView) (new : Copied) : Type 0 where
-  pub first : refusal_of old.collector r ≡ None
+pub record IsTargetSpoilt (old : Copied) (r : ReportView) (new : Copied) : Type 0 where
+  pub first : report_refusal old.collector r ≡ None
   pub spoilt : new.collector ≡ record old.collector { spoiled = true }
-  pub outside : SameOutside (512 * (old.collector.offset + start_of old.collector.chunks r.chunk)) (bytes_of old.collector.chunks r.chunk) old.target new.target
+  pub outside : SameOutside (512 * (old.collector.offset + start_of old.collector.chunks r.chunk)) (bytes_of_chunk old.collector.chunks r.chunk) old.target new.target
 
 -- what `take` answers to a report, none where it counts, and what it leaves
 abbrev pub Takes : Copied → ReportView → Option Refusal → Copied → Type 0
 Takes old r None new = IsTaken old r new
-Takes old r (Some TargetFault) new = IsSpoilt old r new
-Takes old r (Some why) new = (refusal_of old.collector r ≡ Some why) × (new ≡ old)
+Takes old r (Some TargetFault) new = IsTargetSpoilt old r new
+Takes old r (Some why) new = (report_refusal old.collector r ≡ Some why) × (new ≡ old)
 
 -- Reports are taken one after another.
 abbrev pub TakesAll : Copied → List ReportView → Copied → Type 0
@@ -39,17 +39,17 @@ TakesAll s (r ∷ rs) last = (answer : Option Refusal) × (mid : Copied) × Take
 -- Those reports of the list that count were taken, and the target holds them over what it held.
 pub record HoldsCounted (copy : Copying) (target : List ℕ) (reports : List ReportView) (s : Copied) : Type 0 where
   pub same_copy : copying s.collector ≡ copy
-  pub reported : (c : ℕ) → is_set s.collector.reported.bytes c ≡ is_among (counted copy reports) c
-  pub number : reports_of s.collector ≡ length (counted copy reports)
-  pub holds : s.target ≡ with_all copy target (counted copy reports)
+  pub reported : (c : ℕ) → is_set s.collector.reported.bytes c ≡ is_among (counted_reports copy reports) c
+  pub number : reports_of s.collector ≡ length (counted_reports copy reports)
+  pub holds : s.target ≡ with_all copy target (counted_reports copy reports)
   pub whole : s.collector.spoiled ≡ false
 
 -- A write of the target failed: the reports before it are counted, and its own chunk may hold any bytes.
 pub record HoldsUpTo (copy : Copying) (target : List ℕ) (front : List ReportView) (r : ReportView) (s : Copied) : Type 0 where
-  pub counts : counts copy (counted copy front) r ≡ true
-  pub reported : (c : ℕ) → is_set s.collector.reported.bytes c ≡ is_among (counted copy front) c
-  pub number : reports_of s.collector ≡ length (counted copy front)
-  pub outside : SameOutside (512 * (copy.offset + start_of copy.chunks r.chunk)) (bytes_of copy.chunks r.chunk) (with_all copy target (counted copy front)) s.target
+  pub counts : counts copy (counted_reports copy front) r ≡ true
+  pub reported : (c : ℕ) → is_set s.collector.reported.bytes c ≡ is_among (counted_reports copy front) c
+  pub number : reports_of s.collector ≡ length (counted_reports copy front)
+  pub outside : SameOutside (512 * (copy.offset + start_of copy.chunks r.chunk)) (bytes_of_chunk copy.chunks r.chunk) (with_all copy target (counted_reports copy front)) s.target
   pub spoiled : s.collector.spoiled ≡ true
 
 abbrev pub HoldsReports : Copying → List ℕ → List ReportView → Copied → Type 0
@@ -62,5 +62,5 @@ HoldsReports copy target reports s =
 abbrev pub EveryList : Type 0
 EveryList =
     (v : CollectorView) (target : List ℕ) (reports : List ReportView) (last : Copied)
-    → IsFresh v → TakesAll (record { collector = v; target = target }) reports last
+    → IsUnreported v → TakesAll (record { collector = v; target = target }) reports last
     → HoldsReports (copying v) target reports last

@@ -1,9 +1,9 @@
 -- A chunk is read from a source.
 use Rattle.std.specs.Prelude.{◌≡◌, ◌<◌, ◌≤◌, ℕ, List, length, true, None, IfOk, IfSome, IsSome, OnErr, Result}
 use Rattle.md_device.specs.declared.device.Device.{Ghosts}
-use Rattle.md_device.specs.Stops.{LeavesMore}
+use Rattle.md_device.specs.Crashes.{LeavesMore}
 use Rattle.md_bitmap.specs.declared.chunks.Chunks.{Chunks}
-use Rattle.md_collect.specs.Places.{bytes_of, chunk_on}
+use Rattle.md_collect.specs.Places.{bytes_of_chunk, chunk_on}
 use Rattle.md_collect.specs.Reports.{ReportView}
 
 module _ {D : Type 0} (g : Ghosts D) where
@@ -12,20 +12,20 @@ module _ {D : Type 0} (g : Ghosts D) where
   IsChunkOf device offset chunks chunk bytes = g.honest device ≡ true → bytes ≡ chunk_on (g.content device) offset chunks chunk
 
   -- the device has counted a failure
-  abbrev pub Fails : D → D → Type 0
-  Fails old new = g.honest old ≡ true → g.failures old < g.failures new
+  abbrev pub CountsFailure : D → D → Type 0
+  CountsFailure old new = g.honest old ≡ true → g.failures old < g.failures new
 
-  -- a stop leaves what the device held before
+  -- a crash leaves what the device held before
   abbrev pub LeavesContent : D → D → Type 0
-  LeavesContent old new = g.honest old ≡ true → LeavesMore (g.stops old) (g.stops new) (λ left. left ≡ g.content old)
+  LeavesContent old new = g.honest old ≡ true → LeavesMore (g.crashes old) (g.crashes new) (λ left. left ≡ g.content old)
 
   -- a chunk of a source was read, whose data starts at this sector: what is reported of it, and how the device is afterwards
   pub record ReadsChunk {E : Type 0} (old new : D) (source offset : ℕ) (chunks : Chunks) (chunk : ℕ) (result : Result ReportView E) : Type 0 where
     pub named : IfOk result (λ r. (r.chunk ≡ chunk) × (r.source ≡ source))
-    pub whole : IfOk result (λ r. IfSome r.bytes (λ bytes. length bytes ≡ bytes_of chunks chunk))
+    pub whole : IfOk result (λ r. IfSome r.bytes (λ bytes. length bytes ≡ bytes_of_chunk chunks chunk))
     pub delivered : IfOk result (λ r. IfSome r.bytes (IsChunkOf old offset chunks chunk))
     pub unfailing : IfOk result (λ r. IsSome r.bytes → g.failures new ≡ g.failures old)
-    pub failed : IfOk result (λ r. r.bytes ≡ None → Fails old new)
+    pub failed : IfOk result (λ r. r.bytes ≡ None → CountsFailure old new)
     pub err : OnErr result (new ≡ old)
     pub kept : g.content new ≡ g.content old
     pub honest : g.honest new ≡ g.honest old

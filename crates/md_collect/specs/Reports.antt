@@ -3,7 +3,7 @@ use Rattle.std.specs.Prelude.{ℕ, Bool, true, List, [], ◌∷◌, ◌++◌, Op
 use Rattle.std.specs.List.{list_any}
 use Rattle.md_cert.specs.declared.slots.Slot.{Slot}
 use Rattle.md_bitmap.specs.declared.chunks.Chunks.{Chunks}
-use Rattle.md_collect.specs.Places.{bytes_of, with_chunk}
+use Rattle.md_collect.specs.Places.{bytes_of_chunk, with_chunk}
 
 -- a chunk's bytes from a source, or none where it could not be read
 pub record ReportView : Type 0 where
@@ -27,7 +27,7 @@ has_length chunks r = by_bytes r.bytes
   where
     by_bytes : Option (List ℕ) → Bool
     by_bytes None = true
-    by_bytes (Some bytes) = length bytes == bytes_of chunks r.chunk
+    by_bytes (Some bytes) = length bytes == bytes_of_chunk chunks r.chunk
 
 -- One of these reports has the chunk.
 abbrev pub is_among : List ReportView → ℕ → Bool
@@ -43,8 +43,8 @@ unfoldable pub counted_after : Copying → List ReportView → List ReportView �
 counted_after copy earlier [] = earlier
 counted_after copy earlier (r ∷ rs) = counted_after copy (cond (counts copy earlier r) (earlier ++ (r ∷ [])) earlier) rs
 
-abbrev pub counted : Copying → List ReportView → List ReportView
-counted copy reports = counted_after copy [] reports
+abbrev pub counted_reports : Copying → List ReportView → List ReportView
+counted_reports copy reports = counted_after copy [] reports
 
 -- the target with the bytes of a counted report
 abbrev pub with_report : Copying → List ℕ → ReportView → List ℕ

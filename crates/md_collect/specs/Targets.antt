@@ -3,12 +3,12 @@ use Rattle.std.specs.Prelude.{◌≡◌, ℕ, ◌+◌, ◌*◌, List, true, None
 use Rattle.std.specs.Result.{result_err}
 use Rattle.md_device.specs.declared.device.Device.{Ghosts}
 use Rattle.md_device.specs.Splice.{SameOutside}
-use Rattle.md_device.specs.Stops.{LeavesMore}
-use Rattle.md_collect.specs.Places.{start_of, bytes_of}
+use Rattle.md_device.specs.Crashes.{LeavesMore}
+use Rattle.md_collect.specs.Places.{start_of, bytes_of_chunk}
 use Rattle.md_collect.specs.declared.refusal.Refusal.{Refusal}
 use Rattle.md_collect.specs.declared.refusal.Refusal.TheVariants.{TargetFault}
 use Rattle.md_collect.specs.Reports.{ReportView, with_report}
-use Rattle.md_collect.specs.Collecting.{CollectorView, copying, refusal_of}
+use Rattle.md_collect.specs.Collecting.{CollectorView, copying, report_refusal}
 use Rattle.md_collect.specs.Lists.{Copied, Takes}
 
 -- a collector, and what its target holds
@@ -24,20 +24,20 @@ pub record KeepsCopy (old new : CollectorView) : Type 0 where
 -- a report that does not count is refused for the first reason that stands, and nothing changes
 abbrev pub RefusesFirst : {D : Type 0} → CollectorView → CollectorView → D → D → ReportView → Result (Unit {0}) Refusal → Type 0
 RefusesFirst old new before after r result =
-    (why : Refusal) → refusal_of old r ≡ Some why → (result ≡ Err why) × (new ≡ old) × (after ≡ before)
+    (why : Refusal) → report_refusal old r ≡ Some why → (result ≡ Err why) × (new ≡ old) × (after ≡ before)
 
 -- a target that can't be written spoils the collector
 abbrev pub SpoilsAtFault : CollectorView → CollectorView → ReportView → Result (Unit {0}) Refusal → Type 0
-SpoilsAtFault old new r result = result ≡ Err TargetFault → (refusal_of old r ≡ None) × (new ≡ record old { spoiled = true })
+SpoilsAtFault old new r result = result ≡ Err TargetFault → (report_refusal old r ≡ None) × (new ≡ record old { spoiled = true })
 
 -- of the target at most the chunk changed
 abbrev pub ChangesChunk : CollectorView → ℕ → List ℕ → List ℕ → Type 0
-ChangesChunk v chunk = SameOutside (512 * (v.offset + start_of v.chunks chunk)) (bytes_of v.chunks chunk)
+ChangesChunk v chunk = SameOutside (512 * (v.offset + start_of v.chunks chunk)) (bytes_of_chunk v.chunks chunk)
 
--- a stop leaves the target as it was beside the chunk
+-- a crash leaves the target as it was beside the chunk
 abbrev pub LeavesBesideChunk : {D : Type 0} → Ghosts D → CollectorView → ℕ → D → D → Type 0
 LeavesBesideChunk g v chunk before after =
-    g.honest before ≡ true → LeavesMore (g.stops before) (g.stops after) (ChangesChunk v chunk (g.content before))
+    g.honest before ≡ true → LeavesMore (g.crashes before) (g.crashes after) (ChangesChunk v chunk (g.content before))
 
 module _ {D : Type 0} (g : Ghosts D) where
   -- the target has the report's bytes in its chunk

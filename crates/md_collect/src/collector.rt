@@ -2,8 +2,8 @@
 ghost use Rattle.std.specs.Prelude.{◌≡◌, ◌≤◌, Err, IfNone, IfOk, None, OnOk};
 ghost use Rattle.md_collect.specs.Places.{HasRoom, IsChunk};
 ghost use Rattle.md_collect.specs.Reports.{has_length};
-ghost use Rattle.md_collect.specs.Reading.{Fails};
-ghost use Rattle.md_collect.specs.Collecting.{ArePlanned, CollectorView, IsCounted, IsFresh, refusal_of, reports_of};
+ghost use Rattle.md_collect.specs.Reading.{CountsFailure};
+ghost use Rattle.md_collect.specs.Collecting.{ArePlanned, CollectorView, IsCounted, IsUnreported, report_refusal, reports_of};
 ghost use Rattle.md_collect.specs.Targets.{ChangesChunk, HoldsReport, KeepsCopy, LeavesBesideChunk, RefusesFirst, SpoilsAtFault, TakesStep};
 
 use crate::planned::is_planned;
@@ -49,7 +49,7 @@ impl Collector {
         ensures slots { IfOk result (λ c. c.slots ≡ plan.now.slots) }
         ensures chunks { IfOk result (λ c. c.chunks ≡ chunks) }
         ensures offset { IfOk result (λ c. c.offset ≡ offset) }
-        ensures fresh { IfOk result IsFresh }
+        ensures fresh { IfOk result IsUnreported }
     {
         Ok(Collector {
             slots: Vec::from_slice(alloc, plan.slots.as_slice())?,
@@ -68,12 +68,12 @@ impl Collector {
         requires { HasRoom (D.content target.old) self.old.offset self.old.chunks }
 
         ensures refused { RefusesFirst self.old self.new target.old target.new report result }
-        ensures counts { OnOk result (refusal_of self.old report ≡ None) }
+        ensures counts { OnOk result (report_refusal self.old report ≡ None) }
         ensures ok { OnOk result (IsCounted report.chunk self.old self.new) }
         ensures bytes { OnOk result (HoldsReport D.Device self.old target.old target.new report) }
         ensures unwritten { report.bytes ≡ None → target.new ≡ target.old }
         ensures fault { SpoilsAtFault self.old self.new report result }
-        ensures failed { result ≡ Err Refusal.TargetFault → Fails D.Device target.old target.new }
+        ensures failed { result ≡ Err Refusal.TargetFault → CountsFailure D.Device target.old target.new }
         ensures takes { TakesStep D.Device self.old self.new target.old target.new report result }
 
         ensures kept { KeepsCopy self.old self.new }
@@ -87,17 +87,17 @@ impl Collector {
     }
 
     /// Takes a report whose memory is to be used again.
-    #[tactic(auto, unfolding(crate::specs::Places::with_chunk), using(md_device::proofs::Leaving::leaves_none, crate::proofs::Stops::leaves_beside))]
+    #[tactic(auto, unfolding(crate::specs::Places::with_chunk), using(md_device::proofs::Leaving::leaves_none, crate::proofs::Crashes::leaves_beside))]
     pub fn take_ref<D: Device>(&mut self, target: &mut D, report: &Report) -> Result<(), Refusal>
         requires { HasRoom (D.content target.old) self.old.offset self.old.chunks }
 
         ensures refused { RefusesFirst self.old self.new target.old target.new report.now result }
-        ensures counts { OnOk result (refusal_of self.old report.now ≡ None) }
+        ensures counts { OnOk result (report_refusal self.old report.now ≡ None) }
         ensures ok { OnOk result (IsCounted report.now.chunk self.old self.new) }
         ensures bytes { OnOk result (HoldsReport D.Device self.old target.old target.new report.now) }
         ensures unwritten { report.now.bytes ≡ None → target.new ≡ target.old }
         ensures fault { SpoilsAtFault self.old self.new report.now result }
-        ensures failed { result ≡ Err Refusal.TargetFault → Fails D.Device target.old target.new }
+        ensures failed { result ≡ Err Refusal.TargetFault → CountsFailure D.Device target.old target.new }
         ensures takes { TakesStep D.Device self.old self.new target.old target.new report.now result }
 
         ensures kept { KeepsCopy self.old self.new }
@@ -124,7 +124,7 @@ impl Collector {
 
     // Why a report does not count.
     fn refusal(&self, report: &Report) -> Option<Refusal>
-        ensures first { result ≡ refusal_of self.now report.now }
+        ensures first { result ≡ report_refusal self.now report.now }
         ensures chunk { IfNone result (IsChunk self.now.chunks report.now.chunk) }
     {
         if self.spoiled {

@@ -53,7 +53,7 @@ pub fn read_chunk_into<D: Device>(
 {
     let _limit = device.sectors();
     let (start, sectors) = chunks.range(chunk);
-    let mut bytes = sized(alloc, spare, 512 * sectors as usize)?;
+    let mut bytes = with_size(alloc, spare, 512 * sectors as usize)?;
     let report = match device.read(offset + start, bytes.as_mut_slice()) {
         Ok(()) => Report::delivered(chunk, source, bytes),
         Err(_) => Report::failed_in(chunk, source, bytes),
@@ -62,7 +62,7 @@ pub fn read_chunk_into<D: Device>(
 }
 
 // A list of so many bytes, in the memory of this one if it has room for them.
-fn sized(alloc: Global, spare: Vec<u8>, size: usize) -> Result<Vec<u8>, AllocError>
+fn with_size(alloc: Global, spare: Vec<u8>, size: usize) -> Result<Vec<u8>, AllocError>
     ensures { IfOk result (λ bytes. vec_len bytes ≡ size) }
 {
     let mut bytes = spare;

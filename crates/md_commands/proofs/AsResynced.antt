@@ -17,10 +17,10 @@ use Rattle.md_state.specs.ReadingData.{HoldsData}
 use Rattle.md_state.specs.Rests.{Rests}
 use Rattle.md_state.specs.View.{ArrayView, Disk, MirrorView, geometry_of}
 use Rattle.md_array.specs.Consistency.{IsConsistent}
-use Rattle.md_array.specs.NotingResynced.{AllAgreeAt, IsServed, sector_of}
+use Rattle.md_array.specs.NotingResynced.{AllAgreeAt, IsHonestMember, sector_of}
 use Rattle.md_array.specs.Worlds.{AreHonest, world_of}
 use Rattle.md_array.proofs.Worlds.SectorCopied.{in_sync_as}
-use Rattle.md_read.specs.Unresynced.{GivesPart, IsMarkedAt, IsUnmarkedAt, PartsInTurn}
+use Rattle.md_read.specs.Unresynced.{GivesPart, IsSectorMarked, IsUnmarkedAt, PartsInTurn}
 use Rattle.md_read.proofs.PartsInTurn.{part_rests, part_whole}
 use Rattle.md_read.proofs.RunsInTurn.{IsHeld, run_held, sector_held}
 use Rattle.md_read.proofs.RunsRead.{held_earlier, is_earlier}
@@ -56,8 +56,8 @@ module _ (old new : MirrorView) (sound : IsConsistent old) (honest : AreHonest o
       resyncs.goes.events None old nothing new nothing resyncs.goes.steps resyncs.unfailing honest sound (none_in_flight old.array) refl (resyncs.goes.leads None nothing (none_in_flight old.array))
       (record { unmarked = ap (λ b. nat_lt (s / old.array.chunks.sectors) old.array.marks.chunks && b) off ∙ and-false (nat_lt (s / old.array.chunks.sectors) old.array.marks.chunks); holds = refl })
 
-  marked_left : (s from k : ℕ) (m n : MemberView) (d e : Disk) → s < old.array.chunks.size → IsMarkedAt old.array s → IsSource from s old.array
-      → IsMember old.array from m → slice_get old.disks from ≡ Some d → IsServed new k n e → (Lists n s → ⊥) → sector_of n e s ≡ sector_of m d s
+  marked_left : (s from k : ℕ) (m n : MemberView) (d e : Disk) → s < old.array.chunks.size → IsSectorMarked old.array s → IsSource from s old.array
+      → IsMember old.array from m → slice_get old.disks from ≡ Some d → IsHonestMember new k n e → (Lists n s → ⊥) → sector_of n e s ≡ sector_of m d s
   marked_left s from k m n d e low marked source at there served free =
       let after = source_after s from low source in
       let within = slice_get_within old.array.members from m at in
@@ -78,7 +78,7 @@ module _ (old new : MirrorView) (sound : IsConsistent old) (honest : AreHonest o
       ∙ sector_there old nothing from s m d at there low
 
   unmarked_left : (s k : ℕ) (m n : MemberView) (d e : Disk) → s < old.array.chunks.size → IsUnmarkedAt old.array s
-      → IsMember old.array k m → slice_get old.disks k ≡ Some d → IsServed new k n e → sector_of n e s ≡ sector_of m d s
+      → IsMember old.array k m → slice_get old.disks k ≡ Some d → IsHonestMember new k n e → sector_of n e s ≡ sector_of m d s
   unmarked_left s k m n d e low off at there served =
       let after = stays_after s k off in
       sym (sector_there new nothing k s n e served.in_sync.member served.disk (low_after s low)) ∙ after.2.holds ∙ sector_there old nothing k s m d at there low
@@ -95,7 +95,7 @@ module _ (old new : MirrorView) (sound : IsConsistent old) (honest : AreHonest o
 -- ---- what was read without one, sector by sector
 -- it is of a marked chunk, and its source holds these bytes there
 pub record IsHeldBySource (s : ℕ) (bytes : List ℕ) (v : MirrorView) : Type 0 where
-  pub marked : IsMarkedAt v.array s
+  pub marked : IsSectorMarked v.array s
   pub from : ℕ
   pub source : IsSource from s v.array
   pub holds : HoldsData v from s bytes
@@ -132,7 +132,7 @@ part_held sector run old new (inr given) i low = inr (record {
 
 part_held_earlier : (s : ℕ) (bytes : List ℕ) (old mid : MirrorView) → Rests old mid → IsHeldPart s bytes mid → IsHeldPart s bytes old
 part_held_earlier s bytes old mid first (inl h) = inl (record {
-  marked = subst (λ (a : ArrayView). IsMarkedAt a s) first.array h.marked;
+  marked = subst (λ (a : ArrayView). IsSectorMarked a s) first.array h.marked;
   from = h.from;
   source = subst (λ (a : ArrayView). IsSource h.from s a) first.array h.source;
   holds = held_earlier old mid first h.from s bytes h.holds;
@@ -200,7 +200,7 @@ module _ (old start ready : MirrorView) (sound : IsConsistent old) (honest : Are
       let many = after.1.fits.as_many in
       got_within ready.disks other.from (omega arith)
 
-  served : IsServed ready other.from other.is.member device.0
+  served : IsHonestMember ready other.from other.is.member device.0
   served = record {
     in_sync = record { member = other.is.at; in_sync = (in_sync_as other.role other.is.member.state other.is.in_sync).0 };
     disk = device.1;
@@ -223,7 +223,7 @@ module _ (old start ready : MirrorView) (sound : IsConsistent old) (honest : Are
       let e = device_there old start same h.from d.0 d.1 in
       let at = subst (λ (a : ArrayView). IsMember a h.from m) (sym same.array) h.source.at in
       sym others_are
-      ∙ left.marked s h.from other.from m other.is.member e.0 device.0 low_there (subst (λ (a : ArrayView). IsMarkedAt a s) (sym same.array) h.marked)
+      ∙ left.marked s h.from other.from m other.is.member e.0 device.0 low_there (subst (λ (a : ArrayView). IsSectorMarked a s) (sym same.array) h.marked)
       (subst (λ (a : ArrayView). IsSource h.from s a) (sym same.array) h.source) at e.1 served other.unlisted
       ∙ sector_same old start same h.from s m d.0 e.0 d.1 e.1
       ∙ bytes_are old h.from s bytes m d.0 long h.holds h.source.at d.1 (honest h.from d.0 d.1)

@@ -33,16 +33,16 @@ use Rattle.md_laws.specs.ReadInTurn.{LeadsReading}
 use Rattle.md_metadata.specs.declared.stop_fault.StopFault.{StopFault}
 use Rattle.md_metadata.specs.declared.stop_fault.StopFault.TheVariants as stop
 use Rattle.md_metadata.specs.Going.{LeadsBy}
-use Rattle.md_metadata.specs.Stopping.{IsStopping, RefusesStop, Stops}
+use Rattle.md_metadata.specs.Stopping.{IsStopping, RefusesStop, StopsMirror}
 use Rattle.md_check.specs.declared.fault.CheckFault.{CheckFault}
 use Rattle.md_check.specs.declared.fault.CheckFault.TheVariants as check
 use Rattle.md_check.specs.Checking.{RefusesCheck}
 use Rattle.md_read.specs.declared.fault.UnreadFault.TheVariants as unread
 use Rattle.md_resync.specs.declared.fault.ResyncFault.{ResyncFault}
 use Rattle.md_resync.specs.declared.fault.ResyncFault.TheVariants as resync
-use Rattle.md_resync.specs.Resyncing.{GoesOn, GoesUnresynced, IsOfResync, RefusesResync, Resyncs}
+use Rattle.md_resync.specs.Resyncing.{ResyncGoesOn, GoesUnresynced, IsOfResync, RefusesResync, Resyncs}
 use Rattle.md_write.specs.Progress.{IsOfRequest}
-use Rattle.md_write.specs.Writing.{RefusesWrite, Writes, events_of}
+use Rattle.md_write.specs.Writing.{RefusesWrite, Writes, events_of_write}
 use Rattle.md_examine.specs.declared.sink.Sink.{Ghosts as SinkGhosts}
 use Rattle.md_commands.specs.declared.fault.CommandFault.{CommandFault}
 use Rattle.md_commands.specs.declared.fault.CommandFault.TheVariants.{BadLength, BadMember, Check, Fail, InputFault, NoPieceMemory, OutOfRange, OutputFault, Read, Remove, Resync, Stop, Write}
@@ -54,7 +54,7 @@ use Rattle.md_commands.specs.Checking.{ChecksMembers, ListsMismatches, RefusesTo
 use Rattle.md_commands.specs.Failing.{RefusesToFail}
 use Rattle.md_commands.specs.Filling.{FillsSome, PutsAll, ReadsFilled, RefusesToFill}
 use Rattle.md_commands.specs.Pieces.{ReadsPieces, ReadsSectors, ReadsSome, ReadsUpTo, RefusesSectors}
-use Rattle.md_commands.specs.Reading.{FailsReadied, FailsReadonly, IsReadyTo, ReadsArray, ReadsReadonly, RefusesReadonly, RefusesReady, RefusesToRead}
+use Rattle.md_commands.specs.Reading.{FailsReadyRead, FailsReadonly, IsReadyTo, ReadsArray, ReadsReadonly, RefusesReadonly, RefusesReady, RefusesToRead}
 use Rattle.md_commands.specs.Removing.{HandsBack, RefusesRemoving}
 use Rattle.md_commands.specs.Resyncing.{RefusesNeededResync, RefusesToResync, ResyncsIfNeeded, needs_resync}
 use Rattle.md_commands.specs.Stopping.{FailsToStop, FailsToStopArray, RefusesToStop, StopsAfter, StopsArray, StopsArrayAfter}
@@ -169,7 +169,7 @@ none_in_flight a n p is = absurd (none-some p is)
 led_by : (IsOf : Event → Type 0) → KeepsMembers IsOf → (old new : MirrorView) → LeadsBy IsOf old new → AsMany old new
 led_by IsOf keeps old new by = led IsOf keeps by.events None old new nothing nothing by.steps (by.leads None nothing (none_in_flight old.array))
 
-gone_on : (old new : MirrorView) → GoesOn old new → AsMany old new
+gone_on : (old new : MirrorView) → ResyncGoesOn old new → AsMany old new
 gone_on old new goes = led_reading IsOfResync resync_keeps goes.events None old new nothing nothing goes.steps (goes.leads None nothing (none_in_flight old.array))
 
 gone_unresynced : (old new : MirrorView) → GoesUnresynced old new → AsMany old new
@@ -178,7 +178,7 @@ gone_unresynced old new goes =
     (with_end IsOfResync goes.events Event.Unresynced goes.steps tt) (goes.leads None nothing (none_in_flight old.array))
 
 -- ---- the calls
-pub stopped : (old new : MirrorView) → Stops old new → AsMany old new
+pub stopped : (old new : MirrorView) → StopsMirror old new → AsMany old new
 stopped old new s = led_by IsStopping stopping_keeps old new s.goes
 
 not_stopped : (fault : StopFault) (old new : MirrorView) → RefusesStop old new fault → AsMany old new
@@ -204,7 +204,7 @@ not_resynced (resync.MemberFailed k) old new h = gone_unresynced old new h.stops
 wrote : (sector : ℕ) (bytes : List ℕ) (old new : MirrorView) → Writes sector bytes old new → AsMany old new
 wrote sector bytes old new w =
     let Of = IsOfRequest old.array.chunks w.request in
-    led (IsOrEnds Of) (keeps_or_ends Of (request_keeps old.array.chunks w.request)) (events_of w.request w.events) None old new nothing nothing
+    led (IsOrEnds Of) (keeps_or_ends Of (request_keeps old.array.chunks w.request)) (events_of_write w.request w.events) None old new nothing nothing
     (inr tt, with_end Of w.events (Event.Finish w.request.ticket.number) w.steps tt) (w.happens None nothing (none_in_flight old.array)).done
 
 not_written : (fault : BeginFault) (sector : ℕ) (bytes : List ℕ) (old new : MirrorView) → RefusesWrite sector bytes old new fault → AsMany old new
@@ -286,7 +286,7 @@ module _ {S : Type 0} (s : SinkGhosts S) (old new : MirrorView) (before after : 
     pub done_read : ReadsArray s sector count old new before after → AsMany old new
     done_read h = sectors_read Resynced sector h.puts.bytes h.ready new h.puts.reads ∙ readied old h.ready h.readied.readied
 
-    fails_readied : (fault : CommandFault) → FailsReadied s sector count old new before after fault → AsMany old new
+    fails_readied : (fault : CommandFault) → FailsReadyRead s sector count old new before after fault → AsMany old new
     fails_readied fault h = sectors_refused s Resynced sector count h.ready new before after fault h.refused ∙ readied old h.ready h.readied.readied
 
     pub reads_as_many : (fault : CommandFault) → RefusesToRead s sector count old new before after fault → AsMany old new

@@ -33,8 +33,8 @@ use Rattle.md_commands.specs.declared.fault.CommandFault.{CommandFault}
 use Rattle.md_commands.specs.declared.fault.CommandFault.TheVariants.{Read, Resync}
 use Rattle.md_commands.specs.declared.way.Way.{Way}
 use Rattle.md_commands.specs.declared.way.Way.TheVariants.{Resynced, Unresynced}
-use Rattle.md_commands.specs.Filling.{FillsContent, FillsFront, FillsMore, FillsSomeMore, IsClear, IsFilled, IsGiven, IsNotGiven, zeros}
-use Rattle.md_commands.specs.Ways.{EndsBy, ReadsBy}
+use Rattle.md_commands.specs.Filling.{FillsContent, FillsFront, FillsMore, FillsSomeMore, IsClear, IsFilled, IsGivenByRead, IsNotGiven, zeros}
+use Rattle.md_commands.specs.Ways.{EndsReading, ReadsBy}
 use Rattle.md_commands.proofs.Ways.{reads_rests, reads_some}
 
 -- what a buffer is filled with
@@ -74,7 +74,7 @@ noted_one s was missing fits added t = (
 
 module _ (way : Way) where
   -- ---- between views further apart
-  given_wider : (s : ℕ) (block : List ℕ) (first old new last : MirrorView) → Rests first old → IsGiven way s block old new → Rests new last → IsGiven way s block first last
+  given_wider : (s : ℕ) (block : List ℕ) (first old new last : MirrorView) → Rests first old → IsGivenByRead way s block old new → Rests new last → IsGivenByRead way s block first last
   given_wider s block first old new last before g after = record {
     mid = g.mid;
     later = g.later;
@@ -203,11 +203,11 @@ module _ (way : Way) where
           let there : length xs / 512 + j ≡ i = omega arith in
           sym (held_end xs ys j first.fills.whole) ∙ ap (λ (k : ℕ). held (xs ++ ys) k 512) there
 
-      late_given : (IsBad missing (sector + i) → ⊥) → IsGiven way (sector + i) (held (xs ++ ys) i 512) old new
+      late_given : (IsBad missing (sector + i) → ⊥) → IsGivenByRead way (sector + i) (held (xs ++ ys) i 512) old new
       late_given free =
           let here = second.fills.given j among (λ bad. free (subst (λ (s : ℕ). IsBad missing s) place bad)) in
-          subst (λ (s : ℕ). IsGiven way s (held (xs ++ ys) i 512) old new) place
-          (subst (λ (b : List ℕ). IsGiven way at b old new) bytes_are
+          subst (λ (s : ℕ). IsGivenByRead way s (held (xs ++ ys) i 512) old new) place
+          (subst (λ (b : List ℕ). IsGivenByRead way at b old new) bytes_are
           (given_wider at (held ys j 512) old mid new new first.fills.rests here (rests_same new)))
 
       late_lost : IsBad missing (sector + i) → (held (xs ++ ys) i 512 ≡ zeros) × IsNotGiven way (sector + i) (second.fills.asked j) (second.fills.over j)
@@ -252,10 +252,10 @@ module _ (way : Way) where
     lost_at i low bad (inl early) = let here = first.fills.lost i early ((stays i early).0 bad) in (held_front xs ys i early ∙ here.0, here.1)
     lost_at i low bad (inr late) = late_lost i low late bad
 
-    given : (i : ℕ) → i < length (xs ++ ys) / 512 → (IsBad missing (sector + i) → ⊥) → IsGiven way (sector + i) (held (xs ++ ys) i 512) old new
+    given : (i : ℕ) → i < length (xs ++ ys) / 512 → (IsBad missing (sector + i) → ⊥) → IsGivenByRead way (sector + i) (held (xs ++ ys) i 512) old new
     given i low free = elim (cases_lt i (length xs / 512)) [
       | inl early ↦
-          subst (λ (b : List ℕ). IsGiven way (sector + i) b old new) (sym (held_front xs ys i early))
+          subst (λ (b : List ℕ). IsGivenByRead way (sector + i) b old new) (sym (held_front xs ys i early))
           (given_wider (sector + i) (held xs i 512) old old mid new (rests_same old) (first.fills.given i early (λ bad. free ((stays i early).1 bad))) second.fills.rests)
       | inr late ↦ late_given i low late free
     ]
@@ -366,14 +366,14 @@ module _ (old new : MirrorView) (sound : IsConsistent old) (sector s : ℕ) (pie
       none = none;
     }
 
-  ends_with : (way : Way) (reason : CommandFault) → EndsBy way sector s piece old new reason → EndsWith sector s piece old new way
+  ends_with : (way : Way) (reason : CommandFault) → EndsReading way sector s piece old new reason → EndsWith sector s piece old new way
   ends_with Resynced (Read (Unreadable t)) h = ends_resynced h.1
   ends_with Unresynced (Read (Unreadable t)) h = ends_unresynced (unresynced.Unreadable s) h.1.0 h.1.1 (inl h.1.1.ends.1)
   ends_with Unresynced (Resync (ReadFault k c)) h = ends_unresynced (unresynced.ReadFault k s) h.1.0 h.1.1 (inr (k, h.1.1.ends.1))
   ends_with way reason h = absurd h
 
   -- it is noted
-  module _ (way : Way) (reason : CommandFault) (ends : EndsBy way sector s piece old new reason) (was missing : List Run) (clear : IsClear was sector)
+  module _ (way : Way) (reason : CommandFault) (ends : EndsReading way sector s piece old new reason) (was missing : List Run) (clear : IsClear was sector)
       (noted : (t : ℕ) → IsBad missing t ↔ (IsBad was t ⊎ (t ≡ s))) where
     there : EndsWith sector s piece old new way
     there = ends_with way reason ends

@@ -11,7 +11,7 @@ use Rattle.md_commands.specs.declared.fault.CommandFault.TheVariants.{OutputFaul
 use Rattle.md_commands.specs.declared.way.Way.{Way}
 use Rattle.md_commands.specs.Output.{FailsOutput, PutsOut}
 use Rattle.md_commands.specs.Pieces.{PutsFront, PutsPiece, PutsPieceUpTo, PutsSectors, ReadsSectors, ReadsUpTo, RefusesPiece, RefusesSectors, piece_sectors}
-use Rattle.md_commands.specs.Ways.{EndsBy, ReadsBy}
+use Rattle.md_commands.specs.Ways.{EndsReading, ReadsBy}
 use Rattle.md_commands.proofs.PiecesRead.{nothing_read, one_read, read_up_to, sectors_read}
 use Rattle.md_commands.proofs.Ways.{by_reason}
 
@@ -27,13 +27,13 @@ module _ {S : Type 0} (o : Ghosts S) (way : Way) (sector : ℕ) where
   puts_first v out = record { bytes = []; many = refl; reads = nothing_read way sector v; puts = puts_nothing o.contents o.failed out }
 
   -- a sector of the range was not read
-  pub ends_early : (count s : ℕ) (old new : MirrorView) (before after : S) (at : ℕ) (piece : List ℕ) (mid : MirrorView) (reason : CommandFault) → EndsBy way at s piece mid new reason
+  pub ends_early : (count s : ℕ) (old new : MirrorView) (before after : S) (at : ℕ) (piece : List ℕ) (mid : MirrorView) (reason : CommandFault) → EndsReading way at s piece mid new reason
       → PutsFront o way sector count s reason old new before after → RefusesSectors o way sector count old new before after reason
   ends_early count s old new before after at piece mid reason ends =
       by_reason (λ f. PutsFront o way sector count s f old new before after → RefusesSectors o way sector count old new before after f) (λ t h. (s, h)) (λ k c h. (s, h))
       way at s piece mid new reason ends
 
-  pub piece_ends : (at s : ℕ) (piece : List ℕ) (old new : MirrorView) (before after : S) (reason : CommandFault) (ends : EndsBy way at s piece old new reason)
+  pub piece_ends : (at s : ℕ) (piece : List ℕ) (old new : MirrorView) (before after : S) (reason : CommandFault) (ends : EndsReading way at s piece old new reason)
       → PutsOut o before after (take (512 * (s - at)) piece) → RefusesPiece o way at piece old new before after reason
   piece_ends at s piece old new before after reason ends shown =
       by_reason (λ f. PutsPieceUpTo o way at s f piece old new before after → RefusesPiece o way at piece old new before after f) (λ t h. (s, h)) (λ k c h. (s, h))
@@ -83,9 +83,9 @@ module _ {S : Type 0} (o : Ghosts S) (way : Way) (sector : ℕ) where
       fits : length b + length piece ≤ 512 * count
       fits = let many = so_far.many in omega arith
 
-      up_to : (s : ℕ) (reason : CommandFault) → EndsBy way (sector + done) s piece mid new reason
+      up_to : (s : ℕ) (reason : CommandFault) → EndsReading way (sector + done) s piece mid new reason
           → ReadsUpTo way sector count s reason (b ++ take (512 * (s - (sector + length b / 512))) piece) old new
-      up_to s reason ends = read_up_to way old mid new sound sector still count s reason b piece so_far.reads whole (subst (λ (x : ℕ). EndsBy way x s piece mid new reason) here ends) fits
+      up_to s reason ends = read_up_to way old mid new sound sector still count s reason b piece so_far.reads whole (subst (λ (x : ℕ). EndsReading way x s piece mid new reason) here ends) fits
 
       front_put : (s : ℕ) (reason : CommandFault) → PutsPieceUpTo o way (sector + done) s reason piece mid new between after → RefusesSectors o way sector count old new before after reason
       front_put s reason h = ends_early count s old new before after (sector + done) piece mid reason h.ends (record {
@@ -119,14 +119,14 @@ module _ {S : Type 0} (o : Ghosts S) (way : Way) (sector : ℕ) where
     put_or_not reads after (Err fault) fails =
         subst (λ (f : CommandFault). RefusesSectors o way sector (length piece / 512) old new before after f) (sym fails.is) (inl (piece, omega arith, one reads), fails.failed)
 
-    pub one_unread : (s : ℕ) (reason : CommandFault) → EndsBy way sector s piece old new reason → RefusesSectors o way sector (length piece / 512) old new before before reason
+    pub one_unread : (s : ℕ) (reason : CommandFault) → EndsReading way sector s piece old new reason → RefusesSectors o way sector (length piece / 512) old new before before reason
     one_unread s reason ends = ends_early (length piece / 512) s old new before before sector piece old reason ends (record {
       bytes = take (512 * (s - sector)) piece;
       reads =
           let here : sector + 0 / 512 ≡ sector = omega arith in
           let none : sector ≡ sector + 0 / 512 = omega arith in
           subst (λ (x : ℕ). ReadsUpTo way sector (length piece / 512) s reason (take (512 * (s - x)) piece) old new) here
-          (read_up_to way old old new sound sector sound (length piece / 512) s reason [] piece (nothing_read way sector old) refl (subst (λ (x : ℕ). EndsBy way x s piece old new reason) none ends) (omega arith));
+          (read_up_to way old old new sound sector sound (length piece / 512) s reason [] piece (nothing_read way sector old) refl (subst (λ (x : ℕ). EndsReading way x s piece old new reason) none ends) (omega arith));
       short = λ few. refl;
       long = λ longer. absurd (omega arith);
     })

@@ -7,7 +7,7 @@ use Rattle.md_state.specs.View.{MirrorView}
 use Rattle.md_commands.specs.declared.fault.CommandFault.{CommandFault}
 use Rattle.md_commands.specs.declared.way.Way.{Way}
 use Rattle.md_commands.specs.Pieces.{ReadsPiece, ReadsPieces, ReadsSectors, ReadsUpTo}
-use Rattle.md_commands.specs.Ways.{EndsBy, ReadsBy}
+use Rattle.md_commands.specs.Ways.{EndsReading, ReadsBy}
 use Rattle.md_commands.proofs.Ways.{Ends, both_read, ends_there, reads_later, reads_some}
 
 -- ---- pieces
@@ -66,7 +66,7 @@ module _ (way : Way) where
     }
 
     module _ (still : IsConsistent mid) (count s : ℕ) (reason : CommandFault) (bytes piece : List ℕ) (so_far : ReadsSectors way sector bytes old mid) (whole : length bytes % 512 ≡ 0)
-        (ends : EndsBy way (sector + length bytes / 512) s piece mid new reason) where
+        (ends : EndsReading way (sector + length bytes / 512) s piece mid new reason) where
       abbrev at : ℕ
       at = sector + length bytes / 512
 

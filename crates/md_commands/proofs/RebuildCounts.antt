@@ -4,7 +4,7 @@ use Rattle.std.proofs.lemmas.List.{length-append}
 use Rattle.md_bitmap.specs.Marks.{Bitmap}
 use Rattle.md_cert.specs.declared.slots.Slot.{Slot}
 use Rattle.md_kept_members.specs.View.{MemberView}
-use Rattle.md_passes.specs.Passes.{PassView, failed_chunks, slots_of}
+use Rattle.md_passes.specs.Passes.{PassView, failed_chunks, slots_of_pass}
 use Rattle.md_faults.specs.declared.re_add_fault.ReAddFault.{ReAddFault}
 use Rattle.md_faults.specs.declared.re_add_fault.ReAddFault.TheVariants as re_add
 use Rattle.md_metadata.specs.Going.{GoesOn, only_others}
@@ -16,19 +16,19 @@ use Rattle.md_copy.specs.declared.fault.RebuildFault.{RebuildFault}
 use Rattle.md_copy.specs.declared.fault.RebuildFault.TheVariants as rebuild
 use Rattle.md_copy.specs.declared.rebuilt.Rebuilt.{Rebuilt}
 use Rattle.md_copy.specs.Filling.{BreaksPass}
-use Rattle.md_copy.specs.Leaving.{Leaves, LeavesAfter}
-use Rattle.md_copy.specs.Listing.{StopsListing}
-use Rattle.md_copy.specs.Passing.{AreListedPasses, BreaksOff, CopiesAll, EndsBetween, FailsListing, FailsRecording, RecordsPass}
-use Rattle.md_copy.specs.Readying.{AdmitsAfter, AdmitsFirst, StopsAdmitted}
-use Rattle.md_copy.specs.Rebuilding.{Begins, EndsFilled, EndsReadied, FillsBy, LacksMemory, LacksRoom, LosesSource, LosesTarget, Rebuilds, RefusesRebuild}
+use Rattle.md_copy.specs.Leaving.{RecordsAtEnd, LeavesAfter}
+use Rattle.md_copy.specs.Listing.{EndsListing}
+use Rattle.md_copy.specs.Passing.{AreListedPasses, BreaksOffPass, CopiesAll, EndsBetween, FailsListing, FailsRecording, RecordsPass}
+use Rattle.md_copy.specs.Readying.{AdmitsAfter, AdmitsFirst, EndsAdmitted}
+use Rattle.md_copy.specs.Rebuilding.{BeginsRebuild, EndsFilled, EndsReadied, FillsBy, LacksMemoryToRebuild, LacksRoom, LosesSource, LosesTarget, Rebuilds, RefusesRebuild}
 use Rattle.md_copy.specs.Sources.{missing_chunks}
-use Rattle.md_copy.specs.Storing.{HaltsSettling, Settles, StopsAt}
+use Rattle.md_copy.specs.Storing.{HaltsUntilDone, StoresUntilDone, EndsAtOther}
 use Rattle.md_examine.specs.declared.sink.Sink.{Ghosts}
 use Rattle.md_commands.specs.declared.fault.CommandFault.{CommandFault}
 use Rattle.md_commands.specs.declared.fault.CommandFault.TheVariants.{BadMember, OutputFault, Rebuild, Resync, Stop}
 use Rattle.md_commands.specs.Adding.{KeepsDevice}
 use Rattle.md_commands.specs.ReAdding.{ComesBackReadied, RebuildsMember, RefusesRebuilding}
-use Rattle.md_commands.specs.Rebuilding.{RebuildsArray, RebuildsReadied, RefusesToRebuild}
+use Rattle.md_commands.specs.Rebuilding.{RebuildsArray, RebuildsResynced, RefusesToRebuild}
 use Rattle.md_commands.specs.Resyncing.{RefusesNeededResync, ResyncsIfNeeded}
 use Rattle.md_commands.specs.Stopping.{StopsArrayAfter}
 use Rattle.md_commands.proofs.DeviceCounts.{AsMany, KeepsMembers, fails_after, halts, led, none_in_flight, not_readied, nothing, readied, same, stopped, stopped_after, stops_as_many}
@@ -39,10 +39,10 @@ storing_keeps = record { removes = λ k of. of; adds = λ d left of. of; re_adds
 gone_on : (old new : MirrorView) → GoesOn only_others only_others IsStoring old new → AsMany old new
 gone_on old new goes = led IsStoring storing_keeps goes.events None old new nothing nothing goes.steps (goes.leads None nothing (none_in_flight old.array))
 
-halted_after : (old new : MirrorView) → HaltsSettling old new → AsMany old new
+halted_after : (old new : MirrorView) → HaltsUntilDone old new → AsMany old new
 halted_after old new h = halts h.failing h.mid new nothing (h.halts nothing) ∙ gone_on old h.mid h.goes
 
-settled : (old new : MirrorView) → Settles old new → AsMany old new
+settled : (old new : MirrorView) → StoresUntilDone old new → AsMany old new
 settled old new s = ⊎_elim (λ all. gone_on old new all.goes) (λ h. halted_after old new h) s
 
 admitted : (k : ℕ) (old new : MirrorView) → AdmitsAfter k old new → AsMany old new
@@ -51,14 +51,14 @@ admitted k old new a = a.admits.disks.tried.as_many ∙ gone_on old a.stored a.f
 admitted_first : (k : ℕ) (old ready : MirrorView) → AdmitsFirst k old ready → AsMany old ready
 admitted_first k old ready a = gone_on a.admitted ready a.then.stores.goes ∙ admitted k old a.admitted a.after
 
-begun : (k : ℕ) (old ready : MirrorView) (none : Bitmap) → Begins k old ready none → AsMany old ready
+begun : (k : ℕ) (old ready : MirrorView) (none : Bitmap) → BeginsRebuild k old ready none → AsMany old ready
 begun k old ready none b = ⊎_elim (λ r. gone_on old ready r.1.stores.goes) (λ a. admitted_first k old ready a.1) b.first
 
-stopped_at : (k j : ℕ) (old new : MirrorView) → StopsAt k j old new → AsMany old new
+stopped_at : (k j : ℕ) (old new : MirrorView) → EndsAtOther k j old new → AsMany old new
 stopped_at k j old new s =
     ⊎_elim (λ lost. gone_on old new lost.loses.goes) (λ at. halts at.failing at.mid new nothing (at.halts nothing) ∙ gone_on old at.mid at.stores.goes) s.ends
 
-stopped_admitted : (k j : ℕ) (old new : MirrorView) → StopsAdmitted k j old new → AsMany old new
+stopped_admitted : (k j : ℕ) (old new : MirrorView) → EndsAdmitted k j old new → AsMany old new
 stopped_admitted k j old new s = stopped_at k j s.admitted new s.stops ∙ admitted k old s.admitted s.after
 
 -- ---- passes
@@ -88,13 +88,13 @@ broken_pass rebuild.TargetFault k m slots before after old new h = h.filling.as_
 broken_pass fault k m slots before after old new h = absurd h
 
 broken_off : (fault : RebuildFault) (k : ℕ) (chunks : List ℕ) (before after : Bitmap) (old new : MirrorView)
-    → BreaksOff k fault chunks before after old new → AsMany old new
-broken_off fault k chunks before after old new b = broken_pass fault k b.member (slots_of b.pass) before after old new b.breaks
+    → BreaksOffPass k fault chunks before after old new → AsMany old new
+broken_off fault k chunks before after old new b = broken_pass fault k b.member (slots_of_pass b.pass) before after old new b.breaks
 
 unrecorded : (k : ℕ) (chunks : List ℕ) (before : Bitmap) (old new : MirrorView) → FailsRecording k chunks before old new → AsMany old new
 unrecorded k chunks before old new f = f.fails.disks.tried.as_many ∙ f.makes.copies.filling.as_many
 
-stopped_listing : (fault : RebuildFault) (failed : List Slot) (old new : MirrorView) → StopsListing failed old new fault → AsMany old new
+stopped_listing : (fault : RebuildFault) (failed : List Slot) (old new : MirrorView) → EndsListing failed old new fault → AsMany old new
 stopped_listing (rebuild.LogFull j) failed old new s = ap length s.notes.disks
 stopped_listing rebuild.NoMemory failed old new s = ap length s.notes.disks
 stopped_listing (rebuild.MetadataFault j) failed old new s = s.2.writes.as_many ∙ ap length s.1.disks
@@ -113,7 +113,7 @@ filled k m passes none copied kept orphans chunks ready now f = copied_all k m p
 rebuilt : (k : ℕ) (told : Rebuilt) (old new : MirrorView) → Rebuilds k told old new → AsMany old new
 rebuilt k told old new r =
     let by = r.rebuilds.by in
-    settled by.enrolled new by.settles
+    settled by.enrolled new by.stores_until_done
     ∙ (by.enrols.disks.as_many
     ∙ (filled k r.begins.now r.rebuilds.passes r.none r.rebuilds.copied r.rebuilds.kept r.rebuilds.orphans r.rebuilds.chunks r.ready by.filled by.fills
     ∙ begun k old r.ready r.none r.begins))
@@ -123,7 +123,7 @@ when_filled : (k : ℕ) (m : MemberView) (none : Bitmap) (ready new : MirrorView
 when_filled k m none ready new Why after e =
     after e.kept e.orphans e.filled e.why ∙ filled k m e.passes none e.copied e.kept e.orphans e.chunks ready e.filled e.fills
 
-lacks_memory : (k : ℕ) (m : MemberView) (none after : Bitmap) (ready stopped : MirrorView) → LacksMemory k m none after ready stopped → AsMany ready stopped
+lacks_memory : (k : ℕ) (m : MemberView) (none after : Bitmap) (ready stopped : MirrorView) → LacksMemoryToRebuild k m none after ready stopped → AsMany ready stopped
 lacks_memory k m none after ready stopped h =
     ⊎_elim (λ e. between k m none ready stopped _ (λ left copied now why. same now stopped why.1) e)
     (λ rest.
@@ -155,7 +155,7 @@ loses_target k m none ready new h =
     h
 
 -- how far it came was recorded, or could not be
-left : (k : ℕ) (copied : Bitmap) (stopped new : MirrorView) → Leaves k copied stopped new → AsMany stopped new
+left : (k : ℕ) (copied : Bitmap) (stopped new : MirrorView) → RecordsAtEnd k copied stopped new → AsMany stopped new
 left k copied stopped new l =
     ⊎_elim (λ h. same stopped new h.1) (λ c. ⊎_elim (λ done. done.disks.tried.as_many) (λ fails. fails.disks.tried.as_many) c) l
 
@@ -195,20 +195,20 @@ not_rebuilt (rebuild.LogFull j) k old new h =
     left_after k old new _ (λ copied stopped e. when_ready k old stopped _ (λ m none ready why. lacks_room j k m none copied ready stopped why) e) h
 
 -- ---- the command that rebuilds a member
-rebuilt_readied : (k : ℕ) (told : Rebuilt) (old new : MirrorView) → RebuildsReadied k told old new → AsMany old new
+rebuilt_readied : (k : ℕ) (told : Rebuilt) (old new : MirrorView) → RebuildsResynced k told old new → AsMany old new
 rebuilt_readied k told old new r = rebuilt k told r.ready new r.rebuilds ∙ readied old r.ready r.readied
 
 module _ {S : Type 0} (s : Ghosts S) (k : ℕ) (old new : MirrorView) (before after : S) where
   pub done_rebuild : RebuildsArray s k old new before after → AsMany old new
-  done_rebuild h = stopped_after (RebuildsReadied k h.told old) old new (rebuilt_readied k h.told old) h.done
+  done_rebuild h = stopped_after (RebuildsResynced k h.told old) old new (rebuilt_readied k h.told old) h.done
 
   pub rebuilds_as_many : (fault : CommandFault) → RefusesToRebuild s k old new before after fault → AsMany old new
   rebuilds_as_many BadMember h = same old new h.0.unchanged
   rebuilds_as_many (Resync fault) h = not_readied fault old new h.refused
   rebuilds_as_many (Rebuild fault) h = not_rebuilt fault k h.refused.ready new h.refused.refused ∙ readied old h.refused.ready h.refused.readied
   rebuilds_as_many (Stop fault) h =
-      fails_after (λ mid. (told : Rebuilt) × RebuildsReadied k told old mid) old new fault (λ mid r. rebuilt_readied k r.0 old mid r.1) h.refused
-  rebuilds_as_many OutputFault h = stopped_after (RebuildsReadied k h.told old) old new (rebuilt_readied k h.told old) h.done
+      fails_after (λ mid. (told : Rebuilt) × RebuildsResynced k told old mid) old new fault (λ mid r. rebuilt_readied k r.0 old mid r.1) h.refused
+  rebuilds_as_many OutputFault h = stopped_after (RebuildsResynced k h.told old) old new (rebuilt_readied k h.told old) h.done
   rebuilds_as_many fault h = absurd h
 
 -- ---- the command that takes a device back

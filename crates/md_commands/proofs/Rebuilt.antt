@@ -9,7 +9,7 @@ use Rattle.md_commands.specs.declared.fault.CommandFault.TheVariants.{ReAdd, Reb
 use Rattle.md_commands.specs.Failing.{HasMember}
 use Rattle.md_commands.specs.Output.{FailsOutput, PutsOut}
 use Rattle.md_commands.specs.ReAdding.{ComesBackReadied, RebuildsMember, ReAddsDevice, RefusesRebuilding, RefusesToReAdd}
-use Rattle.md_commands.specs.Rebuilding.{RebuildsArray, RebuildsReadied, RefusesReadied, RefusesToRebuild}
+use Rattle.md_commands.specs.Rebuilding.{RebuildsArray, RebuildsResynced, RefusesReadied, RefusesToRebuild}
 use Rattle.md_commands.specs.Stopping.{RefusesToStop, StopsAfter, StopsArray, StopsArrayAfter}
 
 module _ {S : Type 0} (s : Ghosts S) (k : ℕ) (old new : MirrorView) (before : S) where
@@ -19,7 +19,7 @@ module _ {S : Type 0} (s : Ghosts S) (k : ℕ) (old new : MirrorView) (before : 
   not_rebuilt member (Stop fault) h = record { member = member; refused = h; unwritten = refl }
   not_rebuilt member fault h = absurd h
 
-  pub rebuilt_or_not : (after : S) (told : Rebuilt) → StopsAfter (RebuildsReadied k told old) new → (result : Result (Unit {0}) CommandFault)
+  pub rebuilt_or_not : (after : S) (told : Rebuilt) → StopsAfter (RebuildsResynced k told old) new → (result : Result (Unit {0}) CommandFault)
       → MatchResult result (λ _. PutsOut s before after (rebuilt_text k told.passes told.plans.items (length told.orphans.items))) (FailsOutput s after)
       → MatchResult result (λ _. RebuildsArray s k old new before after) (RefusesToRebuild s k old new before after)
   rebuilt_or_not after told done (Ok x) shown = record { told = told; done = done; shown = shown }

@@ -18,7 +18,7 @@ use Rattle.md_commands.specs.declared.fault.CommandFault.{CommandFault}
 use Rattle.md_commands.specs.declared.fault.CommandFault.TheVariants.{Read, Resync}
 use Rattle.md_commands.specs.declared.way.Way.{Way}
 use Rattle.md_commands.specs.declared.way.Way.TheVariants.{Resynced, Unresynced}
-use Rattle.md_commands.specs.Ways.{EndsBy, MayReadBy, ReadsBy}
+use Rattle.md_commands.specs.Ways.{EndsReading, MayReadBy, ReadsBy}
 
 -- a part of sectors that may be read
 pub may_read_part : (way : Way) (old mid : ArrayView) → mid ≡ old → (sector count done sectors : ℕ) → MayReadBy way old sector count → 0 < sectors → done + sectors ≤ count
@@ -126,14 +126,14 @@ module _ (old new : MirrorView) (sound : IsConsistent old) (sector s : ℕ) (pie
         };
   }
 
-  pub ends_there : (way : Way) (reason : CommandFault) → EndsBy way sector s piece old new reason → Ends sector s piece old new way
+  pub ends_there : (way : Way) (reason : CommandFault) → EndsReading way sector s piece old new reason → Ends sector s piece old new way
   ends_there Resynced (Read (Unreadable t)) h = ends_resynced h.1
   ends_there Unresynced (Read (Unreadable t)) h = ends_unresynced (unresynced.Unreadable s) h.1.0 h.1.1
   ends_there Unresynced (Resync (ReadFault k c)) h = ends_unresynced (unresynced.ReadFault k s) h.1.0 h.1.1
   ends_there way reason h = absurd h
 
 -- nothing was written
-pub ends_rest : (way : Way) (sector s : ℕ) (piece : List ℕ) (old new : MirrorView) (reason : CommandFault) → EndsBy way sector s piece old new reason → Rests old new
+pub ends_rest : (way : Way) (sector s : ℕ) (piece : List ℕ) (old new : MirrorView) (reason : CommandFault) → EndsReading way sector s piece old new reason → Rests old new
 ends_rest Resynced sector s piece old new (Read (Unreadable t)) h = h.1.1.rests
 ends_rest Unresynced sector s piece old new (Read (Unreadable t)) h = h.1.1.rests
 ends_rest Unresynced sector s piece old new (Resync (ReadFault k c)) h = h.1.1.rests
@@ -141,7 +141,7 @@ ends_rest way sector s piece old new reason h = absurd h
 
 -- what holds of each reason for which a read may end holds of the one for which it did
 pub by_reason : (P : CommandFault → Type 0) → ((s : ℕ) → P (Read (Unreadable s))) → ((k c : ℕ) → P (Resync (ReadFault k c)))
-    → (way : Way) (sector s : ℕ) (piece : List ℕ) (old new : MirrorView) (reason : CommandFault) → EndsBy way sector s piece old new reason → P reason
+    → (way : Way) (sector s : ℕ) (piece : List ℕ) (old new : MirrorView) (reason : CommandFault) → EndsReading way sector s piece old new reason → P reason
 by_reason P unreadable source Resynced sector s piece old new (Read (Unreadable t)) h = unreadable t
 by_reason P unreadable source Unresynced sector s piece old new (Read (Unreadable t)) h = unreadable t
 by_reason P unreadable source Unresynced sector s piece old new (Resync (ReadFault k c)) h = source k c

@@ -6,10 +6,10 @@ use Rattle.md_state.specs.CopyingData.{IsSource, Lists}
 use Rattle.md_state.specs.Members.{IsMember}
 use Rattle.md_state.specs.View.{Disk, MirrorView}
 use Rattle.md_array.specs.Consistency.{IsConsistent}
-use Rattle.md_array.specs.NotingResynced.{AllAgreeAt, IsServed, sector_of}
+use Rattle.md_array.specs.NotingResynced.{AllAgreeAt, IsHonestMember, sector_of}
 use Rattle.md_array.specs.Worlds.{AreHonest}
 use Rattle.md_read.specs.Reading.{Reads}
-use Rattle.md_read.specs.Unresynced.{IsMarkedAt, IsUnmarkedAt, ReadsUnresynced}
+use Rattle.md_read.specs.Unresynced.{IsSectorMarked, IsUnmarkedAt, ReadsUnresynced}
 use Rattle.md_resync.specs.Resyncing.{Resyncs}
 
 -- The array is kept as it was, and each device holds what it held: nothing was written between the two. So it is of devices, and of overlays
@@ -24,12 +24,12 @@ pub record HoldsAsMuch (old new : MirrorView) : Type 0 where
 -- held, and what any member holds of another chunk stays.
 pub record LeavesSources (old new : MirrorView) : Type 0 where
   pub marked : (s from k : ℕ) (m n : MemberView) (d e : Disk) → s < old.array.chunks.size
-      → IsMarkedAt old.array s → IsSource from s old.array
-      → IsMember old.array from m → slice_get old.disks from ≡ Some d → IsServed new k n e → (Lists n s → ⊥)
+      → IsSectorMarked old.array s → IsSource from s old.array
+      → IsMember old.array from m → slice_get old.disks from ≡ Some d → IsHonestMember new k n e → (Lists n s → ⊥)
       → sector_of n e s ≡ sector_of m d s
   pub unmarked : (s k : ℕ) (m n : MemberView) (d e : Disk) → s < old.array.chunks.size
       → IsUnmarkedAt old.array s
-      → IsMember old.array k m → slice_get old.disks k ≡ Some d → IsServed new k n e
+      → IsMember old.array k m → slice_get old.disks k ≡ Some d → IsHonestMember new k n e
       → sector_of n e s ≡ sector_of m d s
 
 abbrev pub ResyncsLeaveSources : Type 0

@@ -1,7 +1,7 @@
 -- The command that compares the members in sync.
 use Rattle.std.specs.Prelude.{◌≡◌, ℕ, true, List}
 use Rattle.md_bitmap.specs.Marks.{Bitmap}
-use Rattle.md_check.specs.Checking.{Checks, Finds, RefusesCheck}
+use Rattle.md_check.specs.Checking.{Checks, FindsMismatches, RefusesCheck}
 use Rattle.md_examine.specs.declared.sink.Sink.{Ghosts}
 use Rattle.md_report.specs.CheckReport.{check_text}
 use Rattle.md_state.specs.View.{MirrorView}
@@ -32,13 +32,13 @@ module _ {S : Type 0} (s : Ghosts S) where
   pub record ListsMismatches (text_of : Bitmap → List ℕ) (old new : MirrorView)
       (before after : S) : Type 0 where
     pub set : Bitmap
-    pub finds : Finds old new set
+    pub finds : FindsMismatches old new set
     pub shown : PutsOut s before after (text_of set)
 
   -- they are compared, and the output failed
   pub record ListsInVain (old new : MirrorView) (after : S) : Type 0 where
     pub set : Bitmap
-    pub finds : Finds old new set
+    pub finds : FindsMismatches old new set
     pub failed : s.failed after ≡ true
 
   abbrev pub RefusesToList : MirrorView → MirrorView → S → S → CommandFault → Type 0

@@ -37,7 +37,7 @@ IsNotGiven Unresynced s old new = NoneGivesPart s old new ⊎ ((k : ℕ) × Sour
 
 module _ (way : Way) where
   -- A read gave the sector these bytes, and others perhaps with it. It was done between the two.
-  pub record IsGiven (s : ℕ) (block : List ℕ) (old new : MirrorView) : Type 0 where
+  pub record IsGivenByRead (s : ℕ) (block : List ℕ) (old new : MirrorView) : Type 0 where
     pub mid : MirrorView
     pub later : MirrorView
     pub before : Rests old mid
@@ -56,7 +56,7 @@ module _ (way : Way) where
     pub whole : length bytes % 512 ≡ 0
     pub rests : Rests old new
     pub given : (i : ℕ) → i < length bytes / 512 → (IsBad missing (sector + i) → ⊥)
-        → IsGiven (sector + i) (held bytes i 512) old new
+        → IsGivenByRead (sector + i) (held bytes i 512) old new
     -- The mirror as each sector was asked for, and when that was over. One comes after another, so that a read which failed for one is none
     -- that failed for another.
     pub asked : ℕ → MirrorView
@@ -156,13 +156,13 @@ module _ {S : Type 0} (o : Ghosts S) (way : Way) where
 
 -- ---- the command
 -- The sector is the first of those that are missing.
-pub record IsFirst (missing : List Run) (s : ℕ) : Type 0 where
+pub record IsLeastMissing (missing : List Run) (s : ℕ) : Type 0 where
   pub is : IsBad missing s
   pub least : (t : ℕ) → IsBad missing t → s ≤ t
 
 -- as the answer of a read says it
 abbrev pub IsFirstMissing : List Run → UnreadFault → Type 0
-IsFirstMissing missing (Unreadable s) = IsFirst missing s
+IsFirstMissing missing (Unreadable s) = IsLeastMissing missing s
 IsFirstMissing missing fault = ⊥
 
 module _ {S : Type 0} (o : Ghosts S) (readonly : Bool) (sector count : ℕ) (missing : List Run)
@@ -194,7 +194,7 @@ module _ {S : Type 0} (o : Ghosts S) (readonly : Bool) (sector count : ℕ) (mis
   abbrev pub RefusesToFill : CommandFault → Type 0
   RefusesToFill NoPieceMemory = FailsToPutAll NoPieceMemory
   RefusesToFill OutputFault = FailsToPutAll OutputFault
-  RefusesToFill (Read (Unreadable s)) = PutsAll × IsFirst missing s
+  RefusesToFill (Read (Unreadable s)) = PutsAll × IsLeastMissing missing s
   RefusesToFill (Read Halted) = IsNotReady (Read Halted)
   RefusesToFill (Read OutOfRange) = IsNotReady (Read OutOfRange)
   RefusesToFill (Read NotResynced) = IsNotReady (Read NotResynced)
@@ -202,16 +202,16 @@ module _ {S : Type 0} (o : Ghosts S) (readonly : Bool) (sector count : ℕ) (mis
   RefusesToFill fault = ⊥
 
 -- which are missing, where all are put out
-abbrev pub told_of : List Run → Result (Unit {0}) CommandFault → Option (List Run)
-told_of missing (Ok _) = Some missing
-told_of missing (Err (Read (Unreadable s))) = Some missing
-told_of missing (Err fault) = None
+abbrev pub told_missing : List Run → Result (Unit {0}) CommandFault → Option (List Run)
+told_missing missing (Ok _) = Some missing
+told_missing missing (Err (Read (Unreadable s))) = Some missing
+told_missing missing (Err fault) = None
 
 module _ {S : Type 0} (o : Ghosts S) (readonly : Bool) (sector count : ℕ) (old new : MirrorView)
     (before after : S) where
   pub record ReadsFilled (told : Option (List Run)) (result : Result (Unit {0}) CommandFault) : Type 0 where
     pub missing : List Run
-    pub told_is : told ≡ told_of missing result
+    pub told_is : told ≡ told_missing missing result
     pub gives : MatchResult result
         (λ _. FillsArray o readonly sector count missing old new before after)
         (RefusesToFill o readonly sector count missing old new before after)

@@ -5,5 +5,5 @@ use Rattle.md_commands.specs.declared.source.Input.{Input}
 abbrev pub reader_of : {R : Type 0} → Input R → R
 reader_of i = i.reader
 
-abbrev pub has_failed : {R : Type 0} → Input R → Bool
-has_failed i = i.failed
+abbrev pub input_has_failed : {R : Type 0} → Input R → Bool
+input_has_failed i = i.failed

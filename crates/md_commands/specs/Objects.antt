@@ -3,7 +3,7 @@ use Rattle.std.specs.Prelude.{ℕ, Bool, true, false, List}
 use Rattle.md_bitmap.specs.Marks.{Bitmap}
 use Rattle.md_json.specs.ArrayObjects.{detail_object, summary_object}
 use Rattle.md_json.specs.CheckObject.{check_object}
-use Rattle.md_json.specs.Objects.{line_of}
+use Rattle.md_json.specs.Objects.{object_line}
 use Rattle.md_json.specs.PlanObject.{plan_object}
 use Rattle.md_plan.specs.declared.planner.Planned.{Planned}
 use Rattle.md_report.specs.DetailReport.{detail_text}
@@ -14,20 +14,20 @@ use Rattle.md_state.specs.View.{ArrayView}
 -- the plan of a rebuild
 abbrev pub planned_line : ArrayView → List (List ℕ) → Planned → List ℕ
 planned_line a images planned =
-    line_of (plan_object planned.plan planned.certificate planned.orphans a images)
+    object_line (plan_object planned.plan planned.certificate planned.orphans a images)
 
 -- a check, of which this is the set of chunks in which members in sync differ
 abbrev pub checked_line : ArrayView → List (List ℕ) → Bitmap → List ℕ
-checked_line a images set = line_of (check_object set a images)
+checked_line a images set = object_line (check_object set a images)
 
 -- ---- as a JSON object, or as text
 
 abbrev pub summary_shown : Bool → List (List ℕ) → ArrayView → List ℕ
-summary_shown true images a = line_of (summary_object a images)
+summary_shown true images a = object_line (summary_object a images)
 summary_shown false images a = summary_text a
 
 abbrev pub detail_shown : Bool → List (List ℕ) → ArrayView → List ℕ
-detail_shown true images a = line_of (detail_object a images)
+detail_shown true images a = object_line (detail_object a images)
 detail_shown false images a = detail_text a
 
 abbrev pub plan_shown : Bool → List (List ℕ) → ArrayView → Planned → List ℕ

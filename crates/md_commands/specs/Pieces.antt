@@ -8,7 +8,7 @@ use Rattle.md_commands.specs.declared.fault.CommandFault.{CommandFault}
 use Rattle.md_commands.specs.declared.fault.CommandFault.TheVariants.{NoPieceMemory, OutputFault}
 use Rattle.md_commands.specs.declared.way.Way.{Way}
 use Rattle.md_commands.specs.Output.{PutsOut}
-use Rattle.md_commands.specs.Ways.{EndsBy, ReadsBy}
+use Rattle.md_commands.specs.Ways.{EndsReading, ReadsBy}
 
 -- a piece has so many sectors at most: 1 MiB
 abbrev pub piece_sectors : ℕ
@@ -44,7 +44,7 @@ module _ (way : Way) where
     pub done : List ℕ
     pub reads : ReadsSectors sector done old mid
     pub piece : List ℕ
-    pub ends : EndsBy way (sector + length done / 512) s piece mid new reason
+    pub ends : EndsReading way (sector + length done / 512) s piece mid new reason
     pub within : length done + length piece ≤ 512 * count
     pub is : bytes ≡ done ++ take (512 * (s - sector) - length done) piece
     pub as_one : sector < s → ReadsBy way sector bytes old new
@@ -87,13 +87,13 @@ module _ {S : Type 0} (o : Ghosts S) (way : Way) where
   -- the output took the sectors before s
   pub record PutsPieceUpTo (sector s : ℕ) (reason : CommandFault) (piece : List ℕ) (old new : MirrorView)
       (before after : S) : Type 0 where
-    pub ends : EndsBy way sector s piece old new reason
+    pub ends : EndsReading way sector s piece old new reason
     pub shown : PutsOut o before after (take (512 * (s - sector)) piece)
 
   abbrev pub ReadsPieceOrNot : ℕ → List ℕ → MirrorView → MirrorView → Type 0
   ReadsPieceOrNot sector piece old new =
       ReadsBy way sector piece old new
-      ⊎ ((s : ℕ) × (reason : CommandFault) × EndsBy way sector s piece old new reason)
+      ⊎ ((s : ℕ) × (reason : CommandFault) × EndsReading way sector s piece old new reason)
 
   abbrev pub RefusesPiece : ℕ → List ℕ → MirrorView → MirrorView → S → S → CommandFault → Type 0
   RefusesPiece sector piece old new before after OutputFault =

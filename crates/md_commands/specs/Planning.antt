@@ -39,12 +39,12 @@ pub record IsRebuildPlan (a : ArrayView) (k : ℕ) (planned : Planned) : Type 0 
   pub plans : PlansFor a member planned
 
 -- why there is none: the array has no member k; the member may not be rebuilt; or there is no memory
-abbrev pub RefusesTarget : ArrayView → ℕ → RebuildFault → Type 0
-RefusesTarget a k fault = (m : MemberView) × IsMember a k m × RefusesTable a m fault
+abbrev pub RefusesPlanTarget : ArrayView → ℕ → RebuildFault → Type 0
+RefusesPlanTarget a k fault = (m : MemberView) × IsMember a k m × RefusesTable a m fault
 
 abbrev pub RefusesPlan : ArrayView → ℕ → CommandFault → Type 0
 RefusesPlan a k BadMember = LacksMember a k
-RefusesPlan a k (Rebuild fault) = RefusesTarget a k fault
+RefusesPlan a k (Rebuild fault) = RefusesPlanTarget a k fault
 RefusesPlan a k fault = ⊥
 
 module _ {S : Type 0} (s : Ghosts S) (a : ArrayView) (k : ℕ) (before after : S) where

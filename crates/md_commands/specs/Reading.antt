@@ -66,7 +66,7 @@ module _ {S : Type 0} (o : Ghosts S) (sector count : ℕ) (old new : MirrorView)
     pub puts : PutsSectors o Resynced sector count ready new before after
 
   -- it is ready, and not all sectors are read or put out
-  pub record FailsReadied (fault : CommandFault) : Type 0 where
+  pub record FailsReadyRead (fault : CommandFault) : Type 0 where
     pub ready : MirrorView
     pub readied : IsReadied sector count old ready
     pub refused : RefusesSectors o Resynced sector count ready new before after fault
@@ -78,9 +78,9 @@ module _ {S : Type 0} (o : Ghosts S) (sector count : ℕ) (old new : MirrorView)
       MayReadArray old.array sector count × RefusesNeededResync old new fault × (after ≡ before)
   RefusesToRead (Read NotResynced) =
       Refuses old new (MustBeResynced old.array sector count) × (after ≡ before)
-  RefusesToRead NoPieceMemory = FailsReadied NoPieceMemory
-  RefusesToRead (Read (Unreadable s)) = FailsReadied (Read (Unreadable s))
-  RefusesToRead OutputFault = FailsReadied OutputFault
+  RefusesToRead NoPieceMemory = FailsReadyRead NoPieceMemory
+  RefusesToRead (Read (Unreadable s)) = FailsReadyRead (Read (Unreadable s))
+  RefusesToRead OutputFault = FailsReadyRead OutputFault
   RefusesToRead fault = ⊥
 
   -- ---- nothing is written

@@ -44,15 +44,15 @@ module _ {I : Type 0} (i : Ghosts I) where
     pub uneven : length bytes % 512 ≢ 0
 
   -- It failed, or there was no memory. That memory was short is not said.
-  abbrev pub ReadingFails : I → CommandFault → Type 0
-  ReadingFails new InputFault = i.failed new ≡ true
-  ReadingFails new NoPieceMemory = Unit {0}
-  ReadingFails new fault = ⊥
+  abbrev pub ReadingInputFails : I → CommandFault → Type 0
+  ReadingInputFails new InputFault = i.failed new ≡ true
+  ReadingInputFails new NoPieceMemory = Unit {0}
+  ReadingInputFails new fault = ⊥
 
   abbrev pub RefusesInput : ℕ → I → I → CommandFault → Type 0
   RefusesInput size old new OutOfRange = IsTooLong size old new
   RefusesInput size old new BadLength = IsUneven size old new
-  RefusesInput size old new fault = ReadingFails new fault
+  RefusesInput size old new fault = ReadingInputFails new fault
 
   -- a piece of so many bytes was taken, and appended to those before it
   pub record AppendsPiece (room : ℕ) (old new : I) (was bytes : List ℕ) (n : ℕ) : Type 0 where

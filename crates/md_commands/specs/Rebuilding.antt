@@ -15,7 +15,7 @@ use Rattle.md_commands.specs.Resyncing.{RefusesNeededResync, ResyncsIfNeeded}
 use Rattle.md_commands.specs.Stopping.{FailsToStop, StopsAfter}
 
 -- the array is resynced where it has to be, and then member k is rebuilt, and this is told of it
-pub record RebuildsReadied (k : ℕ) (told : Rebuilt) (old new : MirrorView) : Type 0 where
+pub record RebuildsResynced (k : ℕ) (told : Rebuilt) (old new : MirrorView) : Type 0 where
   pub ready : MirrorView
   pub readied : ResyncsIfNeeded old ready
   pub rebuilds : Rebuilds k told ready new
@@ -31,21 +31,21 @@ abbrev pub RefusesReadied : ℕ → MirrorView → MirrorView → CommandFault �
 RefusesReadied k old new (Resync fault) = RefusesNeededResync old new fault
 RefusesReadied k old new (Rebuild fault) = FailsToRebuild k old new fault
 RefusesReadied k old new (Stop fault) =
-    FailsToStop (λ mid. (told : Rebuilt) × RebuildsReadied k told old mid) new fault
+    FailsToStop (λ mid. (told : Rebuilt) × RebuildsResynced k told old mid) new fault
 RefusesReadied k old new fault = ⊥
 
 module _ {S : Type 0} (s : Ghosts S) (k : ℕ) (old new : MirrorView) (before after : S) where
   -- the array is stopped, and then what was done is shown
   pub record RebuildsArray : Type 0 where
     pub told : Rebuilt
-    pub done : StopsAfter (RebuildsReadied k told old) new
+    pub done : StopsAfter (RebuildsResynced k told old) new
     pub shown : PutsOut s before after
         (rebuilt_text k told.passes told.plans.items (length told.orphans.items))
 
   -- all is done, and the output failed
   pub record RebuildsInVain : Type 0 where
     pub told : Rebuilt
-    pub done : StopsAfter (RebuildsReadied k told old) new
+    pub done : StopsAfter (RebuildsResynced k told old) new
     pub failed : s.failed after ≡ true
 
   -- the array has a member k, it is not rebuilt or the array not stopped, and nothing is put out

@@ -3,7 +3,7 @@ use Rattle.std.specs.Prelude.{◌≡◌, true}
 use Rattle.md_examine.specs.declared.sink.Sink.{Ghosts}
 use Rattle.md_state.specs.View.{MirrorView}
 use Rattle.md_metadata.specs.declared.stop_fault.StopFault.{StopFault}
-use Rattle.md_metadata.specs.Stopping.{RefusesStop, Stops}
+use Rattle.md_metadata.specs.Stopping.{RefusesStop, StopsMirror}
 use Rattle.md_report.specs.SummaryReport.{summary_text}
 use Rattle.md_commands.specs.declared.fault.CommandFault.{CommandFault}
 use Rattle.md_commands.specs.declared.fault.CommandFault.TheVariants.{OutputFault, Stop}
@@ -13,7 +13,7 @@ use Rattle.md_commands.specs.Output.{PutsOut}
 pub record StopsAfter (Through : MirrorView → Type 0) (new : MirrorView) : Type 0 where
   pub mid : MirrorView
   pub through : Through mid
-  pub stops : Stops mid new
+  pub stops : StopsMirror mid new
 
 -- The array was not stopped.
 pub record FailsToStop (Through : MirrorView → Type 0) (new : MirrorView) (fault : StopFault) : Type 0 where
@@ -24,12 +24,12 @@ pub record FailsToStop (Through : MirrorView → Type 0) (new : MirrorView) (fau
 module _ {S : Type 0} (s : Ghosts S) where
   -- the array is stopped, and then shown
   pub record StopsArray (old new : MirrorView) (before after : S) : Type 0 where
-    pub stops : Stops old new
+    pub stops : StopsMirror old new
     pub shown : PutsOut s before after (summary_text new.array)
 
   abbrev pub RefusesToStop : MirrorView → MirrorView → S → S → CommandFault → Type 0
   RefusesToStop old new before after (Stop fault) = RefusesStop old new fault × (after ≡ before)
-  RefusesToStop old new before after OutputFault = Stops old new × (s.failed after ≡ true)
+  RefusesToStop old new before after OutputFault = StopsMirror old new × (s.failed after ≡ true)
   RefusesToStop old new before after fault = ⊥
 
   -- something was done to the mirror, and then the array was stopped, and shown

@@ -28,11 +28,11 @@ ReadsBy Unresynced = ReadsUnresynced
 
 -- The read ended at sector s, for this reason. Where the member that a resync copies the sector from can't be read, it is the fault of a
 -- resync, with the sector's chunk.
-abbrev pub EndsBy : Way → ℕ → ℕ → List ℕ → MirrorView → MirrorView → CommandFault → Type 0
-EndsBy Resynced sector s bytes old new (Read (Unreadable t)) =
+abbrev pub EndsReading : Way → ℕ → ℕ → List ℕ → MirrorView → MirrorView → CommandFault → Type 0
+EndsReading Resynced sector s bytes old new (Read (Unreadable t)) =
     (t ≡ s) × RefusesRead sector bytes old new (Unreadable s)
-EndsBy Unresynced sector s bytes old new (Read (Unreadable t)) =
+EndsReading Unresynced sector s bytes old new (Read (Unreadable t)) =
     (t ≡ s) × RefusesUnresynced sector bytes old new (unresynced.Unreadable s)
-EndsBy Unresynced sector s bytes old new (Resync (ReadFault k c)) =
+EndsReading Unresynced sector s bytes old new (Resync (ReadFault k c)) =
     (c ≡ s / old.array.chunks.sectors) × RefusesUnresynced sector bytes old new (unresynced.ReadFault k s)
-EndsBy way sector s bytes old new fault = ⊥
+EndsReading way sector s bytes old new fault = ⊥

@@ -22,7 +22,7 @@ pub record WritesReadied (sector : ℕ) (bytes : List ℕ) (old new : MirrorView
   pub writes : Writes sector bytes ready new
 
 -- The bytes are not written, for this fault.
-pub record FailsReadied (sector : ℕ) (bytes : List ℕ) (old new : MirrorView)
+pub record FailsReadyWrite (sector : ℕ) (bytes : List ℕ) (old new : MirrorView)
     (fault : BeginFault) : Type 0 where
   pub ready : MirrorView
   pub readied : ResyncsIfNeeded old ready
@@ -30,7 +30,7 @@ pub record FailsReadied (sector : ℕ) (bytes : List ℕ) (old new : MirrorView)
 
 abbrev pub RefusesBytes : ℕ → List ℕ → MirrorView → MirrorView → CommandFault → Type 0
 RefusesBytes sector bytes old new (Resync fault) = RefusesNeededResync old new fault
-RefusesBytes sector bytes old new (Write fault) = FailsReadied sector bytes old new fault
+RefusesBytes sector bytes old new (Write fault) = FailsReadyWrite sector bytes old new fault
 RefusesBytes sector bytes old new (Stop fault) = FailsToStop (WritesReadied sector bytes old) new fault
 RefusesBytes sector bytes old new fault = ⊥
 

@@ -3,7 +3,7 @@ ghost use Rattle.std.specs.Prelude.{◌≡◌, MatchResult};
 ghost use Rattle.std.specs.Int.{div_ceil};
 ghost use Rattle.md_json.specs.ArrayObjects.{detail_object, summary_object};
 ghost use Rattle.md_json.specs.MemberObjects.{texts_of};
-ghost use Rattle.md_json.specs.Objects.{line_of};
+ghost use Rattle.md_json.specs.Objects.{object_line};
 ghost use Rattle.md_commands.specs.Objects.{checked_line, planned_line};
 ghost use Rattle.md_commands.specs.Output.{FailsOutput, PutsOut};
 
@@ -23,7 +23,7 @@ pub(crate) fn put_summary_json<D: Device + Drop, S: Sink>(
 ) -> Result<(), CommandFault>
     ensures { MatchResult result
         (λ _. PutsOut S.Sink out.old out.new
-        (line_of (summary_object mirror.now.array (texts_of images.now))))
+        (object_line (summary_object mirror.now.array (texts_of images.now))))
         (FailsOutput S.Sink out.new) }
 {
     summary_json(out, mirror, images)?;
@@ -39,7 +39,7 @@ pub(crate) fn put_detail_json<D: Device + Drop, S: Sink>(
 ) -> Result<(), CommandFault>
     ensures { MatchResult result
         (λ _. PutsOut S.Sink out.old out.new
-        (line_of (detail_object mirror.now.array (texts_of images.now))))
+        (object_line (detail_object mirror.now.array (texts_of images.now))))
         (FailsOutput S.Sink out.new) }
 {
     detail_json(out, mirror, images)?;

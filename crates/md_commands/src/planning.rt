@@ -3,7 +3,7 @@ ghost use Rattle.std.specs.Prelude.{◌<◌, MatchResult, length};
 ghost use Rattle.md_array.specs.Consistency.{IsConsistent};
 ghost use Rattle.md_json.specs.MemberObjects.{texts_of};
 ghost use Rattle.md_report.specs.RebuiltReport.{planned_text};
-ghost use Rattle.md_commands.specs.Planning.{IsRebuildPlan, RefusesPlan, RefusesTarget, RefusesToPlan, ShowsPlan};
+ghost use Rattle.md_commands.specs.Planning.{IsRebuildPlan, RefusesPlan, RefusesPlanTarget, RefusesToPlan, ShowsPlan};
 ghost use Rattle.md_commands.specs.Objects.{planned_line};
 
 use crate::fault::CommandFault;
@@ -82,7 +82,7 @@ fn plan_target<D: Device + Drop>(
     requires within { target < length mirror.now.array.members }
     requires sound { IsConsistent mirror.now }
     ensures { MatchResult result
-        (IsRebuildPlan mirror.now.array target) (RefusesTarget mirror.now.array target) }
+        (IsRebuildPlan mirror.now.array target) (RefusesPlanTarget mirror.now.array target) }
 {
     let missing = table(alloc, mirror, target)?;
     Ok(plan(alloc, &missing)?)

@@ -4,7 +4,7 @@ ghost use Rattle.md_requests.specs.Pending.{PendingView};
 ghost use Rattle.md_state.specs.Requests.{IsPending};
 ghost use Rattle.md_array.specs.Consistency.{IsConsistent};
 ghost use Rattle.md_copy.specs.Rebuilding.{Rebuilds, RefusesRebuild};
-ghost use Rattle.md_commands.specs.Rebuilding.{RebuildsArray, RebuildsReadied, RefusesReadied, RefusesToRebuild};
+ghost use Rattle.md_commands.specs.Rebuilding.{RebuildsArray, RebuildsResynced, RefusesReadied, RefusesToRebuild};
 ghost use Rattle.md_commands.specs.Stopping.{StopsAfter};
 
 use crate::fault::CommandFault;
@@ -60,7 +60,7 @@ fn rebuild_and_stop<D: Device + Drop + Send, W: Watch + Sync, T: Threads + Wait 
     requires member { k < length mirror.old.array.members }
     requires sound { IsConsistent mirror.old }
     ensures gives { MatchResult result
-        (λ rebuilt. StopsAfter (RebuildsReadied k rebuilt mirror.old) mirror.new)
+        (λ rebuilt. StopsAfter (RebuildsResynced k rebuilt mirror.old) mirror.new)
         (RefusesReadied k mirror.old mirror.new) }
     ensures sound { IsConsistent mirror.new }
     ensures pending { (p : PendingView) → IsPending mirror.old.array p → IsPending mirror.new.array p }

@@ -3,7 +3,7 @@ ghost use Rattle.md_report.specs.DetailReport.{detail_text};
 ghost use Rattle.md_report.specs.SummaryReport.{summary_text};
 ghost use Rattle.md_json.specs.ArrayObjects.{detail_object, summary_object};
 ghost use Rattle.md_json.specs.MemberObjects.{texts_of};
-ghost use Rattle.md_json.specs.Objects.{line_of};
+ghost use Rattle.md_json.specs.Objects.{object_line};
 ghost use Rattle.md_commands.specs.Output.{ShowsText};
 
 use crate::fault::CommandFault;
@@ -42,7 +42,7 @@ pub fn show_summary_json<D: Device + Drop, S: Sink>(
     images: &[&str],
     out: &mut S,
 ) -> Result<(), CommandFault>
-    ensures { ShowsText S.Sink (line_of (summary_object mirror.now.array (texts_of images.now)))
+    ensures { ShowsText S.Sink (object_line (summary_object mirror.now.array (texts_of images.now)))
         out.old out.new result }
 {
     put_summary_json(mirror, images, out)
@@ -54,7 +54,7 @@ pub fn show_detail_json<D: Device + Drop, S: Sink>(
     images: &[&str],
     out: &mut S,
 ) -> Result<(), CommandFault>
-    ensures { ShowsText S.Sink (line_of (detail_object mirror.now.array (texts_of images.now)))
+    ensures { ShowsText S.Sink (object_line (detail_object mirror.now.array (texts_of images.now)))
         out.old out.new result }
 {
     put_detail_json(mirror, images, out)

@@ -35,12 +35,12 @@ pub struct Input<R> {
 
 impl<R> Input<R> {
     ghost use Rattle.std.specs.Prelude.{◌≡◌, false};
-    ghost use Rattle.md_commands.specs.Input.{has_failed, reader_of};
+    ghost use Rattle.md_commands.specs.Input.{input_has_failed, reader_of};
 
     /// A source that has not failed. It takes no memory.
     pub fn new(reader: R) -> Input<R>
         ensures reader { reader_of result ≡ reader }
-        ensures well { has_failed result ≡ false }
+        ensures well { input_has_failed result ≡ false }
     {
         Input {
             reader,

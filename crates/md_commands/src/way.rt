@@ -4,7 +4,7 @@ ghost use Rattle.md_requests.specs.Pending.{PendingView};
 ghost use Rattle.md_state.specs.Requests.{IsPending};
 ghost use Rattle.md_array.specs.Consistency.{IsConsistent};
 ghost use Rattle.md_commands.specs.declared.way.Way.TheVariants.{Resynced, Unresynced};
-ghost use Rattle.md_commands.specs.Ways.{EndsBy, MayReadBy, ReadsBy};
+ghost use Rattle.md_commands.specs.Ways.{EndsReading, MayReadBy, ReadsBy};
 
 use crate::fault::CommandFault;
 use md_array::Mirror;
@@ -40,7 +40,7 @@ pub(crate) fn read_by<D: Device + Drop>(
     requires sound { IsConsistent mirror.old }
     ensures gives { MatchResult result
         (λ _. ReadsBy way sector piece.new mirror.old mirror.new)
-        (λ unread. EndsBy way sector unread.sector piece.new mirror.old mirror.new unread.fault) }
+        (λ unread. EndsReading way sector unread.sector piece.new mirror.old mirror.new unread.fault) }
     ensures sound { IsConsistent mirror.new }
     ensures pending { (p : PendingView) → IsPending mirror.old.array p → IsPending mirror.new.array p }
 {
@@ -61,7 +61,7 @@ fn read_resynced<D: Device + Drop>(
     requires sound { IsConsistent mirror.old }
     ensures gives { MatchResult result
         (λ _. ReadsBy Resynced sector piece.new mirror.old mirror.new)
-        (λ unread. EndsBy Resynced sector unread.sector piece.new mirror.old mirror.new unread.fault) }
+        (λ unread. EndsReading Resynced sector unread.sector piece.new mirror.old mirror.new unread.fault) }
     ensures sound { IsConsistent mirror.new }
     ensures pending { (p : PendingView) → IsPending mirror.old.array p → IsPending mirror.new.array p }
 {
@@ -86,7 +86,7 @@ fn read_marked_too<D: Device + Drop>(
     requires sound { IsConsistent mirror.old }
     ensures gives { MatchResult result
         (λ _. ReadsBy Unresynced sector piece.new mirror.old mirror.new)
-        (λ unread. EndsBy Unresynced sector unread.sector piece.new mirror.old mirror.new unread.fault) }
+        (λ unread. EndsReading Unresynced sector unread.sector piece.new mirror.old mirror.new unread.fault) }
     ensures sound { IsConsistent mirror.new }
     ensures pending { (p : PendingView) → IsPending mirror.old.array p → IsPending mirror.new.array p }
 {

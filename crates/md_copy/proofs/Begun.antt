@@ -6,16 +6,16 @@ use Rattle.md_kept_members.specs.View.{MemberView}
 use Rattle.md_state.specs.Members.{IsMember}
 use Rattle.md_state.specs.View.{MirrorView}
 use Rattle.md_array.specs.Consistency.{IsConsistent}
-use Rattle.md_copy.specs.Beginning.{MayRebuild}
+use Rattle.md_copy.specs.Beginning.{MayBeginRebuild}
 use Rattle.md_copy.specs.Preparing.{IsSetOf}
-use Rattle.md_copy.specs.Ready.{IsReady}
+use Rattle.md_copy.specs.Ready.{IsReadyToCopy}
 use Rattle.md_copy.specs.Readying.{Readies}
-use Rattle.md_copy.specs.Rebuilding.{Begins}
+use Rattle.md_copy.specs.Rebuilding.{BeginsRebuild}
 use Rattle.md_copy.proofs.Readied.{is_ready}
 use Rattle.md_copy.proofs.StartedAs.{StartsAs}
 use Rattle.md_copy.proofs.StartsReadied.{starts_ready}
 
-module _ (target : ℕ) (old v : MirrorView) (sound : IsConsistent old) (member : MemberView) (at : IsMember old.array target member) (may : MayRebuild old.array member) (first : Readies target member old v) (none : Bitmap)
+module _ (target : ℕ) (old v : MirrorView) (sound : IsConsistent old) (member : MemberView) (at : IsMember old.array target member) (may : MayBeginRebuild old.array member) (first : Readies target member old v) (none : Bitmap)
     (many : none.chunks ≡ old.array.marks.chunks) (clear : (c : ℕ) → is_set none.bytes c ≡ false) where
   starts : StartsAs target old v
   starts = starts_ready target old v sound member may first
@@ -29,8 +29,8 @@ module _ (target : ℕ) (old v : MirrorView) (sound : IsConsistent old) (member 
   pub set_ready : IsSetOf v.array (λ c. false) none
   set_ready = record { chunks = many ∙ ap (λ (b : Bitmap). b.chunks) (sym starts.marks); bits = clear }
 
-  pub ready_then : IsReady target v
+  pub ready_then : IsReadyToCopy target v
   ready_then = is_ready target old v member at may first
 
-  pub begins : Begins target old v none
+  pub begins : BeginsRebuild target old v none
   begins = record { sound = sound; member = member; at = at; may = may; first = first; now = now.0; there = now.1; is_none = set_ready }

@@ -7,11 +7,11 @@ use Rattle.md_bitmap.specs.declared.chunks.Chunks.{Chunks}
 use Rattle.md_bitmap.specs.Marks.{Bitmap, is_set}
 use Rattle.md_cert.specs.declared.slots.Slot.{Slot}
 use Rattle.md_collect.specs.Places.{HasRoom, chunk_on}
-use Rattle.md_collect.specs.Reading.{Fails}
+use Rattle.md_collect.specs.Reading.{CountsFailure}
 use Rattle.md_collect.specs.Reports.{Copying}
 use Rattle.md_device.specs.declared.device.Device.{Ghosts}
 use Rattle.md_pass.specs.Beside.{KeepsBeside, SameBesideCopied}
-use Rattle.md_workers.specs.Lanes.{AreOnlyRead, OnlyRead}
+use Rattle.md_workers.specs.Queues.{AreOnlyRead, OnlyRead}
 use Rattle.md_pass.specs.Copied.{AreCopied}
 use Rattle.md_pass.specs.Sources.{MayRead, copy_of}
 use Rattle.md_pass.specs.declared.source.Source.{Source}
@@ -28,10 +28,10 @@ module _ {D : Type 0} (g : Ghosts D) where
 
   -- ---- one device
   read_seen : (d e : D) → OnlyRead g d e → OnlyRead of_disks (disk_of g d) (disk_of g e)
-  read_seen d e r = record { content_kept = r.content_kept; honest_kept = r.honest_kept; counted = r.counted; stops = r.stops }
+  read_seen d e r = record { content_kept = r.content_kept; honest_kept = r.honest_kept; counted = r.counted; crashes = r.crashes }
 
   kept_seen : (copy : Copying) (d e : D) → KeepsBeside g copy d e → KeepsBeside of_disks copy (disk_of g d) (disk_of g e)
-  kept_seen copy d e k = record { same = k.same; honest_kept = k.honest_kept; counted = k.counted; stops = k.stops }
+  kept_seen copy d e k = record { same = k.same; honest_kept = k.honest_kept; counted = k.counted; crashes = k.crashes }
 
   -- ---- what a pass may read
   pub may_read_of : (chunks : Chunks) (slots : List Slot) (sources : List Source) (devices : List D) (target : ℕ) → MayRead of_disks chunks slots sources (remove (seen devices) target)
@@ -78,13 +78,13 @@ module _ {D : Type 0} (g : Ghosts D) where
         (subst (KeepsBeside g copy (get_or olds target x.from)) (get_or_from_slice_get news target y.from x.from y.at) (keeps x.from)) in
         subst (λ (z : Disk). KeepsBeside of_disks copy z e) x.is (subst (KeepsBeside of_disks copy (disk_of g x.from)) y.is (kept_seen copy x.from y.from both))
 
-    pub target_fails : ((d : D) → Fails g (slice_index_or olds target d) (slice_index_or news target d)) → (d e : Disk) → slice_get (seen olds) target ≡ Some d → slice_get (seen news) target ≡ Some e → Fails of_disks d e
+    pub target_fails : ((d : D) → CountsFailure g (slice_index_or olds target d) (slice_index_or news target d)) → (d e : Disk) → slice_get (seen olds) target ≡ Some d → slice_get (seen news) target ≡ Some e → CountsFailure of_disks d e
     target_fails fails d e at_d at_e =
         let x = mapped_from (disk_of g) olds target d at_d in
         let y = mapped_from (disk_of g) news target e at_e in
-        let both = subst (λ (z : D). Fails g z y.from) (get_or_from_slice_get olds target x.from x.from x.at)
-        (subst (Fails g (get_or olds target x.from)) (get_or_from_slice_get news target y.from x.from y.at) (fails x.from)) in
-        subst (λ (z : Disk). Fails of_disks z e) x.is (subst (Fails of_disks (disk_of g x.from)) y.is both)
+        let both = subst (λ (z : D). CountsFailure g z y.from) (get_or_from_slice_get olds target x.from x.from x.at)
+        (subst (CountsFailure g (get_or olds target x.from)) (get_or_from_slice_get news target y.from x.from y.at) (fails x.from)) in
+        subst (λ (z : Disk). CountsFailure of_disks z e) x.is (subst (CountsFailure of_disks (disk_of g x.from)) y.is both)
 
     pub target_beside : (chunks : Chunks) (offset : ℕ) (before after : Bitmap) → ((d : D) → SameBesideCopied chunks offset before after (g.content (slice_index_or olds target d)) (g.content (slice_index_or news target d)))
         → AtDevice target (seen olds) (seen news) (λ d e. SameBesideCopied chunks offset before after d.content e.content)

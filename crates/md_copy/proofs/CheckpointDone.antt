@@ -2,14 +2,14 @@
 use Rattle.std.proofs.Common.{◌∙◌, ℕ, false, List, refl, sym, ap}
 use Rattle.std.proofs.lemmas.Option.{slice_get_within}
 use Rattle.md_bitmap.specs.Marks.{Bitmap}
-use Rattle.md_kept_members.specs.TakingBack.{with_offset}
+use Rattle.md_kept_members.specs.TakingBack.{with_recovery_offset}
 use Rattle.md_kept_members.specs.View.{MemberView}
 use Rattle.md_model.specs.Content.{Content}
 use Rattle.md_state.specs.Checkpoints.{with_offset_of}
 use Rattle.md_state.specs.View.{MirrorView}
 use Rattle.md_array.specs.Checkpoints.{Checkpoints, MovesOffset, checkpoint_event}
 use Rattle.md_array.specs.Consistency.{IsConsistent}
-use Rattle.md_array.specs.Enrolling.{HasContent}
+use Rattle.md_array.specs.Enrolling.{HoldsContent}
 use Rattle.md_array.specs.Events.{Happens}
 use Rattle.md_array.specs.Recording.{Records}
 use Rattle.md_array.proofs.General.Indices.{at_set_same}
@@ -24,7 +24,7 @@ module _ (k : ℕ) (copied : Bitmap) (old new : MirrorView) (c : IsConsistent ol
   m = r.may.member
 
   abbrev n : MemberView
-  n = with_offset r.offset m
+  n = with_recovery_offset r.offset m
 
   abbrev had : ℕ
   had = m.superblock.recovery_offset
@@ -53,5 +53,5 @@ module _ (k : ℕ) (copied : Bitmap) (old new : MirrorView) (c : IsConsistent ol
     array = r.array ∙ ap (λ (xs : List MemberView). record old.array { members = xs }) (sym (set_again old.array.members k n (record n { due = false })));
   }
 
-  pub checkpoint_done : (content : Content) → HasContent old.disks old.array content → Happens old (checkpoint_event r) new
+  pub checkpoint_done : (content : Content) → HoldsContent old.disks old.array content → Happens old (checkpoint_event r) new
   checkpoint_done content has = event.checkpoint_happens k copied had old mid new c r.may r.offset r.next moves records sound (record_happens k mid new mid_sound records) content has

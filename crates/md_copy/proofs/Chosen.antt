@@ -11,7 +11,7 @@ use Rattle.md_cert.specs.declared.slots.Slot.{Slot}
 use Rattle.md_kept_members.proofs.Members.Indices.{cases_more}
 use Rattle.md_state.specs.View.{ArrayView, MirrorView}
 use Rattle.md_pass.specs.declared.source.Source.{Source}
-use Rattle.md_copy.specs.RebuildSources.{IsSource}
+use Rattle.md_copy.specs.RebuildSources.{IsRebuildSource}
 use Rattle.md_copy.specs.Sources.{IsInSyncAs}
 use Rattle.md_copy.proofs.Planned.{IsAllowed}
 
@@ -37,7 +37,7 @@ named_in_sync a slots role allowed h =
 
 -- the sources of the roles below this one
 pub record IsChosen (v : MirrorView) (target : ℕ) (slots : List Slot) (role : ℕ) (sources : List Source) : Type 0 where
-  pub each : All (IsSource v target) sources
+  pub each : All (IsRebuildSource v target) sources
   pub named : All (λ (s : Source). IsNamed slots s.role) sources
   pub below : All (λ (s : Source). s.role < role) sources
   pub rising : AllPairs (λ (a b : Source). a.role < b.role) sources
@@ -46,11 +46,11 @@ pub record IsChosen (v : MirrorView) (target : ℕ) (slots : List Slot) (role : 
 any_kept : {X : Type 0} (P : X → Type 0) (xs : List X) (y : X) → Any P xs → Any P (xs ++ y ∷ [])
 any_kept P xs y h = let longer = length-append xs (y ∷ []) in let low = h.2 in (h.0, h.1, omega (arith, longer, low), get_or_append_left xs (y ∷ []) h.1 h.0 h.2 ∙ h.3, h.4)
 
-pub chosen_more : (v : MirrorView) (target : ℕ) (slots : List Slot) (role : ℕ) (sources : List Source) (s : Source) → s.role ≡ role → IsSource v target s → IsNamed slots role → IsChosen v target slots role sources → IsChosen v target slots (role + 1) (sources ++ s ∷ [])
+pub chosen_more : (v : MirrorView) (target : ℕ) (slots : List Slot) (role : ℕ) (sources : List Source) (s : Source) → s.role ≡ role → IsRebuildSource v target s → IsNamed slots role → IsChosen v target slots role sources → IsChosen v target slots (role + 1) (sources ++ s ∷ [])
 chosen_more v target slots role sources s role_is is named before =
     let below = All-weaker (λ (t : Source). t.role < role) (λ (t : Source). t.role < role + 1) (λ t less. omega arith) sources before.below in
     record {
-      each = All-push (IsSource v target) sources s before.each is;
+      each = All-push (IsRebuildSource v target) sources s before.each is;
       named = All-push (λ (t : Source). IsNamed slots t.role) sources s before.named (subst (λ r. IsNamed slots r) (sym role_is) named);
       below = All-push (λ (t : Source). t.role < role + 1) sources s below (omega (arith, role_is));
       rising = all_pairs_push (λ (a b : Source). a.role < b.role) sources s before.rising (λ k d within. (let less = before.below k d within in omega (arith, less, role_is)));

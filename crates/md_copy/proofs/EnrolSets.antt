@@ -15,29 +15,29 @@ use Rattle.md_array.specs.Enrolling.{Enrols, MayEnrol}
 use Rattle.md_copy.specs.declared.fault.RebuildFault.{RebuildFault}
 use Rattle.md_copy.specs.declared.fault.RebuildFault.TheVariants.{Halted, NotSpare, Dirty, InFlight, LogFull, NoMemory, TargetFault, MetadataFault, EventsFull}
 use Rattle.md_copy.specs.declared.rebuilt.Rebuilt.{Rebuilt}
-use Rattle.md_copy.specs.Enrolled.{EnrolsCopied, FailsCopied, HasSets, RefusesFilled}
+use Rattle.md_copy.specs.Enrolled.{EnrolsCopied, FailsCopied, HasSets, RefusesFilledTarget}
 use Rattle.md_copy.specs.Held.{AreHeld}
-use Rattle.md_copy.specs.Leaving.{MayLeave}
+use Rattle.md_copy.specs.Leaving.{MayRecordAtEnd}
 use Rattle.md_copy.specs.Preparing.{is_in, uncopied_chunks}
-use Rattle.md_copy.specs.Ready.{IsReady}
-use Rattle.md_copy.specs.Sources.{IsLacking, is_missing, missing_chunks}
+use Rattle.md_copy.specs.Ready.{IsReadyToCopy}
+use Rattle.md_copy.specs.Sources.{LacksChunk, is_missing, missing_chunks}
 use Rattle.md_copy.proofs.HeldChunks.{holds_of, recordable}
 use Rattle.md_copy.proofs.PlanChunks.{all_lacking, count}
 
 -- ---- the chunks that were not copied
 module _ (a : ArrayView) (m : MemberView) (copied : Bitmap) where
-  pub all_uncopied : All (IsLacking a m) (uncopied_chunks a m copied)
-  all_uncopied = All-filter (λ c. not (is_set copied.bytes c)) (IsLacking a m) (missing_chunks a m) (all_lacking a m)
+  pub all_uncopied : All (LacksChunk a m) (uncopied_chunks a m copied)
+  all_uncopied = All-filter (λ c. not (is_set copied.bytes c)) (LacksChunk a m) (missing_chunks a m) (all_lacking a m)
 
   pub uncopied_low : All (λ c. c < count a) (uncopied_chunks a m copied)
   uncopied_low k d below = (all_uncopied k d below).low
 
-  pub uncopied_is : (c : ℕ) → is_in (uncopied_chunks a m copied) c ≡ true → IsLacking a m c × (is_set copied.bytes c ≡ false)
+  pub uncopied_is : (c : ℕ) → is_in (uncopied_chunks a m copied) c ≡ true → LacksChunk a m c × (is_set copied.bytes c ≡ false)
   uncopied_is c is =
       let chunks = uncopied_chunks a m copied in
       let found = Any-from_list_any (λ chunk. chunk == c) chunks is in
       let same : get_or chunks found.0 found.1 ≡ c = found.3 ∙ eqb-true found.1 c found.4 in (
-        subst (IsLacking a m) same (all_uncopied found.0 found.1 found.2),
+        subst (LacksChunk a m) same (all_uncopied found.0 found.1 found.2),
         subst (λ n. is_set copied.bytes n ≡ false) same (not-true (is_set copied.bytes (get_or chunks found.0 found.1)) (filter_passes (λ n. not (is_set copied.bytes n)) (missing_chunks a m) found.0 found.1 found.2)),
       )
 
@@ -50,7 +50,7 @@ module _ (a : ArrayView) (m : MemberView) (copied : Bitmap) where
       let there = kept (λ n. not (is_set copied.bytes n)) (missing_chunks a m) c (kept (is_missing a m) (range_with_len 0 (count a)) c number missing) (ap not clear) in
       list_any_at (λ chunk. chunk == c) chunks there.0 c there.1 (eq-eqb (get_or chunks there.0 c) c there.2)
 
-module _ (target : ℕ) (v : MirrorView) (ready : IsReady target v) (within : target < length v.array.members) (copied : Bitmap) (held : AreHeld v target copied) (m : MemberView) (at : IsMember v.array target m) where
+module _ (target : ℕ) (v : MirrorView) (ready : IsReadyToCopy target v) (within : target < length v.array.members) (copied : Bitmap) (held : AreHeld v target copied) (m : MemberView) (at : IsMember v.array target m) where
   abbrev a : ArrayView
   a = v.array
 
@@ -124,7 +124,7 @@ module _ (target : ℕ) (v : MirrorView) (ready : IsReady target v) (within : ta
       plans_are = plans_is;
     }
 
-    pub fails_copied : (w : MirrorView) (fault : RebuildFault) → RefusesFilled target kept_set orphans v w fault → FailsCopied target copied kept_set v w fault
+    pub fails_copied : (w : MirrorView) (fault : RebuildFault) → RefusesFilledTarget target kept_set orphans v w fault → FailsCopied target copied kept_set v w fault
     fails_copied w (LogFull k) h =
         (h.0, record { kept = kept_set; orphans = orphans; chunks = chunks; has = has_sets; why = record { unchanged = h.1.unchanged; full = h.1.full; left = λ c low set. set } })
     fails_copied w NoMemory h = (h, λ c low set. (and_parts (is_missing a m c) (is_set copied.bytes c) (sym (kept_are c (subst (λ n. c < n) kept_chunks low)) ∙ set)).1)
@@ -136,9 +136,9 @@ module _ (target : ℕ) (v : MirrorView) (ready : IsReady target v) (within : ta
     fails_copied w (MetadataFault k) h = absurd h
     fails_copied w EventsFull h = absurd h
 
-    pub leaves_copied : (w : MirrorView) (fault : RebuildFault) → RefusesFilled target kept_set orphans v w fault → MayLeave target kept_set w fault
-    leaves_copied w (LogFull k) h = subst (λ (x : MirrorView). MayLeave target kept_set x (LogFull k)) (sym h.1.unchanged) (recordable target v ready, kept_held)
-    leaves_copied w NoMemory h = subst (λ (x : MirrorView). MayLeave target kept_set x NoMemory) (sym h) (recordable target v ready, kept_held)
+    pub leaves_copied : (w : MirrorView) (fault : RebuildFault) → RefusesFilledTarget target kept_set orphans v w fault → MayRecordAtEnd target kept_set w fault
+    leaves_copied w (LogFull k) h = subst (λ (x : MirrorView). MayRecordAtEnd target kept_set x (LogFull k)) (sym h.1.unchanged) (recordable target v ready, kept_held)
+    leaves_copied w NoMemory h = subst (λ (x : MirrorView). MayRecordAtEnd target kept_set x NoMemory) (sym h) (recordable target v ready, kept_held)
     leaves_copied w TargetFault h = tt
     leaves_copied w Halted h = absurd h
     leaves_copied w NotSpare h = absurd h
@@ -147,5 +147,5 @@ module _ (target : ℕ) (v : MirrorView) (ready : IsReady target v) (within : ta
     leaves_copied w (MetadataFault k) h = absurd h
     leaves_copied w EventsFull h = absurd h
 
-  pub leaves_unset : MayLeave target copied v NoMemory
+  pub leaves_unset : MayRecordAtEnd target copied v NoMemory
   leaves_unset = (recordable target v ready, held)

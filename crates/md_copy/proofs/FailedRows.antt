@@ -6,13 +6,13 @@ use Rattle.md_bitmap.specs.Marks.{Bitmap, is_set}
 use Rattle.md_cert.specs.declared.slots.Slot.{Slot}
 use Rattle.md_cert.specs.declared.table.Row.{Row}
 use Rattle.md_cert.specs.Plans.{SlotsRise}
-use Rattle.md_cert.specs.Tables.{chunks_of}
+use Rattle.md_cert.specs.Tables.{chunks_of_rows}
 use Rattle.md_pass.specs.Copied.{failed_slots, is_failed_slot}
 
 abbrev pub failed_below : List Slot → Bitmap → ℕ → List ℕ
 failed_below slots copied i = map (λ (s : Slot). s.chunk) (failed_slots (take i slots) copied)
 
-module _ (slots : List Slot) (copied : Bitmap) (i : ℕ) (d : Slot) (low : i < length slots) (rows : List Row) (before : chunks_of rows ≡ failed_below slots copied i) where
+module _ (slots : List Slot) (copied : Bitmap) (i : ℕ) (d : Slot) (low : i < length slots) (rows : List Row) (before : chunks_of_rows rows ≡ failed_below slots copied i) where
   abbrev slot : Slot
   slot = get_or slots i d
 
@@ -21,14 +21,14 @@ module _ (slots : List Slot) (copied : Bitmap) (i : ℕ) (d : Slot) (low : i < l
       ap (map (λ (s : Slot). s.chunk)) (filter_more (is_failed_slot copied) slots i d low)
       ∙ map-append (λ (s : Slot). s.chunk) (failed_slots (take i slots) copied) (cond (is_failed_slot copied slot) (slot ∷ []) [])
 
-  pub row_failed : (row : Row) → row.chunk ≡ slot.chunk → is_set copied.bytes slot.chunk ≡ false → chunks_of (rows ++ row ∷ []) ≡ failed_below slots copied (i + 1)
+  pub row_failed : (row : Row) → row.chunk ≡ slot.chunk → is_set copied.bytes slot.chunk ≡ false → chunks_of_rows (rows ++ row ∷ []) ≡ failed_below slots copied (i + 1)
   row_failed row same clear =
       map-append (λ (r : Row). r.chunk) rows (row ∷ [])
-      ∙ ap (λ n. chunks_of rows ++ n ∷ []) same
+      ∙ ap (λ n. chunks_of_rows rows ++ n ∷ []) same
       ∙ ap (λ xs. xs ++ slot.chunk ∷ []) before
       ∙ sym (below_more ∙ ap (λ b. failed_below slots copied i ++ map (λ (s : Slot). s.chunk) (cond (not b) (slot ∷ []) [])) clear)
 
-  pub row_copied : is_set copied.bytes slot.chunk ≡ true → chunks_of rows ≡ failed_below slots copied (i + 1)
+  pub row_copied : is_set copied.bytes slot.chunk ≡ true → chunks_of_rows rows ≡ failed_below slots copied (i + 1)
   row_copied set =
       before ∙ sym (below_more ∙ ap (λ b. failed_below slots copied i ++ map (λ (s : Slot). s.chunk) (cond (not b) (slot ∷ []) [])) set ∙ append-nil (failed_below slots copied i))
 

@@ -15,7 +15,7 @@ use Rattle.md_device.specs.declared.device.Device.{Ghosts}
 use Rattle.md_kept_members.specs.View.{MemberView}
 use Rattle.md_pass.specs.Beside.{KeepsBeside}
 use Rattle.md_pass.specs.Copied.{BreaksOff, CountFailed, EndsPass, HasCopied, OnFault, PassState, failed_slots, is_failed_slot, pass_state}
-use Rattle.md_workers.specs.Lanes.{AreOnlyRead}
+use Rattle.md_workers.specs.Queues.{AreOnlyRead}
 use Rattle.md_pass.specs.Readings.{is_of}
 use Rattle.md_pass.specs.Sources.{copy_of}
 use Rattle.md_pass.specs.declared.fault.PassFault.{PassFault}

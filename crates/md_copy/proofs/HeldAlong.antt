@@ -14,7 +14,7 @@ use Rattle.md_model.proofs.Cases.{below-nat_lt}
 use Rattle.md_state.specs.Members.{IsInSync}
 use Rattle.md_state.specs.View.{Disk, MirrorView, geometry_of}
 use Rattle.md_array.specs.Consistency.{IsConsistent}
-use Rattle.md_array.specs.Enrolling.{HasContent}
+use Rattle.md_array.specs.Enrolling.{HoldsContent}
 use Rattle.md_array.specs.Events.{Does}
 use Rattle.md_array.specs.InTurn.{AllOf, Leads, Requests}
 use Rattle.md_array.specs.Worlds.{AreHonest, is_listed, none_in_flight, stored_of, world_of}
@@ -44,7 +44,7 @@ module _ (v : MirrorView) (sound : IsConsistent v) (resynced : v.array.resynced 
   listed_is k d m at in_sync s low =
       ap (λ (x : Stored). x.listed s) (stored_is k d m at in_sync) ∙ ap (λ b. b && is_listed m.superblock d.content (m.superblock.data_offset + s)) (inside s low)
 
-  pub between_of : HasContent v.disks v.array content → HoldsBetween (geometry_of v.array) content w
+  pub between_of : HoldsContent v.disks v.array content → HoldsBetween (geometry_of v.array) content w
   between_of has = record {
     at_rest = λ k s low on off quiet settled.
         (let m = in_sync_is v.disks v.array none_in_flight k on in
@@ -63,7 +63,7 @@ module _ (v : MirrorView) (sound : IsConsistent v) (resynced : v.array.resynced 
     };
   }
 
-  pub has_of : HoldsBetween (geometry_of v.array) content w → HasContent v.disks v.array content
+  pub has_of : HoldsBetween (geometry_of v.array) content w → HoldsContent v.disks v.array content
   has_of holds = record {
     held = λ k d m at in_sync s low unlisted.
         sym (content_is k d m at in_sync s low)
@@ -92,8 +92,8 @@ holds_along (Event.StoreMarks k b ∷ es) previous old new before after content 
 holds_along (Event.WriteFails k which ∷ es) previous old new before after content of calm honest leads holds = absurd (calm.0)
 holds_along (e ∷ es) previous old new before after content of calm honest leads holds = absurd (of.0)
 
-pub content_stored : (old stored : MirrorView) → IsConsistent old → old.array.resynced ≡ true → StoresFirst old stored → AreHonest old.disks → (content : Content) → HasContent old.disks old.array content
-    → HasContent stored.disks stored.array content
+pub content_stored : (old stored : MirrorView) → IsConsistent old → old.array.resynced ≡ true → StoresFirst old stored → AreHonest old.disks → (content : Content) → HoldsContent old.disks old.array content
+    → HoldsContent stored.disks stored.array content
 content_stored old stored sound resynced first honest content has =
     let goes = first.stores.goes in
     has_of stored goes.sound (goes.array.resynced ∙ resynced) content

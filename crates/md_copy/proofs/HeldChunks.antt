@@ -12,15 +12,15 @@ use Rattle.md_state.specs.Members.{IsMember}
 use Rattle.md_state.specs.View.{Disk, MirrorView}
 use Rattle.md_array.specs.Checkpoints.{MayCheckpoint}
 use Rattle.md_array.specs.Consistency.{IsConsistent}
-use Rattle.md_array.specs.Enrolling.{HasContent, HoldsCopied}
+use Rattle.md_array.specs.Enrolling.{HoldsContent, HoldsCopied}
 use Rattle.md_array.specs.Worlds.{AreHonest, is_listed}
 use Rattle.md_copy.specs.Held.{IsHeld}
-use Rattle.md_copy.specs.Ready.{IsReady, IsRecordable}
+use Rattle.md_copy.specs.Ready.{IsReadyToCopy, IsRecordable}
 use Rattle.md_copy.proofs.Sectors.{same_sector}
 
 module _ (target : ℕ) (v : MirrorView) (sound : IsConsistent v) (running : v.array.halted ≡ false) where
   -- one chunk, whatever content the members in sync hold
-  pub one_holds : AreHonest v.disks → (c : ℕ) → IsHeld v target c → (content : Content) → HasContent v.disks v.array content
+  pub one_holds : AreHonest v.disks → (c : ℕ) → IsHeld v target c → (content : Content) → HoldsContent v.disks v.array content
       → (e : Disk) (m : MemberView) → slice_get v.disks target ≡ Some e → IsMember v.array target m
       → (s : ℕ) → InChunk v.array.chunks.sectors v.array.chunks.size c s → part e.content (512 * (m.superblock.data_offset + s)) 512 ≡ content s
   one_holds honest c h content has e m at_e at_m s inside =
@@ -56,5 +56,5 @@ module _ (target : ℕ) (v : MirrorView) (sound : IsConsistent v) (running : v.a
         holds = holds_of copied count held;
       }
 
-pub recordable : (target : ℕ) (v : MirrorView) → IsReady target v → IsRecordable target v
+pub recordable : (target : ℕ) (v : MirrorView) → IsReadyToCopy target v → IsRecordable target v
 recordable target v ready = record { sound = ready.sound; idle = ready.goes.idle; resynced = ready.goes.resynced; noted = ready.noted; recovering = ready.recovering }

@@ -5,7 +5,7 @@ use Rattle.std.proofs.lemmas.List.Folds.{Any-from_list_any}
 use Rattle.std.proofs.lemmas.Option.{same_Some, slice_get-get_or, slice_get_within}
 use Rattle.md_bitmap.specs.Marks.{Bitmap, is_set}
 use Rattle.md_cert.specs.declared.slots.Slot.{Slot}
-use Rattle.md_collect.specs.Places.{bytes_of, chunk_on, start_of}
+use Rattle.md_collect.specs.Places.{bytes_of_chunk, chunk_on, start_of}
 use Rattle.md_kept_members.specs.Permitting.{ListsAny}
 use Rattle.md_kept_members.specs.View.{MemberView}
 use Rattle.md_pass.specs.Beside.{has_chunk}
@@ -14,7 +14,7 @@ use Rattle.md_state.specs.Missing.{is_missing}
 use Rattle.md_state.specs.View.{ArrayView, Disk, MirrorView}
 use Rattle.md_copy.specs.Filling.{CopiesChunks}
 use Rattle.md_copy.specs.Held.{AreHeld, IsHeld}
-use Rattle.md_copy.specs.RebuildSources.{Serves}
+use Rattle.md_copy.specs.RebuildSources.{ServesChunk}
 use Rattle.md_copy.proofs.Sectors.{apart_chunks, same_chunk}
 
 module _ (target : ℕ) (m : MemberView) (slots : List Slot) (before after : Bitmap) (v w : MirrorView) (at : IsMember v.array target m) (h : CopiesChunks target m slots before after v w) where
@@ -30,8 +30,8 @@ module _ (target : ℕ) (m : MemberView) (slots : List Slot) (before after : Bit
   target_is : (n : MemberView) → IsMember w.array target n → n ≡ m
   target_is n there = same_Some n m (sym (ap (λ (a : ArrayView). slice_get a.members target) (sym a_is) ∙ there) ∙ at)
 
-  serves_then : (j c : ℕ) (n : MemberView) → Serves v.array j n c → Serves w.array j n c
-  serves_then j c n serves = subst (λ (a : ArrayView). Serves a j n c) (sym a_is) serves
+  serves_then : (j c : ℕ) (n : MemberView) → ServesChunk v.array j n c → ServesChunk w.array j n c
+  serves_then j c n serves = subst (λ (a : ArrayView). ServesChunk a j n c) (sym a_is) serves
 
   -- one that was copied before
   held_still : (c : ℕ) → is_set before.bytes c ≡ true → IsHeld v target c → IsHeld w target c
@@ -46,7 +46,7 @@ module _ (target : ℕ) (m : MemberView) (slots : List Slot) (before after : Bit
         let read = h.filling.others held.at x.0 d held.other x.1 at_d in
         let wrote = h.filling.on_target y.0 e y.1 at_e in
         let n_is = target_is n there in
-        let beside = (h.beside y.0 e y.1 at_e).beside (512 * (m.superblock.data_offset + start_of v.array.chunks c)) (bytes_of v.array.chunks c)
+        let beside = (h.beside y.0 e y.1 at_e).beside (512 * (m.superblock.data_offset + start_of v.array.chunks c)) (bytes_of_chunk v.array.chunks c)
         (λ b new clear. apart_chunks v.array.chunks m.superblock.data_offset c b (λ same. absurd (both_ways (is_set before.bytes c) (ap (λ n. is_set before.bytes n) same ∙ clear) set))) in
         let mine = same_chunk e.content y.0.content m.superblock.data_offset v.array.chunks c beside in
         let theirs = held.same m x.0 y.0 at x.1 y.1 (sym read.honest_kept ∙ honest_d) (sym wrote.honest_kept ∙ honest_e) in
@@ -75,7 +75,7 @@ module _ (target : ℕ) (m : MemberView) (slots : List Slot) (before after : Bit
         at = one.at;
         member = one.member;
         other = one.other;
-        serves = serves_then one.at c one.member (subst (Serves v.array one.at one.member) chunk_is one.serves);
+        serves = serves_then one.at c one.member (subst (ServesChunk v.array one.at one.member) chunk_is one.serves);
         same = λ n d e there at_d at_e honest_d honest_e.
             (let x = was_there one.at d at_d in
             let y = was_there target e at_e in

@@ -9,7 +9,7 @@ use Rattle.md_bitmap.specs.declared.chunks.Chunks.{Chunks}
 use Rattle.md_bitmap.specs.Chunks.{InChunk}
 use Rattle.md_bitmap.specs.Marks.{Bitmap, is_set}
 use Rattle.md_cert.specs.declared.slots.Slot.{Slot}
-use Rattle.md_collect.specs.Places.{bytes_of, chunk_on, start_of}
+use Rattle.md_collect.specs.Places.{bytes_of_chunk, chunk_on, start_of}
 use Rattle.md_kept_members.specs.Permitting.{ListsAny}
 use Rattle.md_kept_members.specs.View.{MemberView}
 use Rattle.md_passes.specs.Listed.{ListsFailed, ListsOwn}
@@ -21,7 +21,7 @@ use Rattle.md_state.specs.View.{ArrayView, Disk, MirrorView}
 use Rattle.md_array.specs.Consistency.{IsConsistent}
 use Rattle.md_copy.specs.Held.{AreHeld, IsHeld}
 use Rattle.md_copy.specs.Listing.{WritesMetadata}
-use Rattle.md_copy.specs.RebuildSources.{Serves}
+use Rattle.md_copy.specs.RebuildSources.{ServesChunk}
 use Rattle.md_copy.proofs.HeldRecorded.{lacks_so}
 use Rattle.md_copy.proofs.Sectors.{chunk_within, same_chunk}
 
@@ -94,10 +94,10 @@ module _ (target : ℕ) (failed : List Slot) (copied : Bitmap) (v w : MirrorView
       let size = room k x d at_x at_d in
       let within = chunk_within a.chunks c x.superblock.data_size size low in
       same_chunk e.content d.content x.superblock.data_offset a.chunks c
-      (g.writes.keeps k x at_x d e at_d at_e (512 * (x.superblock.data_offset + start_of a.chunks c)) (bytes_of a.chunks c) (omega arith) (omega (arith, within)))
+      (g.writes.keeps k x at_x d e at_d at_e (512 * (x.superblock.data_offset + start_of a.chunks c)) (bytes_of_chunk a.chunks c) (omega arith) (omega (arith, within)))
 
   -- whoever served a chunk that was copied serves it still
-  pub serves_still : (k c : ℕ) (x y : MemberView) → is_set copied.bytes c ≡ true → Serves a k x c → IsMember w.array k y → ListsOwn a.chunks failed x y → Serves w.array k y c
+  pub serves_still : (k c : ℕ) (x y : MemberView) → is_set copied.bytes c ≡ true → ServesChunk a k x c → IsMember w.array k y → ListsOwn a.chunks failed x y → ServesChunk w.array k y c
   serves_still k c x y set serves there own = record {
     in_sync = record { member = there; in_sync = ap is_in_sync own.state ∙ serves.in_sync.in_sync };
     unlisted = λ s inside_w bad.

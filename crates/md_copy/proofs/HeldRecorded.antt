@@ -13,14 +13,14 @@ use Rattle.md_badblocks.specs.Runs.{IsBad}
 use Rattle.md_bitmap.specs.declared.chunks.Chunks.{Chunks}
 use Rattle.md_bitmap.specs.Chunks.{InChunk}
 use Rattle.md_bitmap.specs.Marks.{Bitmap, is_set}
-use Rattle.md_collect.specs.Places.{bytes_of, chunk_on, start_of}
+use Rattle.md_collect.specs.Places.{bytes_of_chunk, chunk_on, start_of}
 use Rattle.md_device.specs.Splice.{SameOutside}
 use Rattle.md_kept_members.specs.Permitting.{ListsAny}
-use Rattle.md_kept_members.specs.TakingBack.{with_offset}
+use Rattle.md_kept_members.specs.TakingBack.{with_recovery_offset}
 use Rattle.md_kept_members.specs.View.{MemberView}
 use Rattle.md_model.specs.Rebuilding.{lacks}
 use Rattle.md_model.specs.Sectors.{is_passed}
-use Rattle.md_state.specs.Checkpoints.{Stops}
+use Rattle.md_state.specs.Checkpoints.{EndsCheckpoint}
 use Rattle.md_state.specs.Members.{IsMember}
 use Rattle.md_state.specs.Missing.{has_passed, is_missing}
 use Rattle.md_state.specs.View.{ArrayView, Disk, MirrorView, geometry_of}
@@ -88,7 +88,7 @@ module _ (target : ℕ) (copied : Bitmap) (v w : MirrorView) (sound : IsConsiste
   m = r.may.member
 
   abbrev n : MemberView
-  n = record (with_offset r.offset m) { due = false }
+  n = record (with_recovery_offset r.offset m) { due = false }
 
   abbrev a : ArrayView
   a = v.array
@@ -135,7 +135,7 @@ module _ (target : ℕ) (copied : Bitmap) (v w : MirrorView) (sound : IsConsiste
       let size = room d at_d in
       let within = chunk_within a.chunks c m.superblock.data_size size low in
       same_chunk e.content d.content m.superblock.data_offset a.chunks c
-      (data_kept d e at_d at_e (512 * (m.superblock.data_offset + start_of a.chunks c)) (bytes_of a.chunks c) (omega arith) (omega (arith, within)))
+      (data_kept d e at_d at_e (512 * (m.superblock.data_offset + start_of a.chunks c)) (bytes_of_chunk a.chunks c) (omega arith) (omega (arith, within)))
 
   -- ---- what it lacks
   recovers : is_recovering m.state ≡ true
@@ -166,17 +166,17 @@ module _ (target : ℕ) (copied : Bitmap) (v w : MirrorView) (sound : IsConsiste
       marked_so false false before passed is = absurd cc
 
   -- Where it does not lack a chunk any more, the new offset has passed it, and nothing stopped it there.
-  no_stop : (x : MemberView) → IsMember w.array target x → (c : ℕ) → c < a.marks.chunks → is_missing a m c ≡ true → is_missing w.array x c ≡ false → Stops a m copied c → ⊥
+  no_stop : (x : MemberView) → IsMember w.array target x → (c : ℕ) → c < a.marks.chunks → is_missing a m c ≡ true → is_missing w.array x c ≡ false → EndsCheckpoint a m copied c → ⊥
   no_stop x at c low was now stops =
       let after : (is_set a.marks.bytes c || not (is_passed (geometry_of a) r.offset c)) ≡ false = sym (lacks_after x at c) ∙ now in
       let before : (is_set a.marks.bytes c || not (has_passed a m c)) ≡ true = sym (lacks_before c) ∙ was in
       let passed : is_passed (geometry_of a) r.offset c ≡ true = passed_then (is_set a.marks.bytes c) (is_passed (geometry_of a) r.offset c) after in
       let unpassed : has_passed a m c ≡ false = unpassed_then (is_set a.marks.bytes c) (is_passed (geometry_of a) r.offset c) (has_passed a m c) after before in
-      let at_stop = passed_either a.chunks.size a.chunks.sectors m.superblock.recovery_offset r.next.stop c (subst (λ o. is_passed (geometry_of a) o c ≡ true) r.next.is passed) unpassed in
+      let at_crash = passed_either a.chunks.size a.chunks.sectors m.superblock.recovery_offset r.next.stop c (subst (λ o. is_passed (geometry_of a) o c ≡ true) r.next.is passed) unpassed in
       elim r.next.first [
         | inl first ↦
             let below = passed_below a.chunks.size a.chunks.sectors first.0 c sound.chunks.wide (let early = first.1 in let count = sound.chunks.count in omega (arith, early, count))
-            (subst (λ o. is_passed (geometry_of a) o c ≡ true) first.4 at_stop) in
+            (subst (λ o. is_passed (geometry_of a) o c ≡ true) first.4 at_crash) in
             first.3 c below stops
         | inr none ↦ none.0 c low stops
       ]

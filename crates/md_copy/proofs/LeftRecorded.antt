@@ -8,7 +8,7 @@ use Rattle.md_state.specs.View.{MirrorView}
 use Rattle.md_array.specs.Checkpoints.{MayCheckpoint, RefusesCheckpoint}
 use Rattle.md_array.specs.Consistency.{IsConsistent}
 use Rattle.md_copy.specs.Held.{AreHeld}
-use Rattle.md_copy.specs.Leaving.{Leaves}
+use Rattle.md_copy.specs.Leaving.{RecordsAtEnd}
 use Rattle.md_copy.specs.Ready.{IsRecordable}
 use Rattle.md_copy.proofs.HeldChunks.{may_record}
 
@@ -23,6 +23,6 @@ module _ (target : ℕ) (v : MirrorView) (sound : IsConsistent v) (within : targ
       may_record target v sound running (h.2 running) within copied (count ∙ h.0)
       (λ c low set. absurd (both_ways (is_set copied.bytes c) (none c (subst (λ n. c < n) (sym h.0) low)) set))
 
-pub left_refused : (target : ℕ) (copied : Bitmap) (v w : MirrorView) (fault : TargetFaults) → RefusesCheckpoint target copied v w fault → Leaves target copied v w
+pub left_refused : (target : ℕ) (copied : Bitmap) (v w : MirrorView) (fault : TargetFaults) → RefusesCheckpoint target copied v w fault → RecordsAtEnd target copied v w
 left_refused target copied v w Halted h = inl (h.reason, h.unchanged)
 left_refused target copied v w TargetFault h = inr (inr h)

@@ -13,7 +13,7 @@ use Rattle.md_device.specs.Splice.{part}
 use Rattle.md_device.specs.declared.device.Device.{Ghosts}
 use Rattle.md_kept_members.specs.View.{MemberView}
 use Rattle.md_pass.specs.Beside.{KeepsBeside, has_chunk}
-use Rattle.md_workers.specs.Lanes.{AreOnlyRead, OnlyRead}
+use Rattle.md_workers.specs.Queues.{AreOnlyRead, OnlyRead}
 use Rattle.md_pass.specs.Sources.{copy_of}
 use Rattle.md_state.specs.MakingClean.{IsIdle}
 use Rattle.md_state.specs.Members.{IsMember}
@@ -21,7 +21,7 @@ use Rattle.md_state.specs.Missing as state
 use Rattle.md_state.specs.Missing.{is_rebuilt}
 use Rattle.md_state.specs.View.{ArrayView, Disk, MirrorView, disk_of, of_disks}
 use Rattle.md_array.specs.Consistency.{IsConsistent}
-use Rattle.md_array.specs.Lending.{AreBack, ComesBack, lent}
+use Rattle.md_array.specs.Lending.{AreBack, ComesBackFromLoan, lent}
 use Rattle.md_copy.specs.Filling.{IsFilling}
 use Rattle.md_copy.specs.RebuildSources.{IsPlanOf}
 use Rattle.md_copy.proofs.Carried.{others_read, seen, target_kept}
@@ -47,7 +47,7 @@ planned_missing v sound member rebuilt plan is_plan c planned =
 -- ---- one device
 comes_target : (a : ArrayView) (m : MemberView) (slots : List Slot) (d e : Disk) → is_rebuilt m.state ≡ true
     → ((c : ℕ) → has_chunk slots c ≡ true → (c < a.marks.chunks) × (state.is_missing a m c ≡ true))
-    → KeepsBeside of_disks (copy_of slots a.chunks m.superblock.data_offset) d e → ComesBack a m d e
+    → KeepsBeside of_disks (copy_of slots a.chunks m.superblock.data_offset) d e → ComesBackFromLoan a m d e
 comes_target a m slots d e is lacks k = record {
   stays = record { honest = k.honest_kept; counted = k.counted };
   size = k.same.size;
@@ -55,7 +55,7 @@ comes_target a m slots d e is lacks k = record {
   others = λ no. absurd (let yes = is in cc);
 }
 
-comes_other : (a : ArrayView) (m : MemberView) (d e : Disk) → OnlyRead of_disks d e → ComesBack a m d e
+comes_other : (a : ArrayView) (m : MemberView) (d e : Disk) → OnlyRead of_disks d e → ComesBackFromLoan a m d e
 comes_other a m d e r = record {
   stays = record { honest = r.honest_kept; counted = r.counted };
   size = ap length r.content_kept;
@@ -100,7 +100,7 @@ module _ {D : Type 0} (g : Ghosts D) (v : MirrorView) (sound : IsConsistent v) (
                   | inl here ↦
                       let is : member ≡ m = same_Some member m (sym at ∙ ap (slice_get v.array.members) (sym here) ∙ at_m) in
                       let one = f.on_target d e (ap (slice_get v.disks) (sym here) ∙ at_d) (ap (slice_get (seen g news)) (sym here) ∙ at_e) in
-                      subst (λ (x : MemberView). ComesBack v.array x d e) is (comes_target v.array member plan.slots d e rebuilt (planned_missing v sound member rebuilt plan is_plan) one)
+                      subst (λ (x : MemberView). ComesBackFromLoan v.array x d e) is (comes_target v.array member plan.slots d e rebuilt (planned_missing v sound member rebuilt plan is_plan) one)
                   | inr other ↦ comes_other v.array m d e (f.others k d e other at_d at_e)
                 ];
           };

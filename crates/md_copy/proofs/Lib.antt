@@ -55,7 +55,7 @@ mod Stands
 pub mod StartedAs
 pub mod StartsReadied
 pub mod StatesKept
-pub mod StoppedWithin
+pub mod EndedWithin
 pub mod StoredFirst
 pub mod StoringKeeps
 pub mod TargetStates

@@ -13,7 +13,7 @@ use Rattle.md_kept_members.specs.Members.{made_due}
 use Rattle.md_kept_members.specs.View.{MemberView}
 use Rattle.md_members.specs.declared.area.Area.{Area}
 use Rattle.md_members.specs.Areas.{AreApart, LogIsPlaced, bitmap_area, bitmap_sectors, data_area, log_area, super_area}
-use Rattle.md_members.specs.Members.{sectors_of}
+use Rattle.md_members.specs.Members.{sectors_of_device}
 use Rattle.md_model.specs.Events.{Event, MemberPart}
 use Rattle.md_model.proofs.Cases.{by_test}
 use Rattle.md_super.specs.declared.superblock.Superblock.{Superblock}
@@ -31,7 +31,7 @@ use Rattle.md_array.specs.Enrolling.{KeepsData, log_writes}
 use Rattle.md_array.specs.InTurn.{AllOf, Did, HaltsAt, Leads, Requests}
 use Rattle.md_array.specs.Listing.{AreWritten}
 use Rattle.md_array.specs.Recording.{super_write}
-use Rattle.md_array.specs.Worlds.{from_super}
+use Rattle.md_array.specs.Worlds.{sector_from_super}
 use Rattle.md_array.proofs.General.Indices.{at_map}
 use Rattle.md_array.proofs.General.Replaced.{of_set}
 use Rattle.md_array.proofs.Rebuilding.LogStored.{is_log, log_of}
@@ -58,7 +58,7 @@ apart_of v sound k m at =
     let many = sound.fits.as_many in
     let d = got_within v.disks k (omega (arith, low, many)) in
     let fits = sound.fits.each k d.0 m d.1 at in
-    record { super = fits.placed.data_apart; marks = (fits.placed.bitmap fits.has).from_data; sectors = sectors_of d.0.content; log = fits.placed.log }
+    record { super = fits.placed.data_apart; marks = (fits.placed.bitmap fits.has).from_data; sectors = sectors_of_device d.0.content; log = fits.placed.log }
 
 keeps_beside : (m : MemberView) (d e : Disk) (area : Area) (s : ℕ) → area.start ≡ pos s → SameOutside (512 * s) (512 * area.sectors) d.content e.content → AreApart (data_area m.superblock) area
     → KeepsData m d e
@@ -87,7 +87,7 @@ log_keeps : (m : MemberView) (d e : Disk) → HasRoomFor m.superblock m.bad → 
     → SameOutside (512 * (log_of m).sector) (length (log_of m).bytes) d.content e.content → KeepsData m d e
 log_keeps m d e room apart there outside =
     let log = apart.log there in
-    let start = from_super m.superblock.bblog_offset in
+    let start = sector_from_super m.superblock.bblog_offset in
     keeps_beside m d e (log_area m.superblock) start (sector_at_is (log_area m.superblock).start log.within.from)
     (subst (λ n. SameOutside (512 * start) n d.content e.content) (log_long m room there) outside) log.from_data
 

@@ -16,7 +16,7 @@ use Rattle.md_cert.specs.declared.slots.Slot.{Slot}
 use Rattle.md_kept_members.specs.Members.{made_due}
 use Rattle.md_kept_members.specs.View.{MemberView}
 use Rattle.md_model.specs.Events.{Event}
-use Rattle.md_passes.specs.Passes.{PassView, failed_chunks, slots_of}
+use Rattle.md_passes.specs.Passes.{PassView, failed_chunks, slots_of_pass}
 use Rattle.md_state.specs.Members.{IsMember}
 use Rattle.md_state.specs.View.{ArrayView, Disk, MirrorView}
 use Rattle.md_array.specs.Checkpoints.{Checkpoints}
@@ -30,7 +30,7 @@ use Rattle.md_metadata.specs.Going.{GoesOn, only_others}
 use Rattle.md_metadata.specs.Storing.{IsStoring}
 use Rattle.md_copy.specs.declared.rebuilt.Rebuilt.{Rebuilt}
 use Rattle.md_copy.specs.Filling.{IsFilling}
-use Rattle.md_copy.specs.Listing.{HasFailed, HasListOn, NotesLists}
+use Rattle.md_copy.specs.Listing.{HasFailedSlot, HasListOn, NotesLists}
 use Rattle.md_copy.specs.Passing.{AreListedPasses, CopiesAll, ListsPass, RecordsPass}
 use Rattle.md_copy.specs.Rebuilding.{RebuildsReadied}
 use Rattle.md_copy.specs.Rebuilt.{failed_of}
@@ -44,7 +44,7 @@ use Rattle.md_copy.proofs.PassesKeep.{all_keep, failed_last, pass_keeps}
 pub of_state : (failed : List Slot) (s t : MemberState) → s ≡ t → Any (λ (slot : Slot). is_in_sync_as slot.source s ≡ true) failed → Any (λ (slot : Slot). is_in_sync_as slot.source t ≡ true) failed
 of_state failed s t same has = subst (λ (z : MemberState). Any (λ (slot : Slot). is_in_sync_as slot.source z ≡ true) failed) same has
 
-failed_or_not : (failed : List Slot) (m : MemberView) → HasFailed failed m ⊎ (HasFailed failed m → ⊥)
+failed_or_not : (failed : List Slot) (m : MemberView) → HasFailedSlot failed m ⊎ (HasFailedSlot failed m → ⊥)
 failed_or_not failed m =
     let own : Slot → Bool = λ s. is_in_sync_as s.source m.state in
     elim (cases_Bool (list_any own failed)) [
@@ -52,7 +52,7 @@ failed_or_not failed m =
       | inr none ↦ inr (λ has. both_ways (list_any own failed) none (list_any-from_Any own failed has))
     ]
 
-in_either : (xs ys : List Slot) (m : MemberView) → HasFailed (xs ++ ys) m → HasFailed xs m ⊎ HasFailed ys m
+in_either : (xs ys : List Slot) (m : MemberView) → HasFailedSlot (xs ++ ys) m → HasFailedSlot xs m ⊎ HasFailedSlot ys m
 in_either xs ys m has =
     let own : Slot → Bool = λ s. is_in_sync_as s.source m.state in
     let both = sym (list_any-append own xs ys) ∙ list_any-from_Any own (xs ++ ys) has in
@@ -105,10 +105,10 @@ module _ (target k : ℕ) (other : k ≢ target) where
 
   recorded_pass : (chunks : List ℕ) (p : PassView) (before after : Bitmap) (v x : MirrorView) → RecordsPass target chunks p before after v x → On v → On x
   recorded_pass chunks p before after v x h has =
-      checkpoint_still after h.filled x h.makes.sound h.checkpoints (filled_still h.makes.member (slots_of p) v h.filled h.makes.copies.filling has)
+      checkpoint_still after h.filled x h.makes.sound h.checkpoints (filled_still h.makes.member (slots_of_pass p) v h.filled h.makes.copies.filling has)
 
   -- chunks are listed on others
-  noted_still : (failed : List Slot) (x noted : MirrorView) → NotesLists failed x noted → ((m : MemberView) → IsMember x.array k m → HasFailed failed m → ⊥) → On x → On noted
+  noted_still : (failed : List Slot) (x noted : MirrorView) → NotesLists failed x noted → ((m : MemberView) → IsMember x.array k m → HasFailedSlot failed m → ⊥) → On x → On noted
   noted_still failed x noted notes none =
       recorded_still k x noted (λ n e at_n at_e in_sync honest.
       let b = notes.lists.before k n at_n in (
@@ -137,7 +137,7 @@ module _ (target k : ℕ) (other : k ≢ target) where
     noted = h.lists.noted
 
     canonical : All (λ (l : ℕ × (ℕ → Bool)). IsCanonicalAt l.0 noted.array) h.lists.stores.stored
-    canonical = All-weaker (λ (l : ℕ × (ℕ → Bool)). (m : MemberView) × IsMember noted.array l.0 m × HasFailed p.failed m) (λ (l : ℕ × (ℕ → Bool)). IsCanonicalAt l.0 noted.array)
+    canonical = All-weaker (λ (l : ℕ × (ℕ → Bool)). (m : MemberView) × IsMember noted.array l.0 m × HasFailedSlot p.failed m) (λ (l : ℕ × (ℕ → Bool)). IsCanonicalAt l.0 noted.array)
         (λ l is m at.
         subst (λ (z : MemberView). IsCanonical z.bad) (same_Some is.0 m (sym is.1 ∙ at))
         (failed_fits p.failed noted.array h.lists.notes.room l.0 is.0 is.1 is.2).1)
@@ -148,19 +148,19 @@ module _ (target k : ℕ) (other : k ≢ target) where
         lists_stored k h.lists.stores.stored None noted w (λ n. None) (λ n. None) h.lists.notes.goes.sound canonical
         (subst (λ (es : List Event). Leads None noted (λ n. None) es w (λ n. None)) h.lists.stores.events (h.lists.stores.goes.leads None (λ n. None) (λ n q e. absurd (none-some q e))))
 
-    listed_now : (m : MemberView) → IsMember x.array k m → HasFailed p.failed m → On w
+    listed_now : (m : MemberView) → IsMember x.array k m → HasFailedSlot p.failed m → On w
     listed_now m at has =
         let n = h.lists.notes.lists.after k m at in
         stored_then (inl (h.lists.stores.lists.each k n.0 n.1 (of_state p.failed m.state n.0.state (sym n.2.state) has)))
 
-    pass_then : (m : MemberView) → IsMember x.array k m → HasFailed p.failed m ⊎ On v → On w
+    pass_then : (m : MemberView) → IsMember x.array k m → HasFailedSlot p.failed m ⊎ On v → On w
     pass_then m at either = elim either [
       | inl has ↦ listed_now m at has
       | inr on ↦ elim (failed_or_not p.failed m) [
         | inl has ↦ listed_now m at has
         | inr none ↦
             stored_then (inr (noted_still p.failed x noted h.lists.notes
-            (λ z at_z has. none (subst (HasFailed p.failed) (same_Some z m (sym at_z ∙ at)) has))
+            (λ z at_z has. none (subst (HasFailedSlot p.failed) (same_Some z m (sym at_z ∙ at)) has))
             (recorded_pass chunks p before after v x h.records on)))
       ]
     ]
@@ -168,7 +168,7 @@ module _ (target k : ℕ) (other : k ≢ target) where
   -- ---- passes, one after another
   -- if a slot of it failed, its list is on its device
   abbrev IfFailed : List Slot → MirrorView → Type 0
-  IfFailed failed v = (m : MemberView) → IsMember v.array k m → HasFailed failed m → On v
+  IfFailed failed v = (m : MemberView) → IsMember v.array k m → HasFailedSlot failed m → On v
 
   lists_pass : (failed : List Slot) (chunks : List ℕ) (p : PassView) (before after : Bitmap) (v w : MirrorView) → ListsPass target chunks p before after v w → IfFailed failed v
       → IfFailed (failed ++ p.failed) w
@@ -195,7 +195,7 @@ module _ (target k : ℕ) (other : k ≢ target) where
       let so : IfFailed (failed_of h.listed) h.now =
       lists_chain h.listed [] (missing_chunks v.array m) h.left before h.mid v h.now h.passed (λ z at_z none. (let low = none.2 in absurd (omega (arith, low)))) in
       recorded_pass h.left h.last h.mid after h.now w h.records
-      (so l.0 l.1 (of_state (failed_of h.listed) n.state l.0.state l.2.state (subst (λ (fs : List Slot). HasFailed fs n) is has)))
+      (so l.0 l.1 (of_state (failed_of h.listed) n.state l.0.state l.2.state (subst (λ (fs : List Slot). HasFailedSlot fs n) is has)))
 
 -- ---- a rebuild from the moment that it is readied
 module _ (target : ℕ) (m : MemberView) (none : Bitmap) (v new : MirrorView) (told : Rebuilt) (h : RebuildsReadied target m none v new told) (y : MirrorView)
@@ -228,7 +228,7 @@ module _ (target : ℕ) (m : MemberView) (none : Bitmap) (v new : MirrorView) (t
         refl,
       ))
 
-  pub stored_so : (k : ℕ) (n z : MemberView) (e : Disk) → k ≢ target → IsMember v.array k n → HasFailed (failed_of h.passes) n → IsMember y.array k z → is_in_sync z.state ≡ true
+  pub stored_so : (k : ℕ) (n z : MemberView) (e : Disk) → k ≢ target → IsMember v.array k n → HasFailedSlot (failed_of h.passes) n → IsMember y.array k z → is_in_sync z.state ≡ true
       → slice_get y.disks k ≡ Some e → e.honest ≡ true → HasListOn z.bad e.content
   stored_so k n z e other at_n has at_z in_sync at_e honest =
       let copies = h.by.fills.copies in

@@ -20,7 +20,7 @@ use Rattle.md_model.specs.Events.{Event}
 use Rattle.md_model.proofs.Cases.{by_test}
 use Rattle.md_super.specs.declared.superblock.Superblock.{Superblock}
 use Rattle.md_super.specs.Encoding.{super_bytes}
-use Rattle.md_super.specs.Faults.{NoFault}
+use Rattle.md_super.specs.Faults.{NoSuperFault}
 use Rattle.md_super.specs.Format.{IsSuper}
 use Rattle.md_super.specs.Log.{has_bad_block_log}
 use Rattle.md_super.specs.Merge.{merged}
@@ -35,7 +35,7 @@ use Rattle.md_array.specs.Consistency.{IsConsistent}
 use Rattle.md_array.specs.InTurn.{AllOf, Did, IsInOrder, Leads, Requests}
 use Rattle.md_array.specs.Listing.{AreWritten, StoresLog}
 use Rattle.md_array.specs.Recording.{IsReadable, Records, super_write}
-use Rattle.md_array.specs.Worlds.{block_on, from_super, is_listed_next}
+use Rattle.md_array.specs.Worlds.{block_on, sector_from_super, is_listed_next}
 use Rattle.md_array.proofs.General.Indices.{at_set_same, got_other}
 use Rattle.md_array.proofs.General.Replaced.{of_set}
 use Rattle.md_array.proofs.Rebuilding.LogListed.{listed_logged}
@@ -74,7 +74,7 @@ list_on m d r =
     let own = m.superblock in
     let v : Superblock = record (merged r.super.shared own) { sb_csum = r.super.readable.sum } in
     let fields = subst (λ (b : List ℕ). IsSuper b v) (sym r.super.block) r.super.readable.fields in
-    let sound = subst NoFault (sym r.super.block) r.super.readable.sound in
+    let sound = subst NoSuperFault (sym r.super.block) r.super.readable.sound in
     record {
       super = v;
       read = record { fields = fields; sound = sound };
@@ -125,7 +125,7 @@ recorded_still k old new were has n e at_n at_e in_sync honest =
     let r = has w.member w.device w.at w.there w.in_sync w.honest in
     record {
       logged = logged_stays w.member n w.device e w.superblock w.bad
-          (λ _. ap (λ (c : List ℕ). part c (512 * from_super w.member.superblock.bblog_offset) (512 * w.member.superblock.bblog_size)) x.1) r.logged;
+          (λ _. ap (λ (c : List ℕ). part c (512 * sector_from_super w.member.superblock.bblog_offset) (512 * w.member.superblock.bblog_size)) x.1) r.logged;
       super = super_stays w.member n w.device e w.superblock (ap block_on x.1) r.super;
     }
 
@@ -205,7 +205,7 @@ module _ (mid next : MirrorView) (sound : IsConsistent mid) where
     m = r.member
 
     abbrev start : ℕ
-    start = from_super m.superblock.bitmap_offset
+    start = sector_from_super m.superblock.bitmap_offset
 
     low_of_member : block < bitmap_sectors m.stored.chunks
     low_of_member = subst (λ n. block < bitmap_sectors n) (sym (sound.chunks.member_count j m r.may.in_sync.member)) low
@@ -228,7 +228,7 @@ module _ (mid next : MirrorView) (sound : IsConsistent mid) where
   module _ (k : ℕ) where
     same_left : (m : MemberView) (d e : Disk) → e ≡ d → Leaves m d e
     same_left m d e same = (
-      λ _. ap (λ (x : Disk). part x.content (512 * from_super m.superblock.bblog_offset) (512 * m.superblock.bblog_size)) same,
+      λ _. ap (λ (x : Disk). part x.content (512 * sector_from_super m.superblock.bblog_offset) (512 * m.superblock.bblog_size)) same,
       inl (ap (λ (x : Disk). block_on x.content) same),
     )
 
@@ -334,7 +334,7 @@ module _ (j : ℕ) (old new : MirrorView) (sound : IsConsistent old) (r : Stores
   same_disks none = subst (λ (ws : List Write). AreWritten j ws old.disks new.disks) (ap (λ (b : Bool). if b then log_of own ∷ [] else []) none) r.disks
 
   log_there : (e : Disk) → slice_get new.disks j ≡ Some e → e.honest ≡ true → has ≡ true
-      → part e.content (512 * from_super own.superblock.bblog_offset) (512 * own.superblock.bblog_size) ≡ log_bytes own.bad (log_room own.superblock)
+      → part e.content (512 * sector_from_super own.superblock.bblog_offset) (512 * own.superblock.bblog_size) ≡ log_bytes own.bad (log_room own.superblock)
   log_there e at_e honest there =
       let v = own.superblock in
       let w = written there in
@@ -342,9 +342,9 @@ module _ (j : ℕ) (old new : MirrorView) (sound : IsConsistent old) (r : Stores
       let many = w.tried.as_many in
       let d = got_within old.disks j (omega (arith, low, many)) in
       let log = (parts_of old sound j d.0 own d.1 r.in_sync.member).placed.log there in
-      let fits = fits_on (log_area v).start (from_super v.bblog_offset) v.bblog_size (length d.0.content) (sym (sector_at_is (log_area v).start log.within.from)) log.within.to in
-      ap (λ (xs : List ℕ). part xs (512 * from_super v.bblog_offset) (512 * v.bblog_size)) (w.done d.0 e d.1 at_e (sym (w.tried.stays d.0 e d.1 at_e).honest ∙ honest))
-      ∙ part-spliced d.0.content (512 * from_super v.bblog_offset) (log_bytes own.bad (log_room v)) (512 * v.bblog_size) (sym (log_long own r.room there)) (omega (arith, fits))
+      let fits = fits_on (log_area v).start (sector_from_super v.bblog_offset) v.bblog_size (length d.0.content) (sym (sector_at_is (log_area v).start log.within.from)) log.within.to in
+      ap (λ (xs : List ℕ). part xs (512 * sector_from_super v.bblog_offset) (512 * v.bblog_size)) (w.done d.0 e d.1 at_e (sym (w.tried.stays d.0 e d.1 at_e).honest ∙ honest))
+      ∙ part-spliced d.0.content (512 * sector_from_super v.bblog_offset) (log_bytes own.bad (log_room v)) (512 * v.bblog_size) (sym (log_long own r.room there)) (omega (arith, fits))
 
   log_makes : IsCanonical own.bad → AtInSync IsLogged j new
   log_makes canonical n e at_n at_e in_sync honest sector =

@@ -41,7 +41,7 @@ use Rattle.md_pass.specs.Copied.{failed_slots, is_failed_slot}
 use Rattle.md_passes.specs.Listed.{IsOfFailed, ListsFailed, ListsOwn}
 use Rattle.md_copy.specs.declared.fault.RebuildFault.{RebuildFault}
 use Rattle.md_copy.specs.declared.fault.RebuildFault.TheVariants.{MetadataFault}
-use Rattle.md_copy.specs.Listing.{AreListsOf, FitsLog, HasFailed, HasListOn, HaveRoom, IsListOn, IsStoringList, KeepsList, ListsAll, NotesLists, StopsAtList, StopsStoringLists, StoresIfFailed, StoresListIf, StoresLists, StoresOwn, WritesMetadata, all_list_events}
+use Rattle.md_copy.specs.Listing.{AreListsOf, FitsLog, HasFailedSlot, HasListOn, HaveRoom, IsListOn, IsStoringList, KeepsListAndData, ListsAll, NotesLists, EndsAtList, EndsStoringLists, StoresIfFailed, StoresListIf, StoresLists, StoresOwn, WritesMetadata, all_list_events}
 use Rattle.md_copy.proofs.ListingKeeps.{KeepsPlaces, LeavesBeside, apart_of, listing_fails, listing_fields, listing_halt_fails, listing_halts, listing_leaves, writes_one, writes_same, writes_then}
 use Rattle.md_copy.proofs.ListsOn.{IsCanonicalAt, any_or_none, list_on, lists_beside, lists_stored}
 use Rattle.md_copy.proofs.Served.{in_sync_as}
@@ -58,10 +58,10 @@ module _ (slots : List Slot) (copied : Bitmap) (m : MemberView) (answer : Bool) 
   tells : list_any (λ s. is_in_sync_as s.source m.state) (failed_slots slots copied) ≡ answer
   tells = any_filter (λ (s : Slot). is_in_sync_as s.source m.state) (is_failed_slot copied) slots ∙ sym is
 
-  pub some_failed : answer ≡ true → HasFailed (failed_slots slots copied) m
+  pub some_failed : answer ≡ true → HasFailedSlot (failed_slots slots copied) m
   some_failed true_is = Any-from_list_any (λ s. is_in_sync_as s.source m.state) (failed_slots slots copied) (tells ∙ true_is)
 
-  pub none_failed : answer ≡ false → HasFailed (failed_slots slots copied) m → ⊥
+  pub none_failed : answer ≡ false → HasFailedSlot (failed_slots slots copied) m → ⊥
   none_failed false_is has = both_ways answer false_is (sym tells ∙ list_any-from_Any (λ s. is_in_sync_as s.source m.state) (failed_slots slots copied) has)
 
 -- slot by slot
@@ -80,16 +80,16 @@ module _ (slots : List Slot) (copied : Bitmap) (state : MemberState) (i : ℕ) w
   own_all past none = sym (ap (list_any fails_own) (sym (take_all i slots past)) ∙ none)
 
 -- who has one is in sync
-pub failed_in_sync : (failed : List Slot) (m : MemberView) → HasFailed failed m → is_in_sync m.state ≡ true
+pub failed_in_sync : (failed : List Slot) (m : MemberView) → HasFailedSlot failed m → is_in_sync m.state ≡ true
 failed_in_sync failed m (i, s, low, is, in_sync) = in_sync_as s.source m.state in_sync
 
 -- and has room
-pub failed_fits : (failed : List Slot) (a : ArrayView) → HaveRoom failed a → (k : ℕ) (m : MemberView) → IsMember a k m → HasFailed failed m → FitsLog m.superblock m.bad
+pub failed_fits : (failed : List Slot) (a : ArrayView) → HaveRoom failed a → (k : ℕ) (m : MemberView) → IsMember a k m → HasFailedSlot failed m → FitsLog m.superblock m.bad
 failed_fits failed a room k m at (i, s, low, is, in_sync) =
     let Holds : Slot → Type 0 = λ s. (k : ℕ) (m : MemberView) → IsMember a k m → is_in_sync_as s.source m.state ≡ true → FitsLog m.superblock m.bad in
     subst Holds is (All-get_or Holds failed i s low room) k m at in_sync
 
-pub failed_room : (failed : List Slot) (a : ArrayView) → HaveRoom failed a → (k : ℕ) (m : MemberView) → IsMember a k m → HasFailed failed m → HasRoomFor m.superblock m.bad
+pub failed_room : (failed : List Slot) (a : ArrayView) → HaveRoom failed a → (k : ℕ) (m : MemberView) → IsMember a k m → HasFailedSlot failed m → HasRoomFor m.superblock m.bad
 failed_room failed a room k m at has = (failed_fits failed a room k m at has).0
 
 -- ---- the events of one are of all
@@ -138,7 +138,7 @@ own_kept failed marks m n (inr (none, same)) = own_same m n same
 
 -- ---- one member
 module _ (failed : List Slot) (k : ℕ) where
-  pub stored_none : (v : MirrorView) → IsConsistent v → AllInSync v.array IsNotDue → ((m : MemberView) → IsMember v.array k m → HasFailed failed m → ⊥) → StoresListIf failed k v v
+  pub stored_none : (v : MirrorView) → IsConsistent v → AllInSync v.array IsNotDue → ((m : MemberView) → IsMember v.array k m → HasFailedSlot failed m → ⊥) → StoresListIf failed k v v
   stored_none v sound recorded none =
       let nothing = unfailing_none IsStoringList v sound in
       record {
@@ -154,7 +154,7 @@ module _ (failed : List Slot) (k : ℕ) where
         writes = writes_same v v refl;
       }
 
-  module _ (old new : MirrorView) (sound : IsConsistent old) (recorded : AllInSync old.array IsNotDue) (has : (m : MemberView) → IsMember old.array k m → HasFailed failed m) where
+  module _ (old new : MirrorView) (sound : IsConsistent old) (recorded : AllInSync old.array IsNotDue) (has : (m : MemberView) → IsMember old.array k m → HasFailedSlot failed m) where
     pub stored_one : StoresList k old new → StoresListIf failed k old new
     stored_one s =
         let a = s.array in
@@ -188,7 +188,7 @@ module _ (failed : List Slot) (k : ℕ) where
       in_sync : IsInSync old.array k m
       in_sync = record { member = at; in_sync = failed_in_sync failed m (has m at) }
 
-      lists_kept : LeavesBeside k old new → (j : ℕ) (x y : MemberView) → IsMember old.array j x → IsMember new.array j y → KeepsList x y × (j ≢ k → y.state ≡ x.state)
+      lists_kept : LeavesBeside k old new → (j : ℕ) (x y : MemberView) → IsMember old.array j x → IsMember new.array j y → KeepsListAndData x y × (j ≢ k → y.state ≡ x.state)
       lists_kept leaves j x y at_x at_y = elim (cases_eq j k) [
         | inl here ↦
             let at_k = sym (ap (slice_get old.array.members) here) ∙ at_x in
@@ -208,7 +208,7 @@ module _ (failed : List Slot) (k : ℕ) where
             )
       ]
 
-      pub stops_one : (HasSpentEvents old.array → ⊥) → (fault : PartFault) → ListFails k old new fault → StopsAtList failed k old new
+      pub stops_one : (HasSpentEvents old.array → ⊥) → (fault : PartFault) → ListFails k old new fault → EndsAtList failed k old new
       stops_one unspent part.Halted h =
           let goes = h.halts in
           let leaves = listing_halts k old new goes in
@@ -262,11 +262,11 @@ any_more : {X : Type 0} (P : X → Type 0) (xs : List X) (y : X) → Any P xs �
 any_more P xs y (i, x, low, is, holds) = (i, x, grind (arith, common_steps), grind (arith, common_steps), holds)
 
 abbrev pub IsBelow : List Slot → ArrayView → ℕ → (ℕ × (ℕ → Bool)) → Type 0
-IsBelow failed a k l = (l.0 < k) × ((m : MemberView) × IsMember a l.0 m × HasFailed failed m)
+IsBelow failed a k l = (l.0 < k) × ((m : MemberView) × IsMember a l.0 m × HasFailedSlot failed m)
 
 -- those of the members before this one
 pub record AreListsBelow (failed : List Slot) (k : ℕ) (a : ArrayView) (stored : List (ℕ × (ℕ → Bool))) : Type 0 where
-  pub each : (j : ℕ) (m : MemberView) → j < k → IsMember a j m → HasFailed failed m → Any (λ (l : ℕ × (ℕ → Bool)). l.0 ≡ j) stored
+  pub each : (j : ℕ) (m : MemberView) → j < k → IsMember a j m → HasFailedSlot failed m → Any (λ (l : ℕ × (ℕ → Bool)). l.0 ≡ j) stored
   pub only : All (IsBelow failed a k) stored
   pub rising : AllPairs (λ (l o : ℕ × (ℕ → Bool)). l.0 < o.0) stored
 
@@ -299,7 +299,7 @@ module _ (failed : List Slot) (k : ℕ) (a : ArrayView) (ls : List (ℕ × (ℕ 
   lists_all : length a.members ≤ k → AreListsOf failed a ls
   lists_all past = record {
     each = λ j m at has. b.each j m (let low = slice_get_within a.members j m at in omega (arith, low, past)) at has;
-    only = All-weaker (IsBelow failed a k) (λ (l : ℕ × (ℕ → Bool)). (m : MemberView) × IsMember a l.0 m × HasFailed failed m) (λ l is. is.1) ls b.only;
+    only = All-weaker (IsBelow failed a k) (λ (l : ℕ × (ℕ → Bool)). (m : MemberView) × IsMember a l.0 m × HasFailedSlot failed m) (λ l is. is.1) ls b.only;
     rising = b.rising;
   }
 
@@ -360,7 +360,7 @@ module _ (failed : List Slot) where
     pub unspent_below : (HasSpentEvents old.array → ⊥) → HasSpentEvents mid.array → ⊥
     unspent_below unspent spent = unspent (sym (ap (λ (v : ArrayView). v.shared.events) x.others) ∙ spent)
 
-    pub room_below : HaveRoom failed old.array → (m : MemberView) → IsMember mid.array k m → HasFailed failed m → HasRoomFor m.superblock m.bad
+    pub room_below : HaveRoom failed old.array → (m : MemberView) → IsMember mid.array k m → HasFailedSlot failed m → HasRoomFor m.superblock m.bad
     room_below room m at has = failed_room failed old.array room k m (sym (x.above k (omega arith)) ∙ at) has
 
     -- the next one is as it was
@@ -403,7 +403,7 @@ module _ (failed : List Slot) where
       writes = x.writes;
     }
 
-    lists_then : (new : MirrorView) (j : ℕ) (l m n : MemberView) → KeepsOwn l m → KeepsList m n → KeepsList l n
+    lists_then : (new : MirrorView) (j : ℕ) (l m n : MemberView) → KeepsOwn l m → KeepsListAndData m n → KeepsListAndData l n
     lists_then new j l m n own list = record {
       bad = list.bad ∙ own.bad;
       offset = list.offset ∙ own.offset;
@@ -443,7 +443,7 @@ module _ (failed : List Slot) where
       ]
 
     -- a write to a member failed
-    pub stops_below : IsConsistent old → HaveRoom failed old.array → (i : ℕ) (new : MirrorView) → StopsAtList failed i mid new → StopsAtList failed i old new
+    pub stops_below : IsConsistent old → HaveRoom failed old.array → (i : ℕ) (new : MirrorView) → EndsAtList failed i mid new → EndsAtList failed i old new
     stops_below sound room i new y =
         let was = before i y.member y.was.member in
         let state = (kept i was.0 y.member was.1 y.was.member).state in
@@ -478,7 +478,7 @@ module _ (failed : List Slot) where
           writes = writes_then old mid new below_places x.writes y.writes;
         }
 
-    pub lists_stop : IsConsistent old → HaveRoom failed old.array → (new : MirrorView) (fault : RebuildFault) → StopsStoringLists failed mid new fault → StopsStoringLists failed old new fault
+    pub lists_stop : IsConsistent old → HaveRoom failed old.array → (new : MirrorView) (fault : RebuildFault) → EndsStoringLists failed mid new fault → EndsStoringLists failed old new fault
     lists_stop sound room new (MetadataFault i) y = stops_below sound room i new y
     lists_stop sound room new fault y = absurd y
 

@@ -15,32 +15,32 @@ use Rattle.md_array.specs.Consistency.{IsConsistent}
 use Rattle.md_array.proofs.Rebuilding.InBetween.{recovers_rebuilt}
 use Rattle.md_copy.specs.declared.fault.RebuildFault.{RebuildFault}
 use Rattle.md_copy.specs.declared.fault.RebuildFault.TheVariants.{Halted, NotSpare, Dirty, InFlight, LogFull, NoMemory, TargetFault, MetadataFault, EventsFull}
-use Rattle.md_copy.specs.Beginning.{MayRebuild, rises}
-use Rattle.md_copy.specs.Ready.{MayGoOn}
-use Rattle.md_copy.specs.Readying.{AdmitsAfter, Readies, RefusesAdmission, RefusesReady}
-use Rattle.md_copy.specs.Storing.{FailsOnTarget, StoresFirst, StoringStops}
+use Rattle.md_copy.specs.Beginning.{MayBeginRebuild, rises}
+use Rattle.md_copy.specs.Ready.{MayRebuildOn}
+use Rattle.md_copy.specs.Readying.{AdmitsAfter, Readies, RefusesAdmission, RefusesToReady}
+use Rattle.md_copy.specs.Storing.{FailsToRecordTarget, StoresFirst, StoringEnds}
 use Rattle.md_copy.specs.Targets.{IsTarget}
 use Rattle.md_copy.proofs.TargetStates.{target_rebuilt, target_stays}
 use Rattle.md_copy.proofs.Readied.{admitted_is, after_so, begins_so, not_due, once, recovering_admitted, recovering_else, some_rise, state_then, stored_so, unspent_so}
 
-module _ (target : ℕ) (old : MirrorView) (within : target < length old.array.members) (may : (m : MemberView) → IsMember old.array target m → MayRebuild old.array m) where
+module _ (target : ℕ) (old : MirrorView) (within : target < length old.array.members) (may : (m : MemberView) → IsMember old.array target m → MayBeginRebuild old.array m) where
   it : (m : MemberView) × IsMember old.array target m
   it = got_within old.array.members target within
 
   pub running : old.array.halted ≡ false
-  running = (may it.0 it.1).settled.has_target.running
+  running = (may it.0 it.1).resynced_target.has_target.running
 
   pub rebuilt : (m : MemberView) → IsMember old.array target m → is_rebuilt m.state ≡ true
-  rebuilt m at = target_rebuilt old.array m (may m at).settled.has_target.target
+  rebuilt m at = target_rebuilt old.array m (may m at).resynced_target.has_target.target
 
-  may_once : MayGoOn 1 old.array
+  may_once : MayRebuildOn 1 old.array
   may_once = once old.array (rises it.0.state) (some_rise it.0.state) (begins_so old.array it.0 (may it.0 it.1))
 
   pub unspent : HasSpentEvents old.array → ⊥
   unspent = unspent_so old.array may_once
 
   -- ---- before what was due was stored, or after it
-  pub refused_first : (new : MirrorView) (fault : RebuildFault) → StoringStops target old new fault → RefusesReady target old new fault
+  pub refused_first : (new : MirrorView) (fault : RebuildFault) → StoringEnds target old new fault → RefusesToReady target old new fault
   refused_first new Halted h = absurd h
   refused_first new NotSpare h = absurd h
   refused_first new Dirty h = absurd h
@@ -52,7 +52,7 @@ module _ (target : ℕ) (old : MirrorView) (within : target < length old.array.m
   refused_first new EventsFull h = absurd h
 
   module _ (stored : MirrorView) (first : StoresFirst old stored) where
-    once_stored : MayGoOn 1 stored.array
+    once_stored : MayRebuildOn 1 stored.array
     once_stored = stored_so old stored first 1 may_once
 
     pub running_stored : stored.array.halted ≡ false
@@ -62,7 +62,7 @@ module _ (target : ℕ) (old : MirrorView) (within : target < length old.array.m
     unspent_stored = unspent_so stored.array once_stored
 
     pub target_stored : (n : MemberView) → IsMember stored.array target n → IsTarget stored.array n
-    target_stored = target_stays old.array stored.array first.stores.ready target (λ m at. (may m at).settled.has_target.target)
+    target_stored = target_stays old.array stored.array first.stores.ready target (λ m at. (may m at).resynced_target.has_target.target)
 
     -- its state is what it was
     state_is : (m n : MemberView) → IsMember old.array target m → IsMember stored.array target n → is_spare n.state ≡ is_spare m.state
@@ -73,11 +73,11 @@ module _ (target : ℕ) (old : MirrorView) (within : target < length old.array.m
     ready_so none m at =
         let many = first.stores.goes.array.as_many in
         let n = got_within stored.array.members target (omega (arith, within, many)) in
-        inl (recovering_else old.array m.superblock.dev_number m.state (may m at).settled.has_target.target (sym (state_is m n.0 at n.1) ∙ none n.0 n.1), first)
+        inl (recovering_else old.array m.superblock.dev_number m.state (may m at).resynced_target.has_target.target (sym (state_is m n.0 at n.1) ∙ none n.0 n.1), first)
 
     -- ---- a spare
     module _ (spare : (n : MemberView) → IsMember stored.array target n → is_spare n.state ≡ true) where
-      pub refused_admission : (new : MirrorView) → IsConsistent new → (fault : RebuildFault) → RefusesAdmission target stored new fault → RefusesReady target old new fault
+      pub refused_admission : (new : MirrorView) → IsConsistent new → (fault : RebuildFault) → RefusesAdmission target stored new fault → RefusesToReady target old new fault
       refused_admission new sound Halted h = absurd h
       refused_admission new sound NotSpare h = absurd h
       refused_admission new sound Dirty h = absurd h
@@ -103,7 +103,7 @@ module _ (target : ℕ) (old : MirrorView) (within : target < length old.array.m
         spare_before : (m : MemberView) → IsMember old.array target m → is_spare m.state ≡ true
         spare_before m at = sym (state_is m r.may.member at r.may.at) ∙ spare r.may.member r.may.at
 
-        once_admitted : MayGoOn 1 admitted.array
+        once_admitted : MayRebuildOn 1 admitted.array
         once_admitted = after_so target old admitted after it.0 (spare_before it.0 it.1) (may it.0 it.1)
 
         pub running_admitted : admitted.array.halted ≡ false
@@ -116,13 +116,13 @@ module _ (target : ℕ) (old : MirrorView) (within : target < length old.array.m
         rebuilt_admitted m at = recovers_rebuilt m.state (recovering_admitted target old admitted after m at)
 
         -- the target's superblock is not due
-        unstored : (new : MirrorView) → FailsOnTarget target admitted new → ⊥
+        unstored : (new : MirrorView) → FailsToRecordTarget target admitted new → ⊥
         unstored new h =
             let m = admitted_member r.role r.may.member in
             let here = admitted_is target old admitted after in
             both_ways m.due (not_due target old admitted after m here) (h.due m here)
 
-        pub refused_then : (new : MirrorView) (fault : RebuildFault) → StoringStops target admitted new fault → RefusesReady target old new fault
+        pub refused_then : (new : MirrorView) (fault : RebuildFault) → StoringEnds target admitted new fault → RefusesToReady target old new fault
         refused_then new Halted h = absurd h
         refused_then new NotSpare h = absurd h
         refused_then new Dirty h = absurd h
@@ -130,7 +130,7 @@ module _ (target : ℕ) (old : MirrorView) (within : target < length old.array.m
         refused_then new (LogFull k) h = absurd h
         refused_then new NoMemory h = absurd h
         refused_then new TargetFault h = absurd (unstored new h)
-        refused_then new (MetadataFault k) h = inr (record { admitted = admitted; after = after; stops = h })
+        refused_then new (MetadataFault k) h = inr (record { admitted = admitted; after = after; ends = h })
         refused_then new EventsFull h = absurd h
 
         pub ready_then : (new : MirrorView) → StoresFirst admitted new → (m : MemberView) → IsMember old.array target m → Readies target m old new

@@ -17,17 +17,17 @@ use Rattle.md_state.specs.Requests.{IsPending}
 use Rattle.md_state.specs.View.{ArrayView, MirrorView}
 use Rattle.md_array.specs.Consistency.{IsConsistent}
 use Rattle.md_array.specs.Events.{Happens}
-use Rattle.md_array.specs.Listing.{IsWhole, NotesChunk, RefusesChunk}
+use Rattle.md_array.specs.Listing.{IsBelowListLimit, NotesChunk, RefusesChunk}
 use Rattle.md_array.proofs.General.Replaced.{of_set}
 use Rattle.md_metadata.specs.Going.{only_others}
 use Rattle.md_metadata.proofs.Going.{goes_nowhere, goes_on, goes_step}
 use Rattle.md_metadata.proofs.Steps.{same_but}
 use Rattle.md_pass.specs.Copied.{failed_slots, is_failed_slot}
-use Rattle.md_passes.specs.Listed.{IsSourceOf}
+use Rattle.md_passes.specs.Listed.{IsSourceInRole}
 use Rattle.md_passes.proofs.Listing.{lists_add}
 use Rattle.md_copy.specs.declared.fault.RebuildFault.{RebuildFault}
 use Rattle.md_copy.specs.declared.fault.RebuildFault.TheVariants.{LogFull}
-use Rattle.md_copy.specs.Listing.{ChangesListAlone, FitsLog, HaveRoom, IsNoting, NotesLists, RefusesSlot, StopsNoting, WhyNotNoted}
+use Rattle.md_copy.specs.Listing.{ChangesListAlone, FitsLog, HaveRoom, IsNoting, NotesLists, RefusesSlot, EndsNoting, WhyNotNoted}
 use Rattle.md_copy.proofs.Served.{in_sync_as}
 use Rattle.md_copy.proofs.SourcesChosen.{takes_as}
 
@@ -41,7 +41,7 @@ module _ (k : ℕ) (slot : Slot) (a : MirrorView) (sound : IsConsistent a) (with
   alone : (m : MemberView) → IsMember a.array k m → (j : ℕ) (n : MemberView) → IsMember a.array j n → is_in_sync_as slot.source n.state ≡ true → j ≡ k
   alone m at j n there is = sound.roles.one_each j k slot.source n m there at (takes_as slot.source n.state is) (takes_as slot.source m.state (within m at))
 
-  pub source_of : (m : MemberView) → IsMember a.array k m → IsSourceOf a.array k slot.source
+  pub source_of : (m : MemberView) → IsMember a.array k m → IsSourceInRole a.array k slot.source
   source_of m at = record { member = m; at = at; in_sync = within m at; alone = alone m at }
 
   module _ (b : MirrorView) (noted : NotesChunk k slot.chunk a b) where
@@ -75,7 +75,7 @@ module _ (k : ℕ) (slot : Slot) (a : MirrorView) (sound : IsConsistent a) (with
         (λ apart there. absurd (apart (alone m at j y there is))))
         (λ i d low. absurd (omega (arith, low)))
 
-    pub slot_noted : IsWhole k slot.chunk a → Happens a (Event.NoteBad k slot.chunk) b → IsConsistent b → ((o : PendingView) → IsPending a.array o → IsPending b.array o) → NotesLists (slot ∷ []) a b
+    pub slot_noted : IsBelowListLimit k slot.chunk a → Happens a (Event.NoteBad k slot.chunk) b → IsConsistent b → ((o : PendingView) → IsPending a.array o → IsPending b.array o) → NotesLists (slot ∷ []) a b
     slot_noted whole happens after pending = record {
       goes = goes_step only_others only_others IsNoting (Event.NoteBad k slot.chunk) a b
           (record {
@@ -175,7 +175,7 @@ module _ (slots : List Slot) (copied : Bitmap) (i : ℕ) (d : Slot) (low : i < l
 
   -- one is not listed
   pub notes_stop : (a b c : MirrorView) (fault : RebuildFault) → NotesLists (failed_slots (take i slots) copied) a b → failing slot ≡ true → RefusesSlot slot b c fault
-      → StopsNoting (failed_slots slots copied) a c fault
+      → EndsNoting (failed_slots slots copied) a c fault
   notes_stop a b c fault x failed r =
       let taken = failed_slots (take i slots) copied in
       let rest = failed_slots (drop (i + 1) slots) copied in

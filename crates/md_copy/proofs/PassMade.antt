@@ -13,7 +13,7 @@ use Rattle.md_cert.specs.declared.table.Row.{Row}
 use Rattle.md_cert.specs.Assignments.{Least}
 use Rattle.md_cert.specs.Plans.{IsCertified}
 use Rattle.md_cert.specs.Sources.{has}
-use Rattle.md_cert.specs.Tables.{chunks_of, mask_of, orphans_of}
+use Rattle.md_cert.specs.Tables.{chunks_of_rows, mask_of_chunk, orphans_of}
 use Rattle.md_cert.proofs.Bits.{has_zero}
 use Rattle.md_cert.proofs.Masks.{row_of}
 use Rattle.md_kept_members.specs.View.{MemberView}
@@ -32,9 +32,9 @@ use Rattle.md_copy.specs.declared.fault.RebuildFault.TheVariants.{Halted, NotSpa
 use Rattle.md_copy.specs.declared.passes.Passed.{Passed}
 use Rattle.md_copy.specs.Filling.{BreaksPass, FillsPass}
 use Rattle.md_copy.specs.Held.{AreHeld}
-use Rattle.md_copy.specs.Passing.{BreaksOff, FailsOne, IsTableFor, MakesOne, MakesPass}
+use Rattle.md_copy.specs.Passing.{BreaksOffPass, FailsOne, IsTableFor, MakesOne, MakesPass}
 use Rattle.md_copy.specs.Preparing.{IsNoMemory}
-use Rattle.md_copy.specs.Ready.{IsReady}
+use Rattle.md_copy.specs.Ready.{IsReadyToCopy}
 use Rattle.md_copy.specs.RebuildSources.{IsPlanOf}
 use Rattle.md_copy.specs.Sources.{IsTableIn}
 use Rattle.md_copy.proofs.HeldChunks.{may_record, recordable}
@@ -48,10 +48,10 @@ uncopied_slots : (rows : List Row) (plan : Plan) (certificate : Certificate) (co
 uncopied_slots rows plan certificate copied certified fresh k d below =
     let slot = get_or plan.slots k d in
     let r : Row = record { chunk = 0; mask = 0 } in
-    let row = row_of rows slot.chunk (λ none. both_ways (has (mask_of rows slot.chunk) slot.source) (ap (λ n. has n slot.source) none ∙ has_zero slot.source) (certified.allowed k d below)) in
+    let row = row_of rows slot.chunk (λ none. both_ways (has (mask_of_chunk rows slot.chunk) slot.source) (ap (λ n. has n slot.source) none ∙ has_zero slot.source) (certified.allowed k d below)) in
     ap (λ n. is_set copied.bytes n) (sym (row.is r)) ∙ fresh row.at r row.within
 
-module _ (target : ℕ) (v : MirrorView) (ready : IsReady target v) (within : target < length v.array.members) (rows : List Row) (before : Bitmap) (held : AreHeld v target before) (table : IsTableFor v target before rows) (planned : Planned)
+module _ (target : ℕ) (v : MirrorView) (ready : IsReadyToCopy target v) (within : target < length v.array.members) (rows : List Row) (before : Bitmap) (held : AreHeld v target before) (table : IsTableFor v target before rows) (planned : Planned)
     (certified : IsCertified rows planned.plan planned.certificate) where
   abbrev a : ArrayView
   a = v.array
@@ -76,7 +76,7 @@ module _ (target : ℕ) (v : MirrorView) (ready : IsReady target v) (within : ta
       λ serves. (is.sources k d below role small).1 serves.2,
     )
 
-    pub is_pass : (after : Bitmap) → IsArrayPass a (chunks_of rows) (pass_of after)
+    pub is_pass : (after : Bitmap) → IsArrayPass a (chunks_of_rows rows) (pass_of after)
     is_pass after =
         let at = got_within a.members target within in
         record {
@@ -103,7 +103,7 @@ module _ (target : ℕ) (v : MirrorView) (ready : IsReady target v) (within : ta
           let at = got_within a.members target within in
           held_filled target at.0 planned.plan.slots before after v w at.1 (fills at.0 at.1).copies (λ c is. (lacks at.0 at.1 c is).1) held
 
-      pub ready_then : (failed : ℕ) → Fills failed → IsReady target w
+      pub ready_then : (failed : ℕ) → Fills failed → IsReadyToCopy target w
       ready_then failed fills = (let at = got_within a.members target within in ready_filled target v w (fills at.0 at.1).copies.filling.array sound ready)
 
       pub within_filled : (failed : ℕ) → Fills failed → target < length w.array.members
@@ -117,7 +117,7 @@ module _ (target : ℕ) (v : MirrorView) (ready : IsReady target v) (within : ta
           let has = held_then failed fills in
           may_record target w sound then.goes.idle.running (recordable target w then) (within_filled failed fills) after has.chunks has.held
 
-      makes : (failed : ℕ) → Fills failed → MakesPass target (chunks_of rows) (pass_of after) before after v w
+      makes : (failed : ℕ) → Fills failed → MakesPass target (chunks_of_rows rows) (pass_of after) before after v w
       makes failed fills =
           let at = got_within a.members target within in
           let f = fills at.0 at.1 in
@@ -138,11 +138,11 @@ module _ (target : ℕ) (v : MirrorView) (ready : IsReady target v) (within : ta
       pub broken_off : (fault : RebuildFault) → ((m : MemberView) → IsMember a target m → BreaksPass target m planned.plan.slots before after v w fault) → FailsOne target rows before after v w fault
       broken_off NoMemory breaks = inr (off NoMemory breaks)
         where
-          off : (fault : RebuildFault) → ((m : MemberView) → IsMember a target m → BreaksPass target m planned.plan.slots before after v w fault) → BreaksOff target fault (chunks_of rows) before after v w
+          off : (fault : RebuildFault) → ((m : MemberView) → IsMember a target m → BreaksPass target m planned.plan.slots before after v w fault) → BreaksOffPass target fault (chunks_of_rows rows) before after v w
           off fault breaks = (let at = got_within a.members target within in record { pass = pass_of after; is = is_pass after; member = at.0; at = at.1; breaks = breaks at.0 at.1; sound = sound })
       broken_off TargetFault breaks = inl (off breaks)
         where
-          off : ((m : MemberView) → IsMember a target m → BreaksPass target m planned.plan.slots before after v w TargetFault) → BreaksOff target TargetFault (chunks_of rows) before after v w
+          off : ((m : MemberView) → IsMember a target m → BreaksPass target m planned.plan.slots before after v w TargetFault) → BreaksOffPass target TargetFault (chunks_of_rows rows) before after v w
           off breaks = (let at = got_within a.members target within in record { pass = pass_of after; is = is_pass after; member = at.0; at = at.1; breaks = breaks at.0 at.1; sound = sound })
       broken_off Halted breaks = (let at = got_within a.members target within in absurd (breaks at.0 at.1))
       broken_off NotSpare breaks = (let at = got_within a.members target within in absurd (breaks at.0 at.1))

@@ -11,13 +11,13 @@ use Rattle.md_badblocks.specs.Runs.{IsBad}
 use Rattle.md_bitmap.specs.declared.chunks.Chunks.{Chunks}
 use Rattle.md_bitmap.specs.Marks.{Bitmap, is_set}
 use Rattle.md_cert.specs.declared.slots.Slot.{Slot}
-use Rattle.md_kept_members.specs.TakingBack.{with_offset}
+use Rattle.md_kept_members.specs.TakingBack.{with_recovery_offset}
 use Rattle.md_kept_members.specs.View.{MemberView}
 use Rattle.md_pass.specs.Beside.{has_chunk}
 use Rattle.md_pass.specs.Copied.{is_failed_slot}
 use Rattle.md_passes.proofs.OnePass.{slot_within}
 use Rattle.md_passes.specs.Listed.{ListsFailed, ListsOwn}
-use Rattle.md_passes.specs.Passes.{PassView, slots_of}
+use Rattle.md_passes.specs.Passes.{PassView, slots_of_pass}
 use Rattle.md_state.specs.Members.{IsMember}
 use Rattle.md_state.specs.Missing.{is_missing}
 use Rattle.md_state.specs.View.{ArrayView, MirrorView}
@@ -25,8 +25,8 @@ use Rattle.md_array.specs.Checkpoints.{Checkpoints}
 use Rattle.md_array.specs.Consistency.{IsConsistent}
 use Rattle.md_copy.specs.Held.{AreHeld}
 use Rattle.md_copy.specs.Passing.{RecordsPass}
-use Rattle.md_copy.specs.Ready.{IsReady}
-use Rattle.md_copy.specs.Sources.{IsLacking}
+use Rattle.md_copy.specs.Ready.{IsReadyToCopy}
+use Rattle.md_copy.specs.Sources.{LacksChunk}
 use Rattle.md_copy.proofs.HeldFilled.{held_filled}
 use Rattle.md_copy.proofs.HeldListed.{GrowsOnly, held_listed, missing_grown}
 use Rattle.md_copy.proofs.HeldRecorded.{held_recorded, lacks_still, low_start, other_is, out_of_sync, recorded_is, target_same}
@@ -46,7 +46,7 @@ same_own chunks m n state offset flags bad = record {
 
 module _ (target : ℕ) (copied : Bitmap) (v w : MirrorView) (sound : IsConsistent v) (r : Checkpoints target copied v w) where
   abbrev n : MemberView
-  n = record (with_offset r.offset r.may.member) { due = false }
+  n = record (with_recovery_offset r.offset r.may.member) { due = false }
 
   own_member : (m : MemberView) → IsMember v.array target m → r.may.member ≡ m
   own_member m at = same_Some r.may.member m (sym r.may.at ∙ at)
@@ -81,12 +81,12 @@ module _ (target : ℕ) (copied : Bitmap) (v w : MirrorView) (sound : IsConsiste
 pub clear_failed : (target : ℕ) (chunks : List ℕ) (p : PassView) (before after : Bitmap) (v x : MirrorView) → RecordsPass target chunks p before after v x → (s : Slot) → Contains p.failed s
     → is_set after.bytes s.chunk ≡ false
 clear_failed target chunks p before after v x h s there =
-    let all : All (λ (t : Slot). is_failed_slot after t ≡ true) p.failed = subst (All (λ (t : Slot). is_failed_slot after t ≡ true)) (sym h.makes.failed) (filter_passes (is_failed_slot after) (slots_of p)) in
+    let all : All (λ (t : Slot). is_failed_slot after t ≡ true) p.failed = subst (All (λ (t : Slot). is_failed_slot after t ≡ true)) (sym h.makes.failed) (filter_passes (is_failed_slot after) (slots_of_pass p)) in
     not-true (is_set after.bytes s.chunk) (All-contains (λ (t : Slot). is_failed_slot after t ≡ true) p.failed s all there)
 
 -- ---- a pass that is recorded
-module _ (target : ℕ) (chunks : List ℕ) (p : PassView) (before after : Bitmap) (v x : MirrorView) (h : RecordsPass target chunks p before after v x) (ready : IsReady target v) (held : AreHeld v target before)
-    (lacking : (n : MemberView) → IsMember v.array target n → All (IsLacking v.array n) chunks) where
+module _ (target : ℕ) (chunks : List ℕ) (p : PassView) (before after : Bitmap) (v x : MirrorView) (h : RecordsPass target chunks p before after v x) (ready : IsReadyToCopy target v) (held : AreHeld v target before)
+    (lacking : (n : MemberView) → IsMember v.array target n → All (LacksChunk v.array n) chunks) where
   abbrev a : ArrayView
   a = v.array
 
@@ -103,23 +103,23 @@ module _ (target : ℕ) (chunks : List ℕ) (p : PassView) (before after : Bitma
   at_w = ap (λ (b : ArrayView). slice_get b.members target) same ∙ h.makes.at
 
   -- each slot's chunk is of the table, and so one that the target lacks
-  pub slot_lacks : (s : Slot) → Contains (slots_of p) s → IsLacking a m s.chunk
+  pub slot_lacks : (s : Slot) → Contains (slots_of_pass p) s → LacksChunk a m s.chunk
   slot_lacks s there =
-      All-contains (IsLacking a m) chunks s.chunk (lacking m h.makes.at) (slot_within h.makes.is s there)
+      All-contains (LacksChunk a m) chunks s.chunk (lacking m h.makes.at) (slot_within h.makes.is s there)
 
-  planned_lacks : (c : ℕ) → has_chunk (slots_of p) c ≡ true → is_missing a m c ≡ true
+  planned_lacks : (c : ℕ) → has_chunk (slots_of_pass p) c ≡ true → is_missing a m c ≡ true
   planned_lacks c planned =
-      let hit = Any-from_list_any (λ (s : Slot). s.chunk == c) (slots_of p) planned in
-      let chunk : (get_or (slots_of p) hit.0 hit.1).chunk ≡ c = ap (λ (s : Slot). s.chunk) hit.3 ∙ eqb-true hit.1.chunk c hit.4 in
-      subst (λ n. is_missing a m n ≡ true) chunk (slot_lacks (get_or (slots_of p) hit.0 hit.1) (Contains-get_or (slots_of p) hit.0 hit.1 hit.2)).missing
+      let hit = Any-from_list_any (λ (s : Slot). s.chunk == c) (slots_of_pass p) planned in
+      let chunk : (get_or (slots_of_pass p) hit.0 hit.1).chunk ≡ c = ap (λ (s : Slot). s.chunk) hit.3 ∙ eqb-true hit.1.chunk c hit.4 in
+      subst (λ n. is_missing a m n ≡ true) chunk (slot_lacks (get_or (slots_of_pass p) hit.0 hit.1) (Contains-get_or (slots_of_pass p) hit.0 hit.1 hit.2)).missing
 
-  pub filled_ready : IsReady target w
+  pub filled_ready : IsReadyToCopy target w
   filled_ready = ready_filled target v w same h.makes.sound ready
 
   pub filled_held : AreHeld w target after
-  filled_held = held_filled target m (slots_of p) before after v w h.makes.at h.makes.copies planned_lacks held
+  filled_held = held_filled target m (slots_of_pass p) before after v w h.makes.at h.makes.copies planned_lacks held
 
-  pub recorded_ready : IsReady target x
+  pub recorded_ready : IsReadyToCopy target x
   recorded_ready = ready_recorded target after w x h.checkpoints h.makes.sound filled_ready h.sound
 
   pub recorded_held : AreHeld x target after
@@ -132,9 +132,9 @@ module _ (target : ℕ) (chunks : List ℕ) (p : PassView) (before after : Bitma
   failed_clear = clear_failed target chunks p before after v x h
 
   -- so the target lacks it still
-  pub failed_lacks : (y : MemberView) → IsMember x.array target y → (s : Slot) → Contains p.failed s → IsLacking x.array y s.chunk
+  pub failed_lacks : (y : MemberView) → IsMember x.array target y → (s : Slot) → Contains p.failed s → LacksChunk x.array y s.chunk
   failed_lacks y at_y s there =
-      let was = slot_lacks s (All-contains (Contains (slots_of p)) p.failed s h.makes.is.failed there) in
+      let was = slot_lacks s (All-contains (Contains (slots_of_pass p)) p.failed s h.makes.is.failed there) in
       let count = ready.sound.chunks.count in
       let below = was.low in
       let low : s.chunk < a.marks.chunks = omega (arith, below, count) in

@@ -16,7 +16,7 @@ use Rattle.md_bitmap.specs.Marks.{Bitmap, is_set}
 use Rattle.md_cert.specs.declared.slots.Slot.{Slot}
 use Rattle.md_cert.specs.declared.table.Row.{Row}
 use Rattle.md_cert.specs.Plans.{SlotsRise}
-use Rattle.md_cert.specs.Tables.{chunks_of}
+use Rattle.md_cert.specs.Tables.{chunks_of_rows}
 use Rattle.md_kept_members.specs.View.{MemberView}
 use Rattle.md_pass.specs.Beside.{has_chunk}
 use Rattle.md_pass.specs.Copied.{failed_slots, is_failed_slot}
@@ -25,7 +25,7 @@ use Rattle.md_passes.proofs.Kept.{From, mapped, mapped_from}
 use Rattle.md_passes.proofs.Listing.{lists_add}
 use Rattle.md_passes.proofs.OnePass.{slot_permitted, slot_within}
 use Rattle.md_passes.specs.Listed.{ListsFailed, MayServe, ServesAs, most_failures}
-use Rattle.md_passes.specs.Passes.{PassView, ServesAtMost, failed_chunks, slots_of}
+use Rattle.md_passes.specs.Passes.{PassView, ServesAtMost, failed_chunks, slots_of_pass}
 use Rattle.md_plan.specs.declared.planner.Planned.{Planned}
 use Rattle.md_state.specs.Members.{IsMember}
 use Rattle.md_state.specs.Missing.{is_missing}
@@ -37,12 +37,12 @@ use Rattle.md_copy.specs.declared.fault.RebuildFault.TheVariants.{Halted, NotSpa
 use Rattle.md_copy.specs.declared.passes.Passed.{Passed}
 use Rattle.md_copy.specs.Beginning.{RefusesTable}
 use Rattle.md_copy.specs.Held.{AreHeld}
-use Rattle.md_copy.specs.Leaving.{MayLeave}
-use Rattle.md_copy.specs.Listing.{ListsAll, NotesLists, StopsListing, StopsNoting}
-use Rattle.md_copy.specs.Passing.{AreListedPasses, BreaksOff, EndsBetween, FailsListing, FailsOne, FailsRecording, GoesOnWith, IsTableFor, ListsPass, MakesOne, PassesAll, PassesFail, StopsBetween}
+use Rattle.md_copy.specs.Leaving.{MayRecordAtEnd}
+use Rattle.md_copy.specs.Listing.{ListsAll, NotesLists, EndsListing, EndsNoting}
+use Rattle.md_copy.specs.Passing.{AreListedPasses, BreaksOffPass, EndsBetween, FailsListing, FailsOne, FailsRecording, GoesOnWith, IsTableFor, ListsPass, MakesOne, PassesAll, PassesFail, FailsBetween}
 use Rattle.md_copy.specs.Preparing.{IsNoMemory, IsSetOf}
-use Rattle.md_copy.specs.Ready.{IsReady, IsRecordable}
-use Rattle.md_copy.specs.Sources.{IsLacking, IsTableOf, missing_chunks}
+use Rattle.md_copy.specs.Ready.{IsReadyToCopy, IsRecordable}
+use Rattle.md_copy.specs.Sources.{LacksChunk, IsTableOf, missing_chunks}
 use Rattle.md_copy.proofs.HeldChunks.{recordable}
 use Rattle.md_copy.proofs.HeldFilled.{held_filled}
 use Rattle.md_copy.proofs.HeldListed.{GrowsOnly, none_written}
@@ -95,8 +95,8 @@ pub record GoesSoFar (target : ℕ) (m : MemberView) (none : Bitmap) (first now 
   pub passes : List PassView
   pub plans_are : plans ≡ map (λ (p : PassView). p.planned) passes
   pub counted : length plans ≡ made
-  pub passed : AreListedPasses target passes (missing_chunks first.array m) (chunks_of rows) none copied first now
-  pub ready : IsReady target now
+  pub passed : AreListedPasses target passes (missing_chunks first.array m) (chunks_of_rows rows) none copied first now
+  pub ready : IsReadyToCopy target now
   pub held : AreHeld now target copied
   pub table : IsTableFor now target copied rows
   pub few : length rows ≤ 2 ^ 20
@@ -130,7 +130,7 @@ none_held target none first is_none = record {
   unlisted = λ n there c low set has lists. both_ways (is_set none.bytes c) (is_none.bits c) set;
 }
 
-pub begins_so : (target : ℕ) (m : MemberView) (none : Bitmap) (first : MirrorView) (rows : List Row) → IsReady target first → IsSetOf first.array (λ c. false) none → IsMember first.array target m
+pub begins_so : (target : ℕ) (m : MemberView) (none : Bitmap) (first : MirrorView) (rows : List Row) → IsReadyToCopy target first → IsSetOf first.array (λ c. false) none → IsMember first.array target m
     → ((n : MemberView) → IsMember first.array target n → IsTableOf first.array n rows) → length rows ≤ 2 ^ 20 → GoesSoFar target m none first first none rows [] 0
 begins_so target m none first rows ready is_none at table few = record {
   passes = [];
@@ -148,43 +148,43 @@ begins_so target m none first rows ready is_none at table few = record {
 }
 
 module _ (target : ℕ) (m : MemberView) (none : Bitmap) (first now : MirrorView) (copied : Bitmap) (rows : List Row) (plans : List Planned) (made : ℕ) (so : GoesSoFar target m none first now copied rows plans made) where
-  rows_lacking : (n : MemberView) → IsMember now.array target n → All (IsLacking now.array n) (chunks_of rows)
-  rows_lacking n at = All-map (IsLacking now.array n) (λ (row : Row). row.chunk) rows (so.table.table n at).lacking
+  rows_lacking : (n : MemberView) → IsMember now.array target n → All (LacksChunk now.array n) (chunks_of_rows rows)
+  rows_lacking n at = All-map (LacksChunk now.array n) (λ (row : Row). row.chunk) rows (so.table.table n at).lacking
 
   -- ---- one that was not made
-  off_ready : (after : Bitmap) (new : MirrorView) (b : BreaksOff target NoMemory (chunks_of rows) copied after now new) → IsReady target new
+  off_ready : (after : Bitmap) (new : MirrorView) (b : BreaksOffPass target NoMemory (chunks_of_rows rows) copied after now new) → IsReadyToCopy target new
   off_ready after new b = ready_filled target now new b.breaks.filling.array b.sound so.ready
 
-  off_lacks : (after : Bitmap) (new : MirrorView) (b : BreaksOff target NoMemory (chunks_of rows) copied after now new) → (c : ℕ) → has_chunk (slots_of b.pass) c ≡ true → is_missing now.array b.member c ≡ true
+  off_lacks : (after : Bitmap) (new : MirrorView) (b : BreaksOffPass target NoMemory (chunks_of_rows rows) copied after now new) → (c : ℕ) → has_chunk (slots_of_pass b.pass) c ≡ true → is_missing now.array b.member c ≡ true
   off_lacks after new b c planned =
-      let hit = Any-from_list_any (λ (s : Slot). s.chunk == c) (slots_of b.pass) planned in
-      let chunk : (get_or (slots_of b.pass) hit.0 hit.1).chunk ≡ c = ap (λ (s : Slot). s.chunk) hit.3 ∙ eqb-true hit.1.chunk c hit.4 in
-      let lacks = All-contains (IsLacking now.array b.member) (chunks_of rows) (get_or (slots_of b.pass) hit.0 hit.1).chunk (rows_lacking b.member b.at)
-      (slot_within b.is (get_or (slots_of b.pass) hit.0 hit.1) (Contains-get_or (slots_of b.pass) hit.0 hit.1 hit.2)) in
+      let hit = Any-from_list_any (λ (s : Slot). s.chunk == c) (slots_of_pass b.pass) planned in
+      let chunk : (get_or (slots_of_pass b.pass) hit.0 hit.1).chunk ≡ c = ap (λ (s : Slot). s.chunk) hit.3 ∙ eqb-true hit.1.chunk c hit.4 in
+      let lacks = All-contains (LacksChunk now.array b.member) (chunks_of_rows rows) (get_or (slots_of_pass b.pass) hit.0 hit.1).chunk (rows_lacking b.member b.at)
+      (slot_within b.is (get_or (slots_of_pass b.pass) hit.0 hit.1) (Contains-get_or (slots_of_pass b.pass) hit.0 hit.1 hit.2)) in
       subst (λ n. is_missing now.array b.member n ≡ true) chunk lacks.missing
 
-  off_held : (after : Bitmap) (new : MirrorView) (b : BreaksOff target NoMemory (chunks_of rows) copied after now new) → AreHeld new target after
-  off_held after new b = held_filled target b.member (slots_of b.pass) copied after now new b.at b.breaks (off_lacks after new b) so.held
+  off_held : (after : Bitmap) (new : MirrorView) (b : BreaksOffPass target NoMemory (chunks_of_rows rows) copied after now new) → AreHeld new target after
+  off_held after new b = held_filled target b.member (slots_of_pass b.pass) copied after now new b.at b.breaks (off_lacks after new b) so.held
 
   abbrev Between : (List ℕ → Bitmap → MirrorView → Type 0) → Type 0
   Between Why = EndsBetween target m none first Why
 
-  between : (Why : List ℕ → Bitmap → MirrorView → Type 0) → Why (chunks_of rows) copied now → Between Why
-  between Why why = record { passes = so.passes; left = chunks_of rows; copied = copied; now = now; passed = so.passed; why = why }
+  between : (Why : List ℕ → Bitmap → MirrorView → Type 0) → Why (chunks_of_rows rows) copied now → Between Why
+  between Why why = record { passes = so.passes; left = chunks_of_rows rows; copied = copied; now = now; passed = so.passed; why = why }
 
   pub lacks_room : PassesFail target m none copied first now NoMemory
   lacks_room = inl (between (λ left done mid. (copied ≡ done) × (now ≡ mid)) (refl, refl))
 
-  pub leaves_now : MayLeave target copied now NoMemory
+  pub leaves_now : MayRecordAtEnd target copied now NoMemory
   leaves_now = (recordable target now so.ready, so.held)
 
   pub fails_one : (after : Bitmap) (new : MirrorView) (fault : RebuildFault) → FailsOne target rows copied after now new fault → PassesFail target m none after first new fault
   fails_one after new NoMemory h = elim h [
     | inl same ↦ inl (between (λ left done mid. (after ≡ done) × (new ≡ mid)) same)
-    | inr off ↦ inr (inl (between (λ left done mid. BreaksOff target NoMemory left done after mid new) off))
+    | inr off ↦ inr (inl (between (λ left done mid. BreaksOffPass target NoMemory left done after mid new) off))
   ]
   fails_one after new TargetFault h = elim h [
-    | inl off ↦ inl (between (λ left done mid. BreaksOff target TargetFault left done after mid new) off)
+    | inl off ↦ inl (between (λ left done mid. BreaksOffPass target TargetFault left done after mid new) off)
     | inr fails ↦ inr (between (λ left done mid. FailsRecording target left done mid new) fails)
   ]
   fails_one after new Halted h = absurd h
@@ -195,9 +195,9 @@ module _ (target : ℕ) (m : MemberView) (none : Bitmap) (first now : MirrorView
   fails_one after new (MetadataFault k) h = absurd h
   fails_one after new EventsFull h = absurd h
 
-  pub leaves_one : (after : Bitmap) (new : MirrorView) (fault : RebuildFault) → FailsOne target rows copied after now new fault → MayLeave target after new fault
+  pub leaves_one : (after : Bitmap) (new : MirrorView) (fault : RebuildFault) → FailsOne target rows copied after now new fault → MayRecordAtEnd target after new fault
   leaves_one after new NoMemory h = elim h [
-    | inl same ↦ subst (λ (v : MirrorView). MayLeave target after v NoMemory) (sym same.1) (subst (λ (b : Bitmap). MayLeave target b now NoMemory) (sym same.0) leaves_now)
+    | inl same ↦ subst (λ (v : MirrorView). MayRecordAtEnd target after v NoMemory) (sym same.1) (subst (λ (b : Bitmap). MayRecordAtEnd target b now NoMemory) (sym same.0) leaves_now)
     | inr off ↦ (recordable target new (off_ready after new off), off_held after new off)
   ]
   leaves_one after new TargetFault h = tt
@@ -217,21 +217,21 @@ module _ (target : ℕ) (m : MemberView) (none : Bitmap) (first now : MirrorView
     abbrev slots : List Slot
     slots = told.planned.plan.slots
 
-    pub slots_same : slots ≡ slots_of p
+    pub slots_same : slots ≡ slots_of_pass p
     slots_same = ap (λ (x : Planned). x.plan.slots) one.planned
 
     -- its failed slots, by the plan that is told
     pub failed_same : failed_slots slots after ≡ p.failed
     failed_same = ap (λ xs. failed_slots xs after) slots_same ∙ sym one.records.makes.failed
 
-    pub mid_ready : IsReady target mid
-    mid_ready = recorded_ready target (chunks_of rows) p copied after now mid one.records so.ready so.held rows_lacking
+    pub mid_ready : IsReadyToCopy target mid
+    mid_ready = recorded_ready target (chunks_of_rows rows) p copied after now mid one.records so.ready so.held rows_lacking
 
     pub mid_held : AreHeld mid target after
-    mid_held = recorded_held target (chunks_of rows) p copied after now mid one.records so.ready so.held rows_lacking
+    mid_held = recorded_held target (chunks_of_rows rows) p copied after now mid one.records so.ready so.held rows_lacking
 
     mid_lists : ListsFailed [] now.array mid.array
-    mid_lists = recorded_lists target (chunks_of rows) p copied after now mid one.records so.ready so.held rows_lacking
+    mid_lists = recorded_lists target (chunks_of_rows rows) p copied after now mid one.records so.ready so.held rows_lacking
 
     pub mid_within : target < length mid.array.members
     mid_within = (let many = mid_lists.as_many in let low = so.within in omega (arith, many, low))
@@ -246,7 +246,7 @@ module _ (target : ℕ) (m : MemberView) (none : Bitmap) (first now : MirrorView
       plans_are = ap (λ xs. xs ++ told.planned ∷ []) so.plans_are ∙ ap (λ (x : Planned). map (λ (q : PassView). q.planned) so.passes ++ x ∷ []) one.planned ∙ sym (map-append (λ (q : PassView). q.planned) so.passes (p ∷ []));
       copies = record {
         listed = so.passes;
-        left = chunks_of rows;
+        left = chunks_of_rows rows;
         mid = copied;
         now = now;
         passed = so.passed;
@@ -281,7 +281,7 @@ module _ (target : ℕ) (m : MemberView) (none : Bitmap) (first now : MirrorView
     slots_low : All (λ (s : Slot). s.chunk < div_ceil mid.array.chunks.size mid.array.chunks.sectors) slots
     slots_low k d below = (served_mid k d below).1
 
-    listed_one : (new : MirrorView) → (told.failed ≡ 0 → ⊥) → ListsAll (failed_slots slots after) mid new → ListsPass target (chunks_of rows) p copied after now new
+    listed_one : (new : MirrorView) → (told.failed ≡ 0 → ⊥) → ListsAll (failed_slots slots after) mid new → ListsPass target (chunks_of_rows rows) p copied after now new
     listed_one new some lists = record { recorded = mid; records = one.records; some = some_failed some; lists = subst (λ xs. ListsAll xs mid new) failed_same lists }
 
     grows_all : (new : MirrorView) → ListsAll (failed_slots slots after) mid new → GrowsOnly (failed_slots slots after) mid new
@@ -291,9 +291,9 @@ module _ (target : ℕ) (m : MemberView) (none : Bitmap) (first now : MirrorView
     in_failed s there = subst (λ xs. Contains xs s) failed_same there
 
     next_held : (new : MirrorView) → ListsAll (failed_slots slots after) mid new → AreHeld new target after
-    next_held new h = grown_held target (chunks_of rows) p copied after now mid one.records so.ready so.held rows_lacking (failed_slots slots after) new (grows_all new h) in_failed
+    next_held new h = grown_held target (chunks_of_rows rows) p copied after now mid one.records so.ready so.held rows_lacking (failed_slots slots after) new (grows_all new h) in_failed
 
-    next_ready : (new : MirrorView) → ListsAll (failed_slots slots after) mid new → IsReady target new
+    next_ready : (new : MirrorView) → ListsAll (failed_slots slots after) mid new → IsReadyToCopy target new
     next_ready new h = ready_listed target (failed_slots slots after) mid new h mid_ready
 
     next_lists : (new : MirrorView) → ListsAll (failed_slots slots after) mid new → ListsFailed p.failed now.array new.array
@@ -301,16 +301,16 @@ module _ (target : ℕ) (m : MemberView) (none : Bitmap) (first now : MirrorView
 
     fewer : (new : MirrorView) → (told.failed ≡ 0 → ⊥) → ListsAll (failed_slots slots after) mid new → (n : ℕ) × (n + 1 ≤ so.left) × ServesAtMost ServesAs MayServe ListsFailed new.array n
     fewer new some h =
-        (passes_go_on.step [] now.array now.array new.array (chunks_of rows) (chunks_of rows) p (passes_go_on.begin now.array (chunks_of rows)) one.records.makes.is (some_failed some) (next_lists new h)).fewer so.left so.served
+        (passes_go_on.step [] now.array now.array new.array (chunks_of_rows rows) (chunks_of_rows rows) p (passes_go_on.begin now.array (chunks_of_rows rows)) one.records.makes.is (some_failed some) (next_lists new h)).fewer so.left so.served
 
-    next_lacks : (new : MirrorView) → ListsAll (failed_slots slots after) mid new → (u : MemberView) → IsMember new.array target u → (s : Slot) → Contains p.failed s → IsLacking new.array u s.chunk
+    next_lacks : (new : MirrorView) → ListsAll (failed_slots slots after) mid new → (u : MemberView) → IsMember new.array target u → (s : Slot) → Contains p.failed s → LacksChunk new.array u s.chunk
     next_lacks new h u at_u s there =
-        let y = pass.y target (chunks_of rows) p copied after now mid one.records so.ready so.held rows_lacking in
-        let at_y = pass.at_y target (chunks_of rows) p copied after now mid one.records so.ready so.held rows_lacking in
-        let was = failed_lacks target (chunks_of rows) p copied after now mid one.records so.ready so.held rows_lacking y at_y s there in
+        let y = pass.y target (chunks_of_rows rows) p copied after now mid one.records so.ready so.held rows_lacking in
+        let at_y = pass.at_y target (chunks_of_rows rows) p copied after now mid one.records so.ready so.held rows_lacking in
+        let was = failed_lacks target (chunks_of_rows rows) p copied after now mid one.records so.ready so.held rows_lacking y at_y s there in
         record {
           low = subst (λ (q : Chunks). s.chunk < div_ceil q.size q.sectors) (sym h.lists.chunks) was.low;
-          missing = grown_missing target (chunks_of rows) p copied after now mid one.records so.ready so.held rows_lacking (failed_slots slots after) new (grows_all new h) in_failed u at_u s.chunk ∙ was.missing;
+          missing = grown_missing target (chunks_of_rows rows) p copied after now mid one.records so.ready so.held rows_lacking (failed_slots slots after) new (grows_all new h) in_failed u at_u s.chunk ∙ was.missing;
         }
 
     pub goes_on : (new : MirrorView) (next : List Row) → (told.failed ≡ 0 → ⊥) → GoesOnWith (failed_slots slots after) mid new next → GoesSoFar target m none first new after next (plans ++ told.planned ∷ []) (made + 1)
@@ -322,7 +322,7 @@ module _ (target : ℕ) (m : MemberView) (none : Bitmap) (first now : MirrorView
           plans_are = ap (λ xs. xs ++ told.planned ∷ []) so.plans_are ∙ ap (λ (x : Planned). map (λ (q : PassView). q.planned) so.passes ++ x ∷ []) one.planned ∙ sym (map-append (λ (q : PassView). q.planned) so.passes (p ∷ []));
           counted = one_more told.planned;
           passed = subst (λ xs. AreListedPasses target (so.passes ++ p ∷ []) (missing_chunks first.array m) xs none after first new) (sym (h.chunks ∙ ap (map (λ (s : Slot). s.chunk)) failed_same))
-              (chain_more target so.passes (missing_chunks first.array m) (chunks_of rows) none copied after first now new p so.passed (listed_one new some h.lists));
+              (chain_more target so.passes (missing_chunks first.array m) (chunks_of_rows rows) none copied after first now new p so.passed (listed_one new some h.lists));
           ready = ready;
           held = next_held new h.lists;
           table = record {
@@ -344,15 +344,15 @@ module _ (target : ℕ) (m : MemberView) (none : Bitmap) (first now : MirrorView
         row_slot k d below =
             mapped_from (λ (s : Slot). s.chunk) (failed_slots slots after) (get_or next k d).chunk (subst (λ xs. Contains xs (get_or next k d).chunk) h.chunks (mapped (λ (r : Row). r.chunk) next (get_or next k d) (Contains-get_or next k d below)))
 
-        row_lacks : (u : MemberView) → IsMember new.array target u → (k : ℕ) (d : Row) → k < length next → IsLacking new.array u (get_or next k d).chunk
+        row_lacks : (u : MemberView) → IsMember new.array target u → (k : ℕ) (d : Row) → k < length next → LacksChunk new.array u (get_or next k d).chunk
         row_lacks u at_u k d below =
             let from = row_slot k d below in
-            subst (IsLacking new.array u) from.is (next_lacks new h.lists u at_u from.x (in_failed from.x from.there))
+            subst (LacksChunk new.array u) from.is (next_lacks new h.lists u at_u from.x (in_failed from.x from.there))
 
         row_fresh : (k : ℕ) (d : Row) → k < length next → is_set after.bytes (get_or next k d).chunk ≡ false
         row_fresh k d below =
             let from = row_slot k d below in
-            ap (λ n. is_set after.bytes n) (sym from.is) ∙ failed_clear target (chunks_of rows) p copied after now mid one.records so.ready so.held rows_lacking from.x (in_failed from.x from.there)
+            ap (λ n. is_set after.bytes n) (sym from.is) ∙ failed_clear target (chunks_of_rows rows) p copied after now mid one.records so.ready so.held rows_lacking from.x (in_failed from.x from.there)
 
         next_few : length next ≤ 2 ^ 20
         next_few =
@@ -378,13 +378,13 @@ module _ (target : ℕ) (m : MemberView) (none : Bitmap) (first now : MirrorView
       writes = none_written mid new h.disks;
     }
 
-    noted_leaves : (new : MirrorView) (fault : RebuildFault) → StopsNoting (failed_slots slots after) mid new fault → IsRecordable target new × AreHeld new target after
+    noted_leaves : (new : MirrorView) (fault : RebuildFault) → EndsNoting (failed_slots slots after) mid new fault → IsRecordable target new × AreHeld new target after
     noted_leaves new fault h = (
       recordable target new (ready_noted target h.taken mid new h.notes mid_ready),
-      grown_held target (chunks_of rows) p copied after now mid one.records so.ready so.held rows_lacking h.taken new (noted_grows h.taken new h.notes) (some_taken h.taken h.next h.rest h.slots),
+      grown_held target (chunks_of_rows rows) p copied after now mid one.records so.ready so.held rows_lacking h.taken new (noted_grows h.taken new h.notes) (some_taken h.taken h.next h.rest h.slots),
     )
 
-    lost_leaves : (new : MirrorView) (k : ℕ) → StopsListing (failed_slots slots after) mid new (MetadataFault k) → MayLeave target after new (MetadataFault k)
+    lost_leaves : (new : MirrorView) (k : ℕ) → EndsListing (failed_slots slots after) mid new (MetadataFault k) → MayRecordAtEnd target after new (MetadataFault k)
     lost_leaves new k h =
         let noted = h.0 in
         let stops = h.2 in
@@ -407,16 +407,16 @@ module _ (target : ℕ) (m : MemberView) (none : Bitmap) (first now : MirrorView
               )
         ]
 
-    pub listing_fails : (new : MirrorView) (fault : RebuildFault) → (told.failed ≡ 0 → ⊥) → StopsBetween (failed_slots slots after) mid new fault → PassesFail target m none after first new fault
+    pub listing_fails : (new : MirrorView) (fault : RebuildFault) → (told.failed ≡ 0 → ⊥) → FailsBetween (failed_slots slots after) mid new fault → PassesFail target m none after first new fault
     listing_fails new fault some h = elim h [
       | inl stops ↦ by fault stops
       | inr listed ↦ more fault listed.0 listed.1
     ]
       where
-        fails : (f : RebuildFault) → StopsListing (failed_slots slots after) mid new f → FailsListing target f (chunks_of rows) copied after now new
-        fails f stops = record { pass = p; recorded = mid; records = one.records; some = some_failed some; fails = subst (λ xs. StopsListing xs mid new f) failed_same stops }
+        fails : (f : RebuildFault) → EndsListing (failed_slots slots after) mid new f → FailsListing target f (chunks_of_rows rows) copied after now new
+        fails f stops = record { pass = p; recorded = mid; records = one.records; some = some_failed some; fails = subst (λ xs. EndsListing xs mid new f) failed_same stops }
 
-        by : (f : RebuildFault) → StopsListing (failed_slots slots after) mid new f → PassesFail target m none after first new f
+        by : (f : RebuildFault) → EndsListing (failed_slots slots after) mid new f → PassesFail target m none after first new f
         by (LogFull k) stops = between (λ left done v. FailsListing target (LogFull k) left done after v new) (fails (LogFull k) stops)
         by NoMemory stops = inr (inr (between (λ left done v. FailsListing target NoMemory left done after v new) (fails NoMemory stops)))
         by (MetadataFault k) stops = between (λ left done v. FailsListing target (MetadataFault k) left done after v new) (fails (MetadataFault k) stops)
@@ -433,7 +433,7 @@ module _ (target : ℕ) (m : MemberView) (none : Bitmap) (first now : MirrorView
           left = failed_chunks p;
           copied = after;
           now = new;
-          passed = chain_more target so.passes (missing_chunks first.array m) (chunks_of rows) none copied after first now new p so.passed (listed_one new some lists);
+          passed = chain_more target so.passes (missing_chunks first.array m) (chunks_of_rows rows) none copied after first now new p so.passed (listed_one new some lists);
           why = (refl, refl);
         })
         more Halted is lists = absurd is
@@ -445,13 +445,13 @@ module _ (target : ℕ) (m : MemberView) (none : Bitmap) (first now : MirrorView
         more (MetadataFault k) is lists = absurd is
         more EventsFull is lists = absurd is
 
-    pub listing_leaves : (new : MirrorView) (fault : RebuildFault) → StopsBetween (failed_slots slots after) mid new fault → MayLeave target after new fault
+    pub listing_leaves : (new : MirrorView) (fault : RebuildFault) → FailsBetween (failed_slots slots after) mid new fault → MayRecordAtEnd target after new fault
     listing_leaves new fault h = elim h [
       | inl stops ↦ by fault stops
       | inr listed ↦ more fault listed.0 listed.1
     ]
       where
-        by : (f : RebuildFault) → StopsListing (failed_slots slots after) mid new f → MayLeave target after new f
+        by : (f : RebuildFault) → EndsListing (failed_slots slots after) mid new f → MayRecordAtEnd target after new f
         by (LogFull k) stops = noted_leaves new (LogFull k) stops
         by NoMemory stops = noted_leaves new NoMemory stops
         by (MetadataFault k) stops = lost_leaves new k stops
@@ -462,7 +462,7 @@ module _ (target : ℕ) (m : MemberView) (none : Bitmap) (first now : MirrorView
         by TargetFault stops = absurd stops
         by EventsFull stops = absurd stops
 
-        more : (f : RebuildFault) → IsNoMemory f → ListsAll (failed_slots slots after) mid new → MayLeave target after new f
+        more : (f : RebuildFault) → IsNoMemory f → ListsAll (failed_slots slots after) mid new → MayRecordAtEnd target after new f
         more NoMemory is lists = (recordable target new (next_ready new lists), next_held new lists)
         more Halted is lists = absurd is
         more NotSpare is lists = absurd is
@@ -473,13 +473,13 @@ module _ (target : ℕ) (m : MemberView) (none : Bitmap) (first now : MirrorView
         more (MetadataFault k) is lists = absurd is
         more EventsFull is lists = absurd is
 
-    pub listing_sound : (new : MirrorView) (fault : RebuildFault) → StopsBetween (failed_slots slots after) mid new fault → IsConsistent new
+    pub listing_sound : (new : MirrorView) (fault : RebuildFault) → FailsBetween (failed_slots slots after) mid new fault → IsConsistent new
     listing_sound new fault h = elim h [
       | inl stops ↦ by fault stops
       | inr listed ↦ (next_ready new listed.1).sound
     ]
       where
-        by : (f : RebuildFault) → StopsListing (failed_slots slots after) mid new f → IsConsistent new
+        by : (f : RebuildFault) → EndsListing (failed_slots slots after) mid new f → IsConsistent new
         by (LogFull k) stops = (noted_leaves new (LogFull k) stops).0.sound
         by NoMemory stops = (noted_leaves new NoMemory stops).0.sound
         by (MetadataFault k) stops = (lost_leaves new k stops).1
@@ -491,7 +491,7 @@ module _ (target : ℕ) (m : MemberView) (none : Bitmap) (first now : MirrorView
         by EventsFull stops = absurd stops
 
 -- ---- there is no table
-module _ (target : ℕ) (m : MemberView) (none : Bitmap) (first : MirrorView) (ready : IsReady target first) (is_none : IsSetOf first.array (λ c. false) none) (at : IsMember first.array target m) where
+module _ (target : ℕ) (m : MemberView) (none : Bitmap) (first : MirrorView) (ready : IsReadyToCopy target first) (is_none : IsSetOf first.array (λ c. false) none) (at : IsMember first.array target m) where
   pub table_stops : (fault : RebuildFault) → RefusesTable first.array m fault → PassesFail target m none none first first fault
   table_stops NoMemory h = inl (record { passes = []; left = missing_chunks first.array m; copied = none; now = first; passed = (refl, refl, refl); why = (refl, refl) })
   table_stops NotSpare h = absurd (h (recovering_target first.array m.superblock.dev_number m.state (ready.recovering m at)))
@@ -503,7 +503,7 @@ module _ (target : ℕ) (m : MemberView) (none : Bitmap) (first : MirrorView) (r
   table_stops (MetadataFault k) h = absurd h
   table_stops EventsFull h = absurd h
 
-  pub table_leaves : (fault : RebuildFault) → RefusesTable first.array m fault → MayLeave target none first fault
+  pub table_leaves : (fault : RebuildFault) → RefusesTable first.array m fault → MayRecordAtEnd target none first fault
   table_leaves NoMemory h = (recordable target first ready, none_held target none first is_none)
   table_leaves NotSpare h = tt
   table_leaves Halted h = tt

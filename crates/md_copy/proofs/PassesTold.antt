@@ -16,8 +16,8 @@ use Rattle.md_state.specs.Members.{IsMember}
 use Rattle.md_state.specs.View.{ArrayView, MirrorView}
 use Rattle.md_copy.specs.Held.{AreHeld}
 use Rattle.md_copy.specs.Passing.{AreListedPasses, CopiesAll, ListsPass}
-use Rattle.md_copy.specs.Ready.{IsReady}
-use Rattle.md_copy.specs.Sources.{IsLacking, missing_chunks}
+use Rattle.md_copy.specs.Ready.{IsReadyToCopy}
+use Rattle.md_copy.specs.Sources.{LacksChunk, missing_chunks}
 use Rattle.md_copy.proofs.HeldListed.{GrowsOnly}
 use Rattle.md_copy.proofs.PassRecorded.{at_y, failed_lacks, grown_held, grown_missing, recorded_held, recorded_lists, recorded_ready, y}
 use Rattle.md_copy.proofs.PlanChunks.{all_lacking}
@@ -25,11 +25,11 @@ use Rattle.md_copy.proofs.ReadyStill.{ready_listed}
 
 -- ---- what the target holds
 abbrev pub AreLacking : ℕ → MirrorView → List ℕ → Type 0
-AreLacking target v chunks = (n : MemberView) → IsMember v.array target n → All (IsLacking v.array n) chunks
+AreLacking target v chunks = (n : MemberView) → IsMember v.array target n → All (LacksChunk v.array n) chunks
 
 -- The rebuild may go on, the target holds what was copied, and it lacks these chunks.
 pub record HoldsSoFar (target : ℕ) (v : MirrorView) (copied : Bitmap) (left : List ℕ) : Type 0 where
-  pub ready : IsReady target v
+  pub ready : IsReadyToCopy target v
   pub held : AreHeld v target copied
   pub lacking : AreLacking target v left
 
@@ -40,7 +40,7 @@ module _ (target : ℕ) (chunks : List ℕ) (p : PassView) (before after : Bitma
   g : GrowsOnly p.failed x w
   g = record { lists = h.lists.lists; out = h.lists.out; writes = h.lists.writes }
 
-  slot_left : (u : MemberView) → IsMember w.array target u → All (λ (s : Slot). IsLacking w.array u s.chunk) p.failed
+  slot_left : (u : MemberView) → IsMember w.array target u → All (λ (s : Slot). LacksChunk w.array u s.chunk) p.failed
   slot_left u at_u k d below =
       let there : Contains p.failed (get_or p.failed k d) = Contains-get_or p.failed k d below in
       let s = get_or p.failed k d in
@@ -55,7 +55,7 @@ module _ (target : ℕ) (chunks : List ℕ) (p : PassView) (before after : Bitma
   listed_holds = record {
     ready = ready_listed target p.failed x w h.lists (recorded_ready target chunks p before after v x h.records so.ready so.held so.lacking);
     held = grown_held target chunks p before after v x h.records so.ready so.held so.lacking p.failed w g (λ t is. is);
-    lacking = λ u at_u. All-map (IsLacking w.array u) (λ (s : Slot). s.chunk) p.failed (slot_left u at_u);
+    lacking = λ u at_u. All-map (LacksChunk w.array u) (λ (s : Slot). s.chunk) p.failed (slot_left u at_u);
   }
 
 pub chain_holds : (target : ℕ) (passes : List PassView) (chunks left : List ℕ) (before after : Bitmap) (v w : MirrorView) → AreListedPasses target passes chunks left before after v w
@@ -101,7 +101,7 @@ chain_passes target (p ∷ ps) last chunks left before after v w h so is done =
     (chain_passes target ps last (failed_chunks p) left h.0 after h.1 w h.3 (listed_holds target chunks p before h.0 v h.1 one so) is done)
 
 -- ---- all passes
-pub begins_holding : (target : ℕ) (m : MemberView) (none : Bitmap) (v : MirrorView) → IsReady target v → IsMember v.array target m → none.chunks ≡ v.array.marks.chunks → ((c : ℕ) → is_set none.bytes c ≡ false)
+pub begins_holding : (target : ℕ) (m : MemberView) (none : Bitmap) (v : MirrorView) → IsReadyToCopy target v → IsMember v.array target m → none.chunks ≡ v.array.marks.chunks → ((c : ℕ) → is_set none.bytes c ≡ false)
     → HoldsSoFar target v none (missing_chunks v.array m)
 begins_holding target m none v ready at count clear = record {
   ready = ready;
@@ -110,14 +110,14 @@ begins_holding target m none v ready at count clear = record {
     held = λ c low set. absurd (both_ways (is_set none.bytes c) (clear c) set);
     unlisted = λ n there c low set has lists. both_ways (is_set none.bytes c) (clear c) set;
   };
-  lacking = λ n there. subst (λ (z : MemberView). All (IsLacking v.array z) (missing_chunks v.array m)) (same_Some m n (sym at ∙ there)) (all_lacking v.array m);
+  lacking = λ n there. subst (λ (z : MemberView). All (LacksChunk v.array z) (missing_chunks v.array m)) (same_Some m n (sym at ∙ there)) (all_lacking v.array m);
 }
 
 module _ (target : ℕ) (m : MemberView) (passes : List PassView) (none copied : Bitmap) (v w : MirrorView) (h : CopiesAll target m passes none copied v w) (so : HoldsSoFar target v none (missing_chunks v.array m)) where
   now_holds : HoldsSoFar target h.now h.mid h.left
   now_holds = chain_holds target h.listed (missing_chunks v.array m) h.left none h.mid v h.now h.passed so
 
-  pub filled_ready : IsReady target w
+  pub filled_ready : IsReadyToCopy target w
   filled_ready = recorded_ready target h.left h.last h.mid copied h.now w h.records now_holds.ready now_holds.held now_holds.lacking
 
   pub filled_held : AreHeld w target copied

@@ -11,7 +11,7 @@ use Rattle.md_cert.specs.declared.plan.Plan.{Plan}
 use Rattle.md_cert.specs.declared.table.Row.{Row}
 use Rattle.md_cert.specs.declared.slots.Slot.{Slot}
 use Rattle.md_cert.specs.Sources.{has}
-use Rattle.md_cert.specs.Tables.{chunks_of, mask_of}
+use Rattle.md_cert.specs.Tables.{chunks_of_rows, mask_of_chunk}
 use Rattle.md_cert.proofs.Bits.{has_zero}
 use Rattle.md_cert.proofs.Masks.{row_of}
 use Rattle.md_kept_members.specs.View.{MemberView}
@@ -19,7 +19,7 @@ use Rattle.md_pass.specs.Beside.{has_chunk}
 use Rattle.md_state.specs.View.{ArrayView}
 use Rattle.md_state.specs.Members.{IsPermitted}
 use Rattle.md_copy.specs.RebuildSources.{IsPlanOf}
-use Rattle.md_copy.specs.Sources.{IsLacking, IsTableIn, IsTableOf, is_missing, missing_chunks}
+use Rattle.md_copy.specs.Sources.{LacksChunk, IsTableIn, IsTableOf, is_missing, missing_chunks}
 use Rattle.md_copy.proofs.Lists.{got_of}
 use Rattle.md_copy.proofs.Planned.{allowed}
 
@@ -33,7 +33,7 @@ all_low n k d below =
     let here = get_or-range_with_len 0 n k d (omega (arith, below, many)) in
     omega (arith, here, below, many)
 
-pub all_lacking : (a : ArrayView) (m : MemberView) → All (IsLacking a m) (missing_chunks a m)
+pub all_lacking : (a : ArrayView) (m : MemberView) → All (LacksChunk a m) (missing_chunks a m)
 all_lacking a m k d below = record {
   low = All-filter (is_missing a m) (λ c. c < count a) (range_with_len 0 (count a)) (all_low (count a)) k d below;
   missing = filter_passes (is_missing a m) (range_with_len 0 (count a)) k d below;
@@ -44,15 +44,15 @@ pub table_in : (a : ArrayView) (m : MemberView) (rows : List Row) → IsTableOf 
 table_in a m rows table = record {
   lacking = λ k d below.
       (let many = length-map rows (λ (r : Row). r.chunk) in
-      let all : All (IsLacking a m) (chunks_of rows) = subst (All (IsLacking a m)) (sym table.chunks) (all_lacking a m) in
-      subst (IsLacking a m) (got_of (λ (r : Row). r.chunk) rows k d) (all k d.chunk (omega (arith, many, below))));
+      let all : All (LacksChunk a m) (chunks_of_rows rows) = subst (All (LacksChunk a m)) (sym table.chunks) (all_lacking a m) in
+      subst (LacksChunk a m) (got_of (λ (r : Row). r.chunk) rows k d) (all k d.chunk (omega (arith, many, below))));
   sources = table.sources;
 }
 
 -- ---- plans
 -- a chunk that the plan has is lacking, and somebody may give it
 pub record IsGiven (a : ArrayView) (m : MemberView) (c : ℕ) : Type 0 where
-  pub lacks : IsLacking a m c
+  pub lacks : LacksChunk a m c
   pub role : ℕ
   pub small : role < 32
   pub permitted : IsPermitted a c role
@@ -62,11 +62,11 @@ module _ (a : ArrayView) (m : MemberView) (plan : Plan) (is : IsPlanOf a m plan)
   slot_given k d below =
       let slot = get_or plan.slots k d in
       let it = is.certified.allowed k d below in
-      let row = row_of is.rows slot.chunk (λ none. both_ways (has (mask_of is.rows slot.chunk) slot.source) (ap (λ n. has n slot.source) none ∙ has_zero slot.source) it) in
+      let row = row_of is.rows slot.chunk (λ none. both_ways (has (mask_of_chunk is.rows slot.chunk) slot.source) (ap (λ n. has n slot.source) none ∙ has_zero slot.source) it) in
       let r : Row = record { chunk = 0; mask = 0 } in
       let may = allowed a m plan is k d below in
       record {
-        lacks = subst (IsLacking a m) (row.is r) (is.table.lacking row.at r row.within);
+        lacks = subst (LacksChunk a m) (row.is r) (is.table.lacking row.at r row.within);
         role = slot.source;
         small = may.small;
         permitted = may.permitted;

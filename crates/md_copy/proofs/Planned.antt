@@ -6,7 +6,7 @@ use Rattle.md_cert.specs.declared.plan.Plan.{Plan}
 use Rattle.md_cert.specs.declared.table.Row.{Row}
 use Rattle.md_cert.specs.declared.slots.Slot.{Slot}
 use Rattle.md_cert.specs.Sources.{has}
-use Rattle.md_cert.specs.Tables.{mask_of}
+use Rattle.md_cert.specs.Tables.{mask_of_chunk}
 use Rattle.md_cert.proofs.Bits.{has_below, has_zero}
 use Rattle.md_cert.proofs.Masks.{row_of}
 use Rattle.md_kept_members.specs.View.{MemberView}
@@ -28,9 +28,9 @@ pub allowed : (a : ArrayView) (m : MemberView) (plan : Plan) → IsPlanOf a m pl
 allowed a m plan is k d below =
     let slot = get_or plan.slots k d in
     let it = is.certified.allowed k d below in
-    let small = has_below (mask_of is.rows slot.chunk) slot.source it in
-    let row = row_of is.rows slot.chunk (λ none. both_ways (has (mask_of is.rows slot.chunk) slot.source) (ap (λ n. has n slot.source) none ∙ has_zero slot.source) it) in
+    let small = has_below (mask_of_chunk is.rows slot.chunk) slot.source it in
+    let row = row_of is.rows slot.chunk (λ none. both_ways (has (mask_of_chunk is.rows slot.chunk) slot.source) (ap (λ n. has n slot.source) none ∙ has_zero slot.source) it) in
     let r : Row = get_or is.rows row.at (record { chunk = 0; mask = 0 }) in
     let sources : HasSources a r = is.table.sources row.at (record { chunk = 0; mask = 0 }) row.within in
-    let bit : bit_at r.mask slot.source ≡ 1 = ap (λ n. bit_at n slot.source) (row.mask (record { chunk = 0; mask = 0 })) ∙ has_bit (mask_of is.rows slot.chunk) slot.source it in
+    let bit : bit_at r.mask slot.source ≡ 1 = ap (λ n. bit_at n slot.source) (row.mask (record { chunk = 0; mask = 0 })) ∙ has_bit (mask_of_chunk is.rows slot.chunk) slot.source it in
     record { small = small; permitted = subst (λ c. IsPermitted a c slot.source) (row.is (record { chunk = 0; mask = 0 })) ((sources slot.source small).0 bit) }

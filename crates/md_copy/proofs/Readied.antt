@@ -17,10 +17,10 @@ use Rattle.md_array.specs.NotingResynced.{AreNoted}
 use Rattle.md_array.proofs.Rebuilding.AdmittedEvent.{admitted_at}
 use Rattle.md_metadata.specs.Storing.{StaysReady}
 use Rattle.md_metadata.proofs.Going.{same_state}
-use Rattle.md_copy.specs.Beginning.{MayRebuild, rises}
-use Rattle.md_copy.specs.Rebuilding.{Begins}
+use Rattle.md_copy.specs.Beginning.{MayBeginRebuild, rises}
+use Rattle.md_copy.specs.Rebuilding.{BeginsRebuild}
 use Rattle.md_copy.specs.Readying.{AdmitsAfter, AdmitsFirst, Readies}
-use Rattle.md_copy.specs.Ready.{IsReady, MayGoOn}
+use Rattle.md_copy.specs.Ready.{IsReadyToCopy, MayRebuildOn}
 use Rattle.md_copy.specs.Storing.{StoresFirst}
 use Rattle.md_copy.specs.Targets.{MayBeRebuilt}
 
@@ -69,21 +69,21 @@ some_rise Spare = omega arith
 some_rise Faulty = omega arith
 
 -- ---- a rebuild that may go on
-pub begins_so : (a : ArrayView) (m : MemberView) → MayRebuild a m → MayGoOn (rises m.state) a
-begins_so a m may = record { idle = may.idle; resynced = may.settled.resynced; can_rise = may.can_rise }
+pub begins_so : (a : ArrayView) (m : MemberView) → MayBeginRebuild a m → MayRebuildOn (rises m.state) a
+begins_so a m may = record { idle = may.idle; resynced = may.resynced_target.resynced; can_rise = may.can_rise }
 
-pub spare_twice : (a : ArrayView) (m : MemberView) → is_spare m.state ≡ true → MayRebuild a m → MayGoOn 2 a
-spare_twice a m spare may = subst (λ (s : MemberState). MayGoOn (rises s) a) (spare_is m.state spare) (begins_so a m may)
+pub spare_twice : (a : ArrayView) (m : MemberView) → is_spare m.state ≡ true → MayBeginRebuild a m → MayRebuildOn 2 a
+spare_twice a m spare may = subst (λ (s : MemberState). MayRebuildOn (rises s) a) (spare_is m.state spare) (begins_so a m may)
 
-pub once : (a : ArrayView) (n : ℕ) → 1 ≤ n → MayGoOn n a → MayGoOn 1 a
+pub once : (a : ArrayView) (n : ℕ) → 1 ≤ n → MayRebuildOn n a → MayRebuildOn 1 a
 once a n some may = record { idle = may.idle; resynced = may.resynced; can_rise = (let can = may.can_rise in omega (arith, some, can)) }
 
-pub unspent_so : (a : ArrayView) → MayGoOn 1 a → HasSpentEvents a → ⊥
+pub unspent_so : (a : ArrayView) → MayRebuildOn 1 a → HasSpentEvents a → ⊥
 unspent_so a may spent = (let can = may.can_rise in omega (arith, can, spent))
 
 -- ---- after what is due is stored
 module _ (old stored : MirrorView) (first : StoresFirst old stored) where
-  pub stored_so : (n : ℕ) → MayGoOn n old.array → MayGoOn n stored.array
+  pub stored_so : (n : ℕ) → MayRebuildOn n old.array → MayRebuildOn n stored.array
   stored_so n may = record {
     idle = record { running = first.stores.ready.halted ∙ may.idle.running; none = ap first_number first.stores.ready.others ∙ may.idle.none };
     resynced = first.stores.goes.array.resynced ∙ may.resynced;
@@ -104,7 +104,7 @@ module _ (old stored : MirrorView) (first : StoresFirst old stored) where
 
 -- ---- after the admission
 module _ (target : ℕ) (stored admitted : MirrorView) (r : Admits target stored admitted) where
-  pub admitted_so : MayGoOn 2 stored.array → MayGoOn 1 admitted.array
+  pub admitted_so : MayRebuildOn 2 stored.array → MayRebuildOn 1 admitted.array
   admitted_so may = record {
     idle = record {
       running = ap (λ (a : ArrayView). a.halted) r.array ∙ may.idle.running;
@@ -124,12 +124,12 @@ module _ (target : ℕ) (old admitted : MirrorView) (h : AdmitsAfter target old 
   pub not_due : (m : MemberView) → IsMember admitted.array target m → m.due ≡ false
   not_due m at = ap (λ (x : MemberView). x.due) (same_Some m (admitted_member h.admits.role h.admits.may.member) (sym at ∙ admitted_is))
 
-  pub after_so : (m : MemberView) → is_spare m.state ≡ true → MayRebuild old.array m → MayGoOn 1 admitted.array
+  pub after_so : (m : MemberView) → is_spare m.state ≡ true → MayBeginRebuild old.array m → MayRebuildOn 1 admitted.array
   after_so m spare may = admitted_so target h.stored admitted h.admits (stored_so old h.stored h.first 2 (spare_twice old.array m spare may))
 
 -- ---- once it is readied
-module _ (target : ℕ) (old ready : MirrorView) (member : MemberView) (at : IsMember old.array target member) (may : MayRebuild old.array member) where
-  ready_stored : is_recovering member.state ≡ true → StoresFirst old ready → IsReady target ready
+module _ (target : ℕ) (old ready : MirrorView) (member : MemberView) (at : IsMember old.array target member) (may : MayBeginRebuild old.array member) where
+  ready_stored : is_recovering member.state ≡ true → StoresFirst old ready → IsReadyToCopy target ready
   ready_stored recovers first = record {
     sound = first.stores.goes.sound;
     goes = stored_so old ready first 1 (once old.array (rises member.state) (some_rise member.state) (begins_so old.array member may));
@@ -138,7 +138,7 @@ module _ (target : ℕ) (old ready : MirrorView) (member : MemberView) (at : IsM
     recovering = λ n there. ap is_recovering (state_then old ready first target member n at there) ∙ recovers;
   }
 
-  ready_admitted : is_spare member.state ≡ true → AdmitsFirst target old ready → IsReady target ready
+  ready_admitted : is_spare member.state ≡ true → AdmitsFirst target old ready → IsReadyToCopy target ready
   ready_admitted spare h = record {
     sound = h.then.stores.goes.sound;
     goes = stored_so h.admitted ready h.then 1 (after_so target old h.admitted h.after member spare may);
@@ -150,9 +150,9 @@ module _ (target : ℕ) (old ready : MirrorView) (member : MemberView) (at : IsM
         ap is_recovering (state_then h.admitted ready h.then target m n here there) ∙ recovering_admitted target old h.admitted h.after m here);
   }
 
-  pub is_ready : Readies target member old ready → IsReady target ready
+  pub is_ready : Readies target member old ready → IsReadyToCopy target ready
   is_ready (inl h) = ready_stored h.0 h.1
   is_ready (inr h) = ready_admitted h.0 h.1
 
-pub ready_of : (target : ℕ) (old ready : MirrorView) (none : Bitmap) → Begins target old ready none → IsReady target ready
+pub ready_of : (target : ℕ) (old ready : MirrorView) (none : Bitmap) → BeginsRebuild target old ready none → IsReadyToCopy target ready
 ready_of target old ready none b = is_ready target old ready b.member b.at b.may b.first

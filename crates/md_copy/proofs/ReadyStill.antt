@@ -26,21 +26,21 @@ use Rattle.md_array.proofs.Steps.FailedParts.{failed_write}
 use Rattle.md_metadata.specs.Going.{IsSameArray}
 use Rattle.md_metadata.specs.Storing.{FailsAtLast, IsFailureOf, IsNoFailure, IsStoring, LosesStoring}
 use Rattle.md_copy.specs.Listing.{ChangesListAlone, IsStoringList, ListsAll, NotesLists}
-use Rattle.md_copy.specs.Ready.{IsReady, IsRecordable, MayGoOn}
+use Rattle.md_copy.specs.Ready.{IsReadyToCopy, IsRecordable, MayRebuildOn}
 use Rattle.md_copy.proofs.HeldRecorded.{other_is, out_of_sync, target_same}
 
 -- ---- a pass leaves memory as it is
-pub ready_filled : (target : ℕ) (v w : MirrorView) → w.array ≡ v.array → IsConsistent w → IsReady target v → IsReady target w
+pub ready_filled : (target : ℕ) (v w : MirrorView) → w.array ≡ v.array → IsConsistent w → IsReadyToCopy target v → IsReadyToCopy target w
 ready_filled target v w same sound ready = record {
   sound = sound;
-  goes = subst (MayGoOn 1) (sym same) ready.goes;
+  goes = subst (MayRebuildOn 1) (sym same) ready.goes;
   noted = subst AreNoted (sym same) ready.noted;
   recorded = subst (λ (a : ArrayView). AllInSync a IsNotDue) (sym same) ready.recorded;
   recovering = λ n there. ready.recovering n (ap (λ (a : ArrayView). slice_get a.members target) (sym same) ∙ there);
 }
 
 -- ---- how far the target is rebuilt is recorded
-module _ (target : ℕ) (copied : Bitmap) (v w : MirrorView) (r : Checkpoints target copied v w) (sound : IsConsistent v) (ready : IsReady target v) where
+module _ (target : ℕ) (copied : Bitmap) (v w : MirrorView) (r : Checkpoints target copied v w) (sound : IsConsistent v) (ready : IsReadyToCopy target v) where
   other_in_sync : (i : ℕ) (x : MemberView) → IsInSync w.array i x → IsInSync v.array i x
   other_in_sync i x in_sync = elim (cases_eq i target) [
     | inl here ↦
@@ -49,7 +49,7 @@ module _ (target : ℕ) (copied : Bitmap) (v w : MirrorView) (r : Checkpoints ta
     | inr other ↦ record { member = sym (other_is target copied v w sound r i other) ∙ in_sync.member; in_sync = in_sync.in_sync }
   ]
 
-  pub ready_recorded : IsConsistent w → IsReady target w
+  pub ready_recorded : IsConsistent w → IsReadyToCopy target w
   ready_recorded sound_w = record {
     sound = sound_w;
     goes = record {
@@ -252,7 +252,7 @@ list_recovers target k v w other = lost_recovering IsStoringList list_on_members
 -- ---- once chunks are listed
 module _ (target : ℕ) (failed : List Slot) (v w : MirrorView) where
   -- in memory alone
-  pub ready_noted : NotesLists failed v w → IsReady target v → IsReady target w
+  pub ready_noted : NotesLists failed v w → IsReadyToCopy target v → IsReadyToCopy target w
   ready_noted h ready = record {
     sound = h.goes.sound;
     goes = record {
@@ -272,7 +272,7 @@ module _ (target : ℕ) (failed : List Slot) (v w : MirrorView) where
       was i y on = (let x = h.lists.before i y on.member in (x.0, record { member = x.1; in_sync = ap is_in_sync (sym x.2.state) ∙ on.in_sync }, h.members i x.0 y x.1 on.member))
 
   -- and on the devices
-  pub ready_listed : ListsAll failed v w → IsReady target v → IsReady target w
+  pub ready_listed : ListsAll failed v w → IsReadyToCopy target v → IsReadyToCopy target w
   ready_listed h ready = record {
     sound = h.stores.goes.sound;
     goes = record {

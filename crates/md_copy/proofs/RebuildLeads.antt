@@ -12,7 +12,7 @@ use Rattle.md_pass.specs.Beside.{SameBeside, has_chunk}
 use Rattle.md_pass.specs.Sources.{copy_of}
 use Rattle.md_passes.proofs.OnePass.{slot_within}
 use Rattle.md_passes.specs.Listed.{IsArrayPass}
-use Rattle.md_passes.specs.Passes.{PassView, failed_chunks, slots_of}
+use Rattle.md_passes.specs.Passes.{PassView, failed_chunks, slots_of_pass}
 use Rattle.md_inflight.specs.Inflight.{InflightList, lookup}
 use Rattle.md_requests.specs.Pending.{PendingView}
 use Rattle.md_requests.specs.declared.extent.Extent.{Extent}
@@ -44,10 +44,10 @@ use Rattle.md_copy.specs.Filling.{IsFilling}
 use Rattle.md_copy.specs.Listing.{IsNoting, IsStoringList}
 use Rattle.md_copy.specs.Passing.{AreListedPasses, CopiesAll, ListsPass, RecordsPass}
 use Rattle.md_copy.specs.RebuildEvents.{AreOfAdmission, AreOfPasses, AreStored, HaltsIn, IsBeforeEnrol, IsOfRebuild, RebuildLeads}
-use Rattle.md_copy.specs.Rebuilding.{Begins, EnrolsBy, FillsBy, Rebuilds}
+use Rattle.md_copy.specs.Rebuilding.{BeginsRebuild, EnrolsBy, FillsBy, Rebuilds}
 use Rattle.md_copy.specs.Rebuilt.{HaltsFrom}
 use Rattle.md_copy.specs.Readying.{AdmitsAfter, AdmitsFirst, Readies}
-use Rattle.md_copy.specs.Sources.{IsLacking, missing_chunks}
+use Rattle.md_copy.specs.Sources.{LacksChunk, missing_chunks}
 use Rattle.md_copy.specs.Storing.{StoresFirst}
 use Rattle.md_copy.proofs.CheckpointDone.{checkpoint_done}
 use Rattle.md_copy.proofs.PassesTold.{HoldsSoFar, begins_holding, chain_holds, listed_holds}
@@ -213,15 +213,15 @@ module _ (target : ℕ) where
 -- ---- a pass
 -- Whatever became of it, data changed in chunks that the target lacks.
 module _ (target : ℕ) (v : MirrorView) (copied : Bitmap) (chunks : List ℕ) (so : HoldsSoFar target v copied chunks) (p : PassView) (is : IsArrayPass v.array chunks p) (m : MemberView) (at : IsMember v.array target m) (w : MirrorView)
-    (f : IsFilling target m (slots_of p) v w) where
-  lacks : (c : ℕ) → has_chunk (slots_of p) c ≡ true → IsLacking v.array m c
+    (f : IsFilling target m (slots_of_pass p) v w) where
+  lacks : (c : ℕ) → has_chunk (slots_of_pass p) c ≡ true → LacksChunk v.array m c
   lacks c planned =
-      let hit = Any-from_list_any (λ (s : Slot). s.chunk == c) (slots_of p) planned in
-      let s = get_or (slots_of p) hit.0 hit.1 in
+      let hit = Any-from_list_any (λ (s : Slot). s.chunk == c) (slots_of_pass p) planned in
+      let s = get_or (slots_of_pass p) hit.0 hit.1 in
       let chunk : s.chunk ≡ c = ap (λ (x : Slot). x.chunk) hit.3 ∙ eqb-true hit.1.chunk c hit.4 in
-      subst (IsLacking v.array m) chunk (All-contains (IsLacking v.array m) chunks s.chunk (so.lacking m at) (slot_within is s (Contains-get_or (slots_of p) hit.0 hit.1 hit.2)))
+      subst (LacksChunk v.array m) chunk (All-contains (LacksChunk v.array m) chunks s.chunk (so.lacking m at) (slot_within is s (Contains-get_or (slots_of_pass p) hit.0 hit.1 hit.2)))
 
-  pub same_beside : (was left : List ℕ) → SameBeside (copy_of (slots_of p) v.array.chunks m.superblock.data_offset) was left → IsSameBesideMissing v.array m was left
+  pub same_beside : (was left : List ℕ) → SameBeside (copy_of (slots_of_pass p) v.array.chunks m.superblock.data_offset) was left → IsSameBesideMissing v.array m was left
   same_beside was left same = record {
     size = same.size;
     beside = λ at n h. same.beside at n
@@ -237,13 +237,13 @@ module _ (target : ℕ) (v : MirrorView) (copied : Bitmap) (chunks : List ℕ) (
     as_many = f.as_many;
     others = λ j other d e at_d at_e.
         let read = f.others j d e other at_d at_e in
-        (record { honest = read.honest_kept; counted = read.counted }, (read.content_kept, read.stops));
+        (record { honest = read.honest_kept; counted = read.counted }, (read.content_kept, read.crashes));
     stays = λ d e at_d at_e. let kept = f.on_target d e at_d at_e in record { honest = kept.honest_kept; counted = kept.counted };
     size = λ d e at_d at_e. (f.on_target d e at_d at_e).same.size;
     changed = λ d e at_d at_e honest. same_beside d.content e.content (f.on_target d e at_d at_e).same;
     within = λ d e at_d at_e honest.
-        leaves_less d.stops e.stops (SameBeside (copy_of (slots_of p) v.array.chunks m.superblock.data_offset) d.content) (IsSameBesideMissing v.array m d.content) (λ left. same_beside d.content left)
-        ((f.on_target d e at_d at_e).stops honest);
+        leaves_less d.crashes e.crashes (SameBeside (copy_of (slots_of_pass p) v.array.chunks m.superblock.data_offset) d.content) (IsSameBesideMissing v.array m d.content) (λ left. same_beside d.content left)
+        ((f.on_target d e at_d at_e).crashes honest);
   }
 
   pub filled : array.Fills target v w
@@ -360,7 +360,7 @@ abbrev pub readied_either : (target : ℕ) (m : MemberView) (old ready : MirrorV
 readied_either target m old ready (inl h) = inl h.1
 readied_either target m old ready (inr h) = inr h.1
 
-module _ (target : ℕ) (old ready : MirrorView) (none : Bitmap) (b : Begins target old ready none) where
+module _ (target : ℕ) (old ready : MirrorView) (none : Bitmap) (b : BeginsRebuild target old ready none) where
   pub begin_holds : HoldsSoFar target ready none (missing_chunks ready.array b.now)
   begin_holds = begins_holding target b.now none ready (ready_of target old ready none b) b.there b.is_none.chunks b.is_none.bits
 
@@ -410,7 +410,7 @@ module _ (target : ℕ) (told : Rebuilt) (old new : MirrorView) (h : Rebuilds ta
   Of = IsOfRebuild target
 
   abbrev last : (x : MirrorView) × IsLast by.enrolled x new
-  last = last_of by.enrolled new by.settles
+  last = last_of by.enrolled new by.stores_until_done
 
   abbrev pub opening_events : List Event
   opening_events = begin_events target old h.ready h.none h.begins

@@ -28,7 +28,7 @@ use Rattle.md_copy.specs.Preparing.{is_in}
 use Rattle.md_copy.specs.Rebuilding.{Rebuilds, RebuildsReadied}
 use Rattle.md_copy.specs.Rebuilt.{HaltsFrom, HaltsTo, HasRebuilt, IsRebuilt, IsRebuiltInSync, ListsGrow, RunsOrHalts, failed_of}
 use Rattle.md_copy.specs.Sources.{missing_chunks}
-use Rattle.md_copy.specs.Storing.{Settles}
+use Rattle.md_copy.specs.Storing.{StoresUntilDone}
 use Rattle.md_copy.proofs.BegunAs.{permits_both, same_missing, serves_both, serves_most}
 use Rattle.md_copy.proofs.ListsKept.{own_stored_so, stored_so}
 use Rattle.md_copy.proofs.PassesTold.{HoldsSoFar, begins_holding}
@@ -44,7 +44,7 @@ pub record IsLast (enrolled last new : MirrorView) : Type 0 where
   pub goes : GoesOn only_others only_others IsStoring enrolled last
   pub ends : ((last ≡ new) × (new.array.halted ≡ false)) ⊎ HaltsFrom last new
 
-pub last_of : (enrolled new : MirrorView) → Settles enrolled new → (last : MirrorView) × IsLast enrolled last new
+pub last_of : (enrolled new : MirrorView) → StoresUntilDone enrolled new → (last : MirrorView) × IsLast enrolled last new
 last_of enrolled new (inl all) = (new, record { goes = all.goes; ends = inl (refl, all.running) })
 last_of enrolled new (inr halts) = (halts.mid, record { goes = halts.goes; ends = inr (record { failing = halts.failing; of = halts.of; halts = halts.halts }) })
 
@@ -87,11 +87,11 @@ module _ (target : ℕ) (told : Rebuilt) (old new : MirrorView) (h : Rebuilds ta
   so = begins_holding target m h.none v (ready_of target old v h.none h.begins) h.begins.there h.begins.is_none.chunks h.begins.is_none.bits
 
   pub last : (y : MirrorView) × IsLast r.by.enrolled y new
-  last = last_of r.by.enrolled new r.by.settles
+  last = last_of r.by.enrolled new r.by.stores_until_done
 
   -- what stays to the end of the call
   settled : KeepsAll r.by.enrolled new × IsConsistent new
-  settled = settles_keep r.by.enrolled new r.by.settles
+  settled = settles_keep r.by.enrolled new r.by.stores_until_done
 
   pub rebuilt : IsRebuilt target r.copied r.orphans old new
   rebuilt = rebuilt_from target old v starts r.copied r.orphans new (rebuilt_so target m h.none v new told r h.begins.there so h.begins.is_none.bits new settled.0 settled.1)

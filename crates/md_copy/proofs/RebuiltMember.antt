@@ -15,7 +15,7 @@ use Rattle.md_badblocks.specs.Runs.{IsBad}
 use Rattle.md_bitmap.specs.declared.chunks.Chunks.{Chunks}
 use Rattle.md_bitmap.specs.Chunks.{InChunk}
 use Rattle.md_bitmap.specs.Marks.{Bitmap, is_set}
-use Rattle.md_collect.specs.Reading.{Fails}
+use Rattle.md_collect.specs.Reading.{CountsFailure}
 use Rattle.md_device.specs.Splice.{part}
 use Rattle.md_kept_members.specs.Enrolling.{IsListAfter, IsOf, IsOfChunk}
 use Rattle.md_kept_members.specs.Members.{made_due}
@@ -32,7 +32,7 @@ use Rattle.md_state.specs.Members.{IsInSync, IsMember}
 use Rattle.md_state.specs.Missing.{is_missing}
 use Rattle.md_state.specs.View.{ArrayView, Disk, MirrorView, of_disks}
 use Rattle.md_array.specs.Consistency.{IsConsistent}
-use Rattle.md_array.specs.Enrolling.{HasContent, KeepsData}
+use Rattle.md_array.specs.Enrolling.{HoldsContent, KeepsData}
 use Rattle.md_array.specs.Worlds.{AreHonest, is_listed}
 use Rattle.md_array.proofs.General.Indices.{at_set_same, got_in_map, got_other}
 use Rattle.md_metadata.specs.Going.{GoesOn, only_others}
@@ -40,10 +40,10 @@ use Rattle.md_metadata.specs.Storing.{IsStoring}
 use Rattle.md_copy.specs.declared.rebuilt.Rebuilt.{Rebuilt}
 use Rattle.md_copy.specs.Held.{AreHeld}
 use Rattle.md_copy.specs.Preparing.{is_in, uncopied_chunks}
-use Rattle.md_copy.specs.Ready.{IsReady}
+use Rattle.md_copy.specs.Ready.{IsReadyToCopy}
 use Rattle.md_copy.specs.Rebuilding.{RebuildsReadied}
 use Rattle.md_copy.specs.Rebuilt.{IsBesideCopied, IsRebuilt, IsServedThen, failed_of}
-use Rattle.md_copy.specs.Sources.{IsLacking, missing_chunks}
+use Rattle.md_copy.specs.Sources.{LacksChunk, missing_chunks}
 use Rattle.md_copy.proofs.EnrolSets.{is_uncopied, uncopied_is}
 use Rattle.md_copy.proofs.HeldRecorded.{out_of_sync}
 use Rattle.md_copy.proofs.PassesKeep.{PassesKeep, all_keep, disk_then}
@@ -110,7 +110,7 @@ module _ (target : ℕ) (m : MemberView) (none : Bitmap) (v new : MirrorView) (t
   keeps : PassesKeep target (failed_of h.passes) (failed_of h.passes) none copied v f
   keeps = all_keep target m h.passes none copied v f h.by.fills.copies
 
-  ready_f : IsReady target f
+  ready_f : IsReadyToCopy target f
   ready_f = filled_ready target m h.passes none copied v f h.by.fills.copies so
 
   held_f : AreHeld f target copied
@@ -164,20 +164,20 @@ module _ (target : ℕ) (m : MemberView) (none : Bitmap) (v new : MirrorView) (t
       )
 
   -- ---- which chunks
-  lacking_in : (c : ℕ) → Contains (missing_chunks a m) c → IsLacking a m c
-  lacking_in c there = All-contains (IsLacking a m) (missing_chunks a m) c (all_lacking a m) there
+  lacking_in : (c : ℕ) → Contains (missing_chunks a m) c → LacksChunk a m c
+  lacking_in c there = All-contains (LacksChunk a m) (missing_chunks a m) c (all_lacking a m) there
 
-  in_lacking : (c : ℕ) → IsLacking a m c → Contains (missing_chunks a m) c
+  in_lacking : (c : ℕ) → LacksChunk a m c → Contains (missing_chunks a m) c
   in_lacking c is =
       let low = is.low in
       let many = length-range_with_len 0 (count a) in
       let whole : 0 + c ≡ c = omega arith in
       kept (is_missing a m) (range_with_len 0 (count a)) c (c, omega (arith, many, low), get_or-range_with_len 0 (count a) c c low ∙ whole) is.missing
 
-  lacking_of : (c : ℕ) → c < a.marks.chunks → is_missing a m c ≡ true → IsLacking a m c
+  lacking_of : (c : ℕ) → c < a.marks.chunks → is_missing a m c ≡ true → LacksChunk a m c
   lacking_of c low missing = record { low = (let many = so.ready.sound.chunks.count in omega (arith, low, many)); missing = missing }
 
-  copied_lacks : (c : ℕ) → is_set copied.bytes c ≡ true → IsLacking a m c
+  copied_lacks : (c : ℕ) → is_set copied.bytes c ≡ true → LacksChunk a m c
   copied_lacks c set = lacking_in c (all.within c ((by_passes c).0 set))
 
   -- ---- who serves them
@@ -246,7 +246,7 @@ module _ (target : ℕ) (m : MemberView) (none : Bitmap) (v new : MirrorView) (t
         },
       )
 
-  copied_if : (c : ℕ) → IsLacking a m c → IsServedThen a y.array target c → is_set copied.bytes c ≡ true
+  copied_if : (c : ℕ) → LacksChunk a m c → IsServedThen a y.array target c → is_set copied.bytes c ≡ true
   copied_if c lacking by_other =
       let k = by_other.0 in
       let s = by_other.1 in
@@ -355,7 +355,7 @@ module _ (target : ℕ) (m : MemberView) (none : Bitmap) (v new : MirrorView) (t
       ∙ ap (λ (w : Disk). part w.content i l) same
       ∙ keeps.others k d z.0 n other at_d z.1 at_n i l from to
 
-  holds_then : AreHonest v.disks → (content : Content) → HasContent v.disks a content → (e : Disk) → slice_get y.disks target ≡ Some e
+  holds_then : AreHonest v.disks → (content : Content) → HoldsContent v.disks a content → (e : Disk) → slice_get y.disks target ≡ Some e
       → (c s : ℕ) → c < a.marks.chunks → is_set copied.bytes c ≡ true → InChunk a.chunks.sectors a.chunks.size c s
       → part e.content (512 * (m.superblock.data_offset + s)) 512 ≡ content s
   holds_then honest content has e at_e c s low set inside =
@@ -417,13 +417,13 @@ module _ (target : ℕ) (m : MemberView) (none : Bitmap) (v new : MirrorView) (t
 
   x_disk : (d : Disk) × (slice_get x.disks target ≡ Some d)
   x_disk =
-      let none_at : Disk = record { content = []; honest = true; failures = 0; stops = [] } in
+      let none_at : Disk = record { content = []; honest = true; failures = 0; crashes = [] } in
       let low = slice_get_within f.array.members target mf at_f in
       let fits = ready_f.sound.fits.as_many in
       let many = h.by.enrols.disks.as_many in
       (get_or x.disks target none_at, slice_get-get_or x.disks target none_at (omega (arith, low, fits, many)))
 
-  state_then : (is_in_sync then_there.0.state ≡ true) ⊎ ((then_there.0.state ≡ Faulty) × AtDevice target v.disks y.disks (Fails of_disks))
+  state_then : (is_in_sync then_there.0.state ≡ true) ⊎ ((then_there.0.state ≡ Faulty) × AtDevice target v.disks y.disks (CountsFailure of_disks))
   state_then =
       let d = x_disk in
       let e = device_then x y stored target d.0 d.1 in

@@ -15,15 +15,15 @@ use Rattle.md_bitmap.specs.Marks.{Bitmap, is_set}
 use Rattle.md_cert.specs.declared.slots.Slot.{Slot}
 use Rattle.md_kept_members.specs.Permitting.{ListsAny}
 use Rattle.md_kept_members.specs.View.{MemberView}
-use Rattle.md_passes.specs.Passes.{PassView, failed_chunks, slots_of}
-use Rattle.md_state.specs.Checkpoints.{IsFirstStop, Stops}
+use Rattle.md_passes.specs.Passes.{PassView, failed_chunks, slots_of_pass}
+use Rattle.md_state.specs.Checkpoints.{IsFirstEnd, EndsCheckpoint}
 use Rattle.md_state.specs.Members.{IsMember}
 use Rattle.md_state.specs.Missing.{has_passed, is_missing}
 use Rattle.md_state.specs.View.{ArrayView, MirrorView}
 use Rattle.md_array.specs.Checkpoints.{Checkpoints}
 use Rattle.md_array.specs.Consistency.{IsConsistent}
-use Rattle.md_copy.specs.Preparing.{IsWithin}
-use Rattle.md_copy.specs.Refused.{IsRebuiltTo, offset_of}
+use Rattle.md_copy.specs.Preparing.{IsSubset}
+use Rattle.md_copy.specs.Refused.{IsRebuiltTo, rebuilt_offset}
 use Rattle.md_copy.proofs.HeldRecorded.{lacks_so, target_same}
 use Rattle.md_copy.proofs.Refused.{Preserves}
 
@@ -37,7 +37,7 @@ pub same_to : (target : ℕ) (a : ArrayView) (m : MemberView) (v w : MirrorView)
     → RebuiltTo target a m w copied
 same_to target a m v w copied was to n at = (let l = was n at in subst (λ o. IsRebuiltTo a m copied o) (sym l.2) (to l.0 l.1))
 
-first_low : (a : ArrayView) (n : MemberView) (copied : Bitmap) (stop c : ℕ) → IsFirstStop a n copied stop → c < a.marks.chunks → Stops a n copied c → stop ≤ c * a.chunks.sectors
+first_low : (a : ArrayView) (n : MemberView) (copied : Bitmap) (stop c : ℕ) → IsFirstEnd a n copied stop → c < a.marks.chunks → EndsCheckpoint a n copied c → stop ≤ c * a.chunks.sectors
 first_low a n copied stop c (inl first) low stops = elim (cases_lt c first.0) [
   | inl before ↦ absurd (first.3 c before stops)
   | inr from ↦ let up = mul-le first.0 a.chunks.sectors c a.chunks.sectors from (omega arith) in let is = first.4 in omega (arith, up, is)
@@ -88,7 +88,7 @@ module _ (target : ℕ) (old : MirrorView) (sound : IsConsistent old) (m : Membe
   abbrev a : ArrayView
   a = old.array
 
-  lies_before : (c : ℕ) → c < a.marks.chunks → is_missing a m c ≡ true → is_set a.marks.bytes c ≡ false → (offset_of m < a.chunks.size) × (offset_of m < (c + 1) * a.chunks.sectors)
+  lies_before : (c : ℕ) → c < a.marks.chunks → is_missing a m c ≡ true → is_set a.marks.bytes c ≡ false → (rebuilt_offset m < a.chunks.size) × (rebuilt_offset m < (c + 1) * a.chunks.sectors)
   lies_before c low missing clear = elim (cases_Bool (is_recovering m.state)) [
     | inl recovers ↦
         let passed = unpassed (is_set a.marks.bytes c) (has_passed a m c) (sym (lacks_so a m c recovers) ∙ missing) clear in
@@ -135,16 +135,16 @@ module _ (target : ℕ) (old : MirrorView) (sound : IsConsistent old) (m : Membe
     low_before c low = subst (λ (b : Bitmap). c < b.chunks) x.marks low
 
     -- a chunk that stopped it before and stops it now
-    stop_high : (c : ℕ) → c < a.marks.chunks → Stops a m had c → ((is_missing a m c ≡ true) × (is_set copied.bytes c ≡ false)) ⊎ ListsAny a.chunks c m → r.offset ≤ max (offset_of m) (c * a.chunks.sectors)
+    stop_high : (c : ℕ) → c < a.marks.chunks → EndsCheckpoint a m had c → ((is_missing a m c ≡ true) × (is_set copied.bytes c ≡ false)) ⊎ ListsAny a.chunks c m → r.offset ≤ max (rebuilt_offset m) (c * a.chunks.sectors)
     stop_high c low before now =
         let was = (to n r.may.at).below c low before in
         let is = r.next.is in
         let width = ap (λ (q : Chunks). c * q.sectors) x.chunks in
-        let stop : r.next.stop ≤ max (offset_of m) (c * a.chunks.sectors) = stop_so now in
+        let stop : r.next.stop ≤ max (rebuilt_offset m) (c * a.chunks.sectors) = stop_so now in
         omega (arith, was, is, stop)
       where
-        at_stop : Stops v.array n copied c → r.next.stop ≤ max (offset_of m) (c * a.chunks.sectors)
-        at_stop stops = (let first = first_low v.array n copied r.next.stop c r.next.first (low_there c low) stops in let width = ap (λ (q : Chunks). c * q.sectors) x.chunks in omega (arith, first, width))
+        at_crash : EndsCheckpoint v.array n copied c → r.next.stop ≤ max (rebuilt_offset m) (c * a.chunks.sectors)
+        at_crash stops = (let first = first_low v.array n copied r.next.stop c r.next.first (low_there c low) stops in let width = ap (λ (q : Chunks). c * q.sectors) x.chunks in omega (arith, first, width))
 
         gone : is_missing a m c ≡ true → is_missing v.array n c ≡ false → ⊥
         gone missing none =
@@ -160,21 +160,21 @@ module _ (target : ℕ) (old : MirrorView) (sound : IsConsistent old) (m : Membe
             not_passed a.chunks.size a.chunks.sectors n.superblock.recovery_offset c (omega (arith, high, l0, s0)) (omega (arith, high, l1, s1))
             (subst (λ (q : Chunks). (leb q.size n.superblock.recovery_offset || leb ((c + 1) * q.sectors) n.superblock.recovery_offset) ≡ true) x.chunks so.1)
 
-        stop_so : ((is_missing a m c ≡ true) × (is_set copied.bytes c ≡ false)) ⊎ ListsAny a.chunks c m → r.next.stop ≤ max (offset_of m) (c * a.chunks.sectors)
-        stop_so (inr lists) = at_stop (inr (lists_there c lists))
-        stop_so (inl is) = elim (cases_Bool (is_missing v.array n c)) [ inl still ↦ at_stop (inl (still, is.1)) | inr none ↦ absurd (gone is.0 none) ]
+        stop_so : ((is_missing a m c ≡ true) × (is_set copied.bytes c ≡ false)) ⊎ ListsAny a.chunks c m → r.next.stop ≤ max (rebuilt_offset m) (c * a.chunks.sectors)
+        stop_so (inr lists) = at_crash (inr (lists_there c lists))
+        stop_so (inl is) = elim (cases_Bool (is_missing v.array n c)) [ inl still ↦ at_crash (inl (still, is.1)) | inr none ↦ absurd (gone is.0 none) ]
 
-    from_so : offset_of m ≤ r.offset
+    from_so : rebuilt_offset m ≤ r.offset
     from_so = (let was = (to n r.may.at).from in let is = r.next.is in omega (arith, was, is))
 
-    clear_so : (set other : Bitmap) → IsWithin set other → (c : ℕ) → c < set.chunks → is_set other.bytes c ≡ false → is_set set.bytes c ≡ false
+    clear_so : (set other : Bitmap) → IsSubset set other → (c : ℕ) → c < set.chunks → is_set other.bytes c ≡ false → is_set set.bytes c ≡ false
     clear_so set other within c low clear = elim (cases_Bool (is_set set.bytes c)) [ inl is ↦ absurd (both_ways (is_set other.bytes c) clear (within c low is)) | inr none ↦ none ]
 
     at_offset : (copied_then : Bitmap) → IsRebuiltTo a m copied_then r.offset → RebuiltTo target a m w copied_then
     at_offset copied_then is y there = subst (λ o. IsRebuiltTo a m copied_then o) (sym (ap (λ (z : MemberView). z.superblock.recovery_offset) (target_same target copied v w sound_v r y there))) is
 
     -- of more that was copied
-    pub grown_to : had.chunks ≡ a.marks.chunks → IsWithin had copied → RebuiltTo target a m w copied
+    pub grown_to : had.chunks ≡ a.marks.chunks → IsSubset had copied → RebuiltTo target a m w copied
     grown_to chunks within =
         at_offset copied (record {
           from = from_so;
@@ -189,16 +189,16 @@ module _ (target : ℕ) (old : MirrorView) (sound : IsConsistent old) (m : Membe
           ];
         })
       where
-        before : (c : ℕ) → c < a.marks.chunks → Stops a m copied c → Stops a m had c
+        before : (c : ℕ) → c < a.marks.chunks → EndsCheckpoint a m copied c → EndsCheckpoint a m had c
         before c low (inl is) = inl (is.0, clear_so had copied within c (subst (λ n. c < n) (sym chunks) low) is.1)
         before c low (inr lists) = inr lists
 
-        stops_before : (c : ℕ) → c < a.marks.chunks → Stops v.array n copied c → Stops a m copied c
+        stops_before : (c : ℕ) → c < a.marks.chunks → EndsCheckpoint v.array n copied c → EndsCheckpoint a m copied c
         stops_before c low (inl is) = inl (x.missing m n at r.may.at c low is.0, is.1)
         stops_before c low (inr lists) = inr (lists_before c lists)
 
     -- of no more
-    pub kept_to : IsWithin copied had → RebuiltTo target a m w had
+    pub kept_to : IsSubset copied had → RebuiltTo target a m w had
     kept_to within =
         at_offset had (record {
           from = from_so;
@@ -206,7 +206,7 @@ module _ (target : ℕ) (old : MirrorView) (sound : IsConsistent old) (m : Membe
           upto = (let is = r.next.is in elim (to n r.may.at).upto [ inl end ↦ inl (omega (arith, is, end)) | inr stop ↦ let far = stop.3 in inr (stop.0, stop.1, stop.2, omega (arith, is, far)) ]);
         })
       where
-        now : (c : ℕ) → c < a.marks.chunks → Stops a m had c → ((is_missing a m c ≡ true) × (is_set copied.bytes c ≡ false)) ⊎ ListsAny a.chunks c m
+        now : (c : ℕ) → c < a.marks.chunks → EndsCheckpoint a m had c → ((is_missing a m c ≡ true) × (is_set copied.bytes c ≡ false)) ⊎ ListsAny a.chunks c m
         now c low (inl is) = inl (is.0, clear_so copied had within c (subst (λ n. c < n) (sym r.may.copied_chunks) (low_there c low)) is.1)
         now c low (inr lists) = inr lists
 
@@ -216,33 +216,33 @@ module _ (target : ℕ) (old : MirrorView) (sound : IsConsistent old) (m : Membe
 
   -- the chunk at the offset
   abbrev c : ℕ
-  c = offset_of m / a.chunks.sectors
+  c = rebuilt_offset m / a.chunks.sectors
 
-  pub begins_to : (none : Bitmap) → ((c : ℕ) → is_set none.bytes c ≡ false) → ((c : ℕ) → is_recovering m.state ≡ false → is_missing a m c ≡ true) → IsRebuiltTo a m none (offset_of m)
+  pub begins_to : (none : Bitmap) → ((c : ℕ) → is_set none.bytes c ≡ false) → ((c : ℕ) → is_recovering m.state ≡ false → is_missing a m c ≡ true) → IsRebuiltTo a m none (rebuilt_offset m)
   begins_to none clear lacks = record {
     from = omega arith;
     below = λ i low stops. omega arith;
-    upto = elim (cases_lt (offset_of m) a.chunks.size) [
+    upto = elim (cases_lt (rebuilt_offset m) a.chunks.size) [
       | inr end ↦ inl end
       | inl within ↦ inr (c, c_low within, inl (missing within, clear c), starts)
     ];
   }
     where
-      c_low : offset_of m < a.chunks.size → c < a.marks.chunks
+      c_low : rebuilt_offset m < a.chunks.size → c < a.marks.chunks
       c_low within =
           let count = sound.chunks.count in
           let bounds = div_ceil_times a.chunks.size a.chunks.sectors sound.chunks.wide in
           let first = bounds.0 in
-          let below = div_below (offset_of m) a.chunks.sectors (div_ceil a.chunks.size a.chunks.sectors) sound.chunks.wide (omega (arith, within, first)) in
+          let below = div_below (rebuilt_offset m) a.chunks.sectors (div_ceil a.chunks.size a.chunks.sectors) sound.chunks.wide (omega (arith, within, first)) in
           omega (arith, below, count)
 
-      starts : c * a.chunks.sectors ≤ offset_of m
+      starts : c * a.chunks.sectors ≤ rebuilt_offset m
       starts = (let wide = sound.chunks.wide in omega (arith, wide))
 
-      ends : offset_of m < (c + 1) * a.chunks.sectors
+      ends : rebuilt_offset m < (c + 1) * a.chunks.sectors
       ends = (let wide = sound.chunks.wide in let next : (c + 1) * a.chunks.sectors ≡ c * a.chunks.sectors + a.chunks.sectors = grind arith in omega (arith, wide, next))
 
-      missing : offset_of m < a.chunks.size → is_missing a m c ≡ true
+      missing : rebuilt_offset m < a.chunks.size → is_missing a m c ≡ true
       missing within = elim (cases_Bool (is_recovering m.state)) [
         | inl recovers ↦
             let is = cond_true (is_recovering m.state) m.superblock.recovery_offset recovers in

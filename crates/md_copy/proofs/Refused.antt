@@ -10,7 +10,7 @@ use Rattle.md_badblocks.specs.Runs.{IsBad}
 use Rattle.md_bitmap.specs.declared.chunks.Chunks.{Chunks}
 use Rattle.md_bitmap.specs.Marks.{Bitmap}
 use Rattle.md_cert.specs.declared.slots.Slot.{Slot}
-use Rattle.md_collect.specs.Reading.{Fails}
+use Rattle.md_collect.specs.Reading.{CountsFailure}
 use Rattle.md_device.specs.Splice.{SameOutside, part}
 use Rattle.md_kept_members.specs.View.{MemberView}
 use Rattle.md_pass.specs.Readings.{is_of}
@@ -164,7 +164,7 @@ preserves_started target old v st own = record {
 -- ---- from then on
 -- its state is what it was, or it is faulty, and a call on its device failed
 abbrev pub IsSameOrLost : ℕ → MirrorView → MirrorView → MemberView → MemberView → Type 0
-IsSameOrLost k old new m n = (n.state ≡ m.state) ⊎ ((n.state ≡ Faulty) × AtDevice k old.disks new.disks (Fails of_disks))
+IsSameOrLost k old new m n = (n.state ≡ m.state) ⊎ ((n.state ≡ Faulty) × AtDevice k old.disks new.disks (CountsFailure of_disks))
 
 -- No data change any more, nor does a list.
 pub record KeepsRest (target : ℕ) (old new : MirrorView) : Type 0 where

@@ -5,11 +5,11 @@ use Rattle.std.proofs.lemmas.List.{append-nil}
 use Rattle.std.proofs.lemmas.Option.{same_Some}
 use Rattle.md_assembly.specs.States.{is_in_sync, is_recovering}
 use Rattle.md_bitmap.specs.Marks.{Bitmap}
-use Rattle.md_kept_members.specs.TakingBack.{admitted_member, with_offset}
+use Rattle.md_kept_members.specs.TakingBack.{admitted_member, with_recovery_offset}
 use Rattle.md_kept_members.specs.View.{MemberView}
 use Rattle.md_model.specs.Events.{Event}
 use Rattle.md_passes.specs.Listed.{IsArrayPass}
-use Rattle.md_passes.specs.Passes.{PassView, slots_of}
+use Rattle.md_passes.specs.Passes.{PassView, slots_of_pass}
 use Rattle.md_state.specs.Admitting.{admitted}
 use Rattle.md_state.specs.Members.{IsMember}
 use Rattle.md_state.specs.Missing.{is_rebuilt}
@@ -37,15 +37,15 @@ use Rattle.md_metadata.specs.Storing.{FailsAtLast, IsFailureOf}
 use Rattle.md_copy.specs.declared.fault.RebuildFault.{RebuildFault}
 use Rattle.md_copy.specs.declared.fault.RebuildFault.TheVariants.{Halted, NotSpare, Dirty, InFlight, LogFull, NoMemory, TargetFault, MetadataFault, EventsFull}
 use Rattle.md_copy.specs.Filling.{IsFilling}
-use Rattle.md_copy.specs.Leaving.{Leaves}
-use Rattle.md_copy.specs.Listing.{StopsNoting}
-use Rattle.md_copy.specs.Passing.{BreaksOff, CopiesAll, EndsBetween, FailsListing, FailsRecording}
-use Rattle.md_copy.specs.RebuildEvents.{FailsAfterPass, FailsAtMarks, FailsCheckpoint, AreOfLeaving, EndsWith, FailsAtMember, FailsLeaving, HaltsIn, IsBeforeEnrol, IsListOfUnfinished, IsOfUnfinished, LeadsOrHalts, LeadsUnadmitted, LeadsUnfinished, LeadsUnrecorded, TellsFault, TellsLeaving, TellsMember, TellsTarget}
-use Rattle.md_copy.specs.Rebuilding.{EndsFilled, EndsReadied, EndsStoring, LacksMemory, LacksRoom, LosesSource, LosesTarget, RefusesRebuild}
-use Rattle.md_copy.specs.Ready.{IsReady}
-use Rattle.md_copy.specs.Readying.{FailsAdmission, StopsAdmitted}
+use Rattle.md_copy.specs.Leaving.{RecordsAtEnd}
+use Rattle.md_copy.specs.Listing.{EndsNoting}
+use Rattle.md_copy.specs.Passing.{BreaksOffPass, CopiesAll, EndsBetween, FailsListing, FailsRecording}
+use Rattle.md_copy.specs.RebuildEvents.{FailsAfterPass, FailsAtMarks, FailsCheckpoint, AreOfLeaving, EventsEndWith, FailsAtMember, FailsLeaving, HaltsIn, IsBeforeEnrol, IsListOfUnfinished, IsOfUnfinished, LeadsOrHalts, LeadsUnadmitted, LeadsUnfinished, LeadsUnrecorded, TellsFault, TellsLeaving, TellsMember, WritesTarget}
+use Rattle.md_copy.specs.Rebuilding.{EndsFilled, EndsReadied, EndsStoring, LacksMemoryToRebuild, LacksRoom, LosesSource, LosesTarget, RefusesRebuild}
+use Rattle.md_copy.specs.Ready.{IsReadyToCopy}
+use Rattle.md_copy.specs.Readying.{FailsAdmission, EndsAdmitted}
 use Rattle.md_copy.specs.Sources.{missing_chunks}
-use Rattle.md_copy.specs.Storing.{FailsOnTarget, StopsAt}
+use Rattle.md_copy.specs.Storing.{FailsToRecordTarget, EndsAtOther}
 use Rattle.md_copy.specs.Targets.{IsTarget}
 use Rattle.md_copy.proofs.Answered.{with_set}
 use Rattle.md_copy.proofs.HeldRecorded.{out_of_sync}
@@ -110,7 +110,7 @@ module _ (target : ℕ) where
   }
 
   abbrev Spoils : List Event → Type 0
-  Spoils = EndsWith (Event.SpoilTarget target)
+  Spoils = EventsEndWith (Event.SpoilTarget target)
 
   -- ---- a write to a member that failed
   -- it is the last event
@@ -196,7 +196,7 @@ module _ (target : ℕ) where
   StopsSo k old stopped = ((c : ComesTo old stopped) × IsLastOf k c.events) ⊎ ((e : HaltsAtEnd old stopped) × IsFailureOf k e.halts.failing)
 
   -- one that is halted is left as it is
-  same_left : (copied : Bitmap) (stopped new : MirrorView) → Leaves target copied stopped new → stopped.array.halted ≡ true → new ≡ stopped
+  same_left : (copied : Bitmap) (stopped new : MirrorView) → RecordsAtEnd target copied stopped new → stopped.array.halted ≡ true → new ≡ stopped
   same_left copied stopped new left halted = elim left [
     | inl same ↦ same.1
     | inr done ↦
@@ -207,16 +207,16 @@ module _ (target : ℕ) where
   ]
 
   -- a fault that halts nothing
-  left_there : (copied : Bitmap) (old stopped new : MirrorView) → ComesTo old stopped → (left : Leaves target copied stopped new) → IsConsistent new → LeadsTo old new (TellsLeaving left)
+  left_there : (copied : Bitmap) (old stopped new : MirrorView) → ComesTo old stopped → (left : RecordsAtEnd target copied stopped new) → IsConsistent new → LeadsTo old new (TellsLeaving left)
   left_there copied old stopped new c (inl same) sound = leads_there old new (λ events. Unit {0}) tt (subst (LeadsIn (Before target) c.events old) (sym same.1) c.leads)
   left_there copied old stopped new c (inr (inl r)) sound =
-      leads_there old new (λ events. (offset : ℕ) × (listed : ℕ → Bool) × EndsWith (Event.Checkpoint target offset listed) events) (r.offset, listed_on new target, (c.events, refl))
+      leads_there old new (λ events. (offset : ℕ) × (listed : ℕ → Bool) × EventsEndWith (Event.Checkpoint target offset listed) events) (r.offset, listed_on new target, (c.events, refl))
       (both_lead (Before target) c.events (checkpoint_event r ∷ []) old stopped new c.leads (checkpoint_leads target copied stopped new c.leads.sound r sound))
   left_there copied old stopped new c (inr (inr f)) sound =
       leads_spoiled old stopped new Spoils (c.events, refl) c.leads (checkpoint_spoils target copied stopped new c.leads.sound f (c.recovers f.running f.member f.at)) sound
 
   -- a list that is not stored
-  left_member : (k : ℕ) (copied : Bitmap) (old stopped new : MirrorView) (c : ComesTo old stopped) → IsLastOf k c.events → Leaves target copied stopped new → IsConsistent new → LeadsMember k old new
+  left_member : (k : ℕ) (copied : Bitmap) (old stopped new : MirrorView) (c : ComesTo old stopped) → IsLastOf k c.events → RecordsAtEnd target copied stopped new → IsConsistent new → LeadsMember k old new
   left_member k copied old stopped new c last (inl same) sound =
       leads_member k c.events [] old new last (inl refl)
       (subst (λ (es : List Event). LeadsIn (Before target) es old new) (sym (append-nil c.events)) (subst (LeadsIn (Before target) c.events old) (sym same.1) c.leads))
@@ -226,7 +226,7 @@ module _ (target : ℕ) where
   left_member k copied old stopped new c last (inr (inr f)) sound =
       member_spoiled k c.events old stopped new last c.leads (checkpoint_spoils target copied stopped new c.leads.sound f (c.recovers f.running f.member f.at)) sound
 
-  left_leads : (k : ℕ) (copied : Bitmap) (old stopped new : MirrorView) → StopsSo k old stopped → Leaves target copied stopped new → IsConsistent new → LeadsMember k old new
+  left_leads : (k : ℕ) (copied : Bitmap) (old stopped new : MirrorView) → StopsSo k old stopped → RecordsAtEnd target copied stopped new → IsConsistent new → LeadsMember k old new
   left_leads k copied old stopped new (inl (c, last)) left sound = left_member k copied old stopped new c last left sound
   left_leads k copied old stopped new (inr (e, named)) left sound =
       subst (LeadsMember k old) (sym (same_left copied stopped new left e.halted)) (leads_halted k old e.last stopped e.leads e.halts named)
@@ -239,10 +239,10 @@ module _ (target : ℕ) where
     mid = mid;
     leads = leads_by g;
     fails = f;
-    event = left_happens target mid new g.sound f.running f.member f.at (recovers_rebuilt f.member.state recovers) f.array mid.array.shared (with_offset f.offset f.member).superblock f.readable f.disks;
+    event = left_happens target mid new g.sound f.running f.member f.at (recovers_rebuilt f.member.state recovers) f.array mid.array.shared (with_recovery_offset f.offset f.member).superblock f.readable f.disks;
   }
 
-  left_unrecorded : (copied : Bitmap) (old stopped new : MirrorView) → ComesTo old stopped ⊎ HaltsAtEnd old stopped → (left : Leaves target copied stopped new) → FailsLeaving left → LeadsUnrecorded target old new
+  left_unrecorded : (copied : Bitmap) (old stopped new : MirrorView) → ComesTo old stopped ⊎ HaltsAtEnd old stopped → (left : RecordsAtEnd target copied stopped new) → FailsLeaving left → LeadsUnrecorded target old new
   left_unrecorded copied old stopped new h (inl same) fails = absurd fails
   left_unrecorded copied old stopped new h (inr (inl r)) fails = absurd fails
   left_unrecorded copied old stopped new h (inr (inr f)) fails = elim h [
@@ -262,7 +262,7 @@ module _ (target : ℕ) where
 
   -- ---- before a pass
   -- after these events what is due was not all stored
-  stops_after : (es : List Event) (k : ℕ) (old mid new : MirrorView) → LeadsIn (Before target) es old mid → StopsAt target k mid new → ((m : MemberView) → IsMember mid.array target m → is_recovering m.state ≡ true)
+  stops_after : (es : List Event) (k : ℕ) (old mid new : MirrorView) → LeadsIn (Before target) es old mid → EndsAtOther target k mid new → ((m : MemberView) → IsMember mid.array target m → is_recovering m.state ≡ true)
       → StopsSo k old new
   stops_after es k old mid new before h recovers = elim h.ends [
     | inl lost ↦
@@ -287,7 +287,7 @@ module _ (target : ℕ) where
         )
   ]
 
-  stops : (k : ℕ) (old new : MirrorView) → StopsAt target k old new → LeadsMember k old new
+  stops : (k : ℕ) (old new : MirrorView) → EndsAtOther target k old new → LeadsMember k old new
   stops k old new h = elim h.ends [
     | inl lost ↦
         leads_member k lost.loses.goes.events [] old new (last_after k [] lost.loses.goes.events lost.last) (inl refl)
@@ -296,18 +296,18 @@ module _ (target : ℕ) where
         leads_halted k old at.mid new (storing_leads target old at.mid at.stores.goes) (record { failing = at.failing; of = storing_before target at.failing at.of; halts = at.halts }) at.named
   ]
 
-  stops_admitted : (k : ℕ) (old stopped : MirrorView) → StopsAdmitted target k old stopped → StopsSo k old stopped
+  stops_admitted : (k : ℕ) (old stopped : MirrorView) → EndsAdmitted target k old stopped → StopsSo k old stopped
   stops_admitted k old stopped h =
-      stops_after (admission_events target h.after) k old h.admitted stopped (admission_leads target old h.admitted h.after) h.stops (recovering_admitted target old h.admitted h.after)
+      stops_after (admission_events target h.after) k old h.admitted stopped (admission_leads target old h.admitted h.after) h.ends (recovering_admitted target old h.admitted h.after)
 
-  unrecorded : (old new : MirrorView) → EndsStoring target old (FailsOnTarget target old new) → LeadsTo old new (EndsWith (Event.RecordTargetFails target))
+  unrecorded : (old new : MirrorView) → EndsStoring target old (FailsToRecordTarget target old new) → LeadsTo old new (EventsEndWith (Event.RecordTargetFails target))
   unrecorded old new e =
-      let h : FailsOnTarget target old new = e.why in
+      let h : FailsToRecordTarget target old new = e.why in
       let was : (m : MemberView) → IsMember old.array target m → is_rebuilt m.state ≡ true =
-      λ m at. target_rebuilt old.array m (subst (IsTarget old.array) (same_Some e.member m (sym e.at ∙ at)) e.may.settled.has_target.target) in
+      λ m at. target_rebuilt old.array m (subst (IsTarget old.array) (same_Some e.member m (sym e.at ∙ at)) e.may.resynced_target.has_target.target) in
       let at = h.fails.may.at in
       let fails : array_target.FailsOnTarget target h.mid new = record { leaves = h.fails; rebuilt = rebuilt_still target old.array h.mid.array h.stores.ready was h.fails.member at } in
-      leads_there old new (EndsWith (Event.RecordTargetFails target)) (h.stores.goes.events, refl)
+      leads_there old new (EventsEndWith (Event.RecordTargetFails target)) (h.stores.goes.events, refl)
       (both_lead (Before target) h.stores.goes.events (Event.RecordTargetFails target ∷ []) old h.mid new (storing_leads target old h.mid h.stores.goes)
       (one_leads (Before target) (Event.RecordTargetFails target) h.mid new refl (λ previous. tt) (λ others. (refl, fails))
       (λ honest whole others in_flight. target_fails_happens target h.mid new h.stores.goes.sound fails h.fails.member at (whole h.fails.member at) honest others in_flight)
@@ -357,16 +357,16 @@ module _ (target : ℕ) where
       }
 
       -- a pass is broken off
-      then_fills : (p : PassView) (n : MemberView) (at : IsMember e.now.array target n) (new : MirrorView) → IsArrayPass e.now.array e.left p → IsFilling target n (slots_of p) e.now new → IsConsistent new → ComesTo old new
+      then_fills : (p : PassView) (n : MemberView) (at : IsMember e.now.array target n) (new : MirrorView) → IsArrayPass e.now.array e.left p → IsFilling target n (slots_of_pass p) e.now new → IsConsistent new → ComesTo old new
       then_fills p n at new is f sound = record {
         events = made ++ Event.Fill target ∷ [];
         leads = both_lead (Before target) made (Event.Fill target ∷ []) old e.now new made_leads (fill_leads target e.now e.copied e.left so_far p is n at new f sound);
         recovers = λ running x at_x. so_far.ready.recovering x (ap (λ (a : ArrayView). slice_get a.members target) (sym f.array) ∙ at_x);
       }
 
-    broken_off : (fault : RebuildFault) (new : MirrorView) (e : Between (λ left copied now. (after : Bitmap) × BreaksOff target fault left copied after now new)) → IsFilling target e.why.1.member (slots_of e.why.1.pass) e.now new
+    broken_off : (fault : RebuildFault) (new : MirrorView) (e : Between (λ left copied now. (after : Bitmap) × BreaksOffPass target fault left copied after now new)) → IsFilling target e.why.1.member (slots_of_pass e.why.1.pass) e.now new
         → ComesTo old new
-    broken_off fault new e f = then_fills (λ left copied now. (after : Bitmap) × BreaksOff target fault left copied after now new) e e.why.1.pass e.why.1.member e.why.1.at new e.why.1.is f e.why.1.sound
+    broken_off fault new e f = then_fills (λ left copied now. (after : Bitmap) × BreaksOffPass target fault left copied after now new) e e.why.1.pass e.why.1.member e.why.1.at new e.why.1.is f e.why.1.sound
 
     -- a pass is recorded
     module _ (fault : RebuildFault) (new : MirrorView) (e : Between (λ left copied now. (after : Bitmap) × FailsListing target fault left copied after now new)) where
@@ -384,12 +384,12 @@ module _ (target : ℕ) where
           both_lead (Before target) (made Fails e) (recorded_events target e.left f.pass e.copied e.why.0 e.now f.recorded f.records) old e.now f.recorded (made_leads Fails e)
           (recorded_leads target e.left f.pass e.copied e.why.0 e.now f.recorded (so_far Fails e) f.records)
 
-      recorded_goes : IsReady target f.recorded
+      recorded_goes : IsReadyToCopy target f.recorded
       recorded_goes =
           (let s = so_far Fails e in recorded_ready target e.left f.pass e.copied e.why.0 e.now f.recorded f.records s.ready s.held s.lacking)
 
     -- ---- what failed is not all listed
-    noted_comes : (fault : RebuildFault) (new : MirrorView) (e : Between (λ left copied now. (after : Bitmap) × FailsListing target fault left copied after now new)) → StopsNoting e.why.1.pass.failed e.why.1.recorded new fault
+    noted_comes : (fault : RebuildFault) (new : MirrorView) (e : Between (λ left copied now. (after : Bitmap) × FailsListing target fault left copied after now new)) → EndsNoting e.why.1.pass.failed e.why.1.recorded new fault
         → ComesTo old new
     noted_comes fault new e h = record {
       events = recorded_to fault new e ++ h.notes.goes.events;
@@ -445,9 +445,9 @@ module _ (target : ℕ) where
         }
 
     -- ---- memory was refused, a log had no room, or a member failed
-    lacks_memory : (after : Bitmap) (new : MirrorView) → LacksMemory target m none after ready new → ComesTo old new
+    lacks_memory : (after : Bitmap) (new : MirrorView) → LacksMemoryToRebuild target m none after ready new → ComesTo old new
     lacks_memory after new (inl e) = then_comes (λ left copied now. (after ≡ copied) × (new ≡ now)) e new e.why.1
-    lacks_memory after new (inr (inl e)) = broken_off NoMemory new (with_set target m none ready (λ b left copied now. BreaksOff target NoMemory left copied b now new) after e) e.why.breaks.filling
+    lacks_memory after new (inr (inl e)) = broken_off NoMemory new (with_set target m none ready (λ b left copied now. BreaksOffPass target NoMemory left copied b now new) after e) e.why.breaks.filling
     lacks_memory after new (inr (inr (inl e))) = noted_comes NoMemory new (with_set target m none ready (λ b left copied now. FailsListing target NoMemory left copied b now new) after e) e.why.fails
     lacks_memory after new (inr (inr (inr e))) = copied_comes e.passes e.copied new new e.copies refl
 
@@ -475,7 +475,7 @@ module _ (target : ℕ) where
     NotEnrolled new = EndsFilled target m none ready (λ kept orphans filled. FailsToEnrol target kept orphans filled new)
 
     abbrev TellsEnrol : {new : MirrorView} → NotEnrolled new → List Event → Type 0
-    TellsEnrol e events = (FailsAtMarks e.why × EndsWith (Event.Prepare target) events) ⊎ (FailsAtSuper e.why × EndsWith (Event.SpoilTarget target) events)
+    TellsEnrol e events = (FailsAtMarks e.why × EventsEndWith (Event.Prepare target) events) ⊎ (FailsAtSuper e.why × EventsEndWith (Event.SpoilTarget target) events)
 
     not_enrolled : (new : MirrorView) (e : NotEnrolled new) → FailsAtMarks e.why ⊎ FailsAtSuper e.why → IsConsistent new → LeadsTo old new (TellsEnrol e)
     not_enrolled new e (inl f) after =
@@ -512,11 +512,11 @@ module _ (target : ℕ) where
           tells = (refl, inr (f, (c.events ++ Event.Prepare target ∷ [], split)));
         }
 
-    loses_target : (new : MirrorView) (h : LosesTarget target m none ready new) → IsConsistent new → LeadsTo old new (TellsTarget h)
+    loses_target : (new : MirrorView) (h : LosesTarget target m none ready new) → IsConsistent new → LeadsTo old new (WritesTarget h)
     loses_target new (inl e) after =
-        let Why : List ℕ → Bitmap → MirrorView → Type 0 = λ left copied now. (after : Bitmap) × BreaksOff target TargetFault left copied after now new in
+        let Why : List ℕ → Bitmap → MirrorView → Type 0 = λ left copied now. (after : Bitmap) × BreaksOffPass target TargetFault left copied after now new in
         let f = e.why.1 in
-        leads_there old new (EndsWith (Event.Fill target)) (made Why e, refl)
+        leads_there old new (EventsEndWith (Event.Fill target)) (made Why e, refl)
         (both_lead (Before target) (made Why e) (Event.Fill target ∷ []) old e.now new (made_leads Why e)
         (fill_leads target e.now e.copied e.left (so_far Why e) f.pass f.is f.member f.at new f.breaks.filling f.sound))
     loses_target new (inr (inl e)) after = not_recorded new e after
@@ -565,7 +565,7 @@ module _ (target : ℕ) where
         | inr lacks ↦ nothing_more old new (λ events. Unit {0}) (leads_there old new (λ events. Unit {0}) tt (storing_leads target old new lacks.first.stores.goes))
       ])
   refused_leads old new sound after NoMemory (inr h) =
-      let Why : MemberView → Bitmap → MirrorView → Type 0 = λ m none ready. LacksMemory target m none h.copied ready h.stopped in
+      let Why : MemberView → Bitmap → MirrorView → Type 0 = λ m none ready. LacksMemoryToRebuild target m none h.copied ready h.stopped in
       as_told old new NoMemory (inr h)
       (left_there h.copied old h.stopped new (lacks_memory h.why.begins.now h.why.none old h.why.ready (opening old Why h.why) (opens old Why h.why) (holds old Why h.why) h.copied h.stopped h.why.why) h.leaves after)
   refused_leads old new sound after (LogFull k) h =
@@ -593,7 +593,7 @@ module _ (target : ℕ) where
       pass_unrecorded h.begins.now h.none old h.ready (opening old Why h) (opens old Why h) (holds old Why h) new h.why fails
   unrecorded_leads old new NoMemory (inl h) fails = absurd fails
   unrecorded_leads old new NoMemory (inr h) fails =
-      let Why : MemberView → Bitmap → MirrorView → Type 0 = λ m none ready. LacksMemory target m none h.copied ready h.stopped in
+      let Why : MemberView → Bitmap → MirrorView → Type 0 = λ m none ready. LacksMemoryToRebuild target m none h.copied ready h.stopped in
       left_unrecorded h.copied old h.stopped new
       (inl (lacks_memory h.why.begins.now h.why.none old h.why.ready (opening old Why h.why) (opens old Why h.why) (holds old Why h.why) h.copied h.stopped h.why.why)) h.leaves fails
   unrecorded_leads old new (LogFull k) h fails =

@@ -14,10 +14,10 @@ use Rattle.md_badblocks.specs.Runs.{IsBad}
 use Rattle.md_bitmap.specs.Marks.{Bitmap, is_set}
 use Rattle.md_bitmap.specs.declared.chunks.Chunks.{Chunks}
 use Rattle.md_cert.specs.declared.slots.Slot.{Slot}
-use Rattle.md_collect.specs.Reading.{Fails}
+use Rattle.md_collect.specs.Reading.{CountsFailure}
 use Rattle.md_device.specs.Splice.{part}
 use Rattle.md_kept_members.specs.Enrolling.{HasRoomFor, IsListAfter, IsListWith}
-use Rattle.md_kept_members.specs.TakingBack.{admitted_member, with_offset}
+use Rattle.md_kept_members.specs.TakingBack.{admitted_member, with_recovery_offset}
 use Rattle.md_kept_members.specs.View.{MemberView}
 use Rattle.md_model.specs.Rebuilding.{lacks}
 use Rattle.md_pass.specs.Beside.{has_chunk}
@@ -25,7 +25,7 @@ use Rattle.md_pass.specs.Copied.{AreJoined}
 use Rattle.md_passes.proofs.ArrayPasses.{copies_add, passes_go_on}
 use Rattle.md_passes.proofs.Listing.{lists_add}
 use Rattle.md_passes.specs.Listed.{AreCopiedBy, IsArrayPass, IsOfFailed, ListsFailed, MayServe, ServesAs, most_failures}
-use Rattle.md_passes.specs.Passes.{Copies, PassView, ServesAtMost, failed_chunks, slots_of}
+use Rattle.md_passes.specs.Passes.{PassCopies, PassView, ServesAtMost, failed_chunks, slots_of_pass}
 use Rattle.md_state.specs.DiskWrites.{AtDevice}
 use Rattle.md_state.specs.Enrolling.{HasFullLog}
 use Rattle.md_state.specs.Members.{IsInSync, IsMember}
@@ -38,14 +38,14 @@ use Rattle.md_metadata.specs.Storing.{IsStoring, Stores}
 use Rattle.md_copy.specs.declared.fault.RebuildFault.{RebuildFault}
 use Rattle.md_copy.specs.declared.fault.RebuildFault.TheVariants.{Halted, NotSpare, Dirty, InFlight, LogFull, NoMemory, TargetFault, MetadataFault, EventsFull}
 use Rattle.md_copy.specs.Filling.{IsFilling}
-use Rattle.md_copy.specs.Leaving.{HasNone, Leaves}
-use Rattle.md_copy.specs.Listing.{HasFailed, ListsAll, NotesLists, StopsAtList}
-use Rattle.md_copy.specs.Preparing.{IsWithin, is_in, uncopied_chunks}
-use Rattle.md_copy.specs.Passing.{AreListedPasses, BreaksOff, CopiesAll, EndsBetween, FailsListing, RecordsPass}
+use Rattle.md_copy.specs.Leaving.{HasNone, RecordsAtEnd}
+use Rattle.md_copy.specs.Listing.{HasFailedSlot, ListsAll, NotesLists, EndsAtList}
+use Rattle.md_copy.specs.Preparing.{IsSubset, is_in, uncopied_chunks}
+use Rattle.md_copy.specs.Passing.{AreListedPasses, BreaksOffPass, CopiesAll, EndsBetween, FailsListing, RecordsPass}
 use Rattle.md_copy.specs.Enrolled.{LacksOwnRoom}
-use Rattle.md_copy.specs.Rebuilding.{Begins, EndsFilled, LacksMemory, LacksRoom, LosesTarget, RefusesAtOnce, RefusesRebuild}
+use Rattle.md_copy.specs.Rebuilding.{BeginsRebuild, EndsFilled, LacksMemoryToRebuild, LacksRoom, LosesTarget, RefusesAtOnce, RefusesRebuild}
 use Rattle.md_copy.specs.Rebuilt.{failed_of}
-use Rattle.md_copy.specs.Refused.{AreListed, Ending, EndsSo, HasCopied, HasEnded, HasHalted, HasMade, IsAdmitted, IsAsBefore, IsLost, IsRebuiltSoFar, IsKnown, IsRebuiltTo, KeepsDataBut, LacksOwnRoomFor, LacksRoomFor, ListsStand, ListsStandWithin, NotesSome, offset_of}
+use Rattle.md_copy.specs.Refused.{AreListed, Ending, EndsSo, HasCopiedBy, HasEnded, HasHalted, HasMade, IsAdmitted, IsAsBefore, IsLost, IsRebuiltSoFar, IsListedOrFailed, IsRebuiltTo, KeepsDataBut, LacksOwnRoomFor, LacksRoomFor, ListsStand, ListsStandWithin, NotesSome, rebuilt_offset}
 use Rattle.md_copy.specs.Sources.{missing_chunks}
 use Rattle.md_copy.proofs.BegunAs.{permits_both, same_missing, serves_both, serves_most}
 use Rattle.md_copy.proofs.Halting.{data_but}
@@ -76,7 +76,7 @@ role_in_sync Faulty role is = absurd cc
 
 -- ---- one pass
 pub preserves_filled : (target : ℕ) (v : MirrorView) (copied : Bitmap) (chunks : List ℕ) → HoldsSoFar target v copied chunks → (p : PassView) → IsArrayPass v.array chunks p → (m : MemberView) → IsMember v.array target m
-    → (w : MirrorView) → IsFilling target m (slots_of p) v w → Preserves target v w
+    → (w : MirrorView) → IsFilling target m (slots_of_pass p) v w → Preserves target v w
 preserves_filled target v copied chunks so p is m at w f =
     preserves_same target v w f.array f.as_many
     (λ j d e l other at_d at_e at_l i n from to. ap (λ xs. part xs i n) (f.others j d e other at_d at_e).content_kept)
@@ -217,10 +217,10 @@ module _ (target : ℕ) (old : MirrorView) (sound : IsConsistent old) (m : Membe
       (preserves_on target old v h.1 pre (listed_preserves target chunks p before h.0 v x one.records so p.failed h.1 one.lists))
       (listed_to x h.1 h.0 p.failed may.recovering one.lists (pass_to chunks p before h.0 v x one.records so pre to))
 
-offset_is_own : (m : MemberView) → is_recovering m.state ≡ true → offset_of m ≡ m.superblock.recovery_offset
+offset_is_own : (m : MemberView) → is_recovering m.state ≡ true → rebuilt_offset m ≡ m.superblock.recovery_offset
 offset_is_own m is = ap (λ b. cond b m.superblock.recovery_offset 0) is
 
-offset_is_none : (m : MemberView) → is_recovering m.state ≡ false → offset_of m ≡ 0
+offset_is_none : (m : MemberView) → is_recovering m.state ≡ false → rebuilt_offset m ≡ 0
 offset_is_none m is = ap (λ b. cond b m.superblock.recovery_offset 0) is
 
 spare_lacks : (s : MemberState) (marked passed : Bool) → is_spare s ≡ true → lacks (is_in_sync s) (is_recovering s) marked passed ≡ true
@@ -231,10 +231,10 @@ spare_lacks Spare marked passed is = refl
 spare_lacks Faulty marked passed is = absurd cc
 
 -- where a rebuild begins, nothing is done of a spare, and of a recovering target what was
-begun_to : (target : ℕ) (old v : MirrorView) (none : Bitmap) (b : Begins target old v none) → RebuiltTo target old.array b.member v none
+begun_to : (target : ℕ) (old v : MirrorView) (none : Bitmap) (b : BeginsRebuild target old v none) → RebuiltTo target old.array b.member v none
 begun_to target old v none b n there = subst (λ o. IsRebuiltTo old.array b.member none o) (sym offset_is) (begins_to target old b.sound b.member b.at none b.is_none.bits lacks)
   where
-    offset_is : n.superblock.recovery_offset ≡ offset_of b.member
+    offset_is : n.superblock.recovery_offset ≡ rebuilt_offset b.member
     offset_is = elim b.first [
       | inl stored ↦ (still_stored target old v stored.1.stores b.member n b.at there).1 ∙ sym (offset_is_own b.member stored.0)
       | inr admitted ↦
@@ -335,7 +335,7 @@ own_with target s old new h = record {
 }
 
 -- the list of a member is that of one with another offset
-list_with : (q : Chunks) (offset : ℕ) (m : MemberView) (kept orphans : Bitmap) (list : List Run) → IsListAfter q m kept orphans list → IsListAfter q (record (with_offset offset m) { due = false }) kept orphans list
+list_with : (q : Chunks) (offset : ℕ) (m : MemberView) (kept orphans : Bitmap) (list : List Run) → IsListAfter q m kept orphans list → IsListAfter q (record (with_recovery_offset offset m) { due = false }) kept orphans list
 list_with q offset m kept orphans list h = record { canonical = h.canonical; bad = h.bad }
 
 -- one of these, and others
@@ -354,7 +354,7 @@ any_right P (x ∷ xs) ys one =
     let within = r.2 in
     (suc r.0, r.1, omega (arith, within), r.3, r.4)
 
-has_same : (s : Ending) → HasCopied s → HasCopied (with_copied s.copied s)
+has_same : (s : Ending) → HasCopiedBy s → HasCopiedBy (with_copied s.copied s)
 has_same s h = record { listed = h.listed; only = h.only }
 
 both_true : (a b : Bool) → (a && b) ≡ true → b ≡ true
@@ -378,21 +378,21 @@ pub record EndsAt (target : ℕ) (s : Ending) (old v : MirrorView) : Type 0 wher
 
 -- a write to a device failed after that
 fails_after : (target k : ℕ) (listed failed : List Slot) (old mid new : MirrorView) → Preserves target old mid → GrowsSo target listed failed old mid
-    → AtDevice k mid.disks new.disks (λ d e. d.honest ≡ true → d.failures < e.failures) → AtDevice k old.disks new.disks (Fails of_disks)
+    → AtDevice k mid.disks new.disks (λ d e. d.honest ≡ true → d.failures < e.failures) → AtDevice k old.disks new.disks (CountsFailure of_disks)
 fails_after target k listed failed old mid new pre g fails d f at_d at_f honest =
     let e = pre.disk_then k d at_d in
     let first = g.rises k d e.0 at_d e.1 in
     let less = fails e.0 f e.1 at_f (g.honest k d e.0 at_d e.1 ∙ honest) in
     omega (arith, first, less)
 
-fails_rest : (target k : ℕ) (old mid new : MirrorView) → KeepsRest target old mid → AtDevice k mid.disks new.disks (λ d e. d.honest ≡ true → d.failures < e.failures) → AtDevice k old.disks new.disks (Fails of_disks)
+fails_rest : (target k : ℕ) (old mid new : MirrorView) → KeepsRest target old mid → AtDevice k mid.disks new.disks (λ d e. d.honest ≡ true → d.failures < e.failures) → AtDevice k old.disks new.disks (CountsFailure of_disks)
 fails_rest target k old mid new rest fails d f at_d at_f honest =
     let e = rest.disk_then k d at_d in
     let first = rest.counted k d e.0 at_d e.1 in
     let less = fails e.0 f e.1 at_f (rest.honest k d e.0 at_d e.1 ∙ honest) in
     omega (arith, first, less)
 
-module _ (target : ℕ) (old ready : MirrorView) (none : Bitmap) (b : Begins target old ready none) where
+module _ (target : ℕ) (old ready : MirrorView) (none : Bitmap) (b : BeginsRebuild target old ready none) where
   starts : StartsAs target old ready
   starts = starts_of target old ready none b
 
@@ -445,7 +445,7 @@ module _ (target : ℕ) (old ready : MirrorView) (none : Bitmap) (b : Begins tar
       let stand : ListsStand target fs old.array filled =
       λ k m n e other at has at_n in_sync at_e honest.
       (let own = of_state fs m.state n.state (sym (grown.states k m n other at at_n)) has in
-      listed_exact (IsKnown old.array fs m) n e.content
+      listed_exact (IsListedOrFailed old.array fs m) n e.content
       (list_on n e (lists_all target k other b.now passes none copied ready filled h n at_n own n e at_n at_e in_sync honest))
       (grown.lists k m n other at at_n)) in
       record {
@@ -456,7 +456,7 @@ module _ (target : ℕ) (old ready : MirrorView) (none : Bitmap) (b : Begins tar
         grows = grows_as target fs (failed_of h.listed ++ []) fs (failed_of (h.listed ++ h.last ∷ [])) old filled (append-nil (failed_of h.listed) ∙ sym is) (ap failed_of (sym h.passes_are)) grown;
         sound = h.records.sound;
         running = may.goes.idle.running;
-        resynced = may.goes.resynced ∙ sym b.may.settled.resynced;
+        resynced = may.goes.resynced ∙ sym b.may.resynced_target.resynced;
         recovers = may.recovering;
         stand = subst (λ xs. ListsStand target xs old.array filled) is stand;
         to = pass_to target old b.sound b.member b.at h.left h.last h.mid copied h.now filled h.records then
@@ -487,8 +487,8 @@ module _ (target : ℕ) (old ready : MirrorView) (none : Bitmap) (b : Begins tar
     stand_now : ListsStand target fs old.array e.now
     stand_now k m n d other at has at_n in_sync at_d honest =
         let own = of_state fs m.state n.state (sym (grown.states k m n other at at_n)) has in
-        let none_yet : (z : MemberView) → IsMember ready.array k z → HasFailed [] z → AtInSync IsRecordedOn k ready = λ z at_z failed. (let low = failed.2 in absurd (omega (arith, low))) in
-        listed_exact (IsKnown old.array fs m) n d.content
+        let none_yet : (z : MemberView) → IsMember ready.array k z → HasFailedSlot [] z → AtInSync IsRecordedOn k ready = λ z at_z failed. (let low = failed.2 in absurd (omega (arith, low))) in
+        listed_exact (IsListedOrFailed old.array fs m) n d.content
         (list_on n d (lists_chain target k other e.passes [] chunks e.left none e.copied ready e.now e.passed none_yet n at_n own n d at_n at_d in_sync honest))
         (grown.lists k m n other at at_n)
 
@@ -506,14 +506,14 @@ module _ (target : ℕ) (old ready : MirrorView) (none : Bitmap) (b : Begins tar
       grows = grows_as target fs (fs ++ []) fs (failed_of (e.passes ++ [])) old e.now (append-nil fs) (ap failed_of (append-nil e.passes)) grown;
       sound = so_far.ready.sound;
       running = so_far.ready.goes.idle.running;
-      resynced = so_far.ready.goes.resynced ∙ sym b.may.settled.resynced;
+      resynced = so_far.ready.goes.resynced ∙ sym b.may.resynced_target.resynced;
       recovers = so_far.ready.recovering;
       stand = stand_now;
       to = to_now;
     }
 
     -- one more was begun
-    ends_filled : (p : PassView) → IsArrayPass e.now.array e.left p → (m : MemberView) → IsMember e.now.array target m → (w : MirrorView) → IsFilling target m (slots_of p) e.now w → IsConsistent w
+    ends_filled : (p : PassView) → IsArrayPass e.now.array e.left p → (m : MemberView) → IsMember e.now.array target m → (w : MirrorView) → IsFilling target m (slots_of_pass p) e.now w → IsConsistent w
         → EndsAt target (ended e.passes (bare p ∷ []) [] e.copied) old w
     ends_filled p is m at w f sound = record {
       at = b.at;
@@ -523,12 +523,12 @@ module _ (target : ℕ) (old ready : MirrorView) (none : Bitmap) (b : Begins tar
           (grows_rest target fs fs old e.now w there.then there.disk_then grown
           (λ k x y at_x at_y. ap (λ (z : MemberView). z.bad) (same_Some y x (sym at_y ∙ ap (λ (a : ArrayView). slice_get a.members k) f.array ∙ at_x)))
           (λ k x y at_x at_y. ap (λ (z : MemberView). z.state) (same_Some y x (sym at_y ∙ ap (λ (a : ArrayView). slice_get a.members k) f.array ∙ at_x)))
-          (filled_counted target m (slots_of p) e.now w f));
+          (filled_counted target m (slots_of_pass p) e.now w f));
       sound = sound;
       running = ap (λ (a : ArrayView). a.halted) f.array ∙ so_far.ready.goes.idle.running;
-      resynced = ap (λ (a : ArrayView). a.resynced) f.array ∙ so_far.ready.goes.resynced ∙ sym b.may.settled.resynced;
+      resynced = ap (λ (a : ArrayView). a.resynced) f.array ∙ so_far.ready.goes.resynced ∙ sym b.may.resynced_target.resynced;
       recovers = λ n at_n. so_far.ready.recovering n (ap (λ (a : ArrayView). slice_get a.members target) (sym f.array) ∙ at_n);
-      stand = stand_filled target fs old.array m (slots_of p) e.now w f stand_now;
+      stand = stand_filled target fs old.array m (slots_of_pass p) e.now w f stand_now;
       to = array_to target old b.sound b.member b.at e.now w e.copied f.array to_now;
     }
 
@@ -551,11 +551,11 @@ module _ (target : ℕ) (old ready : MirrorView) (none : Bitmap) (b : Begins tar
               (grows_from target old ready starts (states_begun target old ready none b) ((fs ++ []) ++ taken) ((fs ++ p.failed) ++ []) none after z all);
           sound = notes.goes.sound;
           running = may.goes.idle.running;
-          resynced = may.goes.resynced ∙ sym b.may.settled.resynced;
+          resynced = may.goes.resynced ∙ sym b.may.resynced_target.resynced;
           recovers = may.recovering;
           stand = stand_noted target fs old.array taken x z notes
               (stand_recorded target fs old.array after records.filled x records.makes.sound records.checkpoints
-              (stand_filled target fs old.array records.makes.member (slots_of p) e.now records.filled records.makes.copies.filling stand_now));
+              (stand_filled target fs old.array records.makes.member (slots_of_pass p) e.now records.filled records.makes.copies.filling stand_now));
           to = noted_to target old b.sound b.member b.at x z after taken may_x.recovering notes
               (pass_to target old b.sound b.member b.at e.left p e.copied after e.now x records so_far there to_now);
         }
@@ -565,45 +565,45 @@ module _ (target : ℕ) (old ready : MirrorView) (none : Bitmap) (b : Begins tar
     by_more after p x records = copies_add.more e.passes p e.copied after by_now records.makes.copies.joined records.makes.failed records.makes.uncopied
 
     -- one more was broken off
-    has_more : (noted : List Slot) (p : PassView) (after : Bitmap) → AreJoined (slots_of p) e.copied after → HasCopied (ended e.passes (bare p ∷ []) noted after)
+    has_more : (noted : List Slot) (p : PassView) (after : Bitmap) → AreJoined (slots_of_pass p) e.copied after → HasCopiedBy (ended e.passes (bare p ∷ []) noted after)
     has_more noted p after joined = record {
       listed = λ c copies. joined.kept c ((by_now c).1 copies);
-      only = λ c set. elim (cases_Bool (has_chunk (slots_of p) c)) [
-        | inr none ↦ any_left (Copies c) e.passes (bare p ∷ []) ((by_now c).0 (sym (joined.planned c none) ∙ set))
+      only = λ c set. elim (cases_Bool (has_chunk (slots_of_pass p) c)) [
+        | inr none ↦ any_left (PassCopies c) e.passes (bare p ∷ []) ((by_now c).0 (sym (joined.planned c none) ∙ set))
         | inl planned ↦
-            let hit = Any-from_list_any (λ (slot : Slot). slot.chunk == c) (slots_of p) planned in
-            any_right (Copies c) e.passes (bare p ∷ [])
+            let hit = Any-from_list_any (λ (slot : Slot). slot.chunk == c) (slots_of_pass p) planned in
+            any_right (PassCopies c) e.passes (bare p ∷ [])
             (zero, bare p, omega arith, refl, (hit.0, hit.1, hit.2, hit.3, (eqb-true hit.1.chunk c hit.4, λ fails. (let low = fails.1 in absurd (omega (arith, low))))))
       ];
     }
 
     -- or it was made
-    has_all : (p : PassView) (noted : List Slot) (after : Bitmap) → AreJoined (slots_of p) e.copied after → AreCopiedBy (e.passes ++ p ∷ []) after → HasCopied (ended e.passes (p ∷ []) noted after)
+    has_all : (p : PassView) (noted : List Slot) (after : Bitmap) → AreJoined (slots_of_pass p) e.copied after → AreCopiedBy (e.passes ++ p ∷ []) after → HasCopiedBy (ended e.passes (p ∷ []) noted after)
     has_all p noted after joined by = record { listed = λ c copies. joined.kept c ((by_now c).1 copies); only = λ c set. (by c).0 set }
 
-    has_now : (last : List PassView) (noted : List Slot) → HasCopied (ended e.passes last noted e.copied)
-    has_now last noted = record { listed = λ c copies. (by_now c).1 copies; only = λ c set. any_left (Copies c) e.passes last ((by_now c).0 set) }
+    has_now : (last : List PassView) (noted : List Slot) → HasCopiedBy (ended e.passes last noted e.copied)
+    has_now last noted = record { listed = λ c copies. (by_now c).1 copies; only = λ c set. any_left (PassCopies c) e.passes last ((by_now c).0 set) }
 
   -- ---- why it ended
   -- of what was copied this is left to be recorded: more than was recorded, or no more
   abbrev IsLeft : Ending → Bitmap → MirrorView → Type 0
   IsLeft s after stopped =
-      (IsWithin s.copied after × HasCopied (with_copied after s) × (s.copied.chunks ≡ old.array.marks.chunks))
-      ⊎ (after.chunks ≡ stopped.array.marks.chunks → IsWithin after s.copied)
+      (IsSubset s.copied after × HasCopiedBy (with_copied after s) × (s.copied.chunks ≡ old.array.marks.chunks))
+      ⊎ (after.chunks ≡ stopped.array.marks.chunks → IsSubset after s.copied)
 
   -- memory was refused
   record LacksSo (after : Bitmap) (stopped : MirrorView) : Type 0 where
     s : Ending
     ends : EndsAt target s old stopped
     noted : (s.noted ≡ []) ⊎ NotesSome s (λ next. Unit {0})
-    has : HasCopied s
+    has : HasCopiedBy s
     left : IsLeft s after stopped
 
   -- all passes, as passes that were listed and one more
   between_all : (passes : List PassView) (copied : Bitmap) (filled : MirrorView) → CopiesAll target b.now passes none copied ready filled → EndsBetween target b.now none ready (λ left mid now. Unit {0})
   between_all passes copied filled h = record { passes = h.listed; left = h.left; copied = h.mid; now = h.now; passed = h.passed; why = tt }
 
-  lacks_memory : (after : Bitmap) (stopped : MirrorView) → LacksMemory target b.now none after ready stopped → LacksSo after stopped
+  lacks_memory : (after : Bitmap) (stopped : MirrorView) → LacksMemoryToRebuild target b.now none after ready stopped → LacksSo after stopped
   unfolding between_all
   lacks_memory after stopped (inl e) =
       let Why : List ℕ → Bitmap → MirrorView → Type 0 = λ left copied now. (after ≡ copied) × (stopped ≡ now) in
@@ -615,7 +615,7 @@ module _ (target : ℕ) (old ready : MirrorView) (none : Bitmap) (b : Begins tar
         left = inr (λ many c low set. subst (λ (b : Bitmap). is_set b.bytes c ≡ true) e.why.0 set);
       }
   lacks_memory after stopped (inr (inl e)) =
-      let Why : List ℕ → Bitmap → MirrorView → Type 0 = λ left copied now. BreaksOff target NoMemory left copied after now stopped in
+      let Why : List ℕ → Bitmap → MirrorView → Type 0 = λ left copied now. BreaksOffPass target NoMemory left copied after now stopped in
       let p = bare e.why.pass in
       record {
         s = ended e.passes (p ∷ []) [] e.copied;
@@ -653,7 +653,7 @@ module _ (target : ℕ) (old ready : MirrorView) (none : Bitmap) (b : Begins tar
     ends : EndsAt target s old stopped
     noted : NoRoom k stopped.array s
     by : AreCopiedBy (s.listed ++ s.last) s.copied
-    left : after.chunks ≡ stopped.array.marks.chunks → IsWithin after s.copied
+    left : after.chunks ≡ stopped.array.marks.chunks → IsSubset after s.copied
 
   -- all passes are made, and the log of the target has no room
   own_full : (after : Bitmap) (stopped : MirrorView) → (e : EndsFilled target b.now none ready (λ kept orphans filled. LacksOwnRoom target kept orphans after filled stopped))
@@ -714,7 +714,7 @@ module _ (target : ℕ) (old ready : MirrorView) (none : Bitmap) (b : Begins tar
 
   -- ---- as it is told
   -- how far it is rebuilt is recorded, where the mirror runs
-  running_left : (copied : Bitmap) (stopped new : MirrorView) → stopped.array.halted ≡ false → Leaves target copied stopped new → new.array.halted ≡ false
+  running_left : (copied : Bitmap) (stopped new : MirrorView) → stopped.array.halted ≡ false → RecordsAtEnd target copied stopped new → new.array.halted ≡ false
   running_left copied stopped new runs (inl same) = absurd (both_ways stopped.array.halted runs same.0)
   running_left copied stopped new runs (inr (inl r)) = ap (λ (a : ArrayView). a.halted) r.array ∙ runs
   running_left copied stopped new runs (inr (inr f)) = ap (λ (a : ArrayView). a.halted) f.array ∙ runs
@@ -724,7 +724,7 @@ module _ (target : ℕ) (old ready : MirrorView) (none : Bitmap) (b : Begins tar
   recovers_left stopped new recovers rest before n at = (let m = before n at in elim (rest.own m.0 n m.1 at).state [ inl same ↦ ap is_recovering same ∙ recovers m.0 m.1 | inr now ↦ now.1 ])
 
   -- and the members beside the target, and the chunks
-  left_still : (copied : Bitmap) (stopped new : MirrorView) → (stopped.array.halted ≡ false → IsConsistent stopped) → Leaves target copied stopped new
+  left_still : (copied : Bitmap) (stopped new : MirrorView) → (stopped.array.halted ≡ false → IsConsistent stopped) → RecordsAtEnd target copied stopped new
       → ((j : ℕ) → j ≢ target → slice_get new.array.members j ≡ slice_get stopped.array.members j) × (new.array.chunks ≡ stopped.array.chunks) × (length new.array.members ≡ length stopped.array.members)
   left_still copied stopped new sound (inl same) =
       let is = ap (λ (v : MirrorView). v.array) same.1 in
@@ -735,17 +735,17 @@ module _ (target : ℕ) (old ready : MirrorView) (none : Bitmap) (b : Begins tar
       (λ j other. ap (λ (a : ArrayView). slice_get a.members j) f.array, ap (λ (a : ArrayView). a.chunks) f.array, ap (λ (a : ArrayView). length a.members) f.array)
 
   -- and the marks
-  left_array : (copied : Bitmap) (stopped new : MirrorView) → Leaves target copied stopped new → (new.array.marks ≡ stopped.array.marks) × (new.array.resynced ≡ stopped.array.resynced)
+  left_array : (copied : Bitmap) (stopped new : MirrorView) → RecordsAtEnd target copied stopped new → (new.array.marks ≡ stopped.array.marks) × (new.array.resynced ≡ stopped.array.resynced)
   left_array copied stopped new (inl same) = (ap (λ (v : MirrorView). v.array.marks) same.1, ap (λ (v : MirrorView). v.array.resynced) same.1)
   left_array copied stopped new (inr (inl r)) = (ap (λ (a : ArrayView). a.marks) r.array, ap (λ (a : ArrayView). a.resynced) r.array)
   left_array copied stopped new (inr (inr f)) = (ap (λ (a : ArrayView). a.marks) f.array, ap (λ (a : ArrayView). a.resynced) f.array)
 
-  target_before : (copied : Bitmap) (stopped new : MirrorView) → (stopped.array.halted ≡ false → IsConsistent stopped) → Leaves target copied stopped new
+  target_before : (copied : Bitmap) (stopped new : MirrorView) → (stopped.array.halted ≡ false → IsConsistent stopped) → RecordsAtEnd target copied stopped new
       → (n : MemberView) → IsMember new.array target n → (m : MemberView) × IsMember stopped.array target m
   target_before copied stopped new sound leaves n at =
       (let low = slice_get_within new.array.members target n at in let many = (left_still copied stopped new sound leaves).2 in got_within stopped.array.members target (omega (arith, low, many)))
 
-  module _ (fault : RebuildFault) (s : Ending) (copied : Bitmap) (stopped new : MirrorView) (z : EndsAt target s old stopped) (leaves : Leaves target copied stopped new) where
+  module _ (fault : RebuildFault) (s : Ending) (copied : Bitmap) (stopped new : MirrorView) (z : EndsAt target s old stopped) (leaves : RecordsAtEnd target copied stopped new) where
     rest_then : KeepsRest target stopped new
     rest_then = rest_left target copied stopped new (λ running. z.sound) leaves
 
@@ -769,23 +769,23 @@ module _ (target : ℕ) (old ready : MirrorView) (none : Bitmap) (b : Begins tar
         }
 
     -- how far it is rebuilt: as far as it was, or by what was copied since
-    left_to : (stopped.array.marks.chunks ≡ copied.chunks → IsWithin copied s.copied) → RebuiltTo target old.array s.member new s.copied
+    left_to : (stopped.array.marks.chunks ≡ copied.chunks → IsSubset copied s.copied) → RebuiltTo target old.array s.member new s.copied
     left_to within = by leaves
       where
-        by : Leaves target copied stopped new → RebuiltTo target old.array s.member new s.copied
+        by : RecordsAtEnd target copied stopped new → RebuiltTo target old.array s.member new s.copied
         by (inl same) = subst (λ (v : MirrorView). RebuiltTo target old.array s.member v s.copied) (sym same.1) z.to
         by (inr (inl r)) = kept_to target old b.sound s.member z.at stopped new z.sound z.pre s.copied copied r z.to (within (sym r.may.copied_chunks))
         by (inr (inr f)) = array_to target old b.sound s.member z.at stopped new s.copied f.array z.to
 
-    more_to : IsWithin s.copied copied → s.copied.chunks ≡ old.array.marks.chunks → HasCopied s → HasCopied (with_copied copied s) → (c : Bitmap) × RebuiltTo target old.array s.member new c × HasCopied (with_copied c s)
+    more_to : IsSubset s.copied copied → s.copied.chunks ≡ old.array.marks.chunks → HasCopiedBy s → HasCopiedBy (with_copied copied s) → (c : Bitmap) × RebuiltTo target old.array s.member new c × HasCopiedBy (with_copied c s)
     more_to within chunks has more = by leaves
       where
-        by : Leaves target copied stopped new → (c : Bitmap) × RebuiltTo target old.array s.member new c × HasCopied (with_copied c s)
+        by : RecordsAtEnd target copied stopped new → (c : Bitmap) × RebuiltTo target old.array s.member new c × HasCopiedBy (with_copied c s)
         by (inl same) = (s.copied, subst (λ (v : MirrorView). RebuiltTo target old.array s.member v s.copied) (sym same.1) z.to, has_same s has)
         by (inr (inl r)) = (copied, grown_to target old b.sound s.member z.at stopped new z.sound z.pre s.copied copied r z.to chunks within, more)
         by (inr (inr f)) = (s.copied, array_to target old b.sound s.member z.at stopped new s.copied f.array z.to, has_same s has)
 
-    memory_to : HasCopied s → IsLeft s copied stopped → (c : Bitmap) × RebuiltTo target old.array s.member new c × HasCopied (with_copied c s)
+    memory_to : HasCopiedBy s → IsLeft s copied stopped → (c : Bitmap) × RebuiltTo target old.array s.member new c × HasCopiedBy (with_copied c s)
     memory_to has (inl more) = more_to more.0 more.2 has more.1
     memory_to has (inr less) = (s.copied, left_to (λ many. less (sym many)), has_same s has)
 
@@ -796,7 +796,7 @@ module _ (target : ℕ) (old ready : MirrorView) (none : Bitmap) (b : Begins tar
     full_then : (kept orphans : Bitmap) → HasFullLog target kept orphans stopped.array → HasFullLog target kept orphans new.array
     full_then kept orphans full = by leaves
       where
-        by : Leaves target copied stopped new → HasFullLog target kept orphans new.array
+        by : RecordsAtEnd target copied stopped new → HasFullLog target kept orphans new.array
         by (inl same) = subst (λ (v : MirrorView). HasFullLog target kept orphans v.array) (sym same.1) full
         by (inr (inr f)) = subst (HasFullLog target kept orphans) (sym f.array) full
         by (inr (inl r)) =
@@ -807,7 +807,7 @@ module _ (target : ℕ) (old ready : MirrorView) (none : Bitmap) (b : Begins tar
               at = n.1;
               list = full.list;
               list_is = subst (λ (l : MemberView). IsListAfter new.array.chunks l kept orphans full.list) (sym is)
-                  (subst (λ (q : Chunks). IsListAfter q (record (with_offset r.offset full.member) { due = false }) kept orphans full.list) (sym (ap (λ (a : ArrayView). a.chunks) r.array))
+                  (subst (λ (q : Chunks). IsListAfter q (record (with_recovery_offset r.offset full.member) { due = false }) kept orphans full.list) (sym (ap (λ (a : ArrayView). a.chunks) r.array))
                   (list_with stopped.array.chunks r.offset full.member kept orphans full.list full.list_is));
               full = subst (λ (l : MemberView). HasRoomFor l.superblock full.list → ⊥) (sym is) full.full;
             }
@@ -856,14 +856,14 @@ module _ (target : ℕ) (old ready : MirrorView) (none : Bitmap) (b : Begins tar
 
   -- a list could not be stored
   module _ (k : ℕ) (copied : Bitmap) (stopped new : MirrorView) (e : EndsBetween target b.now none ready (λ left copied now. (after : Bitmap) × FailsListing target (MetadataFault k) left copied after now stopped))
-      (leaves : Leaves target copied stopped new) (nothing : HasNone copied) where
+      (leaves : RecordsAtEnd target copied stopped new) (nothing : HasNone copied) where
     abbrev f : FailsListing target (MetadataFault k) e.left e.copied e.why.0 e.now stopped
     f = e.why.1
 
     abbrev noted : MirrorView
     noted = f.fails.0
 
-    abbrev stops : StopsAtList f.pass.failed k noted stopped
+    abbrev stops : EndsAtList f.pass.failed k noted stopped
     stops = f.fails.2
 
     abbrev s : Ending
@@ -957,7 +957,7 @@ module _ (target : ℕ) (old ready : MirrorView) (none : Bitmap) (b : Begins tar
             let same = (stops.members target m n at_m at_n).0.out (out_of_sync m.state (z_noted.recovers m at_m)) in
             sym (list_missing target k f.pass.failed noted stopped stops n c ∙ ap (λ (x : MemberView). is_missing noted.array x c) same) ∙ is))
 
-        by : Leaves target copied stopped new → RebuiltTo target old.array b.member new e.why.0
+        by : RecordsAtEnd target copied stopped new → RebuiltTo target old.array b.member new e.why.0
         by (inl same) = subst (λ (v : MirrorView). RebuiltTo target old.array b.member v e.why.0) (sym same.1) to_stopped
         by (inr (inl r)) =
             kept_to target old b.sound b.member b.at stopped new (sound_lost r.may.idle.running) pre_stopped e.why.0 copied r to_stopped
@@ -1132,20 +1132,20 @@ module _ (target : ℕ) where
   refused_ended old new sound Halted h = ended_at_once Halted old new h (λ now. record { unchanged = h.unchanged; halted_is = h.cannot })
   refused_ended old new sound NotSpare h = ended_at_once NotSpare old new h (λ now. record { unchanged = h.unchanged; halted_is = h.cannot.running })
   refused_ended old new sound Dirty h = ended_at_once Dirty old new h (λ now. record { unchanged = h.unchanged; halted_is = h.cannot.has_target.running })
-  refused_ended old new sound (InFlight number) h = ended_at_once (InFlight number) old new h (λ now. record { unchanged = h.unchanged; halted_is = h.cannot.settled.has_target.running })
-  refused_ended old new sound EventsFull h = ended_at_once EventsFull old new h (λ now. record { unchanged = h.unchanged; halted_is = h.cannot.settled.has_target.running })
+  refused_ended old new sound (InFlight number) h = ended_at_once (InFlight number) old new h (λ now. record { unchanged = h.unchanged; halted_is = h.cannot.resynced_target.has_target.running })
+  refused_ended old new sound EventsFull h = ended_at_once EventsFull old new h (λ now. record { unchanged = h.unchanged; halted_is = h.cannot.resynced_target.has_target.running })
   refused_ended old new sound (MetadataFault k) (inl h) =
-      (let st = stops_so target k old new h.may.settled.has_target.running h.why in
+      (let st = stops_so target k old new h.may.resynced_target.has_target.running h.why in
       ended_before old old new k h.member h.at (preserves_none target old) (grows_none target old) refl st h.why.other (λ now there. inl (as_before old st.last h.member now h.at there st.still)))
   refused_ended old new sound (MetadataFault k) (inr (inl h)) =
       let a = h.why.admitted in
       let after = h.why.after in
       let runs = (after_so target old a after h.member (was_spare target old a sound h.member h.at h.may after) h.may).idle.running in
-      let st = stops_so target k a new runs h.why.stops in
+      let st = stops_so target k a new runs h.why.ends in
       let marks = a.array.marks in
       ended_before old a new k h.member h.at (preserves_admitted target old a sound h.member h.at h.may after)
       (grows_from target old a (starts_after target old a sound h.member h.at h.may after) (states_admitted target old a after) [] [] marks marks a (keeps_none target marks a))
-      ((after_so target old a after h.member (was_spare target old a sound h.member h.at h.may after) h.may).resynced ∙ sym h.may.settled.resynced) st h.why.stops.other
+      ((after_so target old a after h.member (was_spare target old a sound h.member h.at h.may after) h.may).resynced ∙ sym h.may.resynced_target.resynced) st h.why.ends.other
       (λ now there.
       let then = admitted_is target old a after in
       let is = st.still (admitted_member after.admits.role after.admits.may.member) now then there in
@@ -1160,7 +1160,7 @@ module _ (target : ℕ) where
       (let e = h.why.1 in ended_source target old e.ready e.none e.begins k h.copied h.stopped new e.why h.leaves h.why.0)
   refused_ended old new sound TargetFault (inl h) =
       let f = h.why in
-      let runs = f.stores.ready.halted ∙ h.may.settled.has_target.running in
+      let runs = f.stores.ready.halted ∙ h.may.resynced_target.has_target.running in
       ended_rest TargetFault old new h.member h.at (rest_unrecorded target old new f) (stays_stored TargetFault old f.mid new f.stores f.fails.array)
       (λ now there. record {
         running = ap (λ (a : ArrayView). a.halted) f.fails.array ∙ runs;
@@ -1171,7 +1171,7 @@ module _ (target : ℕ) where
       })
   refused_ended old new sound TargetFault (inr (inl h)) =
       let f = h.why in
-      let runs = f.first.stores.ready.halted ∙ h.may.settled.has_target.running in
+      let runs = f.first.stores.ready.halted ∙ h.may.resynced_target.has_target.running in
       ended_rest TargetFault old new h.member h.at (rest_unadmitted target old new f) (stays_stored TargetFault old f.stored new f.first.stores f.fails.array)
       (λ now there. record {
         running = ap (λ (a : ArrayView). a.halted) f.fails.array ∙ runs;
@@ -1185,7 +1185,7 @@ module _ (target : ℕ) where
     | inl same ↦
         ended_rest NoMemory old new h.member h.at (subst (KeepsRest target old) (sym same) (rest_none target old)) (stays_same target NoMemory old.array new.array (ap (λ (v : MirrorView). v.array) same))
         (λ now there. record {
-          running = ap (λ (v : MirrorView). v.array.halted) same ∙ h.may.settled.has_target.running;
+          running = ap (λ (v : MirrorView). v.array.halted) same ∙ h.may.resynced_target.has_target.running;
           target_is = inl (as_before old new h.member now h.at there (still_same target old new (ap (λ (v : MirrorView). v.array) same)));
           noted = inl refl;
           stand = stand_none target old.array new;
@@ -1193,7 +1193,7 @@ module _ (target : ℕ) where
     | inr lacks ↦
         ended_rest NoMemory old new h.member h.at (rest_stores target old new lacks.first.stores) (stays_stored NoMemory old new new lacks.first.stores refl)
         (λ now there. record {
-          running = lacks.first.stores.ready.halted ∙ h.may.settled.has_target.running;
+          running = lacks.first.stores.ready.halted ∙ h.may.resynced_target.has_target.running;
           target_is = inl (as_before old new h.member now h.at there (still_stored target old new lacks.first.stores));
           noted = inl refl;
           stand = stand_none target old.array new;

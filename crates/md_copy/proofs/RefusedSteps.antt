@@ -12,7 +12,7 @@ use Rattle.md_bitmap.specs.declared.chunks.Chunks.{Chunks}
 use Rattle.md_cert.specs.declared.slots.Slot.{Slot}
 use Rattle.md_device.specs.Splice.{part}
 use Rattle.md_kept_members.specs.Enrolling.{IsOfChunk}
-use Rattle.md_kept_members.specs.TakingBack.{admitted_member, with_offset}
+use Rattle.md_kept_members.specs.TakingBack.{admitted_member, with_recovery_offset}
 use Rattle.md_kept_members.specs.View.{MemberView}
 use Rattle.md_pass.specs.Readings.{is_of}
 use Rattle.md_passes.specs.Listed.{IsOfFailed}
@@ -29,14 +29,14 @@ use Rattle.md_array.specs.Recording.{super_write}
 use Rattle.md_array.proofs.Steps.FailedParts.{halted_array, halted_then}
 use Rattle.md_super.specs.declared.superblock.Superblock.{Superblock}
 use Rattle.md_metadata.specs.Storing.{IsStoring, StaysReady, Stores}
-use Rattle.md_copy.specs.Beginning.{MayRebuild}
-use Rattle.md_copy.specs.Leaving.{Leaves}
-use Rattle.md_copy.specs.Listing.{HaltsAtList, StopsAtList}
+use Rattle.md_copy.specs.Beginning.{MayBeginRebuild}
+use Rattle.md_copy.specs.Leaving.{RecordsAtEnd}
+use Rattle.md_copy.specs.Listing.{HaltsAtList, EndsAtList}
 use Rattle.md_copy.specs.Readying.{AdmitsAfter, FailsAdmission}
-use Rattle.md_copy.specs.Rebuilding.{Begins}
+use Rattle.md_copy.specs.Rebuilding.{BeginsRebuild}
 use Rattle.md_copy.specs.declared.fault.RebuildFault.TheVariants.{MetadataFault}
 use Rattle.md_copy.specs.Refused.{IsLost}
-use Rattle.md_copy.specs.Storing.{FailsOnTarget, StopsAt}
+use Rattle.md_copy.specs.Storing.{FailsToRecordTarget, EndsAtOther}
 use Rattle.md_copy.proofs.Halting.{HaltsOn, halts_on, lasts_halted}
 use Rattle.md_copy.proofs.HeldRecorded.{chunks_is, data_kept, lacked, marks_is, other_is, out_of_sync, target_same as checkpointed_is}
 use Rattle.md_copy.proofs.PassesKeep.{PassesKeep}
@@ -103,7 +103,7 @@ pub record StopsSo (target k : ℕ) (old new : MirrorView) : Type 0 where
   pub marks : last.array.marks ≡ old.array.marks
   pub resynced : last.array.resynced ≡ old.array.resynced
 
-pub stops_so : (target k : ℕ) (old new : MirrorView) → old.array.halted ≡ false → StopsAt target k old new → StopsSo target k old new
+pub stops_so : (target k : ℕ) (old new : MirrorView) → old.array.halted ≡ false → EndsAtOther target k old new → StopsSo target k old new
 stops_so target k old new running h = elim h.ends [
   | inl lost ↦
       let goes = lost.loses.goes in
@@ -139,12 +139,12 @@ stops_so target k old new running h = elim h.ends [
       }
 ]
 
-pub rest_unrecorded : (target : ℕ) (old new : MirrorView) → FailsOnTarget target old new → KeepsRest target old new
+pub rest_unrecorded : (target : ℕ) (old new : MirrorView) → FailsToRecordTarget target old new → KeepsRest target old new
 rest_unrecorded target old new h =
     rest_on target old h.mid new (rest_stores target old h.mid h.stores)
     (rest_super target target h.mid.array h.fails.member h.mid new (places_of h.mid h.stores.goes.sound) h.fails.disks.tried (ap (λ (a : ArrayView). a.members) h.fails.array) h.fails.may.readable.size)
 
-pub still_unrecorded : (target : ℕ) (old new : MirrorView) → FailsOnTarget target old new → StaysStill target old new
+pub still_unrecorded : (target : ℕ) (old new : MirrorView) → FailsToRecordTarget target old new → StaysStill target old new
 still_unrecorded target old new h =
     still_on target old h.mid new (λ m at. (rest_stores target old h.mid h.stores).then target m at) (still_stored target old h.mid h.stores) (still_same target h.mid new h.fails.array)
 
@@ -163,7 +163,7 @@ still_unadmitted target old new h =
 spare_apart : (m : MemberView) → is_spare m.state ≡ true → is_recovering m.state ≡ true → ⊥
 spare_apart m spare recovers = both_ways (is_recovering m.state) (ap is_recovering (spare_is m.state spare)) recovers
 
-pub preserves_begun : (target : ℕ) (old v : MirrorView) (none : Bitmap) → Begins target old v none → Preserves target old v
+pub preserves_begun : (target : ℕ) (old v : MirrorView) (none : Bitmap) → BeginsRebuild target old v none → Preserves target old v
 preserves_begun target old v none b = preserves_started target old v starts own
   where
     starts : StartsAs target old v
@@ -185,7 +185,7 @@ preserves_begun target old v none b = preserves_started target old v starts own
     ]
 
 -- the target is admitted, and what that made due is not stored yet
-module _ (target : ℕ) (old admitted : MirrorView) (sound : IsConsistent old) (member : MemberView) (at : IsMember old.array target member) (may : MayRebuild old.array member) (h : AdmitsAfter target old admitted) where
+module _ (target : ℕ) (old admitted : MirrorView) (sound : IsConsistent old) (member : MemberView) (at : IsMember old.array target member) (may : MayBeginRebuild old.array member) (h : AdmitsAfter target old admitted) where
   pub was_spare : is_spare member.state ≡ true
   was_spare =
       let s = target_stored target old h.stored h.first.stores member h.admits.may.member at h.admits.may.at in
@@ -219,7 +219,7 @@ StatesSo target old v = (k : ℕ) (m n : MemberView) → k ≢ target → IsMemb
 was_same : (old v : MirrorView) (k : ℕ) (m n : MemberView) → IsMember old.array k m → WasSo old k n → n.state ≡ m.state
 was_same old v k m n at was = was.2 ∙ ap (λ (z : MemberView). z.state) (same_Some was.0 m (sym was.1 ∙ at))
 
-pub states_begun : (target : ℕ) (old v : MirrorView) (none : Bitmap) → Begins target old v none → StatesSo target old v
+pub states_begun : (target : ℕ) (old v : MirrorView) (none : Bitmap) → BeginsRebuild target old v none → StatesSo target old v
 states_begun target old v none b k m n other at there = was_same old v k m n at (so_readied target b.member old v b.first k other n there)
 
 pub states_admitted : (target : ℕ) (old admitted : MirrorView) → AdmitsAfter target old admitted → StatesSo target old admitted
@@ -296,26 +296,26 @@ module _ (target : ℕ) (copied : Bitmap) (v w : MirrorView) (sound : IsConsiste
   m = r.may.member
 
   -- the target is as it was, but for its offset
-  pub own_is : (l n : MemberView) → IsMember v.array target l → IsMember w.array target n → n ≡ record (with_offset r.offset l) { due = false }
-  own_is l n at there = checkpointed_is target copied v w sound r n there ∙ ap (λ (z : MemberView). record (with_offset r.offset z) { due = false }) (same_Some m l (sym r.may.at ∙ at))
+  pub own_is : (l n : MemberView) → IsMember v.array target l → IsMember w.array target n → n ≡ record (with_recovery_offset r.offset l) { due = false }
+  own_is l n at there = checkpointed_is target copied v w sound r n there ∙ ap (λ (z : MemberView). record (with_recovery_offset r.offset z) { due = false }) (same_Some m l (sym r.may.at ∙ at))
 
   other_same : (k : ℕ) → k ≢ target → (l n : MemberView) → IsMember v.array k l → IsMember w.array k n → n ≡ l
   other_same k other l n at there = same_Some n l (sym there ∙ other_is target copied v w sound r k other ∙ at)
 
   many : length w.array.members ≡ length v.array.members
-  many = ap (λ (a : ArrayView). length a.members) r.array ∙ length-set v.array.members target (record (with_offset r.offset m) { due = false })
+  many = ap (λ (a : ArrayView). length a.members) r.array ∙ length-set v.array.members target (record (with_recovery_offset r.offset m) { due = false })
 
   -- what is the same of each
-  same_of : {X : Type 0} (f : MemberView → X) → ((l : MemberView) → f (record (with_offset r.offset l) { due = false }) ≡ f l) → (k : ℕ) (l n : MemberView) → IsMember v.array k l → IsMember w.array k n → f n ≡ f l
+  same_of : {X : Type 0} (f : MemberView → X) → ((l : MemberView) → f (record (with_recovery_offset r.offset l) { due = false }) ≡ f l) → (k : ℕ) (l n : MemberView) → IsMember v.array k l → IsMember w.array k n → f n ≡ f l
   same_of f is k l n at there = elim (cases_eq k target) [
     | inl here ↦ ap f (own_is l n (sym (ap (slice_get v.array.members) here) ∙ at) (sym (ap (slice_get w.array.members) here) ∙ there)) ∙ is l
     | inr other ↦ ap f (other_same k other l n at there)
   ]
 
-  abbrev tried : IsTried target (super_write v.array (with_offset r.offset m)) v.disks w.disks
+  abbrev tried : IsTried target (super_write v.array (with_recovery_offset r.offset m)) v.disks w.disks
   tried = r.disks.tried
 
-  rises : (l n : MemberView) → IsMember v.array target l → n ≡ record (with_offset r.offset l) { due = false } → l.superblock.recovery_offset ≤ n.superblock.recovery_offset
+  rises : (l n : MemberView) → IsMember v.array target l → n ≡ record (with_recovery_offset r.offset l) { due = false } → l.superblock.recovery_offset ≤ n.superblock.recovery_offset
   rises l n at is =
       let was = ap (λ (z : MemberView). z.superblock.recovery_offset) (same_Some m l (sym r.may.at ∙ at)) in
       let now = ap (λ (z : MemberView). z.superblock.recovery_offset) is in
@@ -361,18 +361,18 @@ module _ (target : ℕ) (copied : Bitmap) (v w : MirrorView) (sound : IsConsiste
 
 pub checkpointed_many : (target : ℕ) (copied : Bitmap) (v w : MirrorView) → Checkpoints target copied v w → length w.array.members ≡ length v.array.members
 checkpointed_many target copied v w r =
-    ap (λ (a : ArrayView). length a.members) r.array ∙ length-set v.array.members target (record (with_offset r.offset r.may.member) { due = false })
+    ap (λ (a : ArrayView). length a.members) r.array ∙ length-set v.array.members target (record (with_recovery_offset r.offset r.may.member) { due = false })
 
 -- ---- once it has stopped
-pub halted_left : (target : ℕ) (copied : Bitmap) (v w : MirrorView) → v.array.halted ≡ true → Leaves target copied v w → w ≡ v
+pub halted_left : (target : ℕ) (copied : Bitmap) (v w : MirrorView) → v.array.halted ≡ true → RecordsAtEnd target copied v w → w ≡ v
 halted_left target copied v w halted (inl same) = same.1
 halted_left target copied v w halted (inr (inl r)) = absurd (both_ways v.array.halted r.may.idle.running halted)
 halted_left target copied v w halted (inr (inr f)) = absurd (both_ways v.array.halted f.running halted)
 
 pub rest_unrecordable : (target : ℕ) (copied : Bitmap) (v w : MirrorView) → IsConsistent v → FailsToCheckpoint target copied v w → KeepsRest target v w
-rest_unrecordable target copied v w sound f = rest_super target target v.array (with_offset f.offset f.member) v w (places_of v sound) f.disks.tried (ap (λ (a : ArrayView). a.members) f.array) f.readable.size
+rest_unrecordable target copied v w sound f = rest_super target target v.array (with_recovery_offset f.offset f.member) v w (places_of v sound) f.disks.tried (ap (λ (a : ArrayView). a.members) f.array) f.readable.size
 
-pub rest_left : (target : ℕ) (copied : Bitmap) (v w : MirrorView) → (v.array.halted ≡ false → IsConsistent v) → Leaves target copied v w → KeepsRest target v w
+pub rest_left : (target : ℕ) (copied : Bitmap) (v w : MirrorView) → (v.array.halted ≡ false → IsConsistent v) → RecordsAtEnd target copied v w → KeepsRest target v w
 rest_left target copied v w sound (inl same) = subst (KeepsRest target v) (sym same.1) (rest_none target v)
 rest_left target copied v w sound (inr (inl r)) = rest_recorded target copied v w (sound r.may.idle.running) r
 rest_left target copied v w sound (inr (inr f)) = rest_unrecordable target copied v w (sound f.running) f
@@ -392,7 +392,7 @@ pub halts_list : (k : ℕ) (v w : MirrorView) → HaltsAtList k v w → w.array.
 halts_list k v w at = (let s = at.halts.halts in halted_then s.mid w (λ n. None) s.failing (s.halts (λ n. None)))
 
 -- whether it is stored or not, what the mirror keeps of chunks and marks is as before
-list_same : (k : ℕ) (failed : List Slot) (v w : MirrorView) → StopsAtList failed k v w
+list_same : (k : ℕ) (failed : List Slot) (v w : MirrorView) → EndsAtList failed k v w
     → (w.array.chunks ≡ v.array.chunks) × (w.array.marks ≡ v.array.marks) × (w.array.resynced ≡ v.array.resynced)
 list_same k failed v w h = elim h.ends [
   | inl lost ↦ (lost.loses.goes.array.chunks, lost.loses.goes.array.marks, lost.loses.goes.array.resynced)
@@ -402,23 +402,23 @@ list_same k failed v w h = elim h.ends [
       (ap (λ (a : ArrayView). a.chunks) is ∙ s.goes.array.chunks, ap (λ (a : ArrayView). a.marks) is ∙ s.goes.array.marks, ap (λ (a : ArrayView). a.resynced) is ∙ s.goes.array.resynced)
 ]
 
-pub list_chunks : (target k : ℕ) (failed : List Slot) (v w : MirrorView) → StopsAtList failed k v w → w.array.chunks ≡ v.array.chunks
+pub list_chunks : (target k : ℕ) (failed : List Slot) (v w : MirrorView) → EndsAtList failed k v w → w.array.chunks ≡ v.array.chunks
 list_chunks target k failed v w h = (list_same k failed v w h).0
 
-pub list_marks : (target k : ℕ) (failed : List Slot) (v w : MirrorView) → StopsAtList failed k v w → w.array.marks ≡ v.array.marks
+pub list_marks : (target k : ℕ) (failed : List Slot) (v w : MirrorView) → EndsAtList failed k v w → w.array.marks ≡ v.array.marks
 list_marks target k failed v w h = (list_same k failed v w h).1
 
-pub list_resynced : (target k : ℕ) (failed : List Slot) (v w : MirrorView) → StopsAtList failed k v w → w.array.resynced ≡ v.array.resynced
+pub list_resynced : (target k : ℕ) (failed : List Slot) (v w : MirrorView) → EndsAtList failed k v w → w.array.resynced ≡ v.array.resynced
 list_resynced target k failed v w h = (list_same k failed v w h).2
 
 -- and so is what a member lacks
-pub list_missing : (target k : ℕ) (failed : List Slot) (v w : MirrorView) → StopsAtList failed k v w → (n : MemberView) (c : ℕ) → is_missing w.array n c ≡ is_missing v.array n c
+pub list_missing : (target k : ℕ) (failed : List Slot) (v w : MirrorView) → EndsAtList failed k v w → (n : MemberView) (c : ℕ) → is_missing w.array n c ≡ is_missing v.array n c
 list_missing target k failed v w h n c =
     let same = list_same k failed v w h in
     ap (λ (q : Chunks). lacks (is_in_sync n.state) (is_recovering n.state) (is_set w.array.marks.bytes c) (leb q.size n.superblock.recovery_offset || leb ((c + 1) * q.sectors) n.superblock.recovery_offset)) same.0
     ∙ ap (λ (b : Bitmap). lacks (is_in_sync n.state) (is_recovering n.state) (is_set b.bytes c) (leb v.array.chunks.size n.superblock.recovery_offset || leb ((c + 1) * v.array.chunks.sectors) n.superblock.recovery_offset)) same.1
 
-pub rest_list : (target k : ℕ) (failed : List Slot) (v w : MirrorView) → ((m : MemberView) → IsMember v.array target m → is_recovering m.state ≡ true) → StopsAtList failed k v w → KeepsRest target v w
+pub rest_list : (target k : ℕ) (failed : List Slot) (v w : MirrorView) → ((m : MemberView) → IsMember v.array target m → is_recovering m.state ≡ true) → EndsAtList failed k v w → KeepsRest target v w
 rest_list target k failed v w recovers h = record {
   then = λ j m at. (let low = slice_get_within v.array.members j m at in let same = many in got_within w.array.members j (omega (arith, low, same)));
   disk_then = λ j d at. (let low = slice_get_within v.disks j d at in let same = h.writes.as_many in (get_or w.disks j d, slice_get-get_or w.disks j d (omega (arith, low, same))));

@@ -6,8 +6,8 @@ use Rattle.md_device.specs.Splice.{part}
 use Rattle.md_device.proofs.Splices.{part_part}
 use Rattle.md_bitmap.specs.declared.chunks.Chunks.{Chunks}
 use Rattle.md_bitmap.specs.Chunks.{InChunk}
-use Rattle.md_collect.specs.Places.{bytes_of, chunk_on, start_of}
-use Rattle.md_pass.specs.Beside.{IsBeside}
+use Rattle.md_collect.specs.Places.{bytes_of_chunk, chunk_on, start_of}
+use Rattle.md_pass.specs.Beside.{LiesBesideChunk}
 
 -- a sector of the chunk, counted from its start
 sector_of : (content : List ℕ) (offset : ℕ) (chunks : Chunks) (c s : ℕ) → InChunk chunks.sectors chunks.size c s
@@ -17,7 +17,7 @@ sector_of content offset chunks c s inside =
     let from = inside.from in
     let below = inside.below in
     let within = inside.within in
-    let whole = part_part content (512 * (offset + start_of chunks c)) (bytes_of chunks c) (512 * (s - start_of chunks c)) 512 (omega arith) in
+    let whole = part_part content (512 * (offset + start_of chunks c)) (bytes_of_chunk chunks c) (512 * (s - start_of chunks c)) 512 (omega arith) in
     let place : 512 * (offset + start_of chunks c) + 512 * (s - start_of chunks c) ≡ 512 * (offset + s) = omega arith in
     whole ∙ ap (λ n. part content n 512) place
 
@@ -27,13 +27,13 @@ same_sector xs ys p q chunks c s same inside =
     sym (sector_of xs p chunks c s inside) ∙ ap (λ zs. part zs (512 * (s - start_of chunks c)) 512) same ∙ sector_of ys q chunks c s inside
 
 -- a chunk whose bytes are as they were
-pub same_chunk : (xs ys : List ℕ) (p : ℕ) (chunks : Chunks) (c : ℕ) → part xs (512 * (p + start_of chunks c)) (bytes_of chunks c) ≡ part ys (512 * (p + start_of chunks c)) (bytes_of chunks c)
+pub same_chunk : (xs ys : List ℕ) (p : ℕ) (chunks : Chunks) (c : ℕ) → part xs (512 * (p + start_of chunks c)) (bytes_of_chunk chunks c) ≡ part ys (512 * (p + start_of chunks c)) (bytes_of_chunk chunks c)
     → chunk_on xs p chunks c ≡ chunk_on ys p chunks c
 unfolding chunk_on
 same_chunk xs ys p chunks c same = same
 
 -- two chunks lie beside one another
-pub apart_chunks : (chunks : Chunks) (offset c b : ℕ) → c ≢ b → IsBeside chunks offset (512 * (offset + start_of chunks c)) (bytes_of chunks c) b
+pub apart_chunks : (chunks : Chunks) (offset c b : ℕ) → c ≢ b → LiesBesideChunk chunks offset (512 * (offset + start_of chunks c)) (bytes_of_chunk chunks c) b
 apart_chunks chunks offset c b other =
     elim (cases_lt c b) [
       | inl below ↦
@@ -52,5 +52,5 @@ apart_chunks chunks offset c b other =
     ]
 
 -- it lies in the data area that has room for the array
-pub chunk_within : (chunks : Chunks) (c size : ℕ) → chunks.size ≤ size → c * chunks.sectors ≤ chunks.size → 512 * (start_of chunks c) + bytes_of chunks c ≤ 512 * size
+pub chunk_within : (chunks : Chunks) (c size : ℕ) → chunks.size ≤ size → c * chunks.sectors ≤ chunks.size → 512 * (start_of chunks c) + bytes_of_chunk chunks c ≤ 512 * size
 chunk_within chunks c size room low = omega (arith, room, low)

@@ -14,7 +14,7 @@ use Rattle.md_kept_members.proofs.Members.Roles.{zero_bits}
 use Rattle.md_kept_members.proofs.Members.Indices.{cases_more}
 use Rattle.md_state.specs.Members.{IsMember, IsPermitted, IsUnlisted}
 use Rattle.md_state.specs.View.{ArrayView}
-use Rattle.md_copy.specs.Sources.{IsInSyncWith, IsReadAs}
+use Rattle.md_copy.specs.Sources.{IsInSyncWith, IsReadInRole}
 
 -- one of the first n members is in sync in the role, and is write-mostly or is not
 pub record IsServedBelow (members : List MemberView) (n : ℕ) (mostly : Bool) (role : ℕ) : Type 0 where
@@ -69,7 +69,7 @@ served_all a n mostly role bit all by = (
 )
 
 -- where nobody lists a sector of the chunk
-pub read_permitted : (a : ArrayView) (chunk : ℕ) → ((k : ℕ) (m : MemberView) (role : ℕ) → IsMember a k m → is_in_sync_as role m.state ≡ true → IsUnlisted a chunk m) → (role : ℕ) → IsReadAs a role ↔ IsPermitted a chunk role
+pub read_permitted : (a : ArrayView) (chunk : ℕ) → ((k : ℕ) (m : MemberView) (role : ℕ) → IsMember a k m → is_in_sync_as role m.state ≡ true → IsUnlisted a chunk m) → (role : ℕ) → IsReadInRole a role ↔ IsPermitted a chunk role
 read_permitted a chunk free role = (
   λ either. elim either [
     | inl h ↦ (h.0, h.1, h.2, h.3, free h.0 h.1 role h.2 h.3, inl h.4)

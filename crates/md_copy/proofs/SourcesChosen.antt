@@ -15,7 +15,7 @@ use Rattle.md_state.specs.View.{ArrayView, Disk, MirrorView}
 use Rattle.md_state.specs.Members.{IsMember, IsPermitted}
 use Rattle.md_array.specs.Consistency.{IsConsistent}
 use Rattle.md_pass.specs.declared.source.Source.{Source}
-use Rattle.md_copy.specs.RebuildSources.{AreSources, IsServedBy, IsSource, IsSourceAt, place_beside}
+use Rattle.md_copy.specs.RebuildSources.{AreSources, IsServedBy, IsRebuildSource, IsSourceAt, place_beside}
 use Rattle.md_copy.specs.Targets.{IsTarget, MayBeRebuilt}
 use Rattle.md_copy.proofs.Beside.{beside_is, beside_one, beside_within}
 use Rattle.md_copy.proofs.Planned.{IsAllowed}
@@ -74,16 +74,16 @@ module _ (v : MirrorView) (sound : IsConsistent v) (target : ℕ) (within : targ
   source_disk : (k : ℕ) (m : MemberView) → IsMember v.array k m → k < length v.disks
   source_disk k m at = let low = slice_get_within v.array.members k m at in let many = sound.fits.as_many in omega (arith, low)
 
-  source_within : (s : Source) → IsSource v target s → s.place < length (remove v.disks target)
+  source_within : (s : Source) → IsRebuildSource v target s → s.place < length (remove v.disks target)
   source_within s (k, m, is) = subst (λ n. n < length (remove v.disks target)) (sym is.place) (beside_within v.disks target k target_disk (source_disk k m is.listed) is.other)
 
-  source_room : (s : Source) → IsSource v target s → (d : Disk) → HasRoom (slice_index_or (remove v.disks target) s.place d).content s.offset v.array.chunks
+  source_room : (s : Source) → IsRebuildSource v target s → (d : Disk) → HasRoom (slice_index_or (remove v.disks target) s.place d).content s.offset v.array.chunks
   source_room s (k, m, is) d =
       let there = slice_get-get_or v.disks k d (source_disk k m is.listed) in
       let room = has_room v sound k m (get_or v.disks k d) is.listed there in
       subst (λ (e : Disk). HasRoom e.content s.offset v.array.chunks) (sym (is.device d)) (subst (λ n. HasRoom (get_or v.disks k d).content n v.array.chunks) (sym is.offset) room)
 
-  source_one : (s t : Source) → IsSource v target s → IsSource v target t → s.place ≡ t.place → s.role ≡ t.role
+  source_one : (s t : Source) → IsRebuildSource v target s → IsRebuildSource v target t → s.place ≡ t.place → s.role ≡ t.role
   source_one s t (j, m, is) (k, n, also) same =
       let one : j ≡ k = beside_one target j k is.other also.other (sym is.place ∙ same ∙ also.place) in
       let at : IsMember v.array k m = subst (λ i. IsMember v.array i m) one is.listed in
@@ -91,7 +91,7 @@ module _ (v : MirrorView) (sound : IsConsistent v) (target : ℕ) (within : targ
       let m_is : m ≡ n = cc in
       one_role s.role t.role n.state (subst (λ (x : MemberView). is_in_sync_as s.role x.state ≡ true) m_is is.in_sync) also.in_sync
 
-  pub served_by : (slot : Slot) (s : Source) → IsSource v target s → s.role ≡ slot.source → IsPermitted v.array slot.chunk slot.source → IsServedBy v target slot s
+  pub served_by : (slot : Slot) (s : Source) → IsRebuildSource v target s → s.role ≡ slot.source → IsPermitted v.array slot.chunk slot.source → IsServedBy v target slot s
   served_by slot s (k, m, is) role (j, n, at, in_sync, unlisted, flag) =
       let takes = takes_as slot.source m.state (subst (λ r. is_in_sync_as r m.state ≡ true) role is.in_sync) in
       let one : j ≡ k = sound.roles.one_each j k slot.source n m at is.listed (takes_as slot.source n.state in_sync) takes in
@@ -109,7 +109,7 @@ module _ (v : MirrorView) (sound : IsConsistent v) (target : ℕ) (within : targ
         };
       }
 
-  pub are_sources : (slots : List Slot) (sources : List Source) → All (IsAllowed v.array) slots → All (IsSource v target) sources → All (λ s. Any (λ (slot : Slot). slot.source ≡ s.role) slots) sources → AllPairs (λ (a b : Source). a.role < b.role) sources
+  pub are_sources : (slots : List Slot) (sources : List Source) → All (IsAllowed v.array) slots → All (IsRebuildSource v target) sources → All (λ s. Any (λ (slot : Slot). slot.source ≡ s.role) slots) sources → AllPairs (λ (a b : Source). a.role < b.role) sources
       → All (λ (slot : Slot). Any (λ (s : Source). s.role ≡ slot.source) sources) slots → AreSources v target slots sources
   are_sources slots sources allowed each named rising serves = record {
     each = each;
@@ -117,7 +117,7 @@ module _ (v : MirrorView) (sound : IsConsistent v) (target : ℕ) (within : targ
     served = λ k d below.
         (let found = serves k d below in
         let slot = get_or slots k d in
-        let source = subst (IsSource v target) found.3 (each found.0 found.1 found.2) in
+        let source = subst (IsRebuildSource v target) found.3 (each found.0 found.1 found.2) in
         (found.0, found.1, found.2, found.3, served_by slot found.1 source found.4 (allowed k d below).permitted));
     may_read = record {
       within = λ k d below. source_within (get_or sources k d) (each k d below);

@@ -20,9 +20,9 @@ use Rattle.md_array.specs.Enrolling.{FailsToEnrol}
 use Rattle.md_array.specs.ReadAsKept.{IsSuperOn}
 use Rattle.md_array.specs.Worlds.{is_listed}
 use Rattle.md_copy.specs.Filling.{IsFilling}
-use Rattle.md_copy.specs.Leaving.{Leaves}
-use Rattle.md_copy.specs.Listing.{HasFailed, HasListOn, NotesLists, StopsAtList}
-use Rattle.md_copy.specs.Refused.{HasListWithin, HasListed, IsKnown, ListsStand, ListsStandWithin}
+use Rattle.md_copy.specs.Leaving.{RecordsAtEnd}
+use Rattle.md_copy.specs.Listing.{HasFailedSlot, HasListOn, NotesLists, EndsAtList}
+use Rattle.md_copy.specs.Refused.{HasListWithin, HasListed, IsListedOrFailed, ListsStand, ListsStandWithin}
 use Rattle.md_copy.proofs.HeldRecorded.{other_is}
 use Rattle.md_copy.proofs.PassesKeep.{disk_then}
 
@@ -111,7 +111,7 @@ module _ (target : ℕ) (stored : List Slot) (old : ArrayView) where
   pub stand_unrecorded : (copied : Bitmap) (v w : MirrorView) → FailsToCheckpoint target copied v w → Stand v → Stand w
   stand_unrecorded copied v w f = stand_same v w (λ k other. ap (λ (a : ArrayView). slice_get a.members k) f.array) f.disks.tried.others
 
-  pub stand_left : (copied : Bitmap) (v w : MirrorView) → (v.array.halted ≡ false → IsConsistent v) → Leaves target copied v w → (v.array.halted ≡ false → Stand v) → w.array.halted ≡ false → Stand w
+  pub stand_left : (copied : Bitmap) (v w : MirrorView) → (v.array.halted ≡ false → IsConsistent v) → RecordsAtEnd target copied v w → (v.array.halted ≡ false → Stand v) → w.array.halted ≡ false → Stand w
   stand_left copied v w sound (inl same) so running =
       absurd (both_ways v.array.halted (ap (λ (x : MirrorView). x.array.halted) (sym same.1) ∙ running) same.0)
   stand_left copied v w sound (inr (inl r)) so running = stand_recorded copied v w (sound r.may.idle.running) r (so r.may.idle.running)
@@ -125,7 +125,7 @@ module _ (target : ℕ) (stored : List Slot) (old : ArrayView) where
       → Within v → Within w
   within_same v w members disks so k m n e other at has there in_sync at_e = so k m n e other at has (sym (members k other) ∙ there) in_sync (sym (disks k other) ∙ at_e)
 
-  pub within_left : (copied : Bitmap) (v w : MirrorView) → (v.array.halted ≡ false → IsConsistent v) → Leaves target copied v w → (v.array.halted ≡ false → Within v) → w.array.halted ≡ false → Within w
+  pub within_left : (copied : Bitmap) (v w : MirrorView) → (v.array.halted ≡ false → IsConsistent v) → RecordsAtEnd target copied v w → (v.array.halted ≡ false → Within v) → w.array.halted ≡ false → Within w
   within_left copied v w sound (inl same) so running =
       absurd (both_ways v.array.halted (ap (λ (x : MirrorView). x.array.halted) (sym same.1) ∙ running) same.0)
   within_left copied v w sound (inr (inl r)) so running =
@@ -135,7 +135,7 @@ module _ (target : ℕ) (stored : List Slot) (old : ArrayView) where
 
   -- the mirror lists these sectors
   abbrev pub Knows : MirrorView → Type 0
-  Knows v = (k : ℕ) (m z : MemberView) → k ≢ target → IsMember old k m → IsMember v.array k z → (sector : ℕ) → IsKnown old stored m sector → IsBad z.bad sector
+  Knows v = (k : ℕ) (m z : MemberView) → k ≢ target → IsMember old k m → IsMember v.array k z → (sector : ℕ) → IsListedOrFailed old stored m sector → IsBad z.bad sector
 
   -- it does not come into sync
   pub stand_unenrolled : (kept orphans : Bitmap) (v w : MirrorView) → FailsToEnrol target kept orphans v w → Stand v → Stand w
@@ -157,9 +157,9 @@ module _ (target : ℕ) (stored : List Slot) (old : ArrayView) where
       })
 
   -- A list of member i is not stored. Of another one in sync the list is stored, or its device is as it was.
-  module _ (failed : List Slot) (i : ℕ) (v w : MirrorView) (h : StopsAtList failed i v w) (many : length w.array.members ≡ length v.array.members) (so : Stand v) (knows : Knows v) where
-    stand_other : (k : ℕ) (m z n : MemberView) (d e : Disk) → k ≢ target → k ≢ i → IsMember old k m → HasFailed stored m → IsMember v.array k z → IsMember w.array k n → is_in_sync n.state ≡ true
-        → slice_get v.disks k ≡ Some d → slice_get w.disks k ≡ Some e → e.honest ≡ true → HasListWithin (IsKnown old stored m) n.bad e.content
+  module _ (failed : List Slot) (i : ℕ) (v w : MirrorView) (h : EndsAtList failed i v w) (many : length w.array.members ≡ length v.array.members) (so : Stand v) (knows : Knows v) where
+    stand_other : (k : ℕ) (m z n : MemberView) (d e : Disk) → k ≢ target → k ≢ i → IsMember old k m → HasFailedSlot stored m → IsMember v.array k z → IsMember w.array k n → is_in_sync n.state ≡ true
+        → slice_get v.disks k ≡ Some d → slice_get w.disks k ≡ Some e → e.honest ≡ true → HasListWithin (IsListedOrFailed old stored m) n.bad e.content
     stand_other k m z n d e other apart at has at_z at_n in_sync at_d at_e honest =
         let kept = h.members k z n at_z at_n in
         let was : is_in_sync z.state ≡ true = ap is_in_sync (sym (kept.1 apart)) ∙ in_sync in

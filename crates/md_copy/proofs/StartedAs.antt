@@ -14,7 +14,7 @@ use Rattle.md_model.specs.Content.{Content}
 use Rattle.md_state.specs.Members.{IsMember}
 use Rattle.md_state.specs.Missing.{is_missing}
 use Rattle.md_state.specs.View.{Disk, MirrorView}
-use Rattle.md_array.specs.Enrolling.{HasContent, KeepsData}
+use Rattle.md_array.specs.Enrolling.{HoldsContent, KeepsData}
 use Rattle.md_array.specs.Lending.{IsBesideChunk}
 use Rattle.md_array.specs.Worlds.{AreHonest}
 use Rattle.md_copy.specs.Rebuilt.{IsBesideCopied, IsRebuilt, IsServedThen}
@@ -39,7 +39,7 @@ pub record StartsAs (target : ℕ) (old v : MirrorView) : Type 0 where
   pub honest : (j : ℕ) (d e : Disk) → slice_get old.disks j ≡ Some d → slice_get v.disks j ≡ Some e → e.honest ≡ d.honest
   pub counted : (j : ℕ) (d e : Disk) → slice_get old.disks j ≡ Some d → slice_get v.disks j ≡ Some e → d.failures ≤ e.failures
   pub missing : (l n : MemberView) → IsMember old.array target l → IsMember v.array target n → (c : ℕ) → c < old.array.marks.chunks → is_missing v.array n c ≡ is_missing old.array l c
-  pub content : AreHonest old.disks → (content : Content) → HasContent old.disks old.array content → HasContent v.disks v.array content
+  pub content : AreHonest old.disks → (content : Content) → HoldsContent old.disks old.array content → HoldsContent v.disks v.array content
 
 pub starts_honest : (target : ℕ) (old v : MirrorView) → StartsAs target old v → AreHonest old.disks → AreHonest v.disks
 starts_honest target old v st honest j e at = (let d = st.disk_before j e at in st.honest j d.0 e d.1 at ∙ honest j d.0 d.1)
@@ -125,7 +125,7 @@ module _ (target : ℕ) (old v : MirrorView) (st : StartsAs target old v) (copie
       )
 
   -- ---- what the member holds, its list, and what lies beside
-  holds_before : AreHonest old.disks → (content : Content) → HasContent old.disks old.array content → (e : Disk) → slice_get y.disks target ≡ Some e
+  holds_before : AreHonest old.disks → (content : Content) → HoldsContent old.disks old.array content → (e : Disk) → slice_get y.disks target ≡ Some e
       → (c q : ℕ) → c < old.array.marks.chunks → is_set copied.bytes c ≡ true → InChunk old.array.chunks.sectors old.array.chunks.size c q
       → part e.content (512 * (l.superblock.data_offset + q)) 512 ≡ content q
   holds_before honest content has e at_e c q low set inside =

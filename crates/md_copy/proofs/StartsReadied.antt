@@ -21,15 +21,15 @@ use Rattle.md_state.specs.Missing.{has_passed, is_missing}
 use Rattle.md_state.specs.View.{ArrayView, Disk, MirrorView}
 use Rattle.md_array.specs.Admitting.{Admits, admit_event}
 use Rattle.md_array.specs.Consistency.{IsConsistent}
-use Rattle.md_array.specs.Enrolling.{HasContent, KeepsData}
+use Rattle.md_array.specs.Enrolling.{HoldsContent, KeepsData}
 use Rattle.md_array.specs.Worlds.{AreHonest, none_in_flight}
 use Rattle.md_array.proofs.General.Indices.{at_map, got_in_map, got_other}
 use Rattle.md_array.proofs.General.Replaced.{of_set}
 use Rattle.md_array.proofs.Rebuilding.AdmittedEvent.{admit_happens, admitted_at}
 use Rattle.md_metadata.specs.Storing.{AllStayReady, StaysReady}
-use Rattle.md_copy.specs.Beginning.{MayRebuild}
+use Rattle.md_copy.specs.Beginning.{MayBeginRebuild}
 use Rattle.md_copy.specs.Readying.{AdmitsFirst, Readies}
-use Rattle.md_copy.specs.Rebuilding.{Begins}
+use Rattle.md_copy.specs.Rebuilding.{BeginsRebuild}
 use Rattle.md_copy.specs.Storing.{StoresFirst}
 use Rattle.md_copy.proofs.HeldAlong.{between_of, content_stored, has_of, then_holds}
 use Rattle.md_copy.proofs.Readied.{after_so, spare_twice, stored_so}
@@ -210,7 +210,7 @@ module _ (target : ℕ) (v x : MirrorView) (sound : IsConsistent v) (resynced : 
       some_size zero width count c low is wide = (let bounds = div_ceil_times 0 width wide in absurd (none_there (div_ceil 0 width) width wide bounds.1 (omega (arith, low, is))))
       some_size (suc n) width count c low is wide = omega arith
 
-  content_kept : AreHonest v.disks → (content : Content) → HasContent v.disks v.array content → HasContent x.disks x.array content
+  content_kept : AreHonest v.disks → (content : Content) → HoldsContent v.disks v.array content → HoldsContent x.disks x.array content
   content_kept honest content has =
       let does = admit_happens target v x sound r spare honest none_in_flight (λ i p flies. absurd (none-some p flies)) in
       has_of x x_sound (ap (λ (a : ArrayView). a.resynced) r.array ∙ resynced) content
@@ -232,7 +232,7 @@ module _ (target : ℕ) (v x : MirrorView) (sound : IsConsistent v) (resynced : 
   }
 
 -- ---- all of it
-module _ (target : ℕ) (old v : MirrorView) (sound : IsConsistent old) (member : MemberView) (may : MayRebuild old.array member) where
+module _ (target : ℕ) (old v : MirrorView) (sound : IsConsistent old) (member : MemberView) (may : MayBeginRebuild old.array member) where
   starts_after : is_spare member.state ≡ true → AdmitsFirst target old v → StartsAs target old v
   starts_after spare h =
       let a = h.after in
@@ -245,8 +245,8 @@ module _ (target : ℕ) (old v : MirrorView) (sound : IsConsistent old) (member 
       starts_on target old h.admitted v (starts_on target old a.stored h.admitted first second) third
 
   pub starts_ready : Readies target member old v → StartsAs target old v
-  starts_ready (inl h) = starts_stored target old v sound may.settled.resynced h.1
+  starts_ready (inl h) = starts_stored target old v sound may.resynced_target.resynced h.1
   starts_ready (inr h) = starts_after h.0 h.1
 
-pub starts_of : (target : ℕ) (old v : MirrorView) (none : Bitmap) → Begins target old v none → StartsAs target old v
+pub starts_of : (target : ℕ) (old v : MirrorView) (none : Bitmap) → BeginsRebuild target old v none → StartsAs target old v
 starts_of target old v none b = starts_ready target old v b.sound b.member b.may b.first

@@ -31,7 +31,7 @@ use Rattle.md_metadata.proofs.StoredRecords.{other_due, other_or_stops}
 use Rattle.md_metadata.proofs.StoredSectors.{all_marks_last}
 use Rattle.md_copy.specs.declared.fault.RebuildFault.{RebuildFault}
 use Rattle.md_copy.specs.declared.fault.RebuildFault.TheVariants.{Halted, NotSpare, Dirty, InFlight, LogFull, NoMemory, TargetFault, MetadataFault, EventsFull}
-use Rattle.md_copy.specs.Storing.{FailsOnTarget, StopsAt, StoresFirst, StoringStops}
+use Rattle.md_copy.specs.Storing.{FailsToRecordTarget, EndsAtOther, StoresFirst, StoringEnds}
 use Rattle.md_copy.proofs.LentBack.{rebuilt_out}
 
 -- ---- who is in sync once the mirror is halted
@@ -98,7 +98,7 @@ module _ (target : ℕ) (old new : MirrorView) (unspent : HasSpentEvents old.arr
   in_sync_other (part.MemberFailed j) is k e = let same : j ≡ k = cc in subst (λ i. i ≢ target) same (not_target j is.0 is.1)
 
   -- of those in sync the mirror is halted by the only one
-  halts_named : HaltsStoring IsStoring old new → (k : ℕ) (m : MemberView) → IsInSync new.array k m → StopsAt target k old new
+  halts_named : HaltsStoring IsStoring old new → (k : ℕ) (m : MemberView) → IsInSync new.array k m → EndsAtOther target k old new
   halts_named h k m in_sync =
       let e = h.halts in
       let by = halted_by e.mid new e.failing e.of (e.halts (λ n. None)) in
@@ -123,11 +123,11 @@ module _ (target : ℕ) (old new : MirrorView) (unspent : HasSpentEvents old.arr
 
   pub fails_named : (fault : PartFault) → StoringFails IsStoring old new fault → ((k : ℕ) → fault ≡ part.MemberFailed k → k ≢ target) → (answer : RebuildFault)
       → ((k : ℕ) → fault ≡ part.MemberFailed k → answer ≡ MetadataFault k)
-      → (fault ≡ part.Halted → (k : ℕ) × (m : MemberView) × IsInSync new.array k m × (answer ≡ MetadataFault k)) → StoringStops target old new answer
+      → (fault ≡ part.Halted → (k : ℕ) × (m : MemberView) × IsInSync new.array k m × (answer ≡ MetadataFault k)) → StoringEnds target old new answer
   fails_named part.Halted h other answer failed halted =
       let n = halted refl in
-      subst (StoringStops target old new) (sym n.3) (halts_named h n.0 n.1 n.2)
-  fails_named (part.MemberFailed k) h other answer failed halted = subst (StoringStops target old new) (sym (failed k refl)) (record { other = other k refl; ends = inl h })
+      subst (StoringEnds target old new) (sym n.3) (halts_named h n.0 n.1 n.2)
+  fails_named (part.MemberFailed k) h other answer failed halted = subst (StoringEnds target old new) (sym (failed k refl)) (record { other = other k refl; ends = inl h })
 
 -- a superblock was not stored on a member that is not the target
 pub recording_other : (k target : ℕ) (old new : MirrorView) (fault : PartFault) → k ≢ target → RecordingFails k old new fault → (j : ℕ) → fault ≡ part.MemberFailed j → j ≢ target
@@ -136,7 +136,7 @@ recording_other k target old new (part.MemberFailed i) apart h j e = let same : 
 
 module _ (target : ℕ) (old new : MirrorView) where
   -- the mirror is consistent then
-  pub stops_sound : (fault : RebuildFault) → StoringStops target old new fault → IsConsistent new
+  pub stops_sound : (fault : RebuildFault) → StoringEnds target old new fault → IsConsistent new
   stops_sound Halted h = absurd h
   stops_sound NotSpare h = absurd h
   stops_sound Dirty h = absurd h
@@ -162,7 +162,7 @@ module _ (target : ℕ) (old mid new : MirrorView) (g : Stores IsStoring old mid
         | inr not ↦ absurd (both_ways n.0.due (s.recorded (ap (λ (x : MemberView). x.due) same ∙ not)) (due n.0 n.1))
       ]
 
-  pub stops_then : (fault : RebuildFault) → StoringStops target mid new fault → StoringStops target old new fault
+  pub stops_then : (fault : RebuildFault) → StoringEnds target mid new fault → StoringEnds target old new fault
   stops_then Halted h = absurd h
   stops_then NotSpare h = absurd h
   stops_then Dirty h = absurd h
@@ -202,7 +202,7 @@ module _ (k : ℕ) (old new : MirrorView) (sound : IsConsistent old) (rebuilt : 
       let out = λ (m : MemberView) (in_sync : IsInSync old.array k m). (let no = rebuilt_out m.state (rebuilt m in_sync.member) in let yes = in_sync.in_sync in absurd cc) in
       other_or_stops k old new (other_due k old new out due recorded) stored_ok (record_stored old new k after pending r happens)
 
-  pub target_unstored : IsConsistent new → old.array.halted ≡ false → (fault : TargetFaults) → RefusesTarget k old new fault → FailsOnTarget k old new
+  pub target_unstored : IsConsistent new → old.array.halted ≡ false → (fault : TargetFaults) → RefusesTarget k old new fault → FailsToRecordTarget k old new
   target_unstored after running why.Halted r = absurd (let yes = r.reason in cc)
   target_unstored after running why.TargetFault r = record { due = due; mid = old; stores = stores_nowhere IsStoring old sound; fails = r; sound = after }
 
@@ -232,7 +232,7 @@ first_stored old a b new marks records others =
 
 -- the last of it, or why it is not
 pub first_or_stops : (target : ℕ) (old a b new : MirrorView) → StoresAll IsMarking (HasAllMarks old.array.marks) old a → StoresAll IsRecording IsNotDue a b → {T : Type 0} (result : Result T RebuildFault)
-    → MatchResult result (λ _. RecordsAll b new) (StoringStops target b new) → MatchResult result (λ _. StoresFirst old new) (StoringStops target old new)
+    → MatchResult result (λ _. RecordsAll b new) (StoringEnds target b new) → MatchResult result (λ _. StoresFirst old new) (StoringEnds target old new)
 first_or_stops target old a b new marks records (Ok t) others = first_stored old a b new marks records others
 first_or_stops target old a b new marks records (Err fault) stops =
     let first = stores_as IsMarking IsStoring marking_stores old a marks.stores in

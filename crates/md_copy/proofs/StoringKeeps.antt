@@ -8,8 +8,8 @@ use Rattle.md_device.specs.Splice.{SameOutside, part}
 use Rattle.md_bitmap.specs.Marks.{Bitmap}
 use Rattle.md_bitmap.proofs.Blocks.{length-bitmap_sector}
 use Rattle.md_members.specs.declared.area.Area.{Area}
-use Rattle.md_members.specs.Areas.{IsPlaced, bitmap_area, bitmap_sectors, data_area, has_bitmap, super_area}
-use Rattle.md_members.specs.Members.{sectors_of}
+use Rattle.md_members.specs.Areas.{AreAreasPlaced, bitmap_area, bitmap_sectors, data_area, has_bitmap, super_area}
+use Rattle.md_members.specs.Members.{sectors_of_device}
 use Rattle.md_model.specs.Events.{Event, MemberPart}
 use Rattle.md_device_writes.specs.Writes.{Write}
 use Rattle.md_kept_members.specs.Members.{made_due}
@@ -29,13 +29,13 @@ use Rattle.md_array.proofs.General.Replaced.{of_set}
 use Rattle.md_array.proofs.Worlds.Outside.{LiesIn, apart_either_way, apart_from_part, stays}
 use Rattle.md_metadata.specs.Going.{GoesOn, only_others}
 use Rattle.md_metadata.specs.Storing.{IsRecording, IsStoring}
-use Rattle.md_copy.specs.Storing.{Settles}
+use Rattle.md_copy.specs.Storing.{StoresUntilDone}
 
 -- ---- where the parts of a member are
 -- a member's parts lie on its device, and it has a bitmap
 pub record HasPlace (m : MemberView) (d : Disk) : Type 0 where
   pub has : has_bitmap m.superblock ≡ true
-  pub placed : IsPlaced (sectors_of d.content) m.superblock (bitmap_sectors m.stored.chunks)
+  pub placed : AreAreasPlaced (sectors_of_device d.content) m.superblock (bitmap_sectors m.stored.chunks)
 
 -- so of all members, whose bitmaps are of as many chunks as the array's
 pub record HavePlaces (v : MirrorView) : Type 0 where
@@ -131,9 +131,9 @@ same_area m n d e same keeps i l from to =
 place_before : (m n : MemberView) (d e : Disk) → IsSameMember m n → length e.content ≡ length d.content → HasPlace n e → HasPlace m d
 place_before m n d e same long place = record {
   has = ap has_bitmap (sym same.superblock) ∙ place.has;
-  placed = subst (λ k. IsPlaced k m.superblock (bitmap_sectors m.stored.chunks)) (ap (λ k. k / 512) long)
-      (subst (λ k. IsPlaced (sectors_of e.content) m.superblock (bitmap_sectors k)) same.stored_chunks
-      (subst (λ v. IsPlaced (sectors_of e.content) v (bitmap_sectors n.stored.chunks)) same.superblock place.placed));
+  placed = subst (λ k. AreAreasPlaced k m.superblock (bitmap_sectors m.stored.chunks)) (ap (λ k. k / 512) long)
+      (subst (λ k. AreAreasPlaced (sectors_of_device e.content) m.superblock (bitmap_sectors k)) same.stored_chunks
+      (subst (λ v. AreAreasPlaced (sectors_of_device e.content) v (bitmap_sectors n.stored.chunks)) same.superblock place.placed));
 }
 
 places_before : (old new : MirrorView) → KeepsAll old new → HavePlaces new → HavePlaces old
@@ -390,6 +390,6 @@ halts_keep mid new (Event.Record k) of h = absurd h
 halts_keep mid new (Event.StoreMarks k b) of h = absurd h
 halts_keep mid new e of h = absurd of
 
-pub settles_keep : (old new : MirrorView) → Settles old new → KeepsAll old new × IsConsistent new
+pub settles_keep : (old new : MirrorView) → StoresUntilDone old new → KeepsAll old new × IsConsistent new
 settles_keep old new (inl all) = (storing_keeps old new all.goes, all.goes.sound)
 settles_keep old new (inr h) = (keeps_then old h.mid new (storing_keeps old h.mid h.goes) (halts_keep h.mid new h.failing h.of (h.halts (λ n. None))), h.sound)

@@ -7,7 +7,7 @@ use Rattle.md_assembly.specs.declared.state.MemberState.{MemberState}
 use Rattle.md_assembly.specs.declared.state.MemberState.TheVariants.{InSync, Recovering, Stale, Spare, Faulty}
 use Rattle.md_assembly.specs.States.{is_recovering, is_spare, takes_role}
 use Rattle.md_kept_members.specs.View.{MemberView}
-use Rattle.md_state.specs.Admitting.{HasNoRole}
+use Rattle.md_state.specs.Admitting.{HasNoRoleLeft}
 use Rattle.md_state.specs.Members.{IsMember}
 use Rattle.md_state.specs.Missing.{is_rebuilt}
 use Rattle.md_state.specs.View.{ArrayView}
@@ -34,7 +34,7 @@ spare_free a number Spare t e = t
 spare_free a number Faulty t e = absurd t
 
 -- a spare gets a role
-pub has_role : (a : ArrayView) (k : ℕ) → ((m : MemberView) → IsMember a k m → IsTarget a m) → ((m : MemberView) → IsMember a k m → is_spare m.state ≡ true) → HasNoRole k a → ⊥
+pub has_role : (a : ArrayView) (k : ℕ) → ((m : MemberView) → IsMember a k m → IsTarget a m) → ((m : MemberView) → IsMember a k m → is_spare m.state ≡ true) → HasNoRoleLeft k a → ⊥
 has_role a k is_target spare none =
     let m = none.member in
     let free = spare_free a m.superblock.dev_number m.state (is_target m none.at) (spare m none.at) in

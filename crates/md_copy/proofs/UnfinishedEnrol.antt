@@ -31,7 +31,7 @@ use Rattle.md_array.specs.Enrolments.{FailsAtSuper, Prepares}
 use Rattle.md_array.specs.Filling.{MayRebuild}
 use Rattle.md_array.specs.Events.{IsBesideArea, IsBesideMarks, IsChangedAlone, IsSameBesideMarks}
 use Rattle.md_array.specs.Recording.{write_of}
-use Rattle.md_array.specs.Worlds.{from_super}
+use Rattle.md_array.specs.Worlds.{sector_from_super}
 use Rattle.md_array.proofs.Rebuilding.EnrolAnswered.{can_store}
 use Rattle.md_array.proofs.Rebuilding.InBetween.{beside_area, recovers_rebuilt}
 use Rattle.md_array.proofs.Rebuilding.MemberStored.{log_long}
@@ -130,8 +130,8 @@ module _ (k : ℕ) (copied orphans : Bitmap) (old new : MirrorView) (c : IsConsi
   chunks : n.stored.chunks ≡ m.stored.chunks
   chunks = r.comes.comes.stored.chunks ∙ sym (c.chunks.member_count k m r.comes.at)
 
-  starts : from_super m.superblock.bitmap_offset ≡ r.are.start
-  starts = subst (λ (v : Superblock). from_super v.bitmap_offset ≡ r.are.start) superblock (starts_at n.superblock r.are.start r.are.starts)
+  starts : sector_from_super m.superblock.bitmap_offset ≡ r.are.start
+  starts = subst (λ (v : Superblock). sector_from_super v.bitmap_offset ≡ r.are.start) superblock (starts_at n.superblock r.are.start r.are.starts)
 
   module _ (d : Disk) (was : slice_get old.disks k ≡ Some d) where
     storable : IsStorable n d.content
@@ -171,21 +171,21 @@ module _ (k : ℕ) (copied orphans : Bitmap) (old new : MirrorView) (c : IsConsi
     log_aside = by_log (has_bad_block_log n.superblock) refl
       where
         by_log : (b : _) → has_bad_block_log n.superblock ≡ b → AreAside m (length d.content) (log_writes n.superblock n.bad)
-        by_log false none = subst (λ b. AreAside m (length d.content) (if b then record { sector = from_super n.superblock.bblog_offset; bytes = log_bytes n.bad (log_room n.superblock) } ∷ [] else [])) (sym none) tt
+        by_log false none = subst (λ b. AreAside m (length d.content) (if b then record { sector = sector_from_super n.superblock.bblog_offset; bytes = log_bytes n.bad (log_room n.superblock) } ∷ [] else [])) (sym none) tt
         by_log true there =
             let own = n.superblock in
             let placed = storable.placed.log there in
             let at = sector_at_is (log_area own).start placed.within.from in
             let long = log_long n storable.room there in
             let named : has_bad_block_log m.superblock ≡ true = subst (λ (v : Superblock). has_bad_block_log v ≡ true) superblock there in
-            subst (λ b. AreAside m (length d.content) (if b then record { sector = from_super own.bblog_offset; bytes = log_bytes n.bad (log_room own) } ∷ [] else [])) (sym there) (
+            subst (λ b. AreAside m (length d.content) (if b then record { sector = sector_from_super own.bblog_offset; bytes = log_bytes n.bad (log_room own) } ∷ [] else [])) (sym there) (
               record {
-                start = from_super own.bblog_offset;
+                start = sector_from_super own.bblog_offset;
                 sectors = own.bblog_size;
                 from = omega arith;
                 to = omega (arith, long);
-                room = fits_on (log_area own).start (from_super own.bblog_offset) own.bblog_size (length d.content) (sym at) placed.within.to;
-                beside = λ i l b. subst (λ (v : Superblock). IsBesideArea (from_super v.bblog_offset) v.bblog_size i l) (sym superblock) (b.log named);
+                room = fits_on (log_area own).start (sector_from_super own.bblog_offset) own.bblog_size (length d.content) (sym at) placed.within.to;
+                beside = λ i l b. subst (λ (v : Superblock). IsBesideArea (sector_from_super v.bblog_offset) v.bblog_size i l) (sym superblock) (b.log named);
               },
               tt,
             )
@@ -238,13 +238,13 @@ module _ (k : ℕ) (copied orphans : Bitmap) (old new : MirrorView) (c : IsConsi
         others = λ j apart x y before after.
             let same : y ≡ x = same_Some y x (sym after ∙ r.disks.others j apart ∙ before) in
             subst (λ (z : Disk). StaysHonest x z × IsLeftAlone x z) (sym same)
-            (record { honest = refl; counted = omega arith }, (refl, λ _. leaves_none x.stops (λ left. left ≡ x.content)));
+            (record { honest = refl; counted = omega arith }, (refl, λ _. leaves_none x.crashes (λ left. left ≡ x.content)));
         stays = at_both f StaysHonest (record { honest = fails.kept.honest_kept; counted = fails.kept.counted });
         size = at_both f (λ x y. length y.content ≡ length x.content) fails.kept.size;
         changed = at_both f (λ x y. x.honest ≡ true → IsSameBesideMarks m x.content y.content)
             (λ honest. any_aside f.disk f.is f.left f.left_is f.more f.left.content (fails.outside honest));
         within = at_both f (λ x y. x.honest ≡ true → LeavesOn (IsSameBesideMarks m x.content) x y)
-            (λ honest. leaves_less f.disk.stops f.left.stops (λ left. IsCutShort f.disk.content fails.done left ⊎ IsAnyIn fails.tried (after f.disk.content fails.done) left)
+            (λ honest. leaves_less f.disk.crashes f.left.crashes (λ left. IsCutShort f.disk.content fails.done left ⊎ IsAnyIn fails.tried (after f.disk.content fails.done) left)
             (IsSameBesideMarks m f.disk.content) (left_aside f.disk f.is f.left f.left_is f.more) (fails.within honest));
       }
 

@@ -15,7 +15,7 @@ pub record HasTarget (a : ArrayView) (m : MemberView) : Type 0 where
   pub target : IsTarget a m
 
 -- The mirror runs, the member may be rebuilt, and the members in sync agree.
-pub record IsSettled (a : ArrayView) (m : MemberView) : Type 0 where
+pub record HasResyncedTarget (a : ArrayView) (m : MemberView) : Type 0 where
   pub has_target : HasTarget a m
   pub resynced : a.resynced ≡ true
 
@@ -33,8 +33,8 @@ CanRise a m = a.shared.events + rises m.state < 2 ^ 64
 
 -- A rebuild may begin: the array and the member are ready for it, nothing is in flight, and the event count
 -- can rise.
-pub record MayRebuild (a : ArrayView) (m : MemberView) : Type 0 where
-  pub settled : IsSettled a m
+pub record MayBeginRebuild (a : ArrayView) (m : MemberView) : Type 0 where
+  pub resynced_target : HasResyncedTarget a m
   pub idle : IsIdle a
   pub can_rise : CanRise a m
 
@@ -48,12 +48,12 @@ pub record IsDirty (a : ArrayView) (m : MemberView) : Type 0 where
   pub not_yet : a.resynced ≡ false
 
 -- the request of this number is in flight, and is the first in the list
-pub record IsBusy (number : ℕ) (a : ArrayView) (m : MemberView) : Type 0 where
-  pub settled : IsSettled a m
+pub record HasRequestInFlight (number : ℕ) (a : ArrayView) (m : MemberView) : Type 0 where
+  pub resynced_target : HasResyncedTarget a m
   pub first : first_number a ≡ Some number
 
 pub record IsSpent (a : ArrayView) (m : MemberView) : Type 0 where
-  pub settled : IsSettled a m
+  pub resynced_target : HasResyncedTarget a m
   pub idle : IsIdle a
   pub spent : CanRise a m → ⊥
 
@@ -62,7 +62,7 @@ abbrev pub CannotRebuild : ArrayView → MemberView → RebuildFault → Type 0
 CannotRebuild a m Halted = a.halted ≡ true
 CannotRebuild a m NotSpare = LacksTarget a m
 CannotRebuild a m Dirty = IsDirty a m
-CannotRebuild a m (InFlight number) = IsBusy number a m
+CannotRebuild a m (InFlight number) = HasRequestInFlight number a m
 CannotRebuild a m (LogFull k) = ⊥
 CannotRebuild a m NoMemory = ⊥
 CannotRebuild a m TargetFault = ⊥

@@ -10,7 +10,7 @@ use Rattle.md_array.specs.Enrolling.{Enrols, FailsToEnrol, MayEnrol}
 use Rattle.md_copy.specs.declared.fault.RebuildFault.{RebuildFault}
 use Rattle.md_copy.specs.declared.fault.RebuildFault.TheVariants.{LogFull, NoMemory, TargetFault}
 use Rattle.md_copy.specs.declared.rebuilt.Rebuilt.{Rebuilt}
-use Rattle.md_copy.specs.Preparing.{IsSetOf, IsWithin, is_in, uncopied_chunks}
+use Rattle.md_copy.specs.Preparing.{IsSetOf, IsSubset, is_in, uncopied_chunks}
 
 -- The target's list needs more room than its log has, and nothing was written for it.
 pub record HasNoRoom (target : ℕ) (copied orphans : Bitmap) (old new : MirrorView) : Type 0 where
@@ -22,14 +22,14 @@ pub record HasNoRoom (target : ℕ) (copied orphans : Bitmap) (old new : MirrorV
 pub record LacksOwnRoom (target : ℕ) (copied orphans after : Bitmap) (old new : MirrorView) : Type 0 where
   pub unchanged : new ≡ old
   pub full : HasFullLog target copied orphans old.array
-  pub left : IsWithin after copied
+  pub left : IsSubset after copied
 
 -- why it does not
-abbrev pub RefusesFilled : ℕ → Bitmap → Bitmap → MirrorView → MirrorView → RebuildFault → Type 0
-RefusesFilled target copied orphans old new (LogFull k) = (k ≡ target) × HasNoRoom target copied orphans old new
-RefusesFilled target copied orphans old new NoMemory = new ≡ old
-RefusesFilled target copied orphans old new TargetFault = FailsToEnrol target copied orphans old new
-RefusesFilled target copied orphans old new fault = ⊥
+abbrev pub RefusesFilledTarget : ℕ → Bitmap → Bitmap → MirrorView → MirrorView → RebuildFault → Type 0
+RefusesFilledTarget target copied orphans old new (LogFull k) = (k ≡ target) × HasNoRoom target copied orphans old new
+RefusesFilledTarget target copied orphans old new NoMemory = new ≡ old
+RefusesFilledTarget target copied orphans old new TargetFault = FailsToEnrol target copied orphans old new
+RefusesFilledTarget target copied orphans old new fault = ⊥
 
 -- The chunks with which it comes into sync: of those that it lacks still, the ones that were copied, and the others, the orphans. Of those that
 -- were copied it lacks still such as are marked, or lie after one that was not.
@@ -63,6 +63,6 @@ pub record EndsWithSets (target : ℕ) (copied : Bitmap) (old : MirrorView) (Why
 -- The target does not come into sync, and of the chunks that were copied these are left.
 abbrev pub FailsCopied : ℕ → Bitmap → Bitmap → MirrorView → MirrorView → RebuildFault → Type 0
 FailsCopied target copied after old new (LogFull k) = (k ≡ target) × EndsWithSets target copied old (λ kept orphans. LacksOwnRoom target kept orphans after old new)
-FailsCopied target copied after old new NoMemory = (new ≡ old) × IsWithin after copied
+FailsCopied target copied after old new NoMemory = (new ≡ old) × IsSubset after copied
 FailsCopied target copied after old new TargetFault = EndsWithSets target copied old (λ kept orphans. FailsToEnrol target kept orphans old new)
 FailsCopied target copied after old new fault = ⊥

@@ -3,12 +3,12 @@ use Rattle.std.specs.Prelude.{◌≡◌, ◌≢◌, ℕ, ◌+◌, ◌≤◌, tru
 use Rattle.md_bitmap.specs.Marks.{Bitmap, is_set}
 use Rattle.md_cert.specs.declared.slots.Slot.{Slot}
 use Rattle.md_collect.specs.Places.{chunk_on}
-use Rattle.md_collect.specs.Reading.{Fails}
+use Rattle.md_collect.specs.Reading.{CountsFailure}
 use Rattle.md_assembly.specs.States.{is_in_sync_as}
 use Rattle.md_kept_members.specs.View.{MemberView}
 use Rattle.md_pass.specs.Beside.{KeepsBeside, SameBesideCopied}
 use Rattle.md_pass.specs.Copied.{AreJoined, failed_slots}
-use Rattle.md_workers.specs.Lanes.{OnlyRead}
+use Rattle.md_workers.specs.Queues.{OnlyRead}
 use Rattle.md_pass.specs.Readings.{is_of}
 use Rattle.md_pass.specs.Sources.{copy_of}
 use Rattle.md_state.specs.DiskWrites.{AtDevice}
@@ -16,7 +16,7 @@ use Rattle.md_state.specs.Members.{IsMember}
 use Rattle.md_state.specs.View.{Disk, MirrorView, of_disks}
 use Rattle.md_copy.specs.declared.fault.RebuildFault.{RebuildFault}
 use Rattle.md_copy.specs.declared.fault.RebuildFault.TheVariants.{NoMemory, TargetFault}
-use Rattle.md_copy.specs.RebuildSources.{Serves}
+use Rattle.md_copy.specs.RebuildSources.{ServesChunk}
 
 -- Whatever became of the pass: in memory all is as before, the devices are in their places, all but the target's were only read, and
 -- the target's changed in chunks of the plan alone, also at a stop.
@@ -33,7 +33,7 @@ pub record IsCopiedSlot (target offset : ℕ) (old new : MirrorView) (slot : Slo
   pub member : MemberView
   pub other : at ≢ target
   pub role : is_in_sync_as slot.source member.state ≡ true
-  pub serves : Serves old.array at member slot.chunk
+  pub serves : ServesChunk old.array at member slot.chunk
   pub same : (c d e : Disk) → slice_get old.disks target ≡ Some c → slice_get old.disks at ≡ Some d → slice_get new.disks target ≡ Some e
       → c.honest ≡ true → d.honest ≡ true → chunk_on e.content offset old.array.chunks slot.chunk ≡ chunk_on d.content member.superblock.data_offset old.array.chunks slot.chunk
 
@@ -60,7 +60,7 @@ pub record FillsPass (target : ℕ) (m : MemberView) (slots : List Slot) (before
 -- A write to the target failed. Of what was copied nothing is said.
 pub record FailsOnWrite (target : ℕ) (m : MemberView) (slots : List Slot) (old new : MirrorView) : Type 0 where
   pub filling : IsFilling target m slots old new
-  pub failed : AtDevice target old.disks new.disks (Fails of_disks)
+  pub failed : AtDevice target old.disks new.disks (CountsFailure of_disks)
 
 -- why not all slots were: memory was refused, or the target could not be written
 abbrev pub BreaksPass : ℕ → MemberView → List Slot → Bitmap → Bitmap → MirrorView → MirrorView → RebuildFault → Type 0

@@ -7,14 +7,14 @@ use Rattle.md_state.specs.Members.{IsMember}
 use Rattle.md_state.specs.Missing.{is_missing}
 use Rattle.md_state.specs.View.{Disk, MirrorView}
 use Rattle.md_kept_members.specs.Permitting.{ListsAny}
-use Rattle.md_copy.specs.RebuildSources.{Serves}
+use Rattle.md_copy.specs.RebuildSources.{ServesChunk}
 
 -- Another member serves the chunk, and the target has it as this member has, where the two devices are honest.
 pub record IsHeld (v : MirrorView) (target c : ℕ) : Type 0 where
   pub at : ℕ
   pub member : MemberView
   pub other : at ≢ target
-  pub serves : Serves v.array at member c
+  pub serves : ServesChunk v.array at member c
   pub same : (m : MemberView) (d e : Disk) → IsMember v.array target m → slice_get v.disks at ≡ Some d → slice_get v.disks target ≡ Some e
       → d.honest ≡ true → e.honest ≡ true → chunk_on e.content m.superblock.data_offset v.array.chunks c ≡ chunk_on d.content member.superblock.data_offset v.array.chunks c
 

@@ -8,7 +8,7 @@ use Rattle.md_badblocks.specs.declared.run.Run.{Run}
 use Rattle.md_badblocks.specs.Runs.{IsBad, IsCanonical}
 use Rattle.md_bitmap.specs.Marks.{Bitmap}
 use Rattle.md_cert.specs.declared.slots.Slot.{Slot}
-use Rattle.md_collect.specs.Reading.{Fails}
+use Rattle.md_collect.specs.Reading.{CountsFailure}
 use Rattle.md_kept_members.specs.Enrolling.{HasRoomFor}
 use Rattle.md_kept_members.specs.View.{MemberView}
 use Rattle.md_model.specs.Events.{Event, MemberPart}
@@ -26,7 +26,7 @@ use Rattle.md_array.specs.Worlds.{is_listed}
 use Rattle.md_metadata.specs.Going.{GoesOn, only_others}
 use Rattle.md_metadata.specs.Storing.{HaltsAtWrite, IsNoFailure, LosesStoring}
 use Rattle.md_metadata.specs.StoringLists.{HasStoredList, list_events}
-use Rattle.md_passes.specs.Listed.{IsSourceOf, ListsFailed}
+use Rattle.md_passes.specs.Listed.{IsSourceInRole, ListsFailed}
 use Rattle.md_copy.specs.declared.fault.RebuildFault.{RebuildFault}
 use Rattle.md_copy.specs.declared.fault.RebuildFault.TheVariants.{LogFull, MetadataFault, NoMemory}
 
@@ -60,7 +60,7 @@ pub record NotesLists (failed : List Slot) (old new : MirrorView) : Type 0 where
 
 -- Why the slot's chunk is not listed: its source's log has no room for it, or memory was refused.
 abbrev pub WhyNotNoted : Slot → ArrayView → RebuildFault → Type 0
-WhyNotNoted slot a (LogFull k) = IsSourceOf a k slot.source × HasFullLogFor k slot.chunk a
+WhyNotNoted slot a (LogFull k) = IsSourceInRole a k slot.source × HasFullLogFor k slot.chunk a
 WhyNotNoted slot a NoMemory = Unit {0}
 WhyNotNoted slot a fault = ⊥
 
@@ -70,7 +70,7 @@ pub record RefusesSlot (slot : Slot) (old new : MirrorView) (fault : RebuildFaul
   pub why : WhyNotNoted slot old.array fault
 
 -- The chunks of the first of these slots are listed, in memory alone, and that of the next is not.
-pub record StopsNoting (failed : List Slot) (old new : MirrorView) (fault : RebuildFault) : Type 0 where
+pub record EndsNoting (failed : List Slot) (old new : MirrorView) (fault : RebuildFault) : Type 0 where
   pub taken : List Slot
   pub next : Slot
   pub rest : List Slot
@@ -95,8 +95,8 @@ all_list_events [] = []
 all_list_events (l ∷ ls) = list_events l.0 l.1 ++ all_list_events ls
 
 -- some slot that failed is the member's
-abbrev pub HasFailed : List Slot → MemberView → Type 0
-HasFailed failed m = Any (λ s. is_in_sync_as s.source m.state ≡ true) failed
+abbrev pub HasFailedSlot : List Slot → MemberView → Type 0
+HasFailedSlot failed m = Any (λ s. is_in_sync_as s.source m.state ≡ true) failed
 
 -- At most the metadata of members in sync were written, and no other device was used.
 pub record WritesMetadata (old new : MirrorView) : Type 0 where
@@ -108,18 +108,18 @@ pub record WritesMetadata (old new : MirrorView) : Type 0 where
 
 -- a member's list is stored, if a slot of its own failed, and else it is as it was
 abbrev pub StoresIfFailed : List Slot → Bitmap → MemberView → MemberView → Type 0
-StoresIfFailed failed marks m n = (HasFailed failed m × HasStoredList marks m n) ⊎ ((HasFailed failed m → ⊥) × (n ≡ m))
+StoresIfFailed failed marks m n = (HasFailedSlot failed m × HasStoredList marks m n) ⊎ ((HasFailedSlot failed m → ⊥) × (n ≡ m))
 
 -- member k's list is stored, if a slot of it failed, and else none
 abbrev pub StoresOwn : List Slot → ℕ → ArrayView → List (ℕ × (ℕ → Bool)) → Type 0
 StoresOwn failed k a stored =
-    ((m : MemberView) × IsMember a k m × HasFailed failed m × (listed : ℕ → Bool) × (stored ≡ (k, listed) ∷ []))
-    ⊎ (((m : MemberView) → IsMember a k m → HasFailed failed m → ⊥) × (stored ≡ []))
+    ((m : MemberView) × IsMember a k m × HasFailedSlot failed m × (listed : ℕ → Bool) × (stored ≡ (k, listed) ∷ []))
+    ⊎ (((m : MemberView) → IsMember a k m → HasFailedSlot failed m → ⊥) × (stored ≡ []))
 
 -- These are the lists of the members of which a slot failed, each once, by index.
 pub record AreListsOf (failed : List Slot) (a : ArrayView) (stored : List (ℕ × (ℕ → Bool))) : Type 0 where
-  pub each : (k : ℕ) (m : MemberView) → IsMember a k m → HasFailed failed m → Any (λ (l : ℕ × (ℕ → Bool)). l.0 ≡ k) stored
-  pub only : All (λ (l : ℕ × (ℕ → Bool)). (m : MemberView) × IsMember a l.0 m × HasFailed failed m) stored
+  pub each : (k : ℕ) (m : MemberView) → IsMember a k m → HasFailedSlot failed m → Any (λ (l : ℕ × (ℕ → Bool)). l.0 ≡ k) stored
+  pub only : All (λ (l : ℕ × (ℕ → Bool)). (m : MemberView) × IsMember a l.0 m × HasFailedSlot failed m) stored
   pub rising : AllPairs (λ (l o : ℕ × (ℕ → Bool)). l.0 < o.0) stored
 
 -- Member k's list is stored, if a slot of it failed, and that of no other member.
@@ -166,7 +166,7 @@ pub record HaltsAtList (k : ℕ) (old new : MirrorView) : Type 0 where
   pub alone : (j : ℕ) (n : MemberView) → IsInSync new.array j n → j ≡ k
 
 -- A member's list is as before, and its data are where they were. Of one that is not in sync nothing changed but that it may be due.
-pub record KeepsList (m n : MemberView) : Type 0 where
+pub record KeepsListAndData (m n : MemberView) : Type 0 where
   pub bad : n.bad ≡ m.bad
   pub offset : n.superblock.data_offset ≡ m.superblock.data_offset
   pub size : n.superblock.data_size ≡ m.superblock.data_size
@@ -174,21 +174,21 @@ pub record KeepsList (m n : MemberView) : Type 0 where
 
 -- A write to member k failed, which a failed slot is of, and that was the end: it is faulty, or the mirror is halted. Of each other member in sync the
 -- list is stored, or its device is as it was.
-pub record StopsAtList (failed : List Slot) (k : ℕ) (old new : MirrorView) : Type 0 where
+pub record EndsAtList (failed : List Slot) (k : ℕ) (old new : MirrorView) : Type 0 where
   pub member : MemberView
   pub was : IsInSync old.array k member
-  pub source : HasFailed failed member
+  pub source : HasFailedSlot failed member
   pub ends : LosesStoring IsStoringList k old new ⊎ HaltsAtList k old new
-  pub members : (j : ℕ) (m n : MemberView) → IsMember old.array j m → IsMember new.array j n → KeepsList m n × (j ≢ k → n.state ≡ m.state)
+  pub members : (j : ℕ) (m n : MemberView) → IsMember old.array j m → IsMember new.array j n → KeepsListAndData m n × (j ≢ k → n.state ≡ m.state)
   pub own : (m n : MemberView) → IsMember old.array k m → IsMember new.array k n
-      → (n.state ≡ m.state) ⊎ ((n.state ≡ Faulty) × AtDevice k old.disks new.disks (Fails of_disks))
+      → (n.state ≡ m.state) ⊎ ((n.state ≡ Faulty) × AtDevice k old.disks new.disks (CountsFailure of_disks))
   pub others : (j : ℕ) (m : MemberView) → j ≢ k → IsMember old.array j m → is_in_sync m.state ≡ true → IsListOn m.bad j new ⊎ (slice_get new.disks j ≡ slice_get old.disks j)
-  pub counted : AtDevice k old.disks new.disks (Fails of_disks)
+  pub counted : AtDevice k old.disks new.disks (CountsFailure of_disks)
   pub writes : WritesMetadata old new
 
-abbrev pub StopsStoringLists : List Slot → MirrorView → MirrorView → RebuildFault → Type 0
-StopsStoringLists failed old new (MetadataFault k) = StopsAtList failed k old new
-StopsStoringLists failed old new fault = ⊥
+abbrev pub EndsStoringLists : List Slot → MirrorView → MirrorView → RebuildFault → Type 0
+EndsStoringLists failed old new (MetadataFault k) = EndsAtList failed k old new
+EndsStoringLists failed old new fault = ⊥
 
 -- ---- both
 -- The chunks of these slots are listed and stored, and nothing failed.
@@ -203,8 +203,8 @@ pub record ListsAll (failed : List Slot) (old new : MirrorView) : Type 0 where
 
 -- The chunks of failed slots are not all listed: memory was refused or a log had no room, or all are listed
 -- in memory, and not all stored.
-abbrev pub StopsListing : List Slot → MirrorView → MirrorView → RebuildFault → Type 0
-StopsListing failed old new (LogFull k) = StopsNoting failed old new (LogFull k)
-StopsListing failed old new NoMemory = StopsNoting failed old new NoMemory
-StopsListing failed old new (MetadataFault k) = (noted : MirrorView) × NotesLists failed old noted × StopsAtList failed k noted new
-StopsListing failed old new fault = ⊥
+abbrev pub EndsListing : List Slot → MirrorView → MirrorView → RebuildFault → Type 0
+EndsListing failed old new (LogFull k) = EndsNoting failed old new (LogFull k)
+EndsListing failed old new NoMemory = EndsNoting failed old new NoMemory
+EndsListing failed old new (MetadataFault k) = (noted : MirrorView) × NotesLists failed old noted × EndsAtList failed k noted new
+EndsListing failed old new fault = ⊥

@@ -1,7 +1,7 @@
 -- A rebuild's passes over a mirror, step by step: a pass is made, what was copied is recorded, and what failed is listed.
 use Rattle.std.specs.Prelude.{◌≡◌, ◌≢◌, ◌⊎◌, ◌^◌, ◌<◌, ℕ, false, List, [], ◌∷◌, ◌++◌, length, map, All}
 use Rattle.md_bitmap.specs.Marks.{Bitmap, is_set}
-use Rattle.md_cert.specs.Tables.{chunks_of}
+use Rattle.md_cert.specs.Tables.{chunks_of_rows}
 use Rattle.md_cert.specs.declared.slots.Slot.{Slot}
 use Rattle.md_cert.specs.declared.table.Row.{Row}
 use Rattle.md_kept_members.specs.View.{MemberView}
@@ -12,15 +12,15 @@ use Rattle.md_array.specs.Checkpoints.{Checkpoints, FailsToCheckpoint}
 use Rattle.md_array.specs.Consistency.{IsConsistent}
 use Rattle.md_pass.specs.Copied.{AreUncopied}
 use Rattle.md_passes.specs.Listed.{IsArrayPass, IsFailedOf}
-use Rattle.md_passes.specs.Passes.{PassView, failed_chunks, slots_of}
+use Rattle.md_passes.specs.Passes.{PassView, failed_chunks, slots_of_pass}
 use Rattle.md_copy.specs.declared.fault.RebuildFault.{RebuildFault}
 use Rattle.md_copy.specs.declared.fault.RebuildFault.TheVariants.{LogFull, MetadataFault, NoMemory, TargetFault}
 use Rattle.md_copy.specs.declared.passes.Passed.{Passed}
 use Rattle.md_copy.specs.Filling.{BreaksPass, CopiesChunks, CountsFailed}
 use Rattle.md_copy.specs.Held.{AreHeld}
-use Rattle.md_copy.specs.Listing.{ListsAll, StopsListing}
+use Rattle.md_copy.specs.Listing.{ListsAll, EndsListing}
 use Rattle.md_copy.specs.Preparing.{IsNoMemory}
-use Rattle.md_copy.specs.Ready.{IsReady}
+use Rattle.md_copy.specs.Ready.{IsReadyToCopy}
 use Rattle.md_copy.specs.Sources.{HasSources, IsTableIn, missing_chunks}
 
 -- A pass over these chunks: it is planned by what is kept in memory, and made. Its slots failed whose chunks were not copied.
@@ -28,8 +28,8 @@ pub record MakesPass (target : ℕ) (chunks : List ℕ) (p : PassView) (before a
   pub is : IsArrayPass old.array chunks p
   pub member : MemberView
   pub at : IsMember old.array target member
-  pub uncopied : AreUncopied (slots_of p) before
-  pub copies : CopiesChunks target member (slots_of p) before after old new
+  pub uncopied : AreUncopied (slots_of_pass p) before
+  pub copies : CopiesChunks target member (slots_of_pass p) before after old new
   pub failed : IsFailedOf p after
   pub counted : CountsFailed p.failed old new
   pub sound : IsConsistent new
@@ -81,12 +81,12 @@ pub record EndsBetween (target : ℕ) (m : MemberView) (before : Bitmap) (old : 
   pub why : Why left copied now
 
 -- A pass was planned, and broken off with this fault.
-pub record BreaksOff (target : ℕ) (fault : RebuildFault) (chunks : List ℕ) (before after : Bitmap) (old new : MirrorView) : Type 0 where
+pub record BreaksOffPass (target : ℕ) (fault : RebuildFault) (chunks : List ℕ) (before after : Bitmap) (old new : MirrorView) : Type 0 where
   pub pass : PassView
   pub is : IsArrayPass old.array chunks pass
   pub member : MemberView
   pub at : IsMember old.array target member
-  pub breaks : BreaksPass target member (slots_of pass) before after old new fault
+  pub breaks : BreaksPass target member (slots_of_pass pass) before after old new fault
   pub sound : IsConsistent new
 
 -- A pass was made, and how far the target is rebuilt could not be recorded.
@@ -104,30 +104,30 @@ pub record FailsListing (target : ℕ) (fault : RebuildFault) (chunks : List ℕ
   pub recorded : MirrorView
   pub records : RecordsPass target chunks pass before after old recorded
   pub some : pass.failed ≢ []
-  pub fails : StopsListing pass.failed recorded new fault
+  pub fails : EndsListing pass.failed recorded new fault
 
 -- ---- after a pass of which slots failed
 -- The chunks of the slots that failed are listed, and these rows are the next table.
 pub record GoesOnWith (failed : List Slot) (old new : MirrorView) (rows : List Row) : Type 0 where
   pub lists : ListsAll failed old new
-  pub chunks : chunks_of rows ≡ map (λ (s : Slot). s.chunk) failed
+  pub chunks : chunks_of_rows rows ≡ map (λ (s : Slot). s.chunk) failed
   pub sources : All (HasSources new.array) rows
 
 -- The chunks of the slots that failed are not all listed; or they are, and memory was refused for the next
 -- table.
-abbrev pub StopsBetween : List Slot → MirrorView → MirrorView → RebuildFault → Type 0
-StopsBetween failed old new fault = StopsListing failed old new fault ⊎ (IsNoMemory fault × ListsAll failed old new)
+abbrev pub FailsBetween : List Slot → MirrorView → MirrorView → RebuildFault → Type 0
+FailsBetween failed old new fault = EndsListing failed old new fault ⊎ (IsNoMemory fault × ListsAll failed old new)
 
 -- ---- what the calls for one pass and for all of them answer
 pub record MakesOne (target : ℕ) (rows : List Row) (before after : Bitmap) (old new : MirrorView) (told : Passed) : Type 0 where
   pub pass : PassView
   pub planned : told.planned ≡ pass.planned
   pub failed : told.failed ≡ length pass.failed
-  pub records : RecordsPass target (chunks_of rows) pass before after old new
+  pub records : RecordsPass target (chunks_of_rows rows) pass before after old new
 
 abbrev pub FailsOne : ℕ → List Row → Bitmap → Bitmap → MirrorView → MirrorView → RebuildFault → Type 0
-FailsOne target rows before after old new NoMemory = ((after ≡ before) × (new ≡ old)) ⊎ BreaksOff target NoMemory (chunks_of rows) before after old new
-FailsOne target rows before after old new TargetFault = BreaksOff target TargetFault (chunks_of rows) before after old new ⊎ FailsRecording target (chunks_of rows) before old new
+FailsOne target rows before after old new NoMemory = ((after ≡ before) × (new ≡ old)) ⊎ BreaksOffPass target NoMemory (chunks_of_rows rows) before after old new
+FailsOne target rows before after old new TargetFault = BreaksOffPass target TargetFault (chunks_of_rows rows) before after old new ⊎ FailsRecording target (chunks_of_rows rows) before old new
 FailsOne target rows before after old new fault = ⊥
 
 pub record PassesAll (target : ℕ) (m : MemberView) (before after : Bitmap) (old new : MirrorView) (plans : List Planned) : Type 0 where
@@ -136,19 +136,19 @@ pub record PassesAll (target : ℕ) (m : MemberView) (before after : Bitmap) (ol
   pub copies : CopiesAll target m passes before after old new
   pub few : length plans < 2 ^ 32
   pub within : target < length new.array.members
-  pub ready : IsReady target new
+  pub ready : IsReadyToCopy target new
   pub held : AreHeld new target after
 
 -- before a pass, in one, or while failed chunks are listed
 abbrev pub PassesFail : ℕ → MemberView → Bitmap → Bitmap → MirrorView → MirrorView → RebuildFault → Type 0
 PassesFail target m before after old new NoMemory =
     EndsBetween target m before old (λ left copied now. (after ≡ copied) × (new ≡ now))
-    ⊎ (EndsBetween target m before old (λ left copied now. BreaksOff target NoMemory left copied after now new)
+    ⊎ (EndsBetween target m before old (λ left copied now. BreaksOffPass target NoMemory left copied after now new)
     ⊎ EndsBetween target m before old (λ left copied now. FailsListing target NoMemory left copied after now new))
 PassesFail target m before after old new (LogFull k) = EndsBetween target m before old (λ left copied now. FailsListing target (LogFull k) left copied after now new)
 PassesFail target m before after old new (MetadataFault k) = EndsBetween target m before old (λ left copied now. FailsListing target (MetadataFault k) left copied after now new)
 PassesFail target m before after old new TargetFault =
-    EndsBetween target m before old (λ left copied now. BreaksOff target TargetFault left copied after now new)
+    EndsBetween target m before old (λ left copied now. BreaksOffPass target TargetFault left copied after now new)
     ⊎ EndsBetween target m before old (λ left copied now. FailsRecording target left copied now new)
 PassesFail target m before after old new fault = ⊥
 

@@ -15,8 +15,8 @@ abbrev pub is_in : List ℕ → ℕ → Bool
 is_in chunks c = list_any (λ chunk. chunk == c) chunks
 
 -- each chunk of the one set is in the other
-abbrev pub IsWithin : Bitmap → Bitmap → Type 0
-IsWithin set other = (c : ℕ) → c < set.chunks → is_set set.bytes c ≡ true → is_set other.bytes c ≡ true
+abbrev pub IsSubset : Bitmap → Bitmap → Type 0
+IsSubset set other = (c : ℕ) → c < set.chunks → is_set set.bytes c ≡ true → is_set other.bytes c ≡ true
 
 -- as many chunks as the array has, of which exactly these are in the set
 pub record IsSetOf (a : ArrayView) (has : ℕ → Bool) (set : Bitmap) : Type 0 where
@@ -28,7 +28,7 @@ abbrev pub uncopied_chunks : ArrayView → MemberView → Bitmap → List ℕ
 uncopied_chunks a m copied = filter (λ c. not (is_set copied.bytes c)) (missing_chunks a m)
 
 -- what is told of these passes, and of the chunks that nobody could give
-pub record Tells (passes : List PassView) (orphans : List ℕ) (told : Rebuilt) : Type 0 where
+pub record TellsPasses (passes : List PassView) (orphans : List ℕ) (told : Rebuilt) : Type 0 where
   pub passes_are : told.passes ≡ length passes
   pub plans : told.plans.items ≡ map (λ (p : PassView). p.planned) passes
   pub orphans_are : told.orphans.items ≡ orphans

@@ -10,15 +10,15 @@ use Rattle.md_array.specs.Consistency.{IsConsistent}
 use Rattle.md_array.specs.NotingResynced.{AreNoted}
 
 -- nothing is in flight, the array is resynced, and the count can rise so often
-pub record MayGoOn (n : ℕ) (a : ArrayView) : Type 0 where
+pub record MayRebuildOn (n : ℕ) (a : ArrayView) : Type 0 where
   pub idle : IsIdle a
   pub resynced : a.resynced ≡ true
   pub can_rise : a.shared.events + n < 2 ^ 64
 
 -- The target is recovering and may come into sync, and each member in sync has the marks and its superblock stored.
-pub record IsReady (target : ℕ) (v : MirrorView) : Type 0 where
+pub record IsReadyToCopy (target : ℕ) (v : MirrorView) : Type 0 where
   pub sound : IsConsistent v
-  pub goes : MayGoOn 1 v.array
+  pub goes : MayRebuildOn 1 v.array
   pub noted : AreNoted v.array
   pub recorded : AllInSync v.array IsNotDue
   pub recovering : (n : MemberView) → IsMember v.array target n → is_recovering n.state ≡ true

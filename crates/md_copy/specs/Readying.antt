@@ -8,7 +8,7 @@ use Rattle.md_array.specs.Admitting.{Admits, FailsToAdmit}
 use Rattle.md_array.specs.Consistency.{IsConsistent}
 use Rattle.md_copy.specs.declared.fault.RebuildFault.{RebuildFault}
 use Rattle.md_copy.specs.declared.fault.RebuildFault.TheVariants.{MetadataFault, NoMemory, TargetFault}
-use Rattle.md_copy.specs.Storing.{FailsOnTarget, StopsAt, StoresFirst}
+use Rattle.md_copy.specs.Storing.{FailsToRecordTarget, EndsAtOther, StoresFirst}
 
 -- What was due is stored, so that no member in sync is two events behind. Then the target, a spare, was admitted.
 pub record AdmitsAfter (target : ℕ) (old admitted : MirrorView) : Type 0 where
@@ -45,18 +45,18 @@ pub record FailsAdmission (target : ℕ) (old new : MirrorView) : Type 0 where
 
 -- The target was admitted, and is recovering. Then a write to member k failed. Nothing is copied yet, and the members in sync need not have stored that
 -- the count rose as the target was admitted, and again as k failed: nothing more is written.
-pub record StopsAdmitted (target k : ℕ) (old new : MirrorView) : Type 0 where
+pub record EndsAdmitted (target k : ℕ) (old new : MirrorView) : Type 0 where
   pub admitted : MirrorView
   pub after : AdmitsAfter target old admitted
-  pub stops : StopsAt target k admitted new
+  pub ends : EndsAtOther target k admitted new
 
 -- Memory was refused for the admission of a spare. What was due is stored.
 pub record LacksAdmission (target : ℕ) (old new : MirrorView) : Type 0 where
   pub first : StoresFirst old new
   pub spare : (m : MemberView) → IsMember old.array target m → is_spare m.state ≡ true
 
-abbrev pub RefusesReady : ℕ → MirrorView → MirrorView → RebuildFault → Type 0
-RefusesReady target old new (MetadataFault k) = StopsAt target k old new ⊎ StopsAdmitted target k old new
-RefusesReady target old new TargetFault = FailsOnTarget target old new ⊎ FailsAdmission target old new
-RefusesReady target old new NoMemory = LacksAdmission target old new
-RefusesReady target old new fault = ⊥
+abbrev pub RefusesToReady : ℕ → MirrorView → MirrorView → RebuildFault → Type 0
+RefusesToReady target old new (MetadataFault k) = EndsAtOther target k old new ⊎ EndsAdmitted target k old new
+RefusesToReady target old new TargetFault = FailsToRecordTarget target old new ⊎ FailsAdmission target old new
+RefusesToReady target old new NoMemory = LacksAdmission target old new
+RefusesToReady target old new fault = ⊥

@@ -14,7 +14,7 @@ use Rattle.md_metadata.specs.Going.{LeadsBy}
 use Rattle.md_metadata.specs.Storing.{IsFailureOf, IsNoFailure, IsStoring}
 use Rattle.md_copy.specs.declared.fault.RebuildFault.{RebuildFault}
 use Rattle.md_copy.specs.declared.fault.RebuildFault.TheVariants.{Halted, NotSpare, Dirty, InFlight, LogFull, NoMemory, TargetFault, MetadataFault, EventsFull}
-use Rattle.md_copy.specs.Leaving.{Leaves}
+use Rattle.md_copy.specs.Leaving.{RecordsAtEnd}
 use Rattle.md_copy.specs.Listing.{IsNoting, IsStoringList}
 use Rattle.md_copy.specs.Rebuilding.{LosesTarget, RefusesRebuild}
 
@@ -141,8 +141,8 @@ pub record FailsAtMarks {target : ℕ} {copied orphans : Bitmap} {old new : Mirr
 
 -- ---- which event stands for which fault
 -- This event is the last.
-abbrev pub EndsWith : Event → List Event → Type 0
-EndsWith e events = (before : List Event) × (events ≡ before ++ e ∷ [])
+abbrev pub EventsEndWith : Event → List Event → Type 0
+EventsEndWith e events = (before : List Event) × (events ≡ before ++ e ∷ [])
 
 -- How far the target is rebuilt was recorded, or could not be; or neither was tried.
 abbrev pub AreOfLeaving : ℕ → List Event → Type 0
@@ -166,17 +166,17 @@ TellsMember target k events (inr halts) = IsFailureOf k halts.failing
 
 -- The write that failed was one to the target: of a pass, by which its offset was to be recorded, or one of
 -- `enrol`, before its last or the last.
-abbrev pub TellsTarget : {target : ℕ} {m : MemberView} {none : Bitmap} {ready new : MirrorView} → LosesTarget target m none ready new → List Event → Type 0
-TellsTarget {target} (inl pass) events = EndsWith (Event.Fill target) events
-TellsTarget {target} (inr (inl recording)) events = EndsWith (Event.SpoilTarget target) events
-TellsTarget {target} (inr (inr ends)) events =
-    (FailsAtMarks ends.why × EndsWith (Event.Prepare target) events) ⊎ (FailsAtSuper ends.why × EndsWith (Event.SpoilTarget target) events)
+abbrev pub WritesTarget : {target : ℕ} {m : MemberView} {none : Bitmap} {ready new : MirrorView} → LosesTarget target m none ready new → List Event → Type 0
+WritesTarget {target} (inl pass) events = EventsEndWith (Event.Fill target) events
+WritesTarget {target} (inr (inl recording)) events = EventsEndWith (Event.SpoilTarget target) events
+WritesTarget {target} (inr (inr ends)) events =
+    (FailsAtMarks ends.why × EventsEndWith (Event.Prepare target) events) ⊎ (FailsAtSuper ends.why × EventsEndWith (Event.SpoilTarget target) events)
 
 -- How far the target is rebuilt was recorded before the fault was answered, or could not be.
-abbrev pub TellsLeaving : {target : ℕ} {copied : Bitmap} {stopped new : MirrorView} → Leaves target copied stopped new → List Event → Type 0
+abbrev pub TellsLeaving : {target : ℕ} {copied : Bitmap} {stopped new : MirrorView} → RecordsAtEnd target copied stopped new → List Event → Type 0
 TellsLeaving {target} (inl halted) events = Unit {0}
-TellsLeaving {target} (inr (inl recorded)) events = (offset : ℕ) × (listed : ℕ → Bool) × EndsWith (Event.Checkpoint target offset listed) events
-TellsLeaving {target} (inr (inr fails)) events = EndsWith (Event.SpoilTarget target) events
+TellsLeaving {target} (inr (inl recorded)) events = (offset : ℕ) × (listed : ℕ → Bool) × EventsEndWith (Event.Checkpoint target offset listed) events
+TellsLeaving {target} (inr (inr fails)) events = EventsEndWith (Event.SpoilTarget target) events
 
 -- The mirror was halted only where `MetadataFault` is answered.
 abbrev pub TellsFault : (target : ℕ) (old new : MirrorView) (fault : RebuildFault) → RefusesRebuild target old new fault → LeadsOrHalts (IsOfUnfinished target) old new → Type 0
@@ -186,9 +186,9 @@ TellsFault target old new Dirty h goes = (goes.last ≡ new) × (goes.leads.even
 TellsFault target old new (InFlight number) h goes = (goes.last ≡ new) × (goes.leads.events ≡ [])
 TellsFault target old new EventsFull h goes = (goes.last ≡ new) × (goes.leads.events ≡ [])
 TellsFault target old new (MetadataFault k) h goes = TellsMember target k goes.leads.events goes.ends
-TellsFault target old new TargetFault (inl recording) goes = (goes.last ≡ new) × EndsWith (Event.RecordTargetFails target) goes.leads.events
-TellsFault target old new TargetFault (inr (inl admission)) goes = (goes.last ≡ new) × EndsWith (Event.SpoilTarget target) goes.leads.events
-TellsFault target old new TargetFault (inr (inr ends)) goes = (goes.last ≡ new) × TellsTarget ends.why goes.leads.events
+TellsFault target old new TargetFault (inl recording) goes = (goes.last ≡ new) × EventsEndWith (Event.RecordTargetFails target) goes.leads.events
+TellsFault target old new TargetFault (inr (inl admission)) goes = (goes.last ≡ new) × EventsEndWith (Event.SpoilTarget target) goes.leads.events
+TellsFault target old new TargetFault (inr (inr ends)) goes = (goes.last ≡ new) × WritesTarget ends.why goes.leads.events
 TellsFault target old new NoMemory (inl first) goes = goes.last ≡ new
 TellsFault target old new NoMemory (inr h) goes = (goes.last ≡ new) × TellsLeaving h.leaves goes.leads.events
 TellsFault target old new (LogFull k) h goes = (goes.last ≡ new) × TellsLeaving h.leaves goes.leads.events
@@ -208,7 +208,7 @@ pub record LeadsUnadmitted (target : ℕ) (old new : MirrorView) : Type 0 where
 
 -- ---- where a checkpoint fails
 -- The checkpoint before the fault is answered fails.
-abbrev pub FailsLeaving : {target : ℕ} {copied : Bitmap} {stopped new : MirrorView} → Leaves target copied stopped new → Type 0
+abbrev pub FailsLeaving : {target : ℕ} {copied : Bitmap} {stopped new : MirrorView} → RecordsAtEnd target copied stopped new → Type 0
 FailsLeaving (inl halted) = ⊥
 FailsLeaving (inr (inl recorded)) = ⊥
 FailsLeaving (inr (inr fails)) = Unit {0}

@@ -37,11 +37,11 @@ pub record IsSourceAt (v : MirrorView) (target k : ℕ) (m : MemberView) (s : So
   pub offset : s.offset ≡ m.superblock.data_offset
   pub device : (d : Disk) → slice_index_or (remove v.disks target) s.place d ≡ slice_index_or v.disks k d
 
-abbrev pub IsSource : MirrorView → ℕ → Source → Type 0
-IsSource v target s = (k : ℕ) × (m : MemberView) × IsSourceAt v target k m s
+abbrev pub IsRebuildSource : MirrorView → ℕ → Source → Type 0
+IsRebuildSource v target s = (k : ℕ) × (m : MemberView) × IsSourceAt v target k m s
 
 -- member k is in sync and lists no sector of the chunk
-pub record Serves (a : ArrayView) (k : ℕ) (m : MemberView) (chunk : ℕ) : Type 0 where
+pub record ServesChunk (a : ArrayView) (k : ℕ) (m : MemberView) (chunk : ℕ) : Type 0 where
   pub in_sync : IsInSync a k m
   pub unlisted : (s : ℕ) → InChunk a.chunks.sectors a.chunks.size chunk s → IsBad m.bad (m.superblock.data_offset + s) → ⊥
 
@@ -51,11 +51,11 @@ pub record IsServedBy (v : MirrorView) (target : ℕ) (slot : Slot) (s : Source)
   pub at : ℕ
   pub member : MemberView
   pub is : IsSourceAt v target at member s
-  pub serves : Serves v.array at member slot.chunk
+  pub serves : ServesChunk v.array at member slot.chunk
 
 -- the sources of these slots
 pub record AreSources (v : MirrorView) (target : ℕ) (slots : List Slot) (sources : List Source) : Type 0 where
-  pub each : All (IsSource v target) sources
+  pub each : All (IsRebuildSource v target) sources
   -- no source is without a slot
   pub named : All (λ s. Any (λ slot. slot.source ≡ s.role) slots) sources
   -- and no slot without its source, which is one alone, since no two have one role

@@ -11,20 +11,20 @@ use Rattle.md_array.specs.Enrolling.{Enrols, FailsToEnrol}
 use Rattle.md_copy.specs.declared.fault.RebuildFault.{RebuildFault}
 use Rattle.md_copy.specs.declared.fault.RebuildFault.TheVariants.{Halted, NotSpare, Dirty, InFlight, LogFull, NoMemory, TargetFault, MetadataFault, EventsFull}
 use Rattle.md_copy.specs.declared.rebuilt.Rebuilt.{Rebuilt}
-use Rattle.md_copy.specs.Beginning.{CannotRebuild, MayRebuild}
+use Rattle.md_copy.specs.Beginning.{CannotRebuild, MayBeginRebuild}
 use Rattle.md_copy.specs.Enrolled.{HasSets, LacksOwnRoom}
 use Rattle.md_copy.specs.Leaving.{HasNone, LeavesAfter}
-use Rattle.md_copy.specs.Passing.{BreaksOff, CopiesAll, EndsBetween, FailsListing, FailsRecording}
-use Rattle.md_copy.specs.Preparing.{IsSetOf, IsWithin, Tells, uncopied_chunks}
-use Rattle.md_copy.specs.Readying.{FailsAdmission, LacksAdmission, Readies, StopsAdmitted}
-use Rattle.md_copy.specs.Storing.{FailsOnTarget, Settles, StopsAt}
+use Rattle.md_copy.specs.Passing.{BreaksOffPass, CopiesAll, EndsBetween, FailsListing, FailsRecording}
+use Rattle.md_copy.specs.Preparing.{IsSetOf, IsSubset, TellsPasses, uncopied_chunks}
+use Rattle.md_copy.specs.Readying.{FailsAdmission, LacksAdmission, Readies, EndsAdmitted}
+use Rattle.md_copy.specs.Storing.{FailsToRecordTarget, StoresUntilDone, EndsAtOther}
 
 -- A rebuild was checked, what is due is stored, and a spare is admitted. No chunk is copied yet.
-pub record Begins (target : ℕ) (old ready : MirrorView) (none : Bitmap) : Type 0 where
+pub record BeginsRebuild (target : ℕ) (old ready : MirrorView) (none : Bitmap) : Type 0 where
   pub sound : IsConsistent old
   pub member : MemberView
   pub at : IsMember old.array target member
-  pub may : MayRebuild old.array member
+  pub may : MayBeginRebuild old.array member
   pub first : Readies target member old ready
   pub now : MemberView
   pub there : IsMember ready.array target now
@@ -45,7 +45,7 @@ pub record EnrolsBy (target : ℕ) (m : MemberView) (passes : List PassView) (no
   pub enrolled : MirrorView
   pub enrols : Enrols target kept orphans filled enrolled
   pub sound : IsConsistent enrolled
-  pub settles : Settles enrolled new
+  pub stores_until_done : StoresUntilDone enrolled new
 
 -- The target is rebuilt, and this is told of it.
 pub record RebuildsReadied (target : ℕ) (m : MemberView) (none : Bitmap) (ready new : MirrorView) (told : Rebuilt) : Type 0 where
@@ -54,7 +54,7 @@ pub record RebuildsReadied (target : ℕ) (m : MemberView) (none : Bitmap) (read
   pub kept : Bitmap
   pub orphans : Bitmap
   pub chunks : List ℕ
-  pub tells : Tells passes chunks told
+  pub tells : TellsPasses passes chunks told
   pub by : EnrolsBy target m passes none copied kept orphans chunks ready new
 
 -- The target has all that could be copied, and it does not come into sync.
@@ -73,13 +73,13 @@ pub record EndsCopied (target : ℕ) (m : MemberView) (none after : Bitmap) (rea
   pub passes : List PassView
   pub copied : Bitmap
   pub copies : CopiesAll target m passes none copied ready stopped
-  pub left : IsWithin after copied
+  pub left : IsSubset after copied
 
 -- Memory was refused, with these chunks copied: before a pass, within one, while failed chunks are listed, or as the target was to come into sync.
-abbrev pub LacksMemory : ℕ → MemberView → Bitmap → Bitmap → MirrorView → MirrorView → Type 0
-LacksMemory target m none after ready stopped =
+abbrev pub LacksMemoryToRebuild : ℕ → MemberView → Bitmap → Bitmap → MirrorView → MirrorView → Type 0
+LacksMemoryToRebuild target m none after ready stopped =
     EndsBetween target m none ready (λ left copied now. (after ≡ copied) × (stopped ≡ now))
-    ⊎ (EndsBetween target m none ready (λ left copied now. BreaksOff target NoMemory left copied after now stopped)
+    ⊎ (EndsBetween target m none ready (λ left copied now. BreaksOffPass target NoMemory left copied after now stopped)
     ⊎ (EndsBetween target m none ready (λ left copied now. FailsListing target NoMemory left copied after now stopped)
     ⊎ EndsCopied target m none after ready stopped))
 
@@ -97,23 +97,23 @@ LosesSource k target m none ready stopped =
 -- The target could not be written: in a pass, after one, or as it was to come into sync.
 abbrev pub LosesTarget : ℕ → MemberView → Bitmap → MirrorView → MirrorView → Type 0
 LosesTarget target m none ready new =
-    EndsBetween target m none ready (λ left copied now. (after : Bitmap) × BreaksOff target TargetFault left copied after now new)
+    EndsBetween target m none ready (λ left copied now. (after : Bitmap) × BreaksOffPass target TargetFault left copied after now new)
     ⊎ (EndsBetween target m none ready (λ left copied now. FailsRecording target left copied now new)
     ⊎ EndsFilled target m none ready (λ kept orphans filled. FailsToEnrol target kept orphans filled new))
 
-abbrev pub StopsReadied : ℕ → MemberView → Bitmap → Bitmap → MirrorView → MirrorView → RebuildFault → Type 0
-StopsReadied target m none after ready stopped NoMemory = LacksMemory target m none after ready stopped
-StopsReadied target m none after ready stopped (LogFull k) = LacksRoom k target m none after ready stopped
-StopsReadied target m none after ready stopped (MetadataFault k) = LosesSource k target m none ready stopped
-StopsReadied target m none after ready stopped TargetFault = LosesTarget target m none ready stopped
-StopsReadied target m none after ready stopped fault = ⊥
+abbrev pub EndsAfterReady : ℕ → MemberView → Bitmap → Bitmap → MirrorView → MirrorView → RebuildFault → Type 0
+EndsAfterReady target m none after ready stopped NoMemory = LacksMemoryToRebuild target m none after ready stopped
+EndsAfterReady target m none after ready stopped (LogFull k) = LacksRoom k target m none after ready stopped
+EndsAfterReady target m none after ready stopped (MetadataFault k) = LosesSource k target m none ready stopped
+EndsAfterReady target m none after ready stopped TargetFault = LosesTarget target m none ready stopped
+EndsAfterReady target m none after ready stopped fault = ⊥
 
 -- ---- the whole call
 -- The member is rebuilt, and this is told of it.
 pub record Rebuilds (target : ℕ) (told : Rebuilt) (old new : MirrorView) : Type 0 where
   pub ready : MirrorView
   pub none : Bitmap
-  pub begins : Begins target old ready none
+  pub begins : BeginsRebuild target old ready none
   pub rebuilds : RebuildsReadied target begins.now none ready new told
 
 -- A rebuild was refused before anything was done.
@@ -127,14 +127,14 @@ pub record RefusesAtOnce (target : ℕ) (fault : RebuildFault) (old new : Mirror
 pub record EndsStoring (target : ℕ) (old : MirrorView) (Why : Type 0) : Type 0 where
   pub member : MemberView
   pub at : IsMember old.array target member
-  pub may : MayRebuild old.array member
+  pub may : MayBeginRebuild old.array member
   pub why : Why
 
 -- A rebuild came so far that a pass may be planned, and ended later.
 pub record EndsReadied (target : ℕ) (old : MirrorView) (Why : MemberView → Bitmap → MirrorView → Type 0) : Type 0 where
   pub ready : MirrorView
   pub none : Bitmap
-  pub begins : Begins target old ready none
+  pub begins : BeginsRebuild target old ready none
   pub why : Why begins.now none ready
 
 -- Memory was refused for the set of the chunks, so that nothing was done; or for the admission of a spare.
@@ -150,15 +150,15 @@ RefusesRebuild target old new Dirty = RefusesAtOnce target Dirty old new
 RefusesRebuild target old new (InFlight number) = RefusesAtOnce target (InFlight number) old new
 RefusesRebuild target old new EventsFull = RefusesAtOnce target EventsFull old new
 RefusesRebuild target old new (MetadataFault k) =
-    EndsStoring target old (StopsAt target k old new)
-    ⊎ (EndsStoring target old (StopsAdmitted target k old new)
+    EndsStoring target old (EndsAtOther target k old new)
+    ⊎ (EndsStoring target old (EndsAdmitted target k old new)
     ⊎ LeavesAfter target (λ nothing stopped. HasNone nothing × EndsReadied target old (λ m none ready. LosesSource k target m none ready stopped)) new)
 RefusesRebuild target old new TargetFault =
-    EndsStoring target old (FailsOnTarget target old new)
+    EndsStoring target old (FailsToRecordTarget target old new)
     ⊎ (EndsStoring target old (FailsAdmission target old new)
     ⊎ EndsReadied target old (λ m none ready. LosesTarget target m none ready new))
 RefusesRebuild target old new NoMemory =
     EndsStoring target old (LacksMemoryFirst target old new)
-    ⊎ LeavesAfter target (λ copied stopped. EndsReadied target old (λ m none ready. LacksMemory target m none copied ready stopped)) new
+    ⊎ LeavesAfter target (λ copied stopped. EndsReadied target old (λ m none ready. LacksMemoryToRebuild target m none copied ready stopped)) new
 RefusesRebuild target old new (LogFull k) =
     LeavesAfter target (λ copied stopped. EndsReadied target old (λ m none ready. LacksRoom k target m none copied ready stopped)) new

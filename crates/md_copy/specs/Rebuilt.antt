@@ -9,7 +9,7 @@ use Rattle.md_bitmap.specs.Chunks.{InChunk}
 use Rattle.md_bitmap.specs.Marks.{Bitmap, is_set}
 use Rattle.md_cert.specs.declared.slots.Slot.{Slot}
 use Rattle.md_cert.specs.Plans.{SlotsRise}
-use Rattle.md_collect.specs.Reading.{Fails}
+use Rattle.md_collect.specs.Reading.{CountsFailure}
 use Rattle.md_device.specs.Splice.{part}
 use Rattle.md_kept_members.specs.Enrolling.{IsListAfter}
 use Rattle.md_kept_members.specs.View.{MemberView}
@@ -19,7 +19,7 @@ use Rattle.md_state.specs.DiskWrites.{AtDevice}
 use Rattle.md_state.specs.Members.{IsInSync, IsMember}
 use Rattle.md_state.specs.Missing.{is_missing}
 use Rattle.md_state.specs.View.{ArrayView, Disk, MirrorView, of_disks}
-use Rattle.md_array.specs.Enrolling.{HasContent, KeepsData}
+use Rattle.md_array.specs.Enrolling.{HoldsContent, KeepsData}
 use Rattle.md_array.specs.Lending.{IsBesideChunk, IsBesideMissing}
 use Rattle.md_array.specs.ReadAsKept.{IsSuperOn}
 use Rattle.md_array.specs.Worlds.{AreHonest, is_listed}
@@ -31,8 +31,8 @@ use Rattle.md_passes.specs.Listed.{ArrayPasses, IsOfFailed, MayServe, ServesAs, 
 use Rattle.md_passes.specs.Passes.{IsCopiedIn, PassView}
 use Rattle.md_copy.specs.declared.rebuilt.Rebuilt.{Rebuilt}
 use Rattle.md_copy.specs.Filling.{CountsFailed}
-use Rattle.md_copy.specs.Listing.{HasFailed, HasListOn}
-use Rattle.md_copy.specs.Preparing.{Tells, is_in, uncopied_chunks}
+use Rattle.md_copy.specs.Listing.{HasFailedSlot, HasListOn}
+use Rattle.md_copy.specs.Preparing.{TellsPasses, is_in, uncopied_chunks}
 use Rattle.md_copy.specs.Sources.{missing_chunks}
 
 -- The member was in sync before, and lists no sector of the chunk then.
@@ -68,7 +68,7 @@ pub record IsRebuilt (target : ℕ) (copied orphans : Bitmap) (old new : MirrorV
   pub now : MemberView
   pub there : IsMember new.array target now
   -- a write to it may have failed once it was in sync
-  pub state : (is_in_sync now.state ≡ true) ⊎ ((now.state ≡ Faulty) × AtDevice target old.disks new.disks (Fails of_disks))
+  pub state : (is_in_sync now.state ≡ true) ⊎ ((now.state ≡ Faulty) × AtDevice target old.disks new.disks (CountsFailure of_disks))
   pub copied_chunks : copied.chunks ≡ old.array.marks.chunks
   pub orphan_chunks : orphans.chunks ≡ old.array.marks.chunks
   pub copied_are : (c : ℕ) → c < old.array.marks.chunks
@@ -76,7 +76,7 @@ pub record IsRebuilt (target : ℕ) (copied orphans : Bitmap) (old new : MirrorV
   pub orphans_are : (c : ℕ) → c < old.array.marks.chunks
       → (is_set orphans.bytes c ≡ true) ↔ ((is_missing old.array member c ≡ true) × (IsServedThen old.array new.array target c → ⊥))
   -- whatever content the members in sync held
-  pub holds : AreHonest old.disks → (content : Content) → HasContent old.disks old.array content
+  pub holds : AreHonest old.disks → (content : Content) → HoldsContent old.disks old.array content
       → (e : Disk) → slice_get new.disks target ≡ Some e → (c s : ℕ) → c < old.array.marks.chunks
       → is_set copied.bytes c ≡ true → InChunk old.array.chunks.sectors old.array.chunks.size c s
       → part e.content (512 * (member.superblock.data_offset + s)) 512 ≡ content s
@@ -130,7 +130,7 @@ KeepStates target failed old last =
 -- sync: a write to it that failed would have made it faulty, or is one of these, that halt a mirror.
 abbrev pub ListsStored : ℕ → (ℕ → Type 0) → List Slot → ArrayView → MirrorView → Type 0
 ListsStored target Halts failed old new =
-    (k : ℕ) (m n : MemberView) (e : Disk) → k ≢ target → (Halts k → ⊥) → IsMember old k m → HasFailed failed m
+    (k : ℕ) (m n : MemberView) (e : Disk) → k ≢ target → (Halts k → ⊥) → IsMember old k m → HasFailedSlot failed m
     → IsMember new.array k n → is_in_sync n.state ≡ true → slice_get new.disks k ≡ Some e → e.honest ≡ true → HasListOn n.bad e.content
 
 -- The list of this member stands on its device, if it is in sync.
@@ -158,7 +158,7 @@ HaltsTo (inr halts) k = IsFailureOf k halts.1.failing
 -- devices, and so does the target's, but for the member to which that write was.
 pub record HasRebuilt (target : ℕ) (told : Rebuilt) (old new : MirrorView) : Type 0 where
   pub passes : List PassView
-  pub tells : Tells passes told.orphans.items told
+  pub tells : TellsPasses passes told.orphans.items told
   pub copied : Bitmap
   pub orphans : Bitmap
   pub copied_told : (c : ℕ) → (is_set copied.bytes c ≡ true) ↔ IsCopiedIn passes c

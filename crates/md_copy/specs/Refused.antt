@@ -6,12 +6,12 @@ use Rattle.md_badblocks.specs.declared.run.Run.{Run}
 use Rattle.md_badblocks.specs.Runs.{IsBad}
 use Rattle.md_bitmap.specs.Marks.{Bitmap, is_set}
 use Rattle.md_cert.specs.declared.slots.Slot.{Slot}
-use Rattle.md_collect.specs.Reading.{Fails}
+use Rattle.md_collect.specs.Reading.{CountsFailure}
 use Rattle.md_device.specs.Splice.{part}
 use Rattle.md_kept_members.specs.View.{MemberView}
 use Rattle.md_members.specs.Reading.{BitmapStartsAt}
 use Rattle.md_super.specs.declared.superblock.Superblock.{Superblock}
-use Rattle.md_state.specs.Checkpoints.{Stops}
+use Rattle.md_state.specs.Checkpoints.{EndsCheckpoint}
 use Rattle.md_state.specs.DiskWrites.{AtDevice}
 use Rattle.md_state.specs.Enrolling.{HasFullLog}
 use Rattle.md_state.specs.Members.{IsInSync, IsMember}
@@ -26,7 +26,7 @@ use Rattle.md_passes.specs.Passes.{IsCopiedIn, PassView, failed_chunks}
 use Rattle.md_copy.specs.declared.fault.RebuildFault.{RebuildFault}
 use Rattle.md_copy.specs.declared.fault.RebuildFault.TheVariants.{Halted, NotSpare, Dirty, InFlight, LogFull, NoMemory, TargetFault, MetadataFault, EventsFull}
 use Rattle.md_copy.specs.Filling.{CountsFailed}
-use Rattle.md_copy.specs.Listing.{HasFailed}
+use Rattle.md_copy.specs.Listing.{HasFailedSlot}
 use Rattle.md_copy.specs.Preparing.{is_in, uncopied_chunks}
 use Rattle.md_copy.specs.Rebuilt.{KeepStates, ListsGrow, failed_of}
 use Rattle.md_copy.specs.Sources.{missing_chunks}
@@ -85,16 +85,16 @@ pub record IsAdmitted (s : Ending) (now : MemberView) : Type 0 where
   pub offset : now.superblock.recovery_offset ≡ 0
 
 -- How far a member was rebuilt: one that is not recovering, not at all.
-abbrev pub offset_of : MemberView → ℕ
-offset_of m = cond (is_recovering m.state) m.superblock.recovery_offset 0
+abbrev pub rebuilt_offset : MemberView → ℕ
+rebuilt_offset m = cond (is_recovering m.state) m.superblock.recovery_offset 0
 
 -- How far a member is rebuilt, of which these chunks were copied: as far as it was, or up to the first chunk
 -- that it lacked and that was not copied, or of which it lists a sector, or to the end, whichever is the
 -- furthest.
 pub record IsRebuiltTo (a : ArrayView) (m : MemberView) (copied : Bitmap) (offset : ℕ) : Type 0 where
-  pub from : offset_of m ≤ offset
-  pub below : (c : ℕ) → c < a.marks.chunks → Stops a m copied c → offset ≤ max (offset_of m) (c * a.chunks.sectors)
-  pub upto : (a.chunks.size ≤ offset) ⊎ ((c : ℕ) × (c < a.marks.chunks) × Stops a m copied c × (c * a.chunks.sectors ≤ offset))
+  pub from : rebuilt_offset m ≤ offset
+  pub below : (c : ℕ) → c < a.marks.chunks → EndsCheckpoint a m copied c → offset ≤ max (rebuilt_offset m) (c * a.chunks.sectors)
+  pub upto : (a.chunks.size ≤ offset) ⊎ ((c : ℕ) × (c < a.marks.chunks) × EndsCheckpoint a m copied c × (c * a.chunks.sectors ≤ offset))
 
 -- Passes might be made. The target is recovering, and rebuilt as far as they came.
 pub record IsRebuiltSoFar (a : ArrayView) (s : Ending) (now : MemberView) : Type 0 where
@@ -103,7 +103,7 @@ pub record IsRebuiltSoFar (a : ArrayView) (s : Ending) (now : MemberView) : Type
 
 -- What counts as copied: all that those passes copied of which the failed slots are listed, and at most what
 -- the last pass copied or was to copy, too.
-pub record HasCopied (s : Ending) : Type 0 where
+pub record HasCopiedBy (s : Ending) : Type 0 where
   pub listed : (c : ℕ) → IsCopiedIn s.listed c → is_set s.copied.bytes c ≡ true
   pub only : (c : ℕ) → is_set s.copied.bytes c ≡ true → IsCopiedIn (s.listed ++ s.last) c
 
@@ -124,22 +124,22 @@ pub record HasListWithin (Known : ℕ → Type 0) (list : List Run) (content : L
   pub only : (sector : ℕ) → is_listed super content sector ≡ true → IsBad list sector
 
 -- The sector is in the member's list, or of a slot of it that failed.
-abbrev pub IsKnown : ArrayView → List Slot → MemberView → ℕ → Type 0
-IsKnown old stored m sector = IsBad m.bad sector ⊎ IsOfFailed old.chunks stored m sector
+abbrev pub IsListedOrFailed : ArrayView → List Slot → MemberView → ℕ → Type 0
+IsListedOrFailed old stored m sector = IsBad m.bad sector ⊎ IsOfFailed old.chunks stored m sector
 
 -- On the device of each other member in sync of which one of these slots failed stand its list of before and
 -- the chunks of these slots.
 abbrev pub ListsStand : ℕ → List Slot → ArrayView → MirrorView → Type 0
 ListsStand target stored old new =
-    (k : ℕ) (m n : MemberView) (e : Disk) → k ≢ target → IsMember old k m → HasFailed stored m → IsMember new.array k n → is_in_sync n.state ≡ true
-    → slice_get new.disks k ≡ Some e → e.honest ≡ true → HasListed (IsKnown old stored m) e.content
+    (k : ℕ) (m n : MemberView) (e : Disk) → k ≢ target → IsMember old k m → HasFailedSlot stored m → IsMember new.array k n → is_in_sync n.state ≡ true
+    → slice_get new.disks k ≡ Some e → e.honest ≡ true → HasListed (IsListedOrFailed old stored m) e.content
 
 -- On the device of each other member in sync of which one of these slots failed stand its list of before and
 -- the chunks of these slots, and no more than its list in memory has: lists of the last pass may be stored.
 abbrev pub ListsStandWithin : ℕ → List Slot → ArrayView → MirrorView → Type 0
 ListsStandWithin target stored old new =
-    (k : ℕ) (m n : MemberView) (e : Disk) → k ≢ target → IsMember old k m → HasFailed stored m → IsMember new.array k n → is_in_sync n.state ≡ true
-    → slice_get new.disks k ≡ Some e → e.honest ≡ true → HasListWithin (IsKnown old stored m) n.bad e.content
+    (k : ℕ) (m n : MemberView) (e : Disk) → k ≢ target → IsMember old k m → HasFailedSlot stored m → IsMember new.array k n → is_in_sync n.state ≡ true
+    → slice_get new.disks k ≡ Some e → e.honest ≡ true → HasListWithin (IsListedOrFailed old stored m) n.bad e.content
 
 -- Of the slots of the last pass that failed the first are listed in memory, and this one is not, for this reason.
 pub record NotesSome (s : Ending) (Why : Slot → Type 0) : Type 0 where
@@ -202,7 +202,7 @@ KeepsDataBut m n d e = KeepsData m d e ⊎ ((sector : ℕ) × IsFromMarks n sect
 
 -- Member k's device failed, the member is in sync still, no other is, and the mirror is halted.
 pub record HasHalted (k : ℕ) (old new : MirrorView) : Type 0 where
-  pub failed : AtDevice k old.disks new.disks (Fails of_disks)
+  pub failed : AtDevice k old.disks new.disks (CountsFailure of_disks)
   pub halted : new.array.halted ≡ true
   pub member : MemberView
   pub in_sync : IsInSync new.array k member
@@ -210,7 +210,7 @@ pub record HasHalted (k : ℕ) (old new : MirrorView) : Type 0 where
 
 -- ---- by the fault
 -- Nothing was done.
-pub record IsUntouched (halted : Bool) (old new : MirrorView) : Type 0 where
+pub record IsNothingDone (halted : Bool) (old new : MirrorView) : Type 0 where
   pub unchanged : new ≡ old
   pub halted_is : old.array.halted ≡ halted
 
@@ -219,7 +219,7 @@ pub record IsUntouched (halted : Bool) (old new : MirrorView) : Type 0 where
 -- stands on the devices.
 pub record EndsWithTarget (target : ℕ) (s : Ending) (now : MemberView) (old new : MirrorView) : Type 0 where
   pub running : new.array.halted ≡ false
-  pub failed : AtDevice target old.disks new.disks (Fails of_disks)
+  pub failed : AtDevice target old.disks new.disks (CountsFailure of_disks)
   pub target_is : IsAsBefore s now ⊎ (IsRebuiltSoFar old.array s now × (AreCopiedBy s.listed s.copied ⊎ (AreCopiedBy (s.listed ++ s.last) s.copied × (failed_of s.last ≡ []))))
   pub noted : s.noted ≡ []
   pub stand : ListsStand target (failed_of s.listed) old.array new
@@ -229,7 +229,7 @@ pub record EndsWithTarget (target : ℕ) (s : Ending) (now : MemberView) (old ne
 -- listed; or all that is listed stands on the devices.
 pub record EndsWithoutMemory (target : ℕ) (s : Ending) (now : MemberView) (old new : MirrorView) : Type 0 where
   pub running : new.array.halted ≡ false
-  pub target_is : IsAsBefore s now ⊎ (IsRebuiltSoFar old.array s now × HasCopied s)
+  pub target_is : IsAsBefore s now ⊎ (IsRebuiltSoFar old.array s now × HasCopiedBy s)
   pub noted : (s.noted ≡ []) ⊎ NotesSome s (λ next. Unit {0})
   pub stand : ListsStand target (failed_of s.listed) old.array new
 
@@ -250,26 +250,26 @@ pub record LosesBefore (k : ℕ) (s : Ending) (now : MemberView) (old new : Mirr
 
 -- Member k was to store its list after a pass, as slots of it failed. All that failed in this pass is listed
 -- in memory. The target is recovering, rebuilt as far as the passes have copied, the last among them.
-pub record LosesSource (k : ℕ) (s : Ending) (now : MemberView) (old new : MirrorView) : Type 0 where
+pub record LosesListedSource (k : ℕ) (s : Ending) (now : MemberView) (old new : MirrorView) : Type 0 where
   pub rebuilt : IsRebuiltSoFar old.array s now
   pub copied : AreCopiedBy (s.listed ++ s.last) s.copied
   pub noted : NotesAll s
-  pub source : (m : MemberView) → IsMember old.array k m → HasFailed s.noted m
+  pub source : (m : MemberView) → IsMember old.array k m → HasFailedSlot s.noted m
   pub kept : (m : MemberView) → IsMember old.array k m → AtDevice k old.disks new.disks (KeepsData m)
 
 -- A write to member k, another one, failed: it is faulty, or has halted the mirror.
 pub record EndsWithMember (target k : ℕ) (s : Ending) (now : MemberView) (old new : MirrorView) : Type 0 where
   pub other : k ≢ target
   pub lost : IsLost k old.array new.array ⊎ HasHalted k old new
-  pub when : LosesBefore k s now old new ⊎ LosesSource k s now old new
+  pub when : LosesBefore k s now old new ⊎ LosesListedSource k s now old new
   pub stand : new.array.halted ≡ false → ListsStandWithin target (failed_of s.listed) old.array new
 
 abbrev pub EndsSo : ℕ → RebuildFault → Ending → MemberView → MirrorView → MirrorView → Type 0
-EndsSo target Halted s now old new = IsUntouched true old new
-EndsSo target NotSpare s now old new = IsUntouched false old new
-EndsSo target Dirty s now old new = IsUntouched false old new
-EndsSo target (InFlight number) s now old new = IsUntouched false old new
-EndsSo target EventsFull s now old new = IsUntouched false old new
+EndsSo target Halted s now old new = IsNothingDone true old new
+EndsSo target NotSpare s now old new = IsNothingDone false old new
+EndsSo target Dirty s now old new = IsNothingDone false old new
+EndsSo target (InFlight number) s now old new = IsNothingDone false old new
+EndsSo target EventsFull s now old new = IsNothingDone false old new
 EndsSo target TargetFault s now old new = EndsWithTarget target s now old new
 EndsSo target NoMemory s now old new = EndsWithoutMemory target s now old new
 EndsSo target (LogFull k) s now old new = EndsWithoutRoom target k s now old new
@@ -277,8 +277,8 @@ EndsSo target (MetadataFault k) s now old new = EndsWithMember target k s now ol
 
 -- ---- the whole call
 -- the data of all other members are as before; of one that has halted the mirror it is said apart
-abbrev pub OthersKeep : ℕ → RebuildFault → MirrorView → MirrorView → Type 0
-OthersKeep target fault old new =
+abbrev pub OtherMembersKeep : ℕ → RebuildFault → MirrorView → MirrorView → Type 0
+OtherMembersKeep target fault old new =
     (j : ℕ) (d e : Disk) (m : MemberView) → j ≢ target → (fault ≡ MetadataFault j → new.array.halted ≡ false)
     → slice_get old.disks j ≡ Some d → slice_get new.disks j ≡ Some e → IsMember old.array j m → KeepsData m d e
 
@@ -301,7 +301,7 @@ pub record HasEnded (target : ℕ) (fault : RebuildFault) (old new : MirrorView)
   pub list : now.bad ≡ ending.member.bad
   pub beside : (d e : Disk) → slice_get old.disks target ≡ Some d → slice_get new.disks target ≡ Some e
       → (at n : ℕ) → IsBesideLacking old.array ending.member at n → part e.content at n ≡ part d.content at n
-  pub others : OthersKeep target fault old new
+  pub others : OtherMembersKeep target fault old new
   pub made : HasMade ending old.array
   pub lists : ListsGrow target (failed_of ending.listed ++ ending.noted) old.array new.array
   pub counted : CountsFailed (failed_of (ending.listed ++ ending.last)) old new

@@ -37,12 +37,12 @@ pub record HaltsAtMember (k : ℕ) (old new : MirrorView) : Type 0 where
   pub alone : (j : ℕ) (n : MemberView) → IsInSync new.array j n → j ≡ k
 
 -- A write to member k failed, which is not the target, and that was the end: it is faulty, or the mirror is halted.
-pub record StopsAt (target k : ℕ) (old new : MirrorView) : Type 0 where
+pub record EndsAtOther (target k : ℕ) (old new : MirrorView) : Type 0 where
   pub other : k ≢ target
   pub ends : LosesStoring IsStoring k old new ⊎ HaltsAtMember k old new
 
 -- The superblock of the target was due, and could not be stored. In memory it is as it was, its record due.
-pub record FailsOnTarget (target : ℕ) (old new : MirrorView) : Type 0 where
+pub record FailsToRecordTarget (target : ℕ) (old new : MirrorView) : Type 0 where
   pub due : (m : MemberView) → IsMember old.array target m → m.due ≡ true
   pub mid : MirrorView
   pub stores : Stores IsStoring old mid
@@ -50,21 +50,21 @@ pub record FailsOnTarget (target : ℕ) (old new : MirrorView) : Type 0 where
   pub sound : IsConsistent new
 
 -- why it is not all stored: a member fails, or the target's superblock is not stored
-abbrev pub StoringStops : ℕ → MirrorView → MirrorView → RebuildFault → Type 0
-StoringStops target old new (MetadataFault k) = StopsAt target k old new
-StoringStops target old new TargetFault = FailsOnTarget target old new
-StoringStops target old new fault = ⊥
+abbrev pub StoringEnds : ℕ → MirrorView → MirrorView → RebuildFault → Type 0
+StoringEnds target old new (MetadataFault k) = EndsAtOther target k old new
+StoringEnds target old new TargetFault = FailsToRecordTarget target old new
+StoringEnds target old new fault = ⊥
 
 -- ---- after a rebuild
 -- All that was due is stored. Members may have failed on the way, and the others have stored that too.
-pub record SettlesAll (old new : MirrorView) : Type 0 where
+pub record StoresAllUntilDone (old new : MirrorView) : Type 0 where
   pub goes : GoesOn only_others only_others IsStoring old new
   pub recorded : AllRecorded new.array
   pub running : new.array.halted ≡ false
 
 -- After some of what was due was stored, the write of a superblock, or of the first sector of a bitmap,
 -- failed on a member that can't be made faulty, and the mirror is halted.
-pub record HaltsSettling (old new : MirrorView) : Type 0 where
+pub record HaltsUntilDone (old new : MirrorView) : Type 0 where
   pub mid : MirrorView
   pub goes : GoesOn only_others only_others IsStoring old mid
   pub failing : Event
@@ -72,5 +72,5 @@ pub record HaltsSettling (old new : MirrorView) : Type 0 where
   pub halts : (others : Requests) → HaltsAt mid others failing new
   pub sound : IsConsistent new
 
-abbrev pub Settles : MirrorView → MirrorView → Type 0
-Settles old new = SettlesAll old new ⊎ HaltsSettling old new
+abbrev pub StoresUntilDone : MirrorView → MirrorView → Type 0
+StoresUntilDone old new = StoresAllUntilDone old new ⊎ HaltsUntilDone old new

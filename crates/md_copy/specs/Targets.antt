@@ -8,12 +8,12 @@ use Rattle.md_state.specs.View.{ArrayView}
 use Rattle.md_state.specs.Members.{IsMember}
 
 -- no member in sync or recovering has the role
-abbrev pub IsFree : ArrayView → ℕ → Type 0
-IsFree a role = (k : ℕ) (m : MemberView) → IsMember a k m → takes_role role m.state ≡ false
+abbrev pub IsRoleFree : ArrayView → ℕ → Type 0
+IsRoleFree a role = (k : ℕ) (m : MemberView) → IsMember a k m → takes_role role m.state ≡ false
 
 -- some role of the array is free
 abbrev pub HasFreeRole : ArrayView → Type 0
-HasFreeRole a = (role : ℕ) × (role < a.shared.raid_disks) × IsFree a role
+HasFreeRole a = (role : ℕ) × (role < a.shared.raid_disks) × IsRoleFree a role
 
 -- a member with this number may be rebuilt: a spare needs a role, and room for its number among the roles of a superblock
 abbrev pub MayBeRebuilt : ArrayView → ℕ → MemberState → Type 0

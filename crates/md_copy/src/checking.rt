@@ -2,7 +2,7 @@
 ghost use Rattle.std.specs.Prelude.{◌≡◌, ◌<◌, ◌≤◌, MatchBool, MatchResult, length};
 ghost use Rattle.md_kept_members.specs.View.{MemberView};
 ghost use Rattle.md_state.specs.Members.{IsMember};
-ghost use Rattle.md_copy.specs.Beginning.{CanRise, CannotRebuild, MayRebuild, rises};
+ghost use Rattle.md_copy.specs.Beginning.{CanRise, CannotRebuild, MayBeginRebuild, rises};
 
 use crate::fault::RebuildFault;
 use crate::target::is_target;
@@ -17,7 +17,7 @@ pub(crate) fn check_rebuild<D: Device + Drop>(
 ) -> Result<(), RebuildFault>
     requires { target < length mirror.now.array.members }
     ensures { (m : MemberView) → IsMember mirror.now.array target m
-        → MatchResult result (λ _. MayRebuild mirror.now.array m) (CannotRebuild mirror.now.array m) }
+        → MatchResult result (λ _. MayBeginRebuild mirror.now.array m) (CannotRebuild mirror.now.array m) }
 {
     if mirror.halted() {
         return Err(RebuildFault::Halted);

@@ -5,10 +5,10 @@ ghost use Rattle.md_state.specs.Members.{IsMember};
 ghost use Rattle.md_state.specs.Rising.{HasSpentEvents};
 ghost use Rattle.md_array.specs.Consistency.{IsConsistent};
 ghost use Rattle.md_array.specs.Enrolling.{Enrols, MayEnrol};
-ghost use Rattle.md_copy.specs.Enrolled.{EnrolsCopied, FailsCopied, RefusesFilled};
+ghost use Rattle.md_copy.specs.Enrolled.{EnrolsCopied, FailsCopied, RefusesFilledTarget};
 ghost use Rattle.md_copy.specs.Held.{AreHeld};
-ghost use Rattle.md_copy.specs.Leaving.{MayLeave};
-ghost use Rattle.md_copy.specs.Ready.{IsReady};
+ghost use Rattle.md_copy.specs.Leaving.{MayRecordAtEnd};
+ghost use Rattle.md_copy.specs.Ready.{IsReadyToCopy};
 
 use crate::fault::RebuildFault;
 use crate::orphans::{keep_missing, marks_of, uncopied_chunks};
@@ -29,12 +29,12 @@ pub(crate) fn enrol_copied<D: Device + Drop>(
     copied: &mut Marks,
 ) -> Result<Rebuilt, RebuildFault>
     requires within { target < length mirror.old.array.members }
-    requires ready { IsReady target mirror.old }
+    requires ready { IsReadyToCopy target mirror.old }
     requires held { AreHeld mirror.old target copied.old }
     requires few { length plans.items < 2 ^ 32 }
     ensures gives { MatchResult result (EnrolsCopied target plans.items copied.old mirror.old mirror.new)
         (FailsCopied target copied.old copied.new mirror.old mirror.new) }
-    ensures leaves { IfErr result (MayLeave target copied.new mirror.new) }
+    ensures leaves { IfErr result (MayRecordAtEnd target copied.new mirror.new) }
     ensures sound { IsConsistent mirror.new }
 {
     let chunks = match uncopied_chunks(alloc, mirror, target, copied) {
@@ -69,7 +69,7 @@ fn enrol_filled<D: Device + Drop>(
     requires unspent { HasSpentEvents mirror.old.array → ⊥ }
     requires may { MayEnrol target copied.now orphans.now mirror.old }
     ensures gives { MatchResult result (λ _. Enrols target copied.now orphans.now mirror.old mirror.new)
-        (RefusesFilled target copied.now orphans.now mirror.old mirror.new) }
+        (RefusesFilledTarget target copied.now orphans.now mirror.old mirror.new) }
     ensures sound { IsConsistent mirror.new }
 {
     match mirror.enrol(alloc, target, copied, orphans) {

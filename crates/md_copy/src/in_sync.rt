@@ -2,7 +2,7 @@
 ghost use Rattle.std.specs.Prelude.{◌≡◌, ◌↔◌, ◌<◌, ℕ, true};
 ghost use Rattle.std.specs.Int.{bit_at};
 ghost use Rattle.md_assembly.specs.States.{is_in_sync_as};
-ghost use Rattle.md_copy.specs.Sources.{IsInSyncWith, IsReadAs};
+ghost use Rattle.md_copy.specs.Sources.{IsInSyncWith, IsReadInRole};
 
 use md_array::Mirror;
 use md_assembly::MemberState;
@@ -13,7 +13,7 @@ use md_kept_members::is_write_mostly;
 /// members in sync that are not write-mostly, and of the others where there is none.
 pub(crate) fn roles_to_read<D: Device + Drop>(mirror: &Mirror<D>) -> u32
     ensures { (role : ℕ) → role < 32
-        → (bit_at result role ≡ 1) ↔ IsReadAs mirror.now.array role }
+        → (bit_at result role ≡ 1) ↔ IsReadInRole mirror.now.array role }
 {
     let roles = roles_in_sync(mirror, false);
     if roles != 0 {

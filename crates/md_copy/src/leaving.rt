@@ -3,7 +3,7 @@ ghost use Rattle.std.specs.Prelude.{◌≡◌, ◌<◌, ℕ, false, length};
 ghost use Rattle.md_array.specs.Checkpoints.{MayCheckpoint};
 ghost use Rattle.md_array.specs.Consistency.{IsConsistent};
 ghost use Rattle.md_bitmap.specs.Marks.{is_set};
-ghost use Rattle.md_copy.specs.Leaving.{Leaves, LeavesSo, MayLeave};
+ghost use Rattle.md_copy.specs.Leaving.{RecordsAtEnd, LeavesSo, MayRecordAtEnd};
 
 use crate::fault::RebuildFault;
 use md_array::Mirror;
@@ -21,7 +21,7 @@ pub(crate) fn leave<D: Device + Drop>(
 )
     requires within { target < length mirror.old.array.members }
     requires sound { IsConsistent mirror.old }
-    requires may { MayLeave target copied.old mirror.old fault }
+    requires may { MayRecordAtEnd target copied.old mirror.old fault }
     ensures leaves { LeavesSo target copied.old mirror.old mirror.new fault }
     ensures sound { IsConsistent mirror.new }
 {
@@ -56,7 +56,7 @@ fn record<D: Device + Drop>(mirror: &mut Mirror<D>, target: usize, copied: &Mark
     requires within { target < length mirror.old.array.members }
     requires sound { IsConsistent mirror.old }
     requires may { mirror.old.array.halted ≡ false → MayCheckpoint target copied.now mirror.old }
-    ensures leaves { Leaves target copied.now mirror.old mirror.new }
+    ensures leaves { RecordsAtEnd target copied.now mirror.old mirror.new }
     ensures sound { IsConsistent mirror.new }
 {
     if mirror.halted() {

@@ -18,7 +18,7 @@ mod readying;
 mod rebuild_table;
 mod rebuilding;
 mod rebuilt;
-mod settling;
+mod until_done;
 mod sources;
 mod storing;
 mod target;

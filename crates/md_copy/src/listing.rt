@@ -11,7 +11,7 @@ ghost use Rattle.md_state.specs.Members.{AllInSync, IsMember};
 ghost use Rattle.md_state.specs.Rising.{HasSpentEvents};
 ghost use Rattle.md_state.specs.WritingMember.{IsNotDue};
 ghost use Rattle.md_array.specs.Consistency.{IsConsistent};
-ghost use Rattle.md_copy.specs.Listing.{HasFailed, HaveRoom, NotesLists, RefusesSlot, StopsNoting, StopsStoringLists, StoresListIf, StoresLists};
+ghost use Rattle.md_copy.specs.Listing.{HasFailedSlot, HaveRoom, NotesLists, RefusesSlot, EndsNoting, EndsStoringLists, StoresListIf, StoresLists};
 ghost use Rattle.md_copy.specs.Sources.{IsInSyncAs};
 
 use crate::fault::RebuildFault;
@@ -38,7 +38,7 @@ pub(crate) fn list_failed<D: Device + Drop>(
     requires served { All (λ slot. ServesAs mirror.old.array slot.chunk slot.source) plan.now.slots }
     requires marks { copied.now.chunks ≡ div_ceil mirror.old.array.chunks.size mirror.old.array.chunks.sectors }
     ensures { MatchResult result (λ _. NotesLists (failed_slots plan.now.slots copied.now) mirror.old mirror.new)
-        (StopsNoting (failed_slots plan.now.slots copied.now) mirror.old mirror.new) }
+        (EndsNoting (failed_slots plan.now.slots copied.now) mirror.old mirror.new) }
 {
     let slots = plan.slots.as_slice();
     for slot in slots {
@@ -93,7 +93,7 @@ pub(crate) fn store_lists<D: Device + Drop>(
     requires marks { All (λ slot. slot.chunk < copied.now.chunks) plan.now.slots }
     requires room { HaveRoom (failed_slots plan.now.slots copied.now) mirror.old.array }
     ensures { MatchResult result (λ _. StoresLists (failed_slots plan.now.slots copied.now) mirror.old mirror.new)
-        (StopsStoringLists (failed_slots plan.now.slots copied.now) mirror.old mirror.new) }
+        (EndsStoringLists (failed_slots plan.now.slots copied.now) mirror.old mirror.new) }
 {
     let slots = plan.slots.as_slice();
     for k in 0..mirror.members() {
@@ -117,10 +117,10 @@ fn store_if_failed<D: Device + Drop>(
     requires unspent { HasSpentEvents mirror.old.array → ⊥ }
     requires recorded { AllInSync mirror.old.array IsNotDue }
     requires marks { All (λ slot. slot.chunk < copied.now.chunks) slots.now }
-    requires room { (m : MemberView) → IsMember mirror.old.array k m → HasFailed (failed_slots slots.now copied.now) m
+    requires room { (m : MemberView) → IsMember mirror.old.array k m → HasFailedSlot (failed_slots slots.now copied.now) m
         → HasRoomFor m.superblock m.bad }
     ensures { MatchResult result (λ _. StoresListIf (failed_slots slots.now copied.now) k mirror.old mirror.new)
-        (StopsStoringLists (failed_slots slots.now copied.now) mirror.old mirror.new) }
+        (EndsStoringLists (failed_slots slots.now copied.now) mirror.old mirror.new) }
 {
     if !has_failed(slots, copied, mirror.state(k)) {
         return Ok(());

@@ -2,7 +2,7 @@
 ghost use Rattle.std.specs.Prelude.{◌≡◌, ◌<◌, ◌≤◌, All, IfErr, IfOk, length, map};
 ghost use Rattle.std.specs.Int.{div_ceil};
 ghost use Rattle.md_cert.specs.Plans.{SlotsRise};
-ghost use Rattle.md_cert.specs.Tables.{chunks_of};
+ghost use Rattle.md_cert.specs.Tables.{chunks_of_rows};
 ghost use Rattle.md_pass.specs.Copied.{failed_slots};
 ghost use Rattle.md_copy.specs.Preparing.{IsNoMemory};
 ghost use Rattle.md_copy.specs.Sources.{HasSources};
@@ -24,7 +24,7 @@ pub(crate) fn table_of_failed<D: Device + Drop>(
     requires rising { SlotsRise plan.now.slots }
     requires within { All (λ slot. slot.chunk < div_ceil mirror.now.array.chunks.size mirror.now.array.chunks.sectors) plan.now.slots }
     requires marks { copied.now.chunks ≡ div_ceil mirror.now.array.chunks.size mirror.now.array.chunks.sectors }
-    ensures chunks { IfOk result (λ rows. chunks_of rows ≡ map (λ slot. slot.chunk) (failed_slots plan.now.slots copied.now)) }
+    ensures chunks { IfOk result (λ rows. chunks_of_rows rows ≡ map (λ slot. slot.chunk) (failed_slots plan.now.slots copied.now)) }
     ensures sources { IfOk result (All (HasSources mirror.now.array)) }
     ensures refused { IfErr result IsNoMemory }
 {

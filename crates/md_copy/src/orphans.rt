@@ -3,7 +3,7 @@ ghost use Rattle.std.specs.Prelude.{◌≡◌, ◌<◌, ◌&&◌, ℕ, All, IfOk
 ghost use Rattle.std.specs.Int.{div_ceil};
 ghost use Rattle.md_bitmap.specs.Marks.{is_set};
 ghost use Rattle.md_kept_members.specs.View.{MemberView};
-ghost use Rattle.md_state.specs.InMemory.{HasChunks};
+ghost use Rattle.md_state.specs.InMemory.{HasMarksOfSize};
 ghost use Rattle.md_state.specs.Members.{IsMember};
 ghost use Rattle.md_state.specs.Missing.{is_missing};
 ghost use Rattle.md_copy.specs.Preparing.{is_in, uncopied_chunks};
@@ -21,7 +21,7 @@ pub(crate) fn uncopied_chunks<D: Device + Drop>(
     copied: &Marks,
 ) -> Result<Vec<u32>, AllocError>
     requires within { k < length mirror.now.array.members }
-    requires chunks { HasChunks mirror.now.array }
+    requires chunks { HasMarksOfSize mirror.now.array }
     requires marks { copied.now.chunks ≡ mirror.now.array.marks.chunks }
     ensures { (m : MemberView) → IsMember mirror.now.array k m
         → IfOk result (λ chunks. chunks.items ≡ uncopied_chunks mirror.now.array m copied.now) }

@@ -10,10 +10,10 @@ ghost use Rattle.md_pass.specs.Copied.{failed_slots};
 ghost use Rattle.md_passes.specs.Listed.{ServesAs};
 ghost use Rattle.md_state.specs.Members.{IsMember};
 ghost use Rattle.md_copy.specs.Held.{AreHeld};
-ghost use Rattle.md_copy.specs.Leaving.{MayLeave};
-ghost use Rattle.md_copy.specs.Passing.{FailsOne, GoesOnWith, IsTableFor, MakesOne, PassesAll, PassesFail, StopsBetween};
+ghost use Rattle.md_copy.specs.Leaving.{MayRecordAtEnd};
+ghost use Rattle.md_copy.specs.Passing.{FailsOne, GoesOnWith, IsTableFor, MakesOne, PassesAll, PassesFail, FailsBetween};
 ghost use Rattle.md_copy.specs.Preparing.{IsNoMemory, IsSetOf};
-ghost use Rattle.md_copy.specs.Ready.{IsReady};
+ghost use Rattle.md_copy.specs.Ready.{IsReadyToCopy};
 ghost use Rattle.md_copy.specs.RebuildSources.{AreSources};
 ghost use Rattle.md_copy.specs.Sources.{IsTableIn};
 ghost use Rattle.md_copy.specs.Targets.{IsTarget};
@@ -55,12 +55,12 @@ pub(crate) fn copy_passes<D: Device + Drop + Send, G: Gate + Sync, R: Threads + 
     copied: &mut Marks,
 ) -> Result<Vec<Planned>, RebuildFault>
     requires within { target < length mirror.old.array.members }
-    requires ready { IsReady target mirror.old }
+    requires ready { IsReadyToCopy target mirror.old }
     requires none { IsSetOf mirror.old.array (λ c. false) copied.old }
     ensures gives { (m : MemberView) → IsMember mirror.old.array target m → MatchResult result
         (λ plans. PassesAll target m copied.old copied.new mirror.old mirror.new plans.items)
         (PassesFail target m copied.old copied.new mirror.old mirror.new) }
-    ensures leaves { IfErr result (MayLeave target copied.new mirror.new) }
+    ensures leaves { IfErr result (MayRecordAtEnd target copied.new mirror.new) }
     ensures sound { IsConsistent mirror.new }
 {
     let mut plans = Vec::new(alloc);
@@ -102,7 +102,7 @@ fn make_pass<D: Device + Drop + Send, G: Gate + Sync, R: Threads + Wait + Sync>(
     copied: &mut Marks,
 ) -> Result<Passed, RebuildFault>
     requires within { target < length mirror.old.array.members }
-    requires ready { IsReady target mirror.old }
+    requires ready { IsReadyToCopy target mirror.old }
     requires held { AreHeld mirror.old target copied.old }
     requires table { IsTableFor mirror.old target copied.old rows.now }
     requires few { length rows.now ≤ 2 ^ 20 }
@@ -175,12 +175,12 @@ fn list_and_go_on<D: Device + Drop>(
     copied: &Marks,
 ) -> Result<Table, RebuildFault>
     requires within { target < length mirror.old.array.members }
-    requires ready { IsReady target mirror.old }
+    requires ready { IsReadyToCopy target mirror.old }
     requires served { All (λ slot. ServesAs mirror.old.array slot.chunk slot.source) plan.now.slots }
     requires rising { SlotsRise plan.now.slots }
     requires marks { copied.now.chunks ≡ div_ceil mirror.old.array.chunks.size mirror.old.array.chunks.sectors }
     ensures gives { MatchResult result (GoesOnWith (failed_slots plan.now.slots copied.now) mirror.old mirror.new)
-        (StopsBetween (failed_slots plan.now.slots copied.now) mirror.old mirror.new) }
+        (FailsBetween (failed_slots plan.now.slots copied.now) mirror.old mirror.new) }
 {
     if let Err(fault) = list_failed(alloc, mirror, plan, copied) {
         return Err(fault);

@@ -6,8 +6,8 @@ ghost use Rattle.md_state.specs.Members.{IsMember};
 ghost use Rattle.md_state.specs.Rising.{HasSpentEvents};
 ghost use Rattle.md_array.specs.Admitting.{Admits};
 ghost use Rattle.md_array.specs.Consistency.{IsConsistent};
-ghost use Rattle.md_copy.specs.Beginning.{MayRebuild};
-ghost use Rattle.md_copy.specs.Readying.{Readies, RefusesAdmission, RefusesReady};
+ghost use Rattle.md_copy.specs.Beginning.{MayBeginRebuild};
+ghost use Rattle.md_copy.specs.Readying.{Readies, RefusesAdmission, RefusesToReady};
 ghost use Rattle.md_copy.specs.Targets.{IsTarget};
 
 use crate::fault::RebuildFault;
@@ -26,9 +26,9 @@ pub(crate) fn make_ready<D: Device + Drop>(
 ) -> Result<(), RebuildFault>
     requires within { target < length mirror.old.array.members }
     requires sound { IsConsistent mirror.old }
-    requires may { (m : MemberView) → IsMember mirror.old.array target m → MayRebuild mirror.old.array m }
+    requires may { (m : MemberView) → IsMember mirror.old.array target m → MayBeginRebuild mirror.old.array m }
     ensures gives { (m : MemberView) → IsMember mirror.old.array target m
-        → MatchResult result (λ _. Readies target m mirror.old mirror.new) (RefusesReady target mirror.old mirror.new) }
+        → MatchResult result (λ _. Readies target m mirror.old mirror.new) (RefusesToReady target mirror.old mirror.new) }
     ensures sound { IsConsistent mirror.new }
 {
     if let Err(fault) = store_first(mirror, target) {

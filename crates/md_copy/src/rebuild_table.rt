@@ -3,11 +3,11 @@ ghost use Rattle.std.specs.Prelude.{◌≡◌, ◌↔◌, ◌^◌, ◌<◌, ◌�
 ghost use Rattle.std.specs.Int.{bit_at, div_ceil};
 ghost use Rattle.md_kept_members.specs.View.{MemberView};
 ghost use Rattle.md_kept_members.specs.Permitting.{ListsAny};
-ghost use Rattle.md_state.specs.InMemory.{HasChunks};
+ghost use Rattle.md_state.specs.InMemory.{HasMarksOfSize};
 ghost use Rattle.md_state.specs.Members.{IsInSync, IsMember, IsPermitted};
 ghost use Rattle.md_array.specs.Consistency.{IsConsistent};
 ghost use Rattle.md_bitmap.specs.Marks.{is_set};
-ghost use Rattle.md_copy.specs.Sources.{HasSources, IsReadAs, IsTableOf, is_missing};
+ghost use Rattle.md_copy.specs.Sources.{HasSources, IsReadInRole, IsTableOf, is_missing};
 ghost use Rattle.md_copy.specs.Targets.{IsTarget};
 ghost use Rattle.md_copy.specs.Beginning.{RefusesTable};
 
@@ -55,7 +55,7 @@ pub fn table<D: Device + Drop>(
 // Whether member k lacks the chunk.
 fn lacks<D: Device + Drop>(mirror: &Mirror<D>, k: usize, chunk: u32) -> bool
     requires within { k < length mirror.now.array.members }
-    requires chunks { HasChunks mirror.now.array }
+    requires chunks { HasMarksOfSize mirror.now.array }
     requires chunk { chunk < div_ceil mirror.now.array.chunks.size mirror.now.array.chunks.sectors }
     ensures { (m : MemberView) → IsMember mirror.now.array k m
         → result ≡ is_missing mirror.now.array m chunk }
@@ -71,7 +71,7 @@ fn mask<D: Device + Drop>(mirror: &Mirror<D>, listed: &Marks, unlisted: u32, chu
     requires listed { (k : ℕ) (m : MemberView) → IsInSync mirror.now.array k m
         → ListsAny mirror.now.array.chunks chunk m → is_set listed.now.bytes chunk ≡ true }
     requires unlisted { (role : ℕ) → role < 32
-        → (bit_at unlisted role ≡ 1) ↔ IsReadAs mirror.now.array role }
+        → (bit_at unlisted role ≡ 1) ↔ IsReadInRole mirror.now.array role }
     ensures { HasSources mirror.now.array (record { chunk = chunk; mask = result }) }
 {
     if listed.is_marked(chunk) {

@@ -3,10 +3,10 @@ ghost use Rattle.std.specs.Prelude.{◌≡◌, ◌<◌, IfErr, IfOk, MatchResult
 ghost use Rattle.md_array.specs.Consistency.{IsConsistent};
 ghost use Rattle.md_kept_members.specs.View.{MemberView};
 ghost use Rattle.md_state.specs.Members.{IsMember};
-ghost use Rattle.md_copy.specs.Leaving.{MayLeave};
+ghost use Rattle.md_copy.specs.Leaving.{MayRecordAtEnd};
 ghost use Rattle.md_copy.specs.Preparing.{IsSetOf};
-ghost use Rattle.md_copy.specs.Ready.{IsReady};
-ghost use Rattle.md_copy.specs.Rebuilding.{RebuildsReadied, Rebuilds, RefusesRebuild, StopsReadied};
+ghost use Rattle.md_copy.specs.Ready.{IsReadyToCopy};
+ghost use Rattle.md_copy.specs.Rebuilding.{RebuildsReadied, Rebuilds, RefusesRebuild, EndsAfterReady};
 ghost use Rattle.md_copy.specs.Rebuilt.{HasRebuilt};
 ghost use Rattle.md_copy.specs.Refused.{HasEnded};
 
@@ -17,7 +17,7 @@ use crate::leaving::leave;
 use crate::passes::copy_passes;
 use crate::readying::make_ready;
 use crate::rebuilt::Rebuilt;
-use crate::settling::settle;
+use crate::until_done::store_until_done;
 use md_array::Mirror;
 use md_bitmap::Marks;
 use md_device::Device;
@@ -91,12 +91,12 @@ fn rebuild_readied<D: Device + Drop + Send, G: Gate + Sync, R: Threads + Wait + 
     copied: &mut Marks,
 ) -> Result<Rebuilt, RebuildFault>
     requires within { target < length mirror.old.array.members }
-    requires ready { IsReady target mirror.old }
+    requires ready { IsReadyToCopy target mirror.old }
     requires none { IsSetOf mirror.old.array (λ c. false) copied.old }
     ensures gives { (m : MemberView) → IsMember mirror.old.array target m → MatchResult result
         (RebuildsReadied target m copied.old mirror.old mirror.new)
-        (StopsReadied target m copied.old copied.new mirror.old mirror.new) }
-    ensures leaves { IfErr result (MayLeave target copied.new mirror.new) }
+        (EndsAfterReady target m copied.old copied.new mirror.old mirror.new) }
+    ensures leaves { IfErr result (MayRecordAtEnd target copied.new mirror.new) }
     ensures sound { IsConsistent mirror.new }
 {
     let plans = match copy_passes(rt, alloc, mirror, target, gate, copied) {
@@ -107,6 +107,6 @@ fn rebuild_readied<D: Device + Drop + Send, G: Gate + Sync, R: Threads + Wait + 
         Ok(told) => told,
         Err(fault) => return Err(fault),
     };
-    settle(mirror);
+    store_until_done(mirror);
     Ok(told)
 }

@@ -5,7 +5,7 @@ ghost use Rattle.md_assembly.specs.States.{is_in_sync_as};
 ghost use Rattle.md_kept_members.specs.View.{MemberView};
 ghost use Rattle.md_state.specs.Members.{IsMember};
 ghost use Rattle.md_array.specs.Consistency.{IsConsistent};
-ghost use Rattle.md_copy.specs.RebuildSources.{AreSources, IsPlanOf, IsSource, place_beside};
+ghost use Rattle.md_copy.specs.RebuildSources.{AreSources, IsPlanOf, IsRebuildSource, place_beside};
 ghost use Rattle.md_copy.specs.Sources.{IsInSyncAs};
 ghost use Rattle.md_copy.specs.Targets.{IsTarget};
 
@@ -55,7 +55,7 @@ fn source_in<D: Device + Drop>(mirror: &Mirror<D>, target: usize, role: u8) -> S
     requires target { (m : MemberView) → IsMember mirror.now.array target m → IsTarget mirror.now.array m }
     requires filled { IsInSyncAs mirror.now.array role }
     ensures role { result.role ≡ role }
-    ensures source { IsSource mirror.now target result }
+    ensures source { IsRebuildSource mirror.now target result }
 {
     let k = member_in(mirror, role);
     Source {

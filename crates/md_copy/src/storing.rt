@@ -8,7 +8,7 @@ ghost use Rattle.md_state.specs.WritingMember.{IsNotDue};
 ghost use Rattle.md_array.specs.Consistency.{IsConsistent};
 ghost use Rattle.md_metadata.specs.Going.{HaltsAfter, only_others};
 ghost use Rattle.md_metadata.specs.Storing.{IsStoring, RecordsAll, RecordsAt, StoringFails};
-ghost use Rattle.md_copy.specs.Storing.{StoresFirst, StoringStops};
+ghost use Rattle.md_copy.specs.Storing.{StoresFirst, StoringEnds};
 
 use crate::fault::RebuildFault;
 use md_array::Mirror;
@@ -26,13 +26,13 @@ pub(crate) fn store_first<D: Device + Drop>(
     requires running { mirror.old.array.halted ≡ false }
     requires target { (m : MemberView) → IsMember mirror.old.array target m → is_rebuilt m.state ≡ true }
     requires unspent { HasSpentEvents mirror.old.array → ⊥ }
-    ensures { MatchResult result (λ _. StoresFirst mirror.old mirror.new) (StoringStops target mirror.old mirror.new) }
+    ensures { MatchResult result (λ _. StoresFirst mirror.old mirror.new) (StoringEnds target mirror.old mirror.new) }
 {
     if let Err(fault) = store_all_marks(mirror) {
-        return Err(named(mirror, fault));
+        return Err(rebuild_fault_of(mirror, fault));
     }
     if let Err(fault) = store_records(mirror) {
-        return Err(named(mirror, fault));
+        return Err(rebuild_fault_of(mirror, fault));
     }
     store_out_of_sync(mirror, target)
 }
@@ -48,7 +48,7 @@ fn store_out_of_sync<D: Device + Drop>(
     requires target { (m : MemberView) → IsMember mirror.old.array target m → is_rebuilt m.state ≡ true }
     requires unspent { HasSpentEvents mirror.old.array → ⊥ }
     requires recorded { AllInSync mirror.old.array IsNotDue }
-    ensures { MatchResult result (λ _. RecordsAll mirror.old mirror.new) (StoringStops target mirror.old mirror.new) }
+    ensures { MatchResult result (λ _. RecordsAll mirror.old mirror.new) (StoringEnds target mirror.old mirror.new) }
 {
     for k in 0..mirror.members() {
         if let Err(fault) = store_if_due(mirror, target, k) {
@@ -71,7 +71,7 @@ fn store_if_due<D: Device + Drop>(
     requires target { (m : MemberView) → IsMember mirror.old.array target m → is_rebuilt m.state ≡ true }
     requires unspent { HasSpentEvents mirror.old.array → ⊥ }
     requires recorded { AllInSync mirror.old.array IsNotDue }
-    ensures { MatchResult result (λ _. RecordsAt k mirror.old mirror.new) (StoringStops target mirror.old mirror.new) }
+    ensures { MatchResult result (λ _. RecordsAt k mirror.old mirror.new) (StoringEnds target mirror.old mirror.new) }
 {
     let state = mirror.state(k);
     if state.is_in_sync() || !state.is_recorded() || !mirror.due(k) {
@@ -82,7 +82,7 @@ fn store_if_due<D: Device + Drop>(
     }
     match store_record(mirror, k) {
         Ok(()) => Ok(()),
-        Err(fault) => Err(named(mirror, fault)),
+        Err(fault) => Err(rebuild_fault_of(mirror, fault)),
     }
 }
 
@@ -94,7 +94,7 @@ fn store_target<D: Device + Drop>(mirror: &mut Mirror<D>, target: usize) -> Resu
     requires target { (m : MemberView) → IsMember mirror.old.array target m → is_rebuilt m.state ≡ true }
     requires due { (m : MemberView) → IsMember mirror.old.array target m → m.due ≡ true }
     requires recorded { AllInSync mirror.old.array IsNotDue }
-    ensures { MatchResult result (λ _. RecordsAt target mirror.old mirror.new) (StoringStops target mirror.old mirror.new) }
+    ensures { MatchResult result (λ _. RecordsAt target mirror.old mirror.new) (StoringEnds target mirror.old mirror.new) }
 {
     match mirror.record_target(target) {
         Ok(()) => Ok(()),
@@ -103,7 +103,7 @@ fn store_target<D: Device + Drop>(mirror: &mut Mirror<D>, target: usize) -> Resu
 }
 
 // The fault that names the member that failed. Where the mirror is halted, no other one is in sync.
-fn named<D: Device + Drop>(mirror: &Mirror<D>, fault: PartFault) -> RebuildFault
+fn rebuild_fault_of<D: Device + Drop>(mirror: &Mirror<D>, fault: PartFault) -> RebuildFault
     requires { fault ≡ PartFault.Halted → (k : ℕ) × (m : MemberView) × IsInSync mirror.now.array k m }
     ensures failed { (k : ℕ) → fault ≡ PartFault.MemberFailed k → result ≡ RebuildFault.MetadataFault k }
     ensures halted { fault ≡ PartFault.Halted → (k : ℕ) × (m : MemberView) × IsInSync mirror.now.array k m

@@ -3,7 +3,7 @@ ghost use Rattle.std.specs.Prelude.{◌≡◌, ◌<◌, MatchBool, length};
 ghost use Rattle.md_assembly.specs.States.{takes_role};
 ghost use Rattle.md_kept_members.specs.View.{MemberView};
 ghost use Rattle.md_state.specs.Members.{IsMember};
-ghost use Rattle.md_copy.specs.Targets.{HasFreeRole, IsFree, IsTarget};
+ghost use Rattle.md_copy.specs.Targets.{HasFreeRole, IsRoleFree, IsTarget};
 
 use md_array::Mirror;
 use md_assembly::MemberState;
@@ -38,8 +38,8 @@ fn has_free_role<D: Device + Drop>(mirror: &Mirror<D>) -> bool
 
 fn is_free<D: Device + Drop>(mirror: &Mirror<D>, role: u32) -> bool
     ensures { MatchBool result
-        (IsFree mirror.now.array role)
-        (IsFree mirror.now.array role → ⊥) }
+        (IsRoleFree mirror.now.array role)
+        (IsRoleFree mirror.now.array role → ⊥) }
 {
     for k in 0..mirror.members() {
         if mirror.state(k).takes_role(role) {

@@ -1,12 +1,12 @@
--- What a stop leaves while a member is laid out.
+-- What a crash leaves while a member is laid out.
 use Rattle.std.proofs.Common.{◌≡◌, ◌⊎◌, ℕ, ◌+◌, ◌-◌, ◌*◌, ◌≤◌, inl, inr, List, [], ◌∷◌, ◌++◌, length, refl, ap, sym, ◌∙◌, arith, subst}
 use Rattle.std.proofs.lemmas.List.{length-replicate}
 use Rattle.md_device.specs.Splice.{SameOutside, part}
 use Rattle.md_device.specs.Device.{written}
-use Rattle.md_device.specs.Stops.{IsMixed}
+use Rattle.md_device.specs.Crashes.{IsMixed}
 use Rattle.md_device.proofs.Splices.{length-spliced, part_before, part-spliced, spliced_outside}
 use Rattle.md_super.specs.Encoding.{super_bytes}
-use Rattle.md_create.specs.Layout.{IsHalfLaidOut, empty_log, others_of, sectors_of, super_write, wipe, writes_of}
+use Rattle.md_create.specs.Layout.{IsHalfLaidOut, empty_log, others_of, bitmap_sectors_of, super_write_of, wipe, writes_of}
 use Rattle.md_create.specs.declared.params.NewMember.{NewMember}
 use Rattle.md_create.proofs.Laid.{bitmap_keeps, few_sectors, keeps_then, log_keeps, super_keeps}
 use Rattle.md_device_writes.specs.Bitmaps.{bitmap_writes}
@@ -47,7 +47,7 @@ mixed_all sector bytes old long fits =
 
 module _ (member : NewMember) (old left : List ℕ) (room : 512 * 2048 ≤ length old) where
   abbrev n : ℕ
-  n = sectors_of member
+  n = bitmap_sectors_of member
 
   abbrev bitmap : List Write
   bitmap = bitmap_writes 16 member.header member.marks n
@@ -98,7 +98,7 @@ module _ (member : NewMember) (old left : List ℕ) (room : 512 * 2048 ≤ lengt
 
   pub half_laid : length (super_bytes member.superblock) ≡ 4096 → IsCutShort old (writes_of member) left → IsHalfLaidOut old member left
   half_laid long cut =
-      elim (cut_last old left (others_of member) (super_write member.superblock) cut) [
+      elim (cut_last old left (others_of member) (super_write_of member.superblock) cut) [
         | inl earlier ↦ elim (cut_first old left wipe (empty_log ∷ bitmap) earlier) [
           | inl mixed ↦ inl mixed
           | inr later ↦ elim (cut_first second left empty_log bitmap later) [
@@ -109,7 +109,7 @@ module _ (member : NewMember) (old left : List ℕ) (room : 512 * 2048 ≤ lengt
         | inr (inl mixed) ↦ inr (inr mixed)
         | inr (inr all) ↦
             let size : length (after third bitmap) ≡ length old = stored.size ∙ logged.size ∙ wiped.size in
-            let done : left ≡ written (after third bitmap) 8 (super_bytes member.superblock) = all ∙ after-append old (others_of member) (super_write member.superblock ∷ []) in
+            let done : left ≡ written (after third bitmap) 8 (super_bytes member.superblock) = all ∙ after-append old (others_of member) (super_write_of member.superblock ∷ []) in
             inr (inr (subst (IsMixed 8 (super_bytes member.superblock) (after third bitmap)) (sym done)
             (mixed_all 8 (super_bytes member.superblock) (after third bitmap) long (omega (arith, size)))))
       ]

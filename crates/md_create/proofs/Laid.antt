@@ -5,7 +5,7 @@ use Rattle.md_device.specs.Splice.{SameOutside, part, spliced}
 use Rattle.md_device.proofs.Splices.{part-spliced, part_before, part_after, spliced_outside}
 use Rattle.md_super.specs.Encoding.{super_bytes}
 use Rattle.md_bitmap.specs.Sectors.{bitmap_sector}
-use Rattle.md_create.specs.Layout.{IsLaidOut, KeepsOthers, empty_log, sectors_of, super_write, wipe, writes_of}
+use Rattle.md_create.specs.Layout.{IsLaidOutAs, KeepsOthers, empty_log, bitmap_sectors_of, super_write_of, wipe, writes_of}
 use Rattle.md_create.specs.declared.params.NewMember.{NewMember}
 use Rattle.md_device_writes.specs.Bitmaps.{bitmap_writes}
 use Rattle.md_device_writes.specs.Writes.{after}
@@ -13,7 +13,7 @@ use Rattle.md_device_writes.proofs.Frames.{outside_around, outside_then}
 use Rattle.md_device_writes.proofs.Runs.{after-append}
 use Rattle.md_device_writes.proofs.Stored.{AreStored, stored_all}
 
-pub few_sectors : (member : NewMember) → sectors_of member ≤ 257
+pub few_sectors : (member : NewMember) → bitmap_sectors_of member ≤ 257
 few_sectors member =
     let few : member.marks.chunks ≤ 1048576 = omega (arith, member.new.chunks, member.header.sound.few_chunks) in
     grind (arith, few)
@@ -21,7 +21,7 @@ few_sectors member =
 -- ---- no other part changes
 module _ (member : NewMember) where
   abbrev n : ℕ
-  n = sectors_of member
+  n = bitmap_sectors_of member
 
   abbrev few : n ≤ 257
   few = few_sectors member
@@ -51,7 +51,7 @@ module _ (member : NewMember) where
 module _ (member : NewMember) (old zeros log super : List ℕ) (room : 512 * 2048 ≤ length old)
     (zeros_long : length zeros ≡ 4096) (log_long : length log ≡ 4096) (super_long : length super ≡ 4096) where
   abbrev width : ℕ
-  width = sectors_of member
+  width = bitmap_sectors_of member
 
   abbrev second : List ℕ
   second = spliced old (512 * 8) zeros
@@ -99,11 +99,11 @@ module _ (member : NewMember) (old zeros log super : List ℕ) (room : 512 * 204
         (keeps_then member third fourth fifth (bitmap_keeps member third fourth bitmap_outside) (super_keeps member fourth fifth named)));
   }
 
-pub laid_out : (member : NewMember) (old : List ℕ) → 512 * 2048 ≤ length old → length (super_bytes member.superblock) ≡ 4096 → IsLaidOut old member (after old (writes_of member))
+pub laid_out : (member : NewMember) (old : List ℕ) → 512 * 2048 ≤ length old → length (super_bytes member.superblock) ≡ 4096 → IsLaidOutAs old member (after old (writes_of member))
 laid_out member old room long =
     let all = stands member old wipe.bytes empty_log.bytes (super_bytes member.superblock) room (length-replicate {A = ℕ} 4096 0) (length-replicate {A = ℕ} 4096 0xff) long in
-    subst (IsLaidOut old member)
-    (sym (after-append (spliced (spliced old (512 * 8) wipe.bytes) (512 * 2032) empty_log.bytes) (bitmap_writes 16 member.header member.marks (sectors_of member)) (super_write member.superblock ∷ [])))
+    subst (IsLaidOutAs old member)
+    (sym (after-append (spliced (spliced old (512 * 8) wipe.bytes) (512 * 2032) empty_log.bytes) (bitmap_writes 16 member.header member.marks (bitmap_sectors_of member)) (super_write_of member.superblock ∷ [])))
     (record {
       superblock = all.superblock;
       bitmap = all.bitmap;

@@ -3,7 +3,7 @@ use Rattle.std.proofs.Common.{◌≡◌, ℕ, ◌+◌, ◌<◌, ◌≤◌, List,
 use Rattle.std.specs.Prelude.{slice_get, min, IfSome, IfNone}
 use Rattle.std.proofs.lemmas.Bool.{cases_lt}
 use Rattle.std.proofs.lemmas.Option.{slice_get_within}
-use Rattle.md_create.specs.Geometry.{HasDevice, IsLeast, lesser_of}
+use Rattle.md_create.specs.Geometry.{HasDevice, IsLeastDevice, lesser_of}
 
 -- the least of the devices for the roles below k
 pub record IsLeastBelow (sizes : List (Option ℕ)) (k sectors : ℕ) : Type 0 where
@@ -50,7 +50,7 @@ least_more sizes k (Some a) (Some b) here below =
     ]
 
 -- all were looked at
-pub some_whole : (sizes : List (Option ℕ)) (so_far : Option ℕ) (k : ℕ) → length sizes ≤ k → LeastBelow sizes k so_far → IfSome so_far (IsLeast sizes)
+pub some_whole : (sizes : List (Option ℕ)) (so_far : Option ℕ) (k : ℕ) → length sizes ≤ k → LeastBelow sizes k so_far → IfSome so_far (IsLeastDevice sizes)
 some_whole sizes None k all below = tt
 some_whole sizes (Some sectors) k all below = record {
   role = below.role;

@@ -17,19 +17,19 @@ use Rattle.md_super.proofs.Unique.{unique}
 use Rattle.md_bitmap.specs.declared.header.BitmapHeader.{BitmapHeader}
 use Rattle.md_bitmap.specs.Header.{IsHeader, header_bytes}
 use Rattle.md_bitmap.specs.Marks.{Bitmap, is_set, padded}
-use Rattle.md_bitmap.specs.Sound.{IsSound, chunk_count}
+use Rattle.md_bitmap.specs.Sound.{IsSoundHeader, chunk_count}
 use Rattle.md_bitmap.specs.Sectors.{bitmap_sector}
 use Rattle.md_bitmap.proofs.Blocks.{from_start, sector_bit}
 use Rattle.md_badblocks.specs.declared.run.Run.{Run}
 use Rattle.md_members.specs.declared.info.MemberInfo.{MemberInfo}
 use Rattle.md_members.specs.Areas.{bitmap_sectors, has_bitmap}
-use Rattle.md_members.specs.Members.{IsMember, HasBitmap, HasBadSet, reads_log, sectors_of as sectors_in}
+use Rattle.md_members.specs.Members.{IsReadMember, HasBitmap, HasBadSet, reads_log, sectors_of_device as sectors_in}
 use Rattle.md_members.specs.Reading.{BitmapStartsAt, IsRead, ReadsSuper, ReadsBitmap, ReadsHeader, chunks_of, front_of}
 use Rattle.md_create.specs.declared.params.NewMember.{NewMember}
-use Rattle.md_create.specs.Layout.{IsLaidOut}
+use Rattle.md_create.specs.Layout.{IsLaidOutAs}
 use Rattle.md_create.specs.ReadBack.{HasSameMarks, ReadsBack, sealed}
 
-IsSound-prop : (size chunksize : ℕ) → IsProp (IsSound size chunksize)
+IsSound-prop : (size chunksize : ℕ) → IsProp (IsSoundHeader size chunksize)
 IsSound-prop size chunksize a b = λ i. record {
   chunk_size = record { power = Bool-set _ _ a.chunk_size.power b.chunk_size.power i; least = le_prop a.chunk_size.least b.chunk_size.least i };
   few_chunks = le_prop a.few_chunks b.few_chunks i;
@@ -49,7 +49,7 @@ one_header bytes v w a b = λ i. record {
   sectors_reserved = (a.sectors_reserved ∙ sym b.sectors_reserved) i;
   nodes = (a.nodes ∙ sym b.nodes) i;
   cluster_name = (a.cluster_name ∙ sym b.cluster_name) i;
-  sound = is_prop→PathP (λ j. IsSound ((a.sync_size ∙ sym b.sync_size) j) ((a.chunksize ∙ sym b.chunksize) j)) (λ j. IsSound-prop _ _) v.sound w.sound i;
+  sound = is_prop→PathP (λ j. IsSoundHeader ((a.sync_size ∙ sym b.sync_size) j) ((a.chunksize ∙ sym b.chunksize) j)) (λ j. IsSound-prop _ _) v.sound w.sound i;
 }
 
 same_bit : (xs ys : List ℕ) (i j : ℕ) → i % 8 ≡ j % 8 → slice_index xs (i / 8) ≡ slice_index ys (j / 8) → is_set xs i ≡ is_set ys j
@@ -89,7 +89,7 @@ front_is front rest long = take_at front rest 256 long
 -- a superblock v that was read of the device
 module _ (member : NewMember) (old new : List ℕ) (spelled : IsSuper (super_bytes member.superblock) (sealed member.superblock))
     (header_is : IsHeader (header_bytes member.header) member.header) (long : length (header_bytes member.header) ≡ 256)
-    (laid : IsLaidOut old member new) (v : Superblock) (read : ReadsSuper new true v) where
+    (laid : IsLaidOutAs old member new) (v : Superblock) (read : ReadsSuper new true v) where
   pub super_read : v ≡ sealed member.superblock
   super_read =
       unique (super_bytes member.superblock) v (sealed member.superblock)
@@ -152,7 +152,7 @@ module _ (member : NewMember) (old new : List ℕ) (spelled : IsSuper (super_byt
   bad_read bad (inr none) = none.1
 
 -- the whole member
-pub read_back : (member : NewMember) (old new : List ℕ) (info : MemberInfo) → IsSuper (super_bytes member.superblock) (sealed member.superblock) → IsHeader (header_bytes member.header) member.header → length (header_bytes member.header) ≡ 256 → IsLaidOut old member new → IsMember new true info → ReadsBack member info
+pub read_back : (member : NewMember) (old new : List ℕ) (info : MemberInfo) → IsSuper (super_bytes member.superblock) (sealed member.superblock) → IsHeader (header_bytes member.header) member.header → length (header_bytes member.header) ≡ 256 → IsLaidOutAs old member new → IsReadMember new true info → ReadsBack member info
 read_back member old new info spelled header_is long laid is =
     let bitmap = bitmap_read member old new spelled header_is long laid info.superblock is.superblock info.header info.marks is.bitmap in
     record {

@@ -6,21 +6,21 @@ use Rattle.md_super.specs.declared.superblock.Superblock.{Superblock}
 use Rattle.md_super.specs.declared.fault.SuperFault.{SuperFault}
 use Rattle.md_super.specs.declared.fault.SuperFault.TheVariants as super_fault
 use Rattle.md_super.specs.Encoding.{super_bytes}
-use Rattle.md_super.specs.Faults.{NoFault, IsFirstFault, place}
+use Rattle.md_super.specs.Faults.{NoSuperFault, IsFirstSuperFault, super_fault_place}
 use Rattle.md_super.specs.Format.{IsSuper}
 use Rattle.md_format.specs.FirstFault.{IsFirst}
 use Rattle.md_bitmap.specs.declared.fault.BitmapFault.{BitmapFault}
 use Rattle.md_bitmap.specs.declared.fault.BitmapFault.TheVariants as bitmap_fault
-use Rattle.md_bitmap.specs.Faults.{NoneStands, Stands, place as bitmap_place}
+use Rattle.md_bitmap.specs.Faults.{NoneStands, BitmapFaultStands, bitmap_fault_place as bitmap_place}
 use Rattle.md_bitmap.specs.Header.{IsHeader, header_bytes}
 use Rattle.md_members.specs.declared.area.Area.{Area}
 use Rattle.md_members.specs.declared.fault.MemberFault.{MemberFault}
 use Rattle.md_members.specs.declared.fault.MemberFault.TheVariants.{TooShort, ReadFault, Super, Region, Bitmap, Log, NoMemory}
-use Rattle.md_members.specs.Areas.{AreApart, IsPlaced, IsWithin, bitmap_area, bitmap_sectors, data_area, log_area, super_area}
-use Rattle.md_members.specs.Members.{RefusesMember, RefusesRest, by_place, by_bitmap, by_log, sectors_of as sectors_in}
+use Rattle.md_members.specs.Areas.{AreApart, AreAreasPlaced, IsWithin, bitmap_area, bitmap_sectors, data_area, log_area, super_area}
+use Rattle.md_members.specs.Members.{RefusesMember, RefusesRest, by_place, by_bitmap, by_log, sectors_of_device as sectors_in}
 use Rattle.md_members.specs.Reading.{ReadsSuper, RefusesBitmap, RefusesSuper, chunks_of}
 use Rattle.md_create.specs.declared.params.NewMember.{NewMember}
-use Rattle.md_create.specs.Layout.{IsLaidOut}
+use Rattle.md_create.specs.Layout.{IsLaidOutAs}
 use Rattle.md_create.specs.Places.{HasNewPlaces}
 use Rattle.md_create.specs.ReadBack.{sealed}
 use Rattle.md_create.proofs.Laid.{few_sectors}
@@ -50,7 +50,7 @@ module _ (v : Superblock) (p : HasNewPlaces v) where
   bitmap_is width = rw p.bitmap_offset refl
 
   -- its parts fit a device of its size, where the bitmap has room
-  pub new_placed : (sectors width : ℕ) → width ≤ 2016 → 2048 + v.data_size ≤ sectors → IsPlaced sectors v width
+  pub new_placed : (sectors width : ℕ) → width ≤ 2016 → 2048 + v.data_size ≤ sectors → AreAreasPlaced sectors v width
   new_placed sectors width few room = record {
     some_size = p.some_size;
     data_holds = p.data_holds;
@@ -85,7 +85,7 @@ sealed_places member =
     }
 
 -- each fault but NoMemory comes before it
-early : (f : SuperFault) → f ≢ super_fault.NoMemory → place f < 9
+early : (f : SuperFault) → f ≢ super_fault.NoMemory → super_fault_place f < 9
 early super_fault.Magic other = omega arith
 early super_fault.Major other = omega arith
 early super_fault.MaxDev other = omega arith
@@ -102,15 +102,15 @@ early_bitmap bitmap_fault.Version = omega arith
 early_bitmap bitmap_fault.ChunkSize = omega arith
 early_bitmap bitmap_fault.TooManyChunks = omega arith
 
-module _ (member : NewMember) (old new : List ℕ) (spelled : IsSuper (super_bytes member.superblock) (sealed member.superblock)) (sound : NoFault (super_bytes member.superblock))
+module _ (member : NewMember) (old new : List ℕ) (spelled : IsSuper (super_bytes member.superblock) (sealed member.superblock)) (sound : NoSuperFault (super_bytes member.superblock))
     (header_is : IsHeader (header_bytes member.header) member.header) (header_sound : NoneStands (header_bytes member.header)) (long : length (header_bytes member.header) ≡ 256)
-    (laid : IsLaidOut old member new) (room : 512 * (2048 + member.superblock.data_size) ≤ length new) where
+    (laid : IsLaidOutAs old member new) (room : 512 * (2048 + member.superblock.data_size) ≤ length new) where
   super_refused : (fault : MemberFault) → RefusesSuper new true ⊥ fault → fault ≡ NoMemory
   super_refused TooShort refused = absurd (omega arith)
   super_refused ReadFault refused = absurd (refused.1 refl)
   super_refused (Super f) refused =
       let bytes : refused.0.bytes ≡ super_bytes member.superblock = refused.0.read.from_device refl ∙ laid.superblock in
-      let first = subst (λ (bs : List ℕ). IsFirstFault bs f) bytes refused.0.first in
+      let first = subst (λ (bs : List ℕ). IsFirstSuperFault bs f) bytes refused.0.first in
       absurd (sound f (early f refused.1) first.stands)
   super_refused NoMemory refused = refl
   super_refused Region refused = absurd refused
@@ -118,14 +118,14 @@ module _ (member : NewMember) (old new : List ℕ) (spelled : IsSuper (super_byt
   super_refused (Log f) refused = absurd refused
 
   module _ (v : Superblock) (read : ReadsSuper new true v) where
-    placed_in : (width : ℕ) → width ≤ 2016 → IsPlaced (sectors_in new) v width
+    placed_in : (width : ℕ) → width ≤ 2016 → AreAreasPlaced (sectors_in new) v width
     placed_in width few = rw (super_read member old new spelled header_is long laid v read) (new_placed (sealed member.superblock) (sealed_places member) (sectors_in new) width few (omega arith))
 
     bitmap_refused : (fault : MemberFault) → RefusesBitmap new true ⊥ (sectors_in new) v fault → fault ≡ NoMemory
     bitmap_refused ReadFault refused = absurd (refused refl)
     bitmap_refused (Bitmap f) (inl spoiled) =
         let front = front_read member old new spelled header_is long laid v read spoiled.start spoiled.sector spoiled.at spoiled.read in
-        let first = subst (λ (bytes : List ℕ). IsFirst (Stands bytes) bitmap_place f) front spoiled.first in
+        let first = subst (λ (bytes : List ℕ). IsFirst (BitmapFaultStands bytes) bitmap_place f) front spoiled.first in
         absurd (header_sound f (early_bitmap f) first.stands)
     bitmap_refused (Bitmap f) (inr many) =
         let same = header_read member old new spelled header_is long laid v read many.1 many.2 in

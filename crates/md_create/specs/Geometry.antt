@@ -1,6 +1,6 @@
 -- What a new array demands of its devices (this project's own limits). All sizes are in sectors.
 use Rattle.std.specs.Prelude.{◌≡◌, ℕ, ◌+◌, ◌<◌, ◌≤◌, List, length, min, ⊤, Option, Some, None, slice_get}
-use Rattle.md_bitmap.specs.Sound.{IsSound}
+use Rattle.md_bitmap.specs.Sound.{IsSoundHeader}
 use Rattle.md_create.specs.declared.params.CreateParams.{CreateParams}
 
 -- the device for a role is there, and has so many sectors
@@ -14,7 +14,7 @@ lesser_of (Some a) None = Some a
 lesser_of (Some a) (Some b) = Some (min a b)
 
 -- the size of the least device
-pub record IsLeast (sizes : List (Option ℕ)) (sectors : ℕ) : Type 0 where
+pub record IsLeastDevice (sizes : List (Option ℕ)) (sectors : ℕ) : Type 0 where
   pub role : ℕ
   pub reached : HasDevice sizes role sectors
   pub least : (other n : ℕ) → HasDevice sizes other n → sectors ≤ n
@@ -22,7 +22,7 @@ pub record IsLeast (sizes : List (Option ℕ)) (sectors : ℕ) : Type 0 where
 -- the array's size: the one that is asked for, or all that the least device has after its first 2048 sectors
 abbrev pub IsSize : Option ℕ → List (Option ℕ) → ℕ → Type 0
 IsSize (Some asked) sizes size = size ≡ asked
-IsSize None sizes size = IsLeast sizes (2048 + size)
+IsSize None sizes size = IsLeastDevice sizes (2048 + size)
 
 -- the role that is to be write-mostly, if one is, has a device
 abbrev pub IsWriteMostlyRole : Option ℕ → List (Option ℕ) → Type 0
@@ -37,5 +37,5 @@ pub record IsGeometry (params : CreateParams) (sizes : List (Option ℕ)) (size 
   pub size_is : IsSize params.size sizes size
   pub some_size : 0 < size
   pub room : (role n : ℕ) → HasDevice sizes role n → 2048 + size ≤ n
-  pub chunks : IsSound size params.chunk_bytes
+  pub chunks : IsSoundHeader size params.chunk_bytes
   pub write_mostly : IsWriteMostlyRole params.write_mostly sizes

@@ -3,7 +3,7 @@ use Rattle.std.specs.Prelude.{◌≡◌, ℕ, ◌<◌, [], length, Some, IfSome}
 use Rattle.md_super.specs.declared.superblock.Superblock.{Superblock}
 use Rattle.md_super.specs.Checksum.{checksum_of}
 use Rattle.md_super.specs.Encoding.{super_bytes}
-use Rattle.md_super.specs.Faults.{NoFault}
+use Rattle.md_super.specs.Faults.{NoSuperFault}
 use Rattle.md_super.specs.Format.{IsSuper}
 use Rattle.md_bitmap.specs.Marks.{Bitmap, is_set}
 use Rattle.md_members.specs.declared.info.MemberInfo.{MemberInfo}
@@ -14,10 +14,10 @@ abbrev pub sealed : Superblock → Superblock
 sealed v = record v { sb_csum = checksum_of (super_bytes v) (length v.roles) }
 
 -- a reader of the bytes that are written for a superblock finds its fields in them, and no fault
-pub record IsReadable (v : Superblock) : Type 0 where
+pub record IsReadBack (v : Superblock) : Type 0 where
   pub size : length (super_bytes v) ≡ 4096
   pub fields : IsSuper (super_bytes v) (sealed v)
-  pub sound : NoFault (super_bytes v)
+  pub sound : NoSuperFault (super_bytes v)
 
 -- as many chunks, and the same ones marked
 pub record HasSameMarks (m read : Bitmap) : Type 0 where

@@ -4,7 +4,7 @@ use Rattle.md_super.specs.declared.superblock.Superblock.{Superblock}
 use Rattle.md_bitmap.specs.declared.header.BitmapHeader.{BitmapHeader}
 use Rattle.md_bitmap.specs.Sound.{chunk_count}
 use Rattle.md_create.specs.declared.params.NewMember.{NewMember}
-use Rattle.md_create.specs.Values.{HasMarks, device_uuid_of}
+use Rattle.md_create.specs.Values.{HasFirstMarks, device_uuid_of}
 
 -- A spare's superblock, beside the fields of the array as they are once it has come in. A field that the
 -- array has otherwise, as its layout, is 0 until its first record.
@@ -46,4 +46,4 @@ pub record IsSpareSuper (array : Superblock) (number sectors : ℕ) (v : Superbl
 pub record IsNewSpare (array : Superblock) (h : BitmapHeader) (number sectors : ℕ) (m : NewMember) : Type 0 where
   pub superblock : IsSpareSuper array number sectors m.superblock
   pub header : m.header ≡ h
-  pub marks : HasMarks false (chunk_count array.size h.chunksize) m.marks
+  pub marks : HasFirstMarks false (chunk_count array.size h.chunksize) m.marks

@@ -32,12 +32,12 @@ abbrev pub roles_of : List (Option ℕ) → List ℕ
 roles_of sizes = map (role_for sizes) (range_with_len 0 (length sizes))
 
 -- a device by its role, which is its number, and its sectors, where it is there
-abbrev pub numbered : List (Option ℕ) → ℕ → Option (ℕ × ℕ)
-numbered sizes role = option_map (λ sectors. (role, sectors)) (device_for sizes role)
+abbrev pub device_in_role : List (Option ℕ) → ℕ → Option (ℕ × ℕ)
+device_in_role sizes role = option_map (λ sectors. (role, sectors)) (device_for sizes role)
 
 -- the devices that are there, in the order of roles
 abbrev pub devices_of : List (Option ℕ) → List (ℕ × ℕ)
-devices_of sizes = filter_map (numbered sizes) (range_with_len 0 (length sizes))
+devices_of sizes = filter_map (device_in_role sizes) (range_with_len 0 (length sizes))
 
 -- devflags of the member of a role: WriteMostly1 of md_p.h where that role is to be write-mostly
 abbrev pub flags_for : Option ℕ → ℕ → ℕ
@@ -92,7 +92,7 @@ pub record IsNewHeader (params : CreateParams) (size : ℕ) (h : BitmapHeader) :
   pub cluster_name : h.cluster_name ≡ replicate 64 0
 
 -- all chunks are marked, or none where the array is clean
-pub record HasMarks (clean : Bool) (chunks : ℕ) (m : Bitmap) : Type 0 where
+pub record HasFirstMarks (clean : Bool) (chunks : ℕ) (m : Bitmap) : Type 0 where
   pub chunks_are : m.chunks ≡ chunks
   pub bits : (i : ℕ) → is_set m.bytes i ≡ (not clean && nat_lt i chunks)
 
@@ -100,13 +100,13 @@ pub record HasMarks (clean : Bool) (chunks : ℕ) (m : Bitmap) : Type 0 where
 pub record IsNewMember (params : CreateParams) (sizes : List (Option ℕ)) (size : ℕ) (m : NewMember) : Type 0 where
   pub superblock : IsNewSuper params sizes size m.superblock
   pub header : IsNewHeader params size m.header
-  pub marks : HasMarks params.assume_clean (chunk_count size params.chunk_bytes) m.marks
+  pub marks : HasFirstMarks params.assume_clean (chunk_count size params.chunk_bytes) m.marks
 
 -- a member's number, and the sectors of its device: those in front of its data, and its data
-abbrev pub device_of : NewMember → ℕ × ℕ
-device_of m = (m.superblock.dev_number, 2048 + m.superblock.data_size)
+abbrev pub device_of_member : NewMember → ℕ × ℕ
+device_of_member m = (m.superblock.dev_number, 2048 + m.superblock.data_size)
 
 -- one member for each device that is there, in the order of roles
 pub record AreMembers (params : CreateParams) (sizes : List (Option ℕ)) (size : ℕ) (members : List NewMember) : Type 0 where
-  pub devices : map device_of members ≡ devices_of sizes
+  pub devices : map device_of_member members ≡ devices_of sizes
   pub each : All (IsNewMember params sizes size) members

@@ -1,8 +1,8 @@
 // Making the members of an array.
 ghost use Rattle.std.specs.Prelude.{◌≡◌, ◌+◌, ◌≤◌, ◌<◌, ℕ, List, Option, IfOk, IsErrOf, length};
-ghost use Rattle.md_bitmap.specs.Sound.{IsSound, chunk_count};
+ghost use Rattle.md_bitmap.specs.Sound.{IsSoundHeader, chunk_count};
 ghost use Rattle.md_create.specs.Geometry.{HasDevice, IsGeometry};
-ghost use Rattle.md_create.specs.Values.{AreMembers, HasMarks, IsNewHeader, IsNewMember, IsNewSuper, device_of, flags_for, role_for, roles_of};
+ghost use Rattle.md_create.specs.Values.{AreMembers, HasFirstMarks, IsNewHeader, IsNewMember, IsNewSuper, device_of_member, flags_for, role_for, roles_of};
 
 use crate::fault::CreateFault;
 use crate::geometry::size_of;
@@ -73,7 +73,7 @@ fn new_member(
     requires geometry { IsGeometry params.now sizes.now size }
     requires there { HasDevice sizes.now role sectors }
     ensures values { IfOk result (IsNewMember params.now sizes.now size) }
-    ensures device { IfOk result (λ m. device_of m ≡ (role, sectors)) }
+    ensures device { IfOk result (λ m. device_of_member m ≡ (role, sectors)) }
 {
     let roles = roles_for(alloc, sizes)?;
     let marks = new_marks(alloc, params, size)?;
@@ -108,8 +108,8 @@ fn role_for(sizes: &[Option<u64>], number: usize) -> u16
 }
 
 fn new_marks(alloc: Global, params: &CreateParams, size: u64) -> Result<Marks, AllocError>
-    requires { IsSound size params.now.chunk_bytes }
-    ensures { IfOk result (HasMarks params.now.assume_clean (chunk_count size params.now.chunk_bytes)) }
+    requires { IsSoundHeader size params.now.chunk_bytes }
+    ensures { IfOk result (HasFirstMarks params.now.assume_clean (chunk_count size params.now.chunk_bytes)) }
 {
     let chunks = Chunks::new(size, params.chunk_bytes).count();
     if params.assume_clean {
@@ -120,7 +120,7 @@ fn new_marks(alloc: Global, params: &CreateParams, size: u64) -> Result<Marks, A
 }
 
 fn header(params: &CreateParams, size: u64) -> BitmapHeader
-    requires { IsSound size params.now.chunk_bytes }
+    requires { IsSoundHeader size params.now.chunk_bytes }
     ensures { IsNewHeader params.now size result }
 {
     BitmapHeader {

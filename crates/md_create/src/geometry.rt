@@ -1,6 +1,6 @@
 // Whether an array can be made of the devices.
 ghost use Rattle.std.specs.Prelude.{◌≡◌, ◌↔◌, ◌≤◌, ◌+◌, ℕ, true, IfSome, IfNone, Some, None};
-ghost use Rattle.md_create.specs.Geometry.{HasDevice, IsGeometry, IsLeast, IsWriteMostlyRole, lesser_of};
+ghost use Rattle.md_create.specs.Geometry.{HasDevice, IsGeometry, IsLeastDevice, IsWriteMostlyRole, lesser_of};
 
 use crate::params::CreateParams;
 use crate::places::DATA_SECTOR;
@@ -55,7 +55,7 @@ fn has_write_mostly(params: &CreateParams, sizes: &[Option<u64>]) -> bool
 
 // The sectors of the least device, where one is there.
 fn least_device(sizes: &[Option<u64>]) -> Option<u64>
-    ensures some { IfSome result (IsLeast sizes.now) }
+    ensures some { IfSome result (IsLeastDevice sizes.now) }
     ensures none { IfNone result ((role n : ℕ) → HasDevice sizes.now role n → ⊥) }
 {
     let mut least = None;

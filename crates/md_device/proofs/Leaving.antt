@@ -4,7 +4,7 @@ use Rattle.std.proofs.lemmas.List.{append-nil, take_all, take-append-drop}
 use Rattle.std.proofs.lemmas.List.Elements.{All-append}
 use Rattle.md_device.specs.Splice.{SameOutside, part, spliced}
 use Rattle.md_device.specs.Device.{held, written}
-use Rattle.md_device.specs.Stops.{IsMixed, LeavesMore, WithinWrite}
+use Rattle.md_device.specs.Crashes.{IsMixed, LeavesMore, WithinWrite}
 
 -- no call
 pub leaves_none : (past : List (List ℕ)) (P : List ℕ → Type 0) → LeavesMore past past P

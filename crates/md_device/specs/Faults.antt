@@ -26,8 +26,8 @@ faulty_code {D} code =
     (λ p. record { inner = p.0; bad = p.1.0; first = p.1.1.0; last = p.1.1.1.0; torn = p.1.1.1.1.0; writes = p.1.1.1.1.1.0; failed = p.1.1.1.1.1.1 }) (λ _. refl)
 
 -- the n bytes from a sector on have a byte of one of these sectors
-abbrev pub touches : List ℕ → ℕ → ℕ → Bool
-touches bad sector n = list_any (λ b. nat_le sector b && nat_lt b (sector + n / 512)) bad
+abbrev pub touches_sectors : List ℕ → ℕ → ℕ → Bool
+touches_sectors bad sector n = list_any (λ b. nat_le sector b && nat_lt b (sector + n / 512)) bad
 
 -- the first half of the sectors of what is written, rounded down
 abbrev pub first_half : List ℕ → List ℕ
@@ -36,7 +36,7 @@ first_half bytes = take (length bytes / 1024 * 512) bytes
 module _ {D : Type 0} where
   -- the read of n bytes from a sector on is made to fail
   abbrev pub fails_read : Faulty D → ℕ → ℕ → Bool
-  fails_read d sector n = nat_lt d.failed (2 ^ 64 - 1) && touches d.bad sector n
+  fails_read d sector n = nat_lt d.failed (2 ^ 64 - 1) && touches_sectors d.bad sector n
 
   -- the number of the next write, from 1, as far as a `u64` counts
   abbrev pub next_write : Faulty D → ℕ

@@ -2,7 +2,7 @@
 ghost use Rattle.std.specs.Prelude.{◌≡◌, ◌+◌, ◌*◌, ◌%◌, ◌^◌, ◌<◌, ◌≤◌, Bool, List, ℕ, length, true, OnOk, OnErr};
 ghost use Rattle.md_device.specs.Splice.{SameOutside};
 ghost use Rattle.md_device.specs.Device.{held, written};
-ghost use Rattle.md_device.specs.Stops.{LeavesMore, WithinWrite};
+ghost use Rattle.md_device.specs.Crashes.{LeavesMore, WithinWrite};
 
 use thiserror::Error;
 
@@ -35,7 +35,7 @@ pub trait Device {
 
     /// What stops so far might have left, within calls and between two, in their order. Only what can't
     /// be left is promised: a device that never stops has none.
-    ghost stops: { Self → List (List ℕ) };
+    ghost crashes: { Self → List (List ℕ) };
 
     /// The number of sectors.
     fn sectors(&self) -> u64
@@ -44,7 +44,7 @@ pub trait Device {
 
     /// Fills `buf` with the bytes from `sector` on.
     ///
-    /// After a `ReadFault` any bytes may stand in `buf`; the device's content is as before, and a stop
+    /// After a `ReadFault` any bytes may stand in `buf`; the device's content is as before, and a crash
     /// leaves nothing else.
     fn read(&mut self, sector: u64, buf: &mut [u8]) -> Result<(), ReadFault>
         requires whole { length buf.old % 512 ≡ 0 }
@@ -56,11 +56,11 @@ pub trait Device {
         ensures err { OnErr result (honest self.old ≡ true → failures self.old < failures self.new) }
         ensures counted { failures self.old ≤ failures self.new }
         ensures unfailing { OnOk result (failures self.new ≡ failures self.old) }
-        ensures within { honest self.old ≡ true → LeavesMore (stops self.old) (stops self.new) (λ left. left ≡ content self.old) };
+        ensures within { honest self.old ≡ true → LeavesMore (crashes self.old) (crashes self.new) (λ left. left ≡ content self.old) };
 
     /// Writes `bytes` from `sector` on. `Ok` means that they are on stable storage.
     ///
-    /// A failed write leaves any bytes in its range, and no others changed. So does a stop within it; a
+    /// A failed write leaves any bytes in its range, and no others changed. So does a crash within it; a
     /// stop within one that answers `Ok` leaves each of its sectors as it was or as written.
     fn write(&mut self, sector: u64, bytes: &[u8]) -> Result<(), WriteFault>
         requires whole { length bytes.now % 512 ≡ 0 }
@@ -72,5 +72,5 @@ pub trait Device {
         ensures err { OnErr result (honest self.old ≡ true → failures self.old < failures self.new) }
         ensures counted { failures self.old ≤ failures self.new }
         ensures unfailing { OnOk result (failures self.new ≡ failures self.old) }
-        ensures within { honest self.old ≡ true → LeavesMore (stops self.old) (stops self.new) (WithinWrite result sector bytes.now (content self.old)) };
+        ensures within { honest self.old ≡ true → LeavesMore (crashes self.old) (crashes self.new) (WithinWrite result sector bytes.now (content self.old)) };
 }

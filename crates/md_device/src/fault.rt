@@ -2,8 +2,8 @@
 ghost use Rattle.std.specs.Prelude.{◌≡◌, ◌+◌, ◌*◌, ◌%◌, ◌<◌, ◌≤◌, length, true, false, OnOk, OnErr, IsErr};
 ghost use Rattle.md_device.specs.Splice.{SameOutside};
 ghost use Rattle.md_device.specs.Device.{held, written};
-ghost use Rattle.md_device.specs.Stops.{LeavesMore, WithinWrite};
-ghost use Rattle.md_device.specs.Faults.{touches, first_half, fails_read, fails_write, next_write};
+ghost use Rattle.md_device.specs.Crashes.{LeavesMore, WithinWrite};
+ghost use Rattle.md_device.specs.Faults.{touches_sectors, first_half, fails_read, fails_write, next_write};
 
 use crate::device::{Device, ReadFault, WriteFault};
 use std::marker::Model;
@@ -69,7 +69,7 @@ impl<D: Device> Device for FaultDevice<D> {
 
     ghost failures = { λ d. d.failed + D.failures d.inner };
 
-    ghost stops = { λ d. D.stops d.inner };
+    ghost crashes = { λ d. D.crashes d.inner };
 
     fn sectors(&self) -> u64 {
         self.inner.sectors()
@@ -85,7 +85,7 @@ impl<D: Device> Device for FaultDevice<D> {
         ensures err { OnErr result (D.honest self.old.inner ≡ true → self.old.failed + D.failures self.old.inner < self.new.failed + D.failures self.new.inner) }
         ensures counted { self.old.failed + D.failures self.old.inner ≤ self.new.failed + D.failures self.new.inner }
         ensures unfailing { OnOk result (self.new.failed + D.failures self.new.inner ≡ self.old.failed + D.failures self.old.inner) }
-        ensures within { D.honest self.old.inner ≡ true → LeavesMore (D.stops self.old.inner) (D.stops self.new.inner) (λ left. left ≡ D.content self.old.inner) }
+        ensures within { D.honest self.old.inner ≡ true → LeavesMore (D.crashes self.old.inner) (D.crashes self.new.inner) (λ left. left ≡ D.content self.old.inner) }
 
         // A read that is made to fail changes the count alone; no other fails but by the device below.
         ensures bad { fails_read self.old sector (length buf.old) ≡ true → IsErr result × (buf.new ≡ buf.old) × (self.new ≡ record self.old { failed = self.old.failed + 1 }) }
@@ -109,7 +109,7 @@ impl<D: Device> Device for FaultDevice<D> {
         ensures err { OnErr result (D.honest self.old.inner ≡ true → self.old.failed + D.failures self.old.inner < self.new.failed + D.failures self.new.inner) }
         ensures counted { self.old.failed + D.failures self.old.inner ≤ self.new.failed + D.failures self.new.inner }
         ensures unfailing { OnOk result (self.new.failed + D.failures self.new.inner ≡ self.old.failed + D.failures self.old.inner) }
-        ensures within { D.honest self.old.inner ≡ true → LeavesMore (D.stops self.old.inner) (D.stops self.new.inner) (WithinWrite result sector bytes.now (D.content self.old.inner)) }
+        ensures within { D.honest self.old.inner ≡ true → LeavesMore (D.crashes self.old.inner) (D.crashes self.new.inner) (WithinWrite result sector bytes.now (D.content self.old.inner)) }
 
         // A write that is made to fail is counted; no other fails but by the device below.
         ensures bad { fails_write self.old ≡ true → IsErr result × (self.new ≡ record self.old { inner = self.new.inner; writes = next_write self.old; failed = self.old.failed + 1 }) }
@@ -134,7 +134,7 @@ impl<D: Device> Device for FaultDevice<D> {
 
 // Whether a read of so many bytes touches a bad sector.
 fn is_bad(bad: &[u64], sector: u64, len: usize) -> bool
-    ensures { result ≡ touches bad.now sector len }
+    ensures { result ≡ touches_sectors bad.now sector len }
 {
     let count = len as u64 / 512;
     bad.iter()
@@ -151,7 +151,7 @@ fn write_half<D: Device>(device: &mut D, sector: u64, bytes: &[u8])
     ensures half_outside { SameOutside (512 * sector) (length (first_half bytes.now)) (D.content device.old) (D.content device.new) }
     ensures honest { D.honest device.new ≡ D.honest device.old }
     ensures counted { D.failures device.old ≤ D.failures device.new }
-    ensures within { D.honest device.old ≡ true → LeavesMore (D.stops device.old) (D.stops device.new) (SameOutside (512 * sector) (length bytes.now) (D.content device.old)) }
+    ensures within { D.honest device.old ≡ true → LeavesMore (D.crashes device.old) (D.crashes device.new) (SameOutside (512 * sector) (length bytes.now) (D.content device.old)) }
     ensures half { D.honest device.old ≡ true → D.failures device.new ≡ D.failures device.old → D.content device.new ≡ written (D.content device.old) sector (first_half bytes.now) }
 {
     let half = bytes.len() / 1024 * 512;

@@ -57,7 +57,7 @@ impl Device for MemDevice {
     ghost failures = { λ _. 0 };
 
     // This device never stops, so nothing is kept. What contracts say of stops is of every device.
-    ghost stops = { λ _. [] };
+    ghost crashes = { λ _. [] };
 
     fn sectors(&self) -> u64 {
         self.bytes.len() as u64 / 512

@@ -5,7 +5,7 @@ ghost use Rattle.std.specs.Option.{option_map, unwrap_or};
 ghost use Rattle.std.specs.Ordering.{nat_cmp};
 ghost use Rattle.md_device.specs.Splice.{SameOutside, part};
 ghost use Rattle.md_device.specs.Device.{held, written};
-ghost use Rattle.md_device.specs.Stops.{LeavesMore};
+ghost use Rattle.md_device.specs.Crashes.{LeavesMore};
 ghost use Rattle.md_device.specs.Overlay.{byte_over};
 
 use crate::count::Count;
@@ -19,7 +19,7 @@ use std::marker::Model;
 /// writes have failed.
 ///
 /// It takes memory for each sector that is written for the first time, and none to read. A write for
-/// which there is no memory fails. What is written is gone with the device: a stop leaves none of it.
+/// which there is no memory fails. What is written is gone with the device: a crash leaves none of it.
 #[derive(Drop)]
 pub struct OverlayDevice<D: Device> {
     inner: D,
@@ -71,8 +71,8 @@ impl<D: Device> Device for OverlayDevice<D> {
 
     ghost failures = { λ d. d.refused + D.failures d.inner };
 
-    // What is in memory is not left by a stop, so nothing is promised of one.
-    ghost stops = { λ _. [] };
+    // What is in memory is not left by a crash, so nothing is promised of one.
+    ghost crashes = { λ _. [] };
 
     fn sectors(&self) -> u64 {
         self.sectors
@@ -90,9 +90,9 @@ impl<D: Device> Device for OverlayDevice<D> {
         ensures counted { D.failures self.old.inner ≤ D.failures self.new.inner }
         ensures unfailing { OnOk result (D.failures self.new.inner ≡ D.failures self.old.inner) }
 
-        // The device below is read, and a stop leaves what stood on it.
+        // The device below is read, and a crash leaves what stood on it.
         ensures below { D.content self.new.inner ≡ D.content self.old.inner }
-        ensures below_within { D.honest self.old.inner ≡ true → LeavesMore (D.stops self.old.inner) (D.stops self.new.inner) (λ left. left ≡ D.content self.old.inner) }
+        ensures below_within { D.honest self.old.inner ≡ true → LeavesMore (D.crashes self.old.inner) (D.crashes self.new.inner) (λ left. left ≡ D.content self.old.inner) }
     {
         self.inner.read(sector, buf)?;
         lay_over(&self.blocks, sector, buf);

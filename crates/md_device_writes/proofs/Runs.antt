@@ -5,15 +5,15 @@ use Rattle.std.proofs.lemmas.List.Sums.{fold-append}
 use Rattle.md_device.specs.declared.device.Device.{Ghosts}
 use Rattle.md_device.specs.Splice.{SameOutside}
 use Rattle.md_device.specs.Device.{written}
-use Rattle.md_device.specs.Stops.{IsMixed, WithinWrite}
+use Rattle.md_device.specs.Crashes.{IsMixed, WithinWrite}
 use Rattle.md_device.proofs.Leaving as leaving
 use Rattle.md_device.proofs.Leaving.{leaves_less, leaves_none, mixed_none}
-use Rattle.md_device_writes.specs.Writes.{Write, IsKept, IsCutShort, IsNextMixed, IsAnyIn, DoesWrites, FailsInWrites, MakesWrites, LeavesOnly, after}
+use Rattle.md_device_writes.specs.Writes.{Write, IsKeptByWrites, IsCutShort, IsNextMixed, IsAnyIn, DoesWrites, FailsInWrites, MakesWrites, LeavesOnly, after}
 
 pub after-append : (old : List ℕ) (writes more : List Write) → after old (writes ++ more) ≡ after (after old writes) more
 after-append old writes more = fold-append (λ before (w : Write). written before w.sector w.bytes) old writes more
 
--- what a stop leaves of the first writes, it leaves of more of them
+-- what a crash leaves of the first writes, it leaves of more of them
 cut_front : (old left : List ℕ) (writes more : List Write) → IsCutShort old writes left → IsCutShort old (writes ++ more) left
 cut_front old left writes more cut = by cut.rest cut.order cut.mixed
   where
@@ -42,7 +42,7 @@ cut_back old mid left writes more is cut = record {
   mixed = subst (λ xs. IsNextMixed cut.rest xs left) (ap (λ xs. after xs cut.done) is ∙ sym (after-append old writes cut.done)) cut.mixed;
 }
 
--- of no writes a stop leaves what was there
+-- of no writes a crash leaves what was there
 cut_none : (old left : List ℕ) → IsCutShort old [] left → left ≡ old
 cut_none old left cut = by cut.done cut.rest cut.order cut.mixed
   where
@@ -84,7 +84,7 @@ before_last (y ∷ ws) w (x ∷ done) rest order =
       | inr more ↦ inr (more.0, ap (λ (xs : List Write). y ∷ xs) more.1 ∙ ap (λ (z : Write). z ∷ (done ++ more.0)) same, more.2)
     ]
 
--- what a stop leaves of writes and one more: what it leaves of the writes, or the last one cut short, or all of them done
+-- what a crash leaves of writes and one more: what it leaves of the writes, or the last one cut short, or all of them done
 pub cut_last : (old left : List ℕ) (ws : List Write) (w : Write) → IsCutShort old (ws ++ w ∷ []) left → IsCutShort old ws left ⊎ (IsMixed w.sector w.bytes (after old ws) left ⊎ (left ≡ after old (ws ++ w ∷ [])))
 cut_last old left ws w cut =
     elim (before_last ws w cut.done cut.rest cut.order) [
@@ -107,10 +107,10 @@ any_back : (old mid new : List ℕ) (writes done : List Write) (w : Write) → m
 any_back old mid new writes done w is any = subst (λ xs. IsAnyIn w xs new) (ap (λ xs. after xs done) is ∙ sym (after-append old writes done)) any
 
 module _ {D : Type 0} (g : Ghosts D) where
-  kept_none : (old : D) → IsKept g old old
+  kept_none : (old : D) → IsKeptByWrites g old old
   kept_none old = record { size = refl; honest_kept = refl; counted = omega arith }
 
-  kept_then : (old mid new : D) → IsKept g old mid → IsKept g mid new → IsKept g old new
+  kept_then : (old mid new : D) → IsKeptByWrites g old mid → IsKeptByWrites g mid new → IsKeptByWrites g old new
   kept_then old mid new first second = record {
     size = second.size ∙ first.size;
     honest_kept = second.honest_kept ∙ first.honest_kept;
@@ -120,10 +120,10 @@ module _ {D : Type 0} (g : Ghosts D) where
   -- more calls, each of which leaves less
   leaves_then : (old mid new : D) (P Q R : List ℕ → Type 0) → ((left : List ℕ) → P left → R left) → ((left : List ℕ) → Q left → R left) → LeavesOnly g old mid P → LeavesOnly g mid new Q → LeavesOnly g old new R
   leaves_then old mid new P Q R p q first second =
-      leaving.leaves_then (g.stops old) (g.stops mid) (g.stops new) R (leaves_less (g.stops old) (g.stops mid) P R p first) (leaves_less (g.stops mid) (g.stops new) Q R q second)
+      leaving.leaves_then (g.crashes old) (g.crashes mid) (g.crashes new) R (leaves_less (g.crashes old) (g.crashes mid) P R p first) (leaves_less (g.crashes mid) (g.crashes new) Q R q second)
 
   pub does_none : (old : D) → DoesWrites g [] old old
-  does_none old = record { kept = kept_none old; unfailing = refl; all_done = λ _. refl; within = λ _. leaves_none (g.stops old) (IsCutShort (g.content old) []) }
+  does_none old = record { kept = kept_none old; unfailing = refl; all_done = λ _. refl; within = λ _. leaves_none (g.crashes old) (IsCutShort (g.content old) []) }
 
   pub does_then : (writes more : List Write) (old mid new : D) → DoesWrites g writes old mid → DoesWrites g more mid new → DoesWrites g (writes ++ more) old new
   does_then writes more old mid new first second = record {
@@ -194,7 +194,7 @@ module _ {D : Type 0} (g : Ghosts D) where
     kept = record { size = outside.size; honest_kept = kept; counted = counted };
     unfailing = unfailing;
     all_done = ok;
-    within = λ h. leaves_less (g.stops old) (g.stops new) (IsMixed w.sector w.bytes (g.content old)) (IsCutShort (g.content old) (w ∷ []))
+    within = λ h. leaves_less (g.crashes old) (g.crashes new) (IsMixed w.sector w.bytes (g.content old)) (IsCutShort (g.content old) (w ∷ []))
         (λ c mixed. record { done = []; rest = w ∷ []; order = refl; mixed = mixed }) (within h);
   }
   one_write w old new (Err e) outside kept ok err counted unfailing within = record {
@@ -205,7 +205,7 @@ module _ {D : Type 0} (g : Ghosts D) where
     rest = [];
     order = refl;
     outside = λ _. outside;
-    within = λ h. leaves_less (g.stops old) (g.stops new) (IsAnyIn w (g.content old)) (λ left. IsCutShort (g.content old) [] left ⊎ IsAnyIn w (g.content old) left)
+    within = λ h. leaves_less (g.crashes old) (g.crashes new) (IsAnyIn w (g.content old)) (λ left. IsCutShort (g.content old) [] left ⊎ IsAnyIn w (g.content old) left)
         (λ c any. inr any) (within h);
   }
 
@@ -217,7 +217,7 @@ module _ {D : Type 0} (g : Ghosts D) where
           → LeavesOnly g old new (λ left. IsCutShort (g.content old) done left ⊎ IsAnyIn tried (after (g.content old) done) left) → LeavesOnly g old new (IsAnyIn w (g.content old))
       by [] tried rest order leaves =
           let same : tried ≡ w = cc in
-          leaves_less (g.stops old) (g.stops new) (λ left. IsCutShort (g.content old) [] left ⊎ IsAnyIn tried (g.content old) left) (IsAnyIn w (g.content old))
+          leaves_less (g.crashes old) (g.crashes new) (λ left. IsCutShort (g.content old) [] left ⊎ IsAnyIn tried (g.content old) left) (IsAnyIn w (g.content old))
           (λ c left. ⊎_elim (λ cut. any_of_none (g.content old) c w cut) (λ any. subst (λ x. IsAnyIn x (g.content old) c) same any) left) leaves
       by (x ∷ []) tried rest order leaves = absurd (let e : w ∷ [] ≡ x ∷ (tried ∷ rest) = order in cc)
       by (x ∷ y ∷ done) tried rest order leaves = absurd (let e : w ∷ [] ≡ x ∷ (y ∷ (done ++ tried ∷ rest)) = order in cc)

@@ -1,10 +1,10 @@
--- What stands on a device once the writes of a bitmap are done, and what a stop leaves within them.
+-- What stands on a device once the writes of a bitmap are done, and what a crash leaves within them.
 use Rattle.std.proofs.Common.{◌≡◌, ◌⊎◌, ℕ, zero, suc, ◌+◌, ◌-◌, ◌*◌, ◌<◌, ◌≤◌, min, inl, inr, List, [], ◌∷◌, ◌++◌, length, slice_index, drop, refl, ap, sym, ◌∙◌, subst, arith, get_or-drop, drop-drop}
 use Rattle.std.proofs.lemmas.Bool.{cases_lt}
 use Rattle.std.proofs.lemmas.List.{append-nil, ext_get_or}
 use Rattle.md_device.specs.Splice.{SameOutside, part}
 use Rattle.md_device.specs.Device.{written}
-use Rattle.md_device.specs.Stops.{IsMixed}
+use Rattle.md_device.specs.Crashes.{IsMixed}
 use Rattle.md_device.proofs.Leaving.{mixed_one}
 use Rattle.md_device.proofs.Splices.{length-part, part_after, part-spliced, spliced_outside, slice_index-part}
 use Rattle.md_bitmap.specs.declared.header.BitmapHeader.{BitmapHeader}
@@ -123,7 +123,7 @@ module _ (start : ℕ) (h : BitmapHeader) (m : Bitmap) where
       rw (after-append old (bitmap_runs start h m n (runs_of n)) (bitmap_write start h m 0 ∷ []))
       (stored_then 0 1 n old between (written between (start + 0) (bitmap_sector h m 0)) (omega arith) (omega arith) runs first)
 
-  -- ---- what a stop leaves within these writes
+  -- ---- what a crash leaves within these writes
   runs_cut : (n k : ℕ) (done rest : List Write) (old left : List ℕ) → k ≤ runs_of n → 512 * (start + n) ≤ length old → bitmap_runs start h m n k ≡ done ++ rest → IsNextMixed rest (after old done) left
       → SameOutside (512 * (start + 1)) (512 * (n - 1)) old left
   runs_cut n zero [] [] old left few room order same = subst (SameOutside (512 * (start + 1)) (512 * (n - 1)) old) (sym same) (outside_none (512 * (start + 1)) (512 * (n - 1)) old)

@@ -1,9 +1,9 @@
--- Writes to a device in their order: what stands on it where one of them fails, and what a stop leaves.
+-- Writes to a device in their order: what stands on it where one of them fails, and what a crash leaves.
 use Rattle.std.specs.Prelude.{◌≡◌, ◌⊎◌, ℕ, ◌*◌, ◌<◌, ◌≤◌, true, List, [], ◌∷◌, ◌++◌, length, fold, Result, MatchResult}
 use Rattle.md_device.specs.declared.device.Device.{Ghosts}
 use Rattle.md_device.specs.Splice.{SameOutside}
 use Rattle.md_device.specs.Device.{written}
-use Rattle.md_device.specs.Stops.{IsMixed, LeavesMore}
+use Rattle.md_device.specs.Crashes.{IsMixed, LeavesMore}
 
 -- bytes that are written from a sector on
 pub record Write : Type 0 where
@@ -23,7 +23,7 @@ abbrev pub IsNextMixed : List Write → List ℕ → List ℕ → Type 0
 IsNextMixed [] old left = left ≡ old
 IsNextMixed (w ∷ rest) old left = IsMixed w.sector w.bytes old left
 
--- What a stop leaves: the first of these writes were done, and the next one was cut short.
+-- What a crash leaves: the first of these writes were done, and the next one was cut short.
 pub record IsCutShort (old : List ℕ) (writes : List Write) (left : List ℕ) : Type 0 where
   pub done : List Write
   pub rest : List Write
@@ -32,26 +32,26 @@ pub record IsCutShort (old : List ℕ) (writes : List Write) (left : List ℕ) :
 
 module _ {D : Type 0} (g : Ghosts D) where
   -- what holds of every device, honest or not
-  pub record IsKept (old new : D) : Type 0 where
+  pub record IsKeptByWrites (old new : D) : Type 0 where
     pub size : length (g.content new) ≡ length (g.content old)
     pub honest_kept : g.honest new ≡ g.honest old
     pub counted : g.failures old ≤ g.failures new
 
-  -- between old and new a stop leaves what has P
+  -- between old and new a crash leaves what has P
   abbrev pub LeavesOnly : D → D → (List ℕ → Type 0) → Type 0
-  LeavesOnly old new P = LeavesMore (g.stops old) (g.stops new) P
+  LeavesOnly old new P = LeavesMore (g.crashes old) (g.crashes new) P
 
-  -- All writes were done. At each moment a stop leaves the content after the first of them, with the next one cut short.
+  -- All writes were done. At each moment a crash leaves the content after the first of them, with the next one cut short.
   pub record DoesWrites (writes : List Write) (old new : D) : Type 0 where
-    pub kept : IsKept old new
+    pub kept : IsKeptByWrites old new
     pub unfailing : g.failures new ≡ g.failures old
     pub all_done : g.honest old ≡ true → g.content new ≡ after (g.content old) writes
     pub within : g.honest old ≡ true → LeavesOnly old new (IsCutShort (g.content old) writes)
 
-  -- One of them failed, and none was made after it: the writes end there, with no stop of the machine. A stop within those
+  -- One of them failed, and none was made after it: the writes end there, with no crash. A crash within those
   -- before it leaves what it leaves of them; within it any bytes may stand in its range, and so at its end.
   pub record FailsInWrites (writes : List Write) (old new : D) : Type 0 where
-    pub kept : IsKept old new
+    pub kept : IsKeptByWrites old new
     pub failed : g.honest old ≡ true → g.failures old < g.failures new
     pub done : List Write
     pub tried : Write

@@ -4,7 +4,7 @@ use Rattle.std.specs.List.{take_while, prefix_len}
 use Rattle.std.proofs.lemmas.List.{take_all, take-map, length-drop}
 use Rattle.std.proofs.lemmas.List.Folds.{length-prefix_len}
 use Rattle.std.proofs.lemmas.List.FromFn.{take-map-range_with_len}
-use Rattle.md_examine.specs.Lines.{hex_text, hex8_text, shown, name_text}
+use Rattle.md_examine.specs.Lines.{hex_text, hex8_text, shown_byte, name_text}
 use Rattle.md_examine.specs.SuperblockReport.{array_state, state_letter}
 
 pub hex_is : (n z : ℕ) (digits : List ℕ) → digits ≡ hex8_text n → length digits ≡ 8 → z ≡ length (take_while (λ d. d == 48) (take 7 digits)) → take (8 - z) (drop z digits) ≡ hex_text n
@@ -12,11 +12,11 @@ unfolding hex_text
 hex_is n z digits e long zeros =
     take_all (8 - z) (drop z digits) (omega (arith, length-drop z digits)) ∙ rw (zeros, e) refl
 
-pub name_is : (name all : List ℕ) (len : ℕ) → all ≡ map shown name → len ≡ length (take_while (λ b. not (b == 0)) name) → take len all ≡ name_text name
+pub name_is : (name all : List ℕ) (len : ℕ) → all ≡ map shown_byte name → len ≡ length (take_while (λ b. not (b == 0)) name) → take len all ≡ name_text name
 unfolding name_text
 name_is name all len e n =
     let front : len ≡ prefix_len (λ b. not (b == 0)) name = n ∙ length-prefix_len (λ b. not (b == 0)) name in
-    rw (e, front) (take-map shown (prefix_len (λ b. not (b == 0)) name) name)
+    rw (e, front) (take-map shown_byte (prefix_len (λ b. not (b == 0)) name) name)
 
 pub state_is : (roles all : List ℕ) (raid_disks : ℕ) → raid_disks ≤ 32 → all ≡ array_state roles 32 → take raid_disks all ≡ array_state roles raid_disks
 unfolding array_state

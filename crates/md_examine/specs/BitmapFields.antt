@@ -4,7 +4,7 @@ use Rattle.std.specs.Prelude.{ℕ, ◌==◌, ◌&&◌, not, nat_le, if◌then◌
 use Rattle.std.specs.List.{flat_map}
 use Rattle.std.specs.Int.{is_power_of_two}
 use Rattle.md_format.specs.Fields.{number_at}
-use Rattle.md_bitmap.specs.Faults.{Stands}
+use Rattle.md_bitmap.specs.Faults.{BitmapFaultStands}
 use Rattle.md_bitmap.specs.Sound.{IsChunkSize, chunk_count}
 use Rattle.md_bitmap.specs.declared.fault.BitmapFault.{BitmapFault}
 use Rattle.md_bitmap.specs.declared.fault.BitmapFault.TheVariants as fault
@@ -14,34 +14,34 @@ use Rattle.md_examine.specs.SuperFaults as super
 use Rattle.md_examine.specs.declared.fields.Kind.TheVariants.{Word, Long, Hex, HexDigits, Id, Name}
 
 -- The fault stands, and can be told: chunks are counted by a size that they may have.
-abbrev pub IsSeen : List ℕ → BitmapFault → Type 0
-IsSeen bytes fault.TooManyChunks = IsChunkSize (number_at 4 52 bytes) × Stands bytes fault.TooManyChunks
-IsSeen bytes f = Stands bytes f
+abbrev pub IsBitmapFaultSeen : List ℕ → BitmapFault → Type 0
+IsBitmapFaultSeen bytes fault.TooManyChunks = IsChunkSize (number_at 4 52 bytes) × BitmapFaultStands bytes fault.TooManyChunks
+IsBitmapFaultSeen bytes f = BitmapFaultStands bytes f
 
 -- a size that chunks may have, as a test
 abbrev pub is_chunk_size : ℕ → Bool
 is_chunk_size size = is_power_of_two size && nat_le 512 size
 
 -- Whether a fault is seen, as a test.
-abbrev pub stands : List ℕ → BitmapFault → Bool
-stands bytes fault.Magic = not (number_at 4 0 bytes == 0x6d746962)
-stands bytes fault.Version = not (number_at 4 4 bytes == 4)
-stands bytes fault.ChunkSize = not (is_chunk_size (number_at 4 52 bytes))
-stands bytes fault.TooManyChunks = is_chunk_size (number_at 4 52 bytes) && not (nat_le (chunk_count (number_at 8 40 bytes) (number_at 4 52 bytes)) 1048576)
+abbrev pub bitmap_fault_stands : List ℕ → BitmapFault → Bool
+bitmap_fault_stands bytes fault.Magic = not (number_at 4 0 bytes == 0x6d746962)
+bitmap_fault_stands bytes fault.Version = not (number_at 4 4 bytes == 4)
+bitmap_fault_stands bytes fault.ChunkSize = not (is_chunk_size (number_at 4 52 bytes))
+bitmap_fault_stands bytes fault.TooManyChunks = is_chunk_size (number_at 4 52 bytes) && not (nat_le (chunk_count (number_at 8 40 bytes) (number_at 4 52 bytes)) 1048576)
 
 -- all faults, in the order in which a header is refused by them
 abbrev pub faults : List BitmapFault
 faults = fault.Magic ∷ fault.Version ∷ fault.ChunkSize ∷ fault.TooManyChunks ∷ []
 
-abbrev pub fault_name : BitmapFault → List ℕ
-fault_name fault.Magic = codes "Magic"
-fault_name fault.Version = codes "Version"
-fault_name fault.ChunkSize = codes "ChunkSize"
-fault_name fault.TooManyChunks = codes "TooManyChunks"
+abbrev pub bitmap_fault_name : BitmapFault → List ℕ
+bitmap_fault_name fault.Magic = codes "Magic"
+bitmap_fault_name fault.Version = codes "Version"
+bitmap_fault_name fault.ChunkSize = codes "ChunkSize"
+bitmap_fault_name fault.TooManyChunks = codes "TooManyChunks"
 
 -- a line where it stands
-abbrev pub fault_text : List ℕ → BitmapFault → List ℕ
-fault_text bytes f = if stands bytes f then line_text (column (codes "Fault")) (fault_name f) else []
+abbrev pub bitmap_fault_text : List ℕ → BitmapFault → List ℕ
+bitmap_fault_text bytes f = if bitmap_fault_stands bytes f then line_text (column (codes "Fault")) (bitmap_fault_name f) else []
 
 abbrev pub bitmap_fields : List Row
 bitmap_fields =
@@ -63,6 +63,6 @@ bitmap_fields =
 -- the whole report: the faults of the superblock and of the header, and the header's fields
 unfoldable pub bitmap_all_text : List ℕ → List ℕ → List ℕ
 bitmap_all_text superblock sector =
-    flat_map (super.fault_text (column (codes "Super Fault")) superblock) (super.faults_of superblock)
-    ++ flat_map (fault_text sector) faults
+    flat_map (super.super_fault_text (column (codes "Super Fault")) superblock) (super.faults_of superblock)
+    ++ flat_map (bitmap_fault_text sector) faults
     ++ flat_map (row_text sector) bitmap_fields

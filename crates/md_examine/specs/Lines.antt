@@ -28,9 +28,9 @@ abbrev pub sectors_text : ℕ → List ℕ
 sectors_text n = decimal n ++ codes " sectors"
 
 -- a byte of a name, `?` where it can't be shown
-abbrev pub shown : ℕ → ℕ
-shown b = if nat_le 0x20 b && nat_le b 0x7e then b else 63
+abbrev pub shown_byte : ℕ → ℕ
+shown_byte b = if nat_le 0x20 b && nat_le b 0x7e then b else 63
 
 -- a name, up to its first zero byte
 unfoldable pub name_text : List ℕ → List ℕ
-name_text name = map shown (take_while (λ b. not (b == 0)) name)
+name_text name = map shown_byte (take_while (λ b. not (b == 0)) name)

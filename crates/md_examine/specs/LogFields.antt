@@ -4,7 +4,7 @@ use Rattle.std.specs.List.{flat_map, range_with_len}
 use Rattle.md_format.specs.Fields.{number_at}
 use Rattle.md_examine.specs.Lines.{column, line_text, right_aligned}
 use Rattle.md_examine.specs.Fields.{Row, row, row_text}
-use Rattle.md_examine.specs.SuperFaults.{fault_text, faults_of}
+use Rattle.md_examine.specs.SuperFaults.{super_fault_text, faults_of}
 use Rattle.md_examine.specs.declared.fields.Kind.TheVariants.{Byte, Half, Signed}
 
 -- the fields of a superblock that tell of the log
@@ -38,7 +38,7 @@ entry_text area place =
 -- the whole report: the faults of the superblock and of the log, what the superblock says of the log, and its entries
 unfoldable pub log_all_text : List ℕ → List ℕ → List ℕ
 log_all_text superblock area =
-    flat_map (fault_text (column (codes "Super Fault")) superblock) (faults_of superblock)
+    flat_map (super_fault_text (column (codes "Super Fault")) superblock) (faults_of superblock)
     ++ shift_fault superblock
     ++ flat_map (row_text superblock) log_fields
     ++ flat_map (entry_text area) (entries_there area)

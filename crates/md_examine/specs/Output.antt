@@ -5,5 +5,5 @@ use Rattle.md_examine.specs.declared.sink.Output.{Output}
 abbrev pub writer_of : {W : Type 0} → Output W → W
 writer_of o = o.writer
 
-abbrev pub has_failed : {W : Type 0} → Output W → Bool
-has_failed o = o.failed
+abbrev pub output_has_failed : {W : Type 0} → Output W → Bool
+output_has_failed o = o.failed

@@ -7,7 +7,7 @@ use Rattle.md_format.specs.Fields.{number_at}
 use Rattle.md_super.specs.Checksum.{checksum_of}
 use Rattle.md_examine.specs.Lines.{column, line_text, hex8_text, sectors_text}
 use Rattle.md_examine.specs.Fields.{Row, row, row_text}
-use Rattle.md_examine.specs.SuperFaults.{fault_text, faults_of}
+use Rattle.md_examine.specs.SuperFaults.{super_fault_text, faults_of}
 use Rattle.md_examine.specs.declared.fields.Kind.TheVariants.{Byte, Half, Word, Long, Signed, Time, HexByte, Hex, HexDigits, Id, Name}
 use Rattle.md_examine.specs.declared.super_fields.Found.{Found}
 use Rattle.md_examine.specs.declared.super_fields.Found.TheVariants.{Nothing, Unreadable, Superblock}
@@ -64,8 +64,8 @@ abbrev pub role_line : ℕ → ℕ → List ℕ
 role_line role number = line_text (column (codes "Role")) (decimal role ++ codes " of device " ++ decimal number)
 
 -- a line where the role is not that of a spare
-abbrev pub role_text : List ℕ → ℕ → List ℕ
-role_text bytes number =
+abbrev pub role_line_text : List ℕ → ℕ → List ℕ
+role_line_text bytes number =
     if number_at 2 (256 + 2 * number) bytes == 0xffff then [] else role_line (number_at 2 (256 + 2 * number) bytes) number
 
 -- a superblock at this sector, of the array of this identifier
@@ -81,8 +81,8 @@ found_text (Superblock sector id) = place_line sector (hyphenated_text lower id)
 -- the whole report: a line for each fault, the fields, the roles, and the other places
 unfoldable pub all_text : List ℕ → List Found → List ℕ
 all_text bytes found =
-    flat_map (fault_text (column (codes "Fault")) bytes) (faults_of bytes)
+    flat_map (super_fault_text (column (codes "Fault")) bytes) (faults_of bytes)
     ++ flat_map (row_text bytes) super_fields
     ++ computed_line bytes
-    ++ flat_map (role_text bytes) (roles_there bytes)
+    ++ flat_map (role_line_text bytes) (roles_there bytes)
     ++ flat_map found_text found

@@ -2,7 +2,7 @@
 ghost use Rattle.std.specs.Prelude.{◌≡◌, ◌≤◌, ◌↔◌, length, true};
 ghost use Rattle.std.specs.List.{flat_map};
 ghost use Rattle.md_examine.specs.Sink.{PutsOrFails};
-ghost use Rattle.md_examine.specs.BitmapFields.{IsSeen, bitmap_all_text, fault_text, faults, stands};
+ghost use Rattle.md_examine.specs.BitmapFields.{IsBitmapFaultSeen, bitmap_all_text, bitmap_fault_text, faults, bitmap_fault_stands};
 
 use crate::fields::{Field, Kind, field_lines};
 use crate::lines::line;
@@ -126,7 +126,7 @@ fn fault_lines<S: Sink>(
     sector: &[u8; 512],
     faults: &[BitmapFault],
 ) -> Result<(), SinkFault>
-    ensures { PutsOrFails S.contents S.failed out.old out.new (flat_map (fault_text sector.now) faults.now) result }
+    ensures { PutsOrFails S.contents S.failed out.old out.new (flat_map (bitmap_fault_text sector.now) faults.now) result }
 {
     for fault in faults {
         line_where_it_stands(out, sector, *fault)?;
@@ -139,7 +139,7 @@ fn line_where_it_stands<S: Sink>(
     sector: &[u8; 512],
     fault: BitmapFault,
 ) -> Result<(), SinkFault>
-    ensures { PutsOrFails S.contents S.failed out.old out.new (fault_text sector.now fault) result }
+    ensures { PutsOrFails S.contents S.failed out.old out.new (bitmap_fault_text sector.now fault) result }
 {
     if !bitmap_fault_stands(sector, fault) {
         return Ok(());
@@ -155,8 +155,8 @@ fn line_where_it_stands<S: Sink>(
 /// Whether a fault is seen in the bytes of a bitmap's header, whatever others stand there. Chunks are counted only by a size
 /// that they may have.
 pub fn bitmap_fault_stands(sector: &[u8; 512], fault: BitmapFault) -> bool
-    ensures value { result ≡ stands sector.now fault }
-    ensures meaning { (result ≡ true) ↔ IsSeen sector.now fault }
+    ensures value { result ≡ bitmap_fault_stands sector.now fault }
+    ensures meaning { (result ≡ true) ↔ IsBitmapFaultSeen sector.now fault }
 {
     let chunksize = u32_at(sector, 52);
     match fault {

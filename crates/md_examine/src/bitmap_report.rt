@@ -19,7 +19,7 @@ pub fn examine_bitmap<S: Sink>(
 {
     identity(out, header)?;
     settings(out, header)?;
-    marked(out, marks)?;
+    marked_line(out, marks)?;
     Ok(())
 }
 
@@ -44,7 +44,7 @@ fn settings<S: Sink>(out: &mut S, header: &BitmapHeader) -> Result<(), SinkFault
     Ok(())
 }
 
-fn marked<S: Sink>(out: &mut S, marks: &Marks) -> Result<(), SinkFault>
+fn marked_line<S: Sink>(out: &mut S, marks: &Marks) -> Result<(), SinkFault>
     ensures { PutsOrFails S.contents S.failed out.old out.new (line_text (column (codes "Bitmap")) (marks_text marks.now)) result }
 {
     marks_line(out, "Bitmap         ", marks.chunks(), marks.count())

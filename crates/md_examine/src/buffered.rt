@@ -55,13 +55,13 @@ impl<S: Sink> Buffered<S> {
         ensures room { room self.new ≡ room self.old }
     {
         let passed_on = self.sink.put(self.held.as_slice());
-        self.noted(passed_on)?;
+        self.note_outcome(passed_on)?;
         self.held.clear();
         Ok(())
     }
 
     // Keeps in mind that the sink below failed.
-    fn noted(&mut self, outcome: Result<(), SinkFault>) -> Result<(), SinkFault>
+    fn note_outcome(&mut self, outcome: Result<(), SinkFault>) -> Result<(), SinkFault>
         ensures same { result ≡ outcome }
         ensures broken { is_broken self.new ≡ is_err outcome }
         ensures sink { sink_of self.new ≡ sink_of self.old }
@@ -99,7 +99,7 @@ impl<S: Sink> Sink for Buffered<S> {
         }
         if bytes.len() > self.held.capacity() {
             let passed_on = self.sink.put(bytes);
-            return self.noted(passed_on);
+            return self.note_outcome(passed_on);
         }
         self.held.extend_from_slice(bytes).unwrap();
         Ok(())
@@ -117,6 +117,6 @@ impl<S: Sink> Sink for Buffered<S> {
         }
         self.spill()?;
         let flushed = self.sink.flush();
-        self.noted(flushed)
+        self.note_outcome(flushed)
     }
 }

@@ -40,12 +40,12 @@ pub struct Output<W> {
 }
 
 impl<W> Output<W> {
-    ghost use Rattle.md_examine.specs.Output.{writer_of, has_failed};
+    ghost use Rattle.md_examine.specs.Output.{writer_of, output_has_failed};
 
     /// A sink that has not failed. It takes no memory.
     pub fn new(writer: W) -> Output<W>
         ensures writer { writer_of result ≡ writer }
-        ensures well { has_failed result ≡ false }
+        ensures well { output_has_failed result ≡ false }
     {
         Output {
             writer,
@@ -61,11 +61,11 @@ impl<W> Output<W> {
     }
 
     // Keeps in mind that the writer failed.
-    fn noted(&mut self, outcome: io::Result<()>) -> Result<(), SinkFault>
+    fn note_outcome(&mut self, outcome: io::Result<()>) -> Result<(), SinkFault>
         ensures variant { is_ok result ≡ is_ok outcome }
         ensures writer { writer_of self.new ≡ writer_of self.old }
-        ensures ok { OnOk result (has_failed self.new ≡ has_failed self.old) }
-        ensures err { OnErr result (has_failed self.new ≡ true) }
+        ensures ok { OnOk result (output_has_failed self.new ≡ output_has_failed self.old) }
+        ensures err { OnErr result (output_has_failed self.new ≡ true) }
     {
         if outcome.is_err() {
             self.failed = true;
@@ -84,12 +84,12 @@ impl<W: Write> Sink for Output<W> {
 
     fn put(&mut self, bytes: &[u8]) -> Result<(), SinkFault> {
         let written = self.writer.write_all(bytes);
-        self.noted(written)
+        self.note_outcome(written)
     }
 
     /// Flushes the writer. No clause of std says what a writer holds back.
     fn flush(&mut self) -> Result<(), SinkFault> {
         let flushed = self.writer.flush();
-        self.noted(flushed)
+        self.note_outcome(flushed)
     }
 }

@@ -2,7 +2,7 @@
 ghost use Rattle.std.specs.Prelude.{◌≡◌, ◌↔◌, true};
 ghost use Rattle.std.specs.List.{flat_map};
 ghost use Rattle.md_examine.specs.Sink.{PutsOrFails};
-ghost use Rattle.md_examine.specs.SuperFaults.{IsSeen, fault_line, fault_name, fault_text, faults_of, stands};
+ghost use Rattle.md_examine.specs.SuperFaults.{IsSuperFaultSeen, fault_line, super_fault_name, super_fault_text, faults_of, super_fault_stands};
 
 use crate::lines::{line, two_part_line};
 use crate::sink::{Sink, SinkFault};
@@ -23,7 +23,7 @@ pub(crate) fn super_fault_lines<S: Sink>(
     label: &str,
     bytes: &[u8; 4096],
 ) -> Result<(), SinkFault>
-    ensures { PutsOrFails S.contents S.failed out.old out.new (flat_map (fault_text label.now bytes.now) (faults_of bytes.now)) result }
+    ensures { PutsOrFails S.contents S.failed out.old out.new (flat_map (super_fault_text label.now bytes.now) (faults_of bytes.now)) result }
 {
     let faults = [
         SuperFault::Magic,
@@ -44,7 +44,7 @@ fn lines_of<S: Sink>(
     bytes: &[u8; 4096],
     faults: &[SuperFault],
 ) -> Result<(), SinkFault>
-    ensures { PutsOrFails S.contents S.failed out.old out.new (flat_map (fault_text label.now bytes.now) faults.now) result }
+    ensures { PutsOrFails S.contents S.failed out.old out.new (flat_map (super_fault_text label.now bytes.now) faults.now) result }
 {
     for fault in faults {
         line_where_it_stands(out, label, bytes, *fault)?;
@@ -58,16 +58,16 @@ fn line_where_it_stands<S: Sink>(
     bytes: &[u8; 4096],
     fault: SuperFault,
 ) -> Result<(), SinkFault>
-    ensures { PutsOrFails S.contents S.failed out.old out.new (fault_text label.now bytes.now fault) result }
+    ensures { PutsOrFails S.contents S.failed out.old out.new (super_fault_text label.now bytes.now fault) result }
 {
     if super_fault_stands(bytes, fault) {
-        named(out, label, fault)
+        fault_name_line(out, label, fault)
     } else {
         Ok(())
     }
 }
 
-fn named<S: Sink>(out: &mut S, label: &str, fault: SuperFault) -> Result<(), SinkFault>
+fn fault_name_line<S: Sink>(out: &mut S, label: &str, fault: SuperFault) -> Result<(), SinkFault>
     ensures { PutsOrFails S.contents S.failed out.old out.new (fault_line label.now fault) result }
 {
     match fault {
@@ -81,7 +81,7 @@ fn named<S: Sink>(out: &mut S, label: &str, fault: SuperFault) -> Result<(), Sin
 }
 
 fn name_of(fault: SuperFault) -> &'static str
-    ensures { result.now ≡ fault_name fault }
+    ensures { result.now ≡ super_fault_name fault }
 {
     match fault {
         SuperFault::Magic => "Magic",
@@ -99,8 +99,8 @@ fn name_of(fault: SuperFault) -> &'static str
 /// Whether a fault is seen in the bytes of a superblock, whatever others stand there. That of the checksum can't be where
 /// the roles that it covers go past the bytes.
 pub fn super_fault_stands(bytes: &[u8; 4096], fault: SuperFault) -> bool
-    ensures value { result ≡ stands bytes.now fault }
-    ensures meaning { (result ≡ true) ↔ IsSeen bytes.now fault }
+    ensures value { result ≡ super_fault_stands bytes.now fault }
+    ensures meaning { (result ≡ true) ↔ IsSuperFaultSeen bytes.now fault }
 {
     match fault {
         SuperFault::Magic => u32_at(bytes, 0) != MAGIC,

@@ -2,7 +2,7 @@
 ghost use Rattle.std.specs.Prelude.{◌<◌};
 ghost use Rattle.std.specs.List.{flat_map};
 ghost use Rattle.md_examine.specs.Sink.{PutsOrFails};
-ghost use Rattle.md_examine.specs.SuperFields.{all_text, found_text, place_line, role_line, role_text, roles_there, computed_line};
+ghost use Rattle.md_examine.specs.SuperFields.{all_text, found_text, place_line, role_line, role_line_text, roles_there, computed_line};
 
 use crate::fields::{Field, Kind, field_lines};
 use crate::lines::{hex8_line, line, sectors_line, three_part_line};
@@ -248,14 +248,14 @@ pub fn examine_all<S: Sink>(
 {
     super_fault_lines(out, "Fault          ", bytes)?;
     field_lines(out, bytes, &SUPER_FIELDS)?;
-    computed(out, bytes)?;
+    computed_sum(out, bytes)?;
     role_lines(out, bytes)?;
     found_lines(out, found)?;
     Ok(())
 }
 
 // The checksum that the bytes have, where they hold all that it covers.
-fn computed<S: Sink>(out: &mut S, bytes: &[u8; 4096]) -> Result<(), SinkFault>
+fn computed_sum<S: Sink>(out: &mut S, bytes: &[u8; 4096]) -> Result<(), SinkFault>
     ensures { PutsOrFails S.contents S.failed out.old out.new (computed_line bytes.now) result }
 {
     let max_dev = u32_at(bytes, 220);
@@ -268,7 +268,7 @@ fn computed<S: Sink>(out: &mut S, bytes: &[u8; 4096]) -> Result<(), SinkFault>
 
 // Each role for which the bytes have room.
 fn role_lines<S: Sink>(out: &mut S, bytes: &[u8; 4096]) -> Result<(), SinkFault>
-    ensures { PutsOrFails S.contents S.failed out.old out.new (flat_map (role_text bytes.now) (roles_there bytes.now)) result }
+    ensures { PutsOrFails S.contents S.failed out.old out.new (flat_map (role_line_text bytes.now) (roles_there bytes.now)) result }
 {
     let count = u32_at(bytes, 220).min(MAX_ROLES);
     for number in 0..count {
@@ -279,7 +279,7 @@ fn role_lines<S: Sink>(out: &mut S, bytes: &[u8; 4096]) -> Result<(), SinkFault>
 
 fn role<S: Sink>(out: &mut S, bytes: &[u8; 4096], number: u32) -> Result<(), SinkFault>
     requires { number < 1920 }
-    ensures { PutsOrFails S.contents S.failed out.old out.new (role_text bytes.now number) result }
+    ensures { PutsOrFails S.contents S.failed out.old out.new (role_line_text bytes.now number) result }
 {
     let role = u16_at(bytes, 256 + 2 * number as usize);
     if role == SPARE {

@@ -1,7 +1,7 @@
 // The values of a report that are no plain numbers.
 ghost use Rattle.std.specs.Prelude.{◌≡◌, ◌≤◌, ◌==◌, not, length, map, take};
 ghost use Rattle.std.specs.List.{take_while};
-ghost use Rattle.md_examine.specs.Lines.{shown, hex8_text};
+ghost use Rattle.md_examine.specs.Lines.{shown_byte, hex8_text};
 
 /// How many bytes of a name stand before its first zero byte.
 pub fn name_len(name: &[u8; 32]) -> usize
@@ -13,13 +13,13 @@ pub fn name_len(name: &[u8; 32]) -> usize
 
 /// The bytes of a name, `?` for those that can't be shown.
 pub fn shown_bytes(name: &[u8; 32]) -> [u8; 32]
-    ensures { result ≡ map shown name.now }
+    ensures { result ≡ map shown_byte name.now }
 {
     name.map(shown_byte)
 }
 
 fn shown_byte(b: u8) -> u8
-    ensures { result ≡ shown b }
+    ensures { result ≡ shown_byte b }
 {
     if (0x20..=0x7e).contains(&b) { b } else { b'?' }
 }

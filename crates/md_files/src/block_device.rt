@@ -40,7 +40,7 @@ impl BlockDevice {
     /// Opens a file of the system's that stands for the device whatever node it is reached by.
     pub(crate) fn open_common<R: Files + AllocGlobal>(self, rt: &R) -> io::Result<Option<R::File>> {
         let path = self.path(rt, "dev")?;
-        told(fs::open(rt, path.as_str()))
+        answer_if_told(fs::open(rt, path.as_str()))
     }
 
     /// Whether the system lets nobody write to it.
@@ -83,7 +83,7 @@ impl BlockDevice {
         let Some(name) = name else {
             return Ok(false);
         };
-        let Some(backing) = told(fs::metadata(rt, name))? else {
+        let Some(backing) = answer_if_told(fs::metadata(rt, name))? else {
             return Ok(false);
         };
         Ok(match BlockDevice::of_node(&backing) {
@@ -107,11 +107,11 @@ impl BlockDevice {
             devices.push(disk)?;
             return Ok(devices);
         }
-        let Some(entries) = told(fs::read_dir(&rt, folder.as_str()))? else {
+        let Some(entries) = answer_if_told(fs::read_dir(&rt, folder.as_str()))? else {
             return Ok(devices);
         };
         for entry in entries {
-            if let Some(entry) = told(entry)?
+            if let Some(entry) = answer_if_told(entry)?
                 && let Some(partition) = partition_in(rt, entry.path().as_str())?
             {
                 devices.push(partition)?;
@@ -122,7 +122,7 @@ impl BlockDevice {
 
     fn has_holder<R: Files + AllocGlobal>(self, rt: &R) -> io::Result<bool> {
         let path = self.path(rt, "holders")?;
-        let Some(mut holders) = told(fs::read_dir(&rt, path.as_str()))? else {
+        let Some(mut holders) = answer_if_told(fs::read_dir(&rt, path.as_str()))? else {
             return Ok(false);
         };
         Ok(holders.next().is_some())
@@ -173,16 +173,16 @@ pub(crate) fn is_swap_file<R: Files + AllocGlobal>(rt: &R, file: &Metadata) -> i
 
 // Whether a path of the system's lists names the file with this metadata.
 fn is_path_of<R: Files + AllocGlobal>(rt: &R, path: &[u8], file: &Metadata) -> io::Result<bool> {
-    let name = unescaped(rt.alloc(), path)?;
+    let name = unescape(rt.alloc(), path)?;
     let Ok(name) = str::from_utf8(name.as_slice()) else {
         return Ok(false);
     };
-    Ok(told(fs::metadata(rt, name))?.is_some_and(|named| named.dev() == file.dev()
+    Ok(answer_if_told(fs::metadata(rt, name))?.is_some_and(|named| named.dev() == file.dev()
         && named.ino() == file.ino()))
 }
 
 // A path of the system's lists as it is: there each byte that would end a word is a backslash and three octal digits.
-fn unescaped(alloc: Global, path: &[u8]) -> Result<Vec<u8>, AllocError> {
+fn unescape(alloc: Global, path: &[u8]) -> Result<Vec<u8>, AllocError> {
     let mut name = Vec::new(alloc);
     let mut parts = path.split(|byte| *byte == b'\\');
     if let Some(first) = parts.next() {
@@ -272,11 +272,11 @@ fn device_named<R: Files>(rt: &R, word: &[u8]) -> Option<BlockDevice> {
 
 // The bytes of a file, none where it can't be read.
 fn read<R: Files + AllocGlobal>(rt: &R, path: &str) -> io::Result<Vec<u8>> {
-    Ok(told(fs::read(rt, path))?.unwrap_or(Vec::new(rt.alloc())))
+    Ok(answer_if_told(fs::read(rt, path))?.unwrap_or(Vec::new(rt.alloc())))
 }
 
 // What the system doesn't tell is passed over. Out of memory, nothing is known.
-fn told<T>(answer: io::Result<T>) -> io::Result<Option<T>> {
+fn answer_if_told<T>(answer: io::Result<T>) -> io::Result<Option<T>> {
     match answer {
         Ok(told) => Ok(Some(told)),
         Err(error) if error.kind() == ErrorKind::OutOfMemory => Err(error),

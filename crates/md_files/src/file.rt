@@ -128,7 +128,7 @@ impl Device for FileDevice {
 
     ghost failures = { λ _. 0 };
 
-    ghost stops = { λ _. [] };
+    ghost crashes = { λ _. [] };
 
     fn sectors(&self) -> u64 {
         self.sectors

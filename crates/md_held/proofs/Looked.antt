@@ -4,7 +4,7 @@ use Rattle.std.proofs.Common.{◌≡◌, ◌≢◌, ◌∙◌, ◌+◌, ◌<◌,
 use Rattle.std.specs.Prelude.{slice_get, slice_index_or}
 use Rattle.std.proofs.lemmas.Option.{same_Some, slice_get-get_or, slice_get-map, slice_get_within}
 use Rattle.std.proofs.lemmas.List.{map-set}
-use Rattle.md_signatures.specs.Reading.{OnlyRead}
+use Rattle.md_signatures.specs.Reading.{IsOnlySearched}
 use Rattle.md_state.specs.View.{Disk, disk_of, of_disks}
 use Rattle.md_held.specs.declared.held.Held.{Held}
 use Rattle.md_held.specs.Holding.{LooksAtEach, LooksAtOne, LooksAtPlace}

@@ -7,11 +7,11 @@ use Rattle.md_members.specs.Reading.{RefusesSuper}
 use Rattle.md_signatures.specs.declared.signature.Signature.{Signature}
 use Rattle.md_signatures.specs.Bearing.{bears}
 use Rattle.md_signatures.specs.Finding.{signatures}
-use Rattle.md_signatures.specs.Reading.{OnlyRead}
+use Rattle.md_signatures.specs.Reading.{IsOnlySearched}
 use Rattle.md_state.specs.View.{Disk, of_disks}
 use Rattle.md_held.specs.declared.held.Held.{Held}
 use Rattle.md_held.specs.declared.held.Held.TheVariants.{Nothing, Unseen, Member, Signed}
-use Rattle.md_held.specs.Holding.{BearsFirst, HasNoSuper, Holds, HoldsSigned, borne}
+use Rattle.md_held.specs.Holding.{BearsFirst, HasNoSuper, IsToldOfDevice, HoldsSigned, borne}
 
 -- a failure that was counted stays so
 refused_still : {F G : Type 0} (content : List ℕ) (honest : _) (fault : MemberFault) → (F → G) → RefusesSuper content honest F fault → RefusesSuper content honest G fault
@@ -23,7 +23,7 @@ refused_still content honest (Bitmap f) more h = absurd h
 refused_still content honest (Log f) more h = absurd h
 refused_still content honest NoMemory more h = h
 
-module _ (a b c : Disk) (fault : MemberFault) (first : OnlyRead of_disks a b) (then : OnlyRead of_disks b c) (other : fault ≢ NoMemory) (refused : RefusesSuper a.content a.honest (a.failures < b.failures) fault) where
+module _ (a b c : Disk) (fault : MemberFault) (first : IsOnlySearched of_disks a b) (then : IsOnlySearched of_disks b c) (other : fault ≢ NoMemory) (refused : RefusesSuper a.content a.honest (a.failures < b.failures) fault) where
   no_super : HasNoSuper a c
   no_super = record {
     fault = fault;
@@ -37,7 +37,7 @@ module _ (a b c : Disk) (fault : MemberFault) (first : OnlyRead of_disks a b) (t
   as_borne : borne a ≡ borne b
   as_borne = ap (λ (content : List ℕ). filter (bears content) signatures) (sym first.kept)
 
-  pub seen_then : (held : Held) → HoldsSigned b c held → Holds a c held
+  pub seen_then : (held : Held) → HoldsSigned b c held → IsToldOfDevice a c held
   seen_then Nothing h = (no_super, λ is same. as_borne ∙ h (first.honest ∙ is) (late same))
   seen_then Unseen h = h
   seen_then (Member v) h = absurd h

@@ -9,7 +9,7 @@ use Rattle.md_members.specs.Reading.{ReadsSuper, RefusesSuper}
 use Rattle.md_signatures.specs.declared.signature.Signature.{Signature}
 use Rattle.md_signatures.specs.Bearing.{bears}
 use Rattle.md_signatures.specs.Finding.{signatures}
-use Rattle.md_signatures.specs.Reading.{OnlyRead}
+use Rattle.md_signatures.specs.Reading.{IsOnlySearched}
 use Rattle.md_state.specs.View.{Disk, of_disks}
 use Rattle.md_held.specs.declared.held.Held.{Held}
 use Rattle.md_held.specs.declared.held.Held.TheVariants.{Nothing, Unseen, Member, Signed}
@@ -53,16 +53,16 @@ HoldsSigned d e (Signed s) = BearsFirst d e s
 
 -- What is told of a device, before a look at it and after that: its superblock, or where none can be read, its first signature. Of a
 -- device that is not honest it is told of some bytes that were read.
-abbrev pub Holds : Disk → Disk → Held → Type 0
-Holds d e Nothing = HasNoSuper d e × HoldsSigned d e Nothing
-Holds d e Unseen = Unit {0}
-Holds d e (Member v) = ReadsSuper d.content d.honest v
-Holds d e (Signed s) = HasNoSuper d e × HoldsSigned d e (Signed s)
+abbrev pub IsToldOfDevice : Disk → Disk → Held → Type 0
+IsToldOfDevice d e Nothing = HasNoSuper d e × HoldsSigned d e Nothing
+IsToldOfDevice d e Unseen = Unit {0}
+IsToldOfDevice d e (Member v) = ReadsSuper d.content d.honest v
+IsToldOfDevice d e (Signed s) = HasNoSuper d e × HoldsSigned d e (Signed s)
 
 -- a device was looked at: it was only read, and this is what it holds
 pub record LooksAtOne (d e : Disk) (held : Held) : Type 0 where
-  pub only_read : OnlyRead of_disks d e
-  pub holds : Holds d e held
+  pub only_read : IsOnlySearched of_disks d e
+  pub holds : IsToldOfDevice d e held
 
 -- the device in this place was looked at
 abbrev pub LooksAtPlace : List Disk → List Disk → List Held → ℕ → Type 0

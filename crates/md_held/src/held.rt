@@ -1,8 +1,8 @@
 // What a device holds.
 ghost use Rattle.std.specs.Prelude.{◌≡◌};
-ghost use Rattle.md_signatures.specs.Reading.{OnlyRead};
+ghost use Rattle.md_signatures.specs.Reading.{IsOnlySearched};
 ghost use Rattle.md_state.specs.View.{disk_of, of_disks};
-ghost use Rattle.md_held.specs.Holding.{Holds, HoldsSigned, is_unseen, needs_telling};
+ghost use Rattle.md_held.specs.Holding.{IsToldOfDevice, HoldsSigned, is_unseen, needs_telling};
 
 use md_device::Device;
 use md_members::{MemberFault, read_super};
@@ -47,8 +47,8 @@ impl Held {
 
 /// What a device holds. It is only read.
 pub fn held_on<D: Device>(alloc: Global, device: &mut D) -> Held
-    ensures only_read { OnlyRead of_disks (disk_of D.Device device.old) (disk_of D.Device device.new) }
-    ensures holds { Holds (disk_of D.Device device.old) (disk_of D.Device device.new) result }
+    ensures only_read { IsOnlySearched of_disks (disk_of D.Device device.old) (disk_of D.Device device.new) }
+    ensures holds { IsToldOfDevice (disk_of D.Device device.old) (disk_of D.Device device.new) result }
 {
     match read_super(alloc, device) {
         Ok(own) => Held::Member(own),
@@ -63,7 +63,7 @@ pub fn held_on<D: Device>(alloc: Global, device: &mut D) -> Held
 
 // The first signature that a device bears of which no superblock was read.
 fn signature_on<D: Device>(alloc: Global, device: &mut D) -> Held
-    ensures only_read { OnlyRead of_disks (disk_of D.Device device.old) (disk_of D.Device device.new) }
+    ensures only_read { IsOnlySearched of_disks (disk_of D.Device device.old) (disk_of D.Device device.new) }
     ensures holds { HoldsSigned (disk_of D.Device device.old) (disk_of D.Device device.new) result }
 {
     let Ok(found) = find_signatures(alloc, device) else {

@@ -5,10 +5,10 @@ use Rattle.std.specs.List.{filter, range_with_len}
 use Rattle.std.specs.Borrow.{Bor}
 use Rattle.std.proofs.lemmas.List.{get_or-map}
 use Rattle.std.proofs.lemmas.List.FromFn.{filter_of_map_range_with_len_more}
-use Rattle.md_images.specs.Taking.{Text, Word, is_missing}
+use Rattle.md_images.specs.Taking.{Text, Word, is_missing_word}
 
 abbrev pub is_image : Bool → Word → Bool
-is_image may_miss w = not (is_missing may_miss w.1)
+is_image may_miss w = not (is_missing_word may_miss w.1)
 
 abbrev pub word_at : List Text → ℕ → Word
 word_at words i = (i, slice_index_or words i [])
@@ -37,12 +37,12 @@ module _ (may_miss : Bool) (words : List (Bor Text)) (n : ℕ) (lt : n < length 
   text_is = text_at words n lt
 
   -- a word that stands for a missing member is left out
-  pub left_out : (list : List Word) → is_missing may_miss name ≡ true → list ≡ listed may_miss texts n → list ≡ listed may_miss texts (n + 1)
+  pub left_out : (list : List Word) → is_missing_word may_miss name ≡ true → list ≡ listed may_miss texts n → list ≡ listed may_miss texts (n + 1)
   left_out list missing so =
-      so ∙ sym (append-nil (listed may_miss texts n)) ∙ ap (λ b. listed may_miss texts n ++ cond (not b) (word_at texts n ∷ []) []) (sym (ap (is_missing may_miss) text_is ∙ missing)) ∙ sym (listed_more may_miss texts n)
+      so ∙ sym (append-nil (listed may_miss texts n)) ∙ ap (λ b. listed may_miss texts n ++ cond (not b) (word_at texts n ∷ []) []) (sym (ap (is_missing_word may_miss) text_is ∙ missing)) ∙ sym (listed_more may_miss texts n)
 
   -- another is listed
-  pub put_in : (list : List Word) → is_missing may_miss name ≡ false → list ≡ listed may_miss texts n → list ++ (n, name) ∷ [] ≡ listed may_miss texts (n + 1)
+  pub put_in : (list : List Word) → is_missing_word may_miss name ≡ false → list ≡ listed may_miss texts n → list ++ (n, name) ∷ [] ≡ listed may_miss texts (n + 1)
   put_in list there so =
       ap (λ (xs : List Word). xs ++ (n, name) ∷ []) so ∙ ap (λ (t : Text). listed may_miss texts n ++ (n, t) ∷ []) (sym text_is)
-      ∙ ap (λ b. listed may_miss texts n ++ cond (not b) (word_at texts n ∷ []) []) (sym (ap (is_missing may_miss) text_is ∙ there)) ∙ sym (listed_more may_miss texts n)
+      ∙ ap (λ b. listed may_miss texts n ++ cond (not b) (word_at texts n ∷ []) []) (sym (ap (is_missing_word may_miss) text_is ∙ there)) ∙ sym (listed_more may_miss texts n)

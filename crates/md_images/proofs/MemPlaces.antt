@@ -10,7 +10,7 @@ use Rattle.std.proofs.lemmas.Grind.{common_steps}
 use Rattle.std.proofs.lemmas.Slice.Eq.{bytes_eq-Decides}
 use Rattle.md_images.specs.declared.memory_images.Place.{Place}
 use Rattle.md_images.specs.declared.image_fault.ImageFault.{ImageFault}
-use Rattle.md_images.specs.Images.{IsRefused}
+use Rattle.md_images.specs.Images.{IsImageRefused}
 use Rattle.md_images.specs.MemImages.{Named, is_named, asked_in, changeable_in, holds_in, device_in}
 use Rattle.md_images.specs.MemPlaces.{named, named_places}
 
@@ -156,9 +156,9 @@ module _ {D : Type 0} where
       ap (λ (o : Option (Named D)). unwrap_or (option_map (λ q. q.changeable) o) false) (found (is_named name) ps at (named place) first ∙ ap (λ (q : Named D). Some q) stands)
 
   pub gives_device : (ps : List (Named D)) (name : List ℕ) (was given : Option D) (allowed : Bool) (fault : ImageFault) (r : Result D ImageFault) → r ≡ ok_or given fault → given ≡ was → holds_in ps name ≡ true → device_in ps name ≡ was
-      → MatchResult r (λ d. (holds_in ps name ≡ true) × (device_in ps name ≡ Some d)) (IsRefused (device_in ps name) allowed)
-  gives_device ps name was None allowed fault r e g h d = subst (λ (x : Result D ImageFault). MatchResult x (λ d. (holds_in ps name ≡ true) × (device_in ps name ≡ Some d)) (IsRefused (device_in ps name) allowed)) (sym e) (inl (d ∙ sym g))
-  gives_device ps name was (Some x) allowed fault r e g h d = subst (λ (x : Result D ImageFault). MatchResult x (λ d. (holds_in ps name ≡ true) × (device_in ps name ≡ Some d)) (IsRefused (device_in ps name) allowed)) (sym e) (h, d ∙ sym g)
+      → MatchResult r (λ d. (holds_in ps name ≡ true) × (device_in ps name ≡ Some d)) (IsImageRefused (device_in ps name) allowed)
+  gives_device ps name was None allowed fault r e g h d = subst (λ (x : Result D ImageFault). MatchResult x (λ d. (holds_in ps name ≡ true) × (device_in ps name ≡ Some d)) (IsImageRefused (device_in ps name) allowed)) (sym e) (inl (d ∙ sym g))
+  gives_device ps name was (Some x) allowed fault r e g h d = subst (λ (x : Result D ImageFault). MatchResult x (λ d. (holds_in ps name ≡ true) × (device_in ps name ≡ Some d)) (IsImageRefused (device_in ps name) allowed)) (sym e) (h, d ∙ sym g)
 
   -- what stands in the place after it
   pub gone_device : (new old was given : Option D) (fault : ImageFault) (r : Result D ImageFault) → r ≡ ok_or given fault → given ≡ was → new ≡ None → old ≡ was → MatchResult r (λ _. new ≡ None) (λ _. new ≡ old)

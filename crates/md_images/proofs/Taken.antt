@@ -8,8 +8,8 @@ use Rattle.std.proofs.lemmas.Slice.Eq.{bytes_eq-Decides}
 use Rattle.md_images.specs.declared.image_word.ImageWord.{ImageWord}
 use Rattle.md_images.specs.declared.image_fault.ImageFault.{ImageFault}
 use Rattle.md_images.specs.declared.image_refusal.ImageRefusal.TheVariants.{Unopened}
-use Rattle.md_images.specs.Images.{IsRefused}
-use Rattle.md_images.specs.Taking.{AreOut, ArePut, IsBad, IsDistinct, IsOther, IsThere, Repeats, TakesFirst, Text, name_at, names_of, word_of}
+use Rattle.md_images.specs.Images.{IsImageRefused}
+use Rattle.md_images.specs.Taking.{AreOut, ArePut, IsNameRefused, IsDistinct, IsOther, IsThere, Repeats, TakesFirst, Text, name_at, names_of, word_of}
 
 -- two texts are the same or not
 pub same_text : (a b : Text) → (a ≡ b) ⊎ (a ≢ b)
@@ -299,7 +299,7 @@ module _ {I D : Type 0} (known : I → Bool) (holds : I → Text → Bool) (at :
       rights = λ is n. calls.rights (so.known_kept ∙ is) n ∙ so.rights is n;
     }
 
-    pub refused_bad : (fault : ImageFault) → list_any (bears name) (take k words) ≡ false → (known now ≡ true → IsRefused (at now name) (allowed now name) fault) → IsBad (known before) (allowed before) (at before) (names_in words) k (Unopened fault)
+    pub refused_bad : (fault : ImageFault) → list_any (bears name) (take k words) ≡ false → (known now ≡ true → IsImageRefused (at now name) (allowed now name) fault) → IsNameRefused (known before) (allowed before) (at before) (names_in words) k (Unopened fault)
     refused_bad fault none refused = λ is. elim (refused (so.known_kept ∙ is)) [
       | inl missing ↦ inl (was is none ∙ missing)
       | inr forbidden ↦ inr (might is ∙ forbidden.0, forbidden.1)

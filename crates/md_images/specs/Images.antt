@@ -16,5 +16,5 @@ asks Look = false
 asks _ = true
 
 -- why it is not had: there is no device, or it is to be changed and may not be
-abbrev pub IsRefused : {D : Type 0} → Option D → Bool → ImageFault → Type 0
-IsRefused device allowed fault = (device ≡ None) ⊎ ((allowed ≡ false) × (fault ≡ NotWritable))
+abbrev pub IsImageRefused : {D : Type 0} → Option D → Bool → ImageFault → Type 0
+IsImageRefused device allowed fault = (device ≡ None) ⊎ ((allowed ≡ false) × (fault ≡ NotWritable))

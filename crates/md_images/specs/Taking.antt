@@ -7,7 +7,7 @@ use Rattle.md_images.specs.declared.fault.ImagesFault.{ImagesFault}
 use Rattle.md_images.specs.declared.fault.ImagesFault.TheVariants.{BadImage, NoMemory}
 use Rattle.md_images.specs.declared.image_refusal.ImageRefusal.{ImageRefusal}
 use Rattle.md_images.specs.declared.image_refusal.ImageRefusal.TheVariants.{Repeated, Unopened}
-use Rattle.md_images.specs.Images.{IsRefused}
+use Rattle.md_images.specs.Images.{IsImageRefused}
 
 -- the bytes of a word
 abbrev pub Text : Type 0
@@ -24,15 +24,15 @@ abbrev pub names_of : List Word → List Text
 names_of = map (λ w. w.1)
 
 -- in `create` this word stands for a missing member, and names no image
-abbrev pub is_missing : Bool → Text → Bool
-is_missing may_miss name = may_miss && bytes_eq name (codes "missing")
+abbrev pub is_missing_word : Bool → Text → Bool
+is_missing_word may_miss name = may_miss && bytes_eq name (codes "missing")
 
-abbrev pub numbered : List Text → List Word
-numbered words = map (λ i. (i, slice_index_or words i [])) (range_with_len 0 (length words))
+abbrev pub numbered_words : List Text → List Word
+numbered_words words = map (λ i. (i, slice_index_or words i [])) (range_with_len 0 (length words))
 
 -- the words that name images
 unfoldable pub image_list : Bool → List Text → List Word
-image_list may_miss words = filter (λ w. not (is_missing may_miss w.1)) (numbered words)
+image_list may_miss words = filter (λ w. not (is_missing_word may_miss w.1)) (numbered_words words)
 
 abbrev pub name_at : List Text → ℕ → Text
 name_at names i = slice_index_or names i []
@@ -56,25 +56,25 @@ module _ {D : Type 0} where
     pub each : (i : ℕ) → i < n → at (name_at names i) ≡ slice_get devices i
 
   -- all other names have what they had
-  abbrev pub OthersKeep : (Text → Option D) → (Text → Option D) → List Text → ℕ → Type 0
-  OthersKeep before after names n = (other : Text) → IsOther names n other → after other ≡ before other
+  abbrev pub OtherNamesKeep : (Text → Option D) → (Text → Option D) → List Text → ℕ → Type 0
+  OtherNamesKeep before after names n = (other : Text) → IsOther names n other → after other ≡ before other
 
   -- the devices under the first n names are out
   pub record AreOut (before after : Text → Option D) (names : List Text) (n : ℕ) (devices : List D) : Type 0 where
     pub were : AreUnder before names n devices
     pub out : (i : ℕ) → i < n → after (name_at names i) ≡ None
-    pub others : OthersKeep before after names n
+    pub others : OtherNamesKeep before after names n
 
   -- these devices were put under the first n names
   pub record ArePut (before after : Text → Option D) (names : List Text) (n : ℕ) (devices : List D) : Type 0 where
     pub back : AreUnder after names n devices
-    pub others : OthersKeep before after names n
+    pub others : OtherNamesKeep before after names n
 
   -- Why name k is refused: it repeats an earlier one, or its image is not had. Of images of which it is not known which
   -- there are only the first can be said.
-  abbrev pub IsBad : Bool → (Text → Bool) → (Text → Option D) → List Text → ℕ → ImageRefusal → Type 0
-  IsBad known allowed before names k Repeated = Repeats names k
-  IsBad known allowed before names k (Unopened fault) = known ≡ true → IsRefused (before (name_at names k)) (allowed (name_at names k)) fault
+  abbrev pub IsNameRefused : Bool → (Text → Bool) → (Text → Option D) → List Text → ℕ → ImageRefusal → Type 0
+  IsNameRefused known allowed before names k Repeated = Repeats names k
+  IsNameRefused known allowed before names k (Unopened fault) = known ≡ true → IsImageRefused (before (name_at names k)) (allowed (name_at names k)) fault
 
   -- the image under name k is there, and may be had
   abbrev pub IsThere : (Text → Bool) → (Text → Option D) → List Text → ℕ → Type 0
@@ -85,7 +85,7 @@ module _ {D : Type 0} where
     pub place : ℕ
     pub within : place < length words
     pub index_is : (slice_index_or words place (0, [])).0 ≡ index
-    pub bad : IsBad known allowed before (names_of words) place why
+    pub bad : IsNameRefused known allowed before (names_of words) place why
     pub distinct : IsDistinct (names_of words) place
     pub earlier : known ≡ true → (k : ℕ) → k < place → IsThere allowed before (names_of words) k
 

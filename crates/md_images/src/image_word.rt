@@ -1,6 +1,6 @@
 // The words that name images.
 ghost use Rattle.std.specs.Prelude.{◌≡◌, IfOk, map};
-ghost use Rattle.md_images.specs.Taking.{image_list, is_missing, word_of};
+ghost use Rattle.md_images.specs.Taking.{image_list, is_missing_word, word_of};
 
 use std::alloc::{AllocError, Global};
 
@@ -13,7 +13,7 @@ pub struct ImageWord<'a> {
 
 /// Whether a word stands for a missing member.
 pub fn is_missing(may_miss: bool, name: &str) -> bool
-    ensures { result ≡ is_missing may_miss name.now }
+    ensures { result ≡ is_missing_word may_miss name.now }
 {
     may_miss && name == "missing"
 }

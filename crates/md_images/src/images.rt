@@ -1,6 +1,6 @@
 // Images by name.
 ghost use Rattle.std.specs.Prelude.{◌≡◌, ◌≢◌, ℕ, List, Bool, false, true, Option, Some, None, IfOk, MatchResult};
-ghost use Rattle.md_images.specs.Images.{IsRefused, allows, asks};
+ghost use Rattle.md_images.specs.Images.{IsImageRefused, allows, asks};
 
 use crate::access::Access;
 use crate::image_fault::ImageFault;
@@ -35,7 +35,7 @@ pub trait Images {
         ensures rights { known self.old ≡ true → (n : List ℕ) → changeable self.new n ≡ changeable self.old n }
         ensures gives { known self.old ≡ true → MatchResult result
             (λ d. (holds self.old name.now ≡ true) × (device_at self.old name.now ≡ Some d))
-            (IsRefused (device_at self.old name.now) (allows access (changeable self.old name.now))) }
+            (IsImageRefused (device_at self.old name.now) (allows access (changeable self.old name.now))) }
         ensures allowed { known self.old ≡ true → IfOk result (λ _. allows access (changeable self.old name.now) ≡ true) }
         ensures gone { known self.old ≡ true → MatchResult result
             (λ _. device_at self.new name.now ≡ None)

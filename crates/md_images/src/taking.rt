@@ -3,7 +3,7 @@ ghost use Rattle.std.specs.Prelude.{◌≡◌, ◌≤◌, ◌<◌, ℕ, List, []
 ghost use Rattle.std.specs.List.{list_any};
 ghost use Rattle.std.specs.Str.{bytes_eq};
 ghost use Rattle.md_images.specs.Images.{allows, asks};
-ghost use Rattle.md_images.specs.Taking.{ArePut, IsBad, IsDistinct, RefusesImages, TakesFirst, TakesImages, Text, name_at, names_of, word_of};
+ghost use Rattle.md_images.specs.Taking.{ArePut, IsNameRefused, IsDistinct, RefusesImages, TakesFirst, TakesImages, Text, name_at, names_of, word_of};
 
 use crate::access::Access;
 use crate::fault::ImagesFault;
@@ -33,7 +33,7 @@ fn take_each<I: Images>(
     ensures took { TakesFirst (I.known images.old) (λ n. allows access (I.changeable images.old n)) (I.device_at images.old) (I.device_at images.new) (names_of (map word_of words.now)) (length devices.new.items) devices.new.items }
     ensures held { I.known images.old ≡ true → (i : ℕ) → i < length devices.new.items → I.holds images.new (name_at (names_of (map word_of words.now)) i) ≡ true }
     ensures ok { IfOk result (λ _. length devices.new.items ≡ length words.now) }
-    ensures stopped { IfErr result (λ why. (length devices.new.items < length words.now) × IsBad (I.known images.old) (λ n. allows access (I.changeable images.old n)) (I.device_at images.old) (names_of (map word_of words.now)) (length devices.new.items) why) }
+    ensures stopped { IfErr result (λ why. (length devices.new.items < length words.now) × IsNameRefused (I.known images.old) (λ n. allows access (I.changeable images.old n)) (I.device_at images.old) (names_of (map word_of words.now)) (length devices.new.items) why) }
 {
     for place in 0..words.len() {
         let name = words[place].name;

@@ -6,10 +6,10 @@ use Rattle.std.proofs.lemmas.Bool.{ne_eqb, eqb-true, eq-eqb}
 use Rattle.std.proofs.lemmas.List.{map-append, length-map, length-append}
 use Rattle.std.proofs.lemmas.Option.{slice_get_within}
 use denote.RawPtr.{Ptr}
-use Rattle.md_inflight.specs.Inflight.{InflightList, TicketView, BelongsTo, IsNumbered, lookup, without, RisesFrom}
+use Rattle.md_inflight.specs.Inflight.{InflightList, TicketView, BelongsTo, IsNumbered, lookup, entries_without, NumbersRiseFrom}
 use Rattle.md_inflight.specs.Placed.{LieApart, IsAt, change_at}
 use Rattle.md_inflight.specs.Linked.{to_place, front, back, entries, AreLinked, IsChain}
-use Rattle.md_inflight.specs.Kept.{items, LieAsBooked, IsKept, items_from}
+use Rattle.md_inflight.specs.Kept.{items, LieAsBooked, IsKeptList, items_from}
 use Rattle.md_inflight.specs.declared.place.Place.{Place}
 use Rattle.md_inflight.specs.declared.node.Node.{Node}
 use Rattle.md_inflight.proofs.Books.{Agree}
@@ -43,37 +43,37 @@ module _ {T : Type 0} where
   writing item node = record node { item = item }
 
   -- ---- numbers that rise
-  rises_at : (xs : Row T) (v : Ptr × Node T) (ys : Row T) (low next : ℕ) → RisesFrom low (items (xs ++ v ∷ ys)) next → low ≤ v.1.number
+  rises_at : (xs : Row T) (v : Ptr × Node T) (ys : Row T) (low next : ℕ) → NumbersRiseFrom low (items (xs ++ v ∷ ys)) next → low ≤ v.1.number
   rises_at [] v ys low next r = r.0
   rises_at (x ∷ xs) v ys low next r = let later = rises_at xs v ys (x.1.number + 1) next r.1 in let first = r.0 in omega arith
 
   -- so an earlier node has another number
-  earlier : (x : Ptr × Node T) (xs : Row T) (v : Ptr × Node T) (ys : Row T) (low next : ℕ) → RisesFrom low (items (x ∷ (xs ++ v ∷ ys))) next → (x.1.number == v.1.number) ≡ false
+  earlier : (x : Ptr × Node T) (xs : Row T) (v : Ptr × Node T) (ys : Row T) (low next : ℕ) → NumbersRiseFrom low (items (x ∷ (xs ++ v ∷ ys))) next → (x.1.number == v.1.number) ≡ false
   earlier x xs v ys low next r = let later = rises_at xs v ys (x.1.number + 1) next r.1 in ne_eqb x.1.number v.1.number (λ same. absurd (omega arith))
 
-  without_above : (number : ℕ) (es : List (ℕ × T)) (low next : ℕ) → RisesFrom low es next → number < low → without es number ≡ es
+  without_above : (number : ℕ) (es : List (ℕ × T)) (low next : ℕ) → NumbersRiseFrom low es next → number < low → entries_without es number ≡ es
   without_above number [] low next r above = refl
   without_above number (e ∷ es) low next r above =
       let first = r.0 in by (e.0 == number) (without_above number es (e.0 + 1) next r.1 (omega arith)) (ne_eqb e.0 number (λ same. absurd (omega arith)))
     where
-      by : (b : Bool) → without es number ≡ es → b ≡ false → cond (not b) (e ∷ without es number) (without es number) ≡ e ∷ es
+      by : (b : Bool) → entries_without es number ≡ es → b ≡ false → cond (not b) (e ∷ entries_without es number) (entries_without es number) ≡ e ∷ es
       by true rest other = cc
       by false rest other = ap (λ ls. e ∷ ls) rest
 
-  lookup_cut : (xs : Row T) (v : Ptr × Node T) (ys : Row T) (low next : ℕ) → RisesFrom low (items (xs ++ v ∷ ys)) next → lookup (items (xs ++ v ∷ ys)) v.1.number ≡ Some v.1.item
+  lookup_cut : (xs : Row T) (v : Ptr × Node T) (ys : Row T) (low next : ℕ) → NumbersRiseFrom low (items (xs ++ v ∷ ys)) next → lookup (items (xs ++ v ∷ ys)) v.1.number ≡ Some v.1.item
   lookup_cut [] v ys low next r = ap (λ b. cond b (Some v.1.item) (lookup (items ys) v.1.number)) (eq-eqb v.1.number v.1.number refl)
   lookup_cut (x ∷ xs) v ys low next r =
       ap (λ b. cond b (Some x.1.item) (lookup (items (xs ++ v ∷ ys)) v.1.number)) (earlier x xs v ys low next r) ∙ lookup_cut xs v ys (x.1.number + 1) next r.1
 
-  without_cut : (xs : Row T) (v : Ptr × Node T) (ys : Row T) (low next : ℕ) → RisesFrom low (items (xs ++ v ∷ ys)) next → without (items (xs ++ v ∷ ys)) v.1.number ≡ items (xs ++ ys)
+  without_cut : (xs : Row T) (v : Ptr × Node T) (ys : Row T) (low next : ℕ) → NumbersRiseFrom low (items (xs ++ v ∷ ys)) next → entries_without (items (xs ++ v ∷ ys)) v.1.number ≡ items (xs ++ ys)
   without_cut [] v ys low next r =
-      ap (λ b. cond (not b) ((v.1.number, v.1.item) ∷ without (items ys) v.1.number) (without (items ys) v.1.number)) (eq-eqb v.1.number v.1.number refl)
+      ap (λ b. cond (not b) ((v.1.number, v.1.item) ∷ entries_without (items ys) v.1.number) (entries_without (items ys) v.1.number)) (eq-eqb v.1.number v.1.number refl)
       ∙ without_above v.1.number (items ys) (v.1.number + 1) next r.1 (omega arith)
   without_cut (x ∷ xs) v ys low next r =
-      ap (λ b. cond (not b) ((x.1.number, x.1.item) ∷ without (items (xs ++ v ∷ ys)) v.1.number) (without (items (xs ++ v ∷ ys)) v.1.number)) (earlier x xs v ys low next r)
+      ap (λ b. cond (not b) ((x.1.number, x.1.item) ∷ entries_without (items (xs ++ v ∷ ys)) v.1.number) (entries_without (items (xs ++ v ∷ ys)) v.1.number)) (earlier x xs v ys low next r)
       ∙ ap (λ es. (x.1.number, x.1.item) ∷ es) (without_cut xs v ys (x.1.number + 1) next r.1)
 
-  set_cut : (xs : Row T) (v : Ptr × Node T) (ys : Row T) (item : T) (low next : ℕ) → RisesFrom low (items (xs ++ v ∷ ys)) next
+  set_cut : (xs : Row T) (v : Ptr × Node T) (ys : Row T) (item : T) (low next : ℕ) → NumbersRiseFrom low (items (xs ++ v ∷ ys)) next
       → set_value (λ k. k == v.1.number) (items (xs ++ v ∷ ys)) item ≡ items (xs ++ (v.0, writing item v.1) ∷ ys)
   set_cut [] v ys item low next r = ap (λ b. cond b ((v.1.number, item) ∷ items ys) ((v.1.number, v.1.item) ∷ set_value (λ k. k == v.1.number) (items ys) item)) (eq-eqb v.1.number v.1.number refl)
   set_cut (x ∷ xs) v ys item low next r =
@@ -121,7 +121,7 @@ module _ {T : Type 0} where
   belonging is at = subst (λ (s : InflightList T × TicketView). BelongsTo s.0 s.1) (λ i. (sym is i, sym at i))
 
   -- it lies where the ticket says, since book and page agree
-  pub ticket_stands : {head tail : Option Place} {vs : Row T} {count next : ℕ} {book : List Ptr} (page : List Ptr) {name : ℕ} {ticket : TicketView} {p : Ptr} → IsKept head tail vs count next book
+  pub ticket_stands : {head tail : Option Place} {vs : Row T} {count next : ℕ} {book : List Ptr} (page : List Ptr) {name : ℕ} {ticket : TicketView} {p : Ptr} → IsKeptList head tail vs count next book
       → BelongsTo (record { name = name; entries = items vs; next = next }) ticket → slice_get page ticket.number ≡ Some p → Agree book page → (at : IsAt vs p) × (at.value.number ≡ ticket.number)
   ticket_stands {vs = vs} {book = book} page {ticket = ticket} {p = p} kept belongs told agree =
       let found = numbered vs ticket.number belongs.stands in let at = found.at in
@@ -152,28 +152,28 @@ module _ {T : Type 0} where
   written_back {p = p} apart at {read} is item = sym (changed_is at apart (λ _. writing item read)) ∙ ap (λ node. at.before ++ (p, writing item node) ∷ at.after) is
 
   -- ---- what is kept
-  module _ {head tail : Option Place} {vs : Row T} {count next : ℕ} {book : List Ptr} (kept : IsKept head tail vs count next book) where
+  module _ {head tail : Option Place} {vs : Row T} {count next : ℕ} {book : List Ptr} (kept : IsKeptList head tail vs count next book) where
     pub kept_numbered : (name : ℕ) → IsNumbered (record { name = name; entries = items vs; next = next })
     kept_numbered name = record { rising = kept.rising; limit = kept.limit }
 
     module _ {p : Ptr} (at : IsAt vs p) {number : ℕ} (same : at.value.number ≡ number) where
-      rising_cut : RisesFrom 0 (items (at.before ++ (p, at.value) ∷ at.after)) next
-      rising_cut = subst (λ us. RisesFrom 0 (items us) next) at.cut kept.rising
+      rising_cut : NumbersRiseFrom 0 (items (at.before ++ (p, at.value) ∷ at.after)) next
+      rising_cut = subst (λ us. NumbersRiseFrom 0 (items us) next) at.cut kept.rising
 
       pub looked_up : lookup (items vs) number ≡ Some at.value.item
       looked_up = (λ i. lookup (items (at.cut i)) (sym same i)) ∙ lookup_cut at.before (p, at.value) at.after 0 next rising_cut
 
       -- once the node there is gone
       pub kept_removed : {head' tail' : Option Place} {ws : Row T} → IsChain head' tail' ws → entries ws ≡ entries (at.before ++ at.after)
-          → IsKept head' tail' ws (count - 1) next book × (items ws ≡ without (items vs) number)
+          → IsKeptList head' tail' ws (count - 1) next book × (items ws ≡ entries_without (items vs) number)
       kept_removed {ws = ws} chain left =
-          let rest : items ws ≡ without (items vs) number =
-          ap (map (λ e. e.1)) left ∙ sym ((λ i. without (items (at.cut i)) (sym same i)) ∙ without_cut at.before (p, at.value) at.after 0 next rising_cut) in
+          let rest : items ws ≡ entries_without (items vs) number =
+          ap (map (λ e. e.1)) left ∙ sym ((λ i. entries_without (items (at.cut i)) (sym same i)) ∙ without_cut at.before (p, at.value) at.after 0 next rising_cut) in
           let a = kept.counted in let b = ap length at.cut in let d = length-append at.before ((p, at.value) ∷ at.after) in
           let e : length ws ≡ length (at.before ++ at.after) = sym (length-map ws _) ∙ ap length left ∙ length-map (at.before ++ at.after) _ in let f = length-append at.before at.after in (
             record {
               chain = chain;
-              rising = subst (λ es. RisesFrom 0 es next) (sym rest) (rises_filter _ 0 (items vs) next kept.rising);
+              rising = subst (λ es. NumbersRiseFrom 0 es next) (sym rest) (rises_filter _ 0 (items vs) next kept.rising);
               limit = kept.limit;
               counted = omega arith;
               booked = kept.booked;
@@ -183,14 +183,14 @@ module _ {T : Type 0} where
           )
 
       -- once its item was written
-      pub kept_written : (item : T) {ws : Row T} → ws ≡ changed at (writing item) → IsKept head tail ws count next book × (items ws ≡ set_value (λ k. k == number) (items vs) item)
+      pub kept_written : (item : T) {ws : Row T} → ws ≡ changed at (writing item) → IsKeptList head tail ws count next book × (items ws ≡ set_value (λ k. k == number) (items vs) item)
       kept_written item {ws} now =
           let new : items ws ≡ set_value (λ k. k == number) (items vs) item =
           ap items now ∙ sym ((λ i. set_value (λ k. k == sym same i) (items (at.cut i)) item) ∙ set_cut at.before (p, at.value) at.after item 0 next rising_cut) in
           let a = kept.counted in let b = ap length at.cut in let d = length-append at.before ((p, at.value) ∷ at.after) in let e = ap length now in let f = length-append at.before ((p, writing item at.value) ∷ at.after) in (
             record {
               chain = subst (IsChain head tail) (sym now) (chain_written at.before (p, at.value) at.after item head tail (subst (IsChain head tail) at.cut kept.chain));
-              rising = subst (λ es. RisesFrom 0 es next) (sym new) (rises_set (λ k. k == number) item 0 (items vs) next kept.rising);
+              rising = subst (λ es. NumbersRiseFrom 0 es next) (sym new) (rises_set (λ k. k == number) item 0 (items vs) next kept.rising);
               limit = kept.limit;
               counted = omega arith;
               booked = kept.booked;
@@ -201,14 +201,14 @@ module _ {T : Type 0} where
 
     -- once another node came
     pub kept_grown : (p : Ptr) (item : T) {next' : ℕ} {head' tail' : Option Place} {ws : Row T} → IsChain head' tail' ws → entries ws ≡ entries vs ++ (p, (next, item)) ∷ [] → next' ≡ next + 1 → next < 2 ^ 64
-        → IsKept head' tail' ws (count + 1) next' (book ++ p ∷ []) × (items ws ≡ items vs ++ (next, item) ∷ [])
+        → IsKeptList head' tail' ws (count + 1) next' (book ++ p ∷ []) × (items ws ≡ items vs ++ (next, item) ∷ [])
     kept_grown p item {ws = ws} chain more after room =
         let new : items ws ≡ items vs ++ (next, item) ∷ [] = ap (map (λ e. e.1)) more ∙ map-append (λ (e : Ptr × (ℕ × T)). e.1) (entries vs) ((p, (next, item)) ∷ []) in
         let a = kept.counted in let b : length ws ≡ length (entries vs) + 1 = sym (length-map ws _) ∙ ap length more ∙ length-append (entries vs) ((p, (next, item)) ∷ []) in let d : length (entries vs) ≡ length vs = length-map vs _ in
         let e = length-append book (p ∷ []) in let f = kept.booked in (
           record {
             chain = chain;
-            rising = subst (λ (s : List (ℕ × T) × ℕ). RisesFrom 0 s.0 s.1) (λ i. (sym new i, sym after i)) (rises_push 0 (items vs) next item kept.rising);
+            rising = subst (λ (s : List (ℕ × T) × ℕ). NumbersRiseFrom 0 s.0 s.1) (λ i. (sym new i, sym after i)) (rises_push 0 (items vs) next item kept.rising);
             limit = omega arith;
             counted = omega arith;
             booked = omega arith;

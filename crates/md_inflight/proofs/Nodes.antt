@@ -43,7 +43,7 @@ use Rattle.std.specs.declared.alloc.Global.{Global}
 use Rattle.std_alloc.proofs.SendSync.{quiet, lies, seen}
 use Rattle.md_inflight.specs.Placed.{same_ptr, LieElsewhere, IsAt}
 use Rattle.md_inflight.proofs.Places.{same_ptr_eq}
-use Rattle.md_inflight.specs.Ownership.{held, held_owns, held_lent}
+use Rattle.md_inflight.specs.Ownership.{node_held, held_owns, held_lent}
 use Rattle.md_inflight.specs.declared.node.Node.{Node}
 use Rattle.md_inflight.specs.contracts.node.Node.{the_row as Node_row, the_type as Node_type}
 use denote.Struct.Declared.{shape as node_shape_of}
@@ -67,7 +67,7 @@ module _ {M : Type 1} {𝓤 : Ura M} (𝓛 : Logic 𝓤) (l : Lft) (R : RattleTy
   Lends-held [] = Lends-nothing 𝓛 ftrue l
   Lends-held (v ∷ vs) =
       let N = Node_row R in
-      Lends-both 𝓛 (held R v.0 v.1) (held_owns R vs) (lent_at N v.0 v.1) (held_lent R vs) l
+      Lends-both 𝓛 (node_held R v.0 v.1) (held_owns R vs) (lent_at N v.0 v.1) (held_lent R vs) l
       (Lends-first 𝓛 (lies_at N full_share v.0 v.1) (ghosts.dealloc_token (record { memory = record { seal = tt } }) (bare (lone N.mir)) v.0) (lent_at N v.0 v.1) l
       (Lends-lies 𝓛 N l v.0 v.1 (Shares-less 𝓛 N N.lives l inc ((node_laws R L).shares 𝓛) v.1))) (Lends-held vs)
 
@@ -175,14 +175,14 @@ module _ (Y : RattleType) (L : Laws Y) {M : Type 1} {𝓤 : Ura M} {𝓛 : Logic
   -- [the node's cell; the right to free it; what its item owns]
   pub held_out : K → (b o : ℕ) (x : Node Y.Denot)
       → ((v : Val) → Good (layout Y) v → x.number < 2 ^ 64 → Seq K 𝓛 (‵ (fat full_share (lone (Nr Y).mir) b o (node_val x.number v x.prev x.next)) ∷ ‵ (frees_at Y (block_ptr b o)) ∷ ‵ (Y.own_val x.item (v ∷ [])) ∷ Γ) G)
-      → Seq K 𝓛 (‵ (held (R Y) (block_ptr b o) x) ∷ Γ) G
+      → Seq K 𝓛 (‵ (node_held (R Y) (block_ptr b o) x) ∷ Γ) G
   held_out t b o x k =
       fsplit t $ use1 𝓛 (some (λ (w : Val). ‵ (fat full_share (lone (Nr Y).mir) b o w) ⊛ ‵ ((Nr Y).own_val x (w ∷ [])))) (part_out 𝓛 (Nr Y) refl full_share x b o) $ pick t (λ w. split t $ move t (1 ∷ []) $
       node_had Y L t x (w ∷ []) (λ v is good fits. rewrite t 1 (λ (u : Val). ‵ (fat full_share (lone (Nr Y).mir) b o u)) (ap only is) refl $ move t (1 ∷ 2 ∷ 0 ∷ []) $ k v good fits))
 
 module _ (Y : RattleType) {M : Type 1} {𝓤 : Ura M} {𝓛 : Logic 𝓤} {K : Type 0} {Γ : List (Item 𝓤)} {G : Goal 𝓤 𝓛.H} where
   pub held_in : K → (b o : ℕ) (x : Node Y.Denot) (v : Val) → x.number < 2 ^ 64
-      → Step K 𝓛 (‵ (held (R Y) (block_ptr b o) x) ∷ Γ) G (‵ (fat full_share (lone (Nr Y).mir) b o (node_val x.number v x.prev x.next)) ∷ ‵ (frees_at Y (block_ptr b o)) ∷ ‵ (Y.own_val x.item (v ∷ [])) ∷ Γ) G
+      → Step K 𝓛 (‵ (node_held (R Y) (block_ptr b o) x) ∷ Γ) G (‵ (fat full_share (lone (Nr Y).mir) b o (node_val x.number v x.prev x.next)) ∷ ‵ (frees_at Y (block_ptr b o)) ∷ ‵ (Y.own_val x.item (v ∷ [])) ∷ Γ) G
   held_in t b o x v fits = step (λ s. let w = node_val x.number v x.prev x.next in
       move t (2 ∷ []) $ node_made Y t x v fits $ move t (1 ∷ 0 ∷ []) $ use2 𝓛 (‵ (part_at (Nr Y) full_share x b o)) (part_in 𝓛 (Nr Y) refl full_share x b o w) $ fjoin t $ s)
 
@@ -219,7 +219,7 @@ module _ {M : Type 1} {𝓤 : Ura M} (𝓛 : Logic 𝓤) (Y : RattleType) where
   Row = held_owns (R Y)
 
   abbrev pub One : Entry Y → Fml
-  One v = held (R Y) v.0 v.1
+  One v = node_held (R Y) v.0 v.1
 
   -- one node is taken out of the row, and put in
   pub row_cut : (xs : List (Entry Y)) (v : Entry Y) (ys : List (Entry Y)) → ent 𝓤 (sem 𝓛 (Row (xs ++ v ∷ ys))) (sep 𝓤 (sem 𝓛 (One v)) (sem 𝓛 (Row (xs ++ ys))))
@@ -273,15 +273,15 @@ module _ (Y : RattleType) (L : Laws Y) {M : Type 1} {𝓤 : Ura M} {𝓛 : Logic
       → Seq K 𝓛 (‵ (fat full_share (lone (Nr Y).mir) b o (node_val at.value.number w at.value.prev at.value.next)) ∷ ‵ (frees_at Y (block_ptr b o)) ∷ ‵ (Y.own_val at.value.item (w ∷ [])) ∷ ‵ (held_owns (R Y) (at.before ++ at.after)) ∷ Γ) G)
       → Seq K 𝓛 (‵ (held_owns (R Y) vs) ∷ Γ) G
   row_out t {vs} {p} at k =
-      rewrite t 0 (λ (us : List (Entry Y)). ‵ (held_owns (R Y) us)) at.cut refl $ use1 𝓛 (‵ (held (R Y) p at.value) ⊛ ‵ (held_owns (R Y) (at.before ++ at.after))) (row_cut 𝓛 Y at.before (p, at.value) at.after) $ split t $
-      in_a_block t p (λ q. held (R Y) q at.value) (no_node 𝓛 Y at.value) (λ b o e. held_out Y L t b o at.value (λ w good fits. k b o w e good fits))
+      rewrite t 0 (λ (us : List (Entry Y)). ‵ (held_owns (R Y) us)) at.cut refl $ use1 𝓛 (‵ (node_held (R Y) p at.value) ⊛ ‵ (held_owns (R Y) (at.before ++ at.after))) (row_cut 𝓛 Y at.before (p, at.value) at.after) $ split t $
+      in_a_block t p (λ q. node_held (R Y) q at.value) (no_node 𝓛 Y at.value) (λ b o e. held_out Y L t b o at.value (λ w good fits. k b o w e good fits))
 
 module _ (Y : RattleType) {M : Type 1} {𝓤 : Ura M} {𝓛 : Logic 𝓤} {K : Type 0} {Γ : List (Item 𝓤)} {G : Goal 𝓤 𝓛.H} where
   pub row_in : K → (xs : List (Entry Y)) (p : Ptr) (x : Node Y.Denot) (ys : List (Entry Y)) (b o : ℕ) → p ≡ block_ptr b o → (w : Val) → x.number < 2 ^ 64
       → Step K 𝓛 (‵ (held_owns (R Y) (xs ++ (p, x) ∷ ys)) ∷ Γ) G
       (‵ (fat full_share (lone (Nr Y).mir) b o (node_val x.number w x.prev x.next)) ∷ ‵ (frees_at Y (block_ptr b o)) ∷ ‵ (Y.own_val x.item (w ∷ [])) ∷ ‵ (held_owns (R Y) (xs ++ ys)) ∷ Γ) G
   row_in t xs p x ys b o e w fits = step (λ s.
-      held_in Y t b o x w fits $ rewrite t 0 (λ (q : Ptr). ‵ (held (R Y) q x)) (sym e) refl $ use2 𝓛 (‵ (held_owns (R Y) (xs ++ (p, x) ∷ ys))) (row_glue 𝓛 Y xs (p, x) ys) $ s)
+      held_in Y t b o x w fits $ rewrite t 0 (λ (q : Ptr). ‵ (node_held (R Y) q x)) (sym e) refl $ use2 𝓛 (‵ (held_owns (R Y) (xs ++ (p, x) ∷ ys))) (row_glue 𝓛 Y xs (p, x) ys) $ s)
 
 module _ {M : Type 1} {𝓤 : Ura M} {𝓛 : Logic 𝓤} {K : Type 0} {Γ : List (Item 𝓤)} {G : Goal 𝓤 𝓛.H} where
   -- a link behind a `&` is read, and let go

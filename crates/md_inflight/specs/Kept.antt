@@ -2,7 +2,7 @@
 use Rattle.std.specs.Prelude.{◌≡◌, ℕ, ◌≤◌, ◌^◌, ⊤, cond, List, [], ◌∷◌, map, length, Option, Some, None, slice_get}
 use denote.RawPtr.{Ptr}
 use Rattle.md_inflight.specs.Placed.{same_ptr}
-use Rattle.md_inflight.specs.Inflight.{RisesFrom}
+use Rattle.md_inflight.specs.Inflight.{NumbersRiseFrom}
 use Rattle.md_inflight.specs.Linked.{IsChain, entries}
 use Rattle.md_inflight.specs.declared.place.Place.{Place}
 use Rattle.md_inflight.specs.declared.node.Node.{Node}
@@ -17,9 +17,9 @@ module _ {T : Type 0} where
   LieAsBooked book [] = ⊤
   LieAsBooked book (e ∷ es) = (slice_get book e.1.0 ≡ Some e.0) × LieAsBooked book es
 
-  pub record IsKept (head tail : Option Place) (vs : List (Ptr × Node T)) (count next : ℕ) (book : List Ptr) : Type 0 where
+  pub record IsKeptList (head tail : Option Place) (vs : List (Ptr × Node T)) (count next : ℕ) (book : List Ptr) : Type 0 where
     pub chain : IsChain head tail vs
-    pub rising : RisesFrom 0 (items vs) next
+    pub rising : NumbersRiseFrom 0 (items vs) next
     pub limit : next ≤ 2 ^ 64
     pub counted : count ≡ length vs
     pub booked : length book ≡ next

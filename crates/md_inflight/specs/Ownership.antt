@@ -13,12 +13,12 @@ use Rattle.md_inflight.specs.contracts.node.Node.{the_row}
 -- at items of the row R
 module _ (R : RattleType) where
   -- a node on the heap, and the right to free its block
-  abbrev pub held : Ptr → Node R.Denot → Fml
-  held = box_owns (ghosts.dealloc_token (record { memory = record { seal = tt } })) (the_row R)
+  abbrev pub node_held : Ptr → Node R.Denot → Fml
+  node_held = box_owns (ghosts.dealloc_token (record { memory = record { seal = tt } })) (the_row R)
 
   abbrev pub held_owns : List (Ptr × Node R.Denot) → Fml
   held_owns [] = ftrue
-  held_owns (v ∷ vs) = fsep (held v.0 v.1) (held_owns vs)
+  held_owns (v ∷ vs) = fsep (node_held v.0 v.1) (held_owns vs)
 
   abbrev pub held_lent : List (Ptr × Node R.Denot) → Lft → Fml
   held_lent [] = nothing

@@ -1,7 +1,7 @@
 // The list of requests in flight.
 ghost use Rattle.std.specs.Prelude.{◌≡◌, ◌+◌, ◌^◌, ◌<◌, ◌≢◌, ◌==◌, ◌↔◌, [], ◌∷◌, ◌++◌, Some, None, IsTrue, IsErr, OnOk, OnErr, IfOk, IfErr, length, if◌then◌else◌};
 ghost use Rattle.std.specs.Borrow.{sem};
-ghost use Rattle.md_inflight.specs.Inflight.{TicketView, BelongsTo, IsNumbered, lookup, without, with_item, first_meeting};
+ghost use Rattle.md_inflight.specs.Inflight.{TicketView, BelongsTo, IsNumbered, lookup, entries_without, with_item, first_meeting};
 
 use crate::book::Book;
 use crate::chain::Chain;
@@ -37,7 +37,7 @@ pub struct Inflight<T> {
 
 impl<T> Model for Inflight<T> {
     ghost use Rattle.md_inflight.specs.Inflight.{InflightList, inflight_code, next_number};
-    ghost use Rattle.md_inflight.specs.Kept.{IsKept, items};
+    ghost use Rattle.md_inflight.specs.Kept.{IsKeptList, items};
 
     ghost Value = { InflightList T };
 
@@ -45,7 +45,7 @@ impl<T> Model for Inflight<T> {
 
     ghost view = { λ a. record { name = a.book.name; entries = items a.chain.nodes; next = next_number a.next } };
 
-    ghost invariant = { λ a. IsKept a.chain.first a.chain.last a.chain.nodes a.len (next_number a.next) a.book.addresses };
+    ghost invariant = { λ a. IsKeptList a.chain.first a.chain.last a.chain.nodes a.len (next_number a.next) a.book.addresses };
 }
 
 impl<T> Inflight<T> {
@@ -172,7 +172,7 @@ impl<T> Inflight<T> {
     pub fn remove(&mut self, ticket: Ticket) -> T
         requires { BelongsTo self.old ticket }
         ensures item { lookup self.old.entries ticket.number ≡ Some result }
-        ensures entries { self.new.entries ≡ without self.old.entries ticket.number }
+        ensures entries { self.new.entries ≡ entries_without self.old.entries ticket.number }
         ensures next { self.new.next ≡ self.old.next }
         ensures name { self.new.name ≡ self.old.name }
 

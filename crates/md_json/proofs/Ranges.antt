@@ -11,7 +11,7 @@ use Rattle.md_bitmap.proofs.Numbers.{range_push}
 use Rattle.md_bitmap.specs.Marks.{Bitmap, is_set}
 use Rattle.md_bitmap.specs.declared.chunks.Chunks.{Chunks}
 use Rattle.md_json.specs.BadblocksObject.{run_object}
-use Rattle.md_json.specs.CheckObject.{ranges_to, sectors_of, sectors_where_set}
+use Rattle.md_json.specs.CheckObject.{ranges_to, run_of_chunk, sectors_where_set}
 use Rattle.md_json.specs.Objects.{elements_text}
 use Rattle.md_json.proofs.Texts.{is_later, later_next}
 
@@ -49,16 +49,16 @@ ranges_next chunks set c =
 module _ (chunks : Chunks) (set : Bitmap) (c : ℕ) where
   -- with its text, where it is in the set
   pub ranges_more : (differs : Bool) → differs ≡ is_set set.bytes c
-      → elements_text run_object false (ranges_to chunks set c) ++ (if differs then (comma_if (is_later false (length (ranges_to chunks set c))) ++ compact_text (run_object (sectors_of chunks c))) else [])
+      → elements_text run_object false (ranges_to chunks set c) ++ (if differs then (comma_if (is_later false (length (ranges_to chunks set c))) ++ compact_text (run_object (run_of_chunk chunks c))) else [])
       ≡ elements_text run_object false (ranges_to chunks set (c + 1))
   ranges_more true is =
-      element_more run_object false (ranges_to chunks set c) (sectors_of chunks c)
-      ∙ ap (λ (b : Bool). elements_text run_object false (ranges_to chunks set c ++ (if b then sectors_of chunks c ∷ [] else []))) is
+      element_more run_object false (ranges_to chunks set c) (run_of_chunk chunks c)
+      ∙ ap (λ (b : Bool). elements_text run_object false (ranges_to chunks set c ++ (if b then run_of_chunk chunks c ∷ [] else []))) is
       ∙ ap (elements_text run_object false) (sym (ranges_next chunks set c))
   ranges_more false is =
       append-nil (elements_text run_object false (ranges_to chunks set c))
       ∙ ap (elements_text run_object false) (sym (append-nil (ranges_to chunks set c)))
-      ∙ ap (λ (b : Bool). elements_text run_object false (ranges_to chunks set c ++ (if b then sectors_of chunks c ∷ [] else []))) is
+      ∙ ap (λ (b : Bool). elements_text run_object false (ranges_to chunks set c ++ (if b then run_of_chunk chunks c ∷ [] else []))) is
       ∙ ap (elements_text run_object false) (sym (ranges_next chunks set c))
 
   pub later_more : (later differs : Bool) → later ≡ is_later false (length (ranges_to chunks set c)) → differs ≡ is_set set.bytes c
@@ -66,8 +66,8 @@ module _ (chunks : Chunks) (set : Bitmap) (c : ℕ) where
   later_more later true before is =
       or_true later
       ∙ later_next false (length (ranges_to chunks set c))
-      ∙ ap (is_later false) (sym (length-append (ranges_to chunks set c) (sectors_of chunks c ∷ [])))
-      ∙ ap (λ (b : Bool). is_later false (length (ranges_to chunks set c ++ (if b then sectors_of chunks c ∷ [] else [])))) is
+      ∙ ap (is_later false) (sym (length-append (ranges_to chunks set c) (run_of_chunk chunks c ∷ [])))
+      ∙ ap (λ (b : Bool). is_later false (length (ranges_to chunks set c ++ (if b then run_of_chunk chunks c ∷ [] else [])))) is
       ∙ ap (λ (rs : List Run). is_later false (length rs)) (sym (ranges_next chunks set c))
     where
       or_true : (b : Bool) → (b || true) ≡ true
@@ -76,7 +76,7 @@ module _ (chunks : Chunks) (set : Bitmap) (c : ℕ) where
   later_more later false before is =
       or_false later ∙ before
       ∙ ap (λ (rs : List Run). is_later false (length rs)) (sym (append-nil (ranges_to chunks set c)))
-      ∙ ap (λ (b : Bool). is_later false (length (ranges_to chunks set c ++ (if b then sectors_of chunks c ∷ [] else [])))) is
+      ∙ ap (λ (b : Bool). is_later false (length (ranges_to chunks set c ++ (if b then run_of_chunk chunks c ∷ [] else [])))) is
       ∙ ap (λ (rs : List Run). is_later false (length rs)) (sym (ranges_next chunks set c))
     where
       or_false : (b : Bool) → (b || false) ≡ b

@@ -6,7 +6,7 @@ use Rattle.serde_json.specs.Data.{Data}
 use Rattle.serde_json.specs.Written.{comma_if, compact_text, items_text, members_text}
 use Rattle.md_examine.specs.Sink.{Puts}
 use Rattle.md_examine.proofs.Puts.{puts_then, puts_nothing}
-use Rattle.md_json.specs.Objects.{Field, field, all_of, close_text, elements_text, items_of, key_text, later_text, line_of, list_of, members_of, next_text, object_of, open_text, report_of, signed}
+use Rattle.md_json.specs.Objects.{Field, field, all_of, close_text, elements_text, items_of, key_text, later_text, object_line, list_of, members_of, next_text, object_of, open_text, report_of, signed}
 
 -- the texts of groups, and then the end
 abbrev pub chain : List (List Field) → List ℕ
@@ -42,14 +42,14 @@ members_closed (field name value ∷ fields) =
 the_line : (k v fields : List ℕ) → (k ++ 58 ∷ (v ++ (fields ++ 125 ∷ []))) ++ 10 ∷ [] ≡ ((k ++ 58 ∷ []) ++ v) ++ (fields ++ 125 ∷ 10 ∷ [])
 the_line k v fields = simp append_assoc
 
-pub report_is : (kind : List ℕ) (groups : List (List Field)) → open_text kind ++ chain groups ≡ line_of (report_of kind groups)
+pub report_is : (kind : List ℕ) (groups : List (List Field)) → open_text kind ++ chain groups ≡ object_line (report_of kind groups)
 unfolding open_text
 report_is kind groups =
     ap (λ (t : List ℕ). open_text kind ++ t) (chain_is groups)
     ∙ sym (ap (λ (t : List ℕ). 123 ∷ t) (ap (λ (t : List ℕ). (quoted (codes "report") ++ 58 ∷ (quoted kind ++ t)) ++ 10 ∷ []) (members_closed (all_of groups))
     ∙ the_line (quoted (codes "report")) (quoted kind) (later_text (all_of groups))))
 
-pub puts_report : {S : Type 0} (contents : S → Option (List ℕ)) (failed : S → Bool) {a b c : S} (kind : List ℕ) (groups : List (List Field)) → Puts contents failed a b (open_text kind) → Puts contents failed b c (chain groups) → Puts contents failed a c (line_of (report_of kind groups))
+pub puts_report : {S : Type 0} (contents : S → Option (List ℕ)) (failed : S → Bool) {a b c : S} (kind : List ℕ) (groups : List (List Field)) → Puts contents failed a b (open_text kind) → Puts contents failed b c (chain groups) → Puts contents failed a c (object_line (report_of kind groups))
 puts_report contents failed {a = a} {c = c} kind groups p q =
     let P : List ℕ → Type 0 = λ t. Puts contents failed a c t in
     subst P (report_is kind groups) (puts_then contents failed p q)

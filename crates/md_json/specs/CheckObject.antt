@@ -12,12 +12,12 @@ use Rattle.md_json.specs.BadblocksObject.{run_object}
 use Rattle.md_json.specs.Objects.{Field, field, list_of, report_of, whole}
 
 -- The sectors of a chunk in the array.
-abbrev pub sectors_of : Chunks → ℕ → Run
-sectors_of chunks c = record { start = c * chunks.sectors; len = min ((c + 1) * chunks.sectors) chunks.size - c * chunks.sectors }
+abbrev pub run_of_chunk : Chunks → ℕ → Run
+run_of_chunk chunks c = record { start = c * chunks.sectors; len = min ((c + 1) * chunks.sectors) chunks.size - c * chunks.sectors }
 
 -- The sectors of a chunk, if the set has the chunk.
 abbrev pub sectors_where_set : Chunks → Bitmap → ℕ → List Run
-sectors_where_set chunks set c = if is_set set.bytes c then sectors_of chunks c ∷ [] else []
+sectors_where_set chunks set c = if is_set set.bytes c then run_of_chunk chunks c ∷ [] else []
 
 -- The sectors of each chunk of the set among the first n, rising.
 abbrev pub ranges_to : Chunks → Bitmap → ℕ → List Run

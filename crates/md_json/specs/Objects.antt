@@ -41,8 +41,8 @@ abbrev pub report_of : List ℕ → List (List Field) → Data
 report_of kind groups = object_of (field (codes "report") (string kind) ∷ all_of groups)
 
 -- an object alone in its line
-abbrev pub line_of : Data → List ℕ
-line_of d = compact_text d ++ 10 ∷ []
+abbrev pub object_line : Data → List ℕ
+object_line d = compact_text d ++ 10 ∷ []
 
 -- ---- the parts of the text, as they are written
 

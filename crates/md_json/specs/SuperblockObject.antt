@@ -9,8 +9,8 @@ use Rattle.md_examine.specs.SuperblockReport.{array_state, seconds, state_text}
 use Rattle.md_json.specs.Objects.{Field, field, object_of, report_of, signed, whole}
 
 -- the role of the device itself
-abbrev pub own_role : Superblock → ℕ
-own_role v = slice_index_or v.roles v.dev_number 0xffff
+abbrev pub role_of_device : Superblock → ℕ
+role_of_device v = slice_index_or v.roles v.dev_number 0xffff
 
 -- what a device of this role is called
 abbrev pub role_word : ℕ → ℕ → List ℕ
@@ -28,12 +28,12 @@ abbrev pub bitmap_value : Superblock → Data
 bitmap_value v = if bit_and v.feature_map 1 == 0 then null else signed v.bitmap_offset
 
 -- where the log stands, from the superblock
-unfoldable pub log_fields : Superblock → List Field
-log_fields v = field (codes "offset") (signed v.bblog_offset) ∷ []
+unfoldable pub log_object_fields : Superblock → List Field
+log_object_fields v = field (codes "offset") (signed v.bblog_offset) ∷ []
 
 -- after how many entries it has room for
 abbrev pub log_object : Superblock → Data
-log_object v = object_of (field (codes "entries") (whole (64 * v.bblog_size)) ∷ log_fields v)
+log_object v = object_of (field (codes "entries") (whole (64 * v.bblog_size)) ∷ log_object_fields v)
 
 abbrev pub log_value : Superblock → Data
 log_value v = if has_bad_block_log v then log_object v else null
@@ -62,8 +62,8 @@ unfoldable pub device_fields : Superblock → List Field
 device_fields v =
     field (codes "recovery_offset") (recovery_value v)
     ∷ field (codes "device_number") (whole v.dev_number)
-    ∷ field (codes "device_role") (string (role_word (own_role v) v.raid_disks))
-    ∷ field (codes "role") (role_value (own_role v) v.raid_disks)
+    ∷ field (codes "device_role") (string (role_word (role_of_device v) v.raid_disks))
+    ∷ field (codes "role") (role_value (role_of_device v) v.raid_disks)
     ∷ field (codes "device_uuid") (string (hyphenated_text lower v.device_uuid))
     ∷ field (codes "device_flags") (whole v.devflags)
     ∷ []

@@ -5,7 +5,7 @@ ghost use Rattle.md_examine.specs.Sink.{PutsOrFails};
 ghost use Rattle.md_report.specs.SummaryReport.{in_sync_members};
 ghost use Rattle.md_json.specs.ArrayObjects.{condition_fields, detail_object, shared_fields, summary_fields, summary_object};
 ghost use Rattle.md_json.specs.MemberObjects.{texts_of};
-ghost use Rattle.md_json.specs.Objects.{later_text, line_of};
+ghost use Rattle.md_json.specs.Objects.{later_text, object_line};
 
 use crate::member_objects::members;
 use crate::values::{close, next_bool, next_cleanness, next_name, next_number, next_uuid, open};
@@ -23,7 +23,7 @@ pub fn summary_json<S: Sink, D: Device + Drop>(
     images: &[&str],
 ) -> Result<(), SinkFault>
     ensures { PutsOrFails S.contents S.failed out.old out.new
-        (line_of (summary_object mirror.now.array (texts_of images.now))) result }
+        (object_line (summary_object mirror.now.array (texts_of images.now))) result }
 {
     open(out, "assemble")?;
     summary(out, mirror)?;
@@ -40,10 +40,10 @@ pub fn detail_json<S: Sink, D: Device + Drop>(
     images: &[&str],
 ) -> Result<(), SinkFault>
     ensures { PutsOrFails S.contents S.failed out.old out.new
-        (line_of (detail_object mirror.now.array (texts_of images.now))) result }
+        (object_line (detail_object mirror.now.array (texts_of images.now))) result }
 {
     open(out, "detail")?;
-    shared(out, mirror.shared())?;
+    shared_fields(out, mirror.shared())?;
     condition(out, mirror)?;
     members(out, mirror, images)?;
     close(out)?;
@@ -61,7 +61,7 @@ fn summary<S: Sink, D: Device + Drop>(out: &mut S, mirror: &Mirror<D>) -> Result
     Ok(())
 }
 
-fn shared<S: Sink>(out: &mut S, v: &Superblock) -> Result<(), SinkFault>
+fn shared_fields<S: Sink>(out: &mut S, v: &Superblock) -> Result<(), SinkFault>
     ensures { PutsOrFails S.contents S.failed out.old out.new (later_text (shared_fields v.now)) result }
 {
     next_uuid(out, "array_uuid", &v.set_uuid)?;

@@ -3,7 +3,7 @@ ghost use Rattle.std.specs.Prelude.{◌≡◌, ◌++◌, codes, false};
 ghost use Rattle.serde_json.specs.Written.{comma_if, compact_text};
 ghost use Rattle.md_examine.specs.Sink.{PutsOrFails};
 ghost use Rattle.md_json.specs.BadblocksObject.{badblocks_object, list_fields, run_object};
-ghost use Rattle.md_json.specs.Objects.{elements_text, later_text, line_of};
+ghost use Rattle.md_json.specs.Objects.{elements_text, later_text, object_line};
 
 use crate::values::{close, comma_if, next_key, next_number, open, open_number};
 use md_badblocks::{BadSet, Run};
@@ -13,7 +13,7 @@ use md_examine::{Sink, SinkFault};
 /// memory, and fails only where the sink has failed.
 pub fn badblocks_json<S: Sink>(out: &mut S, bad: &BadSet) -> Result<(), SinkFault>
     ensures { PutsOrFails S.contents S.failed out.old out.new
-        (line_of (badblocks_object bad.now)) result }
+        (object_line (badblocks_object bad.now)) result }
 {
     open(out, "examine-badblocks")?;
     run_list(out, bad.runs())?;

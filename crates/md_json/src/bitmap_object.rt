@@ -2,7 +2,7 @@
 ghost use Rattle.std.specs.Prelude.{◌≡◌};
 ghost use Rattle.md_examine.specs.Sink.{PutsOrFails};
 ghost use Rattle.md_json.specs.BitmapObject.{bitmap_object, identity_fields, mark_fields, setting_fields};
-ghost use Rattle.md_json.specs.Objects.{later_text, line_of};
+ghost use Rattle.md_json.specs.Objects.{later_text, object_line};
 
 use crate::values::{close, next_number, next_text, next_uuid, open};
 use md_bitmap::{BitmapHeader, Marks};
@@ -18,12 +18,12 @@ pub fn bitmap_json<S: Sink>(
     marks: &Marks,
 ) -> Result<(), SinkFault>
     ensures { PutsOrFails S.contents S.failed out.old out.new
-        (line_of (bitmap_object header.now marks.now)) result }
+        (object_line (bitmap_object header.now marks.now)) result }
 {
     open(out, "examine-bitmap")?;
     identity(out, header)?;
     settings(out, header)?;
-    marked(out, marks)?;
+    marked_chunks(out, marks)?;
     close(out)?;
     Ok(())
 }
@@ -51,7 +51,7 @@ fn settings<S: Sink>(out: &mut S, header: &BitmapHeader) -> Result<(), SinkFault
     Ok(())
 }
 
-fn marked<S: Sink>(out: &mut S, marks: &Marks) -> Result<(), SinkFault>
+fn marked_chunks<S: Sink>(out: &mut S, marks: &Marks) -> Result<(), SinkFault>
     ensures { PutsOrFails S.contents S.failed out.old out.new
         (later_text (mark_fields marks.now)) result }
 {

@@ -5,9 +5,9 @@ ghost use Rattle.serde_json.specs.Written.{comma_if, compact_text};
 ghost use Rattle.md_examine.specs.Sink.{PutsOrFails};
 ghost use Rattle.md_bitmap.specs.Marks.{is_set};
 ghost use Rattle.md_json.specs.BadblocksObject.{run_object};
-ghost use Rattle.md_json.specs.CheckObject.{check_object, count_fields, range_fields, ranges_to, sectors_of};
+ghost use Rattle.md_json.specs.CheckObject.{check_object, count_fields, range_fields, ranges_to, run_of_chunk};
 ghost use Rattle.md_json.specs.MemberObjects.{texts_of};
-ghost use Rattle.md_json.specs.Objects.{elements_text, later_text, line_of};
+ghost use Rattle.md_json.specs.Objects.{elements_text, later_text, object_line};
 
 use crate::badblocks_object::run_element;
 use crate::member_objects::members;
@@ -28,17 +28,17 @@ pub fn check_json<S: Sink, D: Device + Drop>(
 ) -> Result<(), SinkFault>
     requires { set.now.chunks ≡ div_ceil mirror.now.array.chunks.size mirror.now.array.chunks.sectors }
     ensures { PutsOrFails S.contents S.failed out.old out.new
-        (line_of (check_object set.now mirror.now.array (texts_of images.now))) result }
+        (object_line (check_object set.now mirror.now.array (texts_of images.now))) result }
 {
     open(out, "check")?;
-    counted(out, set)?;
+    mismatch_counts(out, set)?;
     range_list(out, mirror.chunks(), set)?;
     members(out, mirror, images)?;
     close(out)?;
     Ok(())
 }
 
-fn counted<S: Sink>(out: &mut S, set: &Marks) -> Result<(), SinkFault>
+fn mismatch_counts<S: Sink>(out: &mut S, set: &Marks) -> Result<(), SinkFault>
     ensures { PutsOrFails S.contents S.failed out.old out.new (later_text (count_fields set.now)) result }
 {
     next_number(out, "mismatched_chunks", set.count())?;
@@ -88,7 +88,7 @@ fn element_where<S: Sink>(
 ) -> Result<(), SinkFault>
     requires { c < div_ceil chunks.size chunks.sectors }
     ensures { PutsOrFails S.contents S.failed out.old out.new
-        (if differs then (comma_if later ++ compact_text (run_object (sectors_of chunks c))) else []) result }
+        (if differs then (comma_if later ++ compact_text (run_object (run_of_chunk chunks c))) else []) result }
 {
     if !differs {
         return Ok(());
@@ -98,7 +98,7 @@ fn element_where<S: Sink>(
 
 fn sectors_of(chunks: Chunks, c: u32) -> Run
     requires { c < div_ceil chunks.size chunks.sectors }
-    ensures { result ≡ sectors_of chunks c }
+    ensures { result ≡ run_of_chunk chunks c }
 {
     let (start, len) = chunks.range(c);
     Run { start, len }

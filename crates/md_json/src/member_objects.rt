@@ -10,7 +10,7 @@ ghost use Rattle.md_json.specs.ArrayObjects.{members_fields};
 ghost use Rattle.md_json.specs.MemberObjects.{image_value, member_object, member_texts, number_or_null, texts_of, word_or_null};
 ghost use Rattle.md_json.specs.Objects.{key_text, later_text, next_text};
 
-use crate::quoting::quoted;
+use crate::quoting::put_quoted;
 use crate::values::{comma_if, key, next_bool, next_key, next_null, next_number, next_text};
 use md_array::Mirror;
 use md_assembly::MemberState;
@@ -128,7 +128,7 @@ fn word_or_null<S: Sink>(out: &mut S, word: Option<&str>) -> Result<(), SinkFaul
     ensures { PutsOrFails S.contents S.failed out.old out.new (compact_text (word_or_null word.entry)) result }
 {
     match word {
-        Some(word) => quoted(out, word.as_bytes()),
+        Some(word) => put_quoted(out, word.as_bytes()),
         None => out.put(b"null"),
     }
 }

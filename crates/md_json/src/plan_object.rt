@@ -3,7 +3,7 @@ ghost use Rattle.std.specs.Prelude.{◌≡◌, ◌++◌, codes, decimal, false};
 ghost use Rattle.serde_json.specs.Written.{comma_if, compact_text};
 ghost use Rattle.md_examine.specs.Sink.{PutsOrFails};
 ghost use Rattle.md_json.specs.MemberObjects.{texts_of};
-ghost use Rattle.md_json.specs.Objects.{elements_text, later_text, line_of, list_of, next_text, whole};
+ghost use Rattle.md_json.specs.Objects.{elements_text, later_text, object_line, list_of, next_text, whole};
 ghost use Rattle.md_json.specs.PlanObject.{certificate_object, certificate_value, plan_fields, plan_object, slot_object};
 
 use crate::member_objects::members;
@@ -25,16 +25,16 @@ pub fn plan_json<S: Sink, D: Device + Drop>(
     images: &[&str],
 ) -> Result<(), SinkFault>
     ensures { PutsOrFails S.contents S.failed out.old out.new
-        (line_of (plan_object plan.now certificate.now orphans.now mirror.now.array (texts_of images.now))) result }
+        (object_line (plan_object plan.now certificate.now orphans.now mirror.now.array (texts_of images.now))) result }
 {
     open(out, "plan")?;
-    planned(out, plan, certificate, orphans)?;
+    plan_fields(out, plan, certificate, orphans)?;
     members(out, mirror, images)?;
     close(out)?;
     Ok(())
 }
 
-fn planned<S: Sink>(
+fn plan_fields<S: Sink>(
     out: &mut S,
     plan: &Plan,
     certificate: &Certificate,

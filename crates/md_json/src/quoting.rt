@@ -9,16 +9,16 @@ use md_examine::{Sink, SinkFault};
 
 /// A text in quotes. Bytes above 127 stand as they are: text is UTF-8.
 #[tactic(auto, using(md_examine::proofs::Puts::puts_then))]
-pub(crate) fn quoted<S: Sink>(out: &mut S, text: &[u8]) -> Result<(), SinkFault>
+pub(crate) fn put_quoted<S: Sink>(out: &mut S, text: &[u8]) -> Result<(), SinkFault>
     ensures { PutsOrFails S.contents S.failed out.old out.new (quoted text.now) result }
 {
     out.put(b"\"")?;
-    escaped(out, text)?;
+    put_escaped(out, text)?;
     out.put(b"\"")?;
     Ok(())
 }
 
-fn escaped<S: Sink>(out: &mut S, text: &[u8]) -> Result<(), SinkFault>
+fn put_escaped<S: Sink>(out: &mut S, text: &[u8]) -> Result<(), SinkFault>
     ensures { PutsOrFails S.contents S.failed out.old out.new (flat_map escape_byte text.now) result }
 {
     for byte in text {

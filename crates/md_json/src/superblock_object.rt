@@ -5,8 +5,8 @@ ghost use Rattle.serde_json.specs.Written.{compact_text};
 ghost use Rattle.md_examine.specs.Lines.{hex8_text};
 ghost use Rattle.md_examine.specs.Sink.{PutsOrFails};
 ghost use Rattle.md_examine.specs.SuperblockReport.{array_state};
-ghost use Rattle.md_json.specs.Objects.{later_text, line_of, next_text, signed};
-ghost use Rattle.md_json.specs.SuperblockObject.{array_fields, bitmap_value, device_fields, log_object, log_value, own_role, place_fields, recovery_value, role_value, role_word, size_fields, state_fields, superblock_object};
+ghost use Rattle.md_json.specs.Objects.{later_text, object_line, next_text, signed};
+ghost use Rattle.md_json.specs.SuperblockObject.{array_fields, bitmap_value, device_fields, log_object, log_value, role_of_device, place_fields, recovery_value, role_value, role_word, size_fields, state_fields, superblock_object};
 
 use crate::values::{
     close, next_cleanness, next_key, next_name, next_null, next_number, next_signed, next_text,
@@ -22,7 +22,7 @@ const SECONDS: u64 = 1 << 40;
 /// sink has failed.
 pub fn superblock_json<S: Sink>(out: &mut S, v: &Superblock) -> Result<(), SinkFault>
     ensures { PutsOrFails S.contents S.failed out.old out.new
-        (line_of (superblock_object v.now)) result }
+        (object_line (superblock_object v.now)) result }
 {
     open(out, "examine")?;
     array(out, v)?;
@@ -109,13 +109,13 @@ fn checksum<S: Sink>(out: &mut S, v: &Superblock) -> Result<(), SinkFault>
 
 fn device_role<S: Sink>(out: &mut S, v: &Superblock) -> Result<(), SinkFault>
     ensures { PutsOrFails S.contents S.failed out.old out.new
-        (next_text (codes "device_role") (quoted (role_word (own_role v.now) v.now.raid_disks))) result }
+        (next_text (codes "device_role") (quoted (role_word (role_of_device v.now) v.now.raid_disks))) result }
 {
     next_text(out, "device_role", role_word(v).as_bytes())
 }
 
 fn role_word(v: &Superblock) -> &'static str
-    ensures { result.now ≡ role_word (own_role v.now) v.now.raid_disks }
+    ensures { result.now ≡ role_word (role_of_device v.now) v.now.raid_disks }
 {
     let role = v.role_of(v.dev_number);
     if role == FAULTY {
@@ -129,7 +129,7 @@ fn role_word(v: &Superblock) -> &'static str
 
 fn role<S: Sink>(out: &mut S, v: &Superblock) -> Result<(), SinkFault>
     ensures { PutsOrFails S.contents S.failed out.old out.new
-        (next_text (codes "role") (compact_text (role_value (own_role v.now) v.now.raid_disks))) result }
+        (next_text (codes "role") (compact_text (role_value (role_of_device v.now) v.now.raid_disks))) result }
 {
     let role = v.role_of(v.dev_number);
     if u32::from(role) < v.raid_disks {

@@ -10,7 +10,7 @@ ghost use Rattle.md_examine.specs.Sink.{PutsOrFails};
 ghost use Rattle.md_examine.specs.SuperblockReport.{state_text};
 ghost use Rattle.md_json.specs.Objects.{close_text, key_text, next_text, open_text, signed};
 
-use crate::quoting::quoted;
+use crate::quoting::put_quoted;
 use itoa::{Buffer, Integer};
 use md_examine::{Sink, SinkFault, cleanness, name_len, shown_bytes};
 use md_super::Superblock;
@@ -23,7 +23,7 @@ pub(crate) fn open<S: Sink>(out: &mut S, kind: &str) -> Result<(), SinkFault>
 {
     out.put(b"{")?;
     key(out, "report")?;
-    quoted(out, kind.as_bytes())?;
+    put_quoted(out, kind.as_bytes())?;
     Ok(())
 }
 
@@ -39,7 +39,7 @@ pub(crate) fn close<S: Sink>(out: &mut S) -> Result<(), SinkFault>
 pub(crate) fn key<S: Sink>(out: &mut S, name: &str) -> Result<(), SinkFault>
     ensures { PutsOrFails S.contents S.failed out.old out.new (key_text name.now) result }
 {
-    quoted(out, name.as_bytes())?;
+    put_quoted(out, name.as_bytes())?;
     out.put(b":")?;
     Ok(())
 }
@@ -71,7 +71,7 @@ pub(crate) fn next_text<S: Sink>(out: &mut S, name: &str, text: &[u8]) -> Result
         (next_text name.now (quoted text.now)) result }
 {
     next_key(out, name)?;
-    quoted(out, text)?;
+    put_quoted(out, text)?;
     Ok(())
 }
 

@@ -106,7 +106,7 @@ logged_superblock list v = record v {
 
 -- ---- what is kept of it
 -- a bitmap has the same marks as another, and none past the last chunk
-pub record HasMarksOf (marks stored : Bitmap) : Type 0 where
+pub record HasEqualMarks (marks stored : Bitmap) : Type 0 where
   pub chunks : stored.chunks ≡ marks.chunks
   pub bits : (c : ℕ) → c < marks.chunks → is_set stored.bytes c ≡ is_set marks.bytes c
   pub none_past : (c : ℕ) → marks.chunks ≤ c → is_set stored.bytes c ≡ false
@@ -115,7 +115,7 @@ pub record HasMarksOf (marks stored : Bitmap) : Type 0 where
 pub record ComesIntoSync (role : ℕ) (list : List Run) (marks : Bitmap) (m n : MemberView) : Type 0 where
   pub superblock : n.superblock ≡ in_sync_superblock list m.superblock
   pub header : n.header ≡ m.header
-  pub stored : HasMarksOf marks n.stored
+  pub stored : HasEqualMarks marks n.stored
   pub bad : n.bad ≡ list
   pub state : n.state ≡ InSync role
   pub due : n.due ≡ false

@@ -33,7 +33,7 @@ own_role v = role_in v v.dev_number
 
 -- What is kept of it: its bitmap and its log as they were read, and of its superblock what is written next. That is what is done
 -- first, so that its superblock is not due.
-pub record IsTakenBack (offset : ℕ) (info : MemberInfo) (m : MemberView) : Type 0 where
+pub record IsKeptTakenBack (offset : ℕ) (info : MemberInfo) (m : MemberView) : Type 0 where
   pub superblock : m.superblock ≡ recovering offset (kept_superblock info)
   pub header : info.header ≡ Some m.header
   pub stored : info.marks ≡ Some m.stored
@@ -48,5 +48,5 @@ abbrev pub admitted_member : ℕ → MemberView → MemberView
 admitted_member role m = record m { superblock = recovering 0 m.superblock; state = Recovering role; due = false }
 
 -- A member is rebuilt up to this sector, and its superblock says so, with RECOVERY_OFFSET as it is kept.
-abbrev pub with_offset : ℕ → MemberView → MemberView
-with_offset offset m = record m { superblock = record m.superblock { recovery_offset = offset } }
+abbrev pub with_recovery_offset : ℕ → MemberView → MemberView
+with_recovery_offset offset m = record m { superblock = record m.superblock { recovery_offset = offset } }

@@ -1,6 +1,6 @@
 // What is kept in memory of a member that was rebuilt, and comes into sync.
 ghost use Rattle.std.specs.Prelude.{◌≡◌, IfOk};
-ghost use Rattle.md_kept_members.specs.Enrolling.{ComesIntoSync, HasMarksOf, in_sync_superblock};
+ghost use Rattle.md_kept_members.specs.Enrolling.{ComesIntoSync, HasEqualMarks, in_sync_superblock};
 
 use crate::member::Member;
 use crate::own_fields::with_list;
@@ -33,7 +33,7 @@ pub fn in_sync(
 
 // Marks of the same chunks as these. No bit past the last is set.
 fn same_marks(alloc: Global, marks: &Marks) -> Result<Marks, AllocError>
-    ensures { IfOk result (HasMarksOf marks.now) }
+    ensures { IfOk result (HasEqualMarks marks.now) }
 {
     let mut same = Marks::none(alloc, marks.chunks())?;
     same.unite(marks);

@@ -1,8 +1,8 @@
 // The bitmap of the freshest member.
 ghost use Rattle.std.specs.Prelude.{◌<◌, length};
 ghost use Rattle.md_super.specs.declared.superblock.Superblock.{Superblock};
-ghost use Rattle.md_assembly.specs.Assembled.{IsFreshest};
-ghost use Rattle.md_kept_members.specs.Spares.{IsOfFreshest, superblocks};
+ghost use Rattle.md_assembly.specs.Assembled.{IsFirstFreshest};
+ghost use Rattle.md_kept_members.specs.Spares.{IsOfFreshest, superblocks_kept};
 
 use crate::member::Member;
 use md_bitmap::BitmapHeader;
@@ -21,7 +21,7 @@ pub fn freshest_header(members: &[Member]) -> BitmapHeader
 fn freshest_of(members: &[Member]) -> usize
     requires some { 0 < length members.now }
     ensures within { result < length members.now }
-    ensures freshest { (v : Superblock) × IsFreshest (superblocks members.now) result v }
+    ensures freshest { (v : Superblock) × IsFirstFreshest (superblocks_kept members.now) result v }
 {
     let mut freshest = 0;
     for (i, member) in members.iter().enumerate() {

@@ -1,7 +1,7 @@
 // How far members are rebuilt.
 ghost use Rattle.std.specs.Prelude.{◌≡◌, IfOk, map};
 ghost use Rattle.md_kept_members.specs.Kept.{known_offset, with_known_offset};
-ghost use Rattle.md_kept_members.specs.TakingBack.{admitted_member, recovering, with_offset};
+ghost use Rattle.md_kept_members.specs.TakingBack.{admitted_member, recovering, with_recovery_offset};
 
 use crate::member::Member;
 use crate::taking_back::recovering;
@@ -34,7 +34,7 @@ fn set_offset(own: &mut Superblock, offset: u64)
 /// The member has another offset. It gives the one that it had.
 pub fn with_offset(member: &mut Member, offset: u64) -> u64
     ensures had { result ≡ member.old.superblock.recovery_offset }
-    ensures has { member.new ≡ with_offset offset member.old }
+    ensures has { member.new ≡ with_recovery_offset offset member.old }
 {
     let had = member.superblock.recovery_offset;
     set_offset(&mut member.superblock, offset);

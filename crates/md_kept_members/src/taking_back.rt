@@ -1,7 +1,7 @@
 // What is kept in memory of a device that left, and is taken back.
 ghost use Rattle.std.specs.Prelude.{◌≡◌};
 ghost use Rattle.md_kept_members.specs.Remembering.{IsWhole};
-ghost use Rattle.md_kept_members.specs.TakingBack.{IsTakenBack, recovering};
+ghost use Rattle.md_kept_members.specs.TakingBack.{IsKeptTakenBack, recovering};
 
 use crate::member::Member;
 use crate::own_fields::stored_next;
@@ -13,7 +13,7 @@ use md_super::{FEATURE_RECOVERY_OFFSET, Superblock};
 /// Its superblock is to have this offset.
 pub fn taken_back(info: MemberInfo, offset: u64) -> Member
     requires { IsWhole info }
-    ensures { IsTakenBack offset info result }
+    ensures { IsKeptTakenBack offset info result }
 {
     let MemberInfo {
         superblock,

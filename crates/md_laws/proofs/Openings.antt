@@ -1,4 +1,4 @@
--- What an opening makes of devices: the world that a run starts from, also after a stop and after an interrupted open.
+-- What an opening makes of devices: the world that a run starts from, also after a crash and after an interrupted open.
 
 -- The writes of a bitmap stay in its area, also where one of them fails.
 pub mod BitmapArea
@@ -16,5 +16,5 @@ pub mod Opened
 pub mod OpenedFrom
 -- The members of the world, and the superblock that it goes by.
 pub mod Present
--- What the fields of the next array read of the devices that a stop left is what those of the mirror before read.
+-- What the fields of the next array read of the devices that a crash left is what those of the mirror before read.
 pub mod Reopened

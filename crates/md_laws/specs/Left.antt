@@ -1,4 +1,4 @@
--- What a stop leaves of a mirror's devices: it comes between two calls or within one, of which its own contract says what may be
+-- What a crash leaves of a mirror's devices: it comes between two calls or within one, of which its own contract says what may be
 -- left (`MayAllBeLeft`).
 use Rattle.std.specs.Prelude.{◌≡◌, ◌⊎◌, ℕ, ◌%◌, ◌<◌, Bool, true, false, List, [], ◌∷◌, ◌++◌, length, map, Option, slice_get, Some, None}
 use Rattle.std.proofs.Common.{inl, inr}
@@ -27,8 +27,8 @@ use Rattle.md_array.specs.Recording.{FailsToRecord, HaltsRecording, Records, sup
 use Rattle.md_array.specs.RecordingTarget.{LeavesUnrecorded}
 use Rattle.md_array.specs.Worlds.{AreHonest, block_on, super_in}
 use Rattle.md_laws.specs.Runs.{Moment}
-use Rattle.md_laws.specs.StopsReadAs.{EndsInFirstSector, ReadsAs, TellsTarget}
-use Rattle.md_laws.specs.StopsWithin.{MayAllBeLeft}
+use Rattle.md_laws.specs.ReadAfterCrashes.{EndsInFirstSector, ReadsAs, AdmitsOrCheckpoints}
+use Rattle.md_laws.specs.CrashesWithin.{MayAllBeLeft}
 
 -- Of devices that were left what stands on them counts, and no more.
 abbrev pub contents_of : List Disk → List (List ℕ)
@@ -81,7 +81,7 @@ pub record IsLeftStoring (t : Moment) (left : List Disk) : Type 0 where
   pub within : IsLeftWithin t next left
 
 -- What is left while the devices are lent to a rebuild of one member, which writes its data in chunks that it
--- lacks. The rebuild's contract says what the devices are when they come back, and what a stop leaves until
+-- lacks. The rebuild's contract says what the devices are when they come back, and what a crash leaves until
 -- then.
 pub record IsLeftFilling (t : Moment) (left : List Disk) : Type 0 where
   pub on : ℕ
@@ -156,20 +156,20 @@ pub record IsLeftTargeting (t : Moment) (left : List Disk) : Type 0 where
 pub record IsLeftTargeted (t : Moment) (left : List Disk) : Type 0 where
   pub on : ℕ
   pub before : MirrorView
-  pub call : TellsTarget on before t.mirror
+  pub call : AdmitsOrCheckpoints on before t.mirror
   pub honest : AreHonest before.disks
   pub within : MayAllBeLeft before.disks t.mirror.disks (contents_of left)
   pub reads : AtDevice on t.mirror.disks left (λ now e. ReadsAs (block_on e.content) (block_on now.content))
 
--- What a stop leaves at t, or within a call from t. A call that is refused, and one that only changes memory (`begin`, `finish`,
--- `clear_idle`, `make_clean`, `note_resynced`, `fail`), leave what was there (`stops_at_steps`); so does `remove`, and after it the
+-- What a crash leaves at t, or within a call from t. A call that is refused, and one that only changes memory (`begin`, `finish`,
+-- `clear_idle`, `make_clean`, `note_resynced`, `fail`), leave what was there (`crashes_at_steps`); so does `remove`, and after it the
 -- device that it handed back is none of these. So do `re_add` and `add`, and until they are done the device that comes in or comes
--- back is none of these. A stop within them that leaves it as it is after the call is one at the moment after the event, and so is
+-- back is none of these. A crash within them that leaves it as it is after the call is one at the moment after the event, and so is
 -- one that leaves a device that comes back with a superblock that reads as after it. One within a call by which a member that is rebuilt
--- tells of it, and that left some other superblock, is one after `SpoilTarget` (`stops_at_steps`, clauses `as_spoiled`,
+-- tells of it, and that left some other superblock, is one after `SpoilTarget` (`crashes_at_steps`, clauses `as_spoiled`,
 -- `enrol_as_spoiled` and `failed_enrol_as_spoiled`).
-abbrev pub IsLeft : Moment → List Disk → Type 0
-IsLeft t left =
+abbrev pub IsLeftByCrash : Moment → List Disk → Type 0
+IsLeftByCrash t left =
     (contents_of left ≡ contents_of t.mirror.disks)
     ⊎ (IsLeftStoring t left
     ⊎ (IsLeftWriting t left
@@ -178,7 +178,7 @@ IsLeft t left =
     ⊎ (IsLeftEnrolled t left ⊎ (IsLeftTargeting t left ⊎ IsLeftTargeted t left))))))))))
 
 -- The bitmap and the log of member k were being stored, before its superblock.
-abbrev pub IsStoring : (t : Moment) (left : List Disk) → IsLeft t left → ℕ → Type 0
-IsStoring t left (inr (inr (inr (inr (inr (inr (inr (inl l)))))))) k = l.on ≡ k
-IsStoring t left (inr (inr (inr (inr (inr (inr (inr (inr (inl l))))))))) k = l.on ≡ k
-IsStoring t left is k = ⊥
+abbrev pub IsStoringOwn : (t : Moment) (left : List Disk) → IsLeftByCrash t left → ℕ → Type 0
+IsStoringOwn t left (inr (inr (inr (inr (inr (inr (inr (inl l)))))))) k = l.on ≡ k
+IsStoringOwn t left (inr (inr (inr (inr (inr (inr (inr (inr (inl l))))))))) k = l.on ≡ k
+IsStoringOwn t left is k = ⊥

@@ -16,7 +16,7 @@ use Rattle.md_state.specs.Members.{IsInSync, IsMember, is_degraded}
 use Rattle.md_state.specs.View.{Disk, MirrorView, geometry_of}
 use Rattle.md_array.specs.ReAdding.{ReAdds, re_add_event}
 use Rattle.md_array.specs.ReadAsKept.{IsSuperOn}
-use Rattle.md_array.specs.Worlds.{from_super, none_in_flight, stored_of, world_of}
+use Rattle.md_array.specs.Worlds.{sector_from_super, none_in_flight, stored_of, world_of}
 use Rattle.md_laws.specs.Lives.{IsReopened, MirrorLifeWith}
 use Rattle.md_laws.specs.Runs.{HasRested, IsStart, Moment, RestsThenDoes, opened_as, then_as}
 
@@ -27,8 +27,8 @@ DegradedRunWith t a (e ∷ es) last b =
     (m : MirrorView) × (requests : ℕ → Option Request) × (c : Content) × (is_degraded t.mirror.array ≡ true) × RestsThenDoes t.mirror t.requests e m requests
     × Becomes (geometry_of t.mirror.array) e (world_of t.mirror t.requests) a c × DegradedRunWith (then_as t e m requests) c es last b
 
--- A life from any moment on, in which some role has no member in sync before each event and at each stop. It
--- has events, a stop and an opening, events again, and so on. The opening before gave the mirror opened, and
+-- A life from any moment on, in which some role has no member in sync before each event and at each crash. It
+-- has events, a crash and an opening, events again, and so on. The opening before gave the mirror opened, and
 -- the last one the mirror final.
 abbrev pub DegradedLifeWith : MirrorView → Moment → Content → List Event → List (List Event) → MirrorView → Moment → Content → Type 0
 DegradedLifeWith opened t a es [] final last b = (final ≡ opened) × DegradedRunWith t a es last b
@@ -37,7 +37,7 @@ DegradedLifeWith opened t a es (more ∷ rest) final last b =
     × BecomesAtOpening (geometry_of next.array) (world_of next none_in_flight) c d × DegradedLifeWith next (opened_as next) d more rest final last b
 
 -- member k, which is in sync, fails, by a call or by a write to it
-pub record Fails (t : Moment) (k : ℕ) : Type 0 where
+pub record MemberFails (t : Moment) (k : ℕ) : Type 0 where
   pub member : MemberView
   pub in_sync : IsInSync t.mirror.array k member
   pub event : Event
@@ -46,7 +46,7 @@ pub record Fails (t : Moment) (k : ℕ) : Type 0 where
   pub requests : ℕ → Option Request
   pub does : RestsThenDoes t.mirror t.requests event mirror requests
 
-abbrev pub failed_then : (t : Moment) (k : ℕ) → Fails t k → Moment
+abbrev pub failed_then : (t : Moment) (k : ℕ) → MemberFails t k → Moment
 failed_then t k f = then_as t f.event f.mirror f.requests
 
 -- A member that was in sync fails at any moment of a mirror's life. As long as some role stays empty after
@@ -58,20 +58,20 @@ abbrev pub LiesBehind : Type 0
 LiesBehind =
     (before : List Disk) (m : MirrorView) (a : Content) → IsStart before m → Holds (geometry_of m.array) a (world_of m none_in_flight)
     → (es : List Event) (rest : List (List Event)) (final : MirrorView) (t : Moment) (b : Content) → MirrorLifeWith m a es rest final t b
-    → (k : ℕ) (f : Fails t k)
+    → (k : ℕ) (f : MemberFails t k)
     → (more : List Event) (others : List (List Event)) (newest : MirrorView) (last : Moment) (c : Content)
     → DegradedLifeWith final (failed_then t k f) b more others newest last c
     → IsBehind (geometry_of m.array) c ((world_of f.mirror f.requests).stored k) (world_of last.mirror last.requests)
 
 -- member k, which is in sync, fails because its log could not be stored
-pub record FailsWithLog (t : Moment) (k : ℕ) : Type 0 where
+pub record MemberFailsWithLog (t : Moment) (k : ℕ) : Type 0 where
   pub member : MemberView
   pub in_sync : IsInSync t.mirror.array k member
   pub mirror : MirrorView
   pub requests : ℕ → Option Request
   pub does : RestsThenDoes t.mirror t.requests (Event.WriteFails k MemberPart.Log) mirror requests
 
-abbrev pub log_failed_then : (t : Moment) (k : ℕ) → FailsWithLog t k → Moment
+abbrev pub log_failed_then : (t : Moment) (k : ℕ) → MemberFailsWithLog t k → Moment
 log_failed_then t k f = then_as t (Event.WriteFails k MemberPart.Log) f.mirror f.requests
 
 -- A member that failed because its log could not be stored may have any log. Its device lies behind the
@@ -81,14 +81,14 @@ abbrev pub LogLiesBehind : Type 0
 LogLiesBehind =
     (before : List Disk) (m : MirrorView) (a : Content) → IsStart before m → Holds (geometry_of m.array) a (world_of m none_in_flight)
     → (es : List Event) (rest : List (List Event)) (final : MirrorView) (t : Moment) (b : Content) → MirrorLifeWith m a es rest final t b
-    → (k : ℕ) (f : FailsWithLog t k) (device : Stored)
+    → (k : ℕ) (f : MemberFailsWithLog t k) (device : Stored)
     → ((s : ℕ) → s < m.array.chunks.size → device.content s ≡ ((world_of f.mirror f.requests).stored k).content s)
     → ((s : ℕ) → s < m.array.chunks.size → device.listed s ≡ false → ((world_of t.mirror t.requests).stored k).listed s ≡ false)
     → (more : List Event) (others : List (List Event)) (newest : MirrorView) (last : Moment) (c : Content)
     → DegradedLifeWith final (log_failed_then t k f) b more others newest last c
     → IsBehind (geometry_of m.array) c device (world_of last.mirror last.requests)
 
--- Member k, in sync at t, as a stop left it on this device, which has a superblock. The next opening, which gave the mirror next, may have
+-- Member k, in sync at t, as a crash left it on this device, which has a superblock. The next opening, which gave the mirror next, may have
 -- left it out (a pulled cable), or have found it out of sync.
 pub record IsLeftOut (opened : MirrorView) (t : Moment) (k : ℕ) (next : MirrorView) : Type 0 where
   pub member : MemberView
@@ -99,8 +99,8 @@ pub record IsLeftOut (opened : MirrorView) (t : Moment) (k : ℕ) (next : Mirror
   pub superblock : Superblock
   pub has : IsSuperOn device.content superblock
 
--- A member that was in sync at a stop lies behind the content by what is marked, as the stop left it: from
--- the next opening on, as long as some role has no member in sync. The stop may come within a call or between
+-- A member that was in sync at a crash lies behind the content by what is marked, as the crash left it: from
+-- the next opening on, as long as some role has no member in sync. The crash may come within a call or between
 -- two, at any moment of a mirror's life.
 abbrev pub MissingLiesBehind : Type 0
 MissingLiesBehind =
@@ -114,7 +114,7 @@ MissingLiesBehind =
 -- ---- it is taken back
 -- A device is still as it was left, but for its bitmap, which openings that were stopped may have written.
 abbrev pub IsStill : MemberView → List ℕ → List ℕ → Type 0
-IsStill m left now = SameOutside (512 * from_super m.superblock.bitmap_offset) (512 * bitmap_sectors m.stored.chunks) left now
+IsStill m left now = SameOutside (512 * sector_from_super m.superblock.bitmap_offset) (512 * bitmap_sectors m.stored.chunks) left now
 
 -- Where a device that is still as it was left is taken back, the event is told (`JoinsBehind`): the device
 -- lies behind the content by what is marked, or its offset is 0, so that it lacks every chunk. The chunks
@@ -129,12 +129,12 @@ abbrev pub FailedJoins : Type 0
 FailedJoins =
     (before : List Disk) (m : MirrorView) (a : Content) → IsStart before m → Holds (geometry_of m.array) a (world_of m none_in_flight)
     → (es : List Event) (rest : List (List Event)) (final : MirrorView) (t : Moment) (b : Content) → MirrorLifeWith m a es rest final t b
-    → (k : ℕ) (f : Fails t k) (o : MemberView) (d : Disk) → IsMember f.mirror.array k o → slice_get f.mirror.disks k ≡ Some d
+    → (k : ℕ) (f : MemberFails t k) (o : MemberView) (d : Disk) → IsMember f.mirror.array k o → slice_get f.mirror.disks k ≡ Some d
     → (more : List Event) (others : List (List Event)) (newest : MirrorView) (last : Moment) (c : Content)
     → DegradedLifeWith final (failed_then t k f) b more others newest last c
     → JoinsAsLeft (geometry_of m.array) o d.content last c
 
--- A member that was in sync at a stop, as the stop left it, joins as one that lies behind by what is marked.
+-- A member that was in sync at a crash, as the crash left it, joins as one that lies behind by what is marked.
 abbrev pub MissingJoins : Type 0
 MissingJoins =
     (before : List Disk) (m : MirrorView) (a : Content) → IsStart before m → Holds (geometry_of m.array) a (world_of m none_in_flight)
@@ -150,7 +150,7 @@ abbrev pub LogJoins : Type 0
 LogJoins =
     (before : List Disk) (m : MirrorView) (a : Content) → IsStart before m → Holds (geometry_of m.array) a (world_of m none_in_flight)
     → (es : List Event) (rest : List (List Event)) (final : MirrorView) (t : Moment) (b : Content) → MirrorLifeWith m a es rest final t b
-    → (k : ℕ) (f : FailsWithLog t k) (o : MemberView) (d : Disk) → IsMember f.mirror.array k o → slice_get f.mirror.disks k ≡ Some d
+    → (k : ℕ) (f : MemberFailsWithLog t k) (o : MemberView) (d : Disk) → IsMember f.mirror.array k o → slice_get f.mirror.disks k ≡ Some d
     → (more : List Event) (others : List (List Event)) (newest : MirrorView) (last : Moment) (c : Content)
     → DegradedLifeWith final (log_failed_then t k f) b more others newest last c
     → (j : ℕ) (device : Disk) (new : MirrorView) (r : ReAdds j device last.mirror new) → device.honest ≡ true → IsStill o d.content device.content

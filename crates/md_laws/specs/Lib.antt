@@ -8,26 +8,26 @@ pub mod WholeCalls
 -- Whole calls that read devices: the events that such a call does, one after another, with reads before each and after the
 -- last.
 pub mod ReadInTurn
--- One opening of a mirror's devices after another: runs, each but the last ended by a stop, and what the next mirror is made
+-- One opening of a mirror's devices after another: runs, each but the last ended by a crash, and what the next mirror is made
 -- of.
 pub mod Lives
 -- Devices that an opening left out, and that come back at the next one before any data was let through: they may be found in
 -- sync, and then another life begins.
 pub mod Returning
--- What a stop leaves of a mirror's devices: it comes between two calls or within one, of which its own contract says what may
+-- What a crash leaves of a mirror's devices: it comes between two calls or within one, of which its own contract says what may
 -- be left (`MayAllBeLeft`).
 pub mod Left
--- What a stop within a call leaves of a mirror's devices.
-pub mod StopsWithin
+-- What a crash within a call leaves of a mirror's devices.
+pub mod CrashesWithin
 -- What it leaves of a device that comes in or comes back, where the superblocks end within their first sectors.
-pub mod StopsReadAs
--- What a stop leaves within a call by which a member that is rebuilt tells of it.
+pub mod ReadAfterCrashes
+-- What a crash leaves within a call by which a member that is rebuilt tells of it.
 pub mod Spoiled
--- What a stop leaves within the copy of a run of sectors.
-pub mod StoppedCopies
--- What a stop leaves within a whole call.
-pub mod StoppedCalls
--- What a stop leaves within a write that halts the mirror.
+-- What a crash leaves within the copy of a run of sectors.
+pub mod CopyCrashes
+-- What a crash leaves within a whole call.
+pub mod CallCrashes
+-- What a crash leaves within a write that halts the mirror.
 pub mod HaltedWrites
 -- A life of a mirror of one member: what the laws on lives ask can be met.
 pub mod SmallLife

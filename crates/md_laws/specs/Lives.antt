@@ -1,4 +1,4 @@
--- One opening of a mirror's devices after another: runs, each but the last ended by a stop, and what the next mirror is made of.
+-- One opening of a mirror's devices after another: runs, each but the last ended by a crash, and what the next mirror is made of.
 use Rattle.std.specs.Prelude.{◌≡◌, ◌⊎◌, ℕ, ◌+◌, ◌*◌, ◌<◌, ◌≤◌, true, false, List, [], ◌∷◌, length, Option, slice_get, Some, None}
 use Rattle.md_model.specs.Sectors.{Geometry, chunk_of}
 use Rattle.md_device.specs.Splice.{SameOutside}
@@ -10,22 +10,22 @@ use Rattle.md_model.specs.Events.{Event}
 use Rattle.md_model.specs.Fits.{HasOneView}
 use Rattle.md_model.specs.Content.{Content, BecomesAtOpening, Holds}
 use Rattle.md_model.specs.Runs.{History}
-use Rattle.md_model.specs.Stops.{IsFit}
+use Rattle.md_model.specs.Crashes.{IsFit}
 use Rattle.md_kept_members.specs.View.{MemberView}
 use Rattle.md_state.specs.View.{ArrayView, Disk, MirrorView, geometry_of}
 use Rattle.md_state.specs.Members.{IsInSync, IsMember}
 use Rattle.md_state.specs.Missing.{is_rebuilt}
 use Rattle.md_array.specs.Opening.{IsArrayOf, IsOpenedFrom}
 use Rattle.md_array.specs.ReadAsKept.{AreReadAsKept, HasWidth, IsSuperOn, chunk_size_on}
-use Rattle.md_array.specs.Worlds.{AreHonest, from_super, none_in_flight, stored_of, super_of, world_of}
+use Rattle.md_array.specs.Worlds.{AreHonest, sector_from_super, none_in_flight, stored_of, super_of, world_of}
 use Rattle.md_laws.specs.HalfOpened.{IsHalfOpened}
-use Rattle.md_laws.specs.Left.{IsLeft, IsLeftWriting}
+use Rattle.md_laws.specs.Left.{IsLeftByCrash, IsLeftWriting}
 use Rattle.md_laws.specs.Runs.{IsStart, MirrorRun, MirrorRunTellsEnrolments, MirrorRunWith, Moment, history_of, opened_as}
 
 -- A device is as it was left; but openings that were themselves stopped may have written its bitmap. Then no chunk lost its
 -- mark, and the header has the chunk size that it had.
 pub record IsAsLeft (a : ArrayView) (m : MemberView) (left now : List ℕ) : Type 0 where
-  pub outside : SameOutside (512 * from_super m.superblock.bitmap_offset) (512 * bitmap_sectors m.stored.chunks) left now
+  pub outside : SameOutside (512 * sector_from_super m.superblock.bitmap_offset) (512 * bitmap_sectors m.stored.chunks) left now
   pub chunk_size : chunk_size_on m.superblock now ≡ chunk_size_on m.superblock left
   pub marks : (s : ℕ) → s < a.chunks.size → is_marked (stored_of a m now) (chunk_of (geometry_of a) s) ≡ false → is_marked (stored_of a m left) (chunk_of (geometry_of a) s) ≡ false
 
@@ -39,7 +39,7 @@ pub record IsFoundAgain (a : ArrayView) (left now : List Disk) (k j : ℕ) : Typ
   pub at_now : slice_get now j ≡ Some disk_now
   pub as_left : IsAsLeft a member disk_left.content disk_now.content
 
--- a member that was in sync at the stop is there
+-- a member that was in sync at the crash is there
 pub record IsThereInSync (t : Moment) (at : ℕ → Option ℕ) : Type 0 where
   pub device : ℕ
   pub member : MemberView
@@ -67,7 +67,7 @@ pub record HasRecorded (t : Moment) (before : List Disk) (at : ℕ → Option �
 -- member whose superblock was spoiled.
 pub record AreFoundAgain (t : Moment) (before : List Disk) : Type 0 where
   pub left : List Disk
-  pub is_left : IsLeft t left
+  pub is_left : IsLeftByCrash t left
   pub honest : AreHonest before
   pub from : ℕ → Option ℕ  -- which of those that were left each is, if it is one
   pub at : ℕ → Option ℕ  -- and where each of those is now, if it is there
@@ -86,7 +86,7 @@ pub record IsFurther (opened : MirrorView) (t : Moment) (m : MemberView) : Type 
 abbrev pub AreFurther : (opened : MirrorView) (t : Moment) (before : List Disk) → AreFoundAgain t before → MirrorView → Type 0
 AreFurther opened t before devices next = (j : ℕ) (m : MemberView) → IsMember next.array j m → devices.from j ≡ None → IsFurther opened t m
 
--- Data was let through since that opening: a write of it was done, or failed, or the stop came within one.
+-- Data was let through since that opening: a write of it was done, or failed, or the crash came within one.
 abbrev pub WasLetThrough : Moment → List Disk → Type 0
 WasLetThrough t left = (t.tried ≡ true) ⊎ IsLeftWriting t left
 
@@ -109,7 +109,7 @@ pub record IsReopened (opened : MirrorView) (t : Moment) (next : MirrorView) : T
   pub fit : IsFit (super_of opened.array.shared) (super_of next.array.shared) t.failed_at
   pub out : (j : ℕ) (m : MemberView) → IsMember next.array j m → devices.from j ≡ None → IsShutOut opened t before devices m ⊎ (is_in_sync m.state ≡ false)
 
--- A mirror's life: events, a stop and an opening, events again, and so on. The last opening gave the mirror final.
+-- A mirror's life: events, a crash and an opening, events again, and so on. The last opening gave the mirror final.
 abbrev pub MirrorLife : MirrorView → List Event → List (List Event) → MirrorView → Moment → Type 0
 MirrorLife m es [] final last = (final ≡ m) × MirrorRun (opened_as m) es last
 MirrorLife m es (more ∷ rest) final last =
@@ -171,7 +171,7 @@ KeepsGeometry =
     → (es : List Event) (rest : List (List Event)) (final : MirrorView) (last : Moment) → MirrorLife m es rest final last
     → geometry_of last.mirror.array ≡ geometry_of m.array
 
--- A member in sync of the mirror that is opened of what a stop left was in sync at the stop, on the same device.
+-- A member in sync of the mirror that is opened of what a crash left was in sync at the crash, on the same device.
 abbrev pub FindsInSync : Type 0
 FindsInSync =
     (before : List Disk) (m : MirrorView) → IsStart before m
@@ -180,18 +180,18 @@ FindsInSync =
     → (k : ℕ) (n : MemberView) → IsInSync next.array k n → (i : ℕ) × (again.devices.from k ≡ Some i) × (o : MemberView) × IsInSync last.mirror.array i o
 
 -- each member in sync that is there has recorded all but the last change, as the next opening reads it
-abbrev pub AllRecorded : (t : Moment) (next : MirrorView) (before : List Disk) → AreFoundAgain t before → Type 0
-AllRecorded t next before devices =
+abbrev pub FoundHaveRecorded : (t : Moment) (next : MirrorView) (before : List Disk) → AreFoundAgain t before → Type 0
+FoundHaveRecorded t next before devices =
     (k j : ℕ) (o : MemberView) → IsInSync t.mirror.array k o → devices.at k ≡ Some j
     → (n : MemberView) → IsMember next.array j n → t.mirror.array.shared.events ≤ n.superblock.events + 1
 
--- Where that is so, each member that was in sync at the stop, and is there, is a member in sync of the mirror that is opened: so
+-- Where that is so, each member that was in sync at the crash, and is there, is a member in sync of the mirror that is opened: so
 -- these are exactly its members in sync.
 abbrev pub FindsAll : Type 0
 FindsAll =
     (before : List Disk) (m : MirrorView) → IsStart before m
     → (es : List Event) (rest : List (List Event)) (final : MirrorView) (last : Moment) → MirrorLife m es rest final last
-    → (next : MirrorView) (again : IsReopened final last next) → AllRecorded last next again.before again.devices
+    → (next : MirrorView) (again : IsReopened final last next) → FoundHaveRecorded last next again.before again.devices
     → (k j : ℕ) (o : MemberView) → IsInSync last.mirror.array k o → again.devices.at k ≡ Some j → (n : MemberView) × IsInSync next.array j n
 
 -- A further device that is shut out is not a member in sync of the mirror that is opened, whatever others are.

@@ -12,7 +12,7 @@ use Rattle.md_model.specs.States.{is_recovering}
 use Rattle.md_model.specs.Worlds.{World}
 use Rattle.md_state.specs.View.{Disk, MirrorView, geometry_of}
 use Rattle.md_array.specs.Worlds.{none_in_flight, stored_on, world_of}
-use Rattle.md_laws.specs.Left.{IsLeft, IsStoring}
+use Rattle.md_laws.specs.Left.{IsLeftByCrash, IsStoringOwn}
 use Rattle.md_laws.specs.Lives.{IsReopened, MirrorLife, MirrorLifeWith}
 use Rattle.md_laws.specs.Runs.{IsStart, MirrorRun, MirrorRunWith, Moment, opened_as, then_as}
 
@@ -24,7 +24,7 @@ MirrorRunJoins t a (e ∷ es) last b run =
     JoinsBehind (geometry_of t.mirror.array) e (world_of t.mirror t.requests) a × MirrorRunJoins (then_as t e run.0 run.1) run.2 es last b run.5
 
 -- ---- an opening that finds members recovering
--- What a stop left of the device of member k says no more than the mirror kept of it. Its offset is no greater, and it lists what the list in
+-- What a crash left of the device of member k says no more than the mirror kept of it. Its offset is no greater, and it lists what the list in
 -- memory has; or, within an enrolment, its log may lack sectors of missing chunks. (It may say more where a write of its log or of its
 -- superblock failed, or where its offset was taken as 0 at the opening, and it was not stored since.)
 abbrev pub IsStoredOrPrepared : Geometry → World → ℕ → Stored → Type 0
@@ -43,47 +43,47 @@ KeepsOffset m k = (own : Super) → ((world_of m none_in_flight).stored k).super
 abbrev pub SaysNoMoreWhenOpened : Type 0
 SaysNoMoreWhenOpened = (before : List Disk) (m : MirrorView) → IsStart before m → (k : ℕ) → KeepsOffset m k → SaysNoMore (opened_as m) m.disks k
 
--- Where an opening kept every offset, the offset that is told by what any stop leaves until the next opening
+-- Where an opening kept every offset, the offset that is told by what any crash leaves until the next opening
 -- is no greater than the one in memory, unless the member is spoiled.
 abbrev pub OffsetsAreKept : Type 0
 OffsetsAreKept =
     (before : List Disk) (m : MirrorView) → IsStart before m → ((k : ℕ) → KeepsOffset m k)
-    → (es : List Event) (t : Moment) → MirrorRun (opened_as m) es t → (left : List Disk) → IsLeft t left
+    → (es : List Event) (t : Moment) → MirrorRun (opened_as m) es t → (left : List Disk) → IsLeftByCrash t left
     → (k : ℕ) → t.spoiled k ≡ false
     → (own : Super) → (stored_on t.mirror.array (slice_get t.mirror.array.members k) (slice_get left k)).super ≡ Some own
     → own.offset ≤ (world_of t.mirror t.requests).offset k
 
--- Where an opening kept every offset, a member that is rebuilt says no more at a stop than the mirror kept of
--- it, if the superblock can be read that the stop left. Its log has to be known (`Moment`), and the stop not
+-- Where an opening kept every offset, a member that is rebuilt says no more at a crash than the mirror kept of
+-- it, if the superblock can be read that the crash left. Its log has to be known (`Moment`), and the crash not
 -- to have come while the log was being stored.
 abbrev pub SaysNoMoreWhereKnown : Type 0
 SaysNoMoreWhereKnown =
     (before : List Disk) (m : MirrorView) → IsStart before m → ((k : ℕ) → KeepsOffset m k)
-    → (es : List Event) (t : Moment) → MirrorRun (opened_as m) es t → (left : List Disk) (is : IsLeft t left)
-    → (k : ℕ) → is_target ((world_of t.mirror t.requests).state k) ≡ true → t.spoiled k ≡ false → t.log_unknown k ≡ false → (IsStoring t left is k → ⊥)
+    → (es : List Event) (t : Moment) → MirrorRun (opened_as m) es t → (left : List Disk) (is : IsLeftByCrash t left)
+    → (k : ℕ) → is_target ((world_of t.mirror t.requests).state k) ≡ true → t.spoiled k ≡ false → t.log_unknown k ≡ false → (IsStoringOwn t left is k → ⊥)
     → (own : Super) → (stored_on t.mirror.array (slice_get t.mirror.array.members k) (slice_get left k)).super ≡ Some own → SaysNoMore t left k
 
--- A member whose list in memory is empty says no more at a stop, whatever its log.
+-- A member whose list in memory is empty says no more at a crash, whatever its log.
 abbrev pub SaysNoMoreWithoutList : Type 0
 SaysNoMoreWithoutList =
     (before : List Disk) (m : MirrorView) → IsStart before m → ((k : ℕ) → KeepsOffset m k)
-    → (es : List Event) (t : Moment) → MirrorRun (opened_as m) es t → (left : List Disk) → IsLeft t left
+    → (es : List Event) (t : Moment) → MirrorRun (opened_as m) es t → (left : List Disk) → IsLeftByCrash t left
     → (k : ℕ) → t.spoiled k ≡ false → ((s : ℕ) → (world_of t.mirror t.requests).bad k s ≡ false) → SaysNoMore t left k
 
--- What a stop left of the device of a member that is rebuilt is known to say no more: the opening kept every
--- offset, the member's log is known, and the stop did not come while it was being stored.
-pub record IsKnown (opened : MirrorView) (t : Moment) (left : List Disk) (is : IsLeft t left) (k : ℕ) : Type 0 where
+-- What a crash left of the device of a member that is rebuilt is known to say no more: the opening kept every
+-- offset, the member's log is known, and the crash did not come while it was being stored.
+pub record IsOffsetKnown (opened : MirrorView) (t : Moment) (left : List Disk) (is : IsLeftByCrash t left) (k : ℕ) : Type 0 where
   pub offsets : (j : ℕ) → KeepsOffset opened j
   pub rebuilt : is_target ((world_of t.mirror t.requests).state k) ≡ true
   pub log : t.log_unknown k ≡ false
-  pub beside : IsStoring t left is k → ⊥
+  pub beside : IsStoringOwn t left is k → ⊥
 
 -- A recovering member of the next mirror has a device that was left, and it is known or told that this says
 -- no more than the mirror kept of it. Or it is told what the device has, as of one that was left out before.
 abbrev pub MirrorOpensBehind : (opened : MirrorView) (t : Moment) (next : MirrorView) → IsReopened opened t next → Content → Type 0
 MirrorOpensBehind opened t next again b =
     (j : ℕ) → is_recovering ((world_of next none_in_flight).state j) ≡ true
-    → ((k : ℕ) × (again.devices.from j ≡ Some k) × (IsKnown opened t again.devices.left again.devices.is_left k ⊎ SaysNoMore t again.devices.left k))
+    → ((k : ℕ) × (again.devices.from j ≡ Some k) × (IsOffsetKnown opened t again.devices.left again.devices.is_left k ⊎ SaysNoMore t again.devices.left k))
     ⊎ IsBehind (geometry_of next.array) b (recovered (geometry_of next.array) (world_of next none_in_flight) j) (world_of next none_in_flight)
 
 -- ---- lives

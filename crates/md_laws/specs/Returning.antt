@@ -4,7 +4,7 @@ use Rattle.std.specs.Prelude.{◌≡◌, ℕ, ◌-◌, List, length, option_map,
 use Rattle.md_model.specs.Devices.{Stored}
 use Rattle.md_model.specs.Events.{Event}
 use Rattle.md_model.specs.Returns.{KeepsMembers, WasAway}
-use Rattle.md_model.specs.Stops.{IsFit, WasTried}
+use Rattle.md_model.specs.Crashes.{IsFit, WasTried}
 use Rattle.md_state.specs.View.{ArrayView, Disk, MirrorView, geometry_of}
 use Rattle.md_array.specs.Opening.{IsOpenedFrom}
 use Rattle.md_array.specs.Worlds.{none_in_flight, nothing_stored, super_of, world_of, world_on}
@@ -21,7 +21,7 @@ further_on t before devices next j =
 abbrev pub returned : (t : Moment) (before : List Disk) → AreFoundAgain t before → ArrayView → ℕ → ℕ → Stored
 returned t before devices next members k = further_on t before devices next (k - members)
 
--- As long as no member came or went and no data was let through, a stop between two calls leaves devices that may be opened with
+-- As long as no member came or went and no data was let through, a crash between two calls leaves devices that may be opened with
 -- those that the opening had left out, if with them it would have been of devices that are covered, one for each role. The marks
 -- cover what the members in sync differ in then: that opening is a start.
 abbrev pub StartsAgain : Type 0

@@ -5,7 +5,7 @@ use Rattle.md_model.specs.Sectors.{put}
 use Rattle.md_model.specs.Devices.{Covered}
 use Rattle.md_model.specs.Membership.{skip}
 use Rattle.md_model.specs.Worlds.{Request, World, IsInSync}
-use Rattle.md_model.specs.Content.{Content, Becomes, Holds, Tells}
+use Rattle.md_model.specs.Content.{Content, Becomes, Holds, TellsAtEnrolment}
 use Rattle.md_model.specs.Events.{Event}
 use Rattle.md_model.specs.Runs.{History, away_after, failed_after, spoiled_after, tried_after}
 use Rattle.md_state.specs.Rising.{has_number}
@@ -84,7 +84,7 @@ MirrorRunWith t a (e ∷ es) last b =
 abbrev pub MirrorRunTellsEnrolments : (t : Moment) (a : Content) (es : List Event) (last : Moment) → MirrorRun t es last → Type 0
 MirrorRunTellsEnrolments t a [] last run = Unit {0}
 MirrorRunTellsEnrolments t a (e ∷ es) last run =
-    Tells (geometry_of t.mirror.array) e (world_of t.mirror t.requests) a
+    TellsAtEnrolment (geometry_of t.mirror.array) e (world_of t.mirror t.requests) a
     × ((b : Content) → Becomes (geometry_of t.mirror.array) e (world_of t.mirror t.requests) a b → MirrorRunTellsEnrolments (then_as t e run.0 run.1) b es last run.3)
 
 -- Devices that do what they answer were opened as this mirror, and their stored marks covered what the members in sync differ in.

@@ -1,4 +1,4 @@
--- What a stop leaves within a call by which a member that is rebuilt tells of it, whatever stands in place of the superblock.
+-- What a crash leaves within a call by which a member that is rebuilt tells of it, whatever stands in place of the superblock.
 use Rattle.std.specs.Prelude.{◌≡◌, ◌⊎◌, ℕ, true, List, map}
 use Rattle.md_bitmap.specs.Marks.{Bitmap}
 use Rattle.md_kept_members.specs.View.{MemberView}
@@ -13,7 +13,7 @@ use Rattle.md_array.specs.RecordingTarget.{LeavesUnrecorded}
 use Rattle.md_array.specs.Spoiling.{SpoilsTarget}
 use Rattle.md_array.specs.Worlds.{AreHonest}
 use Rattle.md_laws.specs.Left.{IsTargetCall}
-use Rattle.md_laws.specs.StopsWithin.{MayAllBeLeft}
+use Rattle.md_laws.specs.CrashesWithin.{MayAllBeLeft}
 
 -- A write of the superblock that failed might leave this.
 pub record IsLeftSpoiled (k : ℕ) (old : MirrorView) (left : List (List ℕ)) : Type 0 where
@@ -21,27 +21,27 @@ pub record IsLeftSpoiled (k : ℕ) (old : MirrorView) (left : List (List ℕ)) :
   pub spoils : SpoilsTarget k old other
   pub contents : map (λ d. d.content) other.disks ≡ left
 
--- What a stop leaves within `admit`, `checkpoint` or the record of a member that is rebuilt, a failed write
--- of its superblock might leave, whatever comes of the write. The stop is one after the event `SpoilTarget`,
+-- What a crash leaves within `admit`, `checkpoint` or the record of a member that is rebuilt, a failed write
+-- of its superblock might leave, whatever comes of the write. The crash is one after the event `SpoilTarget`,
 -- and the next opening has to leave the device out. (Where the superblock reads as before the call or as
--- after it, or none is read, it may be there: `IsLeft`.)
-abbrev pub StopsAsSpoiled : Type 0
-StopsAsSpoiled =
+-- after it, or none is read, it may be there: `IsLeftByCrash`.)
+abbrev pub CrashesAsSpoiled : Type 0
+CrashesAsSpoiled =
     (k : ℕ) (m : MemberView) (old new : MirrorView) (left : List (List ℕ)) → AreHonest old.disks → IsMember old.array k m → is_rebuilt m.state ≡ true
     → IsTargetCall k old new ⊎ (Records k old new ⊎ LeavesUnrecorded k old new) → MayAllBeLeft old.disks new.disks left → IsLeftSpoiled k old left
 
--- A stop within an `enrol` that is done is one after a preparing, or after that and a failed write of the
+-- A crash within an `enrol` that is done is one after a preparing, or after that and a failed write of the
 -- superblock.
-abbrev pub StopsAtEnrolAsSpoiled : Type 0
-StopsAtEnrolAsSpoiled =
+abbrev pub CrashesAtEnrolAsSpoiled : Type 0
+CrashesAtEnrolAsSpoiled =
     (k : ℕ) (copied orphans : Bitmap) (old new : MirrorView) (left : List (List ℕ)) → IsConsistent old → AreHonest old.disks → MayEnrol k copied orphans old
     → Enrols k copied orphans old new → MayAllBeLeft old.disks new.disks left
     → (mid : MirrorView) × Prepares k old mid × ((map (λ d. d.content) mid.disks ≡ left) ⊎ IsLeftSpoiled k mid left)
 
--- A stop within an `enrol` of which the write of the superblock fails is one after a preparing, or after that
+-- A crash within an `enrol` of which the write of the superblock fails is one after a preparing, or after that
 -- and such a write.
-abbrev pub StopsAtFailedEnrolAsSpoiled : Type 0
-StopsAtFailedEnrolAsSpoiled =
+abbrev pub CrashesAtFailedEnrolAsSpoiled : Type 0
+CrashesAtFailedEnrolAsSpoiled =
     (k : ℕ) (copied orphans : Bitmap) (old new : MirrorView) (left : List (List ℕ)) → IsConsistent old → AreHonest old.disks → MayEnrol k copied orphans old
     → (f : FailsToEnrol k copied orphans old new) → FailsAtSuper f → MayAllBeLeft old.disks new.disks left
     → (mid : MirrorView) × Prepares k old mid × ((map (λ d. d.content) mid.disks ≡ left) ⊎ IsLeftSpoiled k mid left)

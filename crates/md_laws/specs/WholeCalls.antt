@@ -19,7 +19,7 @@ use Rattle.md_array.specs.Enrolments.{FailsAtSuper, Prepares, enrol_event}
 use Rattle.md_array.specs.Events.{listed_on}
 use Rattle.md_array.specs.Filling.{Fills}
 use Rattle.md_array.specs.InTurn.{AllLeftWhole, Leads, Requests}
-use Rattle.md_array.specs.Listing.{FailsToStoreLog, IsWhole, NotesChunk, StoresLog}
+use Rattle.md_array.specs.Listing.{FailsToStoreLog, IsBelowListLimit, NotesChunk, StoresLog}
 use Rattle.md_array.specs.ReAdding.{ReAdds, re_add_event}
 use Rattle.md_array.specs.RecordingTarget.{FailsOnTarget}
 use Rattle.md_array.specs.Spoiling.{SpoilsTarget}
@@ -27,7 +27,7 @@ use Rattle.md_array.specs.Worlds.{AreHonest}
 use Rattle.md_laws.specs.Runs.{MirrorRun, Moment}
 
 -- From any moment of a mirror a call that is a list of events is a run, and ends where the call says. The
--- laws over runs speak of it, and of a stop within one of its events.
+-- laws over runs speak of it, and of a crash within one of its events.
 abbrev pub CallsAreRuns : Type 0
 CallsAreRuns =
     (es : List Event) (previous : Option Event) (t : Moment) (new : MirrorView) (after : Requests) (leads : Leads previous t.mirror t.requests es new after)
@@ -134,7 +134,7 @@ FailedCheckpointIsACall =
 abbrev pub NoteBadIsACall : Type 0
 NoteBadIsACall =
     (k chunk : ℕ) (old new : MirrorView) → IsConsistent old → NotesChunk k chunk old new → ((m : MemberView) → IsMember old.array k m → is_in_sync m.state ≡ true)
-    → old.array.resynced ≡ true → IsWhole k chunk old
+    → old.array.resynced ≡ true → IsBelowListLimit k chunk old
     → (previous : Option Event) (requests : Requests) → AreInFlight old.array requests → Leads previous old requests (Event.NoteBad k chunk ∷ []) new requests
 
 -- A log is stored by one event, where it was read without a shift or stored since.

@@ -5,7 +5,7 @@ ghost use Rattle.md_badblocks.specs.Runs.{IsBad};
 ghost use Rattle.md_model.specs.Devices.{Covered};
 ghost use Rattle.md_model.specs.Lives.{AgreesUnstored, IsCovered, IsSound};
 ghost use Rattle.md_model.specs.Openings as openings;
-ghost use Rattle.md_model.specs.Stops.{IsSafeAtStop, KeepsOut, StaysOut};
+ghost use Rattle.md_model.specs.Crashes.{IsSafeAtCrash, KeepsOut, StaysOut};
 ghost use Rattle.md_model.specs.Worlds.{IsInSync};
 ghost use Rattle.md_kept_members.specs.View.{MemberView};
 ghost use Rattle.md_state.specs.Members.{IsMember};
@@ -19,9 +19,9 @@ ghost use Rattle.md_laws.specs.Lives.{AtEachMoment, ContentGoesAlongTold, FindsA
 ghost use Rattle.md_laws.specs.Recovering.{ContentGoesAlong, KeepsRecovering, OffsetsAreKept, SaysNoMoreWhenOpened, SaysNoMoreWhereKnown, SaysNoMoreWithoutList};
 ghost use Rattle.md_laws.specs.Returning.{StartsAgain};
 ghost use Rattle.md_laws.specs.Runs.{HasContent};
-ghost use Rattle.md_laws.specs.Spoiled.{StopsAsSpoiled, StopsAtEnrolAsSpoiled, StopsAtFailedEnrolAsSpoiled};
-ghost use Rattle.md_laws.specs.StopsReadAs.{ReadsAtAdd, ReadsAtReAdd, ReadsAtTarget};
-ghost use Rattle.md_laws.specs.StopsWithin.{StopsAsFailed, StopsAsFilled, StopsAsPrepared, StopsAsTried, StopsAtAdd, StopsAtEnrol, StopsAtEvents, StopsAtFailedAdd, StopsAtFailedEnrol, StopsAtFailedReAdd, StopsAtFailure, StopsAtReAdd, StopsAtRefusedAdd, StopsAtRefusedReAdd, StopsAtRemoval, StopsAtSector, StopsAtWrite, StopsInMemory, StopsUndivided};
+ghost use Rattle.md_laws.specs.Spoiled.{CrashesAsSpoiled, CrashesAtEnrolAsSpoiled, CrashesAtFailedEnrolAsSpoiled};
+ghost use Rattle.md_laws.specs.ReadAfterCrashes.{ReadsAtAdd, ReadsAtReAdd, ReadsAtTarget};
+ghost use Rattle.md_laws.specs.CrashesWithin.{CrashesAsFailed, CrashesAsFilled, CrashesAsPrepared, CrashesAsTried, CrashesAtAdd, CrashesAtEnrol, CrashesAtEvents, CrashesAtFailedAdd, CrashesAtFailedEnrol, CrashesAtFailedReAdd, CrashesAtFailure, CrashesAtReAdd, CrashesAtRefusedAdd, CrashesAtRefusedReAdd, CrashesAtRemoval, CrashesAtSector, CrashesAtWrite, CrashesInMemory, CrashesUndivided};
 
 /// A mirror that was opened from devices that do what they answer is an opened world of the model, by
 /// the array's superblock: the opening stored all marks where the bitmap was not accepted, and nothing
@@ -42,7 +42,7 @@ pub fn opening()
     ensures read { (before : List Disk) (m : MirrorView) → AreHonest before → IsOpenedFrom before m → AreReadAsKept m 0 (λ _. false) }
     ensures honest { (before : List Disk) (m : MirrorView) → AreHonest before → IsOpenedFrom before m → AreHonest m.disks }
     ensures fresh { StartsFresh }
-    ensures fresh_stopped { StaysFresh }
+    ensures fresh_crashed { StaysFresh }
 {}
 
 /// What looks back, at each moment of a mirror's life. It was opened from devices that do what they
@@ -51,23 +51,23 @@ pub fn opening()
 /// and so on.
 ///
 /// An event is what a call's contract says of it (`Does`): a step that answered Ok, or a write that failed
-/// and made its member faulty. A refused call is none. What a stop within a call leaves is what the call's
-/// own contract gives (`IsLeft`): of its write each sector as before or as written, or any bytes in its range
-/// where the write fails. A stop within `record` left the old superblock, the new one or none that can be
+/// and made its member faulty. A refused call is none. What a crash within a call leaves is what the call's
+/// own contract gives (`IsLeftByCrash`): of its write each sector as before or as written, or any bytes in its range
+/// where the write fails. A crash within `record` left the old superblock, the new one or none that can be
 /// decoded: a premise, unless the write is done and neither superblock has more than 128 roles. A device that comes in
 /// counts as left only where it is as after the call. Of one that comes back it is enough that its superblock reads so. A member that is
 /// rebuilt counts as left at any moment of its filling, and of `enrol` where its superblock stands as before or as after. One within a write of
-/// marks, of a copy or of a log that fails is one after that failure, over other bytes (`whole_calls::stopped_calls`). One
+/// marks, of a copy or of a log that fails is one after that failure, over other bytes (`whole_calls::call_crashes`). One
 /// within an `enrol` that fails before its superblock is a matter of rebuilds (`unfinished_enrols` of `md_rebuild_laws`).
 ///
 /// A member that is rebuilt is spoiled where `enrol`, `admit` or `checkpoint` could not write its superblock, whatever stands there then, or
-/// where a stop came within that write (`SpoilTarget`, `stops_at_steps`). Its mirror goes on. It is spoiled until its superblock is stored, and
-/// until then no opening after a stop may be of its device (`AreFoundAgain`).
+/// where a crash came within that write (`SpoilTarget`, `crashes_at_steps`). Its mirror goes on. It is spoiled until its superblock is stored, and
+/// until then no opening after a crash may be of its device (`AreFoundAgain`).
 ///
-/// An opening after a stop is of devices that were left, in any order, some of them missing (`IsReopened`). Beside
+/// An opening after a crash is of devices that were left, in any order, some of them missing (`IsReopened`). Beside
 /// them may be further ones, which the opening before left out (`IsFurther`): the mirror that is opened does not have
 /// them in sync, which is asked only of those that nothing shuts out (`finds_out`). Its superblock is fit, which leaves
-/// out a stop while a failure awaits its record. The bitmap's header of a member that was rebuilt may be any: where that
+/// out a crash while a failure awaits its record. The bitmap's header of a member that was rebuilt may be any: where that
 /// member's device is the one that has recorded the last failure, a member that was in sync is there too, or this header
 /// tells of chunks as wide (`IsAsWide`). Openings that were themselves stopped may have written bitmaps
 /// between, if no chunk lost its mark and the header kept its chunk size (`half_opening`). Nothing is said of a mirror
@@ -76,9 +76,9 @@ pub fn every_run()
     // Wherever two members in sync differ, the marks stored on every member in sync have the chunk.
     ensures covered { AtEachMoment IsCovered }
 
-    // A stop leaves devices of which an opening finds only members in sync that were so, whose marks cover
+    // A crash leaves devices of which an opening finds only members in sync that were so, whose marks cover
     // what differs; and all of these, where each has recorded all but the last change.
-    ensures at_stop { AtEachMoment IsSafeAtStop }
+    ensures at_crash { AtEachMoment IsSafeAtCrash }
 
     // No member in sync is one whose superblock was spoiled, so that each of them may be there.
     ensures sound { AtEachMoment IsSound }
@@ -137,7 +137,7 @@ pub fn returning_devices()
 /// long as some role has no member in sync: all but the marked chunks. So where it is taken back as the failure left it,
 /// the chunks that `missing` names suffice; that each device that `re_add` takes back is such a one is not said. It
 /// may leave by `remove`, and the mirror may be stopped, at any moment of any of its calls, and opened again: so it is
-/// over each life that goes on from there. It is so too of a member that was in sync at a stop, as the stop left it, whatever the
+/// over each life that goes on from there. It is so too of a member that was in sync at a crash, as the crash left it, whatever the
 /// next opening finds of it: it may be missing there, as one whose cable was pulled. The log of one whose log could not be stored may
 /// be any: of it that is said in sectors that it did not list before, and that what counts of it does not list.
 pub fn leaving_members()
@@ -155,12 +155,12 @@ pub fn leaving_members()
 
 /// What a recovering member holds of the array's content: on sectors that it does not list, all but the marked chunks and those
 /// that its offset has not passed. So a rebuild that copies what `missing` names is enough, at any moment after a `re_add` or an `admit`,
-/// also after a stop and the next opening. It is asked that each `re_add` is told, as `leaving_members` tells of a device that still is as
+/// also after a crash and the next opening. It is asked that each `re_add` is told, as `leaving_members` tells of a device that still is as
 /// it was left, and that the first opening is told of the members that it finds recovering. A later one is told of further devices alone, if
 /// each of those that were left says no more than the mirror kept of it (`SaysNoMore`). So each does right after an opening that took no
 /// offset as 0. Until the next one its offset stays such, unless it is spoiled; and its log lists what the list in memory has, as long as no
-/// `enrol`, `admit` or `checkpoint` of it failed (`Moment`, `log_unknown`). So it says no more at any stop, but for one within an `enrol`
-/// while the bitmap and the log are stored (`IsStoring`). Where the list in memory is empty the log may be any.
+/// `enrol`, `admit` or `checkpoint` of it failed (`Moment`, `log_unknown`). So it says no more at any crash, but for one within an `enrol`
+/// while the bitmap and the log are stored (`IsStoringOwn`). Where the list in memory is empty the log may be any.
 pub fn recovering_members()
     ensures kept { KeepsRecovering }
     ensures as_opened { SaysNoMoreWhenOpened }
@@ -178,39 +178,39 @@ pub fn half_opening()
     ensures as_left { StaysAsLeft }
 {}
 
-/// What a stop at any moment of a step leaves, where the step makes a write to one device, or none, lays a new one
+/// What a crash at any moment of a step leaves, where the step makes a write to one device, or none, lays a new one
 /// out, or fills, prepares or enrols a member that is rebuilt. Each event is of such a step (`Does`). A superblock of at most 128 roles ends within its first sector, which is
 /// written whole or not at all. So that of a device that comes back then reads as before the call or as after it; and one
 /// that comes in is as after the call, or has the wipe of its old superblock cut short, or zeros in place of one.
-pub fn stops_at_steps()
-    ensures memory { StopsInMemory }
-    ensures removal { StopsAtRemoval }
-    ensures re_add { StopsAtReAdd }
-    ensures failed_re_add { StopsAtFailedReAdd }
-    ensures refused_re_add { StopsAtRefusedReAdd }
+pub fn crashes_at_steps()
+    ensures memory { CrashesInMemory }
+    ensures removal { CrashesAtRemoval }
+    ensures re_add { CrashesAtReAdd }
+    ensures failed_re_add { CrashesAtFailedReAdd }
+    ensures refused_re_add { CrashesAtRefusedReAdd }
     ensures re_add_read { ReadsAtReAdd }
-    ensures add { StopsAtAdd }
+    ensures add { CrashesAtAdd }
     ensures add_read { ReadsAtAdd }
-    ensures failed_add { StopsAtFailedAdd }
-    ensures refused_add { StopsAtRefusedAdd }
+    ensures failed_add { CrashesAtFailedAdd }
+    ensures refused_add { CrashesAtRefusedAdd }
     ensures target { ReadsAtTarget }
-    ensures enrol { StopsAtEnrol }
-    ensures failed_enrol { StopsAtFailedEnrol }
-    ensures written { StopsAtWrite }
-    ensures sector { StopsAtSector }
-    ensures failed { StopsAtFailure }
+    ensures enrol { CrashesAtEnrol }
+    ensures failed_enrol { CrashesAtFailedEnrol }
+    ensures written { CrashesAtWrite }
+    ensures sector { CrashesAtSector }
+    ensures failed { CrashesAtFailure }
 
-    // A stop within the call of an event is before it, after it, or within its one write. What it leaves
+    // A crash within the call of an event is before it, after it, or within its one write. What it leaves
     // within a write, the same write might leave that failed, or was torn. What it leaves while a member is
     // filled or prepared, another filling or preparing might leave. Within a call by which a member that is
-    // rebuilt tells of it, the stop is one after `SpoilTarget`, whatever it leaves.
-    ensures event { StopsAtEvents }
-    ensures as_failed { StopsAsFailed }
-    ensures as_tried { StopsAsTried }
-    ensures as_filled { StopsAsFilled }
-    ensures as_prepared { StopsAsPrepared }
-    ensures as_spoiled { StopsAsSpoiled }
-    ensures enrol_as_spoiled { StopsAtEnrolAsSpoiled }
-    ensures failed_enrol_as_spoiled { StopsAtFailedEnrolAsSpoiled }
-    ensures undivided { StopsUndivided }
+    // rebuilt tells of it, the crash is one after `SpoilTarget`, whatever it leaves.
+    ensures event { CrashesAtEvents }
+    ensures as_failed { CrashesAsFailed }
+    ensures as_tried { CrashesAsTried }
+    ensures as_filled { CrashesAsFilled }
+    ensures as_prepared { CrashesAsPrepared }
+    ensures as_spoiled { CrashesAsSpoiled }
+    ensures enrol_as_spoiled { CrashesAtEnrolAsSpoiled }
+    ensures failed_enrol_as_spoiled { CrashesAtFailedEnrolAsSpoiled }
+    ensures undivided { CrashesUndivided }
 {}

@@ -1,9 +1,9 @@
 //! What holds of calls that are lists of events.
 
-ghost use Rattle.md_laws.specs.HaltedWrites.{StopsAtHaltedCopies, StopsAtHaltedLog, StopsAtHaltedMarks};
-ghost use Rattle.md_laws.specs.StoppedCalls.{StopsAreTold, StopsAtHalts, StopsAtSteps};
-ghost use Rattle.md_laws.specs.StoppedCopies.{StopsAtCopies};
-ghost use Rattle.md_laws.specs.StopsWithin.{StopsAtLog};
+ghost use Rattle.md_laws.specs.HaltedWrites.{CrashesAtHaltedCopies, CrashesAtHaltedLog, CrashesAtHaltedMarks};
+ghost use Rattle.md_laws.specs.CallCrashes.{CrashesAreTold, CrashesAtHalts, CrashesAtSteps};
+ghost use Rattle.md_laws.specs.CopyCrashes.{CrashesAtCopies};
+ghost use Rattle.md_laws.specs.CrashesWithin.{CrashesAtLog};
 ghost use Rattle.md_laws.specs.ReadInTurn.{ReadingCallsAreRuns};
 ghost use Rattle.md_laws.specs.WholeCalls.{AddIsACall, AdmitIsACall, CallsAreRuns, CheckpointIsACall, EnrolIsACall, FailIsACall, FailedAdmitIsACall, FailedCheckpointIsACall, FailedEnrolIsACall, FillIsACall, NoteBadIsACall, PrepareIsACall, ReAddIsACall, RemoveIsACall, RunsGoOn, SpoilIsACall, StoreLogFailureIsACall, StoreLogIsACall, TargetFailureIsACall};
 
@@ -52,13 +52,13 @@ pub fn recovering_calls()
     ensures failed_checkpoint { FailedCheckpointIsACall }
 {}
 
-/// A list that grows is in the list too: `note_bad`, `store_log`, and a write of the log that failed. A stop within `store_log` is
+/// A list that grows is in the list too: `note_bad`, `store_log`, and a write of the log that failed. A crash within `store_log` is
 /// before it or after it, where the log changes in its first sector alone.
 pub fn listing_calls()
     ensures note { NoteBadIsACall }
     ensures store { StoreLogIsACall }
     ensures failure { StoreLogFailureIsACall }
-    ensures stopped { StopsAtLog }
+    ensures crashed { CrashesAtLog }
 {}
 
 /// A call that reads devices before its events and after the last (`LeadsReading`) is a run, too. It writes
@@ -68,32 +68,32 @@ pub fn every_reading_call()
     ensures { ReadingCallsAreRuns }
 {}
 
-/// Sectors are copied by one write of the device, but are an event each. What a stop leaves within that
-/// write stands on the devices after a copy of some of the sectors. So it is what a stop between two events
+/// Sectors are copied by one write of the device, but are an event each. What a crash leaves within that
+/// write stands on the devices after a copy of some of the sectors. So it is what a crash between two events
 /// leaves, of another list.
-pub fn stopped_copies()
-    ensures { StopsAtCopies }
+pub fn copy_crashes()
+    ensures { CrashesAtCopies }
 {}
 
-/// What a stop leaves within a whole call, before, in or after each write of each of its steps, a stop of a
+/// What a crash leaves within a whole call, before, in or after each write of each of its steps, a crash of a
 /// run leaves: of the first of its events, or of none. So `every_run` says of it what the next opening finds.
 /// It is so of every list of steps, and of one that ends by a write that halted the mirror, as `write`,
 /// `stop` and the storing of a rebuild do them. Within a superblock's write it is asked that the old one, the
-/// new one or none was left, unless it is done and neither is longer than a sector. Of events after the stop
+/// new one or none was left, unless it is done and neither is longer than a sector. Of events after the crash
 /// nothing is asked.
-pub fn stopped_calls()
-    ensures steps { StopsAtSteps }
-    ensures halts { StopsAtHalts }
+pub fn call_crashes()
+    ensures steps { CrashesAtSteps }
+    ensures halts { CrashesAtHalts }
 
     // What the devices tell of stops after such a call, they tell of one of its steps.
-    ensures told { StopsAreTold }
+    ensures told { CrashesAreTold }
 {}
 
 /// A write of marks, of a log or of a copy that fails and halts the mirror may leave any bytes in its range, and of these nothing is
-/// said. Where a stop within it left it done or not done, and of a copy each sector as it was or as written, that stands on
-/// the devices after a step that is done, or after a copy of some of the sectors: so it is what a stop between two events leaves, of another list.
+/// said. Where a crash within it left it done or not done, and of a copy each sector as it was or as written, that stands on
+/// the devices after a step that is done, or after a copy of some of the sectors: so it is what a crash between two events leaves, of another list.
 pub fn halted_writes()
-    ensures marks { StopsAtHaltedMarks }
-    ensures log { StopsAtHaltedLog }
-    ensures copy { StopsAtHaltedCopies }
+    ensures marks { CrashesAtHaltedMarks }
+    ensures log { CrashesAtHaltedLog }
+    ensures copy { CrashesAtHaltedCopies }
 {}

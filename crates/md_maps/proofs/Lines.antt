@@ -12,8 +12,8 @@ use Rattle.std.proofs.lemmas.Grind.{common_steps}
 use Rattle.md_badblocks.specs.declared.run.Run.{Run}
 use Rattle.md_badblocks.specs.Runs.{IsBad}
 use Rattle.md_maps.specs.Lines.{is_line_feed, lines_of, fields_of}
-use Rattle.md_maps.specs.Rows.{IsStatusRow, IsBlockRow, IsLine, EndsBy, fault_of}
-use Rattle.md_maps.specs.Map.{is_row, rows_of, AreBlocks, IsSaid, end_of, IsMap, HasByte, IsLostIn, IsMissing, IsReadAs, IsFirstFault, IsRefused}
+use Rattle.md_maps.specs.Rows.{IsStatusRow, IsBlockRow, IsLine, BlockEndsBy, line_fault_of}
+use Rattle.md_maps.specs.Map.{is_row, rows_of, AreBlocks, IsSaid, end_of_blocks, IsMap, HasByte, IsLostIn, IsMissing, IsMapReadAs, IsFirstLineFault, IsMapRefused}
 use Rattle.md_maps.specs.Reading.{IsReadTo, IsUnfinished}
 use Rattle.md_maps.specs.declared.line.Block.{Block}
 use Rattle.md_maps.specs.declared.line.Line.{Line as LineValue}
@@ -59,29 +59,29 @@ rows-some lines line a more some =
     test : is_row (a ∷ more) ≡ true → rows_of lines ++ filter is_row ((a ∷ more) ∷ []) ≡ rows_of lines ++ (a ∷ more) ∷ []
     test h = ap (λ (b : Bool). rows_of lines ++ cond b ((a ∷ more) ∷ []) []) h
 
-pub end-cons : (x : Block) (xs : List Block) → end_of (x ∷ xs) ≡ x.len + end_of xs
+pub end-cons : (x : Block) (xs : List Block) → end_of_blocks (x ∷ xs) ≡ x.len + end_of_blocks xs
 end-cons x xs = let e = sum_by-append (λ (y : Block). y.len) (x ∷ []) xs in omega (arith, e)
 
 blocks-push : (size from : ℕ) (rows : List (List (List ℕ))) (blocks : List Block) (row : List (List ℕ)) (b : Block) → AreBlocks size from rows blocks
-    → IsBlockRow row b → b.start ≡ from + end_of blocks → b.start + b.len ≤ size → AreBlocks size from (rows ++ row ∷ []) (blocks ++ b ∷ [])
+    → IsBlockRow row b → b.start ≡ from + end_of_blocks blocks → b.start + b.len ≤ size → AreBlocks size from (rows ++ row ∷ []) (blocks ++ b ∷ [])
 blocks-push size from [] [] row b are is at fits = (is, omega (arith, at), omega (arith, at, fits), tt)
 blocks-push size from [] (x ∷ xs) row b are is at fits = absurd are
 blocks-push size from (r ∷ rs) [] row b are is at fits = absurd are
 blocks-push size from (r ∷ rs) (x ∷ xs) row b are is at fits =
     (are.0, are.1, are.2, blocks-push size (from + x.len) rs xs row b are.3 is (omega (arith, at, end-cons x xs)) fits)
 
-blocks_end : (size from : ℕ) (rows : List (List (List ℕ))) (blocks : List Block) → AreBlocks size from rows blocks → from ≤ size → from + end_of blocks ≤ size
+blocks_end : (size from : ℕ) (rows : List (List (List ℕ))) (blocks : List Block) → AreBlocks size from rows blocks → from ≤ size → from + end_of_blocks blocks ≤ size
 blocks_end size from [] [] are low = omega (arith, low)
 blocks_end size from [] (x ∷ xs) are low = absurd are
 blocks_end size from (r ∷ rs) [] are low = absurd are
 blocks_end size from (r ∷ rs) (x ∷ xs) are low = let more = blocks_end size (from + x.len) rs xs are.3 are.2 in omega (arith, more, end-cons x xs)
 
 said-push : (size : ℕ) (rows : List (List (List ℕ))) (blocks : List Block) (row : List (List ℕ)) (b : Block) → IsSaid size rows (Some blocks)
-    → IsBlockRow row b → b.start ≡ end_of blocks → b.start + b.len ≤ size → IsSaid size (rows ++ row ∷ []) (Some (blocks ++ b ∷ []))
+    → IsBlockRow row b → b.start ≡ end_of_blocks blocks → b.start + b.len ≤ size → IsSaid size (rows ++ row ∷ []) (Some (blocks ++ b ∷ []))
 said-push size [] blocks row b said is at fits = absurd said
 said-push size (r ∷ rs) blocks row b said is at fits = (said.0, blocks-push size 0 rs blocks row b said.1 is (omega (arith, at)) fits)
 
-said_end : (size : ℕ) (rows : List (List (List ℕ))) (blocks : List Block) → IsSaid size rows (Some blocks) → end_of blocks ≤ size
+said_end : (size : ℕ) (rows : List (List (List ℕ))) (blocks : List Block) → IsSaid size rows (Some blocks) → end_of_blocks blocks ≤ size
 said_end size [] blocks said = absurd said
 said_end size (r ∷ rs) blocks said = let all = blocks_end size 0 rs blocks said.1 (omega arith) in omega (arith, all)
 
@@ -108,7 +108,7 @@ module _ {E : Type 0} (size : ℕ) (lines : List (List ℕ)) (line : List ℕ) w
     lacks = read.lacks;
   }
 
-  status_more : (missing : Result (List Run) E) (blocks : Option (List Block)) → IsSaid size (rows_of lines) blocks → None ≡ option_map end_of blocks
+  status_more : (missing : Result (List Run) E) (blocks : Option (List Block)) → IsSaid size (rows_of lines) blocks → None ≡ option_map end_of_blocks blocks
       → IfOk missing (λ runs. (sector : ℕ) → IsBad runs sector ↔ IsMissing (unwrap_or blocks []) sector) → IsStatusRow (fields_of line) → IsReadTo size (lines ++ line ∷ []) (Some 0) missing
   status_more missing None said there lacks is =
       let rows : rows_of (lines ++ line ∷ []) ≡ fields_of line ∷ [] = rows-some lines line is.0 (is.1 ∷ is.2 ∷ []) is.3 ∙ ap (λ (rs : List (List (List ℕ))). rs ++ fields_of line ∷ []) (said_none size (rows_of lines) said) in
@@ -134,13 +134,13 @@ module _ {E : Type 0} (size : ℕ) (lines : List (List ℕ)) (line : List ℕ) w
   lacks_more (Ok new) (Err e) blocks b more lacks = absurd more
   lacks_more (Err e) old blocks b more lacks = tt
 
-  data_more : (new old : Result (List Run) E) (b : Block) (blocks : Option (List Block)) → IsSaid size (rows_of lines) blocks → Some b.start ≡ option_map end_of blocks
+  data_more : (new old : Result (List Run) E) (b : Block) (blocks : Option (List Block)) → IsSaid size (rows_of lines) blocks → Some b.start ≡ option_map end_of_blocks blocks
       → IfOk old (λ runs. (sector : ℕ) → IsBad runs sector ↔ IsMissing (unwrap_or blocks []) sector) → IsBlockRow (fields_of line) b → b.start + b.len ≤ size
       → IfOk new (λ runs. IsOkAnd old (λ before. (sector : ℕ) → IsBad runs sector ↔ (IsBad before sector ⊎ IsLostIn b sector)))
       → IsReadTo size (lines ++ line ∷ []) (Some (b.start + b.len)) new
   data_more new old b None said there lacks is fits more = let wrong : ⊥ = cc in absurd wrong
   data_more new old b (Some blocks) said there lacks is fits more =
-      let at : b.start ≡ end_of blocks = cc in
+      let at : b.start ≡ end_of_blocks blocks = cc in
       record {
         blocks = Some (blocks ++ b ∷ []);
         said = subst (λ (rs : List (List (List ℕ))). IsSaid size rs (Some (blocks ++ b ∷ []))) (sym (rows-some lines line is.0 (is.1 ∷ is.2 ∷ []) is.3)) (said-push size (rows_of lines) blocks (fields_of line) b said is at fits);
@@ -148,7 +148,7 @@ module _ {E : Type 0} (size : ℕ) (lines : List (List ℕ)) (line : List ℕ) w
         lacks = lacks_more new old blocks b more lacks;
       }
     where
-      end_more : (xs : List Block) (x : Block) → end_of xs + x.len ≡ end_of (xs ++ x ∷ [])
+      end_more : (xs : List Block) (x : Block) → end_of_blocks xs + x.len ≡ end_of_blocks (xs ++ x ∷ [])
       end_more xs x = let e = sum_by-append (λ (y : Block). y.len) xs (x ∷ []) in omega (arith, e)
 
   pub after_data : (end : Option ℕ) (new old : Result (List Run) E) (b : Block) → end ≡ Some b.start → IsBlockRow (fields_of line) b → b.start + b.len ≤ size
@@ -180,7 +180,7 @@ no_bytes start old s = (λ h. inl h, λ h. ⊎_elim (λ x. x) (λ x. absurd (ome
 
 -- ---- the end
 
-pub ends_by : (size : ℕ) (end : Option ℕ) (row : List (List ℕ)) (line : LineValue) → IsLine size end row line → size ≤ 2 ^ 63 → EndsBy (2 ^ 63) line
+pub ends_by : (size : ℕ) (end : Option ℕ) (row : List (List ℕ)) (line : LineValue) → IsLine size end row line → size ≤ 2 ^ 63 → BlockEndsBy (2 ^ 63) line
 ends_by size end row Blank is small = tt
 ends_by size end row Status is small = tt
 ends_by size end row (Data b) is small = omega (arith, is.2, small)
@@ -216,11 +216,11 @@ lines_some : (text : List ℕ) → 0 < length (lines_of text)
 unfolding lines_of
 lines_some text = omega (arith, length-slice_split is_line_feed text)
 
-blocks_at : (e : ℕ) (blocks : Option (List Block)) → Some e ≡ option_map end_of blocks → (bs : List Block) × (blocks ≡ Some bs) × (end_of bs ≡ e)
+blocks_at : (e : ℕ) (blocks : Option (List Block)) → Some e ≡ option_map end_of_blocks blocks → (bs : List Block) × (blocks ≡ Some bs) × (end_of_blocks bs ≡ e)
 blocks_at e None there = let wrong : ⊥ = cc in absurd wrong
 blocks_at e (Some bs) there = (bs, refl, cc)
 
-none_at : (blocks : Option (List Block)) → None ≡ option_map end_of blocks → blocks ≡ None
+none_at : (blocks : Option (List Block)) → None ≡ option_map end_of_blocks blocks → blocks ≡ None
 none_at None there = refl
 none_at (Some bs) there = let wrong : ⊥ = cc in absurd wrong
 
@@ -239,7 +239,7 @@ module _ {E : Type 0} (size : ℕ) (text rest : List ℕ) (number : ℕ) (end : 
         few = omega (arith, shorter, read.few);
       }
 
-  pub fault_at : (n : ℕ) (line : List ℕ) (fault : LineFault) → position is_line_feed rest ≡ Some n → line ≡ take n rest → fault_of size end (fields_of line) ≡ Some fault → IsFirstFault size text number fault
+  pub fault_at : (n : ℕ) (line : List ℕ) (fault : LineFault) → position is_line_feed rest ≡ Some n → line ≡ take n rest → line_fault_of size end (fields_of line) ≡ Some fault → IsFirstLineFault size text number fault
   fault_at n line fault found is_line stands =
       let more = list_some (lines_of (drop (n + 1) rest)) (lines_some (drop (n + 1) rest)) in
       record {
@@ -250,10 +250,10 @@ module _ {E : Type 0} (size : ℕ) (text rest : List ℕ) (number : ℕ) (end : 
         numbered = read.numbered;
         before = read.read.blocks;
         said = read.read.said;
-        stands = ap (λ (e : Option ℕ). fault_of size e (fields_of line)) (sym read.read.there) ∙ stands;
+        stands = ap (λ (e : Option ℕ). line_fault_of size e (fields_of line)) (sym read.read.there) ∙ stands;
       }
 
-  pub cut_at : position is_line_feed rest ≡ None → rest ≢ [] → IsFirstFault size text number Cut
+  pub cut_at : position is_line_feed rest ≡ None → rest ≢ [] → IsFirstLineFault size text number Cut
   cut_at none some = record {
     lines = read.lines;
     line = rest;
@@ -269,7 +269,7 @@ module _ {E : Type 0} (size : ℕ) (text rest : List ℕ) (number : ℕ) (end : 
     ended : lines_of text ≡ read.lines ++ [] ∷ []
     ended = read.whole ∙ ap (λ (ls : List (List ℕ)). read.lines ++ ls) (lines-last rest none ∙ ap (λ (l : List ℕ). l ∷ []) all)
 
-    map_of : (e : ℕ) → end ≡ Some e → (bs : List Block) × (read.read.blocks ≡ Some bs) × (end_of bs ≡ e) × IsSaid size (rows_of read.lines) (Some bs)
+    map_of : (e : ℕ) → end ≡ Some e → (bs : List Block) × (read.read.blocks ≡ Some bs) × (end_of_blocks bs ≡ e) × IsSaid size (rows_of read.lines) (Some bs)
     map_of e there =
         let at = blocks_at e read.read.blocks (sym there ∙ read.read.there) in
         (at.0, at.1, at.2, subst (λ (o : Option (List Block)). IsSaid size (rows_of read.lines) o) at.1 read.read.said)
@@ -277,19 +277,19 @@ module _ {E : Type 0} (size : ℕ) (text rest : List ℕ) (number : ℕ) (end : 
     is_map : (e : ℕ) → end ≡ Some e → size ≤ e → (bs : List Block) × (read.read.blocks ≡ Some bs) × IsMap size text bs
     is_map e there full =
         let at = map_of e there in
-        let within : end_of at.0 ≤ size = said_end size (rows_of read.lines) at.0 at.3 in
+        let within : end_of_blocks at.0 ≤ size = said_end size (rows_of read.lines) at.0 at.3 in
         (at.0, at.1, record { lines = read.lines; whole = ended; said = at.3; full = omega (arith, within, full, at.2) })
 
-    whole_map : (runs : List Run) → (missing ≡ Ok runs) × ((e : ℕ) × (end ≡ Some e) × (size ≤ e)) → IsReadAs size text runs
+    whole_map : (runs : List Run) → (missing ≡ Ok runs) × ((e : ℕ) × (end ≡ Some e) × (size ≤ e)) → IsMapReadAs size text runs
     whole_map runs done =
         let at = is_map done.1.0 done.1.1 done.1.2 in
         let lacks = rw (done.0, at.1) at read.read.lacks in
         record { blocks = at.0; map = at.2; lacks = lacks }
 
-    pub finished : {F : Type 0} (r : Result (List Run) F) → IfOk r (λ runs. (missing ≡ Ok runs) × ((e : ℕ) × (end ≡ Some e) × (size ≤ e))) → IfOk r (λ runs. IsReadAs size text runs)
+    pub finished : {F : Type 0} (r : Result (List Run) F) → IfOk r (λ runs. (missing ≡ Ok runs) × ((e : ℕ) × (end ≡ Some e) × (size ≤ e))) → IfOk r (λ runs. IsMapReadAs size text runs)
     finished r done = IfOk-weaker r _ _ whole_map done
 
-    unfinished_by : (fault : MapFault) → IsUnfinished size end fault → IsRefused size text fault
+    unfinished_by : (fault : MapFault) → IsUnfinished size end fault → IsMapRefused size text fault
     unfinished_by (Line n f) is = absurd is
     unfinished_by NoStatusLine is =
         record {
@@ -302,5 +302,5 @@ module _ {E : Type 0} (size : ℕ) (text rest : List ℕ) (number : ℕ) (end : 
         (at.0, record { lines = read.lines; whole = ended; rows = at.3 }, at.2, is.1)
     unfinished_by NoMemory is = let at = is_map is.0 is.1 is.2 in (at.0, at.2)
 
-    pub unfinished : {T : Type 0} (r : Result T MapFault) → IfErr r (λ fault. IsUnfinished size end fault) → IfErr r (λ fault. IsRefused size text fault)
+    pub unfinished : {T : Type 0} (r : Result T MapFault) → IfErr r (λ fault. IsUnfinished size end fault) → IfErr r (λ fault. IsMapRefused size text fault)
     unfinished r is = MatchResult-weaker r is (λ x h. h) unfinished_by

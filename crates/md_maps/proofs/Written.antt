@@ -18,7 +18,7 @@ use Rattle.md_badblocks.specs.Runs.{IsBad, IsCanonical, RisesFrom}
 use Rattle.md_maps.specs.Lines.{is_space, is_word, is_line_feed, is_no_comment, lines_of, fields_of}
 use Rattle.md_maps.specs.Numbers.{numeral, number_of}
 use Rattle.md_maps.specs.Rows.{rescued_of, is_current_status, IsStatusRow, IsBlockRow}
-use Rattle.md_maps.specs.Map.{is_row, rows_of, AreBlocks, IsSaid, end_of, IsMissing, IsReadAs}
+use Rattle.md_maps.specs.Map.{is_row, rows_of, AreBlocks, IsSaid, end_of_blocks, IsMissing, IsMapReadAs}
 use Rattle.md_maps.specs.Writing.{block, rescued_between, blocks_from, hexadecimal, status_text, block_line, ended, head_lines, map_text}
 use Rattle.md_maps.specs.declared.line.Block.{Block}
 use Rattle.md_maps.proofs.Words.{words, words-space, fields-first, fields_from_words}
@@ -197,11 +197,11 @@ gap_chain size from to rest low high chain =
     subst (λ (c : Bool). IsChain size from (cond c (block from (to - from) true ∷ []) [] ++ rest)) (sym (le-ltb from to none)) (subst (λ (n : ℕ). IsChain size n rest) same chain))
     (cases_lt from to)
 
-gap_end : (from to : ℕ) (rest : List Block) → from ≤ to → from + end_of (rescued_between from to ++ rest) ≡ to + end_of rest
+gap_end : (from to : ℕ) (rest : List Block) → from ≤ to → from + end_of_blocks (rescued_between from to ++ rest) ≡ to + end_of_blocks rest
 gap_end from to rest low =
     ⊎_elim
-    (λ some. ap (λ (c : Bool). from + end_of (cond c (block from (to - from) true ∷ []) [] ++ rest)) (lt-ltb from to some) ∙ (let e = end-cons (block from (to - from) true) rest in omega (arith, e, low)))
-    (λ none. ap (λ (c : Bool). from + end_of (cond c (block from (to - from) true ∷ []) [] ++ rest)) (le-ltb from to none) ∙ omega (arith, low, none))
+    (λ some. ap (λ (c : Bool). from + end_of_blocks (cond c (block from (to - from) true ∷ []) [] ++ rest)) (lt-ltb from to some) ∙ (let e = end-cons (block from (to - from) true) rest in omega (arith, e, low)))
+    (λ none. ap (λ (c : Bool). from + end_of_blocks (cond c (block from (to - from) true ∷ []) [] ++ rest)) (le-ltb from to none) ∙ omega (arith, low, none))
     (cases_lt from to)
 
 gap_missing : (from to : ℕ) (rest : List Block) (s : ℕ) → IsMissing (rescued_between from to ++ rest) s ↔ IsMissing rest s
@@ -231,11 +231,11 @@ run_at size from low run runs rises at within =
     record { low = omega (arith, rises.0, at); below = omega (arith, rises.1, last); within = omega arith; next = omega arith }
 
 chain_from : (size from low : ℕ) (runs : List Run) → RisesFrom low runs → from ≤ 512 * low → from ≤ size → AreWithin size runs
-    → IsChain size from (blocks_from size from runs) × (from + end_of (blocks_from size from runs) ≡ size)
+    → IsChain size from (blocks_from size from runs) × (from + end_of_blocks (blocks_from size from runs) ≡ size)
 chain_from size from low [] rises at fits within =
     let same : rescued_between from size ++ [] ≡ rescued_between from size = append-nil (rescued_between from size) in (
       subst (λ (bs : List Block). IsChain size from bs) same (gap_chain size from size [] fits (omega arith) tt),
-      ap (λ (bs : List Block). from + end_of bs) (sym same) ∙ gap_end from size [] fits ∙ omega arith,
+      ap (λ (bs : List Block). from + end_of_blocks bs) (sym same) ∙ gap_end from size [] fits ∙ omega arith,
     )
 chain_from size from low (run ∷ runs) rises at fits within =
     let r = run_at size from low run runs rises at within in
@@ -276,7 +276,7 @@ text_lines : (size : ℕ) (runs : List Run) → map_text size runs ≡ flat_map 
 unfolding map_text
 text_lines size runs = ap (λ (xs : List ℕ). flat_map ended head_lines ++ xs) (map_lines (blocks_from size 0 runs)) ∙ sym (flat_map-append ended head_lines (map block_line (blocks_from size 0 runs)))
 
-pub read_back : (size : ℕ) (text : List ℕ) (runs : List Run) → size ≤ 2 ^ 63 → IsCanonical runs → AreWithin size runs → text ≡ map_text size runs → IsReadAs size text runs
+pub read_back : (size : ℕ) (text : List ℕ) (runs : List Run) → size ≤ 2 ^ 63 → IsCanonical runs → AreWithin size runs → text ≡ map_text size runs → IsMapReadAs size text runs
 read_back size text runs small canonical within is =
     let chain = chain_from size 0 0 runs canonical (omega arith) (omega arith) within in
     let lines : List (List ℕ) = head_lines ++ map block_line (blocks_from size 0 runs) in

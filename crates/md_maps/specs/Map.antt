@@ -5,7 +5,7 @@ use Rattle.std.specs.Option.{option_map}
 use Rattle.md_badblocks.specs.declared.run.Run.{Run}
 use Rattle.md_badblocks.specs.Runs.{IsBad}
 use Rattle.md_maps.specs.Lines.{lines_of, fields_of}
-use Rattle.md_maps.specs.Rows.{IsStatusRow, IsBlockRow, fault_of}
+use Rattle.md_maps.specs.Rows.{IsStatusRow, IsBlockRow, line_fault_of}
 use Rattle.md_maps.specs.declared.line.Block.{Block}
 use Rattle.md_maps.specs.declared.fault.LineFault.{LineFault}
 use Rattle.md_maps.specs.declared.fault.LineFault.TheVariants.{Cut}
@@ -36,8 +36,8 @@ IsSaid size [] (Some blocks) = ⊥
 IsSaid size (row ∷ rows) None = ⊥
 
 -- where blocks from 0 on end
-abbrev pub end_of : List Block → ℕ
-end_of blocks = sum_by (λ b. b.len) blocks
+abbrev pub end_of_blocks : List Block → ℕ
+end_of_blocks blocks = sum_by (λ b. b.len) blocks
 
 -- the text is a map of `size` bytes in these blocks: each line is ended by a line feed, the first that says something is the
 -- status line, the others are the blocks, and these follow one another from 0 to the size
@@ -45,7 +45,7 @@ pub record IsMap (size : ℕ) (text : List ℕ) (blocks : List Block) : Type 0 w
   pub lines : List (List ℕ)
   pub whole : lines_of text ≡ lines ++ [] ∷ []
   pub said : IsSaid size (rows_of lines) (Some blocks)
-  pub full : end_of blocks ≡ size
+  pub full : end_of_blocks blocks ≡ size
 
 -- one of the bytes from a place on is in the sector
 abbrev pub HasByte : ℕ → ℕ → ℕ → Type 0
@@ -61,7 +61,7 @@ IsMissing [] sector = ⊥
 IsMissing (block ∷ blocks) sector = IsLostIn block sector ⊎ IsMissing blocks sector
 
 -- what a map is read as: the sectors of which it lacks a byte
-pub record IsReadAs (size : ℕ) (text : List ℕ) (missing : List Run) : Type 0 where
+pub record IsMapReadAs (size : ℕ) (text : List ℕ) (missing : List Run) : Type 0 where
   pub blocks : List Block
   pub map : IsMap size text blocks
   pub lacks : (sector : ℕ) → IsBad missing sector ↔ IsMissing blocks sector
@@ -69,10 +69,10 @@ pub record IsReadAs (size : ℕ) (text : List ℕ) (missing : List Run) : Type 0
 -- the fault of a line, by what those before it say, and what follows it: nothing follows a line that no line feed ends
 abbrev pub IsFaultOf : ℕ → Option (List Block) → List ℕ → List (List ℕ) → LineFault → Type 0
 IsFaultOf size before line [] fault = (line ≢ []) × (fault ≡ Cut)
-IsFaultOf size before line (next ∷ rest) fault = fault_of size (option_map end_of before) (fields_of line) ≡ Some fault
+IsFaultOf size before line (next ∷ rest) fault = line_fault_of size (option_map end_of_blocks before) (fields_of line) ≡ Some fault
 
 -- the line of this number has the fault, and those before it have none
-pub record IsFirstFault (size : ℕ) (text : List ℕ) (number : ℕ) (fault : LineFault) : Type 0 where
+pub record IsFirstLineFault (size : ℕ) (text : List ℕ) (number : ℕ) (fault : LineFault) : Type 0 where
   pub lines : List (List ℕ)
   pub line : List ℕ
   pub rest : List (List ℕ)
@@ -89,8 +89,8 @@ pub record IsFaultless (size : ℕ) (text : List ℕ) (said : Option (List Block
   pub rows : IsSaid size (rows_of lines) said
 
 -- why a text is refused as a map of `size` bytes; NoMemory can come where it is one
-abbrev pub IsRefused : ℕ → List ℕ → MapFault → Type 0
-IsRefused size text (Line number fault) = IsFirstFault size text number fault
-IsRefused size text NoStatusLine = IsFaultless size text None
-IsRefused size text (EndsAt e) = (blocks : List Block) × IsFaultless size text (Some blocks) × (end_of blocks ≡ e) × (e < size)
-IsRefused size text NoMemory = (blocks : List Block) × IsMap size text blocks
+abbrev pub IsMapRefused : ℕ → List ℕ → MapFault → Type 0
+IsMapRefused size text (Line number fault) = IsFirstLineFault size text number fault
+IsMapRefused size text NoStatusLine = IsFaultless size text None
+IsMapRefused size text (EndsAt e) = (blocks : List Block) × IsFaultless size text (Some blocks) × (end_of_blocks blocks ≡ e) × (e < size)
+IsMapRefused size text NoMemory = (blocks : List Block) × IsMap size text blocks

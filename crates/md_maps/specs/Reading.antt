@@ -3,7 +3,7 @@ use Rattle.std.specs.Prelude.{◌≡◌, ◌↔◌, ℕ, ◌<◌, ◌≤◌, Lis
 use Rattle.std.specs.Option.{option_map}
 use Rattle.md_badblocks.specs.declared.run.Run.{Run}
 use Rattle.md_badblocks.specs.Runs.{IsBad}
-use Rattle.md_maps.specs.Map.{IsSaid, IsMissing, rows_of, end_of}
+use Rattle.md_maps.specs.Map.{IsSaid, IsMissing, rows_of, end_of_blocks}
 use Rattle.md_maps.specs.declared.line.Block.{Block}
 use Rattle.md_maps.specs.declared.fault.MapFault.{MapFault}
 use Rattle.md_maps.specs.declared.fault.MapFault.TheVariants.{Line, NoStatusLine, EndsAt, NoMemory}
@@ -12,7 +12,7 @@ use Rattle.md_maps.specs.declared.fault.MapFault.TheVariants.{Line, NoStatusLine
 pub record IsReadTo {E : Type 0} (size : ℕ) (lines : List (List ℕ)) (end : Option ℕ) (missing : Result (List Run) E) : Type 0 where
   pub blocks : Option (List Block)
   pub said : IsSaid size (rows_of lines) blocks
-  pub there : end ≡ option_map end_of blocks
+  pub there : end ≡ option_map end_of_blocks blocks
   pub lacks : IfOk missing (λ runs. (sector : ℕ) → IsBad runs sector ↔ IsMissing (unwrap_or blocks []) sector)
 
 -- what is wanting where each line was taken and the blocks end there

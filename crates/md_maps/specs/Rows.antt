@@ -36,10 +36,10 @@ IsLine size end row StatusLine = (end ≡ None) × IsStatusRow row
 IsLine size end row (Data block) = (end ≡ Some block.start) × IsBlockRow row block × (block.start + block.len ≤ size)
 
 -- the block that a line says, if it says one, ends there at most
-abbrev pub EndsBy : ℕ → Line → Type 0
-EndsBy limit Blank = ⊤
-EndsBy limit StatusLine = ⊤
-EndsBy limit (Data block) = block.start + block.len ≤ limit
+abbrev pub BlockEndsBy : ℕ → Line → Type 0
+BlockEndsBy limit Blank = ⊤
+BlockEndsBy limit StatusLine = ⊤
+BlockEndsBy limit (Data block) = block.start + block.len ≤ limit
 
 -- the first fault of a block's place, where the one before ends at `from`
 abbrev pub place_fault : ℕ → ℕ → ℕ → ℕ → Option LineFault
@@ -59,8 +59,8 @@ status_fault position status pass =
     if not (is_some position && is_positive pass) then Some Number else (if not status then Some Status else None)
 
 -- the first fault of a line that a line feed ends
-unfoldable pub fault_of : ℕ → Option ℕ → List (List ℕ) → Option LineFault
-fault_of size end [] = None
-fault_of size None (position ∷ status ∷ pass ∷ []) = status_fault (number_of position) (is_current_status status) (numeral 10 pass)
-fault_of size (Some from) (position ∷ len ∷ status ∷ []) = block_fault size from (number_of position) (number_of len) (rescued_of status)
-fault_of size end (field ∷ fields) = Some Fields
+unfoldable pub line_fault_of : ℕ → Option ℕ → List (List ℕ) → Option LineFault
+line_fault_of size end [] = None
+line_fault_of size None (position ∷ status ∷ pass ∷ []) = status_fault (number_of position) (is_current_status status) (numeral 10 pass)
+line_fault_of size (Some from) (position ∷ len ∷ status ∷ []) = block_fault size from (number_of position) (number_of len) (rescued_of status)
+line_fault_of size end (field ∷ fields) = Some Fields

@@ -2,7 +2,7 @@
 ghost use Rattle.std.specs.Prelude.{◌≡◌, ◌+◌, ◌≤◌, ◌^◌, ℕ, true, is_some, IfOk, IfErr, OnOk};
 ghost use Rattle.md_maps.specs.Lines.{fields_of};
 ghost use Rattle.md_maps.specs.Numbers.{is_positive, number_of, numeral};
-ghost use Rattle.md_maps.specs.Rows.{rescued_of, is_current_status, is_failed_status, IsLine, place_fault, status_fault, block_fault, fault_of};
+ghost use Rattle.md_maps.specs.Rows.{rescued_of, is_current_status, is_failed_status, IsLine, place_fault, status_fault, block_fault, line_fault_of};
 
 use crate::fault::LineFault;
 use crate::fields::three_fields;
@@ -30,7 +30,7 @@ pub(crate) enum Line {
 pub(crate) fn read_line(line: &[u8], end: Option<u64>, size: u64) -> Result<Line, LineFault>
     requires { size ≤ 2 ^ 63 }
     ensures ok { IfOk result (λ is. IsLine size end (fields_of line.now) is) }
-    ensures err { IfErr result (λ fault. fault_of size end (fields_of line.now) ≡ Some fault) }
+    ensures err { IfErr result (λ fault. line_fault_of size end (fields_of line.now) ≡ Some fault) }
 {
     let Some((first, second, third)) = three_fields(line)? else {
         return Ok(Line::Blank);

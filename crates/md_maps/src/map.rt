@@ -1,7 +1,7 @@
 // A whole map.
 ghost use Rattle.std.specs.Prelude.{◌≡◌, ◌≤◌, ◌^◌, List, position, IfOk, IfErr};
 ghost use Rattle.md_maps.specs.Lines.{is_line_feed};
-ghost use Rattle.md_maps.specs.Map.{IsMap, IsReadAs, IsRefused};
+ghost use Rattle.md_maps.specs.Map.{IsMap, IsMapReadAs, IsMapRefused};
 ghost use Rattle.md_maps.specs.declared.line.Block.{Block};
 ghost use Rattle.md_maps.specs.declared.fault.MapFault.TheVariants.{NoMemory};
 
@@ -15,8 +15,8 @@ use std::alloc::Global;
 /// image and of no more.
 pub fn read_map(alloc: Global, text: &[u8], size: u64) -> Result<BadSet, MapFault>
     requires { size ≤ 2 ^ 63 }
-    ensures ok { IfOk result (λ missing. IsReadAs size text.now missing) }
-    ensures err { IfErr result (λ fault. IsRefused size text.now fault) }
+    ensures ok { IfOk result (λ missing. IsMapReadAs size text.now missing) }
+    ensures err { IfErr result (λ fault. IsMapRefused size text.now fault) }
 
     // A map is refused only where there is no memory.
     ensures exact { IfErr result (λ fault. (blocks : List Block) → IsMap size text.now blocks → fault ≡ NoMemory) }

@@ -2,7 +2,7 @@
 ghost use Rattle.std.specs.Prelude.{◌≡◌, ◌+◌, ◌≤◌, ◌^◌, ◌⊎◌, ◌↔◌, ℕ, List, [], ◌∷◌, ◌++◌, IfOk, IfErr, IsOkAnd, OnOk};
 ghost use Rattle.md_badblocks.specs.Runs.{IsBad};
 ghost use Rattle.md_maps.specs.Lines.{fields_of};
-ghost use Rattle.md_maps.specs.Rows.{IsLine, EndsBy};
+ghost use Rattle.md_maps.specs.Rows.{IsLine, BlockEndsBy};
 ghost use Rattle.md_maps.specs.Map.{HasByte, IsLostIn};
 ghost use Rattle.md_maps.specs.Reading.{IsReadTo, IsUnfinished};
 
@@ -26,7 +26,7 @@ pub(crate) struct Reading {
 impl Reading {
     /// What the lines say with one more.
     pub(crate) fn after(self, line: Line) -> Reading
-        requires { EndsBy (2 ^ 63) line }
+        requires { BlockEndsBy (2 ^ 63) line }
         ensures { (size : ℕ) → (lines : List (List ℕ)) → (bytes : List ℕ) → IsLine size self.end (fields_of bytes) line
             → IsReadTo size lines self.end self.missing
             → IsReadTo size (lines ++ bytes ∷ []) result.end result.missing }

@@ -2,7 +2,7 @@
 ghost use Rattle.std.specs.Prelude.{◌≡◌, ◌+◌, ◌*◌, ◌^◌, ◌<◌, ◌≤◌, ◌++◌, ℕ, true, IfOk, OnOk, string_bytes};
 ghost use Rattle.std.specs.List.{flat_map};
 ghost use Rattle.md_badblocks.specs.Runs.{IsBad};
-ghost use Rattle.md_maps.specs.Map.{IsReadAs};
+ghost use Rattle.md_maps.specs.Map.{IsMapReadAs};
 ghost use Rattle.md_maps.specs.Writing.{ended, block_line, rescued_between, status_text, map_text};
 
 use crate::line::Block;
@@ -24,7 +24,7 @@ pub fn write_map(alloc: Global, size: u64, missing: &BadSet) -> Result<String, A
     ensures text { IfOk result (λ text. string_bytes text ≡ map_text size missing.now) }
 
     // It is read as it was meant.
-    ensures read_back { IfOk result (λ text. IsReadAs size (string_bytes text) missing.now) }
+    ensures read_back { IfOk result (λ text. IsMapReadAs size (string_bytes text) missing.now) }
 {
     let mut text = String::new(alloc);
     text.push_str(HEAD)?;

@@ -89,7 +89,7 @@ impl<D: Device> Device for MaskedDevice<D> {
     ghost failures = { λ d. d.refused + D.failures d.inner };
 
     // The mask goes with the device, so nothing is promised of a stop.
-    ghost stops = { λ _. [] };
+    ghost crashes = { λ _. [] };
 
     fn sectors(&self) -> u64 {
         self.inner.sectors()

@@ -9,7 +9,7 @@ use Rattle.md_images.proofs.Taken.{get_before, get_last}
 use Rattle.md_images.specs.declared.image_refusal.ImageRefusal.TheVariants as image
 use Rattle.md_maps.specs.declared.fault.MapFault.{MapFault}
 use Rattle.md_masked_images.specs.Copies.{AreMasked, IsMaskedAt, LacksBy, LacksByFirstMap, RefusesMap, first_of}
-use Rattle.md_masked_images.specs.Masks.{HasSize, IsLacking, IsNoMap, KeepsAll, Masks, mask_of, named_mask}
+use Rattle.md_masked_images.specs.Masks.{HasSize, IsMissingByMap, IsNoMap, KeepsAll, Masks, mask_of, named_mask}
 use Rattle.md_masked_images.specs.declared.fault.MapRefusal.TheVariants as refusal
 use Rattle.md_masked_images.specs.declared.fault.MapsFault.{MapsFault}
 use Rattle.md_masked_images.specs.declared.fault.MapsFault.TheVariants as maps
@@ -33,7 +33,7 @@ module _ {I D : Type 0} (i : ImagesGhosts I D) where
 
 module _ {I D : Type 0} (i : ImagesGhosts I D) (g : Ghosts D) where
   -- what an image lacks now it lacked before, where all stay as they were
-  lacked : (a b : I) (name map : Text) (missing : List Run) → KeepsAll i a b → IsLacking i g name map b missing → IsLacking i g name map a missing
+  lacked : (a b : I) (name map : Text) (missing : List Run) → KeepsAll i a b → IsMissingByMap i g name map b missing → IsMissingByMap i g name map a missing
   lacked a b name map missing kept l = record {
     size = l.size;
     sized = λ k. subst (λ (d : Option D). HasSize g d l.size) (kept.devices k name) (l.sized (kept.known ∙ k));

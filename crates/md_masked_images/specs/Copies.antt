@@ -6,7 +6,7 @@ use Rattle.md_badblocks.specs.declared.run.Run.{Run}
 use Rattle.md_images.specs.Taking.{Text, name_at}
 use Rattle.md_maps.specs.declared.fault.MapFault.{MapFault}
 use Rattle.md_images.specs.declared.images.Images.{Ghosts as ImagesGhosts}
-use Rattle.md_masked_images.specs.Masks.{IsLacking, IsNoMap, Masks, mask_of, named_mask}
+use Rattle.md_masked_images.specs.Masks.{IsMissingByMap, IsNoMap, Masks, mask_of, named_mask}
 use Rattle.md_masked_images.specs.declared.fault.MapRefusal.TheVariants.{Map}
 use Rattle.md_masked_images.specs.declared.fault.MapsFault.{MapsFault}
 use Rattle.md_masked_images.specs.declared.fault.MapsFault.TheVariants.{BadImage, BadMap, NoMemory}
@@ -21,7 +21,7 @@ module _ {I D : Type 0} (i : ImagesGhosts I D) (g : Ghosts D) (images : I) (maps
   pub record LacksByMap (place : ℕ) (name : Text) (missing : List Run) : Type 0 where
     pub map : MapText
     pub at : slice_get maps place ≡ Some map
-    pub lacks : IsLacking i g name map.text.items images missing
+    pub lacks : IsMissingByMap i g name map.text.items images missing
 
   -- by the first map of the image, and nothing where it has none
   abbrev pub LacksBy : Option ℕ → Text → List Run → Type 0

@@ -4,7 +4,7 @@ use Rattle.std.specs.Prelude.{◌≡◌, ℕ, List, [], length, Option, Some, No
 use Rattle.md_badblocks.specs.declared.run.Run.{Run}
 use Rattle.md_images.specs.MemImages.{Named}
 use Rattle.md_images.specs.declared.images.Images.{Ghosts as ImagesGhosts}
-use Rattle.md_maps.specs.Map.{IsReadAs, IsRefused}
+use Rattle.md_maps.specs.Map.{IsMapReadAs, IsMapRefused}
 use Rattle.md_maps.specs.declared.fault.MapFault.{MapFault}
 use Rattle.md_masked_device.specs.Masked.{Masked}
 use Rattle.md_masked_images.specs.declared.fault.LackingFault.{LackingFault}
@@ -44,16 +44,16 @@ pub record KeepsAll {I D : Type 0} (i : ImagesGhosts I D) (before after : I) : T
   pub asked : i.known before ≡ true → (n : List ℕ) → i.asked after n ≡ i.asked before n
 
 -- the map of the image under a name says that it lacks these sectors
-pub record IsLacking {I D : Type 0} (i : ImagesGhosts I D) (g : Ghosts D) (name map : List ℕ) (images : I) (missing : List Run) : Type 0 where
+pub record IsMissingByMap {I D : Type 0} (i : ImagesGhosts I D) (g : Ghosts D) (name map : List ℕ) (images : I) (missing : List Run) : Type 0 where
   pub size : ℕ
   pub sized : i.known images ≡ true → HasSize g (i.device_at images name) size
-  pub lacks : IsReadAs size map missing
+  pub lacks : IsMapReadAs size map missing
 
 -- The map is refused with this fault as one of the image under a name.
 pub record IsNoMap {I D : Type 0} (i : ImagesGhosts I D) (g : Ghosts D) (name map : List ℕ) (images : I) (fault : MapFault) : Type 0 where
   pub size : ℕ
   pub sized : i.known images ≡ true → HasSize g (i.device_at images name) size
-  pub refused : IsRefused size map fault
+  pub refused : IsMapRefused size map fault
 
 -- What the copy lacks can't be told: the map is refused, or the image can't be looked at.
 abbrev pub RefusesLacking : {I D : Type 0} → ImagesGhosts I D → Ghosts D → List ℕ → List ℕ → I → LackingFault → Type 0

@@ -1,7 +1,7 @@
 // Images under their masks.
 ghost use Rattle.std.specs.Prelude.{◌≡◌, ◌≤◌, ◌^◌, ◌&&◌, ◌++◌, ◌∷◌, ℕ, List, [], true, is_some, IfErr, IfOk, OnOk, OnErr};
 ghost use Rattle.md_images.specs.MemImages.{device_in};
-ghost use Rattle.md_masked_images.specs.Masks.{HasSize, IsLacking, KeepsAll, RefusesLacking, mask_of, masked, named_mask};
+ghost use Rattle.md_masked_images.specs.Masks.{HasSize, IsMissingByMap, KeepsAll, RefusesLacking, mask_of, masked, named_mask};
 
 use crate::fault::LackingFault;
 use md_badblocks::BadSet;
@@ -70,7 +70,7 @@ impl<I: Images> MaskedImages<I> {
 
     /// What the image under a name lacks by its map, of the whole of it. It is looked at.
     pub fn lacking(&mut self, name: &str, map: &[u8]) -> Result<BadSet, LackingFault>
-        ensures ok { IfOk result (IsLacking I.Images I.Dev.Device name.now map.now self.old.images) }
+        ensures ok { IfOk result (IsMissingByMap I.Images I.Dev.Device name.now map.now self.old.images) }
         ensures err { IfErr result (RefusesLacking I.Images I.Dev.Device name.now map.now self.old.images) }
         ensures masks { self.new.masks ≡ self.old.masks }
         ensures images { KeepsAll I.Images self.old.images self.new.images }

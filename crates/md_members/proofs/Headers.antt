@@ -5,9 +5,9 @@ use Rattle.md_format.specs.FirstFault.{IsFirst}
 use Rattle.md_bitmap.specs.declared.header.BitmapHeader.{BitmapHeader}
 use Rattle.md_bitmap.specs.declared.fault.BitmapFault.{BitmapFault}
 use Rattle.md_bitmap.specs.Header.{IsHeader}
-use Rattle.md_bitmap.specs.Faults.{Stands, place, NoneStands}
+use Rattle.md_bitmap.specs.Faults.{BitmapFaultStands, bitmap_fault_place, NoneStands}
 use Rattle.md_bitmap.specs.Marks.{Bitmap}
-use Rattle.md_members.specs.Areas.{IsPlaced}
+use Rattle.md_members.specs.Areas.{AreAreasPlaced}
 use Rattle.md_members.specs.Reading.{BitmapStartsAt, IsMarks, IsRead, ReadsHeader, ReadsHeaderFault, front_of}
 
 pub header_read : (content : List ℕ) (honest : Bool) (v : Superblock) (h : BitmapHeader) (start : ℕ) (sector front : List ℕ) → BitmapStartsAt v start → IsRead content honest start 512 sector → front ≡ front_of sector → IsHeader front h → NoneStands front → ReadsHeader content honest v h
@@ -20,25 +20,25 @@ header_read content honest v h start sector front at read e fields sound = recor
   sound = subst (λ (bytes : List ℕ). NoneStands bytes) e sound;
 }
 
-pub header_refused : (content : List ℕ) (honest : Bool) (v : Superblock) (f : BitmapFault) (start : ℕ) (sector front : List ℕ) → BitmapStartsAt v start → IsRead content honest start 512 sector → front ≡ front_of sector → IsFirst (Stands front) place f → ReadsHeaderFault content honest v f
+pub header_refused : (content : List ℕ) (honest : Bool) (v : Superblock) (f : BitmapFault) (start : ℕ) (sector front : List ℕ) → BitmapStartsAt v start → IsRead content honest start 512 sector → front ≡ front_of sector → IsFirst (BitmapFaultStands front) bitmap_fault_place f → ReadsHeaderFault content honest v f
 header_refused content honest v f start sector front at read e first = record {
   start = start;
   at = at;
   sector = sector;
   read = read;
-  first = subst (λ (bytes : List ℕ). IsFirst (Stands bytes) place f) e first;
+  first = subst (λ (bytes : List ℕ). IsFirst (BitmapFaultStands bytes) bitmap_fault_place f) e first;
 }
 
 -- the sectors of a device, by its content
-pub placed_by : (content : List ℕ) (v : Superblock) (sectors width all : ℕ) → length content ≡ 512 * sectors → all ≡ width → IsPlaced sectors v all → IsPlaced (length content / 512) v width
+pub placed_by : (content : List ℕ) (v : Superblock) (sectors width all : ℕ) → length content ≡ 512 * sectors → all ≡ width → AreAreasPlaced sectors v all → AreAreasPlaced (length content / 512) v width
 placed_by content v sectors width all size e p =
     let count : sectors ≡ length content / 512 = omega arith in
-    subst (λ (n : ℕ). IsPlaced n v width) count (subst (λ (n : ℕ). IsPlaced sectors v n) e p)
+    subst (λ (n : ℕ). AreAreasPlaced n v width) count (subst (λ (n : ℕ). AreAreasPlaced sectors v n) e p)
 
-pub placed_of : (content : List ℕ) (v : Superblock) (sectors width all : ℕ) → length content ≡ 512 * sectors → all ≡ width → IsPlaced (length content / 512) v width → IsPlaced sectors v all
+pub placed_of : (content : List ℕ) (v : Superblock) (sectors width all : ℕ) → length content ≡ 512 * sectors → all ≡ width → AreAreasPlaced (length content / 512) v width → AreAreasPlaced sectors v all
 placed_of content v sectors width all size e p =
     let count : length content / 512 ≡ sectors = omega arith in
-    subst (λ (n : ℕ). IsPlaced sectors v n) (sym e) (subst (λ (n : ℕ). IsPlaced n v width) count p)
+    subst (λ (n : ℕ). AreAreasPlaced sectors v n) (sym e) (subst (λ (n : ℕ). AreAreasPlaced n v width) count p)
 
 -- the marks, where the device and the numbers are the same
 pub marks_as : (old new : List ℕ) (was is : Bool) (start chunks count sectors width : ℕ) (m : Bitmap) → new ≡ old → is ≡ was → chunks ≡ count → sectors ≡ width → IsMarks new is start chunks sectors m → IsMarks old was start count width m

@@ -1,6 +1,6 @@
 -- Stops over several calls that only read.
 use Rattle.std.proofs.Common.{◌≡◌, Bool, true, List, ℕ, ◌∙◌}
-use Rattle.md_device.specs.Stops.{LeavesMore}
+use Rattle.md_device.specs.Crashes.{LeavesMore}
 use Rattle.md_device.proofs.Leaving.{leaves_less, leaves_then}
 
 pub leaves_same : (past mid now : List (List ℕ)) (was is : List ℕ) (honest still : Bool) → is ≡ was → still ≡ honest

@@ -7,17 +7,17 @@ pub use Rattle.md_bitmap.specs.Sectors.{bitmap_sectors}
 use Rattle.md_members.specs.declared.area.Area.{Area}
 
 -- the first sector after an area
-abbrev pub end_of : Area → ℤ
-end_of a = a.start +ℤ pos a.sectors
+abbrev pub end_of_area : Area → ℤ
+end_of_area a = a.start +ℤ pos a.sectors
 
 -- the area lies on a device of so many sectors
 pub record IsWithin (sectors : ℕ) (a : Area) : Type 0 where
   pub from : pos 0 ≤ℤ a.start
-  pub to : end_of a ≤ℤ pos sectors
+  pub to : end_of_area a ≤ℤ pos sectors
 
 -- two areas have no sector in common
 abbrev pub AreApart : Area → Area → Type 0
-AreApart a b = (end_of a ≤ℤ b.start) ⊎ (end_of b ≤ℤ a.start)
+AreApart a b = (end_of_area a ≤ℤ b.start) ⊎ (end_of_area b ≤ℤ a.start)
 
 -- an area whose end is a small number
 pub record IsSmall (a : Area) : Type 0 where
@@ -70,7 +70,7 @@ pub record BitmapIsPlaced (sectors : ℕ) (v : Superblock) (width : ℕ) : Type 
   pub from_log : IsApartFromLog v (bitmap_area v width)
 
 -- the areas of a member of a device of so many sectors, whose bitmap takes so many
-pub record IsPlaced (sectors : ℕ) (v : Superblock) (width : ℕ) : Type 0 where
+pub record AreAreasPlaced (sectors : ℕ) (v : Superblock) (width : ℕ) : Type 0 where
   pub some_size : 0 < v.size
   pub data_holds : v.size ≤ v.data_size
   pub data_within : v.data_offset + v.data_size ≤ sectors

@@ -9,16 +9,16 @@ use Rattle.md_badblocks.specs.declared.run.Run.{Run}
 use Rattle.md_members.specs.declared.fault.MemberFault.{MemberFault}
 use Rattle.md_members.specs.declared.fault.MemberFault.TheVariants.{Region}
 use Rattle.md_members.specs.declared.info.MemberInfo.{MemberInfo}
-use Rattle.md_members.specs.Areas.{IsPlaced, has_bad_blocks, has_bitmap}
+use Rattle.md_members.specs.Areas.{AreAreasPlaced, has_bad_blocks, has_bitmap}
 use Rattle.md_members.specs.Reading.{ReadsSuper, ReadsBitmap, ReadsLog, RefusesSuper, RefusesBitmap, RefusesLog}
 
 -- the sectors of a device of this content
-abbrev pub sectors_of : List ℕ → ℕ
-sectors_of content = length content / 512
+abbrev pub sectors_of_device : List ℕ → ℕ
+sectors_of_device content = length content / 512
 
 -- the bitmap that was read, where the superblock has one
 abbrev pub HasBitmap : List ℕ → Bool → Superblock → Option BitmapHeader → Option Bitmap → Type 0
-HasBitmap content honest v (Some h) (Some m) = (has_bitmap v ≡ true) × ReadsBitmap content honest (sectors_of content) v h m
+HasBitmap content honest v (Some h) (Some m) = (has_bitmap v ≡ true) × ReadsBitmap content honest (sectors_of_device content) v h m
 HasBitmap content honest v None None = has_bitmap v ≡ false
 HasBitmap content honest v _ _ = ⊥
 
@@ -31,18 +31,18 @@ abbrev pub HasBadSet : List ℕ → Bool → Superblock → List Run → Type 0
 HasBadSet content honest v bad = ((reads_log v ≡ true) × ReadsLog content honest v bad) ⊎ ((reads_log v ≡ false) × (bad ≡ []))
 
 -- a member, as its device has it
-pub record IsMember (content : List ℕ) (honest : Bool) (info : MemberInfo) : Type 0 where
+pub record IsReadMember (content : List ℕ) (honest : Bool) (info : MemberInfo) : Type 0 where
   pub superblock : ReadsSuper content honest info.superblock
   pub size : length content ≡ 512 * info.sectors
-  pub placed : IsPlaced (sectors_of content) info.superblock 1
+  pub placed : AreAreasPlaced (sectors_of_device content) info.superblock 1
   pub bitmap : HasBitmap content honest info.superblock info.header info.marks
   pub bad : HasBadSet content honest info.superblock info.bad
 
 -- why the rest of a member is refused, whose superblock was read
 pub data RefusesRest (content : List ℕ) (honest : Bool) (Failed : Type 0) (v : Superblock) (fault : MemberFault) : Type 0 where
-  by_place : fault ≡ Region → (IsPlaced (sectors_of content) v 1 → ⊥) → RefusesRest content honest Failed v fault
-  by_bitmap : IsPlaced (sectors_of content) v 1 → has_bitmap v ≡ true → RefusesBitmap content honest Failed (sectors_of content) v fault → RefusesRest content honest Failed v fault
-  by_log : IsPlaced (sectors_of content) v 1 → (h : Option BitmapHeader) (m : Option Bitmap) → HasBitmap content honest v h m → reads_log v ≡ true → RefusesLog honest Failed v fault → RefusesRest content honest Failed v fault
+  by_place : fault ≡ Region → (AreAreasPlaced (sectors_of_device content) v 1 → ⊥) → RefusesRest content honest Failed v fault
+  by_bitmap : AreAreasPlaced (sectors_of_device content) v 1 → has_bitmap v ≡ true → RefusesBitmap content honest Failed (sectors_of_device content) v fault → RefusesRest content honest Failed v fault
+  by_log : AreAreasPlaced (sectors_of_device content) v 1 → (h : Option BitmapHeader) (m : Option Bitmap) → HasBitmap content honest v h m → reads_log v ≡ true → RefusesLog honest Failed v fault → RefusesRest content honest Failed v fault
 
 -- the superblock is refused, or the rest of a member whose superblock was read
 abbrev pub RefusesMember : List ℕ → Bool → Type 0 → MemberFault → Type 0
@@ -51,7 +51,7 @@ RefusesMember content honest Failed fault =
     ⊎ (v : Superblock) × ReadsSuper content honest v × RefusesRest content honest Failed v fault
 
 abbrev pub GivesMember : List ℕ → Bool → Type 0 → Result MemberInfo MemberFault → Type 0
-GivesMember content honest Failed result = MatchResult result (IsMember content honest) (RefusesMember content honest Failed)
+GivesMember content honest Failed result = MatchResult result (IsReadMember content honest) (RefusesMember content honest Failed)
 
 -- the bitmap tells of the array whose superblock it stands beside: its uuid and size are the array's, its state is 0, and
 -- its events are the superblock's or one more (this project's own)

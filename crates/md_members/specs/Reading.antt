@@ -7,19 +7,19 @@ use Rattle.md_super.specs.declared.superblock.Superblock.{Superblock}
 use Rattle.md_super.specs.declared.fault.SuperFault.{SuperFault}
 use Rattle.md_super.specs.declared.fault.SuperFault.TheVariants as super_fault
 use Rattle.md_super.specs.Format.{IsSuper}
-use Rattle.md_super.specs.Faults.{NoFault, IsFirstFault}
+use Rattle.md_super.specs.Faults.{NoSuperFault, IsFirstSuperFault}
 use Rattle.md_format.specs.Fields.{bytes_at}
 use Rattle.md_format.specs.FirstFault.{IsFirst}
 use Rattle.md_bitmap.specs.declared.header.BitmapHeader.{BitmapHeader}
 use Rattle.md_bitmap.specs.declared.fault.BitmapFault.{BitmapFault}
 use Rattle.md_bitmap.specs.declared.fault.BitmapFault.TheVariants.{TooManyChunks}
 use Rattle.md_bitmap.specs.Header.{IsHeader}
-use Rattle.md_bitmap.specs.Faults.{Stands, place, NoneStands}
+use Rattle.md_bitmap.specs.Faults.{BitmapFaultStands, bitmap_fault_place, NoneStands}
 use Rattle.md_bitmap.specs.Sound.{chunk_count}
 use Rattle.md_bitmap.specs.Marks.{Bitmap}
 use Rattle.md_members.specs.declared.fault.MemberFault.{MemberFault}
 use Rattle.md_members.specs.declared.fault.MemberFault.TheVariants.{TooShort, ReadFault, Super, Region, Bitmap as BitmapRefused, Log, NoMemory}
-use Rattle.md_members.specs.Areas.{IsPlaced, bitmap_sectors}
+use Rattle.md_members.specs.Areas.{AreAreasPlaced, bitmap_sectors}
 use Rattle.md_badblocks.specs.declared.run.Run.{Run}
 use Rattle.md_badblocks.specs.declared.log.LogFault.TheVariants as log_fault
 use Rattle.md_badblocks.specs.Log.{IsReadAs}
@@ -37,26 +37,26 @@ UnlessReadFault (Err ReadFault) Holds = Unit {0}
 UnlessReadFault _ Holds = Holds
 
 -- A device has the sectors up to the superblock's end.
-abbrev pub IsLong : List ℕ → Type 0
-IsLong content = 512 * 16 ≤ length content
+abbrev pub HasSuperSectors : List ℕ → Type 0
+HasSuperSectors content = 512 * 16 ≤ length content
 
 -- the superblock in sectors 8 to 15 that were read, in which no fault stands
 pub record ReadsSuper (content : List ℕ) (honest : Bool) (v : Superblock) : Type 0 where
   pub bytes : List ℕ
   pub read : IsRead content honest 8 4096 bytes
   pub fields : IsSuper bytes v
-  pub sound : NoFault bytes
+  pub sound : NoSuperFault bytes
 
 -- the first fault in these sectors
 pub record ReadsSuperFault (content : List ℕ) (honest : Bool) (fault : SuperFault) : Type 0 where
   pub bytes : List ℕ
   pub read : IsRead content honest 8 4096 bytes
-  pub first : IsFirstFault bytes fault
+  pub first : IsFirstSuperFault bytes fault
 
 -- why no superblock is read, where `Failed` says that a call on the device failed
 abbrev pub RefusesSuper : List ℕ → Bool → Type 0 → MemberFault → Type 0
 RefusesSuper content honest Failed TooShort = length content < 512 * 16
-RefusesSuper content honest Failed ReadFault = IsLong content × (honest ≡ true → Failed)
+RefusesSuper content honest Failed ReadFault = HasSuperSectors content × (honest ≡ true → Failed)
 RefusesSuper content honest Failed (Super f) = ReadsSuperFault content honest f × (f ≢ super_fault.NoMemory)
 RefusesSuper content honest Failed NoMemory = ReadsSuperFault content honest super_fault.NoMemory
 RefusesSuper content honest Failed _ = ⊥
@@ -87,7 +87,7 @@ pub record ReadsHeaderFault (content : List ℕ) (honest : Bool) (v : Superblock
   pub at : BitmapStartsAt v start
   pub sector : List ℕ
   pub read : IsRead content honest start 512 sector
-  pub first : IsFirst (Stands (front_of sector)) place fault
+  pub first : IsFirst (BitmapFaultStands (front_of sector)) bitmap_fault_place fault
 
 -- the chunks of the array, by the superblock's size and the bitmap's chunk size
 abbrev pub chunks_of : Superblock → BitmapHeader → ℕ
@@ -113,7 +113,7 @@ GivesMarks content honest Failed start chunks sectors result = MatchResult resul
 pub record ReadsBitmap (content : List ℕ) (honest : Bool) (sectors : ℕ) (v : Superblock) (h : BitmapHeader) (m : Bitmap) : Type 0 where
   pub header : ReadsHeader content honest v h
   pub few_chunks : chunks_of v h ≤ 1048576
-  pub placed : IsPlaced sectors v (bitmap_sectors (chunks_of v h))
+  pub placed : AreAreasPlaced sectors v (bitmap_sectors (chunks_of v h))
   pub start : ℕ
   pub at : BitmapStartsAt v start
   pub marks : IsMarks content honest start (chunks_of v h) (bitmap_sectors (chunks_of v h)) m
@@ -125,9 +125,9 @@ RefusesBitmap content honest Failed sectors v (BitmapRefused f) =
     ReadsHeaderFault content honest v f
     ⊎ (f ≡ TooManyChunks) × (h : BitmapHeader) × ReadsHeader content honest v h × (1048576 < chunks_of v h)
 RefusesBitmap content honest Failed sectors v Region =
-    (h : BitmapHeader) × ReadsHeader content honest v h × (chunks_of v h ≤ 1048576) × (IsPlaced sectors v (bitmap_sectors (chunks_of v h)) → ⊥)
+    (h : BitmapHeader) × ReadsHeader content honest v h × (chunks_of v h ≤ 1048576) × (AreAreasPlaced sectors v (bitmap_sectors (chunks_of v h)) → ⊥)
 RefusesBitmap content honest Failed sectors v NoMemory =
-    (h : BitmapHeader) × ReadsHeader content honest v h × (chunks_of v h ≤ 1048576) × IsPlaced sectors v (bitmap_sectors (chunks_of v h))
+    (h : BitmapHeader) × ReadsHeader content honest v h × (chunks_of v h ≤ 1048576) × AreAreasPlaced sectors v (bitmap_sectors (chunks_of v h))
 RefusesBitmap content honest Failed sectors v _ = ⊥
 
 abbrev pub GivesBitmap : List ℕ → Bool → Type 0 → ℕ → Superblock → Result (BitmapHeader × Bitmap) MemberFault → Type 0

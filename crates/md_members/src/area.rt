@@ -1,6 +1,6 @@
 // Areas of a device, in sectors.
 ghost use Rattle.std.specs.Prelude.{◌≤◌, ◌≤ℤ◌, ◌^◌, ◌↔◌, IsTrue};
-ghost use Rattle.md_members.specs.Areas.{AreApart, IsSmall, IsWithin, end_of};
+ghost use Rattle.md_members.specs.Areas.{AreApart, IsSmall, IsWithin, end_of_area};
 
 /// A range of sectors. An offset from the superblock may lead before the device's first sector.
 #[derive(Clone, Copy, Debug, PartialEq, Eq)]
@@ -22,7 +22,7 @@ pub(crate) fn is_within(area: Area, sectors: u64) -> bool
 fn ends_before(a: Area, b: Area) -> bool
     requires small_a { IsSmall a }
     requires small_b { IsSmall b }
-    ensures { IsTrue result ↔ (end_of a ≤ℤ b.start) }
+    ensures { IsTrue result ↔ (end_of_area a ≤ℤ b.start) }
 {
     a.start + a.sectors as i64 <= b.start
 }

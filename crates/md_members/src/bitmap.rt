@@ -1,7 +1,7 @@
 // The bitmap of a member.
 ghost use Rattle.std.specs.Prelude.{◌≡◌, ◌<◌, ◌≤◌, ◌+◌, ◌*◌, ◌/◌, ◌^◌, length, true, IfOk};
-ghost use Rattle.md_device.specs.Stops.{LeavesMore};
-ghost use Rattle.md_members.specs.Areas.{IsPlaced, bitmap_sectors, has_bitmap};
+ghost use Rattle.md_device.specs.Crashes.{LeavesMore};
+ghost use Rattle.md_members.specs.Areas.{AreAreasPlaced, bitmap_sectors, has_bitmap};
 ghost use Rattle.md_members.specs.Reading.{BitmapStartsAt, GivesBitmap, GivesMarks, UnlessReadFault};
 
 use crate::fault::MemberFault;
@@ -20,12 +20,12 @@ pub(crate) fn read_bitmap<D: Device>(
     v: &Superblock,
 ) -> Result<(BitmapHeader, Marks), MemberFault>
     requires bitmap { has_bitmap v.now ≡ true }
-    requires placed { IsPlaced (length (D.content device.old) / 512) v.now 1 }
+    requires placed { AreAreasPlaced (length (D.content device.old) / 512) v.now 1 }
     ensures kept { D.content device.new ≡ D.content device.old }
     ensures honest { D.honest device.new ≡ D.honest device.old }
     ensures counted { D.failures device.old ≤ D.failures device.new }
     ensures unfailing { UnlessReadFault result (D.failures device.new ≡ D.failures device.old) }
-    ensures within { D.honest device.old ≡ true → LeavesMore (D.stops device.old) (D.stops device.new) (λ left. left ≡ D.content device.old) }
+    ensures within { D.honest device.old ≡ true → LeavesMore (D.crashes device.old) (D.crashes device.new) (λ left. left ≡ D.content device.old) }
     ensures reads { GivesBitmap (D.content device.old) (D.honest device.old) (D.failures device.old < D.failures device.new) (length (D.content device.old) / 512) v.now result }
 {
     let device_sectors = device.sectors();
@@ -54,7 +54,7 @@ pub(crate) fn read_bitmap<D: Device>(
 fn start_of_bitmap(v: &Superblock, sectors: u64) -> u64
     requires limit { sectors ≤ 2 ^ 54 }
     requires bitmap { has_bitmap v.now ≡ true }
-    requires placed { IsPlaced sectors v.now 1 }
+    requires placed { AreAreasPlaced sectors v.now 1 }
     ensures start { BitmapStartsAt v.now result }
     ensures room { result + 1 ≤ sectors }
 {
@@ -76,7 +76,7 @@ fn read_marks<D: Device>(
     ensures honest { D.honest device.new ≡ D.honest device.old }
     ensures counted { D.failures device.old ≤ D.failures device.new }
     ensures unfailing { UnlessReadFault result (D.failures device.new ≡ D.failures device.old) }
-    ensures within { D.honest device.old ≡ true → LeavesMore (D.stops device.old) (D.stops device.new) (λ left. left ≡ D.content device.old) }
+    ensures within { D.honest device.old ≡ true → LeavesMore (D.crashes device.old) (D.crashes device.new) (λ left. left ≡ D.content device.old) }
     ensures reads { GivesMarks (D.content device.old) (D.honest device.old) (D.failures device.old < D.failures device.new) start chunks sectors result }
 {
     let Ok(mut area) = zeros(alloc, 512 * sectors as usize) else {

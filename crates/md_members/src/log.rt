@@ -1,7 +1,7 @@
 // The bad block log of a member.
 ghost use Rattle.std.specs.Prelude.{◌≡◌, ◌<◌, ◌≤◌, ◌+◌, ◌*◌, ◌/◌, ◌^◌, length, true};
-ghost use Rattle.md_device.specs.Stops.{LeavesMore};
-ghost use Rattle.md_members.specs.Areas.{IsPlaced, has_bad_blocks};
+ghost use Rattle.md_device.specs.Crashes.{LeavesMore};
+ghost use Rattle.md_members.specs.Areas.{AreAreasPlaced, has_bad_blocks};
 ghost use Rattle.md_members.specs.Reading.{GivesLog, LogStartsAt, UnlessReadFault};
 ghost use Rattle.md_super.specs.Log.{has_bad_block_log};
 
@@ -22,12 +22,12 @@ pub(crate) fn read_log<D: Device>(
     v: &Superblock,
 ) -> Result<BadSet, MemberFault>
     requires log { has_bad_block_log v.now ≡ true }
-    requires placed { IsPlaced (length (D.content device.old) / 512) v.now 1 }
+    requires placed { AreAreasPlaced (length (D.content device.old) / 512) v.now 1 }
     ensures kept { D.content device.new ≡ D.content device.old }
     ensures honest { D.honest device.new ≡ D.honest device.old }
     ensures counted { D.failures device.old ≤ D.failures device.new }
     ensures unfailing { UnlessReadFault result (D.failures device.new ≡ D.failures device.old) }
-    ensures within { D.honest device.old ≡ true → LeavesMore (D.stops device.old) (D.stops device.new) (λ left. left ≡ D.content device.old) }
+    ensures within { D.honest device.old ≡ true → LeavesMore (D.crashes device.old) (D.crashes device.new) (λ left. left ≡ D.content device.old) }
     ensures reads { GivesLog (D.content device.old) (D.honest device.old) (D.failures device.old < D.failures device.new) v.now result }
 {
     let start = start_of_log(v, device.sectors());
@@ -47,7 +47,7 @@ pub(crate) fn read_log<D: Device>(
 fn start_of_log(v: &Superblock, sectors: u64) -> u64
     requires limit { sectors ≤ 2 ^ 54 }
     requires log { has_bad_block_log v.now ≡ true }
-    requires placed { IsPlaced sectors v.now 1 }
+    requires placed { AreAreasPlaced sectors v.now 1 }
     ensures start { LogStartsAt v.now result }
     ensures room { result + v.now.bblog_size ≤ sectors }
     ensures short { v.now.bblog_size ≤ 8 }

@@ -1,9 +1,9 @@
 // A member, read whole.
 ghost use Rattle.std.specs.Prelude.{◌≡◌, ◌<◌, ◌≤◌, ◌↔◌, true, IsTrue, MatchResult};
-ghost use Rattle.md_device.specs.Stops.{LeavesMore};
-ghost use Rattle.md_members.specs.Areas.{IsPlaced, has_bitmap};
+ghost use Rattle.md_device.specs.Crashes.{LeavesMore};
+ghost use Rattle.md_members.specs.Areas.{AreAreasPlaced, has_bitmap};
 ghost use Rattle.md_members.specs.Reading.{RefusesBitmap, RefusesLog, UnlessReadFault};
-ghost use Rattle.md_members.specs.Members.{GivesMember, HasBadSet, HasBitmap, IsAccepted, reads_log, sectors_of};
+ghost use Rattle.md_members.specs.Members.{GivesMember, HasBadSet, HasBitmap, IsAccepted, reads_log, sectors_of_device};
 
 use crate::bitmap::read_bitmap;
 use crate::fault::MemberFault;
@@ -24,7 +24,7 @@ pub fn read_member<D: Device>(alloc: Global, device: &mut D) -> Result<MemberInf
     ensures honest { D.honest device.new ≡ D.honest device.old }
     ensures counted { D.failures device.old ≤ D.failures device.new }
     ensures unfailing { UnlessReadFault result (D.failures device.new ≡ D.failures device.old) }
-    ensures within { D.honest device.old ≡ true → LeavesMore (D.stops device.old) (D.stops device.new) (λ left. left ≡ D.content device.old) }
+    ensures within { D.honest device.old ≡ true → LeavesMore (D.crashes device.old) (D.crashes device.new) (λ left. left ≡ D.content device.old) }
     ensures reads { GivesMember (D.content device.old) (D.honest device.old) (D.failures device.old < D.failures device.new) result }
 {
     let superblock = read_super(alloc, device)?;
@@ -48,14 +48,14 @@ fn read_any_bitmap<D: Device>(
     device: &mut D,
     v: &Superblock,
 ) -> Result<(Option<BitmapHeader>, Option<Marks>), MemberFault>
-    requires placed { IsPlaced (sectors_of (D.content device.old)) v.now 1 }
+    requires placed { AreAreasPlaced (sectors_of_device (D.content device.old)) v.now 1 }
     ensures kept { D.content device.new ≡ D.content device.old }
     ensures honest { D.honest device.new ≡ D.honest device.old }
     ensures counted { D.failures device.old ≤ D.failures device.new }
     ensures unfailing { UnlessReadFault result (D.failures device.new ≡ D.failures device.old) }
-    ensures within { D.honest device.old ≡ true → LeavesMore (D.stops device.old) (D.stops device.new) (λ left. left ≡ D.content device.old) }
+    ensures within { D.honest device.old ≡ true → LeavesMore (D.crashes device.old) (D.crashes device.new) (λ left. left ≡ D.content device.old) }
     ensures reads { MatchResult result (λ b. HasBitmap (D.content device.old) (D.honest device.old) v.now b.0 b.1)
-        (λ f. (has_bitmap v.now ≡ true) × RefusesBitmap (D.content device.old) (D.honest device.old) (D.failures device.old < D.failures device.new) (sectors_of (D.content device.old)) v.now f) }
+        (λ f. (has_bitmap v.now ≡ true) × RefusesBitmap (D.content device.old) (D.honest device.old) (D.failures device.old < D.failures device.new) (sectors_of_device (D.content device.old)) v.now f) }
 {
     if !has_a_bitmap(v) {
         return Ok((None, None));
@@ -69,12 +69,12 @@ fn read_bad_set<D: Device>(
     device: &mut D,
     v: &Superblock,
 ) -> Result<BadSet, MemberFault>
-    requires placed { IsPlaced (sectors_of (D.content device.old)) v.now 1 }
+    requires placed { AreAreasPlaced (sectors_of_device (D.content device.old)) v.now 1 }
     ensures kept { D.content device.new ≡ D.content device.old }
     ensures honest { D.honest device.new ≡ D.honest device.old }
     ensures counted { D.failures device.old ≤ D.failures device.new }
     ensures unfailing { UnlessReadFault result (D.failures device.new ≡ D.failures device.old) }
-    ensures within { D.honest device.old ≡ true → LeavesMore (D.stops device.old) (D.stops device.new) (λ left. left ≡ D.content device.old) }
+    ensures within { D.honest device.old ≡ true → LeavesMore (D.crashes device.old) (D.crashes device.new) (λ left. left ≡ D.content device.old) }
     ensures reads { MatchResult result (λ bad. HasBadSet (D.content device.old) (D.honest device.old) v.now bad)
         (λ f. (reads_log v.now ≡ true) × RefusesLog (D.honest device.old) (D.failures device.old < D.failures device.new) v.now f) }
 {

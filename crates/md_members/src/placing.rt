@@ -1,6 +1,6 @@
 // Whether the areas of a member fit its device.
 ghost use Rattle.std.specs.Prelude.{◌≡◌, ◌+◌, ◌≤◌, ◌^◌, ◌↔◌, ℤ, pos, ◌+ℤ◌, IsTrue, true};
-ghost use Rattle.md_members.specs.Areas.{IsPlaced, IsSmall, IsApartFromLog, LogIsPlaced, BitmapIsPlaced, bitmap_area, data_area, from_super, has_bad_blocks, has_bitmap, log_area, super_area};
+ghost use Rattle.md_members.specs.Areas.{AreAreasPlaced, IsSmall, IsApartFromLog, LogIsPlaced, BitmapIsPlaced, bitmap_area, data_area, from_super, has_bad_blocks, has_bitmap, log_area, super_area};
 
 use crate::area::{Area, are_apart, is_within};
 use md_super::{FEATURE_BAD_BLOCKS, FEATURE_BITMAP_OFFSET, SUPER_SECTOR, Superblock};
@@ -107,7 +107,7 @@ fn bitmap_is_placed(v: &Superblock, payload: Area, sectors: u64, bitmap_sectors:
 pub(crate) fn is_placed(v: &Superblock, sectors: u64, bitmap_sectors: u64) -> bool
     requires limit { sectors ≤ 2 ^ 54 }
     requires few { bitmap_sectors ≤ 2 ^ 54 }
-    ensures { IsTrue result ↔ IsPlaced sectors v.now bitmap_sectors }
+    ensures { IsTrue result ↔ AreAreasPlaced sectors v.now bitmap_sectors }
 {
     if v.size == 0 {
         return false;

@@ -1,6 +1,6 @@
 // Reading a device's sectors, and its superblock.
 ghost use Rattle.std.specs.Prelude.{◌≡◌, ◌<◌, ◌≤◌, ◌+◌, ◌*◌, ◌%◌, true, length, IfErr, OnOk};
-ghost use Rattle.md_device.specs.Stops.{LeavesMore};
+ghost use Rattle.md_device.specs.Crashes.{LeavesMore};
 ghost use Rattle.md_members.specs.Reading.{GivesSuper, IsRead, UnlessReadFault};
 
 use crate::fault::MemberFault;
@@ -17,7 +17,7 @@ pub fn read_super<D: Device>(alloc: Global, device: &mut D) -> Result<Superblock
     ensures honest { D.honest device.new ≡ D.honest device.old }
     ensures counted { D.failures device.old ≤ D.failures device.new }
     ensures unfailing { UnlessReadFault result (D.failures device.new ≡ D.failures device.old) }
-    ensures within { D.honest device.old ≡ true → LeavesMore (D.stops device.old) (D.stops device.new) (λ left. left ≡ D.content device.old) }
+    ensures within { D.honest device.old ≡ true → LeavesMore (D.crashes device.old) (D.crashes device.new) (λ left. left ≡ D.content device.old) }
     ensures reads { GivesSuper (D.content device.old) (D.honest device.old) (D.failures device.old < D.failures device.new) result }
 {
     if device.sectors() < LEAST_SECTORS {
@@ -48,7 +48,7 @@ pub(crate) fn read_sectors<D: Device>(
     ensures honest { D.honest device.new ≡ D.honest device.old }
     ensures counted { D.failures device.old ≤ D.failures device.new }
     ensures unfailing { OnOk result (D.failures device.new ≡ D.failures device.old) }
-    ensures within { D.honest device.old ≡ true → LeavesMore (D.stops device.old) (D.stops device.new) (λ left. left ≡ D.content device.old) }
+    ensures within { D.honest device.old ≡ true → LeavesMore (D.crashes device.old) (D.crashes device.new) (λ left. left ≡ D.content device.old) }
     ensures ok { OnOk result (IsRead (D.content device.old) (D.honest device.old) sector (length buf.old) buf.new) }
     ensures failed { IfErr result (λ fault. (fault ≡ MemberFault.ReadFault) × (D.honest device.old ≡ true → D.failures device.old < D.failures device.new)) }
 {

@@ -16,7 +16,7 @@ use Rattle.md_array.specs.InTurn.{AllOf, HaltsAt, InTurn, IsInOrder, Requests}
 use Rattle.md_array.proofs.Steps.Turns.{all_on, all_such, turn_on, turn_then}
 use Rattle.md_metadata.specs.declared.fault.PartFault.{PartFault}
 use Rattle.md_metadata.specs.declared.fault.PartFault.TheVariants.{Halted, MemberFailed}
-use Rattle.md_metadata.specs.Going.{GoesOn, HaltsAfter, IsFaulty, IsSameArray, LosesMember, StepsBy, only_others, recorded_count}
+use Rattle.md_metadata.specs.Going.{GoesOn, HaltsAfter, IsFaulty, IsSameArray, LosesSomeMember, StepsBy, only_others, recorded_count}
 use Rattle.md_metadata.specs.Storing.{AllStayReady, FailsAtLast, FailsInSync, HaltsAtWrite, HaltsStoring, IsFailureOf, IsMarking, IsNoFailure, IsRecording, IsSector, IsStoring, IsUpToDate, LosesStoring, SectorFails, StaysReady, Stores, StoresAll, StoringFails}
 
 pub same_refl : (a : ArrayView) → IsSameArray a a
@@ -103,7 +103,7 @@ module _ (F G H : Requests → Requests) (IsOf : Event → Type 0) (old mid new 
     pending = λ o is. h.pending o (g.pending o is);
   }
 
-  pub loses_on : GoesOn F G IsOf old mid → mid.array.halted ≡ old.array.halted → LosesMember G H IsOf mid new → LosesMember F H IsOf old new
+  pub loses_on : GoesOn F G IsOf old mid → mid.array.halted ≡ old.array.halted → LosesSomeMember G H IsOf mid new → LosesSomeMember F H IsOf old new
   loses_on g running h = record {
     goes = goes_on g h.goes;
     lost = let l = g.array.fewer in let m = h.lost in omega arith;

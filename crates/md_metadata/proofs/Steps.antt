@@ -27,7 +27,7 @@ use Rattle.md_array.proofs.General.Replaced.{of_set}
 use Rattle.md_array.proofs.General.Indices.{at_set_same}
 use Rattle.md_array.proofs.Worlds.States.{in_sync_recorded}
 use Rattle.md_metadata.specs.declared.fault.PartFault.TheVariants as part
-use Rattle.md_metadata.specs.Going.{IsFaulty, IsSameArray, LosesMember, StepsBy, only_others, recorded_count}
+use Rattle.md_metadata.specs.Going.{IsFaulty, IsSameArray, LosesSomeMember, StepsBy, only_others, recorded_count}
 use Rattle.md_metadata.specs.Storing.{AllStayReady, HaltsRecordingOn, HaltsStoring, IsRecording, IsSector, RecordingFails, RecordsOn, SectorFails, StoresOn}
 use Rattle.md_metadata.proofs.Counts.{count_map, set_alike, set_fewer}
 use Rattle.md_metadata.proofs.Going.{goes_step, halts_first, step_loses}
@@ -129,7 +129,7 @@ failure_step F G IsOf e old new k f in_use of did happens sound pending =
     record { of = of; did = did; happens = happens; array = same_after old.array new.array k f in_use; sound = sound; pending = pending }
 
 pub failure_loses : (F G : Requests → Requests) (IsOf : Event → Type 0) (e : Event) (old new : MirrorView) (k : ℕ) (f : Fails k old.array new.array) → is_recorded f.member.state ≡ true
-    → StepsBy F G IsOf e old new → ((previous : Option Event) → IsInOrder previous old.array e) → LosesMember F G IsOf old new
+    → StepsBy F G IsOf e old new → ((previous : Option Event) → IsInOrder previous old.array e) → LosesSomeMember F G IsOf old new
 failure_loses F G IsOf e old new k f in_use step order = record {
   goes = goes_step F G IsOf e old new step order;
   lost = fewer_after old.array new.array k f in_use;

@@ -23,7 +23,7 @@ use Rattle.md_metadata.specs.declared.fault.PartFault.{PartFault}
 use Rattle.md_metadata.specs.Clearing.{ClearsAll, IsClearing, MayClearAll}
 use Rattle.md_metadata.specs.Going.{GoesOn, HaltsAfter, LeadsBy, only_others, recorded_count}
 use Rattle.md_metadata.specs.Storing.{HasAllMarks, IsMarking, IsRecording, IsStoring, LosesStoring, RecordsAll, StoresAll, StoringFails}
-use Rattle.md_metadata.specs.Stopping.{CleansIfActive, ClearsIfFull, FailsStop, HaltsStop, HasAllMarksIf, IsCleared, IsSettled, IsSettling, IsStopping, IsStoringIf, MayStop, Settles, Stops, StoresSettled, clears_marks, makes_clean}
+use Rattle.md_metadata.specs.Stopping.{CleansIfActive, ClearsIfFull, FailsStop, HaltsStop, HasAllMarksIf, IsCleared, IsCleanedInMemory, IsCleaning, IsStopping, IsStoringIf, MayStopArray, CleansInMemory, StopsMirror, StoresCleaned, clears_marks, makes_clean}
 use Rattle.md_metadata.proofs.Counts.{count_map}
 use Rattle.md_metadata.proofs.Going.{all_as, marking_stores, recording_stores, stops_as, stops_on, stores_as, stores_on}
 use Rattle.md_metadata.proofs.Leading.{goes_leads, leads_as, leads_nowhere, leads_once, leads_then}
@@ -41,11 +41,11 @@ cannot_rise a idle makes spent =
     record { idle = idle; resynced = both.0; active = not_same a.shared.resync_offset clean_offset both.1; spent = spent }
 
 -- ---- in memory
-clearing_settles : (e : Event) → IsClearing e → IsSettling e
+clearing_settles : (e : Event) → IsClearing e → IsCleaning e
 clearing_settles (Event.ClearIdle c) is = tt
 clearing_settles e is = absurd is
 
-settling_stops : (e : Event) → IsSettling e → IsStopping e
+settling_stops : (e : Event) → IsCleaning e → IsStopping e
 settling_stops (Event.ClearIdle c) is = tt
 settling_stops Event.MakeClean is = tt
 settling_stops e is = absurd is
@@ -58,7 +58,7 @@ may_clear a idle clears =
 module _ (old new : MirrorView) where
   pub cleared_all : clears_marks old.array ≡ true → ClearsAll old new → ClearsIfFull old new
   cleared_all clears c = record {
-    goes = leads_as IsClearing IsSettling clearing_settles old new c.marks_alone.goes;
+    goes = leads_as IsClearing IsCleaning clearing_settles old new c.marks_alone.goes;
     disks = c.marks_alone.disks;
     marks = record { chunks = c.marks_alone.chunks; bits = λ x. c.none x ∙ sym (ap (λ b. not b && is_set old.array.marks.bytes x) clears) };
     array = c.marks_alone.array;
@@ -66,7 +66,7 @@ module _ (old new : MirrorView) where
 
 pub cleared_none : (m : MirrorView) → IsConsistent m → clears_marks m.array ≡ false → ClearsIfFull m m
 cleared_none m sound keeps = record {
-  goes = leads_nowhere IsSettling m sound;
+  goes = leads_nowhere IsCleaning m sound;
   disks = refl;
   marks = record { chunks = refl; bits = λ x. sym (ap (λ b. not b && is_set m.array.marks.bytes x) keeps) };
   array = refl;
@@ -89,7 +89,7 @@ module _ (old new : MirrorView) (idle : IsIdle old.array) (makes : makes_clean o
   pub clean_made : {T : Type 0} (result : Result T CleanFault) → MatchResult result (λ _. MakesClean old new) (RefusesClean old new)
       → CleanHappens old new result → IsConsistent new → ((o : PendingView) → IsPending old.array o → IsPending new.array o) → CleansIfActive old new
   clean_made (Ok t) c happens sound pending = record {
-    goes = leads_once IsSettling Event.MakeClean old new tt (λ previous. tt) (λ others. (refl, c)) (λ honest whole others in_flight. happens honest others in_flight)
+    goes = leads_once IsCleaning Event.MakeClean old new tt (λ previous. tt) (λ others. (refl, c)) (λ honest whole others in_flight. happens honest others in_flight)
         (ap (λ (x : ArrayView). x.requests) c.array) sound pending;
     disks = c.disks;
     array = c.array ∙ sym (ap (λ b. cond b (made_clean old.array) old.array) makes);
@@ -98,7 +98,7 @@ module _ (old new : MirrorView) (idle : IsIdle old.array) (makes : makes_clean o
 
 pub clean_already : (m : MirrorView) → IsConsistent m → makes_clean m.array ≡ false → CleansIfActive m m
 clean_already m sound keeps = record {
-  goes = leads_nowhere IsSettling m sound;
+  goes = leads_nowhere IsCleaning m sound;
   disks = refl;
   array = sym (ap (λ b. cond b (made_clean m.array) m.array) keeps);
 }
@@ -172,7 +172,7 @@ module _ (old b c : MirrorView) (x : ClearsIfFull old b) (y : CleansIfActive b c
     bits = λ i. ap (λ (m : Bitmap). is_set m.bytes i) (same ∙ marks_settled) ∙ x.marks.bits i;
   }
 
-  array_settled : IsSettled old.array c.array
+  array_settled : IsCleanedInMemory old.array c.array
   array_settled = record {
     marks = marks_cleared c.array refl;
     array = is_settled ∙ clean_then old.array b.array.marks (makes_clean old.array)
@@ -188,9 +188,9 @@ module _ (old b c : MirrorView) (x : ClearsIfFull old b) (y : CleansIfActive b c
   settled_count : recorded_count c.array ≡ recorded_count old.array
   settled_count = of_settled recorded_count (recorded_count old.array) (same_count old.array b.array.marks (makes_clean old.array))
 
-  pub settles : Settles old c
-  settles = record {
-    goes = leads_then IsSettling old b c x.goes y.goes;
+  pub cleans : CleansInMemory old c
+  cleans = record {
+    goes = leads_then IsCleaning old b c x.goes y.goes;
     disks = y.disks ∙ x.disks;
     array = array_settled;
   }
@@ -199,16 +199,16 @@ module _ (old b c : MirrorView) (x : ClearsIfFull old b) (y : CleansIfActive b c
   are_cleared = clears_marks old.array
 
   whole : (d : MirrorView) → GoesOn only_others only_others (IsStoringIf are_cleared) c d → LeadsBy IsStopping old d
-  whole d g = leads_then IsStopping old c d (leads_as IsSettling IsStopping settling_stops old c (leads_then IsSettling old b c x.goes y.goes))
+  whole d g = leads_then IsStopping old c d (leads_as IsCleaning IsStopping settling_stops old c (leads_then IsCleaning old b c x.goes y.goes))
       (leads_as (IsStoringIf are_cleared) IsStopping (storing_if_stops are_cleared) c d (goes_leads (IsStoringIf are_cleared) c d g))
 
-  module _ (may : MayStop old.array) (d : MirrorView) where
-    pub stops : StoresSettled are_cleared c d → Stops old d
+  module _ (may : MayStopArray old.array) (d : MirrorView) where
+    pub stops : StoresCleaned are_cleared c d → StopsMirror old d
     stops s = record {
       may = may;
       goes = whole d s.stores.goes;
-      settled = c;
-      settles = settles;
+      cleaned = c;
+      cleans = cleans;
       stores = s.stores;
       marks = λ is i m in_sync. subst (λ (z : Bitmap). HasAllMarks z m) (sym s.stores.goes.array.marks) (s.marks is i m in_sync);
       recorded = s.recorded;
@@ -218,8 +218,8 @@ module _ (old b c : MirrorView) (x : ClearsIfFull old b) (y : CleansIfActive b c
     stop_fails k l = record {
       may = may;
       goes = whole d l.loses.goes;
-      settled = c;
-      settles = settles;
+      cleaned = c;
+      cleans = cleans;
       loses = l;
       faulty = l.faulty;
       lost = let less = l.loses.lost in let count = settled_count in omega arith;
@@ -229,7 +229,7 @@ module _ (old b c : MirrorView) (x : ClearsIfFull old b) (y : CleansIfActive b c
     }
 
     pub stop_halts : HaltsAfter only_others only_others (IsStoringIf are_cleared) c d → HaltsStop old d
-    stop_halts h = record { may = may; settled = c; settles = settles; halts = h; goes = whole h.mid h.goes }
+    stop_halts h = record { may = may; cleaned = c; cleans = cleans; halts = h; goes = whole h.mid h.goes }
 
 -- ---- what is stored
 pub marks_if_last : (clears : Bool) (marks : Bitmap) → IsLasting marks (HasAllMarksIf clears marks)
@@ -239,7 +239,7 @@ module _ (clears : Bool) where
   abbrev Of : Event → Type 0
   Of = IsStoringIf clears
 
-  pub settled_stored : (a b c d : MirrorView) → StoresAll Of (HasAllMarksIf clears a.array.marks) a b → StoresAll Of IsNotDue b c → RecordsAll c d → StoresSettled clears a d
+  pub settled_stored : (a b c d : MirrorView) → StoresAll Of (HasAllMarksIf clears a.array.marks) a b → StoresAll Of IsNotDue b c → RecordsAll c d → StoresCleaned clears a d
   settled_stored a b c d x y others =
       let last = stores_as IsRecording Of (recording_if clears) c d others.stores in
       record {
@@ -250,7 +250,7 @@ module _ (clears : Bool) where
       }
 
   pub settled_or_stops : (a b c d : MirrorView) → StoresAll Of (HasAllMarksIf clears a.array.marks) a b → StoresAll IsRecording IsNotDue b c
-      → {T : Type 0} (result : Result T PartFault) → MatchResult result (λ _. RecordsAll c d) (StoringFails IsRecording c d) → MatchResult result (λ _. StoresSettled clears a d) (StoringFails Of a d)
+      → {T : Type 0} (result : Result T PartFault) → MatchResult result (λ _. RecordsAll c d) (StoringFails IsRecording c d) → MatchResult result (λ _. StoresCleaned clears a d) (StoringFails Of a d)
   settled_or_stops a b c d x y (Ok t) others = settled_stored a b c d x (all_as IsRecording Of (recording_if clears) b c IsNotDue y) others
   settled_or_stops a b c d x y (Err fault) s =
       stops_on Of a c d fault (stores_on Of a b c x.stores (stores_as IsRecording Of (recording_if clears) b c y.stores)) (stops_as IsRecording Of (recording_if clears) c d fault s)

@@ -15,7 +15,7 @@ use Rattle.md_state.specs.WritingMember.{IsNotDue}
 use Rattle.md_array.specs.Consistency.{IsConsistent}
 use Rattle.md_array.specs.Events.{Happens, listed_on}
 use Rattle.md_array.specs.InTurn.{HaltsAt, IsRecordDue, IsSectorDue}
-use Rattle.md_array.specs.Listing.{FailsToStoreLog, HasNoShift, RefusesLog, StoresLog}
+use Rattle.md_array.specs.Listing.{FailsToStoreLog, HasNoShift, RefusesStoreLog, StoresLog}
 use Rattle.md_array.specs.Recording.{Records}
 use Rattle.md_array.proofs.General.Replaced.{of_set}
 use Rattle.md_array.proofs.Worlds.States.{in_sync_recorded}
@@ -46,7 +46,7 @@ module _ (old new : MirrorView) (k : ℕ) (sound : IsConsistent new) (pending : 
   log_in_use : (f : FailsToStoreLog k old new) → is_recorded f.fails.array.member.state ≡ true
   log_in_use f = in_use_there old.array k f.member f.fails.array.member f.fails.array.at f.in_sync.member (in_sync_recorded f.member.state f.in_sync.in_sync)
 
-  pub log_fails : (j : ℕ) → RefusesLog k old new (MemberFailed j) → (HasNoShift k old → Happens old (Event.WriteFails k MemberPart.Log) new) → ListFails k old new (part.MemberFailed j)
+  pub log_fails : (j : ℕ) → RefusesStoreLog k old new (MemberFailed j) → (HasNoShift k old → Happens old (Event.WriteFails k MemberPart.Log) new) → ListFails k old new (part.MemberFailed j)
   log_fails j r happens =
       let f = r.1 in
       let used = log_in_use f in
@@ -58,7 +58,7 @@ module _ (old new : MirrorView) (k : ℕ) (sound : IsConsistent new) (pending : 
             (faulty_after old.array new.array k f.fails.array used),
       )
 
-  pub log_halts : old.array.halted ≡ false → IsConsistent old → RefusesLog k old new Halted → ListFails k old new part.Halted
+  pub log_halts : old.array.halted ≡ false → IsConsistent old → RefusesStoreLog k old new Halted → ListFails k old new part.Halted
   log_halts run before (inl r) = never_halted old new run r
   log_halts run before (inr h) = halts_at_once (IsListing k) k (Event.WriteFails k MemberPart.Log) old new before refl refl (λ others. h) sound pending
 

@@ -58,7 +58,7 @@ pub record LeadsBy (IsOf : Event → Type 0) (old new : MirrorView) : Type 0 whe
   pub pending : (o : PendingView) → IsPending old.array o → IsPending new.array o
 
 -- a member failed
-pub record LosesMember (F G : Requests → Requests) (IsOf : Event → Type 0) (old new : MirrorView) : Type 0 where
+pub record LosesSomeMember (F G : Requests → Requests) (IsOf : Event → Type 0) (old new : MirrorView) : Type 0 where
   pub goes : GoesOn F G IsOf old new
   pub lost : recorded_count new.array < recorded_count old.array
   pub halted : new.array.halted ≡ old.array.halted

@@ -24,10 +24,10 @@ IsStopping (Event.WriteFails k (MemberPart.BitmapSector b)) = Unit {0}
 IsStopping e = ⊥
 
 -- An event of `stop` in memory.
-abbrev pub IsSettling : Event → Type 0
-IsSettling (Event.ClearIdle c) = Unit {0}
-IsSettling Event.MakeClean = Unit {0}
-IsSettling e = ⊥
+abbrev pub IsCleaning : Event → Type 0
+IsCleaning (Event.ClearIdle c) = Unit {0}
+IsCleaning Event.MakeClean = Unit {0}
+IsCleaning e = ⊥
 
 -- What `stop` stores: superblocks, each with the first sector of its bitmap, and marks where they were
 -- cleared.
@@ -44,7 +44,7 @@ abbrev pub makes_clean : ArrayView → Bool
 makes_clean a = a.resynced && not (a.shared.resync_offset == clean_offset)
 
 -- `stop` may be done: nothing is in flight, and the count rises where it has to.
-pub record MayStop (a : ArrayView) : Type 0 where
+pub record MayStopArray (a : ArrayView) : Type 0 where
   pub idle : IsIdle a
   pub unspent : makes_clean a ≡ true → HasSpentEvents a → ⊥
 
@@ -54,23 +54,23 @@ pub record IsCleared (old new : ArrayView) : Type 0 where
   pub bits : (c : ℕ) → is_set new.marks.bytes c ≡ (not (clears_marks old) && is_set old.marks.bytes c)
 
 -- All that `stop` changes in memory before anything is stored.
-pub record IsSettled (old new : ArrayView) : Type 0 where
+pub record IsCleanedInMemory (old new : ArrayView) : Type 0 where
   pub marks : IsCleared old new
   pub array : new ≡ record (cond (makes_clean old) (made_clean old) old) { marks = new.marks }
 
 -- By events in memory alone all is changed in memory that `stop` changes there.
-pub record Settles (old new : MirrorView) : Type 0 where
-  pub goes : LeadsBy IsSettling old new
+pub record CleansInMemory (old new : MirrorView) : Type 0 where
+  pub goes : LeadsBy IsCleaning old new
   pub disks : new.disks ≡ old.disks
-  pub array : IsSettled old.array new.array
+  pub array : IsCleanedInMemory old.array new.array
 
-pub record Stops (old new : MirrorView) : Type 0 where
-  pub may : MayStop old.array
+pub record StopsMirror (old new : MirrorView) : Type 0 where
+  pub may : MayStopArray old.array
   pub goes : LeadsBy IsStopping old new
-  pub settled : MirrorView
-  pub settles : Settles old settled
+  pub cleaned : MirrorView
+  pub cleans : CleansInMemory old cleaned
   -- from there on nothing failed, and nothing changed but what is stored
-  pub stores : Stores (IsStoringIf (clears_marks old.array)) settled new
+  pub stores : Stores (IsStoringIf (clears_marks old.array)) cleaned new
   -- where the marks were cleared, none is stored on a member in sync
   pub marks : clears_marks old.array ≡ true → AllInSync new.array (HasAllMarks new.array.marks)
   -- no superblock is due
@@ -78,11 +78,11 @@ pub record Stops (old new : MirrorView) : Type 0 where
 
 -- A write to member k failed, and that was the end. The marks are those after a stop, and the superblocks of the others are due.
 pub record FailsStop (k : ℕ) (old new : MirrorView) : Type 0 where
-  pub may : MayStop old.array
+  pub may : MayStopArray old.array
   pub goes : LeadsBy IsStopping old new
-  pub settled : MirrorView
-  pub settles : Settles old settled
-  pub loses : LosesStoring (IsStoringIf (clears_marks old.array)) k settled new
+  pub cleaned : MirrorView
+  pub cleans : CleansInMemory old cleaned
+  pub loses : LosesStoring (IsStoringIf (clears_marks old.array)) k cleaned new
   pub faulty : IsFaulty k new.array
   pub lost : recorded_count new.array < recorded_count old.array
   pub running : new.array.halted ≡ false
@@ -91,10 +91,10 @@ pub record FailsStop (k : ℕ) (old new : MirrorView) : Type 0 where
 
 -- After some of its events a write failed that halted the mirror.
 pub record HaltsStop (old new : MirrorView) : Type 0 where
-  pub may : MayStop old.array
-  pub settled : MirrorView
-  pub settles : Settles old settled
-  pub halts : HaltsAfter only_others only_others (IsStoringIf (clears_marks old.array)) settled new
+  pub may : MayStopArray old.array
+  pub cleaned : MirrorView
+  pub cleans : CleansInMemory old cleaned
+  pub halts : HaltsAfter only_others only_others (IsStoringIf (clears_marks old.array)) cleaned new
   pub goes : LeadsBy IsStopping old halts.mid
 
 abbrev pub RefusesStop : MirrorView → MirrorView → StopFault → Type 0
@@ -105,20 +105,20 @@ RefusesStop old new (MemberFailed k) = FailsStop k old new
 
 -- ---- its parts
 pub record ClearsIfFull (old new : MirrorView) : Type 0 where
-  pub goes : LeadsBy IsSettling old new
+  pub goes : LeadsBy IsCleaning old new
   pub disks : new.disks ≡ old.disks
   pub marks : IsCleared old.array new.array
   pub array : new.array ≡ record old.array { marks = new.array.marks }
 
 pub record CleansIfActive (old new : MirrorView) : Type 0 where
-  pub goes : LeadsBy IsSettling old new
+  pub goes : LeadsBy IsCleaning old new
   pub disks : new.disks ≡ old.disks
   pub array : new.array ≡ cond (makes_clean old.array) (made_clean old.array) old.array
 
 abbrev pub HasAllMarksIf : Bool → Bitmap → MemberView → Type 0
 HasAllMarksIf clears marks m = clears ≡ true → HasAllMarks marks m
 
-pub record StoresSettled (clears : Bool) (old new : MirrorView) : Type 0 where
+pub record StoresCleaned (clears : Bool) (old new : MirrorView) : Type 0 where
   pub stores : Stores (IsStoringIf clears) old new
   pub marks : clears ≡ true → AllInSync new.array (HasAllMarks old.array.marks)
   pub recorded : AllRecorded new.array

@@ -12,7 +12,7 @@ use Rattle.md_array.specs.InTurn.{AllOf}
 use Rattle.md_array.specs.Recording.{HaltsRecording}
 use Rattle.md_metadata.specs.declared.fault.PartFault.{PartFault}
 use Rattle.md_metadata.specs.declared.fault.PartFault.TheVariants.{Halted, MemberFailed}
-use Rattle.md_metadata.specs.Going.{GoesOn, HaltsAfter, IsFaulty, LosesMember, StepsBy, only_others, recorded_count}
+use Rattle.md_metadata.specs.Going.{GoesOn, HaltsAfter, IsFaulty, LosesSomeMember, StepsBy, only_others, recorded_count}
 
 -- ---- kinds of events, done or failed
 -- this sector of member k's bitmap is stored
@@ -92,7 +92,7 @@ pub record Stores (Of : Event → Type 0) (old new : MirrorView) : Type 0 where
 
 -- member k was kept up to date and failed, and that was the end
 pub record LosesStoring (Of : Event → Type 0) (k : ℕ) (old new : MirrorView) : Type 0 where
-  pub loses : LosesMember only_others only_others Of old new
+  pub loses : LosesSomeMember only_others only_others Of old new
   pub was : IsUpToDate old.array k
   pub last : FailsAtLast k loses.goes.events
   pub faulty : IsFaulty k new.array

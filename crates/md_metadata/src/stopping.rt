@@ -5,7 +5,7 @@ ghost use Rattle.md_state.specs.MakingClean.{IsIdle};
 ghost use Rattle.md_state.specs.Requests.{IsPending};
 ghost use Rattle.md_state.specs.Rising.{HasSpentEvents};
 ghost use Rattle.md_array.specs.Consistency.{IsConsistent};
-ghost use Rattle.md_metadata.specs.Stopping.{CleansIfActive, ClearsIfFull, HasAllMarksIf, IsStoringIf, MayStop, RefusesStop, Stops, StoresSettled, clears_marks, makes_clean};
+ghost use Rattle.md_metadata.specs.Stopping.{CleansIfActive, ClearsIfFull, HasAllMarksIf, IsStoringIf, MayStopArray, RefusesStop, StopsMirror, StoresCleaned, clears_marks, makes_clean};
 ghost use Rattle.md_metadata.specs.Storing.{StoresAll, StoringFails};
 
 use crate::all_marks::store_all_marks;
@@ -23,7 +23,7 @@ use md_super::CLEAN_OFFSET;
 /// fails on the way ends the call. Takes no memory.
 pub fn stop<D: Device + Drop>(mirror: &mut Mirror<D>) -> Result<(), StopFault>
     requires sound { IsConsistent mirror.old }
-    ensures gives { MatchResult result (λ _. Stops mirror.old mirror.new) (RefusesStop mirror.old mirror.new) }
+    ensures gives { MatchResult result (λ _. StopsMirror mirror.old mirror.new) (RefusesStop mirror.old mirror.new) }
     ensures sound { IsConsistent mirror.new }
     ensures pending { (p : PendingView) → IsPending mirror.old.array p → IsPending mirror.new.array p }
 {
@@ -33,7 +33,7 @@ pub fn stop<D: Device + Drop>(mirror: &mut Mirror<D>) -> Result<(), StopFault>
     let clears = clears_marks(mirror);
     clear_if_full(mirror);
     clean_if_active(mirror);
-    match store_settled(mirror, clears) {
+    match store_cleaned(mirror, clears) {
         Ok(()) => Ok(()),
         Err(PartFault::Halted) => Err(StopFault::Halted),
         Err(PartFault::MemberFailed(k)) => Err(StopFault::MemberFailed(k)),
@@ -42,7 +42,7 @@ pub fn stop<D: Device + Drop>(mirror: &mut Mirror<D>) -> Result<(), StopFault>
 
 // Whether the array may be stopped.
 fn check_stop<D: Device + Drop>(mirror: &Mirror<D>) -> Result<(), StopFault>
-    ensures { MatchResult result (λ _. MayStop mirror.now.array) (RefusesStop mirror.now mirror.now) }
+    ensures { MatchResult result (λ _. MayStopArray mirror.now.array) (RefusesStop mirror.now mirror.now) }
 {
     if mirror.halted() {
         return Err(StopFault::Halted);
@@ -104,10 +104,10 @@ fn store_marks_if<D: Device + Drop>(mirror: &mut Mirror<D>, clears: bool) -> Res
 }
 
 // Stores the marks, if they were cleared, and the superblocks that are due.
-fn store_settled<D: Device + Drop>(mirror: &mut Mirror<D>, clears: bool) -> Result<(), PartFault>
+fn store_cleaned<D: Device + Drop>(mirror: &mut Mirror<D>, clears: bool) -> Result<(), PartFault>
     requires sound { IsConsistent mirror.old }
     requires running { mirror.old.array.halted ≡ false }
-    ensures { MatchResult result (λ _. StoresSettled clears mirror.old mirror.new) (StoringFails (IsStoringIf clears) mirror.old mirror.new) }
+    ensures { MatchResult result (λ _. StoresCleaned clears mirror.old mirror.new) (StoringFails (IsStoringIf clears) mirror.old mirror.new) }
 {
     if let Err(fault) = store_marks_if(mirror, clears) {
         return Err(fault);

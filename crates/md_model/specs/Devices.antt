@@ -52,7 +52,7 @@ Covered g stored Member =
     → is_marked (stored i) (chunk_of g s) ≡ false → AgreeAt (stored j) (stored k) s
 
 -- nothing is said of a device past the array's end
-pub record EndsWith (g : Geometry) (d : Stored) : Type 0 where
+pub record EndsWithArray (g : Geometry) (d : Stored) : Type 0 where
   pub content : (s : ℕ) → g.size ≤ s → d.content s ≡ []
   pub listed : (s : ℕ) → g.size ≤ s → d.listed s ≡ false
   pub bits : (c : ℕ) → g.size ≤ c * g.width → d.bits c ≡ false

@@ -88,12 +88,12 @@ abbrev pub IsFree : Geometry → World → ℕ → Type 0
 IsFree g w d = (d < 1920) × (w.present d ≡ false) × (role_at_rise g w d ≢ 65534)
 
 -- the least number of which it holds
-pub record IsLeast (Fits : ℕ → Type 0) (d : ℕ) : Type 0 where
+pub record IsLeastNumber (Fits : ℕ → Type 0) (d : ℕ) : Type 0 where
   pub fits : Fits d
   pub least : (e : ℕ) → Fits e → d ≤ e
 
 abbrev pub IsNumber : Geometry → World → ℕ → Type 0
-IsNumber g w d = IsLeast (IsFree g w) d ⊎ (((e : ℕ) → IsFree g w e → ⊥) × IsLeast (λ e. w.present e ≡ false) d)
+IsNumber g w d = IsLeastNumber (IsFree g w) d ⊎ (((e : ℕ) → IsFree g w e → ⊥) × IsLeastNumber (λ e. w.present e ≡ false) d)
 
 -- A device is laid out as a spare: all chunks are marked, nothing is listed.
 pub record IsLaidOut (g : Geometry) (w : World) (d : ℕ) (left : Stored) : Type 0 where

@@ -32,7 +32,7 @@ pub record MayRebuild (w : World) (k : ℕ) : Type 0 where
   pub idle : IsIdle w
   pub target : is_target (w.state k) ≡ true
 
--- Fill: its data changes in chunks that it lacks, in any way. A chunk may be copied, or its copy may fail or be cut short: a stop
+-- Fill: its data changes in chunks that it lacks, in any way. A chunk may be copied, or its copy may fail or be cut short: a crash
 -- within the write leaves what some filling leaves. A recovering member may lack a chunk by its mark alone: so each member in sync has
 -- to have the marks of memory stored by then, or an opening without the one that has it would not know.
 pub record MayFill (w : World) (k : ℕ) : Type 0 where
@@ -63,8 +63,8 @@ pub record Taking : Type 0 where
 abbrev pub taking_device : World → ℕ → Taking → Stored
 taking_device w k t = record (w.stored k) { super = Some (joined_super w (w.number k) t.role t.recovering t.offset); listed = t.listed }
 
-abbrev pub takes_role : World → ℕ → Taking → World
-takes_role w k t =
+abbrev pub with_role_taken : World → ℕ → Taking → World
+with_role_taken w k t =
     record w {
       stored = put k (taking_device w k t) w.stored;
       state = put k t.state w.state;
@@ -86,7 +86,7 @@ abbrev pub enrolled_device : World → ℕ → ℕ → (ℕ → Bool) → Stored
 enrolled_device w k role listed = taking_device w k (as_in_sync w role listed)
 
 abbrev pub come_into_sync : World → ℕ → ℕ → (ℕ → Bool) → World
-come_into_sync w k role listed = takes_role w k (as_in_sync w role listed)
+come_into_sync w k role listed = with_role_taken w k (as_in_sync w role listed)
 
 abbrev pub enrolled : Geometry → World → ℕ → ℕ → (ℕ → Bool) → Bool → World
 enrolled g w k role listed full = come_into_sync (risen g w full) k role listed
@@ -120,7 +120,7 @@ abbrev pub as_recovering : World → ℕ → ℕ → (ℕ → Bool) → Taking
 as_recovering w k role listed = record { role = role; state = Recovering; recovering = true; offset = 0; listed = listed; known = w.known k; bad = w.bad k }
 
 abbrev pub admitted : Geometry → World → ℕ → ℕ → (ℕ → Bool) → Bool → World
-admitted g w k role listed full = takes_role (risen g w full) k (as_recovering w k role listed)
+admitted g w k role listed full = with_role_taken (risen g w full) k (as_recovering w k role listed)
 
 pub record MayAdmit (g : Geometry) (w : World) (k role : ℕ) : Type 0 where
   pub spare : is_spare (w.state k) ≡ true

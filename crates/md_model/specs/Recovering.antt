@@ -9,7 +9,7 @@ use Rattle.md_model.specs.Rebuilding.{is_missing, MayEnrol, MayFill}
 use Rattle.md_model.specs.Events.{Event}
 use Rattle.md_model.specs.Runs.{History, then_in, opening, Run, IsStart}
 use Rattle.md_model.specs.Lives.{Life, Reopens}
-use Rattle.md_model.specs.Content.{Content, Becomes, BecomesAtOpening, Holds, HoldsAtRest, RunWith, LifeWith, Anyhow, IsTold}
+use Rattle.md_model.specs.Content.{Content, Becomes, BecomesAtOpening, Holds, HoldsAtRest, RunWith, LifeWith, AnyWorld, IsTold}
 use Rattle.md_model.specs.Behind.{IsBehind, IsDegraded}
 
 -- What counts of a recovering member: it lists what its list in memory has, and may hold anything in a chunk
@@ -41,7 +41,7 @@ abbrev pub JoinsBehind : Geometry → Event → World → Content → Type 0
 JoinsBehind g (Event.ReAdd own device left) w a = (offset_of left ≡ 0) ⊎ IsBehind g a device w
 JoinsBehind g e w a = Unit {0}
 
-abbrev pub RunJoins : (g : Geometry) (h : History) (a : Content) (es : List Event) (last : History) (b : Content) → RunWith g Anyhow h a es last b → Type 0
+abbrev pub RunJoins : (g : Geometry) (h : History) (a : Content) (es : List Event) (last : History) (b : Content) → RunWith g AnyWorld h a es last b → Type 0
 RunJoins g h a [] last b run = Unit {0}
 RunJoins g h a (e ∷ es) last b run = JoinsBehind g e h.now a × RunJoins g (then_in h e run.0) run.1 es last b run.5
 
@@ -63,7 +63,7 @@ OpensBehind g opened h first next r b =
     → ((r.made_of (r.opens.at k) ≡ r.left (r.opens.at k)) × IsAsKept g h.now (r.opens.at k) (r.left (r.opens.at k))) ⊎ IsBehind g b (recovered g next k) next
 
 abbrev pub LifeJoins : (g : Geometry) (opened : Super) (h : History) (a : Content) (es : List Event) (rest : List (List Event)) (final : Super) (last : History) (b : Content)
-    → LifeWith g Anyhow opened h a es rest final last b → Type 0
+    → LifeWith g AnyWorld opened h a es rest final last b → Type 0
 LifeJoins g opened h a es [] final last b life = RunJoins g h a es last b life.1
 LifeJoins g opened h a es (more ∷ rest) final last b life =
     RunJoins g h a es life.0 life.1 life.5 × OpensBehind g opened life.0 life.2 life.3 life.6 life.4
@@ -74,7 +74,7 @@ LifeJoins g opened h a es (more ∷ rest) final last b life =
 abbrev pub KeepsRecovering : Type 0
 KeepsRecovering =
     (g : Geometry) (opened : Super) (w : World) (a : Content) → IsStart g opened w → Holds g a w → RecoveringHolds g a w
-    → (es : List Event) (rest : List (List Event)) (final : Super) (last : History) (b : Content) (life : LifeWith g Anyhow opened (opening w) a es rest final last b)
+    → (es : List Event) (rest : List (List Event)) (final : Super) (last : History) (b : Content) (life : LifeWith g AnyWorld opened (opening w) a es rest final last b)
     → LifeJoins g opened (opening w) a es rest final last b life
     → RecoveringHolds g b last.now
 
@@ -83,7 +83,7 @@ KeepsRecovering =
 abbrev pub RecoveringBehind : Type 0
 RecoveringBehind =
     (g : Geometry) (opened : Super) (w : World) (a : Content) → IsStart g opened w → Holds g a w → RecoveringHolds g a w
-    → (es : List Event) (rest : List (List Event)) (final : Super) (then : History) (b : Content) (life : LifeWith g Anyhow opened (opening w) a es rest final then b)
+    → (es : List Event) (rest : List (List Event)) (final : Super) (then : History) (b : Content) (life : LifeWith g AnyWorld opened (opening w) a es rest final then b)
     → LifeJoins g opened (opening w) a es rest final then b life
     → (k : ℕ) → is_recovering (then.now.state k) ≡ true
     → (more : List Event) (others : List (List Event)) (newest : Super) (last : History) (c : Content)
@@ -96,7 +96,7 @@ RecoveringBehind =
 abbrev pub FailedEnrolBehind : Type 0
 FailedEnrolBehind =
     (g : Geometry) (opened : Super) (w : World) (a : Content) → IsStart g opened w → Holds g a w → RecoveringHolds g a w
-    → (es : List Event) (rest : List (List Event)) (final : Super) (then : History) (b : Content) (life : LifeWith g Anyhow opened (opening w) a es rest final then b)
+    → (es : List Event) (rest : List (List Event)) (final : Super) (then : History) (b : Content) (life : LifeWith g AnyWorld opened (opening w) a es rest final then b)
     → LifeJoins g opened (opening w) a es rest final then b life
     → (k role : ℕ) (listed : ℕ → Bool) → MayEnrol g then.now k role listed
     → (device : Stored) → ((s : ℕ) → s < g.size → device.content s ≡ (then.now.stored k).content s) → ((s : ℕ) → s < g.size → device.listed s ≡ false → listed s ≡ false)
@@ -115,7 +115,7 @@ abbrev pub LifeTellsJoins : (g : Geometry) (opened : Super) (w : World) (a : Con
 LifeTellsJoins g opened w a es [] final last life = RunTellsJoins g (opening w) a es last life.1
 LifeTellsJoins g opened w a es (more ∷ rest) final last life =
     RunTellsJoins g (opening w) a es life.0 life.3
-    × ((b c : Content) → RunWith g Anyhow (opening w) a es life.0 b → BecomesAtOpening g life.2 b c
+    × ((b c : Content) → RunWith g AnyWorld (opening w) a es life.0 b → BecomesAtOpening g life.2 b c
     → OpensBehind g opened life.0 life.1 life.2 life.4 c × LifeTellsJoins g life.1 life.2 c more rest final last life.5)
 
 -- A content goes along each life that is told what joins it, and nothing is asked at its enrolments: a
@@ -125,7 +125,7 @@ HasContentResumed =
     (g : Geometry) (opened : Super) (w : World) (a : Content) → IsStart g opened w → Holds g a w → RecoveringHolds g a w
     → (es : List Event) (rest : List (List Event)) (final : Super) (last : History) (life : Life g opened w es rest final last)
     → LifeTellsJoins g opened w a es rest final last life
-    → (b : Content) × LifeWith g Anyhow opened (opening w) a es rest final last b
+    → (b : Content) × LifeWith g AnyWorld opened (opening w) a es rest final last b
 
 -- ---- which devices say no more than is kept
 -- Between the calls on a member its device says no more than the mirror keeps, if no write to it failed: a

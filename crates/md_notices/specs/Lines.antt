@@ -28,8 +28,8 @@ held_text name what = codes "mdcli: " ++ name ++ codes ": holds " ++ what ++ cod
 unfoldable pub unseen_text : List ℕ → List ℕ
 unseen_text name = codes "mdcli: " ++ name ++ codes ": there was no memory to look at it: it may hold data\n"
 
-unfoldable pub marked_text : List ℕ → List ℕ
-marked_text name = codes "mdcli: " ++ name ++ codes ": its bitmap did not tell of the array, so all chunks are marked in it now\n"
+unfoldable pub marked_line_text : List ℕ → List ℕ
+marked_line_text name = codes "mdcli: " ++ name ++ codes ": its bitmap did not tell of the array, so all chunks are marked in it now\n"
 
 unfoldable pub uncompared_text : List ℕ → List ℕ
 uncompared_text name = codes "mdcli: " ++ name ++ codes ": no other member is in sync, so nothing was compared\n"
@@ -38,12 +38,12 @@ unfoldable pub lost_text : List ℕ → List ℕ
 lost_text name = codes "mdcli: " ++ name ++ codes ": what it held is lost: it is a spare of the array now\n"
 
 -- the role of a member, where it has one
-abbrev pub role_text : MemberState → List ℕ
-role_text (InSync role) = codes " in role " ++ decimal role
-role_text (Recovering role) = codes " in role " ++ decimal role
-role_text (Stale role) = codes " in role " ++ decimal role
-role_text Spare = []
-role_text Faulty = []
+abbrev pub state_role_text : MemberState → List ℕ
+state_role_text (InSync role) = codes " in role " ++ decimal role
+state_role_text (Recovering role) = codes " in role " ++ decimal role
+state_role_text (Stale role) = codes " in role " ++ decimal role
+state_role_text Spare = []
+state_role_text Faulty = []
 
 -- what a member is called in the array that it tells of
 abbrev pub there_text : MemberState → List ℕ
@@ -54,7 +54,7 @@ there_text Spare = codes ", a spare there\n"
 there_text Faulty = codes ", faulty there\n"
 
 -- of which array the device is, and what it is there by its own superblock
-unfoldable pub standing_text : List ℕ → Superblock → List ℕ
-standing_text name own =
-    codes "mdcli: " ++ name ++ (codes ": is device " ++ decimal own.dev_number) ++ role_text (state_of own own)
+unfoldable pub identity_text : List ℕ → Superblock → List ℕ
+identity_text name own =
+    codes "mdcli: " ++ name ++ (codes ": is device " ++ decimal own.dev_number) ++ state_role_text (state_of own own)
     ++ codes " of array " ++ hyphenated_text lower own.set_uuid ++ there_text (state_of own own)

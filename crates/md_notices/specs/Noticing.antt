@@ -21,13 +21,13 @@ abbrev pub parted_at : List MemberView → ℕ → Bool
 parted_at members k = so_of (is_parted members) (slice_get members k)
 
 -- the bitmap of the member in this place, which is in sync, did not tell of the array as it was opened: marks were stored on it
-pub record IsMarkedAt (members : List MemberView) (k : ℕ) (marked : Bool) : Type 0 where
+pub record WasMarkedAtOpening (members : List MemberView) (k : ℕ) (marked : Bool) : Type 0 where
   pub there : (m : MemberView) → slice_get members k ≡ Some m → IsTrue marked ↔ NeedsMarks m
   pub past : length members ≤ k → marked ≡ false
 
 -- of the places of 64 members: an array has no more
-abbrev pub AreMarked : List MemberView → List Bool → Type 0
-AreMarked members marked = (k : ℕ) → k < 64 → IsMarkedAt members k (get_or marked k false)
+abbrev pub WereMarkedAtOpening : List MemberView → List Bool → Type 0
+WereMarkedAtOpening members marked = (k : ℕ) → k < 64 → WasMarkedAtOpening members k (get_or marked k false)
 
 -- the state of the member in this place
 abbrev pub state_at : List MemberView → ℕ → Option MemberState

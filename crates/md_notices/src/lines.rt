@@ -1,7 +1,7 @@
 // The lines that say what was noticed.
 ghost use Rattle.std.specs.Prelude.{◌≡◌};
 ghost use Rattle.md_examine.specs.Sink.{PutsOrFails};
-ghost use Rattle.md_notices.specs.Lines.{dropped_text, forgotten_text, held_text, lost_text, marked_text, parted_text, uncompared_text, unnamed_text, unseen_text};
+ghost use Rattle.md_notices.specs.Lines.{dropped_text, forgotten_text, held_text, lost_text, marked_line_text, parted_text, uncompared_text, unnamed_text, unseen_text};
 
 use md_examine::{Sink, SinkFault, number_after};
 
@@ -87,7 +87,7 @@ pub fn unseen_line<S: Sink>(out: &mut S, name: &str) -> Result<(), SinkFault>
 
 /// Says that all chunks are marked in an image now, since its bitmap did not tell of the array.
 pub fn marked_line<S: Sink>(out: &mut S, name: &str) -> Result<(), SinkFault>
-    ensures { PutsOrFails S.contents S.failed out.old out.new (marked_text name.now) result }
+    ensures { PutsOrFails S.contents S.failed out.old out.new (marked_line_text name.now) result }
 {
     out.put(b"mdcli: ")?;
     out.put(name.as_bytes())?;

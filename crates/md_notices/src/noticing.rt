@@ -1,6 +1,6 @@
 // What is noticed of all members and roles of an array, by their places.
 ghost use Rattle.std.specs.Prelude.{◌≡◌, ◌<◌};
-ghost use Rattle.md_notices.specs.Noticing.{AreMarked, AreUnnamed, IsMarkedAt, IsUnnamedAt, all_dropped, all_parted, all_states, dropped_at, dropped_from, in_sync_count, is_place, parted_at, place_after, state_at, state_there};
+ghost use Rattle.md_notices.specs.Noticing.{WereMarkedAtOpening, AreUnnamed, WasMarkedAtOpening, IsUnnamedAt, all_dropped, all_parted, all_states, dropped_at, dropped_from, in_sync_count, is_place, parted_at, place_after, state_at, state_there};
 
 use crate::dropping_out::dropped_out;
 use crate::parting::is_parted;
@@ -45,7 +45,7 @@ pub fn members_parted<D: Device + Drop>(mirror: &Mirror<D>) -> [bool; MAX_MEMBER
 }
 
 fn is_marked_at<D: Device + Drop>(mirror: &Mirror<D>, k: usize) -> bool
-    ensures { IsMarkedAt mirror.now.array.members k result }
+    ensures { WasMarkedAtOpening mirror.now.array.members k result }
 {
     if k >= mirror.members() {
         return false;
@@ -55,7 +55,7 @@ fn is_marked_at<D: Device + Drop>(mirror: &Mirror<D>, k: usize) -> bool
 
 /// Of each place whether marks were stored on its member as the array was opened. Ask it before any step.
 pub fn members_marked<D: Device + Drop>(mirror: &Mirror<D>) -> [bool; MAX_MEMBERS]
-    ensures { AreMarked mirror.now.array.members result }
+    ensures { WereMarkedAtOpening mirror.now.array.members result }
 {
     let mut marked = [false; MAX_MEMBERS];
     for k in 0..MAX_MEMBERS {

@@ -2,7 +2,7 @@
 ghost use Rattle.std.specs.Prelude.{◌≡◌};
 ghost use Rattle.uuid.specs.Text.{hyphenated_text, lower};
 ghost use Rattle.md_examine.specs.Sink.{PutsOrFails};
-ghost use Rattle.md_notices.specs.Lines.{role_text, standing_text, there_text};
+ghost use Rattle.md_notices.specs.Lines.{state_role_text, identity_text, there_text};
 
 use crate::belonging::standing;
 use md_assembly::MemberState;
@@ -11,7 +11,7 @@ use md_super::Superblock;
 use uuid::Uuid;
 
 fn role<S: Sink>(out: &mut S, state: MemberState) -> Result<(), SinkFault>
-    ensures { PutsOrFails S.contents S.failed out.old out.new (role_text state) result }
+    ensures { PutsOrFails S.contents S.failed out.old out.new (state_role_text state) result }
 {
     match state {
         MemberState::InSync(role) | MemberState::Recovering(role) | MemberState::Stale(role) => {
@@ -44,7 +44,7 @@ fn there<S: Sink>(out: &mut S, state: MemberState) -> Result<(), SinkFault>
 /// Says of which array the device with this superblock is, and what it is there. It takes no memory, and fails only
 /// where the sink has failed.
 pub fn standing_line<S: Sink>(out: &mut S, name: &str, own: &Superblock) -> Result<(), SinkFault>
-    ensures { PutsOrFails S.contents S.failed out.old out.new (standing_text name.now own.now) result }
+    ensures { PutsOrFails S.contents S.failed out.old out.new (identity_text name.now own.now) result }
 {
     let state = standing(own);
     out.put(b"mdcli: ")?;

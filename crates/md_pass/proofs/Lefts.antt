@@ -1,4 +1,4 @@
--- How many of a lane's chunks were not copied.
+-- How many of a queue's chunks were not copied.
 use Rattle.std.proofs.Common.{◌≡◌, ℕ, suc, zero, ◌+◌, ◌<◌, Bool, true, false, [], ◌∷◌, List, length, map, filter, take, count_by, get_or, slice_index, cond, refl, ap, ◌∙◌, arith}
 use Rattle.std.proofs.lemmas.List.Sums.{sum_by-cons, sum_by_more}
 use Rattle.std.proofs.lemmas.List.Sorted.{sum_by-IsPermutation}

@@ -12,21 +12,21 @@ use Rattle.md_bitmap.specs.Marks.{Bitmap, is_set}
 use Rattle.md_collect.specs.Places.{chunk_on}
 use Rattle.md_collect.specs.Collecting.{CollectorView, copying}
 use Rattle.md_collect.specs.Reports.{Copying}
-use Rattle.md_workers.specs.declared.lane.Lane.{Lane}
+use Rattle.md_workers.specs.declared.queue.Queue.{Queue}
 use Rattle.md_pass.specs.declared.fault.PassFault.{PassFault}
 use Rattle.md_pass.specs.declared.fault.PassFault.TheVariants.{NoMemory, TargetFault}
 use Rattle.md_pass.specs.declared.preparing.Preparation.{Preparation}
 use Rattle.md_pass.specs.declared.reading.Reading.{Reading}
 use Rattle.md_pass.specs.declared.source.Source.{Source}
 use Rattle.md_pass.specs.Beside.{has_chunk}
-use Rattle.md_workers.specs.Lanes.{OnlyRead, AreOnlyRead, is_failed}
+use Rattle.md_workers.specs.Queues.{OnlyRead, AreOnlyRead, is_failed}
 use Rattle.md_pass.specs.Places.{AreInTurn, AreTaken}
-use Rattle.md_pass.specs.Readings.{IsLaneOf, IsOrderOf, is_of, slots_of}
-use Rattle.md_pass.specs.Settling.{Books, books}
+use Rattle.md_pass.specs.Readings.{IsQueueOf, IsOrderOf, is_of, slot_count_of}
+use Rattle.md_pass.specs.TakingReports.{Books, books}
 use Rattle.md_pass.specs.Copied.{AreJoined, CountFailed, HasCopied, OnFault, PassState, failed_slots, is_failed_slot, pass_state}
 use Rattle.md_pass.specs.Preparing.{CanCopy}
 use Rattle.md_pass.specs.Sources.{MayRead}
-use Rattle.md_pass.specs.Passes.{HasLanded, IsPassing, IsUnderWay, LanesOnlyRead, count_left, is_left}
+use Rattle.md_pass.specs.Passes.{HasLanded, IsPassing, IsUnderWay, QueuesOnlyRead, count_left, is_left}
 use Rattle.md_pass.proofs.Departures.{related}
 use Rattle.md_workers.proofs.OnlyReads.{not_read}
 use Rattle.md_pass.proofs.Orders.{order_covers}
@@ -43,18 +43,18 @@ same_tests false false f h = refl
 both_ways : (b : Bool) → b ≡ true → b ≡ false → ⊥
 both_ways b t f = cc
 
--- the devices of some sources have left for lanes
-pub record HaveLeft {D L M : Type 0} (g : Ghosts D) (start : Books) (devices rest : List D) (places : List ℕ) (rs : List Reading) (firsts : List (Lane D L M)) : Type 0 where
+-- the devices of some sources have left for queues
+pub record HaveLeft {D L M : Type 0} (g : Ghosts D) (start : Books) (devices rest : List D) (places : List ℕ) (rs : List Reading) (firsts : List (Queue D L M)) : Type 0 where
   pub may : MayRead g start.collector.chunks start.collector.slots (map (λ (r : Reading). r.source) rs) devices
   pub orders : All (λ (r : Reading). IsOrderOf start.collector.slots r.source.role r.chunks.items) rs
   pub turn : AreInTurn (map (λ (r : Reading). r.source.place) rs) places
   pub same : length firsts ≡ length rs
-  pub taken : AreTaken devices places (map (λ (l : Lane D L M). l.device) firsts) rest
-  pub are : (i : ℕ) (r : Reading) (d : Lane D L M) → i < length rs → IsLaneOf (get_or rs i r) (get_or firsts i d)
+  pub taken : AreTaken devices places (map (λ (l : Queue D L M). l.device) firsts) rest
+  pub are : (i : ℕ) (r : Reading) (d : Queue D L M) → i < length rs → IsQueueOf (get_or rs i r) (get_or firsts i d)
 
 -- so of a pass that was prepared
-pub have_left : {D L M : Type 0} {g : Ghosts D} (p : Preparation) (old : PassState D) (rest : List D) (places : List ℕ) (firsts : List (Lane D L M)) → CanCopy g p old → places ≡ p.places.items
-    → length firsts ≡ length p.readings.items → AreTaken old.devices places (map (λ (l : Lane D L M). l.device) firsts) rest → ((i : ℕ) (r : Reading) (d : Lane D L M) → i < length p.readings.items → IsLaneOf (get_or p.readings.items i r) (get_or firsts i d))
+pub have_left : {D L M : Type 0} {g : Ghosts D} (p : Preparation) (old : PassState D) (rest : List D) (places : List ℕ) (firsts : List (Queue D L M)) → CanCopy g p old → places ≡ p.places.items
+    → length firsts ≡ length p.readings.items → AreTaken old.devices places (map (λ (l : Queue D L M). l.device) firsts) rest → ((i : ℕ) (r : Reading) (d : Queue D L M) → i < length p.readings.items → IsQueueOf (get_or p.readings.items i r) (get_or firsts i d))
     → HaveLeft g (books p.collector (g.content old.target) old.copied) old.devices rest places p.readings.items firsts
 have_left p old rest places firsts can at same taken are = record { may = can.sources; orders = can.ordered.orders; turn = in_turn p places at can.ordered; same = same; taken = taken; are = are }
 
@@ -63,46 +63,46 @@ pub on_fault : {P Q P' Q' : Type 0} (fault : PassFault) → (P → P') → (Q �
 on_fault NoMemory p q holds = p holds
 on_fault TargetFault p q holds = q holds
 
--- the slots of lanes, by their shares
-pub lanes_parts : {D L M : Type 0} (rs : List Reading) (lanes : List (Lane D L M)) → length lanes ≡ length rs → ((i : ℕ) (r : Reading) (d : Lane D L M) → i < length rs → IsLaneOf (get_or rs i r) (get_or lanes i d))
-    → sum_by (λ (l : Lane D L M). l.share.parts) lanes ≡ sum_by slots_of rs
-lanes_parts [] [] same are = refl
-lanes_parts [] (l ∷ ls) same are = absurd (omega (arith, same))
-lanes_parts (r ∷ rs) [] same are = absurd (omega (arith, same))
-lanes_parts (r ∷ rs) (l ∷ ls) same are =
-    let rest = lanes_parts rs ls (omega (arith, same)) (λ i r' d below. are (suc i) r' d (omega (arith, below))) in
+-- the slots of queues, by their shares
+pub queues_parts : {D L M : Type 0} (rs : List Reading) (queues : List (Queue D L M)) → length queues ≡ length rs → ((i : ℕ) (r : Reading) (d : Queue D L M) → i < length rs → IsQueueOf (get_or rs i r) (get_or queues i d))
+    → sum_by (λ (l : Queue D L M). l.share.parts) queues ≡ sum_by slot_count_of rs
+queues_parts [] [] same are = refl
+queues_parts [] (l ∷ ls) same are = absurd (omega (arith, same))
+queues_parts (r ∷ rs) [] same are = absurd (omega (arith, same))
+queues_parts (r ∷ rs) (l ∷ ls) same are =
+    let rest = queues_parts rs ls (omega (arith, same)) (λ i r' d below. are (suc i) r' d (omega (arith, below))) in
     let first = (are 0 r l (omega arith)).parts in
-    sum_by-cons (λ x. x.share.parts) l ls ∙ (let b = sum_by-cons slots_of r rs in omega (arith, rest, first, b))
+    sum_by-cons (λ x. x.share.parts) l ls ∙ (let b = sum_by-cons slot_count_of r rs in omega (arith, rest, first, b))
 
 module _ {D L M : Type 0} {g : Ghosts D} where
   -- the sources were only read
-  pub devices_read : {chunks : _} {slots : _} (devices news rest : List D) (places : List ℕ) (rs : List Reading) (firsts lanes : List (Lane D L M)) → MayRead g chunks slots (map (λ (r : Reading). r.source) rs) devices
-      → AreInTurn (map (λ (r : Reading). r.source.place) rs) places → AreTaken devices places (map (λ (l : Lane D L M). l.device) firsts) rest → AreTaken news places (map (λ (l : Lane D L M). l.device) lanes) rest → length news ≡ length devices
-      → LanesOnlyRead g firsts lanes → AreOnlyRead g devices news
-  devices_read devices news rest places rs firsts lanes may turn taken taken' long read = record {
+  pub devices_read : {chunks : _} {slots : _} (devices news rest : List D) (places : List ℕ) (rs : List Reading) (firsts queues : List (Queue D L M)) → MayRead g chunks slots (map (λ (r : Reading). r.source) rs) devices
+      → AreInTurn (map (λ (r : Reading). r.source.place) rs) places → AreTaken devices places (map (λ (l : Queue D L M). l.device) firsts) rest → AreTaken news places (map (λ (l : Queue D L M). l.device) queues) rest → length news ≡ length devices
+      → QueuesOnlyRead g firsts queues → AreOnlyRead g devices news
+  devices_read devices news rest places rs firsts queues may turn taken taken' long read = record {
     as_many = long;
-    each = related (OnlyRead g) not_read devices news places (map (λ (l : Lane D L M). l.device) firsts) (map (λ (l : Lane D L M). l.device) lanes) rest (all_fit devices rs places may turn) long taken taken' (each firsts lanes read);
+    each = related (OnlyRead g) not_read devices news places (map (λ (l : Queue D L M). l.device) firsts) (map (λ (l : Queue D L M). l.device) queues) rest (all_fit devices rs places may turn) long taken taken' (each firsts queues read);
   }
     where
-      each : (fs ls : List (Lane D L M)) → LanesOnlyRead g fs ls → (i : ℕ) (d : D) → i < length (map (λ (l : Lane D L M). l.device) fs) → OnlyRead g (get_or (map (λ (l : Lane D L M). l.device) fs) i d) (get_or (map (λ (l : Lane D L M). l.device) ls) i d)
+      each : (fs ls : List (Queue D L M)) → QueuesOnlyRead g fs ls → (i : ℕ) (d : D) → i < length (map (λ (l : Queue D L M). l.device) fs) → OnlyRead g (get_or (map (λ (l : Queue D L M). l.device) fs) i d) (get_or (map (λ (l : Queue D L M). l.device) ls) i d)
       each [] ls read' i d below = absurd (omega (arith, below))
       each (f ∷ fs) ls read' i d below =
-          let n = length-map (f ∷ fs) (λ (l : Lane D L M). l.device) in
+          let n = length-map (f ∷ fs) (λ (l : Queue D L M). l.device) in
           let wi : i < length (f ∷ fs) = omega (arith, below, n) in
           let many = read'.as_many in
-          let a = get_or-map (λ (l : Lane D L M). l.device) (f ∷ fs) i f d wi in
-          let b = get_or-map (λ (l : Lane D L M). l.device) ls i f d (omega (arith, wi, many)) in
+          let a = get_or-map (λ (l : Queue D L M). l.device) (f ∷ fs) i f d wi in
+          let b = get_or-map (λ (l : Queue D L M). l.device) ls i f d (omega (arith, wi, many)) in
           rw (a, b) (read'.each i f wi)
 
-  -- the device of a lane, by its source
-  first_device : {start : Books} {devices rest : List D} {places : List ℕ} {rs : List Reading} {firsts : List (Lane D L M)} → HaveLeft g start devices rest places rs firsts → (k : ℕ) (d : Lane D L M) (e : D) (s : Source) → k < length rs → (get_or firsts k d).device ≡ get_or devices (get_or (map (λ (r : Reading). r.source) rs) k s).place e
+  -- the device of a queue, by its source
+  first_device : {start : Books} {devices rest : List D} {places : List ℕ} {rs : List Reading} {firsts : List (Queue D L M)} → HaveLeft g start devices rest places rs firsts → (k : ℕ) (d : Queue D L M) (e : D) (s : Source) → k < length rs → (get_or firsts k d).device ≡ get_or devices (get_or (map (λ (r : Reading). r.source) rs) k s).place e
   first_device {devices = devices} {rest = rest} {places = places} {rs = rs} {firsts = firsts} t k d e s below =
-      sym (get_or-map (λ (l : Lane D L M). l.device) firsts k d e (omega (arith, t.same, below))) ∙ device_at devices devices (map (λ (l : Lane D L M). l.device) firsts) rest rs places t.may t.turn refl t.taken k e e s below
+      sym (get_or-map (λ (l : Queue D L M). l.device) firsts k d e (omega (arith, t.same, below))) ∙ device_at devices devices (map (λ (l : Queue D L M). l.device) firsts) rest rs places t.may t.turn refl t.taken k e e s below
 
   -- a slot of source k whose chunk was copied has landed
-  slot_landed : {th : Bool} {start now : Books} {devices rest : List D} {places : List ℕ} {rs : List Reading} {firsts lanes : List (Lane D L M)} → HaveLeft g start devices rest places rs firsts → IsPassing g th firsts lanes start now
-      → (slot : Slot) → Contains start.collector.slots slot → is_set now.copied.bytes slot.chunk ≡ true → (k : ℕ) (s : Source) (d : Lane D L M) → k < length rs → (get_or (map (λ (r : Reading). r.source) rs) k s).role ≡ slot.source → HasLanded g th now (get_or firsts k d) slot.chunk
-  slot_landed {th = th} {start = start} {now = now} {rs = rs} {firsts = firsts} {lanes = lanes} t p slot there mark k s d below role =
+  slot_landed : {th : Bool} {start now : Books} {devices rest : List D} {places : List ℕ} {rs : List Reading} {firsts queues : List (Queue D L M)} → HaveLeft g start devices rest places rs firsts → IsPassing g th firsts queues start now
+      → (slot : Slot) → Contains start.collector.slots slot → is_set now.copied.bytes slot.chunk ≡ true → (k : ℕ) (s : Source) (d : Queue D L M) → k < length rs → (get_or (map (λ (r : Reading). r.source) rs) k s).role ≡ slot.source → HasLanded g th now (get_or firsts k d) slot.chunk
+  slot_landed {th = th} {start = start} {now = now} {rs = rs} {firsts = firsts} {queues = queues} t p slot there mark k s d below role =
       let r = get_or rs k (reading_like d) in
       let is : r.source.role ≡ slot.source = ap (λ (x : Source). x.role) (sym (source_at rs k (reading_like d) s below)) ∙ role in
       let (j, within, at) = order_covers (t.orders k (reading_like d) below) slot there (sym is) in
@@ -112,13 +112,13 @@ module _ {D L M : Type 0} {g : Ghosts D} where
       let short : j < length (get_or firsts k d).chunks.items = rw chunks within in
       let place : slice_index (get_or firsts k d).chunks.items j ≡ slot.chunk = ap (λ (v : _). slice_index v.items j) chunks ∙ at in
       let unset : is_set start.copied.bytes slot.chunk ≡ false = subst (λ c. is_set start.copied.bytes c ≡ false) place ((p.begins k d here).uncopied j short) in
-      elim (cases_lt j (get_or lanes k d).done) [
+      elim (cases_lt j (get_or queues k d).done) [
         | inl less ↦ subst (λ c. HasLanded g th now (get_or firsts k d) c) place (way.landed j less)
         | inr from ↦ absurd (both_ways (is_set now.collector.reported.bytes slot.chunk) (p.books.marks slot.chunk mark unset) (subst (λ c. is_set now.collector.reported.bytes c ≡ false) place (way.waiting j from short)))
       ]
 
   -- planned chunks alone were marked
-  all_joined : {th : Bool} {start now : Books} {firsts lanes : List (Lane D L M)} → IsPassing g th firsts lanes start now → AreJoined start.collector.slots start.copied now.copied
+  all_joined : {th : Bool} {start now : Books} {firsts queues : List (Queue D L M)} → IsPassing g th firsts queues start now → AreJoined start.collector.slots start.copied now.copied
   all_joined {start = start} {now = now} p = record {
     chunks = p.books.count;
     kept = p.books.kept;
@@ -130,15 +130,15 @@ module _ {D L M : Type 0} {g : Ghosts D} where
       before c none set false e = absurd (both_ways (has_chunk start.collector.slots c) (p.books.planned c (p.books.marks c set e)) none)
 
   -- what was copied is its source's
-  all_copied : {th : Bool} {start now : Books} {devices rest : List D} {places : List ℕ} {rs : List Reading} {firsts lanes : List (Lane D L M)} → HaveLeft g start devices rest places rs firsts → IsPassing g th firsts lanes start now
+  all_copied : {th : Bool} {start now : Books} {devices rest : List D} {places : List ℕ} {rs : List Reading} {firsts queues : List (Queue D L M)} → HaveLeft g start devices rest places rs firsts → IsPassing g th firsts queues start now
       → (i : ℕ) (slot : Slot) → i < length start.collector.slots → (k : ℕ) (s : Source) → k < length (map (λ (r : Reading). r.source) rs) → (get_or (map (λ (r : Reading). r.source) rs) k s).role ≡ (get_or start.collector.slots i slot).source
       → is_set now.copied.bytes (get_or start.collector.slots i slot).chunk ≡ true
       → (e : D) → th ≡ true → g.honest (get_or devices (get_or (map (λ (r : Reading). r.source) rs) k s).place e) ≡ true
       → chunk_on now.target start.collector.offset start.collector.chunks (get_or start.collector.slots i slot).chunk
       ≡ chunk_on (g.content (get_or devices (get_or (map (λ (r : Reading). r.source) rs) k s).place e)) (get_or (map (λ (r : Reading). r.source) rs) k s).offset start.collector.chunks (get_or start.collector.slots i slot).chunk
-  all_copied {th = th} {start = start} {now = now} {devices = devices} {rest = rest} {places = places} {rs = rs} {firsts = firsts} {lanes = lanes} t p i slot wi k s wk role mark e ht h = by firsts refl
+  all_copied {th = th} {start = start} {now = now} {devices = devices} {rest = rest} {places = places} {rs = rs} {firsts = firsts} {queues = queues} t p i slot wi k s wk role mark e ht h = by firsts refl
     where
-      by : (ls : List (Lane D L M)) → firsts ≡ ls
+      by : (ls : List (Queue D L M)) → firsts ≡ ls
           → chunk_on now.target start.collector.offset start.collector.chunks (get_or start.collector.slots i slot).chunk
           ≡ chunk_on (g.content (get_or devices (get_or (map (λ (r : Reading). r.source) rs) k s).place e)) (get_or (map (λ (r : Reading). r.source) rs) k s).offset start.collector.chunks (get_or start.collector.slots i slot).chunk
       by [] none = absurd (let n = length-map rs (λ (r : Reading). r.source) in let z = ap length none in omega (arith, wk, n, t.same, z))
@@ -153,9 +153,9 @@ module _ {D L M : Type 0} {g : Ghosts D} where
           rw (← chunks, ← start_at, ← device, ← offset) (has.holds mark (ap g.honest device ∙ h) ht)
 
   -- what was copied by now, whether the pass is done or not
-  pub has_copied : (old new : D) (collector collector' : CollectorView) (copied copied' : Bitmap) {devices news rest : List D} {places : List ℕ} {rs : List Reading} {firsts lanes : List (Lane D L M)}
+  pub has_copied : (old new : D) (collector collector' : CollectorView) (copied copied' : Bitmap) {devices news rest : List D} {places : List ℕ} {rs : List Reading} {firsts queues : List (Queue D L M)}
       → HaveLeft g (books collector (g.content old) copied) devices rest places rs firsts
-      → IsPassing g (g.honest old) firsts lanes (books collector (g.content old) copied) (books collector' (g.content new) copied')
+      → IsPassing g (g.honest old) firsts queues (books collector (g.content old) copied) (books collector' (g.content new) copied')
       → HasCopied g (copying collector) (map (λ (r : Reading). r.source) rs) (pass_state devices old copied) (pass_state news new copied')
   has_copied old new collector collector' copied copied' t p = record {
     joined = all_joined p;
@@ -163,33 +163,33 @@ module _ {D L M : Type 0} {g : Ghosts D} where
     beside = p.books.beside;
   }
 
-  -- the slots of source k that failed, by the share of its lane
-  lane_failed : {th : Bool} {start now : Books} {devices rest : List D} {places : List ℕ} {rs : List Reading} {firsts lanes : List (Lane D L M)} → HaveLeft g start devices rest places rs firsts → IsPassing g th firsts lanes start now → All (λ lane. (lane.done ≡ length lane.chunks.items) × (lane.reports ≡ [])) lanes
-      → (k : ℕ) (d : Lane D L M) (s : Source) → k < length rs → (get_or lanes k d).share.failed ≡ count_by (is_of (get_or (map (λ (r : Reading). r.source) rs) k s).role) (failed_slots start.collector.slots now.copied)
-  lane_failed {start = start} {now = now} {rs = rs} {firsts = firsts} {lanes = lanes} t p done k d s below =
+  -- the slots of source k that failed, by the share of its queue
+  queue_failed : {th : Bool} {start now : Books} {devices rest : List D} {places : List ℕ} {rs : List Reading} {firsts queues : List (Queue D L M)} → HaveLeft g start devices rest places rs firsts → IsPassing g th firsts queues start now → All (λ queue. (queue.done ≡ length queue.chunks.items) × (queue.reports ≡ [])) queues
+      → (k : ℕ) (d : Queue D L M) (s : Source) → k < length rs → (get_or queues k d).share.failed ≡ count_by (is_of (get_or (map (λ (r : Reading). r.source) rs) k s).role) (failed_slots start.collector.slots now.copied)
+  queue_failed {start = start} {now = now} {rs = rs} {firsts = firsts} {queues = queues} t p done k d s below =
       let here : k < length firsts = omega (arith, t.same, below) in
       let way = p.each k d here in
       let is = t.are k (reading_like d) d below in
-      let lane = get_or lanes k d in
+      let queue = get_or queues k d in
       let first = get_or firsts k d in
       let there = done k d (omega (arith, p.as_many, here)) in
-      let none : count_by is_failed lane.reports ≡ 0 = ap (count_by is_failed) there.1 in
+      let none : count_by is_failed queue.reports ≡ 0 = ap (count_by is_failed) there.1 in
       let zero : first.share.failed ≡ 0 = is.none_failed in
-      let whole : lane.done ≡ length first.chunks.items = there.0 ∙ ap (λ (v : _). length v.items) (chunks_kept way.read) in
-      let all : count_left now.copied first.chunks.items lane.done ≡ count_by (is_left now.copied) first.chunks.items
+      let whole : queue.done ≡ length first.chunks.items = there.0 ∙ ap (λ (v : _). length v.items) (chunks_kept way.read) in
+      let all : count_left now.copied first.chunks.items queue.done ≡ count_by (is_left now.copied) first.chunks.items
       = ap (count_left now.copied first.chunks.items) whole ∙ ap (count_by (is_left now.copied)) (take-length first.chunks.items) in
       let own : count_by (is_left now.copied) first.chunks.items ≡ count_by (is_of (get_or rs k (reading_like d)).source.role) (failed_slots start.collector.slots now.copied)
       = ap (λ (v : _). count_by (is_left now.copied) v.items) is.chunks ∙ order_left now.copied start.collector.slots (get_or rs k (reading_like d)).source.role (get_or rs k (reading_like d)).chunks.items (t.orders k (reading_like d) below) in
       let role = ap (λ (x : Source). count_by (is_of x.role) (failed_slots start.collector.slots now.copied)) (sym (source_at rs k (reading_like d) s below)) in
-      way.read.failed ∙ (let z : first.share.failed + (count_left now.copied first.chunks.items lane.done + count_by is_failed lane.reports) ≡ count_left now.copied first.chunks.items lane.done = omega (arith, none, zero) in z) ∙ all ∙ own ∙ role
+      way.read.failed ∙ (let z : first.share.failed + (count_left now.copied first.chunks.items queue.done + count_by is_failed queue.reports) ≡ count_left now.copied first.chunks.items queue.done = omega (arith, none, zero) in z) ∙ all ∙ own ∙ role
 
   -- the devices have counted them
-  pub count_failed : {th : Bool} {start now : Books} {devices rest : List D} {places : List ℕ} {rs : List Reading} {firsts lanes : List (Lane D L M)} → HaveLeft g start devices rest places rs firsts → IsPassing g th firsts lanes start now → All (λ lane. (lane.done ≡ length lane.chunks.items) × (lane.reports ≡ [])) lanes
-      → (news : List D) → length news ≡ length devices → AreTaken news places (map (λ (l : Lane D L M). l.device) lanes) rest
+  pub count_failed : {th : Bool} {start now : Books} {devices rest : List D} {places : List ℕ} {rs : List Reading} {firsts queues : List (Queue D L M)} → HaveLeft g start devices rest places rs firsts → IsPassing g th firsts queues start now → All (λ queue. (queue.done ≡ length queue.chunks.items) × (queue.reports ≡ [])) queues
+      → (news : List D) → length news ≡ length devices → AreTaken news places (map (λ (l : Queue D L M). l.device) queues) rest
       → CountFailed g start.collector.slots now.copied (map (λ (r : Reading). r.source) rs) devices news
-  count_failed {start = start} {now = now} {devices = devices} {rest = rest} {places = places} {rs = rs} {firsts = firsts} {lanes = lanes} t p done news long taken' k s wk e h = by firsts refl
+  count_failed {start = start} {now = now} {devices = devices} {rest = rest} {places = places} {rs = rs} {firsts = firsts} {queues = queues} t p done news long taken' k s wk e h = by firsts refl
     where
-      by : (ls : List (Lane D L M)) → firsts ≡ ls
+      by : (ls : List (Queue D L M)) → firsts ≡ ls
           → g.failures (get_or devices (get_or (map (λ (r : Reading). r.source) rs) k s).place e) + count_by (is_of (get_or (map (λ (r : Reading). r.source) rs) k s).role) (failed_slots start.collector.slots now.copied)
           ≤ g.failures (get_or news (get_or (map (λ (r : Reading). r.source) rs) k s).place e)
       by [] none = absurd (let n = length-map rs (λ (r : Reading). r.source) in let z = ap length none in omega (arith, wk, n, t.same, z))
@@ -199,35 +199,35 @@ module _ {D L M : Type 0} {g : Ghosts D} where
           let here : k < length firsts = omega (arith, t.same, below) in
           let way = p.each k f here in
           let old = first_device t k f e s below in
-          let new : (get_or lanes k f).device ≡ get_or news (get_or (map (λ (r : Reading). r.source) rs) k s).place e
-          = sym (get_or-map (λ (l : Lane D L M). l.device) lanes k f e (omega (arith, here, p.as_many))) ∙ device_at devices news (map (λ (l : Lane D L M). l.device) lanes) rest rs places t.may t.turn long taken' k e e s below in
+          let new : (get_or queues k f).device ≡ get_or news (get_or (map (λ (r : Reading). r.source) rs) k s).place e
+          = sym (get_or-map (λ (l : Queue D L M). l.device) queues k f e (omega (arith, here, p.as_many))) ∙ device_at devices news (map (λ (l : Queue D L M). l.device) queues) rest rs places t.may t.turn long taken' k e e s below in
           let up = way.read.risen (ap g.honest old ∙ h) in
           let zero : (get_or firsts k f).share.failed ≡ 0 = (t.are k (reading_like f) f below).none_failed in
-          let all = lane_failed t p done k f s below in
+          let all = queue_failed t p done k f s below in
           let a = ap g.failures old in
           let b = ap g.failures new in
           omega (arith, up, zero, all, a, b)
 
-  -- the shares of lanes that are done
-  pub none_left : {th : Bool} {start now : Books} {devices rest : List D} {places : List ℕ} {rs : List Reading} {firsts lanes : List (Lane D L M)} → HaveLeft g start devices rest places rs firsts → IsPassing g th firsts lanes start now → All (λ lane. (lane.done ≡ length lane.chunks.items) × (lane.reports ≡ [])) lanes
-      → (sum_by (λ (l : Lane D L M). l.share.left) lanes ≡ 0) × (sum_by (λ (l : Lane D L M). l.share.failed) lanes ≡ length (failed_slots start.collector.slots now.copied)) × (sum_by (λ (l : Lane D L M). l.share.parts) lanes ≡ sum_by (λ (l : Lane D L M). l.share.parts) firsts)
-  none_left {th = th} {start = start} {now = now} {rs = rs} {firsts = firsts} {lanes = lanes} t p done = (
-    sum_none (λ (l : Lane D L M). l.share.left) lanes left,
-    same_totals (λ (l : Lane D L M). l.share.failed) (λ (s : Source). count_by (is_of s.role) (failed_slots start.collector.slots now.copied)) lanes (map (λ (r : Reading). r.source) rs) (p.as_many ∙ t.same ∙ sym (length-map rs (λ (r : Reading). r.source)))
-        (λ k d s below. lane_failed t p done k d s (omega (arith, below, p.as_many, t.same)))
+  -- the shares of queues that are done
+  pub none_left : {th : Bool} {start now : Books} {devices rest : List D} {places : List ℕ} {rs : List Reading} {firsts queues : List (Queue D L M)} → HaveLeft g start devices rest places rs firsts → IsPassing g th firsts queues start now → All (λ queue. (queue.done ≡ length queue.chunks.items) × (queue.reports ≡ [])) queues
+      → (sum_by (λ (l : Queue D L M). l.share.left) queues ≡ 0) × (sum_by (λ (l : Queue D L M). l.share.failed) queues ≡ length (failed_slots start.collector.slots now.copied)) × (sum_by (λ (l : Queue D L M). l.share.parts) queues ≡ sum_by (λ (l : Queue D L M). l.share.parts) firsts)
+  none_left {th = th} {start = start} {now = now} {rs = rs} {firsts = firsts} {queues = queues} t p done = (
+    sum_none (λ (l : Queue D L M). l.share.left) queues left,
+    same_totals (λ (l : Queue D L M). l.share.failed) (λ (s : Source). count_by (is_of s.role) (failed_slots start.collector.slots now.copied)) queues (map (λ (r : Reading). r.source) rs) (p.as_many ∙ t.same ∙ sym (length-map rs (λ (r : Reading). r.source)))
+        (λ k d s below. queue_failed t p done k d s (omega (arith, below, p.as_many, t.same)))
         ∙ all_counted (failed_slots start.collector.slots now.copied) (map (λ (r : Reading). r.source) rs) t.may.rising (All-filter (is_failed_slot now.copied) (λ (slot : Slot). Any (λ (s : Source). s.role ≡ slot.source) (map (λ (r : Reading). r.source) rs)) start.collector.slots t.may.serves),
     parts,
   )
     where
-      way : (k : ℕ) (d : Lane D L M) → k < length lanes → IsUnderWay g th now (get_or firsts k d) (get_or lanes k d)
+      way : (k : ℕ) (d : Queue D L M) → k < length queues → IsUnderWay g th now (get_or firsts k d) (get_or queues k d)
       way k d below = p.each k d (omega (arith, below, p.as_many))
 
-      left : (k : ℕ) (d : Lane D L M) → k < length lanes → (get_or lanes k d).share.left ≡ 0
+      left : (k : ℕ) (d : Queue D L M) → k < length queues → (get_or queues k d).share.left ≡ 0
       left k d below =
           let z = (done k d below).0 in
           let none = ap length (done k d below).1 in
           let e = ap (λ (v : _). length v.items) (chunks_kept (way k d below).read) in
           (way k d below).read.left ∙ omega (arith, z, e, none)
 
-      parts : sum_by (λ (l : Lane D L M). l.share.parts) lanes ≡ sum_by (λ (l : Lane D L M). l.share.parts) firsts
-      parts = same_sums (λ (l : Lane D L M). l.share.parts) lanes firsts p.as_many (λ k d below. (way k d below).read.parts)
+      parts : sum_by (λ (l : Queue D L M). l.share.parts) queues ≡ sum_by (λ (l : Queue D L M). l.share.parts) firsts
+      parts = same_sums (λ (l : Queue D L M). l.share.parts) queues firsts p.as_many (λ k d below. (way k d below).read.parts)

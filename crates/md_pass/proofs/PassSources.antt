@@ -21,7 +21,7 @@ use Rattle.md_pass.specs.declared.pass.BoardCounts.{BoardCounts}
 use Rattle.md_pass.specs.declared.preparing.Preparation.{Preparation}
 use Rattle.md_pass.specs.declared.source.Source.{Source}
 use Rattle.md_pass.specs.Readings.{has_slot, is_of}
-use Rattle.md_workers.specs.Lanes.{AreOnlyRead}
+use Rattle.md_workers.specs.Queues.{AreOnlyRead}
 use Rattle.md_pass.specs.Copied.{AreCopied, AreUncopied, BreaksOff, CountFailed, EndsPass, HasCopied, HoldsChunkOf, PassState, WritesPlanned, failed_slots, is_failed_slot}
 use Rattle.md_pass.specs.Preparing.{CanCopy, IsPreparedFor}
 use Rattle.md_pass.specs.Sources.{MayRead}

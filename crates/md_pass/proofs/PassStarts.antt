@@ -1,4 +1,4 @@
--- A pass begins: devices have left for lanes.
+-- A pass begins: devices have left for queues.
 use Rattle.std.proofs.Common.{◌≡◌, ℕ, ◌<◌, ◌≤◌, Bool, true, false, inl, inr, [], List, length, map, get_or, slice_index, refl, ap, sym, ◌∙◌, arith, subst}
 use Rattle.std.specs.List.{All}
 use Rattle.std.specs.Int.{div_ceil}
@@ -9,18 +9,18 @@ use Rattle.std.proofs.lemmas.Simd.{map-map}
 use Rattle.md_device.specs.declared.device.Device.{Ghosts}
 use Rattle.md_bitmap.specs.Marks.{is_set}
 use Rattle.md_collect.specs.Places.{HasRoom}
-use Rattle.md_collect.specs.Collecting.{ArePlanned, IsFresh}
-use Rattle.md_workers.specs.declared.lane.Lane.{Lane}
+use Rattle.md_collect.specs.Collecting.{ArePlanned, IsUnreported}
+use Rattle.md_workers.specs.declared.queue.Queue.{Queue}
 use Rattle.md_pass.specs.declared.preparing.Preparation.{Preparation}
 use Rattle.md_pass.specs.declared.reading.Reading.{Reading}
 use Rattle.md_pass.specs.declared.source.Source.{Source}
-use Rattle.md_pass.specs.Places.{AreInTurn, AreTaken, FitPlaces, AreApart}
-use Rattle.md_pass.specs.Readings.{IsLaneOf, IsOrderOf}
-use Rattle.md_pass.specs.Settling.{Books}
+use Rattle.md_pass.specs.Places.{AreInTurn, AreTaken, FitPlaces, AreDistinct}
+use Rattle.md_pass.specs.Readings.{IsQueueOf, IsOrderOf}
+use Rattle.md_pass.specs.TakingReports.{Books}
 use Rattle.md_pass.specs.Preparing.{IsOrdered}
 use Rattle.md_pass.specs.Sources.{MayRead}
-use Rattle.md_workers.specs.Lanes.{HasRead}
-use Rattle.md_pass.specs.Passes.{HasBooks, IsFirst, IsUnderWay, IsPassing, count_left}
+use Rattle.md_workers.specs.Queues.{HasRead}
+use Rattle.md_pass.specs.Passes.{HasBooks, IsAtStart, IsUnderWay, IsPassing, count_left}
 use Rattle.md_pass.proofs.InTurn.{taken_at, turns_fit}
 use Rattle.md_pass.proofs.Orders.{one_slot, order_apart, order_chunk, order_planned, slot_at}
 use Rattle.md_pass.proofs.Rounds.{first_goes}
@@ -42,7 +42,7 @@ pub in_turn : (p : Preparation) (places : List ℕ) → places ≡ p.places.item
 in_turn p places at ordered = rw at ordered.places
 
 module _ {D : Type 0} {g : Ghosts D} where
-  pub places_apart : {chunks : _} {slots : _} {devices : List D} (rs : List Reading) → MayRead g chunks slots (map (λ (r : Reading). r.source) rs) devices → AreApart (map (λ (r : Reading). r.source.place) rs)
+  pub places_apart : {chunks : _} {slots : _} {devices : List D} (rs : List Reading) → MayRead g chunks slots (map (λ (r : Reading). r.source) rs) devices → AreDistinct (map (λ (r : Reading). r.source.place) rs)
   places_apart rs may i j wi wj e =
       let n = length-map rs (λ (r : Reading). r.source.place) in
       let m = length-map rs (λ (r : Reading). r.source) in
@@ -83,7 +83,7 @@ module _ {D : Type 0} {g : Ghosts D} where
         | inr up ↦ elim (cases_lt j i) [ inl less ↦ absurd (let low = may.rising j i s less wi in omega (arith, low, e)) | inr down ↦ omega arith ]
       ]
 
-still : (start : Books) → IsFresh start.collector → HasBooks start start
+still : (start : Books) → IsUnreported start.collector → HasBooks start start
 still start fresh = record {
   same_copy = refl;
   whole = fresh.whole;
@@ -98,25 +98,25 @@ still start fresh = record {
     impossible : (b : Bool) → b ≡ true → b ≡ false → ⊥
     impossible b t f = cc
 
--- a reading as long as the lane's
-pub reading_like : {D L M : Type 0} → Lane D L M → Reading
-reading_like lane = record { source = no_source; chunks = lane.chunks; reports = []; none_waits = refl }
+-- a reading as long as the queue's
+pub reading_like : {D L M : Type 0} → Queue D L M → Reading
+reading_like queue = record { source = no_source; chunks = queue.chunks; reports = []; none_waits = refl }
 
 module _ {D L M : Type 0} {g : Ghosts D} where
-  begun : (th : Bool) (start : Books) (lane : Lane D L M) → IsFirst g start lane → IsUnderWay g th start lane lane
-  begun th start lane first = record {
-    read = subst (λ n. HasRead g start.collector.chunks (count_left start.copied lane.chunks.items n) lane lane) (sym first.none_done) (none_read lane (record { goes = first_goes start start.collector.chunks lane first refl; none_waits = first.none_waits }));
+  begun : (th : Bool) (start : Books) (queue : Queue D L M) → IsAtStart g start queue → IsUnderWay g th start queue queue
+  begun th start queue first = record {
+    read = subst (λ n. HasRead g start.collector.chunks (count_left start.copied queue.chunks.items n) queue queue) (sym first.none_done) (none_read queue (record { goes = first_goes start start.collector.chunks queue first refl; none_waits = first.none_waits }));
     landed = λ j below. absurd (let z = first.none_done in omega (arith, z, below));
     waiting = λ j from below. first.unreported j below;
   }
 
-  first_of : (start : Books) (r : Reading) (lane : Lane D L M) → IsFresh start.collector → ArePlanned start.collector.chunks start.collector.slots → All (λ slot. is_set start.copied.bytes slot.chunk ≡ false) start.collector.slots → IsOrderOf start.collector.slots r.source.role r.chunks.items → IsLaneOf r lane
-      → HasRoom (g.content lane.device) r.source.offset start.collector.chunks → IsFirst g start lane
-  first_of start r lane fresh planned uncopied order is room = record {
+  first_of : (start : Books) (r : Reading) (queue : Queue D L M) → IsUnreported start.collector → ArePlanned start.collector.chunks start.collector.slots → All (λ slot. is_set start.copied.bytes slot.chunk ≡ false) start.collector.slots → IsOrderOf start.collector.slots r.source.role r.chunks.items → IsQueueOf r queue
+      → HasRoom (g.content queue.device) r.source.offset start.collector.chunks → IsAtStart g start queue
+  first_of start r queue fresh planned uncopied order is room = record {
     room = rw is.offset room;
     planned = rw (is.chunks, is.role) (order_planned order);
     chunk = rw is.chunks (order_chunk order start.collector.chunks planned);
-    unreported = λ j below. fresh.none (slice_index lane.chunks.items j);
+    unreported = λ j below. fresh.none (slice_index queue.chunks.items j);
     uncopied = rw is.chunks (λ j below. let at = slot_at order j below in subst (λ c. is_set start.copied.bytes c ≡ false) at.chunk_is (All-contains (λ (s : _). is_set start.copied.bytes s.chunk ≡ false) start.collector.slots at.slot uncopied at.there));
     none_done = is.none_done;
     none_waits = is.none_waits;
@@ -124,42 +124,42 @@ module _ {D L M : Type 0} {g : Ghosts D} where
     none_failed = is.none_failed;
   }
 
-  -- lanes that were made of readings
-  pub starts : (th : Bool) (start : Books) (devices rest : List D) (places : List ℕ) (rs : List Reading) (lanes : List (Lane D L M)) → IsFresh start.collector → ArePlanned start.collector.chunks start.collector.slots → All (λ slot. is_set start.copied.bytes slot.chunk ≡ false) start.collector.slots
+  -- queues that were made of readings
+  pub starts : (th : Bool) (start : Books) (devices rest : List D) (places : List ℕ) (rs : List Reading) (queues : List (Queue D L M)) → IsUnreported start.collector → ArePlanned start.collector.chunks start.collector.slots → All (λ slot. is_set start.copied.bytes slot.chunk ≡ false) start.collector.slots
       → MayRead g start.collector.chunks start.collector.slots (map (λ (r : Reading). r.source) rs) devices → All (λ (r : Reading). IsOrderOf start.collector.slots r.source.role r.chunks.items) rs
       → AreInTurn (map (λ (r : Reading). r.source.place) rs) places → HasRoom start.target start.collector.offset start.collector.chunks → start.copied.chunks ≡ div_ceil start.collector.chunks.size start.collector.chunks.sectors
-      → length lanes ≡ length rs → AreTaken devices places (map (λ (l : Lane D L M). l.device) lanes) rest
-      → ((i : ℕ) (r : Reading) (d : Lane D L M) → i < length rs → IsLaneOf (get_or rs i r) (get_or lanes i d))
-      → IsPassing g th lanes lanes start start
-  starts th start devices rest places rs lanes fresh planned uncopied may orders turn room marks same taken are = record {
+      → length queues ≡ length rs → AreTaken devices places (map (λ (l : Queue D L M). l.device) queues) rest
+      → ((i : ℕ) (r : Reading) (d : Queue D L M) → i < length rs → IsQueueOf (get_or rs i r) (get_or queues i d))
+      → IsPassing g th queues queues start start
+  starts th start devices rest places rs queues fresh planned uncopied may orders turn room marks same taken are = record {
     begins = firsts;
     apart = apart;
     room = room;
     covers = λ c is. rw marks is;
     as_many = refl;
-    each = λ k d below. begun th start (get_or lanes k d) (firsts k d below);
+    each = λ k d below. begun th start (get_or queues k d) (firsts k d below);
     books = still start fresh;
   }
     where
       ss : List Source
       ss = map (λ (r : Reading). r.source) rs
 
-      chunks_at : (k : ℕ) (d : Lane D L M) → k < length lanes → (get_or lanes k d).chunks ≡ (get_or rs k (reading_like d)).chunks
+      chunks_at : (k : ℕ) (d : Queue D L M) → k < length queues → (get_or queues k d).chunks ≡ (get_or rs k (reading_like d)).chunks
       chunks_at k d within = (are k (reading_like d) d (omega (arith, same, within))).chunks
 
-      firsts : (k : ℕ) (d : Lane D L M) → k < length lanes → IsFirst g start (get_or lanes k d)
+      firsts : (k : ℕ) (d : Queue D L M) → k < length queues → IsAtStart g start (get_or queues k d)
       firsts k d within =
           let here : k < length rs = omega (arith, same, within) in
           let r = get_or rs k (reading_like d) in
           let from : get_or ss k no_source ≡ r.source = source_at rs k (reading_like d) no_source here in
-          let at : (get_or lanes k d).device ≡ get_or devices r.source.place d.device
-          = sym (get_or-map (λ (l : Lane D L M). l.device) lanes k d d.device within) ∙ device_at devices devices (map (λ (l : Lane D L M). l.device) lanes) rest rs places may turn refl taken k d.device d.device no_source here ∙ ap (λ (s : Source). get_or devices s.place d.device) from in
+          let at : (get_or queues k d).device ≡ get_or devices r.source.place d.device
+          = sym (get_or-map (λ (l : Queue D L M). l.device) queues k d d.device within) ∙ device_at devices devices (map (λ (l : Queue D L M). l.device) queues) rest rs places may turn refl taken k d.device d.device no_source here ∙ ap (λ (s : Source). get_or devices s.place d.device) from in
           let wide : HasRoom (g.content (get_or devices r.source.place d.device)) r.source.offset start.collector.chunks
           = subst (λ (s : Source). HasRoom (g.content (get_or devices s.place d.device)) s.offset start.collector.chunks) from (may.room k no_source (omega (arith, here, length-map rs (λ (x : Reading). x.source))) d.device) in
-          first_of start r (get_or lanes k d) fresh planned uncopied (orders k (reading_like d) here) (are k (reading_like d) d here) (rw at wide)
+          first_of start r (get_or queues k d) fresh planned uncopied (orders k (reading_like d) here) (are k (reading_like d) d here) (rw at wide)
 
-      apart : (k m i j : ℕ) (d : Lane D L M) → k < length lanes → m < length lanes → i < length (get_or lanes k d).chunks.items → j < length (get_or lanes m d).chunks.items
-          → slice_index (get_or lanes k d).chunks.items i ≡ slice_index (get_or lanes m d).chunks.items j → (k ≡ m) × (i ≡ j)
+      apart : (k m i j : ℕ) (d : Queue D L M) → k < length queues → m < length queues → i < length (get_or queues k d).chunks.items → j < length (get_or queues m d).chunks.items
+          → slice_index (get_or queues k d).chunks.items i ≡ slice_index (get_or queues m d).chunks.items j → (k ≡ m) × (i ≡ j)
       apart k m i j d wk wm wi wj e =
           let hk : k < length rs = omega (arith, same, wk) in
           let hm : m < length rs = omega (arith, same, wm) in
@@ -180,8 +180,8 @@ module _ {D L M : Type 0} {g : Ghosts D} where
           let there : get_or rs m (reading_like d) ≡ rk = ap (λ x. get_or rs x (reading_like d)) (sym one) in
           (one, order_apart (orders k (reading_like d) hk) planned.rising i j wi' (subst (λ (r : Reading). j < length r.chunks.items) there wj') (e' ∙ ap (λ (r : Reading). slice_index r.chunks.items j) there))
 
-pub turns_enough : {D L M : Type 0} (turns : ℕ) (rs : List Reading) (lanes : List (Lane D L M)) → length lanes ≡ length rs → All (λ (r : Reading). length r.chunks.items ≤ turns) rs
-    → ((i : ℕ) (r : Reading) (d : Lane D L M) → i < length rs → IsLaneOf (get_or rs i r) (get_or lanes i d)) → All (λ (lane : Lane D L M). length lane.chunks.items ≤ turns) lanes
-turns_enough turns rs lanes same short are k d below =
+pub turns_enough : {D L M : Type 0} (turns : ℕ) (rs : List Reading) (queues : List (Queue D L M)) → length queues ≡ length rs → All (λ (r : Reading). length r.chunks.items ≤ turns) rs
+    → ((i : ℕ) (r : Reading) (d : Queue D L M) → i < length rs → IsQueueOf (get_or rs i r) (get_or queues i d)) → All (λ (queue : Queue D L M). length queue.chunks.items ≤ turns) queues
+turns_enough turns rs queues same short are k d below =
     let here : k < length rs = omega (arith, same, below) in
     rw (are k (reading_like d) d here).chunks (short k (reading_like d) here)

@@ -5,9 +5,9 @@ use Rattle.md_cert.specs.declared.slots.Slot.{Slot}
 use Rattle.md_bitmap.specs.declared.chunks.Chunks.{Chunks}
 use Rattle.md_bitmap.specs.Marks.{Bitmap, is_set}
 use Rattle.md_device.specs.Splice.{part}
-use Rattle.md_device.specs.Stops.{LeavesMore}
+use Rattle.md_device.specs.Crashes.{LeavesMore}
 use Rattle.md_device.specs.declared.device.Device.{Ghosts}
-use Rattle.md_collect.specs.Places.{start_of, bytes_of}
+use Rattle.md_collect.specs.Places.{start_of, bytes_of_chunk}
 use Rattle.md_collect.specs.Reports.{Copying}
 use Rattle.md_collect.specs.Collecting.{CollectorView, copying}
 
@@ -16,20 +16,20 @@ abbrev pub has_chunk : List Slot → ℕ → Bool
 has_chunk slots c = list_any (λ slot. slot.chunk == c) slots
 
 -- n bytes from a place on lie beside the chunk of a member whose data start at this sector
-abbrev pub IsBeside : Chunks → ℕ → ℕ → ℕ → ℕ → Type 0
-IsBeside chunks offset at n c = (at + n ≤ 512 * (offset + start_of chunks c)) ⊎ (512 * (offset + start_of chunks c) + bytes_of chunks c ≤ at)
+abbrev pub LiesBesideChunk : Chunks → ℕ → ℕ → ℕ → ℕ → Type 0
+LiesBesideChunk chunks offset at n c = (at + n ≤ 512 * (offset + start_of chunks c)) ⊎ (512 * (offset + start_of chunks c) + bytes_of_chunk chunks c ≤ at)
 
 -- two contents that are the same beside the chunks that are copied
 pub record SameBeside (copy : Copying) (old new : List ℕ) : Type 0 where
   pub size : length new ≡ length old
-  pub beside : (at n : ℕ) → ((c : ℕ) → has_chunk copy.slots c ≡ true → IsBeside copy.chunks copy.offset at n c) → part new at n ≡ part old at n
+  pub beside : (at n : ℕ) → ((c : ℕ) → has_chunk copy.slots c ≡ true → LiesBesideChunk copy.chunks copy.offset at n c) → part new at n ≡ part old at n
 
--- a target before and after chunks were copied to it, and what a stop in between leaves of it
+-- a target before and after chunks were copied to it, and what a crash in between leaves of it
 pub record KeepsBeside {D : Type 0} (g : Ghosts D) (copy : Copying) (old new : D) : Type 0 where
   pub same : SameBeside copy (g.content old) (g.content new)
   pub honest_kept : g.honest new ≡ g.honest old
   pub counted : g.failures old ≤ g.failures new
-  pub stops : g.honest old ≡ true → LeavesMore (g.stops old) (g.stops new) (SameBeside copy (g.content old))
+  pub crashes : g.honest old ≡ true → LeavesMore (g.crashes old) (g.crashes new) (SameBeside copy (g.content old))
 
 -- a collector and its target before and after it took reports
 pub record WritesBeside {D : Type 0} (g : Ghosts D) (old new : CollectorView) (before after : D) : Type 0 where
@@ -39,4 +39,4 @@ pub record WritesBeside {D : Type 0} (g : Ghosts D) (old new : CollectorView) (b
 -- two contents that are the same beside the chunks that were copied in between
 pub record SameBesideCopied (chunks : Chunks) (offset : ℕ) (before after : Bitmap) (old new : List ℕ) : Type 0 where
   pub size : length new ≡ length old
-  pub beside : (at n : ℕ) → ((c : ℕ) → is_set after.bytes c ≡ true → is_set before.bytes c ≡ false → IsBeside chunks offset at n c) → part new at n ≡ part old at n
+  pub beside : (at n : ℕ) → ((c : ℕ) → is_set after.bytes c ≡ true → is_set before.bytes c ≡ false → LiesBesideChunk chunks offset at n c) → part new at n ≡ part old at n

@@ -4,14 +4,14 @@ use Rattle.md_cert.specs.declared.slots.Slot.{Slot}
 use Rattle.md_device.specs.declared.device.Device.{Ghosts}
 use Rattle.md_bitmap.specs.Marks.{Bitmap, is_set}
 use Rattle.md_collect.specs.Places.{chunk_on}
-use Rattle.md_collect.specs.Reading.{Fails}
+use Rattle.md_collect.specs.Reading.{CountsFailure}
 use Rattle.md_collect.specs.Reports.{Copying}
 use Rattle.md_pass.specs.declared.fault.PassFault.{PassFault}
 use Rattle.md_pass.specs.declared.fault.PassFault.TheVariants.{NoMemory, TargetFault}
 use Rattle.md_pass.specs.declared.pass.BoardCounts.{BoardCounts}
 use Rattle.md_pass.specs.declared.source.Source.{Source}
 use Rattle.md_pass.specs.Beside.{KeepsBeside, SameBesideCopied, has_chunk}
-use Rattle.md_workers.specs.Lanes.{AreOnlyRead}
+use Rattle.md_workers.specs.Queues.{AreOnlyRead}
 use Rattle.md_pass.specs.Readings.{is_of}
 
 -- no chunk of the plan was copied
@@ -79,7 +79,7 @@ module _ {D : Type 0} (g : Ghosts D) where
 
   -- The pass was broken off. Where the target could not be written, nothing is said of what was copied.
   abbrev pub BreaksOff : Copying → List Source → PassState D → PassState D → PassFault → Type 0
-  BreaksOff copy sources old new = OnFault (HasCopied copy sources old new) (Fails g old.target new.target)
+  BreaksOff copy sources old new = OnFault (HasCopied copy sources old new) (CountsFailure g old.target new.target)
 
   -- whatever the answer is: the devices were only read, and of the target no more than chunks of the plan was written
   pub record WritesPlanned (copy : Copying) (old new : PassState D) : Type 0 where

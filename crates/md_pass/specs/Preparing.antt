@@ -6,7 +6,7 @@ use Rattle.md_cert.specs.declared.slots.Slot.{Slot}
 use Rattle.md_device.specs.declared.device.Device.{Ghosts}
 use Rattle.md_bitmap.specs.declared.chunks.Chunks.{Chunks}
 use Rattle.md_collect.specs.Places.{HasRoom}
-use Rattle.md_collect.specs.Collecting.{ArePlanned, IsFresh, copying}
+use Rattle.md_collect.specs.Collecting.{ArePlanned, IsUnreported, copying}
 use Rattle.md_pass.specs.declared.preparing.Preparation.{Preparation}
 use Rattle.md_pass.specs.declared.reading.Reading.{Reading}
 use Rattle.md_pass.specs.declared.source.Source.{Source}
@@ -21,7 +21,7 @@ sources_of p = map (λ (r : Reading). r.source) p.readings.items
 
 -- A collector that has no report yet, the chunks that each source reads, and the places at which the sources' devices leave, one after another.
 pub record IsOrdered (p : Preparation) : Type 0 where
-  pub fresh : IsFresh p.collector
+  pub fresh : IsUnreported p.collector
   pub chunks : p.chunks ≡ p.collector.chunks
   pub slots : length p.collector.slots ≡ p.slots
   pub orders : All (λ r. IsOrderOf p.collector.slots r.source.role r.chunks.items) p.readings.items

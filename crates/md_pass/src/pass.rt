@@ -122,11 +122,11 @@ fn copy_prepared<
         places,
     } = prepared;
     let turns = turns_of(readings.as_slice());
-    let mut lanes = Vec::with_capacity(alloc, readings.len())?;
+    let mut queues = Vec::with_capacity(alloc, readings.len())?;
     let (board, share) = Board::<L, M>::new(slots, left, failed);
     let board = Mutex::new(board);
     let places = places.as_slice();
-    let rest = take_out(devices, places, &mut readings, &mut lanes, share);
+    let rest = take_out(devices, places, &mut readings, &mut queues, share);
     let result = run_turns(
         rt,
         alloc,
@@ -137,12 +137,12 @@ fn copy_prepared<
         &mut collector,
         target,
         copied,
-        &mut lanes,
+        &mut queues,
     );
-    let mut all = put_back(places, &mut lanes, devices, rest);
+    let mut all = put_back(places, &mut queues, devices, rest);
     result?;
     let mut board = board.into_inner();
-    board.settle(&mut all);
+    board.audit_share(&mut all);
     Ok(BoardCounts {
         left: board.left(),
         failed: board.failed(),

@@ -1,26 +1,26 @@
 // All turns of a pass.
 ghost use Rattle.std.specs.Prelude.{◌≡◌, ◌+◌, ◌<◌, ◌≤◌, length, true, false, [], ℕ, IfErr, OnOk};
 ghost use Rattle.std.specs.List.{All};
-ghost use Rattle.md_collect.specs.Reading.{Fails};
+ghost use Rattle.md_collect.specs.Reading.{CountsFailure};
 ghost use Rattle.md_collect.specs.Collecting.{copying};
 ghost use Rattle.md_pass.specs.Beside.{KeepsBeside};
 ghost use Rattle.md_pass.specs.Copied.{OnFault};
-ghost use Rattle.md_pass.specs.Settling.{books};
-ghost use Rattle.md_pass.specs.Passes.{IsPassing, LanesOnlyRead};
+ghost use Rattle.md_pass.specs.TakingReports.{books};
+ghost use Rattle.md_pass.specs.Passes.{IsPassing, QueuesOnlyRead};
 
 use crate::fault::PassFault;
-use crate::settle::settle_all;
+use crate::take_report::take_reports;
 use md_bitmap::{Chunks, Marks};
 use md_collect::Collector;
 use md_device::Device;
-use md_workers::{Board, Gate, Lane, turn};
+use md_workers::{Board, Gate, Queue, turn};
 use std::alloc::Global;
 use std::sync::ledger::Ledger;
 use std::sync::{Mutex, Wait};
 use std::thread::Threads;
 
-/// Goes turn by turn until each lane has read all of its chunks: the workers read the next chunks of each
-/// lane, at least one, and then the collector takes their reports. So as many turns as a lane has chunks
+/// Goes turn by turn until each queue has read all of its chunks: the workers read the next chunks of each
+/// queue, at least one, and then the collector takes their reports. So as many turns as a queue has chunks
 /// are enough.
 pub(crate) fn run_turns<
     D: Device + Send,
@@ -38,56 +38,56 @@ pub(crate) fn run_turns<
     collector: &mut Collector,
     target: &mut D,
     copied: &mut Marks,
-    lanes: &mut Vec<Lane<D, L, M>>,
+    queues: &mut Vec<Queue<D, L, M>>,
 ) -> Result<(), PassFault>
     requires chunks { chunks ≡ collector.old.chunks }
-    requires turns { All (λ lane. length lane.chunks.items ≤ turns) lanes.old.items }
-    requires fresh { IsPassing D.Device (D.honest target.old) lanes.old.items lanes.old.items
+    requires turns { All (λ queue. length queue.chunks.items ≤ turns) queues.old.items }
+    requires fresh { IsPassing D.Device (D.honest target.old) queues.old.items queues.old.items
         (books collector.old (D.content target.old) copied.old) (books collector.old (D.content target.old) copied.old) }
 
-    ensures passed { OnOk result (IsPassing D.Device (D.honest target.old) lanes.old.items lanes.new.items
+    ensures passed { OnOk result (IsPassing D.Device (D.honest target.old) queues.old.items queues.new.items
         (books collector.old (D.content target.old) copied.old) (books collector.new (D.content target.new) copied.new)) }
-    ensures done { OnOk result (All (λ lane. (lane.done ≡ length lane.chunks.items) × (lane.reports ≡ []))
-        lanes.new.items) }
+    ensures done { OnOk result (All (λ queue. (queue.done ≡ length queue.chunks.items) × (queue.reports ≡ []))
+        queues.new.items) }
     ensures broken { IfErr result (OnFault
-        (IsPassing D.Device (D.honest target.old) lanes.old.items lanes.new.items
+        (IsPassing D.Device (D.honest target.old) queues.old.items queues.new.items
         (books collector.old (D.content target.old) copied.old) (books collector.new (D.content target.new) copied.new))
-        (Fails D.Device target.old target.new)) }
+        (CountsFailure D.Device target.old target.new)) }
 
-    ensures sources { LanesOnlyRead D.Device lanes.old.items lanes.new.items }
+    ensures sources { QueuesOnlyRead D.Device queues.old.items queues.new.items }
     ensures target { KeepsBeside D.Device (copying collector.old) target.old target.new }
 {
     for _turn in 0..turns {
-        if are_done(lanes.as_slice()) {
+        if are_done(queues.as_slice()) {
             return Ok(());
         }
-        turn(rt, alloc, gate, board, chunks, lanes);
-        if is_starved(lanes.as_slice()) {
+        turn(rt, alloc, gate, board, chunks, queues);
+        if is_starved(queues.as_slice()) {
             return Err(PassFault::NoMemory);
         }
-        settle_all(collector, target, copied, lanes)?;
+        take_reports(collector, target, copied, queues)?;
     }
     Ok(())
 }
 
 // Whether memory was refused to a worker.
-fn is_starved<D, L: Ledger, M: Ledger>(lanes: &[Lane<D, L, M>]) -> bool
-    ensures { result ≡ false → All (λ lane. lane.starved ≡ false) lanes.now }
+fn is_starved<D, L: Ledger, M: Ledger>(queues: &[Queue<D, L, M>]) -> bool
+    ensures { result ≡ false → All (λ queue. queue.starved ≡ false) queues.now }
 {
-    for lane in lanes {
-        if lane.starved {
+    for queue in queues {
+        if queue.starved {
             return true;
         }
     }
     false
 }
 
-// Whether each lane has all of its chunks settled.
-fn are_done<D, L: Ledger, M: Ledger>(lanes: &[Lane<D, L, M>]) -> bool
-    ensures { result ≡ true → All (λ lane. length lane.chunks.items ≤ lane.done) lanes.now }
+// Whether the collector has taken all reports of each queue.
+fn are_done<D, L: Ledger, M: Ledger>(queues: &[Queue<D, L, M>]) -> bool
+    ensures { result ≡ true → All (λ queue. length queue.chunks.items ≤ queue.done) queues.now }
 {
-    for lane in lanes {
-        if lane.done < lane.chunks.len() {
+    for queue in queues {
+        if queue.done < queue.chunks.len() {
             return false;
         }
     }

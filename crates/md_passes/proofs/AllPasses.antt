@@ -5,7 +5,7 @@ use Rattle.std.proofs.lemmas.Bool.{and_parts, both_ways, eq-eqb, eqb-true}
 use Rattle.std.proofs.lemmas.List.Filters.{length-filter_both}
 use Rattle.std.proofs.lemmas.Bool.Decides.{nat_tests}
 use Rattle.md_cert.specs.declared.slots.Slot.{Slot}
-use Rattle.md_passes.specs.Passes.{AddsPass, ArePasses, AreAllPasses, GoesOn, Copies, IsCopiedIn, IsPassOf, ListsAlone, PassView, Permits, ServesAtMost, failed_chunks, slots_of}
+use Rattle.md_passes.specs.Passes.{AddsPass, ArePasses, AreAllPasses, LeadsToPasses, PassCopies, IsCopiedIn, IsPassOf, ListsAlone, PassView, Permits, ServesAtMost, failed_chunks, slots_of_pass}
 use Rattle.md_pass.proofs.FilteredLists.{kept}
 use Rattle.md_passes.proofs.Kept.{in_or_not, mapped, mapped_from}
 use Rattle.md_passes.proofs.OnePass.{failed_there, one_slot, permitted_planned, slot_permitted, slot_within}
@@ -63,34 +63,34 @@ module _ {A : Type 0} (Serves Permitted : A → ℕ → ℕ → Type 0) (Lists :
       (alone.others p.failed a b c r lists serves (λ s there chunk source. out (subst (Contains chunks) chunk (slot_within is s (failed_there is s there)))))
 
   -- what a pass copies is of its table
-  copies_within : (a : A) (chunks : List ℕ) (p : PassView) → IsPass a chunks p → (c : ℕ) → Copies c p → Contains chunks c
+  copies_within : (a : A) (chunks : List ℕ) (p : PassView) → IsPass a chunks p → (c : ℕ) → PassCopies c p → Contains chunks c
   copies_within a chunks p is c (k, s, below, at, (chunk, left)) = subst (Contains chunks) chunk (slot_within is s (k, below, at))
 
   copied_within : (passes : List PassView) (a end : A) (chunks : List ℕ) → Passes passes a chunks end → (c : ℕ) → IsCopiedIn passes c → Contains chunks c
   copied_within [] a end chunks go c copied = absurd go
-  copied_within (p ∷ []) a end chunks (is, none, same) c (zero, x, below, at, copies) = copies_within a chunks p is c (subst (Copies c) (sym at) copies)
+  copied_within (p ∷ []) a end chunks (is, none, same) c (zero, x, below, at, copies) = copies_within a chunks p is c (subst (PassCopies c) (sym at) copies)
   copied_within (p ∷ []) a end chunks (is, none, same) c (suc k, x, below, at, copies) = absurd (omega (arith, below))
-  copied_within (p ∷ q ∷ ps) a end chunks (is, some, (b, lists, go)) c (zero, x, below, at, copies) = copies_within a chunks p is c (subst (Copies c) (sym at) copies)
+  copied_within (p ∷ q ∷ ps) a end chunks (is, some, (b, lists, go)) c (zero, x, below, at, copies) = copies_within a chunks p is c (subst (PassCopies c) (sym at) copies)
   copied_within (p ∷ q ∷ ps) a end chunks (is, some, (b, lists, go)) c (suc k, x, below, at, copies) =
       failed_within a chunks p is c (copied_within (q ∷ ps) b end (failed_chunks p) go c (k, x, omega (arith, below), at, copies))
 
   -- where a slot did not fail, its chunk is not among those that did
-  not_failed : (a : A) (chunks : List ℕ) (p : PassView) → IsPass a chunks p → (s : Slot) → Contains (slots_of p) s → (Contains p.failed s → ⊥) → Contains (failed_chunks p) s.chunk → ⊥
+  not_failed : (a : A) (chunks : List ℕ) (p : PassView) → IsPass a chunks p → (s : Slot) → Contains (slots_of_pass p) s → (Contains p.failed s → ⊥) → Contains (failed_chunks p) s.chunk → ⊥
   not_failed a chunks p is s there left failed =
       let from = mapped_from (λ (x : Slot). x.chunk) p.failed s.chunk failed in
-      left (subst (Contains p.failed) (one_slot (slots_of p) is.certified.rising from.x s (failed_there is from.x from.there) there from.is) from.there)
+      left (subst (Contains p.failed) (one_slot (slots_of_pass p) is.certified.rising from.x s (failed_there is from.x from.there) there from.is) from.there)
 
   -- a chunk that a pass copies is served at the end
-  copies_served : (passes : List PassView) (a b end : A) (chunks : List ℕ) (p : PassView) → IsPass a chunks p → Lists p.failed a b → Passes passes b (failed_chunks p) end → (c : ℕ) → Copies c p → (r : ℕ) × Serves end c r
+  copies_served : (passes : List PassView) (a b end : A) (chunks : List ℕ) (p : PassView) → IsPass a chunks p → Lists p.failed a b → Passes passes b (failed_chunks p) end → (c : ℕ) → PassCopies c p → (r : ℕ) × Serves end c r
   copies_served passes a b end chunks p is lists go c (k, s, below, at, (chunk, left)) =
-      let there : Contains (slots_of p) s = (k, below, at) in
+      let there : Contains (slots_of_pass p) s = (k, below, at) in
       let serves = permits.served a s.chunk s.source (slot_permitted is s there) in
       let out = not_failed a chunks p is s there left in
       let still = alone.others p.failed a b s.chunk s.source lists serves (λ f in_failed same source. out (subst (Contains (failed_chunks p)) same (mapped (λ (x : Slot). x.chunk) p.failed f in_failed))) in
       (s.source, subst (λ x. Serves end x s.source) chunk (served_still passes b end (failed_chunks p) go s.chunk s.source out still))
 
   -- a chunk of the table that is served is planned
-  planned_of : (a : A) (chunks : List ℕ) (p : PassView) → IsPass a chunks p → (c r : ℕ) → Contains chunks c → Serves a c r → (s : Slot) × Contains (slots_of p) s × (s.chunk ≡ c)
+  planned_of : (a : A) (chunks : List ℕ) (p : PassView) → IsPass a chunks p → (c r : ℕ) → Contains chunks c → Serves a c r → (s : Slot) × Contains (slots_of_pass p) s × (s.chunk ≡ c)
   planned_of a chunks p is c r there serves =
       let (q, may) = permits.some a c r serves in
       let (k, s, below, at, chunk) = permitted_planned is c there q (permits.role a c q (permits.served a c q may)) may in
@@ -108,7 +108,7 @@ module _ {A : Type 0} (Serves Permitted : A → ℕ → ℕ → Type 0) (Lists :
     where
       last_served : IsCopiedIn (p ∷ []) c → (r : ℕ) × Serves end c r
       last_served (zero, x, below, at, copies) =
-          let (k, s, low, here, (chunk, left)) = subst (Copies c) (sym at) copies in
+          let (k, s, low, here, (chunk, left)) = subst (PassCopies c) (sym at) copies in
           (s.source, subst (λ x. Serves x c s.source) (sym same) (subst (λ n. Serves a n s.source) chunk (permits.served a s.chunk s.source (slot_permitted is s (k, low, here)))))
       last_served (suc k, x, below, at, copies) = absurd (omega (arith, below))
   copied_where_served (p ∷ q ∷ ps) a end chunks (is, some, (b, lists, go)) c there =
@@ -125,7 +125,7 @@ module _ {A : Type 0} (Serves Permitted : A → ℕ → ℕ → Type 0) (Lists :
       )
     where
       first_served : (Contains (failed_chunks p) c → IsCopiedIn (q ∷ ps) c ↔ ((r : ℕ) × Serves end c r)) → IsCopiedIn (p ∷ q ∷ ps) c → (r : ℕ) × Serves end c r
-      first_served rest (zero, x, below, at, copies) = copies_served (q ∷ ps) a b end chunks p is lists go c (subst (Copies c) (sym at) copies)
+      first_served rest (zero, x, below, at, copies) = copies_served (q ∷ ps) a b end chunks p is lists go c (subst (PassCopies c) (sym at) copies)
       first_served rest (suc k, x, below, at, copies) =
           let later : IsCopiedIn (q ∷ ps) c = (k, x, omega (arith, below), at, copies) in
           (rest (copied_within (q ∷ ps) b end (failed_chunks p) go c later)).0 later
@@ -201,18 +201,18 @@ module _ {A : Type 0} (Serves Permitted : A → ℕ → ℕ → Type 0) (Lists :
   }
 
   -- ---- a loop over passes
-  pub begin : (a : A) (chunks : List ℕ) → GoesOn Serves Permitted Lists [] a chunks a chunks
+  pub begin : (a : A) (chunks : List ℕ) → LeadsToPasses Serves Permitted Lists [] a chunks a chunks
   begin a chunks rest end go = go
 
   one_before : (a b end : A) (chunks : List ℕ) (p : PassView) (rest : List PassView) → IsPass a chunks p → p.failed ≢ [] → Lists p.failed a b → Passes rest b (failed_chunks p) end → Passes (p ∷ rest) a chunks end
   one_before a b end chunks p [] is some lists go = absurd go
   one_before a b end chunks p (q ∷ ps) is some lists go = (is, some, (b, lists, go))
 
-  pub step : (passes : List PassView) (a b c : A) (chunks left : List ℕ) (p : PassView) → GoesOn Serves Permitted Lists passes a chunks b left → IsPass b left p → p.failed ≢ [] → Lists p.failed b c → AddsPass Serves Permitted Lists passes a chunks b left p c
+  pub step : (passes : List PassView) (a b c : A) (chunks left : List ℕ) (p : PassView) → LeadsToPasses Serves Permitted Lists passes a chunks b left → IsPass b left p → p.failed ≢ [] → Lists p.failed b c → AddsPass Serves Permitted Lists passes a chunks b left p c
   step passes a b c chunks left p goes is some lists = record {
     goes = λ rest end go. subst (λ xs. Passes xs a chunks end) (sym (append_assoc passes (p ∷ []) rest)) (goes (p ∷ rest) end (one_before b c end left p rest is some lists go));
     fewer = fewer_served b c left p is some lists;
   }
 
-  pub last : (passes : List PassView) (a b : A) (chunks left : List ℕ) (p : PassView) → GoesOn Serves Permitted Lists passes a chunks b left → IsPass b left p → p.failed ≡ [] → Passes (passes ++ p ∷ []) a chunks b
+  pub last : (passes : List PassView) (a b : A) (chunks left : List ℕ) (p : PassView) → LeadsToPasses Serves Permitted Lists passes a chunks b left → IsPass b left p → p.failed ≡ [] → Passes (passes ++ p ∷ []) a chunks b
   last passes a b chunks left p goes is none = goes (p ∷ []) b (is, none, refl)

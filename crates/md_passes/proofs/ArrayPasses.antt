@@ -24,7 +24,7 @@ use Rattle.md_cert.specs.declared.slots.Slot.{Slot}
 use Rattle.md_kept_members.specs.View.{MemberView}
 use Rattle.md_state.specs.Members.{IsMember}
 use Rattle.md_state.specs.View.{ArrayView}
-use Rattle.md_passes.specs.Passes.{Copies, IsCopiedIn, ListsAlone, PassView, Permits, ServesAtMost, slots_of}
+use Rattle.md_passes.specs.Passes.{PassCopies, IsCopiedIn, ListsAlone, PassView, Permits, ServesAtMost, slots_of_pass}
 use Rattle.md_passes.proofs.Kept.{mapped}
 use Rattle.md_passes.specs.Listed.{AreCopiedBy, CopiesAdd, IsFailedOf, IsOfFailed, ListsFailed, MayServe, PassesEnd, PassesGoOn, ServesAs, most_failures}
 use Rattle.md_passes.proofs.Permitted.{served_plainly_or}
@@ -155,32 +155,32 @@ not_set : (b : Bool) → not b ≡ true → b ≡ false
 not_set true e = cc
 not_set false e = refl
 
-more_copied : (passes : List PassView) (p : PassView) (old new : Bitmap) → AreCopiedBy passes old → AreJoined (slots_of p) old new → IsFailedOf p new
-    → AreUncopied (slots_of p) old → AreCopiedBy (passes ++ p ∷ []) new
+more_copied : (passes : List PassView) (p : PassView) (old new : Bitmap) → AreCopiedBy passes old → AreJoined (slots_of_pass p) old new → IsFailedOf p new
+    → AreUncopied (slots_of_pass p) old → AreCopiedBy (passes ++ p ∷ []) new
 more_copied passes p old new before joined failed fresh c = (to, from)
   where
     to : is_set new.bytes c ≡ true → IsCopiedIn (passes ++ p ∷ []) c
     to set =
         elim (cases_Bool (is_set old.bytes c)) [
-          | inl was ↦ any_more (Copies c) passes (p ∷ []) ((before c).0 was)
+          | inl was ↦ any_more (PassCopies c) passes (p ∷ []) ((before c).0 was)
           | inr was_not ↦
-              elim (cases_Bool (has_chunk (slots_of p) c)) [
+              elim (cases_Bool (has_chunk (slots_of_pass p) c)) [
                 | inl has ↦
-                    let (k, s, below, at, is) = Any-from_list_any (λ (x : Slot). x.chunk == c) (slots_of p) has in
+                    let (k, s, below, at, is) = Any-from_list_any (λ (x : Slot). x.chunk == c) (slots_of_pass p) has in
                     let chunk : s.chunk ≡ c = eqb-true s.chunk c is in
-                    any_last (Copies c) passes p (k, s, below, at, (chunk, λ in_failed. both_ways (is_set new.bytes c) (not_set (is_set new.bytes c) (subst (λ x. not (is_set new.bytes x) ≡ true) chunk (passed (is_failed_slot new) (slots_of p) s (subst (λ xs. Contains xs s) failed in_failed)))) set))
+                    any_last (PassCopies c) passes p (k, s, below, at, (chunk, λ in_failed. both_ways (is_set new.bytes c) (not_set (is_set new.bytes c) (subst (λ x. not (is_set new.bytes x) ≡ true) chunk (passed (is_failed_slot new) (slots_of_pass p) s (subst (λ xs. Contains xs s) failed in_failed)))) set))
                 | inr none ↦ absurd (both_ways (is_set old.bytes c) was_not (sym (joined.planned c none) ∙ set))
               ]
         ]
 
     from : IsCopiedIn (passes ++ p ∷ []) c → is_set new.bytes c ≡ true
     from copied =
-        elim (any_split (Copies c) passes p copied) [
+        elim (any_split (PassCopies c) passes p copied) [
           | inl earlier ↦ joined.kept c ((before c).1 earlier)
           | inr (k, s, below, at, (chunk, left)) ↦
               elim (cases_Bool (is_set new.bytes c)) [
                 | inl set ↦ set
-                | inr unset ↦ absurd (left (subst (λ xs. Contains xs s) (sym failed) (kept (is_failed_slot new) (slots_of p) s (k, below, at) (ap (λ x. not (is_set new.bytes x)) chunk ∙ ap not unset))))
+                | inr unset ↦ absurd (left (subst (λ xs. Contains xs s) (sym failed) (kept (is_failed_slot new) (slots_of_pass p) s (k, below, at) (ap (λ x. not (is_set new.bytes x)) chunk ∙ ap not unset))))
               ]
         ]
 

@@ -12,7 +12,7 @@ use Rattle.md_kept_members.specs.View.{MemberView}
 use Rattle.md_state.specs.Members.{IsMember}
 use Rattle.md_state.specs.NotingBad.{NotesBad}
 use Rattle.md_state.specs.View.{ArrayView}
-use Rattle.md_passes.specs.Listed.{IsListable, IsOfFailed, IsSourceOf, ListsAdd, ListsFailed, ListsOwn}
+use Rattle.md_passes.specs.Listed.{IsListable, IsOfFailed, IsSourceInRole, ListsAdd, ListsFailed, ListsOwn}
 
 none_own : (chunks : Chunks) (m : MemberView) → ListsOwn chunks [] m m
 none_own chunks m = record {
@@ -97,7 +97,7 @@ here_or_not j k =
       | inr up ↦ elim (cases_lt k j) [ inl above ↦ inr (λ e. absurd (omega arith)) | inr under ↦ inl (omega arith) ]
     ]
 
-module _ (k : ℕ) (slot : Slot) (a b : ArrayView) (notes : NotesBad k slot.chunk a b) (source : IsSourceOf a k slot.source) (listable : IsListable a k slot.chunk) where
+module _ (k : ℕ) (slot : Slot) (a b : ArrayView) (notes : NotesBad k slot.chunk a b) (source : IsSourceInRole a k slot.source) (listable : IsListable a k slot.chunk) where
   abbrev m : MemberView
   m = notes.may.member
 

@@ -9,10 +9,10 @@ use Rattle.md_cert.specs.declared.table.Row.{Row}
 use Rattle.md_cert.specs.declared.slots.Slot.{Slot}
 use Rattle.md_cert.specs.Plans.{IsPlanned, SlotsRise}
 use Rattle.md_cert.specs.Sources.{has}
-use Rattle.md_cert.specs.Tables.{chunks_of, mask_of}
+use Rattle.md_cert.specs.Tables.{chunks_of_rows, mask_of_chunk}
 use Rattle.md_cert.proofs.Bits.{has_below, has_zero}
 use Rattle.md_cert.proofs.Masks.{row_of}
-use Rattle.md_passes.specs.Passes.{IsPassOf, PassView, slots_of}
+use Rattle.md_passes.specs.Passes.{IsPassOf, PassView, slots_of_pass}
 use Rattle.md_passes.proofs.Kept.{mapped, mapped_from}
 
 has_bit : (mask source : ℕ) → has mask source ≡ true → bit_at mask source ≡ 1
@@ -43,31 +43,31 @@ module _ {A : Type 0} {Serves Permitted : A → ℕ → ℕ → Type 0} {Lists :
   no_row = record { chunk = 0; mask = 0 }
 
   -- each slot's source is permitted
-  pub slot_permitted : (s : Slot) → Contains (slots_of p) s → Permitted a s.chunk s.source
+  pub slot_permitted : (s : Slot) → Contains (slots_of_pass p) s → Permitted a s.chunk s.source
   slot_permitted s there =
-      let it : has (mask_of is.rows s.chunk) s.source ≡ true = All-contains (λ (x : Slot). has (mask_of is.rows x.chunk) x.source ≡ true) (slots_of p) s is.certified.allowed there in
-      let small = has_below (mask_of is.rows s.chunk) s.source it in
-      let row = row_of is.rows s.chunk (λ none. both_ways (has (mask_of is.rows s.chunk) s.source) (ap (λ n. has n s.source) none ∙ has_zero s.source) it) in
-      let bit : bit_at (get_or is.rows row.at no_row).mask s.source ≡ 1 = ap (λ n. bit_at n s.source) (row.mask no_row) ∙ has_bit (mask_of is.rows s.chunk) s.source it in
+      let it : has (mask_of_chunk is.rows s.chunk) s.source ≡ true = All-contains (λ (x : Slot). has (mask_of_chunk is.rows x.chunk) x.source ≡ true) (slots_of_pass p) s is.certified.allowed there in
+      let small = has_below (mask_of_chunk is.rows s.chunk) s.source it in
+      let row = row_of is.rows s.chunk (λ none. both_ways (has (mask_of_chunk is.rows s.chunk) s.source) (ap (λ n. has n s.source) none ∙ has_zero s.source) it) in
+      let bit : bit_at (get_or is.rows row.at no_row).mask s.source ≡ 1 = ap (λ n. bit_at n s.source) (row.mask no_row) ∙ has_bit (mask_of_chunk is.rows s.chunk) s.source it in
       subst (λ c. Permitted a c s.source) (row.is no_row) ((is.sources row.at no_row row.within s.source small).0 bit)
 
   -- and its chunk is of the table
-  pub slot_within : (s : Slot) → Contains (slots_of p) s → Contains chunks s.chunk
+  pub slot_within : (s : Slot) → Contains (slots_of_pass p) s → Contains chunks s.chunk
   slot_within s there =
-      let it : has (mask_of is.rows s.chunk) s.source ≡ true = All-contains (λ (x : Slot). has (mask_of is.rows x.chunk) x.source ≡ true) (slots_of p) s is.certified.allowed there in
-      let row = row_of is.rows s.chunk (λ none. both_ways (has (mask_of is.rows s.chunk) s.source) (ap (λ n. has n s.source) none ∙ has_zero s.source) it) in
-      subst (λ xs. Contains xs s.chunk) is.chunks_are (subst (Contains (chunks_of is.rows)) (row.is no_row) (mapped (λ (r : Row). r.chunk) is.rows (get_or is.rows row.at no_row) (Contains-get_or is.rows row.at no_row row.within)))
+      let it : has (mask_of_chunk is.rows s.chunk) s.source ≡ true = All-contains (λ (x : Slot). has (mask_of_chunk is.rows x.chunk) x.source ≡ true) (slots_of_pass p) s is.certified.allowed there in
+      let row = row_of is.rows s.chunk (λ none. both_ways (has (mask_of_chunk is.rows s.chunk) s.source) (ap (λ n. has n s.source) none ∙ has_zero s.source) it) in
+      subst (λ xs. Contains xs s.chunk) is.chunks_are (subst (Contains (chunks_of_rows is.rows)) (row.is no_row) (mapped (λ (r : Row). r.chunk) is.rows (get_or is.rows row.at no_row) (Contains-get_or is.rows row.at no_row row.within)))
 
   -- a chunk of the table that is permitted somewhere has a slot
-  pub permitted_planned : (c : ℕ) → Contains chunks c → (r : ℕ) → r < 32 → Permitted a c r → IsPlanned (slots_of p) c
+  pub permitted_planned : (c : ℕ) → Contains chunks c → (r : ℕ) → r < 32 → Permitted a c r → IsPlanned (slots_of_pass p) c
   permitted_planned c there r small may =
       let from = mapped_from (λ (x : Row). x.chunk) is.rows c (subst (λ xs. Contains xs c) (sym is.chunks_are) there) in
       let row : Row = from.x in
       let sources : (role : ℕ) → role < 32 → (bit_at row.mask role ≡ 1) ↔ Permitted a row.chunk role = All-contains (λ (x : Row). (role : ℕ) → role < 32 → (bit_at x.mask role ≡ 1) ↔ Permitted a x.chunk role) is.rows row is.sources from.there in
       let bit : bit_at row.mask r ≡ 1 = (sources r small).1 (subst (λ x. Permitted a x r) (sym from.is) may) in
-      let covered : row.mask ≢ 0 → IsPlanned (slots_of p) row.chunk = All-contains (λ (x : Row). x.mask ≢ 0 → IsPlanned (slots_of p) x.chunk) is.rows row is.certified.covered from.there in
-      subst (IsPlanned (slots_of p)) from.is (covered (λ none. zero_bit r small (ap (λ n. bit_at n r) (sym none) ∙ bit)))
+      let covered : row.mask ≢ 0 → IsPlanned (slots_of_pass p) row.chunk = All-contains (λ (x : Row). x.mask ≢ 0 → IsPlanned (slots_of_pass p) x.chunk) is.rows row is.certified.covered from.there in
+      subst (IsPlanned (slots_of_pass p)) from.is (covered (λ none. zero_bit r small (ap (λ n. bit_at n r) (sym none) ∙ bit)))
 
   -- a slot that failed is one of the plan
-  pub failed_there : (s : Slot) → Contains p.failed s → Contains (slots_of p) s
-  failed_there s there = All-contains (Contains (slots_of p)) p.failed s is.failed there
+  pub failed_there : (s : Slot) → Contains p.failed s → Contains (slots_of_pass p) s
+  failed_there s there = All-contains (Contains (slots_of_pass p)) p.failed s is.failed there

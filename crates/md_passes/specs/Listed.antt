@@ -12,7 +12,7 @@ use Rattle.md_pass.specs.Copied.{AreJoined, AreUncopied, failed_slots}
 use Rattle.md_state.specs.Members.{IsMember, IsPermitted, IsServed}
 use Rattle.md_state.specs.NotingBad.{NotesBad}
 use Rattle.md_state.specs.View.{ArrayView}
-use Rattle.md_passes.specs.Passes.{AddsPass, AreAllPasses, ArePasses, GoesOn, IsCopiedIn, IsPassOf, PassView, ServesAtMost, slots_of}
+use Rattle.md_passes.specs.Passes.{AddsPass, AreAllPasses, ArePasses, LeadsToPasses, IsCopiedIn, IsPassOf, PassView, ServesAtMost, slots_of_pass}
 
 -- the chunk is of the array, and the member in sync in the role lists no sector of it
 abbrev pub ServesAs : ArrayView → ℕ → ℕ → Type 0
@@ -54,7 +54,7 @@ abbrev pub AreAllArrayPasses : List PassView → ArrayView → List ℕ → Arra
 AreAllArrayPasses = AreAllPasses ServesAs MayServe ListsFailed
 
 abbrev pub ArrayGoesOn : List PassView → ArrayView → List ℕ → ArrayView → List ℕ → Type 0
-ArrayGoesOn = GoesOn ServesAs MayServe ListsFailed
+ArrayGoesOn = LeadsToPasses ServesAs MayServe ListsFailed
 
 abbrev pub IsArrayPass : ArrayView → List ℕ → PassView → Type 0
 IsArrayPass = IsPassOf ServesAs MayServe ListsFailed
@@ -77,7 +77,7 @@ pub record PassesGoOn : Type 0 where
 -- ---- the chunks that were copied
 -- the slots of a pass that failed are those whose chunks were not copied by its end
 abbrev pub IsFailedOf : PassView → Bitmap → Type 0
-IsFailedOf p copied = p.failed ≡ failed_slots (slots_of p) copied
+IsFailedOf p copied = p.failed ≡ failed_slots (slots_of_pass p) copied
 
 -- the set has the chunks that the passes copied
 abbrev pub AreCopiedBy : List PassView → Bitmap → Type 0
@@ -89,13 +89,13 @@ most_failures a = count_by (λ m. is_in_sync m.state) a.members * div_ceil a.chu
 
 pub record CopiesAdd : Type 0 where
   pub none : (copied : Bitmap) → ((c : ℕ) → is_set copied.bytes c ≡ false) → AreCopiedBy [] copied
-  pub more : (passes : List PassView) (p : PassView) (old new : Bitmap) → AreCopiedBy passes old → AreJoined (slots_of p) old new → IsFailedOf p new
-      → AreUncopied (slots_of p) old → AreCopiedBy (passes ++ p ∷ []) new
+  pub more : (passes : List PassView) (p : PassView) (old new : Bitmap) → AreCopiedBy passes old → AreJoined (slots_of_pass p) old new → IsFailedOf p new
+      → AreUncopied (slots_of_pass p) old → AreCopiedBy (passes ++ p ∷ []) new
   pub most : (a : ArrayView) → ServesAtMost ServesAs MayServe ListsFailed a (most_failures a)
 
 -- ---- how lists grow
 -- member k is the one in sync in the role
-pub record IsSourceOf (a : ArrayView) (k role : ℕ) : Type 0 where
+pub record IsSourceInRole (a : ArrayView) (k role : ℕ) : Type 0 where
   pub member : MemberView
   pub at : IsMember a k member
   pub in_sync : is_in_sync_as role member.state ≡ true
@@ -108,4 +108,4 @@ IsListable a k chunk = (m : MemberView) → IsMember a k m → (sector : ℕ) �
 pub record ListsAdd : Type 0 where
   pub none : (a : ArrayView) → ListsFailed [] a a
   pub more : (first second : List Slot) (a b c : ArrayView) → ListsFailed first a b → ListsFailed second b c → ListsFailed (first ++ second) a c
-  pub one : (k : ℕ) (slot : Slot) (a b : ArrayView) → NotesBad k slot.chunk a b → IsSourceOf a k slot.source → IsListable a k slot.chunk → ListsFailed (slot ∷ []) a b
+  pub one : (k : ℕ) (slot : Slot) (a b : ArrayView) → NotesBad k slot.chunk a b → IsSourceInRole a k slot.source → IsListable a k slot.chunk → ListsFailed (slot ∷ []) a b

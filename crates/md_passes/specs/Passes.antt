@@ -7,7 +7,7 @@ use Rattle.md_cert.specs.declared.table.Row.{Row}
 use Rattle.md_cert.specs.declared.slots.Slot.{Slot}
 use Rattle.md_cert.specs.Assignments.{Least}
 use Rattle.md_cert.specs.Plans.{IsCertified, SlotsRise}
-use Rattle.md_cert.specs.Tables.{chunks_of, orphans_of}
+use Rattle.md_cert.specs.Tables.{chunks_of_rows, orphans_of}
 use Rattle.md_plan.specs.declared.planner.Planned.{Planned}
 
 -- a pass: its plan, and the slots that failed
@@ -15,20 +15,20 @@ pub record PassView : Type 0 where
   pub planned : Planned
   pub failed : List Slot
 
-abbrev pub slots_of : PassView → List Slot
-slots_of p = p.planned.plan.slots
+abbrev pub slots_of_pass : PassView → List Slot
+slots_of_pass p = p.planned.plan.slots
 
 -- the chunks of the slots that failed
 abbrev pub failed_chunks : PassView → List ℕ
 failed_chunks p = map (λ s. s.chunk) p.failed
 
 -- The pass copied the chunk: a slot has it that did not fail.
-abbrev pub Copies : ℕ → PassView → Type 0
-Copies c p = Any (λ s. (s.chunk ≡ c) × (Contains p.failed s → ⊥)) (slots_of p)
+abbrev pub PassCopies : ℕ → PassView → Type 0
+PassCopies c p = Any (λ s. (s.chunk ≡ c) × (Contains p.failed s → ⊥)) (slots_of_pass p)
 
 -- One of these passes copied the chunk.
 abbrev pub IsCopiedIn : List PassView → ℕ → Type 0
-IsCopiedIn passes c = Any (Copies c) passes
+IsCopiedIn passes c = Any (PassCopies c) passes
 
 -- A is what a mirror keeps of its array in memory. `Serves a chunk role`: the member in sync in the role lists no sector of the chunk.
 -- `Permitted a chunk role`: a plan may have the chunk read there. `Lists failed a b`: the chunk of each of these slots comes to its source's list.
@@ -48,12 +48,12 @@ module _ {A : Type 0} (Serves Permitted : A → ℕ → ℕ → Type 0) (Lists :
   -- A pass over these chunks: its table has them, each with the roles that are permitted for it then, and its plan is least for that table.
   pub record IsPassOf (a : A) (chunks : List ℕ) (p : PassView) : Type 0 where
     pub rows : List Row
-    pub chunks_are : chunks_of rows ≡ chunks
+    pub chunks_are : chunks_of_rows rows ≡ chunks
     pub sources : All (λ row. (role : ℕ) → role < 32 → (bit_at row.mask role ≡ 1) ↔ Permitted a row.chunk role) rows
     pub certified : IsCertified rows p.planned.plan p.planned.certificate
     pub least : Least rows p.planned.plan.rounds
     pub orphans : p.planned.orphans ≡ orphans_of rows
-    pub failed : All (Contains (slots_of p)) p.failed
+    pub failed : All (Contains (slots_of_pass p)) p.failed
     pub failed_rise : SlotsRise p.failed
 
   -- Passes one after another, and the array after the last. After each but the last some slots failed: their chunks are listed, and are the next
@@ -65,8 +65,8 @@ module _ {A : Type 0} (Serves Permitted : A → ℕ → ℕ → Type 0) (Lists :
       IsPassOf a chunks p × (p.failed ≢ []) × ((b : A) × Lists p.failed a b × ArePasses (q ∷ ps) b (failed_chunks p) end)
 
   -- Passes so far, each of which had slots that failed: whatever passes follow, all together are passes from the first on.
-  abbrev pub GoesOn : List PassView → A → List ℕ → A → List ℕ → Type 0
-  GoesOn passes a chunks b left =
+  abbrev pub LeadsToPasses : List PassView → A → List ℕ → A → List ℕ → Type 0
+  LeadsToPasses passes a chunks b left =
       (rest : List PassView) (end : A) → ArePasses rest b left end → ArePasses (passes ++ rest) a chunks end
 
   -- there are at most so many chunks, each counted for each role in which it is served
@@ -85,5 +85,5 @@ module _ {A : Type 0} (Serves Permitted : A → ℕ → ℕ → Type 0) (Lists :
 
   -- one pass more, of which slots failed and are listed now: fewer chunks are served then
   pub record AddsPass (passes : List PassView) (a : A) (chunks : List ℕ) (b : A) (left : List ℕ) (p : PassView) (c : A) : Type 0 where
-    pub goes : GoesOn (passes ++ p ∷ []) a chunks c (failed_chunks p)
+    pub goes : LeadsToPasses (passes ++ p ∷ []) a chunks c (failed_chunks p)
     pub fewer : (n : ℕ) → ServesAtMost b n → (m : ℕ) × (m + 1 ≤ n) × ServesAtMost c m

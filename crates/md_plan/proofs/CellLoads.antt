@@ -8,19 +8,19 @@ use Rattle.std.proofs.lemmas.List.Sums.{sum_by-set, sum_by_more, sum_by_more_le_
 use Rattle.md_cert.specs.Sources.{has}
 use Rattle.md_plan.specs.declared.cell.Cell.{Cell}
 use Rattle.md_plan.specs.Cells.{AreAllowed, load_of, count_with}
-use Rattle.md_plan.specs.Classes.{IsPlaced}
+use Rattle.md_plan.specs.Classes.{AreClassesPlaced}
 use Rattle.md_plan.proofs.Zeros.{zeros}
 use Rattle.md_plan.proofs.CellMoves.{share, share_of, share_none, share_le}
 
-pub placed_none : (cells : List Cell) → AreAllowed cells → IsPlaced cells cells
+pub placed_none : (cells : List Cell) → AreAllowed cells → AreClassesPlaced cells cells
 placed_none cells allowed = record { counts = λ q. refl; allowed = allowed; long = refl }
 
-pub placed_twice : (first middle last : List Cell) → IsPlaced first middle → IsPlaced middle last → IsPlaced first last
+pub placed_twice : (first middle last : List Cell) → AreClassesPlaced first middle → AreClassesPlaced middle last → AreClassesPlaced first last
 placed_twice first middle last before after = record { counts = λ q. after.counts q ∙ before.counts q; allowed = after.allowed; long = after.long ∙ before.long }
 
 -- one class more is given to a source of its mask
-pub placed_more : (first cells : List Cell) (at : ℕ) (d : Cell) (source : ℕ) → at < length cells → has (get_or cells at d).mask source ≡ true → IsPlaced first cells
-    → IsPlaced first (set cells at (record { mask = (get_or cells at d).mask; count = (get_or cells at d).count; source = source }))
+pub placed_more : (first cells : List Cell) (at : ℕ) (d : Cell) (source : ℕ) → at < length cells → has (get_or cells at d).mask source ≡ true → AreClassesPlaced first cells
+    → AreClassesPlaced first (set cells at (record { mask = (get_or cells at d).mask; count = (get_or cells at d).count; source = source }))
 placed_more first cells at d source within it before =
     let y : Cell = record { mask = (get_or cells at d).mask; count = (get_or cells at d).count; source = source } in
     record {

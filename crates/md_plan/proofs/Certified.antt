@@ -4,7 +4,7 @@ use Rattle.md_cert.specs.declared.table.Row.{Row}
 use Rattle.md_cert.specs.declared.slots.Slot.{Slot}
 use Rattle.md_cert.specs.declared.plan.Plan.{Plan}
 use Rattle.md_cert.specs.declared.plan.Certificate.{Certificate}
-use Rattle.md_cert.specs.Tables.{mask_of}
+use Rattle.md_cert.specs.Tables.{mask_of_chunk}
 use Rattle.md_cert.specs.Plans.{Certifies, ChunksRise, IsCertified}
 use Rattle.md_cert.proofs.Bits.{has_below}
 use Rattle.md_cert.proofs.Masks.{Rises}
@@ -14,7 +14,7 @@ use Rattle.md_plan.specs.Cells.{count_with}
 use Rattle.md_plan.specs.Classes.{count_rows}
 use Rattle.md_plan.specs.Bounds.{IsBalanced}
 use Rattle.md_plan.specs.Certificates.{chunks_within}
-use Rattle.md_plan.specs.Slots.{IsGiven}
+use Rattle.md_plan.specs.Slots.{AreGivenOut}
 use Rattle.md_plan.proofs.ShortSets.{certifies}
 use Rattle.md_plan.proofs.SlotLists.{no_second}
 
@@ -22,7 +22,7 @@ none_rise : ChunksRise []
 none_rise i j d less within = absurd (omega arith)
 
 pub certified : (rows : List Row) → Rises rows → (placed cells : List Cell) (loads : List ℕ) (bound : Bound) (slots : List Slot) (orphans : List ℕ) (certificate : Certificate) → ((q : ℕ → Bool) → count_with q placed ≡ count_rows q rows)
-    → IsBalanced placed cells loads bound → IsGiven rows cells slots orphans
+    → IsBalanced placed cells loads bound → AreGivenOut rows cells slots orphans
     → certificate.rounds ≡ bound.rounds - 1 → (bound.rounds ≡ 0 → certificate.chunks ≡ []) → (bound.rounds ≢ 0 → certificate.chunks ≡ chunks_within bound.sources rows)
     → IsCertified rows (record { slots = slots; rounds = bound.rounds }) certificate
 certified rows rises placed cells loads bound slots orphans certificate same balanced given rounds_is none_is chunks_is =
@@ -36,7 +36,7 @@ certified rows rises placed cells loads bound slots orphans certificate same bal
       single = no_second rows (length rows) slots given.used bound.rounds given.slotting;
       in_time = λ k d lt.
           let s = (get_or slots k d).source in
-          let below : s < 32 = has_below (mask_of rows (get_or slots k d).chunk) s (given.slotting.allowed k d lt) in
+          let below : s < 32 = has_below (mask_of_chunk rows (get_or slots k d).chunk) s (given.slotting.allowed k d lt) in
           let a = given.slotting.placed k d lt in
           let b = given.within s below in
           let e = balanced.are_loads.each s below in

@@ -12,7 +12,7 @@ use Rattle.md_cert.specs.declared.table.Row.{Row}
 use Rattle.md_cert.specs.declared.plan.Plan.{Plan}
 use Rattle.md_cert.specs.declared.plan.Certificate.{Certificate}
 use Rattle.md_cert.specs.Sources.{has, count_below, count_sources}
-use Rattle.md_cert.specs.Tables.{mask_of, chunks_of}
+use Rattle.md_cert.specs.Tables.{mask_of_chunk, chunks_of_rows}
 use Rattle.md_cert.specs.Assignments.{IsShort, gives_any}
 use Rattle.md_cert.specs.Plans.{Certifies}
 use Rattle.md_cert.proofs.Counting.{sources_are}
@@ -28,7 +28,7 @@ use Rattle.md_plan.proofs.RowCounts.{passes}
 use Rattle.md_plan.proofs.ReachSteps.{below_weaker}
 
 -- the chunks of rising rows rise
-chunks_rise : (rows : List Row) → Rises rows → AllPairs (λ a b. a < b) (chunks_of rows)
+chunks_rise : (rows : List Row) → Rises rows → AllPairs (λ a b. a < b) (chunks_of_rows rows)
 chunks_rise rows rises i j d less within =
     let r : Row = record { chunk = 0; mask = 0 } in
     let long = length-map rows (λ (x : Row). x.chunk) in
@@ -38,13 +38,13 @@ chunks_rise rows rises i j d less within =
     omega (arith, a, b, up)
 
 -- what is known of each chunk that only these sources may give
-chunks_are : (sources : ℕ) (rows : List Row) → Rises rows → All (λ chunk. (mask_of rows chunk ≢ 0) × (is_within sources (mask_of rows chunk) ≡ true)) (chunks_within sources rows)
+chunks_are : (sources : ℕ) (rows : List Row) → Rises rows → All (λ chunk. (mask_of_chunk rows chunk ≢ 0) × (is_within sources (mask_of_chunk rows chunk) ≡ true)) (chunks_within sources rows)
 chunks_are sources rows rises =
     let p : Row → Bool = passes (is_within sources) in
-    let own : All (λ (r : Row). mask_of rows r.chunk ≡ r.mask) rows = λ k d lt. mask_hit rows rises k d lt in
-    let kept = All-filter p (λ (r : Row). mask_of rows r.chunk ≡ r.mask) rows own in
+    let own : All (λ (r : Row). mask_of_chunk rows r.chunk ≡ r.mask) rows = λ k d lt. mask_hit rows rises k d lt in
+    let kept = All-filter p (λ (r : Row). mask_of_chunk rows r.chunk ≡ r.mask) rows own in
     let pass = filter_passes p rows in
-    All-map (λ chunk. (mask_of rows chunk ≢ 0) × (is_within sources (mask_of rows chunk) ≡ true)) (λ (r : Row). r.chunk) (filter p rows)
+    All-map (λ chunk. (mask_of_chunk rows chunk ≢ 0) × (is_within sources (mask_of_chunk rows chunk) ≡ true)) (λ (r : Row). r.chunk) (filter p rows)
     (λ k d lt.
     let r : Row = get_or (filter p rows) k d in
     let both = and_parts (not (eqb r.mask 0)) (is_within sources r.mask) (pass k d lt) in
@@ -62,10 +62,10 @@ shown_short rows rises cells bound same n rounds shown =
     let long : length chunks ≡ count_rows (is_within sources) rows = length-map (filter p rows) (λ (x : Row). x.chunk) ∙ length-filter p rows in
     let fewer : count_below (gives_any rows chunks) 32 ≤ count_below (has sources) 32 =
     below_weaker (has sources) (gives_any rows chunks) 32 (λ s lt it.
-    let some = Any-from_list_any (λ chunk. has (mask_of rows chunk) s) chunks it in
-    let at : has (mask_of rows some.1) s ≡ true = some.4 in
+    let some = Any-from_list_any (λ chunk. has (mask_of_chunk rows chunk) s) chunks it in
+    let at : has (mask_of_chunk rows some.1) s ≡ true = some.4 in
     let known = are some.0 some.1 some.2 in
-    within_has sources (mask_of rows some.1) s (ap (λ c. is_within sources (mask_of rows c)) (sym some.3) ∙ known.1) at) in
+    within_has sources (mask_of_chunk rows some.1) s (ap (λ c. is_within sources (mask_of_chunk rows c)) (sym some.3) ∙ known.1) at) in
     let few : count_sources (gives_any rows chunks) ≤ count_sources (has sources) = let a = sources_are (gives_any rows chunks) in let b = sources_are (has sources) in omega (arith, fewer, a, b) in
     let times : n * count_sources (gives_any rows chunks) ≤ n * count_sources (has sources) = mul-le-mul_left n few in
     let less : (bound.rounds - 1) * count_sources (has sources) < count_with (is_within sources) cells = elim shown [

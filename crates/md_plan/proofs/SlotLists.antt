@@ -11,14 +11,14 @@ use Rattle.std.proofs.Math.Seq.{get_or-append_seam}
 use Rattle.md_cert.specs.declared.table.Row.{Row}
 use Rattle.md_cert.specs.declared.slots.Slot.{Slot}
 use Rattle.md_cert.specs.Sources.{has}
-use Rattle.md_cert.specs.Tables.{mask_of, orphans_of}
+use Rattle.md_cert.specs.Tables.{mask_of_chunk, orphans_of}
 use Rattle.md_cert.specs.Plans.{NoRepeatBelow}
 use Rattle.md_cert.proofs.Bits.{has_below}
 use Rattle.md_cert.proofs.Masks.{Rises, mask_hit}
 use Rattle.md_plan.specs.declared.cell.Cell.{Cell}
 use Rattle.md_plan.specs.Cells.{AreAllowed, load_of, count_with}
 use Rattle.md_plan.specs.Classes.{count_rows}
-use Rattle.md_plan.specs.Slots.{IsReordered, SomeChunk, TakesOne, IsLeft, IsSlotting}
+use Rattle.md_plan.specs.Slots.{IsReordered, SomeChunk, TakesOne, AreCountsLeft, IsSlotting}
 use Rattle.md_plan.proofs.RowCounts.{passes, passes_none, passes_some}
 use Rattle.md_plan.proofs.Zeros.{zeros}
 use Rattle.md_plan.proofs.CellMoves.{share, share_le}
@@ -45,7 +45,7 @@ rows_drop : (q : ℕ → Bool) (rows : List Row) (i : ℕ) (d : Row) → i < len
 rows_drop q rows i d within = sum_by-drop_more (λ (r : Row). share (passes q r) 1) rows i d within
 
 -- a row with a source finds a cell
-pub left_some : (rows : List Row) (i : ℕ) (d : Row) (first cells : List Cell) (used : List ℕ) → i < length rows → ((get_or rows i d).mask ≡ 0 → ⊥) → IsLeft rows i first cells used → SomeChunk cells (get_or rows i d).mask
+pub left_some : (rows : List Row) (i : ℕ) (d : Row) (first cells : List Cell) (used : List ℕ) → i < length rows → ((get_or rows i d).mask ≡ 0 → ⊥) → AreCountsLeft rows i first cells used → SomeChunk cells (get_or rows i d).mask
 left_some rows i d first cells used within some left =
     let mask = (get_or rows i d).mask in
     let q : ℕ → Bool = λ m. eqb m mask in
@@ -54,7 +54,7 @@ left_some rows i d first cells used within some left =
     let at : share (passes q (get_or rows i d)) 1 ≡ 1 = ap (λ b. share b 1) (passes_some q (get_or rows i d) some ∙ eq-eqb mask mask refl) in
     some_chunk mask cells (omega (arith, s, e, at))
 
-pub left_skip : (rows : List Row) (i : ℕ) (d : Row) (first cells : List Cell) (used : List ℕ) → i < length rows → (get_or rows i d).mask ≡ 0 → IsLeft rows i first cells used → IsLeft rows (i + 1) first cells used
+pub left_skip : (rows : List Row) (i : ℕ) (d : Row) (first cells : List Cell) (used : List ℕ) → i < length rows → (get_or rows i d).mask ≡ 0 → AreCountsLeft rows i first cells used → AreCountsLeft rows (i + 1) first cells used
 left_skip rows i d first cells used within none left = record {
   counts = λ q.
       let s = left.counts q in
@@ -66,8 +66,8 @@ left_skip rows i d first cells used within none left = record {
   each = left.each;
 }
 
-pub left_more : (rows : List Row) (i : ℕ) (d : Row) (first cells new : List Cell) (used new_used : List ℕ) (source : ℕ) → i < length rows → ((get_or rows i d).mask ≡ 0 → ⊥) → source < 32 → IsLeft rows i first cells used
-    → TakesOne cells new (get_or rows i d).mask source → new_used ≡ set used source (get_or used source 0 + 1) → IsLeft rows (i + 1) first new new_used
+pub left_more : (rows : List Row) (i : ℕ) (d : Row) (first cells new : List Cell) (used new_used : List ℕ) (source : ℕ) → i < length rows → ((get_or rows i d).mask ≡ 0 → ⊥) → source < 32 → AreCountsLeft rows i first cells used
+    → TakesOne cells new (get_or rows i d).mask source → new_used ≡ set used source (get_or used source 0 + 1) → AreCountsLeft rows (i + 1) first new new_used
 left_more rows i d first cells new used new_used source within some lt left takes e =
     let long = left.long in
     record {
@@ -97,7 +97,7 @@ pub held_le : (s : ℕ) (cells : List Cell) → load_of s cells ≤ count_with (
 held_le s cells = sum_by-le-sum_by (λ (c : Cell). share (eqb c.source s) c.count) (λ (c : Cell). share true c.count) cells (λ c. share_le (eqb c.source s) c.count)
 
 -- the rounds used are no more than the chunks of the source
-pub used_fits : (rows : List Row) (i : ℕ) (first cells new : List Cell) (used : List ℕ) (mask source : ℕ) → source < 32 → IsLeft rows i first cells used → TakesOne cells new mask source → get_or used source 0 + 1 ≤ count_with (λ m. true) first
+pub used_fits : (rows : List Row) (i : ℕ) (first cells new : List Cell) (used : List ℕ) (mask source : ℕ) → source < 32 → AreCountsLeft rows i first cells used → TakesOne cells new mask source → get_or used source 0 + 1 ≤ count_with (λ m. true) first
 used_fits rows i first cells new used mask source lt left takes =
     let e = left.each source lt in
     let t = takes.from in
@@ -127,7 +127,7 @@ slotting_more rows rises i d slots used new_used source new within words it e ne
             subst (λ (z : Slot). z.chunk < (get_or rows m r).chunk) (sym (last k f same)) up
         | inr other ↦ subst (λ (z : Slot). z.chunk < (get_or rows m r).chunk) (sym (old k f (omega arith))) (before.later k m f r (omega arith) (omega arith) below)
       ];
-      allowed = All-push (λ (s : Slot). has (mask_of rows s.chunk) s.source ≡ true) slots x before.allowed (ap (λ m. has m source) (mask_hit rows rises i d within) ∙ it);
+      allowed = All-push (λ (s : Slot). has (mask_of_chunk rows s.chunk) s.source ≡ true) slots x before.allowed (ap (λ m. has m source) (mask_hit rows rises i d within) ∙ it);
       placed = All-push (λ (s : Slot). s.round < get_or new_used s.source 0) slots x
           (λ k f less. let was = before.placed k f less in elim (cases_eq (get_or slots k f).source source) [
             | inl same ↦ let a : get_or new_used (get_or slots k f).source 0 ≡ get_or used (get_or slots k f).source 0 + 1 = ap (λ n. get_or new_used n 0) same ∙ at_source ∙ ap (λ n. get_or used n 0 + 1) (sym same) in omega (arith, was, a)
@@ -202,7 +202,7 @@ orphans_no rows i d orphans within some before =
     before ∙ ap (map f) (sym (append-nil (filter p (take i rows))) ∙ ap (λ xs. filter p (take i rows) ++ xs) (sym keep) ∙ sym cut)
 
 -- no round is used at first
-pub left_first : (rows : List Row) (cells : List Cell) (used : List ℕ) → list_all (λ x. eqb x 0) used ≡ true → length used ≡ 32 → AreAllowed cells → ((q : ℕ → Bool) → count_with q cells ≡ count_rows q rows) → IsLeft rows 0 cells cells used
+pub left_first : (rows : List Row) (cells : List Cell) (used : List ℕ) → list_all (λ x. eqb x 0) used ≡ true → length used ≡ 32 → AreAllowed cells → ((q : ℕ → Bool) → count_with q cells ≡ count_rows q rows) → AreCountsLeft rows 0 cells cells used
 left_first rows cells used none long allowed same = record {
   counts = same;
   allowed = allowed;
@@ -250,7 +250,7 @@ pub reordered_none : (cells : List Cell) → IsReordered cells cells
 reordered_none cells = record { long = refl; counts = λ q. refl; loads = λ s. refl; allowed = λ all. all }
 
 -- what is left does not depend on the cells' order
-pub left_reordered : (rows : List Row) (i : ℕ) (first cells new : List Cell) (used : List ℕ) → IsReordered cells new → IsLeft rows i first cells used → IsLeft rows i first new used
+pub left_reordered : (rows : List Row) (i : ℕ) (first cells new : List Cell) (used : List ℕ) → IsReordered cells new → AreCountsLeft rows i first cells used → AreCountsLeft rows i first new used
 left_reordered rows i first cells new used same before = record {
   counts = λ q. same.counts q ∙ before.counts q;
   allowed = same.allowed before.allowed;

@@ -38,7 +38,7 @@ pub record Moves (old new : List Cell) (s t n : ℕ) : Type 0 where
   pub kept : (u v : ℕ) → u ≢ s → CanMove old u v → CanMove new u v
 
 -- no cell is lost, and all but one are as before
-pub record KeepsOthers (old new : List Cell) (at : ℕ) : Type 0 where
+pub record KeepsOtherCells (old new : List Cell) (at : ℕ) : Type 0 where
   pub long : length old ≤ length new
   pub same : (k : ℕ) (d : Cell) → k ≢ at → k < length old → slice_index_or new k d ≡ slice_index_or old k d
 

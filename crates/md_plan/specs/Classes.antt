@@ -36,7 +36,7 @@ abbrev pub IsGrouped : List Row → List Cell → List ℕ → Type 0
 IsGrouped rows cells class_of = IsGroupedBelow rows (length rows) rows cells class_of
 
 -- the classes given to sources of their masks
-pub record IsPlaced (old new : List Cell) : Type 0 where
+pub record AreClassesPlaced (old new : List Cell) : Type 0 where
   pub counts : (q : ℕ → Bool) → count_with q new ≡ count_with q old
   pub allowed : AreAllowed new
   pub long : length new ≡ length old

@@ -60,6 +60,6 @@ pub record IsDeadEnd (loads reach : List ℕ) (bound sources : ℕ) : Type 0 whe
   pub heavy : (s : ℕ) → s < 32 → bound < slice_index loads s → has sources s ≡ true
   pub full : (s : ℕ) → has sources s ≡ true → bound ≤ slice_index loads s
 
-abbrev pub IsFound : List ℕ → List ℕ → ℕ → List ℕ → List ℕ → Found → Type 0
-IsFound loads reach bound order parent (Light light) = IsPath loads reach bound order parent light
-IsFound loads reach bound order parent (Closed sources) = IsDeadEnd loads reach bound sources
+abbrev pub IsSearchResult : List ℕ → List ℕ → ℕ → List ℕ → List ℕ → Found → Type 0
+IsSearchResult loads reach bound order parent (Light light) = IsPath loads reach bound order parent light
+IsSearchResult loads reach bound order parent (Closed sources) = IsDeadEnd loads reach bound sources

@@ -6,7 +6,7 @@ ghost use Rattle.md_cert.specs.Tables.{IsTable};
 ghost use Rattle.md_cert.specs.declared.table.Row.{Row};
 ghost use Rattle.md_plan.specs.Cells.{AreAllowed, count_with};
 ghost use Rattle.md_plan.specs.Classes.{count_rows};
-ghost use Rattle.md_plan.specs.Slots.{HasChunks, IsGiven, IsReordered, SomeChunk, TakesOne};
+ghost use Rattle.md_plan.specs.Slots.{HasChunksOf, AreGivenOut, IsReordered, SomeChunk, TakesOne};
 
 use crate::cell::Cell;
 use md_cert::{NoMemory, Row, Slot};
@@ -21,8 +21,8 @@ pub(crate) struct Given {
 
 // The first cell from an index on with chunks of this mask.
 fn first_from(cells: &[Cell], from: usize, mask: u32) -> Option<usize>
-    ensures { MatchOption result (AllWithin (λ c. HasChunks mask c → ⊥) cells.now from (length cells.now))
-        (λ at. (at < length cells.now) × HoldsAt (HasChunks mask) cells.now at) }
+    ensures { MatchOption result (AllWithin (λ c. HasChunksOf mask c → ⊥) cells.now from (length cells.now))
+        (λ at. (at < length cells.now) × HoldsAt (HasChunksOf mask) cells.now at) }
 {
     let mut at = from;
     while at < cells.len() {
@@ -38,7 +38,7 @@ fn first_from(cells: &[Cell], from: usize, mask: u32) -> Option<usize>
 fn next_cell(cells: &[Cell], hint: usize, classes: usize, mask: u32) -> usize
     requires { SomeChunk cells.now mask }
     ensures within { result < length cells.now }
-    ensures chunks { HoldsAt (HasChunks mask) cells.now result }
+    ensures chunks { HoldsAt (HasChunksOf mask) cells.now result }
 {
     if hint < cells.len() && cells[hint].count > 0 && cells[hint].mask == mask {
         return hint;
@@ -58,7 +58,7 @@ fn bring_cell(cells: &mut Vec<Cell>, class: usize, classes: usize, mask: u32) ->
     requires { SomeChunk cells.old.items mask }
     ensures same { IsReordered cells.old.items cells.new.items }
     ensures within { result < length cells.new.items }
-    ensures chunks { HoldsAt (HasChunks mask) cells.new.items result }
+    ensures chunks { HoldsAt (HasChunksOf mask) cells.new.items result }
 {
     let at = next_cell(cells, class, classes, mask);
     if at != class && class < cells.len() {
@@ -71,7 +71,7 @@ fn bring_cell(cells: &mut Vec<Cell>, class: usize, classes: usize, mask: u32) ->
 // Takes a chunk out of a cell.
 fn take_one(cells: &mut Vec<Cell>, at: usize, mask: u32) -> u32
     requires within { at < length cells.old.items }
-    requires chunks { HoldsAt (HasChunks mask) cells.old.items at }
+    requires chunks { HoldsAt (HasChunksOf mask) cells.old.items at }
     requires allowed { AreAllowed cells.old.items }
     ensures takes { TakesOne cells.old.items cells.new.items mask result }
     ensures has { has mask result ≡ true }
@@ -95,7 +95,7 @@ pub(crate) fn give_out(
     requires allowed { AreAllowed cells.old.items }
     requires counts { (q : ℕ → Bool) → count_with q cells.old.items ≡ count_rows q rows.now }
     requires classes { length class_of.now ≡ length rows.now }
-    ensures { IfOk result (λ g. IsGiven rows.now cells.old.items g.slots.items g.orphans.items) }
+    ensures { IfOk result (λ g. AreGivenOut rows.now cells.old.items g.slots.items g.orphans.items) }
 {
     let mut slots: Vec<Slot> = Vec::with_capacity(alloc, rows.len())?;
     let mut orphans: Vec<u32> = Vec::new(alloc);

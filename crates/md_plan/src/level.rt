@@ -1,4 +1,4 @@
-// Loads levelled before `balance`: each source's cells stand on a shelf of its own, so that chunks move on
+// Loads levelled before `balance`: each source's cells stand in a list of its own, so that chunks move on
 // along many alternating paths without a pass over all cells for each.
 ghost use Rattle.std.specs.Prelude.{◌≡◌, ◌≢◌, length, OnOk};
 ghost use Rattle.md_plan.specs.Cells.{AreAllowed};
@@ -8,7 +8,7 @@ use crate::cell::Cell;
 use crate::direct::{light, move_directly};
 use crate::route::{Route, find_route, step_back};
 use crate::search::heavy;
-use crate::shelf::{Shelf, fill_shelves, hand_on};
+use crate::cells_by_source::{SourceCells, list_by_source, hand_on};
 use md_cert::{NoMemory, has_source};
 use std::alloc::Global;
 
@@ -32,17 +32,17 @@ pub(crate) fn level(
     if heavy(&loads, bound) == 0 {
         return Ok(());
     }
-    let mut shelves = fill_shelves(alloc, cells)?;
+    let mut by_source = list_by_source(alloc, cells)?;
     'paths: for _ in 0..PATHS {
         let above = heavy(&loads, bound);
         if above == 0 {
             return Ok(());
         }
-        let route = find_route(&shelves, above, light(&loads, bound));
+        let route = find_route(&by_source, above, light(&loads, bound));
         if route.found == 0 {
             bound = mean_load(&loads, route.seen);
         } else {
-            carry(cells, &mut shelves, &mut loads, &route, bound)?;
+            carry(cells, &mut by_source, &mut loads, &route, bound)?;
         }
     }
     Ok(())
@@ -63,14 +63,14 @@ fn mean_load(loads: &[u32], sources: u32) -> u32
 }
 
 // What the source at which a route begins holds above the bound.
-fn excess_at_root(shelves: &[Shelf], loads: &[u32], route: &Route, bound: u32) -> u32
-    requires shelves { length shelves.now ≡ 32 }
+fn excess_at_root(by_source: &[SourceCells], loads: &[u32], route: &Route, bound: u32) -> u32
+    requires by_source { length by_source.now ≡ 32 }
     requires loads { length loads.now ≡ 32 }
     requires found { route.now.found ≢ 0 }
 {
     let mut root = route.found.trailing_zeros();
     'steps: for step in (0..32usize).rev() {
-        if let Some(from) = step_back(shelves, route.layers[step], root) {
+        if let Some(from) = step_back(by_source, route.layers[step], root) {
             root = from;
         }
     }
@@ -80,25 +80,25 @@ fn excess_at_root(shelves: &[Shelf], loads: &[u32], route: &Route, bound: u32) -
 // Moves chunks along a route, from its end to its root: as many as the end has room for and the root is to lose.
 fn carry(
     cells: &mut Vec<Cell>,
-    shelves: &mut Vec<Shelf>,
+    by_source: &mut Vec<SourceCells>,
     loads: &mut [u32],
     route: &Route,
     bound: u32,
 ) -> Result<(), NoMemory>
     requires allowed { AreAllowed cells.old.items }
-    requires shelves { length shelves.old.items ≡ 32 }
+    requires by_source { length by_source.old.items ≡ 32 }
     requires loads { length loads.old ≡ 32 }
     requires found { route.now.found ≢ 0 }
     ensures levelled { OnOk result (IsLevelled cells.old.items cells.new.items) }
-    ensures shelves { length shelves.new.items ≡ 32 }
+    ensures by_source { length by_source.new.items ≡ 32 }
 {
     let mut to = route.found.trailing_zeros();
     let room = bound.saturating_sub(loads[to as usize]);
-    let mut most = room.min(excess_at_root(shelves, loads, route, bound));
+    let mut most = room.min(excess_at_root(by_source, loads, route, bound));
     'steps: for step in (0..32usize).rev() {
         if most > 0 {
-            if let Some(from) = step_back(shelves, route.layers[step], to) {
-                most = hand_on(cells, shelves, from, to, most)?;
+            if let Some(from) = step_back(by_source, route.layers[step], to) {
+                most = hand_on(cells, by_source, from, to, most)?;
                 loads[from as usize] = loads[from as usize].saturating_sub(most);
                 loads[to as usize] = loads[to as usize].saturating_add(most);
                 to = from;

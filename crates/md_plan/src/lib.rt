@@ -22,7 +22,7 @@ mod ranking;
 mod reach;
 mod route;
 mod search;
-mod shelf;
+mod cells_by_source;
 mod shift;
 mod totals;
 

@@ -1,7 +1,7 @@
 // Counts moved from one source to another.
 ghost use Rattle.std.specs.Prelude.{◌≡◌, ◌≢◌, ℕ, ◌<◌, ◌≤◌, length, IfOk};
 ghost use Rattle.std.specs.List.{HoldsAt};
-ghost use Rattle.md_plan.specs.Cells.{CanMove, IsMovable, Moves, KeepsOthers};
+ghost use Rattle.md_plan.specs.Cells.{CanMove, IsMovable, Moves, KeepsOtherCells};
 
 use crate::cell::Cell;
 use md_cert::{NoMemory, has_source};
@@ -20,7 +20,7 @@ pub(crate) fn move_part(
     requires some { 0 < most }
     ensures number { IfOk result (λ n. (0 < n) × (n ≤ most)) }
     ensures moves { IfOk result (λ n. Moves cells.old.items cells.new.items from to n) }
-    ensures others { IfOk result (λ n. KeepsOthers cells.old.items cells.new.items at) }
+    ensures others { IfOk result (λ n. KeepsOtherCells cells.old.items cells.new.items at) }
 {
     let cell = cells[at];
     if cell.count <= most {

@@ -10,10 +10,10 @@ abbrev pub StartsSuper : List ℕ → Type 0
 StartsSuper bytes = (number_at 4 0 bytes ≡ 0xa92b4efc) × (number_at 4 4 bytes ≡ 1)
 
 -- what is said of the bytes of a sector
-abbrev pub IsFound : List ℕ → ℕ → Found → Type 0
-IsFound bytes sector Nothing = StartsSuper bytes → ⊥
-IsFound bytes sector (Unreadable at) = ⊥
-IsFound bytes sector (Superblock at id) = (at ≡ sector) × StartsSuper bytes × (id ≡ bytes_at 16 16 bytes)
+abbrev pub IsFoundInSector : List ℕ → ℕ → Found → Type 0
+IsFoundInSector bytes sector Nothing = StartsSuper bytes → ⊥
+IsFoundInSector bytes sector (Unreadable at) = ⊥
+IsFoundInSector bytes sector (Superblock at id) = (at ≡ sector) × StartsSuper bytes × (id ≡ bytes_at 16 16 bytes)
 
 -- the sector is on the device
 abbrev pub IsOn : List ℕ → ℕ → Type 0
@@ -22,10 +22,10 @@ IsOn content sector = 512 * sector + 512 ≤ length content
 -- What is found in a sector of a device. Of one that is past the end nothing is: what is found, or can't be read, is on the device.
 -- `Failed` says that a call on it failed.
 abbrev pub FindsAt : List ℕ → Bool → Type 0 → ℕ → Found → Type 0
-FindsAt content honest Failed sector Nothing = honest ≡ true → IsOn content sector → IsFound (held content sector 512) sector Nothing
+FindsAt content honest Failed sector Nothing = honest ≡ true → IsOn content sector → IsFoundInSector (held content sector 512) sector Nothing
 FindsAt content honest Failed sector (Unreadable at) = IsOn content sector × (at ≡ sector) × (honest ≡ true → Failed)
 FindsAt content honest Failed sector (Superblock at id) =
-    IsOn content sector × (honest ≡ true → IsFound (held content sector 512) sector (Superblock at id))
+    IsOn content sector × (honest ≡ true → IsFoundInSector (held content sector 512) sector (Superblock at id))
 
 -- where a superblock of version 1.0 stands on a device: from the 16th to the 9th sector before its end, moved down to a multiple of 8
 abbrev pub end_place : List ℕ → ℕ

@@ -2,7 +2,7 @@
 use Rattle.std.specs.Prelude.{◌≡◌, ◌⊎◌, ℕ, ◌+◌, ◌*◌, ◌/◌, ◌<◌, ◌≤◌, ◌==◌, ◌&&◌, not, Bool, true, false, List, length, take, bit_and, ℤ, pos, ◌+ℤ◌}
 use Rattle.std.specs.Int.{w32, cast_signed}
 use Rattle.md_format.specs.Fields.{number_at}
-use Rattle.md_members.specs.Reading.{IsLong, IsRead}
+use Rattle.md_members.specs.Reading.{HasSuperSectors, IsRead}
 use Rattle.md_raw_members.specs.declared.fault.RawFault.{RawFault}
 use Rattle.md_raw_members.specs.declared.fault.RawFault.TheVariants.{TooShort, NoBitmap, Region, ReadFault}
 
@@ -26,10 +26,10 @@ abbrev pub HasNoPlace : List ℕ → ℤ → ℕ → Type 0
 HasNoPlace content offset sectors = (start : ℕ) → StartsAt offset start → FitsAt content start sectors → ⊥
 
 -- why sectors 8 to 15 are not read, where `Failed` says that a call on the device failed
-abbrev pub RefusesBytes : List ℕ → Bool → Type 0 → RawFault → Type 0
-RefusesBytes content honest Failed TooShort = length content < 512 * 16
-RefusesBytes content honest Failed ReadFault = IsLong content × (honest ≡ true → Failed)
-RefusesBytes content honest Failed _ = ⊥
+abbrev pub RefusesRawSuper : List ℕ → Bool → Type 0 → RawFault → Type 0
+RefusesRawSuper content honest Failed TooShort = length content < 512 * 16
+RefusesRawSuper content honest Failed ReadFault = HasSuperSectors content × (honest ≡ true → Failed)
+RefusesRawSuper content honest Failed _ = ⊥
 
 -- the first sector of the bitmap, as it was read
 pub record IsBitmapSector (content : List ℕ) (honest : Bool) (superblock bytes : List ℕ) : Type 0 where
@@ -70,10 +70,10 @@ RefusesArea content honest Failed superblock TooShort = ⊥
 -- the part is not read: the superblock's bytes can't be, or this comes of what they say
 abbrev pub RefusesPart : (List ℕ → RawFault → Type 0) → List ℕ → Bool → Type 0 → RawFault → Type 0
 RefusesPart Refuses content honest Failed fault =
-    RefusesBytes content honest Failed fault ⊎ ((superblock : List ℕ) × IsRead content honest 8 4096 superblock × Refuses superblock fault)
+    RefusesRawSuper content honest Failed fault ⊎ ((superblock : List ℕ) × IsRead content honest 8 4096 superblock × Refuses superblock fault)
 
-abbrev pub RefusesBitmap : List ℕ → Bool → Type 0 → RawFault → Type 0
-RefusesBitmap content honest Failed fault = RefusesPart (RefusesSector content honest Failed) content honest Failed fault
+abbrev pub RefusesRawBitmap : List ℕ → Bool → Type 0 → RawFault → Type 0
+RefusesRawBitmap content honest Failed fault = RefusesPart (RefusesSector content honest Failed) content honest Failed fault
 
-abbrev pub RefusesLog : List ℕ → Bool → Type 0 → RawFault → Type 0
-RefusesLog content honest Failed fault = RefusesPart (RefusesArea content honest Failed) content honest Failed fault
+abbrev pub RefusesRawLog : List ℕ → Bool → Type 0 → RawFault → Type 0
+RefusesRawLog content honest Failed fault = RefusesPart (RefusesArea content honest Failed) content honest Failed fault

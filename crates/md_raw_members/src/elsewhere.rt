@@ -1,6 +1,6 @@
 // Other places of a device where a superblock of its set may stand.
 ghost use Rattle.std.specs.Prelude.{◌≡◌, ◌<◌, ◌≤◌, ◌*◌, length};
-ghost use Rattle.md_raw_members.specs.Elsewhere.{FindsAt, FindsElsewhere, IsFound};
+ghost use Rattle.md_raw_members.specs.Elsewhere.{FindsAt, FindsElsewhere, IsFoundInSector};
 
 use crate::reading::read_sectors;
 use md_device::Device;
@@ -51,7 +51,7 @@ fn look_at<D: Device>(device: &mut D, sector: u64) -> Found
 
 // Whether a sector starts a superblock of version 1.
 fn start_of_super(bytes: &[u8; 512], sector: u64) -> Found
-    ensures { IsFound bytes.now sector result }
+    ensures { IsFoundInSector bytes.now sector result }
 {
     if u32_at(bytes, 0) == MAGIC && u32_at(bytes, 4) == MAJOR_VERSION {
         Found::Superblock(sector, uuid_at(bytes, 16))

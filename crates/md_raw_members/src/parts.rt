@@ -2,7 +2,7 @@
 ghost use Rattle.std.specs.Prelude.{◌≡◌, ◌<◌, ◌≤◌, IfErr, IfOk, OnOk};
 ghost use Rattle.md_members.specs.Reading.{IsRead};
 ghost use Rattle.md_raw_members.specs.Elsewhere.{FindsElsewhere};
-ghost use Rattle.md_raw_members.specs.Raw.{IsArea, IsBitmapSector, RefusesBitmap, RefusesBytes, RefusesLog};
+ghost use Rattle.md_raw_members.specs.Raw.{IsArea, IsBitmapSector, RefusesRawBitmap, RefusesRawSuper, RefusesRawLog};
 
 use crate::elsewhere::find_elsewhere;
 use crate::fault::RawFault;
@@ -21,7 +21,7 @@ pub fn read_raw_super<D: Device>(
     ensures ok { OnOk result (IsRead (D.content device.old) (D.honest device.old) 8 4096 bytes.new) }
     ensures finds { IfOk result (λ found. FindsElsewhere (D.content device.old) (D.honest device.old)
         (D.failures device.old < D.failures device.new) found) }
-    ensures refused { IfErr result (λ fault. RefusesBytes (D.content device.old) (D.honest device.old)
+    ensures refused { IfErr result (λ fault. RefusesRawSuper (D.content device.old) (D.honest device.old)
         (D.failures device.old < D.failures device.new) fault) }
 {
     read_super_bytes(device, bytes)?;
@@ -38,7 +38,7 @@ pub fn read_raw_bitmap<D: Device>(
     ensures honest { D.honest device.new ≡ D.honest device.old }
     ensures ok { OnOk result (IsRead (D.content device.old) (D.honest device.old) 8 4096 superblock.new) }
     ensures bitmap { OnOk result (IsBitmapSector (D.content device.old) (D.honest device.old) superblock.new bytes.new) }
-    ensures refused { IfErr result (λ fault. RefusesBitmap (D.content device.old) (D.honest device.old)
+    ensures refused { IfErr result (λ fault. RefusesRawBitmap (D.content device.old) (D.honest device.old)
         (D.failures device.old < D.failures device.new) fault) }
 {
     read_super_bytes(device, superblock)?;
@@ -57,7 +57,7 @@ pub fn read_raw_log<D: Device>(
     ensures ok { OnOk result (IsRead (D.content device.old) (D.honest device.old) 8 4096 superblock.new) }
     ensures few { IfOk result (λ n. n ≤ 4096) }
     ensures log { IfOk result (λ n. IsArea (D.content device.old) (D.honest device.old) superblock.new n bytes.new) }
-    ensures refused { IfErr result (λ fault. RefusesLog (D.content device.old) (D.honest device.old)
+    ensures refused { IfErr result (λ fault. RefusesRawLog (D.content device.old) (D.honest device.old)
         (D.failures device.old < D.failures device.new) fault) }
 {
     read_super_bytes(device, superblock)?;

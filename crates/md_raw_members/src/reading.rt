@@ -1,7 +1,7 @@
 // The parts of a member whose place the superblock gives, though it may be damaged.
 ghost use Rattle.std.specs.Prelude.{◌≡◌, ◌<◌, ◌≤◌, ◌+◌, ◌*◌, ◌%◌, ◌^◌, ℕ, IfErr, IfOk, MatchOption, OnErr, OnOk, length, true};
 ghost use Rattle.md_members.specs.Reading.{IsRead};
-ghost use Rattle.md_raw_members.specs.Raw.{IsArea, IsBitmapSector, RefusesArea, RefusesBytes, RefusesSector, StartsAt};
+ghost use Rattle.md_raw_members.specs.Raw.{IsArea, IsBitmapSector, RefusesArea, RefusesRawSuper, RefusesSector, StartsAt};
 
 use crate::fault::RawFault;
 use md_device::{Device, ReadFault};
@@ -23,7 +23,7 @@ pub(crate) fn read_super_bytes<D: Device>(
     ensures honest { D.honest device.new ≡ D.honest device.old }
     ensures counted { D.failures device.old ≤ D.failures device.new }
     ensures ok { OnOk result (IsRead (D.content device.old) (D.honest device.old) 8 4096 bytes.new) }
-    ensures refused { IfErr result (λ fault. RefusesBytes (D.content device.old) (D.honest device.old) (D.failures device.old < D.failures device.new) fault) }
+    ensures refused { IfErr result (λ fault. RefusesRawSuper (D.content device.old) (D.honest device.old) (D.failures device.old < D.failures device.new) fault) }
 {
     if device.sectors() < LEAST_SECTORS {
         return Err(RawFault::TooShort);

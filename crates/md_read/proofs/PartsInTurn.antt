@@ -9,8 +9,8 @@ use Rattle.md_state.specs.Members.{AllInSync}
 use Rattle.md_state.specs.Rests.{Rests}
 use Rattle.md_state.specs.View.{ArrayView, MirrorView}
 use Rattle.md_laws.proofs.Runs.Rests.{rests_same, rests_then}
-use Rattle.md_read.specs.Reading.{HasFailed}
-use Rattle.md_read.specs.Unresynced.{EndsPart, GivesNoPart, GivesPart, GivesParts, IsMarkedAt, IsUnmarkedAt, NoneGivesPart, PartsInTurn}
+use Rattle.md_read.specs.Reading.{HasReadFailed}
+use Rattle.md_read.specs.Unresynced.{EndsPart, GivesNoPart, GivesPart, GivesParts, IsSectorMarked, IsUnmarkedAt, NoneGivesPart, PartsInTurn}
 use Rattle.md_read.specs.declared.unresynced_fault.UnresyncedFault.{UnresyncedFault}
 use Rattle.md_read.specs.declared.unresynced_fault.UnresyncedFault.TheVariants.{Halted, OutOfRange, ReadFault, Unreadable}
 use Rattle.md_read.proofs.RunsRead.{held_earlier, none_gives_earlier, run_earlier}
@@ -25,8 +25,8 @@ part_rests sector run old new (inl given) = given.rests
 part_rests sector run old new (inr given) = given.gives.rests
 
 module _ (old mid new : MirrorView) (first : Rests old mid) where
-  marked_earlier : (s : ℕ) → IsMarkedAt mid.array s → IsMarkedAt old.array s
-  marked_earlier s marked = subst (λ (a : ArrayView). IsMarkedAt a s) first.array marked
+  marked_earlier : (s : ℕ) → IsSectorMarked mid.array s → IsSectorMarked old.array s
+  marked_earlier s marked = subst (λ (a : ArrayView). IsSectorMarked a s) first.array marked
 
   unmarked_earlier : (s : ℕ) → IsUnmarkedAt mid.array s → IsUnmarkedAt old.array s
   unmarked_earlier s unmarked = subst (λ (a : ArrayView). IsUnmarkedAt a s) first.array unmarked
@@ -34,7 +34,7 @@ module _ (old mid new : MirrorView) (first : Rests old mid) where
   source_earlier : (k s : ℕ) → IsSource k s mid.array → IsSource k s old.array
   source_earlier k s source = subst (λ (a : ArrayView). IsSource k s a) first.array source
 
-  failed_earlier : (k : ℕ) → HasFailed k mid new → HasFailed k old new
+  failed_earlier : (k : ℕ) → HasReadFailed k mid new → HasReadFailed k old new
   failed_earlier k failed d f was is honest =
       let low = slice_get_within old.disks k d was in
       let many = first.disks.same.as_many in

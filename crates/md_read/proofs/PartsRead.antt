@@ -5,7 +5,7 @@ use Rattle.std.proofs.lemmas.List.{take_all}
 use Rattle.md_laws.proofs.Runs.Rests.{rests_then}
 use Rattle.md_state.specs.Rests.{Rests}
 use Rattle.md_state.specs.View.{MirrorView}
-use Rattle.md_read.specs.Unresynced.{AllFrom, GivesNoPart, GivesPart, GivesPartFront, GivesParts, IsEndedBy, IsMarkedAt, MayReadSectors, ReadsUnresynced, RefusesUnresynced, TriesSource}
+use Rattle.md_read.specs.Unresynced.{AllFrom, GivesNoPart, GivesPart, GivesPartFront, GivesParts, IsEndedBy, IsSectorMarked, MayReadSectors, ReadsUnresynced, RefusesUnresynced, TriesSource}
 use Rattle.md_read.specs.declared.sources.SourceAnswer.{SourceAnswer}
 use Rattle.md_read.specs.declared.sources.SourceAnswer.TheVariants as answer
 use Rattle.md_read.specs.declared.unresynced_fault.UnresyncedFault.{UnresyncedFault}
@@ -20,7 +20,7 @@ module _ (sector : ℕ) (was bytes : List ℕ) (old new : MirrorView) where
   tries_rests (answer.Failed k) (rests, source, failed) = rests
   tries_rests answer.Several (rests, several) = rests
 
-  pub all_given : length bytes ≡ length was → length was % 512 ≡ 0 → AllFrom sector (length was / 512) (IsMarkedAt old.array) → TriesSource sector was bytes old new answer.All
+  pub all_given : length bytes ≡ length was → length was % 512 ≡ 0 → AllFrom sector (length was / 512) (IsSectorMarked old.array) → TriesSource sector was bytes old new answer.All
       → GivesPart sector bytes old new
   all_given long whole marked (rests, (from, source, holds)) = inl (record {
     rests = rests;
@@ -31,10 +31,10 @@ module _ (sector : ℕ) (was bytes : List ℕ) (old new : MirrorView) where
     holds = holds;
   })
 
-  pub nothing_given : 0 < length was / 512 → IsMarkedAt old.array sector → TriesSource sector was bytes old new answer.Nothing → GivesNoPart sector old new (fault.Unreadable sector)
+  pub nothing_given : 0 < length was / 512 → IsSectorMarked old.array sector → TriesSource sector was bytes old new answer.Nothing → GivesNoPart sector old new (fault.Unreadable sector)
   nothing_given some marked (rests, lists) = record { rests = rests; ends = (refl, inl (marked, lists sector (omega arith) (omega arith))) }
 
-  pub source_failed : (k : ℕ) → 0 < length was / 512 → IsMarkedAt old.array sector → TriesSource sector was bytes old new (answer.Failed k) → GivesNoPart sector old new (fault.ReadFault k sector)
+  pub source_failed : (k : ℕ) → 0 < length was / 512 → IsSectorMarked old.array sector → TriesSource sector was bytes old new (answer.Failed k) → GivesNoPart sector old new (fault.ReadFault k sector)
   source_failed k some marked (rests, source, failed) = record {
     rests = rests;
     ends = (refl, record { marked = marked; source = source sector (omega arith) (omega arith); failed = failed });

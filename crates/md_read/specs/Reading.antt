@@ -33,12 +33,12 @@ abbrev pub HasRole : ArrayView → ℕ → Type 0
 HasRole a role = (k : ℕ) × IsInRole a role k
 
 -- A read of member k's device failed.
-abbrev pub HasFailed : ℕ → MirrorView → MirrorView → Type 0
-HasFailed k old new = AtDevice k old.disks new.disks (λ d e. d.honest ≡ true → d.failures < e.failures)
+abbrev pub HasReadFailed : ℕ → MirrorView → MirrorView → Type 0
+HasReadFailed k old new = AtDevice k old.disks new.disks (λ d e. d.honest ≡ true → d.failures < e.failures)
 
 -- Member k, which is m, did not give the sector: it lists it, or failed.
 abbrev pub HasNotGiven : ℕ → MemberView → ℕ → MirrorView → MirrorView → Type 0
-HasNotGiven k m s old new = Lists m s ⊎ HasFailed k old new
+HasNotGiven k m s old new = Lists m s ⊎ HasReadFailed k old new
 
 -- No member in sync gave the sector.
 abbrev pub NoneGives : ℕ → MirrorView → MirrorView → Type 0
@@ -118,7 +118,7 @@ pub record IsUnreadable (sector s : ℕ) (bytes : List ℕ) (old new : MirrorVie
   pub later : Rests mid new
   pub none : NoneGives s mid new
 
-pub record IsNotResynced (a : ArrayView) (sector sectors : ℕ) : Type 0 where
+pub record IsUnreadUnresynced (a : ArrayView) (sector sectors : ℕ) : Type 0 where
   pub running : a.halted ≡ false
   pub range : IsInRange a sector sectors
   pub not_yet : a.resynced ≡ false
@@ -126,7 +126,7 @@ pub record IsNotResynced (a : ArrayView) (sector sectors : ℕ) : Type 0 where
 abbrev pub RefusesRead : ℕ → List ℕ → MirrorView → MirrorView → UnreadFault → Type 0
 RefusesRead sector bytes old new Halted = RefusesHalted old new
 RefusesRead sector bytes old new OutOfRange = Refuses old new (IsOutOfRange old.array sector (length bytes / 512))
-RefusesRead sector bytes old new NotResynced = Refuses old new (IsNotResynced old.array sector (length bytes / 512))
+RefusesRead sector bytes old new NotResynced = Refuses old new (IsUnreadUnresynced old.array sector (length bytes / 512))
 RefusesRead sector bytes old new (Unreadable s) = MayReadAt old.array sector (length bytes / 512) × IsUnreadable sector s bytes old new
 
 -- ---- one role
@@ -206,7 +206,7 @@ TriesRoles sector was bytes old new answer.Failed = Rests old new × (length was
 TriesRoles sector was bytes old new answer.Perhaps = Rests old new × (1 < length was / 512)
 
 -- so many of the sectors were given, as one run
-pub record GivesFront (sector : ℕ) (was bytes : List ℕ) (old new : MirrorView) (sectors : ℕ) : Type 0 where
+pub record GivesFirstRun (sector : ℕ) (was bytes : List ℕ) (old new : MirrorView) (sectors : ℕ) : Type 0 where
   pub some : 0 < sectors
   pub few : sectors ≤ length was / 512
   pub given : GivesRun sector (take (512 * sectors) bytes) old new

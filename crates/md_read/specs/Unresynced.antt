@@ -12,7 +12,7 @@ use Rattle.md_state.specs.ReadingData.{HoldsData}
 use Rattle.md_state.specs.Rests.{Rests}
 use Rattle.md_state.specs.Trying.{Refuses, RefusesHalted}
 use Rattle.md_state.specs.View.{ArrayView, MirrorView}
-use Rattle.md_read.specs.Reading.{GivesRun, HasFailed, NoneGives}
+use Rattle.md_read.specs.Reading.{GivesRun, HasReadFailed, NoneGives}
 use Rattle.md_read.specs.declared.sources.Source.{Source}
 use Rattle.md_read.specs.declared.sources.Source.TheVariants as source
 use Rattle.md_read.specs.declared.sources.SourceAnswer.{SourceAnswer}
@@ -21,8 +21,8 @@ use Rattle.md_read.specs.declared.unresynced_fault.UnresyncedFault.{UnresyncedFa
 use Rattle.md_read.specs.declared.unresynced_fault.UnresyncedFault.TheVariants as fault
 
 -- the sector is in a chunk that is marked, or in one that is not
-abbrev pub IsMarkedAt : ArrayView → ℕ → Type 0
-IsMarkedAt a s = is_set a.marks.bytes (s / a.chunks.sectors) ≡ true
+abbrev pub IsSectorMarked : ArrayView → ℕ → Type 0
+IsSectorMarked a s = is_set a.marks.bytes (s / a.chunks.sectors) ≡ true
 
 abbrev pub IsUnmarkedAt : ArrayView → ℕ → Type 0
 IsUnmarkedAt a s = is_set a.marks.bytes (s / a.chunks.sectors) ≡ false
@@ -37,7 +37,7 @@ AllFrom sector sectors Of = (s : ℕ) → sector ≤ s → s < sector + sectors 
 pub record GivesAsSource (sector : ℕ) (run : List ℕ) (old new : MirrorView) : Type 0 where
   pub rests : Rests old new
   pub whole : length run % 512 ≡ 0
-  pub marked : AllFrom sector (length run / 512) (IsMarkedAt old.array)
+  pub marked : AllFrom sector (length run / 512) (IsSectorMarked old.array)
   pub from : ℕ
   pub source : AllFrom sector (length run / 512) (λ s. IsSource from s old.array)
   pub holds : HoldsData old from sector run
@@ -74,13 +74,13 @@ pub record ReadsUnresynced (sector : ℕ) (bytes : List ℕ) (old new : MirrorVi
 
 -- No member in sync gave the sector. In a marked chunk that is because all of them list it.
 abbrev pub NoneGivesPart : ℕ → MirrorView → MirrorView → Type 0
-NoneGivesPart s old new = (IsMarkedAt old.array s × AllInSync old.array (λ m. Lists m s)) ⊎ (IsUnmarkedAt old.array s × NoneGives s old new)
+NoneGivesPart s old new = (IsSectorMarked old.array s × AllInSync old.array (λ m. Lists m s)) ⊎ (IsUnmarkedAt old.array s × NoneGives s old new)
 
 -- Member k, from which a resync would copy the sector, could not be read.
 pub record SourceFails (k s : ℕ) (old new : MirrorView) : Type 0 where
-  pub marked : IsMarkedAt old.array s
+  pub marked : IsSectorMarked old.array s
   pub source : IsSource k s old.array
-  pub failed : HasFailed k old new
+  pub failed : HasReadFailed k old new
 
 abbrev pub EndsPart : ℕ → UnresyncedFault → MirrorView → MirrorView → Type 0
 EndsPart at fault.Halted old new = ⊥
@@ -114,10 +114,10 @@ RefusesUnresynced sector bytes old new (fault.ReadFault k s) =
 
 -- ---- the member that a resync copies from
 -- The source of these sectors.
-abbrev pub IsSourceOf : ℕ → ℕ → ArrayView → Source → Type 0
-IsSourceOf sector sectors a (source.Member k) = AllFrom sector sectors (λ s. IsSource k s a)
-IsSourceOf sector sectors a source.Nobody = AllFrom sector sectors (λ s. AllInSync a (λ m. Lists m s))
-IsSourceOf sector sectors a source.Several = 1 < sectors
+abbrev pub IsSourceOfSectors : ℕ → ℕ → ArrayView → Source → Type 0
+IsSourceOfSectors sector sectors a (source.Member k) = AllFrom sector sectors (λ s. IsSource k s a)
+IsSourceOfSectors sector sectors a source.Nobody = AllFrom sector sectors (λ s. AllInSync a (λ m. Lists m s))
+IsSourceOfSectors sector sectors a source.Several = 1 < sectors
 
 -- whoever is in sync in the role lists the sector
 abbrev pub IsListedIn : ℕ → ℕ → ArrayView → Type 0
@@ -128,7 +128,7 @@ TriesSource sector was bytes old new answer.All =
     Rests old new × ((from : ℕ) × AllFrom sector (length was / 512) (λ s. IsSource from s old.array) × HoldsData old from sector bytes)
 TriesSource sector was bytes old new answer.Nothing = Rests old new × AllFrom sector (length was / 512) (λ s. AllInSync old.array (λ m. Lists m s))
 TriesSource sector was bytes old new (answer.Failed k) =
-    Rests old new × AllFrom sector (length was / 512) (λ s. IsSource k s old.array) × HasFailed k old new
+    Rests old new × AllFrom sector (length was / 512) (λ s. IsSource k s old.array) × HasReadFailed k old new
 TriesSource sector was bytes old new answer.Several = Rests old new × (1 < length was / 512)
 
 -- ---- the front of a part

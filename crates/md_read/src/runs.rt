@@ -1,7 +1,7 @@
 // Reading runs of sectors, each from one member.
 ghost use Rattle.std.specs.Prelude.{◌≡◌, ◌+◌, ◌*◌, ◌/◌, ◌%◌, ◌^◌, ◌<◌, ◌≤◌, MatchOption, MatchResult, length};
 ghost use Rattle.md_array.specs.Consistency.{IsConsistent};
-ghost use Rattle.md_read.specs.Reading.{GivesFront, GivesNoFront, GivesSectors, IsGivenUpTo, TriesGroup, TriesRoles, all_listed, gives_none};
+ghost use Rattle.md_read.specs.Reading.{GivesFirstRun, GivesNoFront, GivesSectors, IsGivenUpTo, TriesGroup, TriesRoles, all_listed, gives_none};
 
 use crate::fault::UnreadFault;
 use crate::roles::{Answer, read_in};
@@ -96,7 +96,7 @@ pub(crate) fn read_front<D: Device + Drop>(
     requires whole { length buf.old % 512 ≡ 0 }
     requires inside { sector + length buf.old / 512 ≤ mirror.old.array.chunks.size }
     requires sound { IsConsistent mirror.old }
-    ensures { MatchOption result (GivesNoFront sector mirror.old mirror.new) (GivesFront sector buf.old buf.new mirror.old mirror.new) }
+    ensures { MatchOption result (GivesNoFront sector mirror.old mirror.new) (GivesFirstRun sector buf.old buf.new mirror.old mirror.new) }
 {
     let mut sectors = buf.len() / 512;
     loop {

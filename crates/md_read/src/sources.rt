@@ -1,7 +1,7 @@
 // The member that a resync copies sectors from, and reading them from it.
 ghost use Rattle.std.specs.Prelude.{◌≡◌, ◌+◌, ◌*◌, ◌/◌, ◌%◌, ◌<◌, ◌≤◌, MatchResult, length};
 ghost use Rattle.md_array.specs.Consistency.{IsConsistent};
-ghost use Rattle.md_read.specs.Unresynced.{AllFrom, GivesNoPart, GivesPartFront, IsMarkedAt, IsSourceOf, TriesSource};
+ghost use Rattle.md_read.specs.Unresynced.{AllFrom, GivesNoPart, GivesPartFront, IsSectorMarked, IsSourceOfSectors, TriesSource};
 
 use crate::roles::{lists_all, lists_some, member_in};
 use crate::unresynced_fault::UnresyncedFault;
@@ -37,7 +37,7 @@ pub(crate) enum SourceAnswer {
 fn source_of<D: Device + Drop>(mirror: &Mirror<D>, sector: u64, sectors: u64) -> Source
     requires some { 0 < sectors }
     requires sound { IsConsistent mirror.now }
-    ensures { IsSourceOf sector sectors mirror.now.array result }
+    ensures { IsSourceOfSectors sector sectors mirror.now.array result }
 {
     for role in 0..mirror.shared().raid_disks {
         if let Some(k) = member_in(mirror, role) {
@@ -85,7 +85,7 @@ pub(crate) fn read_marked<D: Device + Drop>(
     requires whole { length buf.old % 512 ≡ 0 }
     requires inside { sector + length buf.old / 512 ≤ mirror.old.array.chunks.size }
     requires sound { IsConsistent mirror.old }
-    requires marked { AllFrom sector (length buf.old / 512) (IsMarkedAt mirror.old.array) }
+    requires marked { AllFrom sector (length buf.old / 512) (IsSectorMarked mirror.old.array) }
     ensures { MatchResult result (GivesPartFront sector buf.old buf.new mirror.old mirror.new) (GivesNoPart sector mirror.old mirror.new) }
 {
     let sectors = buf.len() as u64 / 512;
@@ -112,7 +112,7 @@ fn read_first<D: Device + Drop>(
     requires whole { length buf.old % 512 ≡ 0 }
     requires inside { sector + length buf.old / 512 ≤ mirror.old.array.chunks.size }
     requires sound { IsConsistent mirror.old }
-    requires marked { IsMarkedAt mirror.old.array sector }
+    requires marked { IsSectorMarked mirror.old.array sector }
     ensures { MatchResult result (GivesPartFront sector buf.old buf.new mirror.old mirror.new) (GivesNoPart sector mirror.old mirror.new) }
 {
     match read_source(mirror, sector, &mut buf[..512]) {

@@ -24,7 +24,7 @@ use Rattle.md_state.specs.Missing.{is_missing}
 use Rattle.md_state.specs.View.{ArrayView, Disk, MirrorView}
 use Rattle.md_super.specs.declared.superblock.Superblock.{Superblock}
 use Rattle.md_array.specs.Consistency.{IsConsistent}
-use Rattle.md_array.specs.Enrolling.{Enrols, HasContent}
+use Rattle.md_array.specs.Enrolling.{Enrols, HoldsContent}
 use Rattle.md_array.specs.Enrolments.{IsHeldBy, prepared}
 use Rattle.md_array.specs.Worlds.{AreHonest, lies_in, lists_of}
 use Rattle.md_array.proofs.General.Indices.{got_other}
@@ -41,7 +41,7 @@ use Rattle.md_copy.proofs.RebuildLeads.{begin_holds}
 use Rattle.md_copy.proofs.StartedAs.{StartsAs}
 use Rattle.md_copy.proofs.StartsReadied.{starts_of}
 use Rattle.md_rebuild_laws.specs.RebuiltInLife.{HeldWhatItHad}
-use Rattle.md_rebuild_laws.specs.StoppedRebuilds.{HasFilled}
+use Rattle.md_rebuild_laws.specs.RebuildCrashes.{HasFilled}
 use Rattle.md_rebuild_laws.proofs.RebuiltHolds.{beside_other, one_chunk}
 
 -- ---- what it held before, it holds once the rebuild is readied
@@ -69,7 +69,7 @@ module _ (target : ℕ) (content : Content) (old v : MirrorView) (st : StartsAs 
       (λ bad. unlisted (subst (λ (runs : List Run). IsBad runs (m.superblock.data_offset + s)) (sym l.2.bad) (subst (λ (o : ℕ). IsBad l.0.bad (o + s)) (sym l.2.offset) bad)))
 
 module _ (target : ℕ) (kept orphans : Bitmap) (old filled new : MirrorView) (h : HasFilled target kept orphans old filled) (r : Enrols target kept orphans filled new)
-    (honest : AreHonest filled.disks) (content : Content) (has : HasContent filled.disks filled.array content) (had : HeldWhatItHad target content old) where
+    (honest : AreHonest filled.disks) (content : Content) (has : HoldsContent filled.disks filled.array content) (had : HeldWhatItHad target content old) where
   abbrev v : MirrorView
   v = h.ready
 
@@ -119,7 +119,7 @@ module _ (target : ℕ) (kept orphans : Bitmap) (old filled new : MirrorView) (h
     now = set filled.disks target then
 
     -- the members in sync
-    has_now : HasContent now a content
+    has_now : HoldsContent now a content
     has_now = record {
       held = λ j z y there on s low unlisted.
           (let apart = another target kept orphans filled new sound r h.fills.has.may honest d was j y on in

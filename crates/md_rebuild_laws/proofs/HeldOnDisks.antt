@@ -15,7 +15,7 @@ use Rattle.md_model.proofs.Steps.Tracked.{IsTracked}
 use Rattle.md_state.specs.MakingClean.{IsIdle}
 use Rattle.md_state.specs.Members.{IsInSync}
 use Rattle.md_state.specs.View.{Disk, MirrorView, geometry_of}
-use Rattle.md_array.specs.Enrolling.{HasContent}
+use Rattle.md_array.specs.Enrolling.{HoldsContent}
 use Rattle.md_array.specs.Worlds.{is_listed, stored_of, world_of}
 use Rattle.md_array.proofs.Steps.MadeClean.{none_listed}
 use Rattle.md_array.proofs.Steps.OneMember.{stored_there}
@@ -43,14 +43,14 @@ module _ (t : Moment) where
         sym (ap (λ b. cond b bytes []) inside) ∙ sym (ap (λ (x : Stored). x.content s) stored)
         ∙ holds k s low (in_sync_there v.disks v.array t.requests k m in_sync) off
 
-    on_disks : HasContent v.disks v.array content
+    on_disks : HoldsContent v.disks v.array content
     on_disks = record { held = held_there }
 
   module _ (sound : IsSoundAt t) (idle : IsIdle v.array) (resynced : v.array.resynced ≡ true) where
     quiet : (s : ℕ) → IsQuiet w s
     quiet s n p flies = absurd (none_listed v.array.requests.entries n (record { start = p.start; sectors = p.sectors }) idle.none (sound.in_flight n p flies))
 
-    pub has_content : (content : Content) → Holds (geometry_of v.array) content w → HasContent v.disks v.array content
+    pub has_content : (content : Content) → Holds (geometry_of v.array) content w → HoldsContent v.disks v.array content
     has_content content holds = on_disks content (λ k s low on off. holds.at_rest k s low on off (quiet s) (inl resynced))
 
     -- what one of them holds
@@ -61,7 +61,7 @@ module _ (t : Moment) where
     slot k on = let m = in_sync_is v.disks v.array t.requests k on in slice_get_within v.array.members k m.0 m.1.member
 
     -- they agree
-    pub some_content : (g : Geometry) → IsTracked g w → (content : Content) × HasContent v.disks v.array content
+    pub some_content : (g : Geometry) → IsTracked g w → (content : Content) × HoldsContent v.disks v.array content
     some_content g tracked = (
       some,
       on_disks some

@@ -9,7 +9,7 @@ use Rattle.md_assembly.specs.States.{is_in_sync, is_recorded, is_recovering, sta
 use Rattle.md_assembly.proofs.Indices.{got_within}
 use Rattle.md_bitmap.specs.Marks.{Bitmap}
 use Rattle.md_cert.specs.declared.slots.Slot.{Slot}
-use Rattle.md_kept_members.specs.TakingBack.{admitted_member, with_offset}
+use Rattle.md_kept_members.specs.TakingBack.{admitted_member, with_recovery_offset}
 use Rattle.md_kept_members.specs.Kept.{known_offset}
 use Rattle.md_kept_members.specs.View.{MemberView}
 use Rattle.md_members.specs.Areas.{data_area, super_area}
@@ -17,7 +17,7 @@ use Rattle.md_model.specs.Events.{Event}
 use Rattle.md_model.proofs.Cases.{is_below}
 use Rattle.md_passes.specs.Passes.{PassView, failed_chunks}
 use Rattle.md_super.specs.declared.superblock.Superblock.{Superblock}
-use Rattle.md_super.specs.Faults.{NoFault}
+use Rattle.md_super.specs.Faults.{NoSuperFault}
 use Rattle.md_super.specs.Format.{IsSuper}
 use Rattle.md_super.specs.Merge.{merged}
 use Rattle.md_state.specs.DiskWrites.{IsWritten}
@@ -37,13 +37,13 @@ use Rattle.md_array.proofs.Steps.SuperRecorded.{recorded_is_consistent}
 use Rattle.md_array.proofs.Worlds.Outside.{apart}
 use Rattle.md_array.proofs.Worlds.Shown.{IsReadAt, read_at}
 use Rattle.md_laws.specs.Left.{contents_of}
-use Rattle.md_laws.specs.StopsWithin.{MayAllBeLeft, MayBeLeft}
+use Rattle.md_laws.specs.CrashesWithin.{MayAllBeLeft, MayBeLeft}
 use Rattle.md_laws.proofs.Openings.Reopened.{super_on}
-use Rattle.md_laws.proofs.Stops.AtSteps.{new_has, none_new}
+use Rattle.md_laws.proofs.Crashes.AtSteps.{new_has, none_new}
 use Rattle.md_metadata.specs.Storing.{IsNoFailure, IsStoring, Stores}
 use Rattle.md_copy.specs.Listing.{ListsAll, WritesMetadata}
 use Rattle.md_copy.specs.Passing.{AreListedPasses}
-use Rattle.md_copy.specs.Rebuilding.{Begins}
+use Rattle.md_copy.specs.Rebuilding.{BeginsRebuild}
 use Rattle.md_copy.specs.Sources.{missing_chunks}
 use Rattle.md_copy.specs.Storing.{StoresFirst}
 use Rattle.md_copy.proofs.HeldRecorded.{low_start, out_of_sync, target_same}
@@ -54,15 +54,15 @@ use Rattle.md_copy.proofs.Readied.{admitted_is, ready_of, recovering_admitted}
 use Rattle.md_copy.proofs.ReadyStill.{ready_noted}
 use Rattle.md_copy.proofs.RebuildLeads.{begin_holds, same_beside}
 use Rattle.md_copy.proofs.StoringKeeps.{due_within}
-use Rattle.md_rebuild_laws.specs.LastOffsets.{FindsOffset, HasCome, HasOffset, HasOffsetBefore, OffsetStands, OpeningsFind, SaysOffset, StopsCopyingFind, StopsListingFind, StopsStoringFind, StopsUnlistedFind}
+use Rattle.md_rebuild_laws.specs.LastOffsets.{FindsOffset, HasCome, HasOffset, HasOffsetBefore, OffsetStands, OpeningsFind, SaysOffset, CrashesCopyingFind, CrashesListingFind, CrashesStoringFind, CrashesUnlistedFind}
 
 -- ---- what a superblock says
 -- it is read of these bytes alone
 says_same : (old new : List ℕ) (offset : ℕ) → block_on new ≡ block_on old → SaysOffset old offset → SaysOffset new offset
 says_same old new offset same says = record {
   super = says.super;
-  read = record { fields = subst (λ (b : List ℕ). IsSuper b says.super) (sym same) says.read.fields; sound = subst NoFault (sym same) says.read.sound };
-  each = λ v read. says.each v (record { fields = subst (λ (b : List ℕ). IsSuper b v) same read.fields; sound = subst NoFault same read.sound });
+  read = record { fields = subst (λ (b : List ℕ). IsSuper b says.super) (sym same) says.read.fields; sound = subst NoSuperFault (sym same) says.read.sound };
+  each = λ v read. says.each v (record { fields = subst (λ (b : List ℕ). IsSuper b v) same read.fields; sound = subst NoSuperFault same read.sound });
 }
 
 says_of : (m : MemberView) (d : Disk) → IsSuperOf m d → SaysOffset d.content m.superblock.recovery_offset
@@ -72,7 +72,7 @@ says_of m d r =
     let fields = subst (λ (b : List ℕ). IsSuper b v) (sym r.block) r.readable.fields in
     record {
       super = v;
-      read = record { fields = fields; sound = subst NoFault (sym r.block) r.readable.sound };
+      read = record { fields = fields; sound = subst NoSuperFault (sym r.block) r.readable.sound };
       each = λ w read. read.fields.recovery_offset ∙ sym fields.recovery_offset;
     }
 
@@ -164,7 +164,7 @@ module _ (target : ℕ) where
   first_has old new h s recovers m d at at_d honest = s.says m d at (h.recorded target m at (recovers_recorded m.state (recovers m at))) at_d honest
 
   -- ---- where passes may be made
-  begun_has : (old ready : MirrorView) (none : Bitmap) → Begins target old ready none → HasOffsetBefore target old → HasOffset target ready
+  begun_has : (old ready : MirrorView) (none : Bitmap) → BeginsRebuild target old ready none → HasOffsetBefore target old → HasOffset target ready
   begun_has old ready none b had = elim b.first [
     | inl stored ↦
         let recovers : (m : MemberView) → IsMember old.array target m → is_recovering m.state ≡ true = λ m at. ap (λ (z : MemberView). is_recovering z.state) (same_Some m b.member (sym at ∙ b.at)) ∙ stored.0 in
@@ -199,7 +199,7 @@ module _ (target : ℕ) where
       let d = got_within v.disks target (omega (arith, low_e, many)) in
       let was = sym (r.disks.tried.stays d.0 e d.1 at_e).honest ∙ honest in
       subst (λ (z : MemberView). SaysOffset e.content z.superblock.recovery_offset) (sym (target_same target copied v w sound r n at))
-      (says_of (with_offset r.offset r.may.member) e (written_of target v.array (with_offset r.offset r.may.member) r.may.member v w sound r.may.at r.readable r.disks d.0 e d.1 at_e was))
+      (says_of (with_recovery_offset r.offset r.may.member) e (written_of target v.array (with_recovery_offset r.offset r.may.member) r.may.member v w sound r.may.at r.readable r.disks d.0 e d.1 at_e was))
 
   same_has : (v w : MirrorView) → ((m : MemberView) → IsMember w.array target m → (n : MemberView) × IsMember v.array target n × (m.superblock.recovery_offset ≡ n.superblock.recovery_offset))
       → slice_get w.disks target ≡ slice_get v.disks target → HasOffset target v → HasOffset target w
@@ -235,7 +235,7 @@ module _ (target : ℕ) where
   come_has chunks copied old now h =
       chain_has h.passes (missing_chunks h.ready.array h.begins.now) chunks h.none copied h.ready now h.passed (begin_holds target old h.ready h.none h.begins) (begun_has old h.ready h.none h.begins h.had)
 
-  -- ---- what a stop leaves of its device
+  -- ---- what a crash leaves of its device
   -- none of its bytes was written but data
   block_filled : (v : MirrorView) → IsConsistent v → (m : MemberView) → IsMember v.array target m → (d : Disk) → slice_get v.disks target ≡ Some d → (left : List ℕ) → IsSameBesideMissing v.array m d.content left
       → block_on left ≡ block_on d.content
@@ -253,13 +253,13 @@ module _ (target : ℕ) where
 
   left_at : (v w : MirrorView) (left : List Disk) → MayAllBeLeft v.disks w.disks (contents_of left) → (d e stop : Disk) → slice_get v.disks target ≡ Some d → slice_get w.disks target ≡ Some e → slice_get left target ≡ Some stop
       → MayBeLeft d e stop.content
-  left_at v w left within d e stop at_d at_e at_stop = within.each target d e stop.content at_d at_e (got_in_map (λ (x : Disk). x.content) left target stop at_stop)
+  left_at v w left within d e stop at_d at_e at_crash = within.each target d e stop.content at_d at_e (got_in_map (λ (x : Disk). x.content) left target stop at_crash)
 
   -- a device that was not used
   unused_left : (v w : MirrorView) → slice_get w.disks target ≡ slice_get v.disks target → HasOffset target v → FindsOffset target v w
-  unused_left v w same has left within m d e at at_d at_e honest stop at_stop =
+  unused_left v w same has left within m d e at at_d at_e honest stop at_crash =
       let is : e ≡ d = same_Some e d (sym at_e ∙ same ∙ at_d) in
-      let may = subst (λ (x : Disk). MayBeLeft d x stop.content) is (left_at v w left within d e stop at_d at_e at_stop) in
+      let may = subst (λ (x : Disk). MayBeLeft d x stop.content) is (left_at v w left within d e stop at_d at_e at_crash) in
       let content : stop.content ≡ d.content = elim may [
         | inl as_was ↦ as_was
         | inr later ↦ absurd (none_new d.stops later.0 stop.content later.1)
@@ -270,20 +270,20 @@ module _ (target : ℕ) where
 pub offset_stands : OffsetStands
 offset_stands target chunks copied old now h = come_has target chunks copied old now h
 
-pub stops_copying_find : StopsCopyingFind
-stops_copying_find target chunks copied old now new h p is m at f left within n d e at_n at_d at_e honest stop at_stop =
+pub crashes_copying_find : CrashesCopyingFind
+crashes_copying_find target chunks copied old now new h p is m at f left within n d e at_n at_d at_e honest stop at_crash =
     let so = come_holds target chunks copied old now h in
     let block : (c : List ℕ) → IsSameBesideMissing now.array m d.content c → block_on c ≡ block_on d.content = block_filled target now so.ready.sound m at d at_d in
     let on = f.on_target d e at_d at_e in
     let same = same_beside target now copied chunks so p is m at new f d.content in
-    let block_left : block_on stop.content ≡ block_on d.content = elim (left_at target now new left within d e stop at_d at_e at_stop) [
+    let block_left : block_on stop.content ≡ block_on d.content = elim (left_at target now new left within d e stop at_d at_e at_crash) [
       | inl as_was ↦ ap block_on as_was
       | inr later ↦ block stop.content (same stop.content (new_has d.stops e.stops _ (on.stops honest) later.0 stop.content later.1))
     ] in
     says_same d.content stop.content n.superblock.recovery_offset block_left (come_has target chunks copied old now h n d at_n at_d honest)
 
-pub stops_storing_find : StopsStoringFind
-stops_storing_find target chunks copied after old now filled new h p makes r left whole m n d e stop at_m at_n at_d at_e honest at_stop =
+pub crashes_storing_find : CrashesStoringFind
+crashes_storing_find target chunks copied after old now filled new h p makes r left whole m n d e stop at_m at_n at_d at_e honest at_crash =
     let so = come_holds target chunks copied old now h in
     let f = makes.copies.filling in
     let low = slice_get_within filled.disks target d at_d in
@@ -296,18 +296,18 @@ stops_storing_find target chunks copied after old now filled new h p makes r lef
     let there = says_same b.0.content d.content m.superblock.recovery_offset block before in
     let then = checkpointed_has target after filled new makes.sound r n e at_n at_e ((r.disks.tried.stays d e at_d at_e).honest ∙ honest) in
     elim whole [
-      | inl old_super ↦ inl (says_same d.content stop.content m.superblock.recovery_offset (old_super d stop at_d at_stop) there)
-      | inr new_super ↦ inr (says_same e.content stop.content n.superblock.recovery_offset (new_super e stop at_e at_stop) then)
+      | inl old_super ↦ inl (says_same d.content stop.content m.superblock.recovery_offset (old_super d stop at_d at_crash) there)
+      | inr new_super ↦ inr (says_same e.content stop.content n.superblock.recovery_offset (new_super e stop at_e at_crash) then)
     ]
 
-pub stops_listing_find : StopsListingFind
-stops_listing_find target chunks copied after old now recorded new h p records lists =
+pub crashes_listing_find : CrashesListingFind
+crashes_listing_find target chunks copied after old now recorded new h p records lists =
     let so = come_holds target chunks copied old now h in
     let may = recorded_ready target chunks p copied after now recorded records so.ready so.held so.lacking in
     unused_left target recorded new (beside target recorded new may.recovering lists.writes) (checkpointed_has target after records.filled recorded records.makes.sound records.checkpoints)
 
-pub stops_unlisted_find : StopsUnlistedFind
-stops_unlisted_find target k chunks copied after old now recorded noted new h p records notes stops =
+pub crashes_unlisted_find : CrashesUnlistedFind
+crashes_unlisted_find target k chunks copied after old now recorded noted new h p records notes stops =
     let so = come_holds target chunks copied old now h in
     let may = recorded_ready target chunks p copied after now recorded records so.ready so.held so.lacking in
     let may_noted = ready_noted target p.failed recorded noted notes may in

@@ -3,7 +3,7 @@ pub mod Steady
 pub mod Unshifted
 pub mod RebuildSteps
 pub mod RebuiltHolds
-pub mod StoppedRebuilds
+pub mod RebuildCrashes
 pub mod HeldAtEnrol
 pub mod EnrolledRun
 pub mod SpoiledRebuilds

@@ -9,7 +9,7 @@ use Rattle.md_state.specs.DiskWrites.{AtDevice}
 use Rattle.md_state.specs.Requests.{AreInFlight}
 use Rattle.md_state.specs.View.{Disk, MirrorView, geometry_of}
 use Rattle.md_array.specs.Consistency.{IsConsistent}
-use Rattle.md_array.specs.Enrolling.{Enrols, HasContent}
+use Rattle.md_array.specs.Enrolling.{Enrols, HoldsContent}
 use Rattle.md_array.specs.Enrolments.{IsHeldBy, enrol_event, prepared}
 use Rattle.md_array.specs.InTurn.{AllLeftWhole, AllOf, InTurn, Requests}
 use Rattle.md_array.specs.Worlds.{block_on, lists_of, none_in_flight, world_of}
@@ -18,7 +18,7 @@ use Rattle.md_array.proofs.Steps.Turns.{all_on, all_such}
 use Rattle.md_laws.specs.Left.{contents_of}
 use Rattle.md_laws.specs.Lives.{MirrorLifeWith}
 use Rattle.md_laws.specs.Runs.{HasRested, IsStart, MirrorRun, MirrorRunWith, Moment, log_unknown_after, opened_as, then_as}
-use Rattle.md_laws.specs.StopsWithin.{MayAllBeLeft}
+use Rattle.md_laws.specs.CrashesWithin.{MayAllBeLeft}
 use Rattle.md_laws.proofs.Runs.CallRuns.{call_is_run}
 use Rattle.md_laws.proofs.Runs.ContentRuns.{without_content}
 use Rattle.md_laws.proofs.Runs.MirrorContents.{life_held_at}
@@ -34,14 +34,14 @@ use Rattle.md_copy.proofs.PassesTold.{filled_ready}
 use Rattle.md_copy.proofs.RebuildLeads.{before_of, begin_holds, storing_before}
 use Rattle.md_rebuild_laws.specs.RebuildRuns.{LogsUnshifted, RebuildIsARun, RebuildRunsOn, RunsTo}
 use Rattle.md_rebuild_laws.specs.RebuiltInLife.{HeldWhatItHad}
-use Rattle.md_laws.specs.StoppedCalls.{StopsIn}
-use Rattle.md_rebuild_laws.specs.StoppedRebuilds.{HasFilled, IsStopEnrolled, StopsAnyhow, StopsEnrolled, StopsInRebuild, StopsSettling}
+use Rattle.md_laws.specs.CallCrashes.{CrashesIn}
+use Rattle.md_rebuild_laws.specs.RebuildCrashes.{HasFilled, IsCrashEnrolled, CrashesAnyhow, CrashesEnrolled, CrashesInRebuild, CrashesStoringRecords}
 use Rattle.md_rebuild_laws.proofs.EnrolledRun.{at_end, enrolled_run_with}
 use Rattle.md_rebuild_laws.proofs.HeldAtEnrol.{is_held}
 use Rattle.md_rebuild_laws.proofs.HeldOnDisks.{has_content}
 use Rattle.md_rebuild_laws.proofs.SpoiledRebuilds.{begun_anyhow, enrolling_anyhow, made_anyhow}
 use Rattle.md_rebuild_laws.proofs.Steady.{Comes, IsSteadyAt, end, end_steady, run_steady, steady_with}
-use Rattle.md_rebuild_laws.proofs.StoppedRebuilds.{all_filled, begun_stop, enrolling_stop, filled_unspoiled, in_enrolled, made_stop, on_members, stops_in}
+use Rattle.md_rebuild_laws.proofs.RebuildCrashes.{all_filled, begun_crash, enrolling_crash, filled_unspoiled, in_enrolled, made_crash, on_members, crashes_in}
 
 -- ---- the content
 -- along these events it stays
@@ -118,9 +118,9 @@ module _ (target : ℕ) (kept orphans : Bitmap) (t : Moment) (at : IsSteadyAt t)
   pub rebuild_run : RunsTo (IsOfRebuild target) t content new
   rebuild_run = record { events = events; steps = steps; at = last; run = run_with; there = refl }
 
-  -- ---- a stop right after it
-  pub enrolled_stop : (left : List Disk) → MayAllBeLeft filled.disks new.disks (contents_of left) → AtDevice target new.disks left (λ d e. block_on e.content ≡ block_on d.content) → IsStopEnrolled target t content left
-  enrolled_stop left within super = record {
+  -- ---- a crash right after it
+  pub enrolled_crash : (left : List Disk) → MayAllBeLeft filled.disks new.disks (contents_of left) → AtDevice target new.disks left (λ d e. block_on e.content ≡ block_on d.content) → IsCrashEnrolled target t content left
+  enrolled_crash left within super = record {
     after = record {
       events = events;
       steps = steps;
@@ -156,22 +156,22 @@ module _ (target : ℕ) (kept orphans : Bitmap) (t : Moment) (at : IsSteadyAt t)
   with_them : (es : List Event) → AllOf (IsBeforeEnrol target) es → (x : Moment) → MirrorRun last es x → MirrorRunWith t content (events ++ es) x content
   with_them es all x run = run_with_then events es t last x content content content run_with (stays_along target es last content x all run)
 
-  module _ (settled : MirrorView) (g : GoesOn only_others only_others IsStoring new settled) (in_flight : AreInFlight new.array t.requests) where
+  module _ (records_stored : MirrorView) (g : GoesOn only_others only_others IsStoring new records_stored) (in_flight : AreInFlight new.array t.requests) where
     abbrev Then : MirrorView → Requests → Type 0
-    Then m q = (m ≡ settled) × (q ≡ t.requests)
+    Then m q = (m ≡ records_stored) × (q ≡ t.requests)
 
     abbrev turn : InTurn None new t.requests g.events Then
     turn = g.leads None t.requests in_flight
 
-    pub settled_run : AllLeftWhole g.events None new t.requests Then turn → RunsTo (IsOfRebuild target) t content settled
+    pub settled_run : AllLeftWhole g.events None new t.requests Then turn → RunsTo (IsOfRebuild target) t content records_stored
     settled_run whole =
-        let x = call_is_run g.events None last settled t.requests turn then_steady.sound.honest whole in
+        let x = call_is_run g.events None last records_stored t.requests turn then_steady.sound.honest whole in
         let others = all_such IsStoring (IsBeforeEnrol target) (storing_before target) g.events g.steps in
         record { events = events ++ g.events; steps = after_them g.events others; at = x.0; run = with_them g.events others x.0 x.1; there = x.2.0 }
 
-    pub settling_stop : AllLeftWhole g.events None new t.requests Then turn → (left : List Disk) → StopsIn g.events None new t.requests Then turn left → IsStopEnrolled target t content left
-    settling_stop whole left stop =
-        let x = (stops_in IsStoring on_members g.events None last Then turn g.steps then_steady.sound whole left stop).after in
+    pub settling_crash : AllLeftWhole g.events None new t.requests Then turn → (left : List Disk) → CrashesIn g.events None new t.requests Then turn left → IsCrashEnrolled target t content left
+    settling_crash whole left stop =
+        let x = (crashes_in IsStoring on_members g.events None last Then turn g.steps then_steady.sound whole left stop).after in
         let others = all_such IsStoring (IsBeforeEnrol target) (storing_before target) x.events x.steps in
         let all = with_them x.events others x.at x.run in
         record {
@@ -196,7 +196,7 @@ module _ (before : List Disk) (m : MirrorView) (a : Content) (start : IsStart be
   abbrev c : Comes (IsBeforeEnrol target) t filled
   c = all_filled target kept orphans t (steady_with before m a start holds es rest final t b life) filled h
 
-  has_filled : HasContent filled.disks filled.array b
+  has_filled : HoldsContent filled.disks filled.array b
   has_filled =
       let more = life_on m a es rest final t b life c.events (end c) b (stays_along target c.events t b (end c) c.steps c.run) in
       let there = life_held_at before m a start holds more.0 more.1 final (end c) b more.2 in
@@ -227,45 +227,45 @@ rebuild_is_a_run before m a start holds es rest final t b life target told new h
     rebuild_run target h.rebuilds.kept h.rebuilds.orphans t (steady_with before m a start holds es rest final t b life) by.filled f by.enrolled by.enrols by.sound b
     (held_then before m a start holds es rest final t b life target h.rebuilds.kept h.rebuilds.orphans by.filled by.enrolled f by.enrols had)
 
-pub stops_enrolled : StopsEnrolled
-stops_enrolled before m a start holds es rest final t b life target kept orphans filled new h r consistent had left within super =
-    enrolled_stop target kept orphans t (steady_with before m a start holds es rest final t b life) filled h new r consistent b
+pub crashes_enrolled : CrashesEnrolled
+crashes_enrolled before m a start holds es rest final t b life target kept orphans filled new h r consistent had left within super =
+    enrolled_crash target kept orphans t (steady_with before m a start holds es rest final t b life) filled h new r consistent b
     (held_then before m a start holds es rest final t b life target kept orphans filled new h r had) left within super
 
-pub stops_settling : StopsSettling
-stops_settling before m a start holds es rest final t b life target told new h unshifted had settled g in_flight whole left stop =
+pub crashes_storing_records : CrashesStoringRecords
+crashes_storing_records before m a start holds es rest final t b life target told new h unshifted had records_stored g in_flight whole left stop =
     let by = h.rebuilds.by in
     let f = filled_by target told t.mirror new h unshifted in
-    settling_stop target h.rebuilds.kept h.rebuilds.orphans t (steady_with before m a start holds es rest final t b life) by.filled f by.enrolled by.enrols by.sound b
-    (held_then before m a start holds es rest final t b life target h.rebuilds.kept h.rebuilds.orphans by.filled by.enrolled f by.enrols had) settled g in_flight whole left stop
+    settling_crash target h.rebuilds.kept h.rebuilds.orphans t (steady_with before m a start holds es rest final t b life) by.filled f by.enrolled by.enrols by.sound b
+    (held_then before m a start holds es rest final t b life target h.rebuilds.kept h.rebuilds.orphans by.filled by.enrolled f by.enrols had) records_stored g in_flight whole left stop
 
 pub rebuild_runs_on : RebuildRunsOn
-rebuild_runs_on before m a start holds es rest final t b life target told new h unshifted had settled g in_flight whole =
+rebuild_runs_on before m a start holds es rest final t b life target told new h unshifted had records_stored g in_flight whole =
     let by = h.rebuilds.by in
     let f = filled_by target told t.mirror new h unshifted in
     settled_run target h.rebuilds.kept h.rebuilds.orphans t (steady_with before m a start holds es rest final t b life) by.filled f by.enrolled by.enrols by.sound b
-    (held_then before m a start holds es rest final t b life target h.rebuilds.kept h.rebuilds.orphans by.filled by.enrolled f by.enrols had) settled g in_flight whole
+    (held_then before m a start holds es rest final t b life target h.rebuilds.kept h.rebuilds.orphans by.filled by.enrolled f by.enrols had) records_stored g in_flight whole
 
 -- ---- within all of it
-pub stops_in_rebuild : StopsInRebuild
-stops_in_rebuild before m a start holds es rest final t b life target told new h unshifted had in_flight left stop =
+pub crashes_in_rebuild : CrashesInRebuild
+crashes_in_rebuild before m a start holds es rest final t b life target told new h unshifted had in_flight left stop =
     let at = steady_with before m a start holds es rest final t b life in
     let by = h.rebuilds.by in
     let kept = h.rebuilds.kept in
     let orphans = h.rebuilds.orphans in
     let f = filled_by target told t.mirror new h unshifted in
     elim stop [
-      | inl first ↦ inl (begun_stop target kept orphans t at by.filled f in_flight left first)
-      | inr (inl passes) ↦ inl (made_stop target kept orphans t at by.filled f left passes)
+      | inl first ↦ inl (begun_crash target kept orphans t at by.filled f in_flight left first)
+      | inr (inl passes) ↦ inl (made_crash target kept orphans t at by.filled f left passes)
       | inr (inr (inl enrols)) ↦ elim enrols.1 [
-        | inl as_before ↦ inl (enrolling_stop target kept orphans t at by.filled f by.enrolled by.enrols left enrols.0 as_before)
-        | inr as_after ↦ inr (stops_enrolled before m a start holds es rest final t b life target kept orphans by.filled by.enrolled f by.enrols by.sound had left enrols.0 as_after)
+        | inl as_before ↦ inl (enrolling_crash target kept orphans t at by.filled f by.enrolled by.enrols left enrols.0 as_before)
+        | inr as_after ↦ inr (crashes_enrolled before m a start holds es rest final t b life target kept orphans by.filled by.enrolled f by.enrols by.sound had left enrols.0 as_after)
       ]
-      | inr (inr (inr settles)) ↦ inr (stops_settling before m a start holds es rest final t b life target told new h unshifted had settles.0 settles.1 settles.2 settles.3 left settles.4)
+      | inr (inr (inr stores_until_done)) ↦ inr (crashes_storing_records before m a start holds es rest final t b life target told new h unshifted had stores_until_done.0 stores_until_done.1 stores_until_done.2 stores_until_done.3 left stores_until_done.4)
     ]
 
-pub stops_anyhow : StopsAnyhow
-stops_anyhow before m a start holds es rest final t b life target told new h unshifted had in_flight left stop =
+pub crashes_anyhow : CrashesAnyhow
+crashes_anyhow before m a start holds es rest final t b life target told new h unshifted had in_flight left stop =
     let at = steady_with before m a start holds es rest final t b life in
     let by = h.rebuilds.by in
     let kept = h.rebuilds.kept in
@@ -275,5 +275,5 @@ stops_anyhow before m a start holds es rest final t b life target told new h uns
       | inl first ↦ inl (begun_anyhow target kept orphans t at by.filled f in_flight left first)
       | inr (inl passes) ↦ inl (made_anyhow target kept orphans t at by.filled f left passes)
       | inr (inr (inl enrols)) ↦ inl (enrolling_anyhow target kept orphans t at by.filled f by.enrolled by.enrols left enrols.0)
-      | inr (inr (inr settles)) ↦ inr (stops_settling before m a start holds es rest final t b life target told new h unshifted had settles.0 settles.1 settles.2 settles.3 left settles.4)
+      | inr (inr (inr stores_until_done)) ↦ inr (crashes_storing_records before m a start holds es rest final t b life target told new h unshifted had stores_until_done.0 stores_until_done.1 stores_until_done.2 stores_until_done.3 left stores_until_done.4)
     ]

@@ -20,7 +20,7 @@ use Rattle.md_model.proofs.Cases.{by_test}
 use Rattle.md_state.specs.Missing.{is_missing}
 use Rattle.md_state.specs.View.{ArrayView, Disk, MirrorView, geometry_of}
 use Rattle.md_array.specs.Consistency.{IsConsistent}
-use Rattle.md_array.specs.Enrolling.{HasContent}
+use Rattle.md_array.specs.Enrolling.{HoldsContent}
 use Rattle.md_array.proofs.Worlds.PartsApart.{ends_below}
 use Rattle.md_array.specs.Lending.{IsBesideChunk}
 use Rattle.md_array.specs.Worlds.{AreHonest, none_in_flight, world_of}
@@ -29,7 +29,7 @@ use Rattle.md_laws.specs.Lives.{MirrorLifeWith}
 use Rattle.md_laws.specs.Runs.{IsStart, Moment}
 use Rattle.md_laws.proofs.Runs.MirrorContents.{IsHeldAt, life_held_at}
 use Rattle.md_copy.specs.declared.rebuilt.Rebuilt.{Rebuilt}
-use Rattle.md_copy.specs.Rebuilding.{Begins, Rebuilds}
+use Rattle.md_copy.specs.Rebuilding.{BeginsRebuild, Rebuilds}
 use Rattle.md_copy.specs.Rebuilt.{HasRebuilt, IsBesideCopied, IsRebuilt}
 use Rattle.md_copy.proofs.RebuiltByCall.{has_rebuilt}
 use Rattle.md_rebuild_laws.specs.RebuiltInLife.{CopiesContent, HeldWhatItHad, RebuildsContent}
@@ -62,7 +62,7 @@ beside_other a offset b c s inside other =
     ]
 
 module _ (target : ℕ) (copied orphans : Bitmap) (old last : MirrorView) (sound : IsConsistent old) (honest : AreHonest old.disks) (r : IsRebuilt target copied orphans old last)
-    (content : Content) (has : HasContent old.disks old.array content) where
+    (content : Content) (has : HoldsContent old.disks old.array content) where
   abbrev a : ArrayView
   a = old.array
 
@@ -130,10 +130,10 @@ module _ (target : ℕ) (copied orphans : Bitmap) (old last : MirrorView) (sound
 
 -- ---- at a moment of a life
 -- where a rebuild may begin
-pub held_at_begin : {g : Geometry} {opened : Super} {b : Content} (t : Moment) → IsHeldAt g opened t b → (target : ℕ) {ready : MirrorView} {none : Bitmap} → Begins target t.mirror ready none
-    → HasContent t.mirror.disks t.mirror.array b
+pub held_at_begin : {g : Geometry} {opened : Super} {b : Content} (t : Moment) → IsHeldAt g opened t b → (target : ℕ) {ready : MirrorView} {none : Bitmap} → BeginsRebuild target t.mirror ready none
+    → HoldsContent t.mirror.disks t.mirror.array b
 held_at_begin {g} {opened} {b} t at target {ready} {none} begins =
-    has_content t at.sound begins.may.idle begins.may.settled.resynced b (subst (λ g. Holds g b (world_of t.mirror t.requests)) (sym at.geometry) at.held.holds)
+    has_content t at.sound begins.may.idle begins.may.records_stored.resynced b (subst (λ g. Holds g b (world_of t.mirror t.requests)) (sym at.geometry) at.held.holds)
 
 module _ (before : List Disk) (m : MirrorView) (a : Content) (start : IsStart before m) (holds : Holds (geometry_of m.array) a (world_of m none_in_flight)) (es : List Event) (rest : List (List Event)) (final : MirrorView)
     (last : Moment) (b : Content) (life : MirrorLifeWith m a es rest final last b) (target : ℕ) (told : Rebuilt) (new : MirrorView) (h : Rebuilds target told last.mirror new) where
@@ -146,7 +146,7 @@ module _ (before : List Disk) (m : MirrorView) (a : Content) (start : IsStart be
   honest_there : AreHonest last.mirror.disks
   honest_there = (life_held_at before m a start holds es rest final last b life).sound.honest
 
-  has_it : HasContent last.mirror.disks last.mirror.array b
+  has_it : HoldsContent last.mirror.disks last.mirror.array b
   has_it = held_at_begin last (life_held_at before m a start holds es rest final last b life) target h.begins
 
   pub copies_there : (r : HasRebuilt target told last.mirror new) × ((e : Disk) → slice_get new.disks target ≡ Some e → (c s : ℕ) → c < last.mirror.array.marks.chunks → is_set r.copied.bytes c ≡ true

@@ -6,7 +6,7 @@ use Rattle.md_bitmap.specs.Marks.{Bitmap}
 use Rattle.md_cert.specs.declared.slots.Slot.{Slot}
 use Rattle.md_kept_members.specs.View.{MemberView}
 use Rattle.md_passes.specs.Listed.{IsArrayPass}
-use Rattle.md_passes.specs.Passes.{PassView, slots_of}
+use Rattle.md_passes.specs.Passes.{PassView, slots_of_pass}
 use Rattle.md_state.specs.Members.{IsMember}
 use Rattle.md_state.specs.View.{ArrayView, MirrorView}
 use Rattle.md_array.proofs.Steps.Turns.{all_such}
@@ -14,7 +14,7 @@ use Rattle.md_laws.specs.Runs.{Moment}
 use Rattle.md_copy.specs.Filling.{IsFilling}
 use Rattle.md_copy.specs.Listing.{IsStoringList, NotesLists}
 use Rattle.md_copy.specs.Passing.{AreListedPasses, CopiesAll, RecordsPass}
-use Rattle.md_copy.specs.Rebuilding.{Begins, LacksMemory, LacksRoom}
+use Rattle.md_copy.specs.Rebuilding.{BeginsRebuild, LacksMemoryToRebuild, LacksRoom}
 use Rattle.md_copy.specs.Rebuilt.{failed_of}
 use Rattle.md_copy.specs.Sources.{missing_chunks}
 use Rattle.md_copy.proofs.PassesTold.{HoldsSoFar, chain_holds}
@@ -23,12 +23,12 @@ use Rattle.md_copy.proofs.PassRecorded.{recorded_ready}
 use Rattle.md_copy.proofs.ReadyStill.{ready_noted}
 use Rattle.md_copy.proofs.RebuildLeads.{begin_holds, filled, listing_before}
 use Rattle.md_rebuild_laws.specs.RebuildRuns.{LogsUnshifted}
-use Rattle.md_rebuild_laws.specs.RefusedRebuilds.{HasLost, HasStopped, HasUnshifted, LostIsARun, RefusedIsARun, StopsLeaving, StopsLeavingAnyhow, StopsLeavingLost, StopsLeavingLostAnyhow, StopsUnleft, StopsUnleftLost, passes_then}
+use Rattle.md_rebuild_laws.specs.RefusedRebuilds.{HasLost, HasGivenUp, HasUnshifted, LostIsARun, RefusedIsARun, CrashesLeaving, CrashesLeavingAnyhow, CrashesLeavingLost, CrashesLeavingLostAnyhow, CrashesUnleft, CrashesUnleftLost, passes_then}
 use Rattle.md_rebuild_laws.proofs.RebuildRun.{stays_along}
 use Rattle.md_rebuild_laws.proofs.RebuildSteps.{Before, IfSome, all_come, fill_comes, noted_comes, passes_come, ready_comes, recorded_comes, some_map, unshifted_if}
 use Rattle.md_rebuild_laws.proofs.SpoiledRebuilds.{later_anyhow, offset_anyhow}
 use Rattle.md_rebuild_laws.proofs.Steady.{Comes, IsSteadyAt, comes_by, comes_then, end, end_steady, steady_at, steady_with}
-use Rattle.md_rebuild_laws.proofs.StoppedRebuilds.{later_stop, passed, passed_holds, recording_stop, unrecorded_offset_stop}
+use Rattle.md_rebuild_laws.proofs.RebuildCrashes.{later_crash, passed, passed_holds, recording_crash, unrecorded_offset_crash}
 use Rattle.md_rebuild_laws.proofs.Unshifted.{Unshifted, unshifted_ready}
 
 -- a run leads there, and the target is recovering then
@@ -53,7 +53,7 @@ module _ (target : ℕ) (t : Moment) (at : IsSteadyAt t) (m : MemberView) (none 
     ends_now stopped same = subst (ComesReady target t) (sym same) (record { comes = until_now; recovers = so_now.ready.recovering })
 
     -- within one
-    ends_filling : (p : PassView) → IsArrayPass now.array chunks p → (n : MemberView) → IsMember now.array target n → (stopped : MirrorView) → IsFilling target n (slots_of p) now stopped → ComesReady target t stopped
+    ends_filling : (p : PassView) → IsArrayPass now.array chunks p → (n : MemberView) → IsMember now.array target n → (stopped : MirrorView) → IsFilling target n (slots_of_pass p) now stopped → ComesReady target t stopped
     ends_filling p is n there stopped f = record {
       comes = comes_then until_now (fill_comes target (end until_now) (end_steady until_now at) stopped (filled target now copied chunks so_now p is n there stopped f));
       recovers = λ x at_x. so_now.ready.recovering x (ap (λ (a : ArrayView). slice_get a.members target) (sym f.array) ∙ at_x);
@@ -77,7 +77,7 @@ module _ (target : ℕ) (t : Moment) (at : IsSteadyAt t) (m : MemberView) (none 
 
 -- ---- from the moment of the call
 -- what is asked of logs, once a pass may be planned
-module _ (target : ℕ) (old ready : MirrorView) (none : Bitmap) (b : Begins target old ready none) where
+module _ (target : ℕ) (old ready : MirrorView) (none : Bitmap) (b : BeginsRebuild target old ready none) where
   between_unshifted : (passes : List PassView) (chunks : List ℕ) (copied : Bitmap) (now : MirrorView) → AreListedPasses target passes (missing_chunks ready.array b.now) chunks none copied ready now
       → LogsUnshifted (failed_of passes) old → IfSome passes (Unshifted ready.array)
   between_unshifted passes chunks copied now h un =
@@ -89,7 +89,7 @@ module _ (target : ℕ) (old ready : MirrorView) (none : Bitmap) (b : Begins tar
       some_map h.listed (unshifted_ready target b.member old ready b.first)
       (unshifted_if target h.listed (h.last ∷ []) (missing_chunks ready.array b.now) h.left none h.mid ready h.now old h.passed (λ some. un (λ none_failed. some (ap failed_of (sym h.passes_are) ∙ none_failed))))
 
-module _ (target : ℕ) (t : Moment) (at : IsSteadyAt t) (copied : Bitmap) (stopped ready : MirrorView) (none : Bitmap) (b : Begins target t.mirror ready none) where
+module _ (target : ℕ) (t : Moment) (at : IsSteadyAt t) (copied : Bitmap) (stopped ready : MirrorView) (none : Bitmap) (b : BeginsRebuild target t.mirror ready none) where
   begun : Comes (Before target) t ready
   begun = ready_comes target t at b.member ready b.first
 
@@ -100,7 +100,7 @@ module _ (target : ℕ) (t : Moment) (at : IsSteadyAt t) (copied : Bitmap) (stop
   abbrev At : Type 0
   At = ComesReady target (end begun) stopped
 
-  ends_so : (why : LacksMemory target b.now none copied ready stopped ⊎ ((k : ℕ) × LacksRoom k target b.now none copied ready stopped)) → LogsUnshifted (failed_of (passes_then why)) t.mirror → At
+  ends_so : (why : LacksMemoryToRebuild target b.now none copied ready stopped ⊎ ((k : ℕ) × LacksRoom k target b.now none copied ready stopped)) → LogsUnshifted (failed_of (passes_then why)) t.mirror → At
   ends_so (inl (inl e)) un = ends_now target (end begun) (end_steady begun at) b.now none so e.passes e.left e.copied e.now e.passed (between_unshifted target t.mirror ready none b e.passes e.left e.copied e.now e.passed un) stopped e.why.1
   ends_so (inl (inr (inl e))) un =
       ends_filling target (end begun) (end_steady begun at) b.now none so e.passes e.left e.copied e.now e.passed (between_unshifted target t.mirror ready none b e.passes e.left e.copied e.now e.passed un) e.why.pass e.why.is e.why.member e.why.at
@@ -118,7 +118,7 @@ module _ (target : ℕ) (t : Moment) (at : IsSteadyAt t) (copied : Bitmap) (stop
       subst (ComesReady target (end begun)) (sym f.why.unchanged)
       (ends_copied target (end begun) (end_steady begun at) b.now none so f.passes f.copied f.filled f.fills.copies (all_unshifted target t.mirror ready none b f.passes f.copied f.filled f.fills.copies un))
 
-stopped_so : (target : ℕ) (t : Moment) → IsSteadyAt t → (copied : Bitmap) (stopped : MirrorView) (h : HasStopped target copied t.mirror stopped) → HasUnshifted h → ComesReady target t stopped
+stopped_so : (target : ℕ) (t : Moment) → IsSteadyAt t → (copied : Bitmap) (stopped : MirrorView) (h : HasGivenUp target copied t.mirror stopped) → HasUnshifted h → ComesReady target t stopped
 stopped_so target t at copied stopped h un =
     let c = begun target t at copied stopped h.ready h.none h.begins in
     let x = ends_so target t at copied stopped h.ready h.none h.begins h.why un in
@@ -139,20 +139,20 @@ refused_is_a_run before m a start holds es rest final t b life target copied sto
     let c = (stopped_so target t (steady_with before m a start holds es rest final t b life) copied stopped h un).comes in
     record { events = c.events; steps = c.steps; at = end c; run = stays_along target c.events t b (end c) c.steps c.run; there = refl }
 
-pub stops_leaving : StopsLeaving
-stops_leaving before m start es rest final t life target copied stopped new h un r left within super =
+pub crashes_leaving : CrashesLeaving
+crashes_leaving before m start es rest final t life target copied stopped new h un r left within super =
     let at = steady_at before m start es rest final t life in
     let x = stopped_so target t at copied stopped h un in
-    later_stop target t x.comes left (recording_stop target (end x.comes) (end_steady x.comes at) x.recovers copied new r left within super)
+    later_crash target t x.comes left (recording_crash target (end x.comes) (end_steady x.comes at) x.recovers copied new r left within super)
 
-pub stops_unleft : StopsUnleft
-stops_unleft before m start es rest final t life target copied stopped new h un f left within same =
+pub crashes_unleft : CrashesUnleft
+crashes_unleft before m start es rest final t life target copied stopped new h un f left within same =
     let at = steady_at before m start es rest final t life in
     let x = stopped_so target t at copied stopped h un in
-    later_stop target t x.comes left (unrecorded_offset_stop target (end x.comes) (end_steady x.comes at) x.recovers copied new f left within same)
+    later_crash target t x.comes left (unrecorded_offset_crash target (end x.comes) (end_steady x.comes at) x.recovers copied new f left within same)
 
-pub stops_leaving_anyhow : StopsLeavingAnyhow
-stops_leaving_anyhow before m start es rest final t life target copied stopped new h un call left within =
+pub crashes_leaving_anyhow : CrashesLeavingAnyhow
+crashes_leaving_anyhow before m start es rest final t life target copied stopped new h un call left within =
     let at = steady_at before m start es rest final t life in
     let x = stopped_so target t at copied stopped h un in
     later_anyhow target t x.comes left (offset_anyhow target (end x.comes) (end_steady x.comes at) x.recovers copied new call left within)
@@ -162,20 +162,20 @@ lost_is_a_run before m a start holds es rest final t b life target last h =
     let c = lost_comes target t (steady_with before m a start holds es rest final t b life) last h in
     record { events = c.events; steps = c.steps; at = end c; run = stays_along target c.events t b (end c) c.steps c.run; there = refl }
 
-pub stops_leaving_lost : StopsLeavingLost
-stops_leaving_lost before m start es rest final t life target nothing last new h r left within super =
+pub crashes_leaving_lost : CrashesLeavingLost
+crashes_leaving_lost before m start es rest final t life target nothing last new h r left within super =
     let at = steady_at before m start es rest final t life in
     let c = lost_comes target t at last h in
-    later_stop target t c left (recording_stop target (end c) (end_steady c at) h.recovers nothing new r left within super)
+    later_crash target t c left (recording_crash target (end c) (end_steady c at) h.recovers nothing new r left within super)
 
-pub stops_unleft_lost : StopsUnleftLost
-stops_unleft_lost before m start es rest final t life target nothing last new h f left within same =
+pub crashes_unleft_lost : CrashesUnleftLost
+crashes_unleft_lost before m start es rest final t life target nothing last new h f left within same =
     let at = steady_at before m start es rest final t life in
     let c = lost_comes target t at last h in
-    later_stop target t c left (unrecorded_offset_stop target (end c) (end_steady c at) h.recovers nothing new f left within same)
+    later_crash target t c left (unrecorded_offset_crash target (end c) (end_steady c at) h.recovers nothing new f left within same)
 
-pub stops_leaving_lost_anyhow : StopsLeavingLostAnyhow
-stops_leaving_lost_anyhow before m start es rest final t life target nothing last new h call left within =
+pub crashes_leaving_lost_anyhow : CrashesLeavingLostAnyhow
+crashes_leaving_lost_anyhow before m start es rest final t life target nothing last new h call left within =
     let at = steady_at before m start es rest final t life in
     let c = lost_comes target t at last h in
     later_anyhow target t c left (offset_anyhow target (end c) (end_steady c at) h.recovers nothing new call left within)

@@ -8,7 +8,7 @@ use Rattle.md_model.specs.Sectors.{Geometry}
 use Rattle.md_model.proofs.Steps.Keeps.{IsKept, kept_run}
 use Rattle.md_state.specs.MakingClean.{IsIdle}
 use Rattle.md_state.specs.View.{Disk, MirrorView, geometry_of}
-use Rattle.md_array.specs.Enrolling.{HasContent}
+use Rattle.md_array.specs.Enrolling.{HoldsContent}
 use Rattle.md_array.specs.InTurn.{AllLeftWhole, AllOf, Leads}
 use Rattle.md_array.specs.Worlds.{none_in_flight, super_of, world_of}
 use Rattle.md_array.proofs.Steps.Turns.{all_on, all_such}
@@ -65,7 +65,7 @@ run_steady es t last r at =
     }
 
 -- there the members in sync hold some content, where nothing is in flight and the array is resynced
-pub holds_some : (t : Moment) → IsSteadyAt t → IsIdle t.mirror.array → t.mirror.array.resynced ≡ true → (content : Content) × HasContent t.mirror.disks t.mirror.array content
+pub holds_some : (t : Moment) → IsSteadyAt t → IsIdle t.mirror.array → t.mirror.array.resynced ≡ true → (content : Content) × HoldsContent t.mirror.disks t.mirror.array content
 holds_some t at idle resynced = some_content t at.sound idle resynced (geometry_of t.mirror.array) at.kept.tracked
 
 -- ---- a run to a mirror

@@ -6,7 +6,7 @@ use Rattle.md_assembly.specs.States.{is_in_sync}
 use Rattle.md_bitmap.specs.Marks.{Bitmap}
 use Rattle.md_cert.specs.declared.slots.Slot.{Slot}
 use Rattle.md_kept_members.specs.Members.{made_due}
-use Rattle.md_kept_members.specs.TakingBack.{admitted_member, with_offset}
+use Rattle.md_kept_members.specs.TakingBack.{admitted_member, with_recovery_offset}
 use Rattle.md_kept_members.specs.View.{MemberView}
 use Rattle.md_model.specs.Events.{Event}
 use Rattle.md_state.specs.Members.{IsInSync}
@@ -60,7 +60,7 @@ unshifted_ready target m old ready (inr h) un =
 -- ---- in a pass
 pub unshifted_recorded : (target : ℕ) (copied : Bitmap) (old new : MirrorView) → Checkpoints target copied old new → Unshifted old.array → Unshifted new.array
 unshifted_recorded target copied old new r un =
-    let n : MemberView = record (with_offset r.offset r.may.member) { due = false } in
+    let n : MemberView = record (with_recovery_offset r.offset r.may.member) { due = false } in
     set_unshifted old.array new.array target n (ap (λ (a : ArrayView). a.members) r.array) un
     (λ is. absurd (both_ways (is_in_sync n.state) (out_of_sync r.may.member.state r.may.recovering) is))
 

@@ -1,10 +1,10 @@
--- Within a pass of a rebuild a stop finds the offset that was stored last: it stands on the target's device as it is kept in memory.
+-- Within a pass of a rebuild a crash finds the offset that was stored last: it stands on the target's device as it is kept in memory.
 use Rattle.std.specs.Prelude.{◌≡◌, ◌⊎◌, ℕ, ◌<◌, true, false, List, slice_get, Some}
 use Rattle.md_assembly.specs.States.{is_recovering}
 use Rattle.md_bitmap.specs.Marks.{Bitmap}
 use Rattle.md_kept_members.specs.View.{MemberView}
 use Rattle.md_passes.specs.Listed.{IsArrayPass}
-use Rattle.md_passes.specs.Passes.{PassView, slots_of}
+use Rattle.md_passes.specs.Passes.{PassView, slots_of_pass}
 use Rattle.md_super.specs.declared.superblock.Superblock.{Superblock}
 use Rattle.md_state.specs.Members.{IsMember}
 use Rattle.md_state.specs.View.{ArrayView, Disk, MirrorView}
@@ -13,13 +13,13 @@ use Rattle.md_array.specs.Opening.{IsArrayOf}
 use Rattle.md_array.specs.ReadAsKept.{IsSuperOn}
 use Rattle.md_array.specs.Worlds.{AreHonest}
 use Rattle.md_laws.specs.Left.{contents_of}
-use Rattle.md_laws.specs.StopsWithin.{MayAllBeLeft}
+use Rattle.md_laws.specs.CrashesWithin.{MayAllBeLeft}
 use Rattle.md_copy.specs.Filling.{IsFilling}
-use Rattle.md_copy.specs.Listing.{ListsAll, NotesLists, StopsAtList}
+use Rattle.md_copy.specs.Listing.{ListsAll, NotesLists, EndsAtList}
 use Rattle.md_copy.specs.Passing.{AreListedPasses, MakesPass, RecordsPass}
-use Rattle.md_copy.specs.Rebuilding.{Begins}
+use Rattle.md_copy.specs.Rebuilding.{BeginsRebuild}
 use Rattle.md_copy.specs.Sources.{missing_chunks}
-use Rattle.md_rebuild_laws.specs.StoppedRebuilds.{IsSuperWhole}
+use Rattle.md_rebuild_laws.specs.RebuildCrashes.{IsSuperWhole}
 
 -- ---- what stands there
 -- A superblock is read of this content, and it says this offset.
@@ -44,12 +44,12 @@ HasOffsetBefore target v =
 pub record HasCome (target : ℕ) (left : List ℕ) (copied : Bitmap) (old now : MirrorView) : Type 0 where
   pub ready : MirrorView
   pub none : Bitmap
-  pub begins : Begins target old ready none
+  pub begins : BeginsRebuild target old ready none
   pub passes : List PassView
   pub passed : AreListedPasses target passes (missing_chunks ready.array begins.now) left none copied ready now
   pub had : HasOffsetBefore target old
 
--- Whatever a stop leaves between two mirrors, the target's superblock says the offset that memory had in the
+-- Whatever a crash leaves between two mirrors, the target's superblock says the offset that memory had in the
 -- first.
 abbrev pub FindsOffset : ℕ → MirrorView → MirrorView → Type 0
 FindsOffset target v w =
@@ -63,34 +63,34 @@ FindsOffset target v w =
 abbrev pub OffsetStands : Type 0
 OffsetStands = (target : ℕ) (chunks : List ℕ) (copied : Bitmap) (old now : MirrorView) → HasCome target chunks copied old now → HasOffset target now
 
--- A stop while the target gets its chunks finds the offset that memory had as the pass began, whatever comes
+-- A crash while the target gets its chunks finds the offset that memory had as the pass began, whatever comes
 -- of the copying.
-abbrev pub StopsCopyingFind : Type 0
-StopsCopyingFind =
+abbrev pub CrashesCopyingFind : Type 0
+CrashesCopyingFind =
     (target : ℕ) (chunks : List ℕ) (copied : Bitmap) (old now new : MirrorView) → HasCome target chunks copied old now
-    → (p : PassView) → IsArrayPass now.array chunks p → (m : MemberView) → IsMember now.array target m → IsFilling target m (slots_of p) now new → FindsOffset target now new
+    → (p : PassView) → IsArrayPass now.array chunks p → (m : MemberView) → IsMember now.array target m → IsFilling target m (slots_of_pass p) now new → FindsOffset target now new
 
--- A stop while it is stored how far a pass came finds the offset that memory had before, or the new one, if
+-- A crash while it is stored how far a pass came finds the offset that memory had before, or the new one, if
 -- it left the superblock as it was or as it is written.
-abbrev pub StopsStoringFind : Type 0
-StopsStoringFind =
+abbrev pub CrashesStoringFind : Type 0
+CrashesStoringFind =
     (target : ℕ) (chunks : List ℕ) (copied after : Bitmap) (old now filled new : MirrorView) → HasCome target chunks copied old now
     → (p : PassView) → MakesPass target chunks p copied after now filled → Checkpoints target after filled new
     → (left : List Disk) → IsSuperWhole target filled new left
     → (m n : MemberView) (d e stop : Disk) → IsMember filled.array target m → IsMember new.array target n → slice_get filled.disks target ≡ Some d → slice_get new.disks target ≡ Some e
     → d.honest ≡ true → slice_get left target ≡ Some stop → SaysOffset stop.content m.superblock.recovery_offset ⊎ SaysOffset stop.content n.superblock.recovery_offset
 
--- Once it is stored how far a pass came, a stop while the lists of sources are stored finds the new offset.
-abbrev pub StopsListingFind : Type 0
-StopsListingFind =
+-- Once it is stored how far a pass came, a crash while the lists of sources are stored finds the new offset.
+abbrev pub CrashesListingFind : Type 0
+CrashesListingFind =
     (target : ℕ) (chunks : List ℕ) (copied after : Bitmap) (old now recorded new : MirrorView) → HasCome target chunks copied old now
     → (p : PassView) → RecordsPass target chunks p copied after now recorded → ListsAll p.failed recorded new → FindsOffset target recorded new
 
--- A stop finds the new offset where a list of a source could not be stored, too.
-abbrev pub StopsUnlistedFind : Type 0
-StopsUnlistedFind =
+-- A crash finds the new offset where a list of a source could not be stored, too.
+abbrev pub CrashesUnlistedFind : Type 0
+CrashesUnlistedFind =
     (target k : ℕ) (chunks : List ℕ) (copied after : Bitmap) (old now recorded noted new : MirrorView) → HasCome target chunks copied old now
-    → (p : PassView) → RecordsPass target chunks p copied after now recorded → NotesLists p.failed recorded noted → StopsAtList p.failed k noted new → FindsOffset target noted new
+    → (p : PassView) → RecordsPass target chunks p copied after now recorded → NotesLists p.failed recorded noted → EndsAtList p.failed k noted new → FindsOffset target noted new
 
 -- An opening keeps the offset that is read of a recovering member. It keeps 0 instead if the superblock is
 -- from before marks were last cleared.

@@ -53,6 +53,6 @@ RebuildRunsOn =
     AtMomentsWith (λ t content.
     ((target : ℕ) (told : Rebuilt) (new : MirrorView) (h : Rebuilds target told t.mirror new) → LogsUnshifted (failed_of h.rebuilds.passes) t.mirror
     → HeldWhatItHad target content t.mirror
-    → (settled : MirrorView) (g : GoesOn only_others only_others IsStoring h.rebuilds.by.enrolled settled) (in_flight : AreInFlight h.rebuilds.by.enrolled.array t.requests)
-    → AllLeftWhole g.events None h.rebuilds.by.enrolled t.requests (λ m r. (m ≡ settled) × (r ≡ t.requests)) (g.leads None t.requests in_flight)
-    → RunsTo (IsOfRebuild target) t content settled))
+    → (records_stored : MirrorView) (g : GoesOn only_others only_others IsStoring h.rebuilds.by.enrolled records_stored) (in_flight : AreInFlight h.rebuilds.by.enrolled.array t.requests)
+    → AllLeftWhole g.events None h.rebuilds.by.enrolled t.requests (λ m r. (m ≡ records_stored) × (r ≡ t.requests)) (g.leads None t.requests in_flight)
+    → RunsTo (IsOfRebuild target) t content records_stored))

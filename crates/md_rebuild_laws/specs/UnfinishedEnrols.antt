@@ -1,11 +1,11 @@
--- An `enrol` by itself of which a write of the bitmap or of the log failed, and what a stop within it leaves.
+-- An `enrol` by itself of which a write of the bitmap or of the log failed, and what a crash within it leaves.
 use Rattle.std.specs.Prelude.{ℕ, List}
 use Rattle.md_bitmap.specs.Marks.{Bitmap}
 use Rattle.md_state.specs.View.{Disk, MirrorView}
 use Rattle.md_array.specs.Consistency.{IsConsistent}
 use Rattle.md_array.specs.Enrolling.{FailsToEnrol, MayEnrol}
 use Rattle.md_array.specs.Enrolments.{Prepares}
-use Rattle.md_laws.specs.Left.{IsLeft, IsLeftWithin}
+use Rattle.md_laws.specs.Left.{IsLeftByCrash, IsLeftWithin}
 use Rattle.md_laws.specs.Runs.{Moment}
 use Rattle.md_copy.specs.RebuildEvents.{FailsAtMarks}
 
@@ -16,9 +16,9 @@ UnfinishedEnrolsPrepare =
     (k : ℕ) (copied orphans : Bitmap) (old new : MirrorView) → IsConsistent old → MayEnrol k copied orphans old
     → (f : FailsToEnrol k copied orphans old new) → FailsAtMarks f → Prepares k old new
 
--- A stop at any moment within such an `enrol` is one of a run, and the laws over lives speak of it.
-abbrev pub StopsUnfinishedEnrol : Type 0
-StopsUnfinishedEnrol =
+-- A crash at any moment within such an `enrol` is one of a run, and the laws over lives speak of it.
+abbrev pub CrashesUnfinishedEnrol : Type 0
+CrashesUnfinishedEnrol =
     (t : Moment) (k : ℕ) (copied orphans : Bitmap) (new : MirrorView) → IsConsistent t.mirror → MayEnrol k copied orphans t.mirror
     → (f : FailsToEnrol k copied orphans t.mirror new) → FailsAtMarks f
-    → (left : List Disk) → IsLeftWithin t new left → IsLeft t left
+    → (left : List Disk) → IsLeftWithin t new left → IsLeftByCrash t left

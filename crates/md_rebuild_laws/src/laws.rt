@@ -2,10 +2,10 @@
 
 ghost use Rattle.md_rebuild_laws.specs.RebuildRuns.{RebuildIsARun, RebuildRunsOn};
 ghost use Rattle.md_rebuild_laws.specs.RebuiltInLife.{CopiesContent, HeldInLives, NewHadNothing, RebuildsContent, RebuildsResumed, RecoveringHeldIt, TakenBackHeldIt};
-ghost use Rattle.md_rebuild_laws.specs.RefusedRebuilds.{LostIsARun, RefusedIsARun, StopsLeaving, StopsLeavingAnyhow, StopsLeavingLost, StopsLeavingLostAnyhow, StopsUnleft, StopsUnleftLost};
-ghost use Rattle.md_rebuild_laws.specs.LastOffsets.{OffsetStands, OpeningsFind, StopsCopyingFind, StopsListingFind, StopsStoringFind, StopsUnlistedFind};
-ghost use Rattle.md_rebuild_laws.specs.UnfinishedEnrols.{StopsUnfinishedEnrol, UnfinishedEnrolsPrepare};
-ghost use Rattle.md_rebuild_laws.specs.StoppedRebuilds.{StopsAdmitting, StopsAdmittingAnyhow, StopsAnyhow, StopsAtCheckpoint, StopsAtCheckpointAnyhow, StopsAtFailedCheckpoint, StopsEnrolled, StopsEnrolling, StopsEnrollingAnyhow, StopsFilling, StopsInRebuild, StopsListing, StopsPassUnrecorded, StopsRecording, StopsRecordingAnyhow, StopsSettling, StopsStoring, StopsTelling, StopsUnadmitted, StopsUnadmittedAnyhow, StopsUnenrolled, StopsUnenrolledAnyhow, StopsUnrecorded};
+ghost use Rattle.md_rebuild_laws.specs.RefusedRebuilds.{LostIsARun, RefusedIsARun, CrashesLeaving, CrashesLeavingAnyhow, CrashesLeavingLost, CrashesLeavingLostAnyhow, CrashesUnleft, CrashesUnleftLost};
+ghost use Rattle.md_rebuild_laws.specs.LastOffsets.{OffsetStands, OpeningsFind, CrashesCopyingFind, CrashesListingFind, CrashesStoringFind, CrashesUnlistedFind};
+ghost use Rattle.md_rebuild_laws.specs.UnfinishedEnrols.{CrashesUnfinishedEnrol, UnfinishedEnrolsPrepare};
+ghost use Rattle.md_rebuild_laws.specs.RebuildCrashes.{CrashesAdmitting, CrashesAdmittingAnyhow, CrashesAnyhow, CrashesAtCheckpoint, CrashesAtCheckpointAnyhow, CrashesAtFailedCheckpoint, CrashesEnrolled, CrashesEnrolling, CrashesEnrollingAnyhow, CrashesFilling, CrashesInRebuild, CrashesListing, CrashesPassUnrecorded, CrashesRecording, CrashesRecordingAnyhow, CrashesStoringRecords, CrashesStoring, CrashesTelling, CrashesUnadmitted, CrashesUnadmittedAnyhow, CrashesUnenrolled, CrashesUnenrolledAnyhow, CrashesUnrecorded};
 
 /// A mirror was opened from devices that do what they answer, whose stored marks covered what they differ in,
 /// and has come to any moment of its life. A rebuild then gives the new member the content that the life has
@@ -32,75 +32,75 @@ pub fn held_before()
 /// stored, it is asked that the logs were read without a shift.
 pub fn rebuild_runs()
     ensures enrolled { RebuildIsARun }
-    ensures settled { RebuildRunsOn }
+    ensures records_stored { RebuildRunsOn }
 {}
 
-/// What a stop at any moment within a rebuild leaves, is what a stop of a run leaves: so an opening finds of it what
+/// What a crash at any moment within a rebuild leaves, is what a crash of a run leaves: so an opening finds of it what
 /// the laws over lives say. Until the superblock that brings the target into sync stands, the target is not in
 /// sync; where it stands, the enrolment is done. Where another superblock of the target stands than before or after
 /// a call, the target is spoiled, and that opening has to leave it out.
-pub fn stopped_rebuilds()
-    ensures storing { StopsStoring }
-    ensures unrecorded { StopsUnrecorded }
-    ensures admitting { StopsAdmitting }
-    ensures unadmitted { StopsUnadmitted }
-    ensures filling { StopsFilling }
-    ensures recording { StopsRecording }
-    ensures pass_unrecorded { StopsPassUnrecorded }
-    ensures checkpoint { StopsAtCheckpoint }
-    ensures failed_checkpoint { StopsAtFailedCheckpoint }
-    ensures listing { StopsListing }
-    ensures enrolling { StopsEnrolling }
-    ensures unenrolled { StopsUnenrolled }
-    ensures enrolled { StopsEnrolled }
-    ensures settling { StopsSettling }
+pub fn rebuild_crashes()
+    ensures storing { CrashesStoring }
+    ensures unrecorded { CrashesUnrecorded }
+    ensures admitting { CrashesAdmitting }
+    ensures unadmitted { CrashesUnadmitted }
+    ensures filling { CrashesFilling }
+    ensures recording { CrashesRecording }
+    ensures pass_unrecorded { CrashesPassUnrecorded }
+    ensures checkpoint { CrashesAtCheckpoint }
+    ensures failed_checkpoint { CrashesAtFailedCheckpoint }
+    ensures listing { CrashesListing }
+    ensures enrolling { CrashesEnrolling }
+    ensures unenrolled { CrashesUnenrolled }
+    ensures enrolled { CrashesEnrolled }
+    ensures storing_records { CrashesStoringRecords }
 
     // Whatever stands in place of the target's superblock.
-    ensures telling { StopsTelling }
-    ensures admitting_anyhow { StopsAdmittingAnyhow }
-    ensures unadmitted_anyhow { StopsUnadmittedAnyhow }
-    ensures recording_anyhow { StopsRecordingAnyhow }
-    ensures checkpoint_anyhow { StopsAtCheckpointAnyhow }
-    ensures enrolling_anyhow { StopsEnrollingAnyhow }
-    ensures unenrolled_anyhow { StopsUnenrolledAnyhow }
+    ensures telling { CrashesTelling }
+    ensures admitting_anyhow { CrashesAdmittingAnyhow }
+    ensures unadmitted_anyhow { CrashesUnadmittedAnyhow }
+    ensures recording_anyhow { CrashesRecordingAnyhow }
+    ensures checkpoint_anyhow { CrashesAtCheckpointAnyhow }
+    ensures enrolling_anyhow { CrashesEnrollingAnyhow }
+    ensures unenrolled_anyhow { CrashesUnenrolledAnyhow }
 
-    // A stop at any moment of a rebuild that is done.
-    ensures done { StopsInRebuild }
-    ensures anyhow { StopsAnyhow }
+    // A crash at any moment of a rebuild that is done.
+    ensures done { CrashesInRebuild }
+    ensures anyhow { CrashesAnyhow }
 {}
 
 /// One that ends with `NoMemory`, `LogFull` or, for a list of a source that could not be stored, `MetadataFault`, once
-/// passes may be made, is a run up to where it is recorded how far its target is rebuilt; and a stop while that is
+/// passes may be made, is a run up to where it is recorded how far its target is rebuilt; and a crash while that is
 /// recorded is one of a run.
 pub fn refused_rebuilds()
     ensures runs { RefusedIsARun }
-    ensures leaving { StopsLeaving }
-    ensures unleft { StopsUnleft }
+    ensures leaving { CrashesLeaving }
+    ensures unleft { CrashesUnleft }
     ensures lost { LostIsARun }
-    ensures leaving_lost { StopsLeavingLost }
-    ensures unleft_lost { StopsUnleftLost }
+    ensures leaving_lost { CrashesLeavingLost }
+    ensures unleft_lost { CrashesUnleftLost }
 
     // Whatever stands in place of the target's superblock.
-    ensures leaving_anyhow { StopsLeavingAnyhow }
-    ensures leaving_lost_anyhow { StopsLeavingLostAnyhow }
+    ensures leaving_anyhow { CrashesLeavingAnyhow }
+    ensures leaving_lost_anyhow { CrashesLeavingLostAnyhow }
 {}
 
-/// Within a pass a stop finds the offset that was stored last: from the admission or the pass before on, until that of
+/// Within a pass a crash finds the offset that was stored last: from the admission or the pass before on, until that of
 /// this pass is stored, a superblock is read on the target's device that says just the offset that memory has. Of a
 /// target that was recovering before the call, and is not due, it is asked that it did so before. And an opening keeps
 /// the offset that is read, or 0 where the superblock is from before marks were last cleared.
 pub fn last_offsets()
     ensures stands { OffsetStands }
-    ensures copying { StopsCopyingFind }
-    ensures storing { StopsStoringFind }
-    ensures listing { StopsListingFind }
-    ensures unlisted { StopsUnlistedFind }
+    ensures copying { CrashesCopyingFind }
+    ensures storing { CrashesStoringFind }
+    ensures listing { CrashesListingFind }
+    ensures unlisted { CrashesUnlistedFind }
     ensures opened { OpeningsFind }
 {}
 
 /// An `enrol` by itself of which a write of the bitmap or of the log failed is the event `Prepare`, whatever that write
-/// left (`md_laws::whole_calls::rebuilding_calls`, clause `prepare`), and a stop within it is one of a run.
+/// left (`md_laws::whole_calls::rebuilding_calls`, clause `prepare`), and a crash within it is one of a run.
 pub fn unfinished_enrols()
     ensures prepares { UnfinishedEnrolsPrepare }
-    ensures stopped { StopsUnfinishedEnrol }
+    ensures crashed { CrashesUnfinishedEnrol }
 {}

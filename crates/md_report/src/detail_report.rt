@@ -20,13 +20,13 @@ use md_super::Superblock;
 pub fn detail<S: Sink, D: Device + Drop>(out: &mut S, mirror: &Mirror<D>) -> Result<(), SinkFault>
     ensures { PutsOrFails S.contents S.failed out.old out.new (detail_text mirror.now.array) result }
 {
-    shared(out, mirror.shared())?;
+    shared_lines(out, mirror.shared())?;
     condition(out, mirror)?;
     member_lines(out, mirror)?;
     Ok(())
 }
 
-fn shared<S: Sink>(out: &mut S, v: &Superblock) -> Result<(), SinkFault>
+fn shared_lines<S: Sink>(out: &mut S, v: &Superblock) -> Result<(), SinkFault>
     ensures { PutsOrFails S.contents S.failed out.old out.new (shared_lines v.now) result }
 {
     uuid_line(out, "Array UUID     ", &v.set_uuid)?;
@@ -42,7 +42,7 @@ fn condition<S: Sink, D: Device + Drop>(out: &mut S, mirror: &Mirror<D>) -> Resu
     decimal_line(out, "In Sync        ", members_in_sync(mirror))?;
     state(out, mirror)?;
     decimal_line(out, "Events         ", mirror.events())?;
-    marked(out, mirror.marks())?;
+    marked_line(out, mirror.marks())?;
     Ok(())
 }
 
@@ -61,7 +61,7 @@ pub(crate) fn text_where(holds: bool, text: &[u8]) -> &[u8]
     if holds { text } else { &[] }
 }
 
-fn marked<S: Sink>(out: &mut S, marks: &Marks) -> Result<(), SinkFault>
+fn marked_line<S: Sink>(out: &mut S, marks: &Marks) -> Result<(), SinkFault>
     ensures { PutsOrFails S.contents S.failed out.old out.new (line_text (column (codes "Marked Chunks")) (marked_text marks.now)) result }
 {
     let mut marked_buffer = Buffer::new();

@@ -15,7 +15,7 @@ use Rattle.md_state.specs.Requests.{AreInFlight, IsPending}
 use Rattle.md_state.specs.Members.{AllInSync, IsAlone, IsInSync}
 use Rattle.md_array.specs.Consistency.{IsConsistent}
 use Rattle.md_array.specs.InTurn.{InTurn, Leads, Requests}
-use Rattle.md_array.specs.NotingResynced.{AllAgreeAt, IsServed}
+use Rattle.md_array.specs.NotingResynced.{AllAgreeAt, IsHonestMember}
 use Rattle.md_array.proofs.Steps.MadeClean.{none_listed}
 use Rattle.md_array.proofs.Steps.Turns.{all_on, turn_on, turn_then}
 use Rattle.md_array.proofs.Worlds.SectorCopied.{none_there}
@@ -27,7 +27,7 @@ use Rattle.md_metadata.specs.Storing.{HasAllMarks, IsNoFailure, IsUpToDate}
 use Rattle.md_metadata.proofs.Going.{fails_after}
 use Rattle.md_resync.specs.declared.fault.ResyncFault.{ResyncFault}
 use Rattle.md_resync.specs.declared.fault.ResyncFault.TheVariants.{Halted, InFlight, MemberFailed, NoMemory, ReadFault}
-use Rattle.md_resync.specs.Resyncing.{Advances, EndsUnresynced, FailsToAgree, FailsToWrite, GivesUp, GoesOn, GoesUnresynced, HaltsResync, HasSameMembers, IdleFails, IsOfResync, LeavesMarks, LosesMember, ReadingFails, RefusesResync, Unresyncs}
+use Rattle.md_resync.specs.Resyncing.{ResyncAdvances, EndsUnresynced, FailsToAgree, FailsAtWrite, GivesUp, ResyncGoesOn, GoesUnresynced, HaltsResync, HasSameMembers, IdleFails, IsOfResync, LeavesMarks, LosesMember, ReadingFails, RefusesResync, Unresyncs}
 use Rattle.md_resync.proofs.StepsOn.{by_none, by_on, by_singles}
 
 -- ---- nothing is in flight, before or after
@@ -53,7 +53,7 @@ up_to_date_before a b k same is =
 pub agree_same : (old new : MirrorView) → new.disks ≡ old.disks → new.array.members ≡ old.array.members → (s : ℕ) → AllAgreeAt old s → AllAgreeAt new s
 agree_same old new disks members s agree j k m n d e one other = agree j k m n d e (was j m d one) (was k n e other)
   where
-    was : (i : ℕ) (x : MemberView) (y : Disk) → IsServed new i x y → IsServed old i x y
+    was : (i : ℕ) (x : MemberView) (y : Disk) → IsHonestMember new i x y → IsHonestMember old i x y
     was i x y is = record {
       in_sync = record { member = sym (ap (λ (xs : List MemberView). slice_get xs i) members) ∙ is.in_sync.member; in_sync = is.in_sync.in_sync };
       disk = sym (ap (λ (xs : List Disk). slice_get xs i) disks) ∙ is.disk;
@@ -72,7 +72,7 @@ alone_still a b same alone j k m n one other = alone j k (was j m one).0 (was k 
         (y.0, record { member = y.1; in_sync = ap (λ (z : MemberView). is_in_sync z.state) (sym (same.each i y.0 x y.1 is.member)) ∙ is.in_sync })
 
 -- ---- events, one after another
-unfoldable pub goes_none : (m : MirrorView) → GoesOn m m
+unfoldable pub goes_none : (m : MirrorView) → ResyncGoesOn m m
 goes_none m = record {
   events = [];
   steps = tt;
@@ -94,7 +94,7 @@ unread_on es fs old mid new requests previous first rest =
     (subst (λ (x : Requests). InTurn last mid x fs (λ m s. (m ≡ new) × (s ≡ requests))) (sym at.1) (rest last)))
     first)
 
-unfoldable pub goes_on : (old mid new : MirrorView) → IsIdle old.array → HasSameMembers old.array mid.array → GoesOn old mid → GoesOn mid new → GoesOn old new
+unfoldable pub goes_on : (old mid new : MirrorView) → IsIdle old.array → HasSameMembers old.array mid.array → ResyncGoesOn old mid → ResyncGoesOn mid new → ResyncGoesOn old new
 goes_on old mid new idle same g h = record {
   events = g.events ++ h.events;
   steps = all_on IsOfResync g.events h.events g.steps h.steps;
@@ -116,7 +116,7 @@ goes_on old mid new idle same g h = record {
       (λ last. h.unread (alone_still old.array mid.array same alone) last requests there);
 }
 
-unfoldable pub advances_on : (old mid new : MirrorView) → IsIdle old.array → HasSameMembers old.array mid.array → Advances old mid → Advances mid new → Advances old new
+unfoldable pub advances_on : (old mid new : MirrorView) → IsIdle old.array → HasSameMembers old.array mid.array → ResyncAdvances old mid → ResyncAdvances mid new → ResyncAdvances old new
 unfolding goes_on
 advances_on old mid new idle same g h = record {
   goes = goes_on old mid new idle same g.goes h.goes;
@@ -127,7 +127,7 @@ advances_on old mid new idle same g h = record {
 }
 
 -- a member fails after them
-pub fails_on : (k : ℕ) (old mid new : MirrorView) → IsIdle old.array → HasSameMembers old.array mid.array → Advances old mid → LeavesMarks old.array new.array → FailsToWrite k mid new → FailsToWrite k old new
+pub fails_on : (k : ℕ) (old mid new : MirrorView) → IsIdle old.array → HasSameMembers old.array mid.array → ResyncAdvances old mid → LeavesMarks old.array new.array → FailsAtWrite k mid new → FailsAtWrite k old new
 unfolding goes_on
 fails_on k old mid new idle same g marks h = record {
   goes = goes_on old mid new idle same g.goes h.goes;
@@ -139,7 +139,7 @@ fails_on k old mid new idle same g marks h = record {
 }
 
 -- ---- it is kept that the array is not resynced
-goes_unresynced : (old mid new : MirrorView) → IsIdle old.array → GoesOn old mid → Unresyncs mid new → GoesUnresynced old new
+goes_unresynced : (old mid new : MirrorView) → IsIdle old.array → ResyncGoesOn old mid → Unresyncs mid new → GoesUnresynced old new
 goes_unresynced old mid new idle g u = record {
   events = g.events;
   steps = g.steps;
@@ -163,7 +163,7 @@ goes_unresynced old mid new idle g u = record {
       (λ last. (new, requests, tt, (refl, u.marks), (λ honest whole. u.happens honest requests there), (refl, refl)));
 }
 
-module _ (old mid new : MirrorView) (idle : IsIdle old.array) (goes : GoesOn old mid) (now_idle : IsIdle mid.array) (u : Unresyncs mid new) where
+module _ (old mid new : MirrorView) (idle : IsIdle old.array) (goes : ResyncGoesOn old mid) (now_idle : IsIdle mid.array) (u : Unresyncs mid new) where
   pub stops : EndsUnresynced old new
   stops = record {
     idle = idle;
@@ -199,7 +199,7 @@ module _ (old mid new : MirrorView) (idle : IsIdle old.array) (u : Unresyncs mid
     failed = subst (λ (disks : List Disk). AtDevice k f.mid.disks disks (λ d e. d.honest ≡ true → d.failures < e.failures)) (sym u.marks.disks) f.fails.failed;
   }
 
-  pub loses_member : (k : ℕ) → FailsToWrite k old mid → LosesMember k old new
+  pub loses_member : (k : ℕ) → FailsAtWrite k old mid → LosesMember k old new
   unfolding goes_unresynced stops
   loses_member k f = record {
     stops = stops old mid new idle f.goes f.idle u;

@@ -21,18 +21,18 @@ use Rattle.md_array.proofs.General.Resting.{geometry_rests, world_rests}
 use Rattle.md_laws.specs.ReadInTurn.{LeadsReading}
 use Rattle.md_array.proofs.Steps.Turns.{all_such}
 use Rattle.md_metadata.specs.Clearing.{IsClearing}
-use Rattle.md_resync.specs.Copying.{Copies, CopiesMarked, CopyingGoesOn, IsCopying}
-use Rattle.md_resync.specs.Resyncing.{Advances, Agrees, GoesOn, IsFirstInSync, IsOfResync, KeepsContent, NoneInSync}
+use Rattle.md_resync.specs.Copying.{CopiesOnly, CopiesMarked, CopyingGoesOn, IsCopying}
+use Rattle.md_resync.specs.Resyncing.{ResyncAdvances, Agrees, ResyncGoesOn, IsFirstInSyncFrom, IsOfResync, KeepsHeldContent, NoneInSyncBetween}
 use Rattle.md_resync.proofs.Advancing.{goes_none}
 use Rattle.md_resync.proofs.CopiedRuns.{copies_none, copies_unfailing}
 use Rattle.md_assembly.proofs.Indices.{got_same}
 
 -- ---- who is in sync
-pub alone_if_none : (a : ArrayView) → NoneInSync 0 (length a.members) a → IsAlone a
+pub alone_if_none : (a : ArrayView) → NoneInSyncBetween 0 (length a.members) a → IsAlone a
 alone_if_none a none j k m n one other = absurd (none j m (omega arith) (slice_get_within a.members j m one.member) one)
 
 -- no member but this one
-only : (a : ArrayView) (first : ℕ) → NoneInSync 0 first a → NoneInSync (first + 1) (length a.members) a → (j : ℕ) (m : MemberView) → IsInSync a j m → j ≡ first
+only : (a : ArrayView) (first : ℕ) → NoneInSyncBetween 0 first a → NoneInSyncBetween (first + 1) (length a.members) a → (j : ℕ) (m : MemberView) → IsInSync a j m → j ≡ first
 only a first before after j m is = elim (cases_lt j first) [
   | inl low ↦ absurd (before j m (omega arith) low is)
   | inr high ↦ elim (cases_lt first j) [
@@ -41,10 +41,10 @@ only a first before after j m is = elim (cases_lt j first) [
   ]
 ]
 
-pub alone_if_one : (a : ArrayView) (first : ℕ) → NoneInSync 0 first a → NoneInSync (first + 1) (length a.members) a → IsAlone a
+pub alone_if_one : (a : ArrayView) (first : ℕ) → NoneInSyncBetween 0 first a → NoneInSyncBetween (first + 1) (length a.members) a → IsAlone a
 alone_if_one a first before after j k m n one other = only a first before after j m one ∙ sym (only a first before after k n other)
 
-pub two_apart : (a : ArrayView) (first second : ℕ) → IsFirstInSync 0 first a → IsFirstInSync (first + 1) second a → IsAlone a → ⊥
+pub two_apart : (a : ArrayView) (first second : ℕ) → IsFirstInSyncFrom 0 first a → IsFirstInSyncFrom (first + 1) second a → IsAlone a → ⊥
 two_apart a first second one other alone =
     let same = alone first second one.member other.member one.in_sync other.in_sync in
     let above = other.from in
@@ -96,14 +96,14 @@ held_along (e ∷ es) previous old before a new after all honest holds t =
     (more.0, more.1 ∙ does.geometry ∙ geometry_rests old t.0 t.3)
 
 pub calm_content : (es : List Event) (old new : MirrorView) → AllOf IsCalm es
-    → ((previous : Option Event) (requests : Requests) → AreInFlight old.array requests → LeadsReading previous old requests es new requests) → KeepsContent old new
+    → ((previous : Option Event) (requests : Requests) → AreInFlight old.array requests → LeadsReading previous old requests es new requests) → KeepsHeldContent old new
 calm_content es old new all leads honest requests in_flight a holds =
     let along = held_along es None old requests a new requests all honest holds (leads None requests in_flight) in
     subst (λ (g : Geometry). HoldsBetween g a (world_of new requests)) along.1 along.0
 
 -- ---- members in sync agree
 -- where there are two
-unfoldable pub copying_goes : (old new : MirrorView) → (IsAlone old.array → ⊥) → CopyingGoesOn old new → GoesOn old new
+unfoldable pub copying_goes : (old new : MirrorView) → (IsAlone old.array → ⊥) → CopyingGoesOn old new → ResyncGoesOn old new
 copying_goes old new two g = record {
   events = g.events;
   steps = all_such IsCopying IsOfResync (λ e is. (copying_is_calm e is).of) g.events g.steps;
@@ -112,7 +112,7 @@ copying_goes old new two g = record {
   unread = λ alone. absurd (two alone);
 }
 
-unfoldable pub copies_advance : (Of : ℕ → Type 0) (old new : MirrorView) → (IsAlone old.array → ⊥) → Copies Of old new → IsIdle old.array → Advances old new
+unfoldable pub copies_advance : (Of : ℕ → Type 0) (old new : MirrorView) → (IsAlone old.array → ⊥) → CopiesOnly Of old new → IsIdle old.array → ResyncAdvances old new
 unfolding copying_goes
 copies_advance Of old new two g idle = record {
   goes = copying_goes old new two g.goes;

@@ -13,11 +13,11 @@ use Rattle.md_assembly.proofs.Indices.{got_within}
 use Rattle.md_state.specs.CopyingData.{IsSource}
 use Rattle.md_state.specs.View.{ArrayView}
 use Rattle.md_state.specs.Members.{IsMember}
-use Rattle.md_resync.specs.Sources.{BestBelow, IsBest, IsFree, NoneFree, lower_of}
+use Rattle.md_resync.specs.Sources.{BestBelow, IsBest, IsUnlistedSource, NoneFree, lower_of}
 
 -- what is told of member k
 abbrev pub Told : ℕ → ArrayView → ℕ → Option ℕ → Type 0
-Told sector a k role = (m : MemberView) → IsMember a k m → MatchOption role ((r : ℕ) → IsFree r sector m → ⊥) (λ r. IsFree r sector m)
+Told sector a k role = (m : MemberView) → IsMember a k m → MatchOption role ((r : ℕ) → IsUnlistedSource r sector m → ⊥) (λ r. IsUnlistedSource r sector m)
 
 -- a member is in sync in one role
 one_role : (a b : ℕ) (state : MemberState) → is_in_sync_as a state ≡ true → is_in_sync_as b state ≡ true → a ≡ b
@@ -36,11 +36,11 @@ module _ (sector : ℕ) (a : ArrayView) (k : ℕ) (m : MemberView) (at : IsMembe
   same_member j n here is = same_Some n m (sym is ∙ ap (slice_get a.members) here ∙ at)
 
   -- it is free in no role but this
-  free_as : (role : ℕ) → IsFree role sector m → (j other : ℕ) (n : MemberView) → j ≡ k → IsMember a j n → IsFree other sector n → other ≡ role
+  free_as : (role : ℕ) → IsUnlistedSource role sector m → (j other : ℕ) (n : MemberView) → j ≡ k → IsMember a j n → IsUnlistedSource other sector n → other ≡ role
   free_as role free j other n here is other_free =
       one_role other role m.state (subst (λ (x : MemberView). is_in_sync_as other x.state ≡ true) (same_member j n here is) other_free.in_sync) free.in_sync
 
-  with_last : (role : ℕ) → IsFree role sector m → ((j other : ℕ) (n : MemberView) → j < k → IsMember a j n → IsFree other sector n → role ≤ other) → IsBest (k + 1) sector role k a
+  with_last : (role : ℕ) → IsUnlistedSource role sector m → ((j other : ℕ) (n : MemberView) → j < k → IsMember a j n → IsUnlistedSource other sector n → role ≤ other) → IsBest (k + 1) sector role k a
   with_last role free least = record {
     before = omega arith;
     member = m;
@@ -51,7 +51,7 @@ module _ (sector : ℕ) (a : ArrayView) (k : ℕ) (m : MemberView) (at : IsMembe
         (λ here. let same = free_as role free j other n here is other_free in omega arith);
   }
 
-  still_best : (best : ℕ × ℕ) → IsBest k sector best.0 best.1 a → ((other : ℕ) → IsFree other sector m → best.0 ≤ other) → IsBest (k + 1) sector best.0 best.1 a
+  still_best : (best : ℕ × ℕ) → IsBest k sector best.0 best.1 a → ((other : ℕ) → IsUnlistedSource other sector m → best.0 ≤ other) → IsBest (k + 1) sector best.0 best.1 a
   still_best best is least = record {
     before = let before = is.before in omega arith;
     member = is.member;
@@ -59,11 +59,11 @@ module _ (sector : ℕ) (a : ArrayView) (k : ℕ) (m : MemberView) (at : IsMembe
     free = is.free;
     lowest = λ j other n low there other_free. either (best.0 ≤ other) j low
         (λ before. is.lowest j other n before there other_free)
-        (λ here. least other (subst (IsFree other sector) (same_member j n here there) other_free));
+        (λ here. least other (subst (IsUnlistedSource other sector) (same_member j n here there) other_free));
   }
 
   pub best_more : (best : Option (ℕ × ℕ)) (role : Option ℕ) → BestBelow k sector a best → Told sector a k role → BestBelow (k + 1) sector a (lower_of best role k)
-  best_more None None none told = λ j other n low is free. either ⊥ j low (λ before. none j other n before is free) (λ here. told m at other (subst (IsFree other sector) (same_member j n here is) free))
+  best_more None None none told = λ j other n low is free. either ⊥ j low (λ before. none j other n before is free) (λ here. told m at other (subst (IsUnlistedSource other sector) (same_member j n here is) free))
   best_more None (Some role) none told = with_last role (told m at) (λ j other n before is free. absurd (none j other n before is free))
   best_more (Some best) None is told = still_best best is (λ other free. absurd (told m at other free))
   best_more (Some best) (Some role) is told = by_test (nat_le best.0 role)

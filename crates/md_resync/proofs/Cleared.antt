@@ -15,7 +15,7 @@ use Rattle.md_array.proofs.Steps.Turns.{all_such}
 use Rattle.md_laws.proofs.Runs.ReadTurns.{unread}
 use Rattle.md_metadata.specs.Clearing.{ClearsAll, IsClearing, ChangesMarksAlone}
 use Rattle.md_metadata.specs.Storing.{HasAllMarks, IsNoFailure}
-use Rattle.md_resync.specs.Resyncing.{Advances, ClearsStored, HasSameMembers, IsOfResync, KeepsContent, StoresMarks}
+use Rattle.md_resync.specs.Resyncing.{ResyncAdvances, ClearsStored, HasSameMembers, IsOfResync, KeepsHeldContent, StoresAllMarks}
 use Rattle.md_resync.proofs.Advancing.{advances_on, agree_same, goes_none, none_flies}
 use Rattle.md_resync.proofs.Agreeing.{IsCalm, calm_content, clearing_is_calm}
 use Rattle.md_array.proofs.General.Honesty.{same_honest}
@@ -26,7 +26,7 @@ use Rattle.md_assembly.proofs.Indices.{got_same}
 pub same_disks : (before after : List Disk) → after ≡ before → AreSame before after
 same_disks before after same = subst (AreSame before) (sym same) (record { as_many = refl; honest = λ k d e was is. let it = got_same before k e d is was in subst (λ (x : Disk). StaysHonest d x) (sym it) (record { honest = refl; counted = omega arith }) })
 
-pub advances_none : (v : MirrorView) → IsIdle v.array → IsConsistent v → Advances v v
+pub advances_none : (v : MirrorView) → IsIdle v.array → IsConsistent v → ResyncAdvances v v
 unfolding goes_none
 advances_none v idle sound = record { goes = goes_none v; unfailing = tt; same = same_disks v.disks v.disks refl; idle = idle; sound = sound }
 
@@ -34,7 +34,7 @@ pub same_members : (a : ArrayView) → HasSameMembers a a
 same_members a = record { as_many = refl; each = λ k m n was is. let it = got_same a.members k n m is was in it ∙ ap (λ (x : MemberView). record m { stored = x.stored }) (sym it) }
 
 -- a content is kept by one part and then by another
-pub content_on : (old mid new : MirrorView) → IsIdle old.array → AreSame old.disks mid.disks → geometry_of mid.array ≡ geometry_of old.array → KeepsContent old mid → KeepsContent mid new → KeepsContent old new
+pub content_on : (old mid new : MirrorView) → IsIdle old.array → AreSame old.disks mid.disks → geometry_of mid.array ≡ geometry_of old.array → KeepsHeldContent old mid → KeepsHeldContent mid new → KeepsHeldContent old new
 content_on old mid new idle same geometry first second honest requests in_flight a holds =
     let there = first honest requests in_flight a holds in
     subst (λ (g : Geometry). HoldsBetween g a (world_of new requests)) geometry
@@ -57,7 +57,7 @@ module _ (old mid : MirrorView) (idle : IsIdle old.array) (r : ChangesMarksAlone
   pub clearing_idle : IsIdle mid.array
   clearing_idle = subst IsIdle (sym r.array) (record { running = idle.running; none = idle.none })
 
-  pub clearing_advances : Advances old mid
+  pub clearing_advances : ResyncAdvances old mid
   clearing_advances = record {
     goes = record {
       events = r.goes.events;
@@ -72,12 +72,12 @@ module _ (old mid : MirrorView) (idle : IsIdle old.array) (r : ChangesMarksAlone
     sound = r.goes.sound;
   }
 
-  pub clearing_content : KeepsContent old mid
+  pub clearing_content : KeepsHeldContent old mid
   unfolding clearing_advances
   clearing_content = calm_content r.goes.events old mid (all_such IsClearing IsCalm clearing_is_calm r.goes.events r.goes.steps) clearing_advances.goes.leads
 
 -- ---- and on the members
-pub cleared_stored : (old mid new : MirrorView) → IsIdle old.array → is_degraded old.array ≡ false → ClearsAll old mid → StoresMarks mid new → ClearsStored old new
+pub cleared_stored : (old mid new : MirrorView) → IsIdle old.array → is_degraded old.array ≡ false → ClearsAll old mid → StoresAllMarks mid new → ClearsStored old new
 cleared_stored old mid new idle full c s =
     let array = c.marks_alone.array in
     let members = ap (λ (x : ArrayView). x.members) array in

@@ -16,12 +16,12 @@ use Rattle.md_array.specs.NotingResynced.{AllAgreeAt}
 use Rattle.md_array.proofs.Worlds.SectorCopied.{has_role}
 use Rattle.md_resync.specs.declared.fault.ResyncFault.{ResyncFault}
 use Rattle.md_resync.specs.declared.fault.ResyncFault.TheVariants.{Halted, InFlight, MemberFailed, NoMemory, ReadFault}
-use Rattle.md_resync.specs.Copying.{AgreesTo, Copies, CopiesChunk, CopiesIfMarked, CopiesMarked, CopiesRun, CopyingFails, FailsReading, GivesAll, GivesBelow, GivesTo, GivingFails, IsAmong, IsBetween, IsMarkedAt, IsOfChunk, IsPart, IsRun, MayCopyMarked}
+use Rattle.md_resync.specs.Copying.{AgreesTo, CopiesOnly, CopiesChunk, CopiesIfMarked, CopiesMarked, CopiesRun, CopyingFails, FailsReading, GivesAll, GivesBelow, GivesTo, GivingFails, IsAmong, IsBetween, IsInMarkedChunk, IsInChunkOf, IsPart, IsRun, MayCopyMarked}
 use Rattle.md_resync.specs.Sources.{NoneFree}
 use Rattle.md_resync.proofs.CopiedRuns.{all_given_agree, copies_as, copies_none, copies_read, copies_then, halts_then, loses_then, read_agrees}
 
 -- ---- where it stops after some copies
-pub giving_fails : (Of : ℕ → Type 0) (old mid new : MirrorView) (fault : ResyncFault) → Copies Of old mid → GivingFails mid new fault → GivingFails old new fault
+pub giving_fails : (Of : ℕ → Type 0) (old mid new : MirrorView) (fault : ResyncFault) → CopiesOnly Of old mid → GivingFails mid new fault → GivingFails old new fault
 giving_fails Of old mid new Halted g h = halts_then Of old mid new g h
 giving_fails Of old mid new (InFlight n) g h = h
 giving_fails Of old mid new NoMemory g h = h
@@ -37,7 +37,7 @@ given_in_vain Of old new (ReadFault k chunk) h = absurd h
 given_in_vain Of old new (MemberFailed k) h = h
 
 -- After sectors that were copied, others are not all copied: a sector could not be read, before which all of them come.
-module _ (Done Of Such : ℕ → Type 0) (old mid new : MirrorView) (g : Copies Done old mid) where
+module _ (Done Of Such : ℕ → Type 0) (old mid new : MirrorView) (g : CopiesOnly Done old mid) where
   pub reading_after : (k chunk : ℕ) (h : FailsReading Of k chunk mid new) → ((s : ℕ) → AllAgreeAt old s → AllAgreeAt mid s) → ((s : ℕ) → Done s → s < h.sector) → Such h.sector
       → ((s : ℕ) → Such s → s < h.sector → AllAgreeAt new s) → FailsReading Such k chunk old new
   reading_after k chunk h keeps earlier of before = record {
@@ -152,7 +152,7 @@ module _ (chunk sector end next from : ℕ) (old : MirrorView) (sound : IsConsis
           holds = reads.holds;
         }
 
-    abbrev read : Copies (IsBetween sector next) old mid
+    abbrev read : CopiesOnly (IsBetween sector next) old mid
     read = copies_read (IsBetween sector next) old mid reads.rests sound
 
     pub copies_run : (new : MirrorView) → GivesAll sector bytes mid new → CopiesRun sector end next old new
@@ -222,28 +222,28 @@ module _ (chunk start sectors : ℕ) (old : MirrorView) (sound : IsConsistent ol
   }
 
   -- the sectors of the range are those of the chunk
-  of_range : (s : ℕ) → start ≤ s → s < start + sectors → IsOfChunk old.array chunk s
+  of_range : (s : ℕ) → start ≤ s → s < start + sectors → IsInChunkOf old.array chunk s
   of_range s from below =
       let is = (range s).1 (from, below) in
       (is.within, in_chunk_is old.array.chunks.sectors old.array.chunks.size chunk s sound.chunks.wide is)
 
-  in_range : (s : ℕ) → IsOfChunk old.array chunk s → (start ≤ s) × (s < start + sectors)
+  in_range : (s : ℕ) → IsInChunkOf old.array chunk s → (start ≤ s) × (s < start + sectors)
   in_range s is = (range s).0 (is_in_chunk old.array.chunks.sectors old.array.chunks.size chunk s sound.chunks.wide is.0 is.1)
 
   pub chunk_copied : (sector : ℕ) (new : MirrorView) → start + sectors ≤ sector → sector ≤ start + sectors → AgreesTo start sector old new → CopiesChunk chunk old new
   chunk_copied sector new past to g = record {
-    copies = copies_as (IsBetween start sector) (IsOfChunk old.array chunk) (λ s is. let below = is.1 in of_range s is.0 (omega arith)) old new g.copies;
+    copies = copies_as (IsBetween start sector) (IsInChunkOf old.array chunk) (λ s is. let below = is.1 in of_range s is.0 (omega arith)) old new g.copies;
     agree = λ s low is. let there = in_range s (low, is) in let high = there.1 in g.agree s there.0 (omega arith);
     still = g.still;
   }
 
   -- or not all of it is
   pub chunk_fails : (sector : ℕ) (mid new : MirrorView) → start ≤ sector → AgreesTo start sector old mid → (fault : ResyncFault) → CopyingFails (IsBetween sector (start + sectors)) mid new fault
-      → CopyingFails (IsOfChunk old.array chunk) old new fault
+      → CopyingFails (IsInChunkOf old.array chunk) old new fault
   chunk_fails sector mid new from g =
       let Done = IsBetween start sector in
       let Of = IsBetween sector (start + sectors) in
-      let Such = IsOfChunk old.array chunk in
+      let Such = IsInChunkOf old.array chunk in
       copying_after Done Of Such old mid new g.copies
       (λ k c h.
       let low = h.of.0 in
@@ -257,7 +257,7 @@ pub if_copied : (chunk : ℕ) (old new : MirrorView) → CopiesChunk chunk old n
 if_copied chunk old new h = record { copies = h.copies; agree = λ marked. h.agree; still = h.still }
 
 pub if_unmarked : (chunk : ℕ) (v : MirrorView) → IsConsistent v → (is_set v.array.marks.bytes chunk ≡ true → ⊥) → CopiesIfMarked chunk v v
-if_unmarked chunk v sound unmarked = record { copies = copies_none (IsOfChunk v.array chunk) v sound; agree = λ marked. absurd (unmarked marked); still = λ s agree. agree }
+if_unmarked chunk v sound unmarked = record { copies = copies_none (IsInChunkOf v.array chunk) v sound; agree = λ marked. absurd (unmarked marked); still = λ s agree. agree }
 
 pub may_copy_chunk : (chunk : ℕ) (v : MirrorView) → IsConsistent v → MayCopyMarked v.array → chunk < v.array.marks.chunks → is_set v.array.marks.bytes chunk ≡ true → MayCopyChunk chunk v.array
 may_copy_chunk chunk v sound may low marked = record { idle = may.idle; marked = marked; stored = λ k m is. may.stored k m is chunk low ∙ marked }
@@ -267,7 +267,7 @@ abbrev IsBefore : ArrayView → ℕ → ℕ → Type 0
 IsBefore a chunk s = (s < a.chunks.size) × (s / a.chunks.sectors < chunk)
 
 pub record CopiesBelow (chunk : ℕ) (old new : MirrorView) : Type 0 where
-  pub copies : Copies (IsBefore old.array chunk) old new
+  pub copies : CopiesOnly (IsBefore old.array chunk) old new
   pub still : (s : ℕ) → AllAgreeAt old s → AllAgreeAt new s
   pub agree : (s : ℕ) → s < old.array.chunks.size → is_set old.array.marks.bytes (s / old.array.chunks.sectors) ≡ true → s / old.array.chunks.sectors < chunk → AllAgreeAt new s
 
@@ -278,8 +278,8 @@ pub chunks_more : (chunk : ℕ) (old mid new : MirrorView) → CopiesBelow chunk
 chunks_more chunk old mid new g h = record {
   copies = copies_then (IsBefore old.array (chunk + 1)) old mid new
       (copies_as (IsBefore old.array chunk) (IsBefore old.array (chunk + 1)) (λ s is. let low = is.1 in (is.0, omega arith)) old mid g.copies)
-      (copies_as (IsOfChunk mid.array chunk) (IsBefore old.array (chunk + 1))
-      (λ s is. let there = subst (λ (a : ArrayView). IsOfChunk a chunk s) g.copies.array is in let here = there.1 in (there.0, omega arith)) mid new h.copies);
+      (copies_as (IsInChunkOf mid.array chunk) (IsBefore old.array (chunk + 1))
+      (λ s is. let there = subst (λ (a : ArrayView). IsInChunkOf a chunk s) g.copies.array is in let here = there.1 in (there.0, omega arith)) mid new h.copies);
   still = λ s agree. h.still s (g.still s agree);
   agree = λ s low marked below. elim (cases_lt (s / old.array.chunks.sectors) chunk) [
     | inl before ↦ h.still s (g.agree s low marked before)
@@ -303,16 +303,16 @@ div_before : (width x y : ℕ) → 0 < width → x / width < y / width → x < y
 div_before width x y wide less = elim (cases_lt x y) [ inl low ↦ low | inr high ↦ let up = div_mono width y x wide high in absurd (omega arith) ]
 
 -- after the chunks before it, one fails
-pub chunks_fail : (chunk : ℕ) (old mid new : MirrorView) → IsConsistent old → CopiesBelow chunk old mid → (fault : ResyncFault) → CopyingFails (IsOfChunk mid.array chunk) mid new fault
-    → CopyingFails (IsMarkedAt old.array) old new fault
+pub chunks_fail : (chunk : ℕ) (old mid new : MirrorView) → IsConsistent old → CopiesBelow chunk old mid → (fault : ResyncFault) → CopyingFails (IsInChunkOf mid.array chunk) mid new fault
+    → CopyingFails (IsInMarkedChunk old.array) old new fault
 chunks_fail chunk old mid new sound g =
     let Done = IsBefore old.array chunk in
-    let Of = IsOfChunk mid.array chunk in
-    let Such = IsMarkedAt old.array in
+    let Of = IsInChunkOf mid.array chunk in
+    let Such = IsInMarkedChunk old.array in
     let same = g.copies.array in
     copying_after Done Of Such old mid new g.copies
     (λ k c h.
-    let of = subst (λ (a : ArrayView). IsOfChunk a chunk h.sector) same h.of in
+    let of = subst (λ (a : ArrayView). IsInChunkOf a chunk h.sector) same h.of in
     let here = of.1 in
     let chunk_is = subst (λ (a : ArrayView). h.sector / a.chunks.sectors ≡ c) same h.in_chunk in
     let marked = subst (λ (a : ArrayView). is_set a.marks.bytes c ≡ true) same h.marked in
@@ -324,5 +324,5 @@ chunks_fail chunk old mid new sound g =
       | inr late ↦
           let up = div_mono old.array.chunks.sectors s h.sector sound.chunks.wide (omega arith) in
           let at : s / old.array.chunks.sectors ≡ chunk = omega arith in
-          h.before s (subst (λ (a : ArrayView). IsOfChunk a chunk s) (sym same) (is.0, at)) before
+          h.before s (subst (λ (a : ArrayView). IsInChunkOf a chunk s) (sym same) (is.0, at)) before
     ]))

@@ -24,7 +24,7 @@ use Rattle.md_array.specs.Consistency.{IsConsistent}
 use Rattle.md_array.specs.CopyEvents.{CopiesInTurn}
 use Rattle.md_array.specs.Events.{Happens}
 use Rattle.md_array.specs.InTurn.{AllOf, Leads, Requests}
-use Rattle.md_array.specs.NotingResynced.{AllAgreeAt, IsServed, sector_of}
+use Rattle.md_array.specs.NotingResynced.{AllAgreeAt, IsHonestMember, sector_of}
 use Rattle.md_array.proofs.General.Resting.{rests_sound}
 use Rattle.md_array.proofs.Steps.CopyWrites.{copied_run_is_consistent, run_fits}
 use Rattle.md_array.proofs.Steps.Turns.{all_on, all_such}
@@ -37,7 +37,7 @@ use Rattle.md_metadata.specs.Going.{IsFaulty}
 use Rattle.md_metadata.specs.Storing.{IsNoFailure, IsUpToDate}
 use Rattle.md_metadata.proofs.Going.{fails_after}
 use Rattle.md_metadata.proofs.Steps.{faulty_after}
-use Rattle.md_resync.specs.Copying.{Copies, CopyingGoesOn, GivesTo, HaltsCopying, IsAmong, IsBeside, IsBetween, IsCopyIn, IsCopying, IsRun, LosesCopying}
+use Rattle.md_resync.specs.Copying.{CopiesOnly, CopyingGoesOn, GivesTo, CopyingHalts, IsAmong, IsBesideSectors, IsBetween, IsCopyIn, IsCopying, IsRun, LosesCopying}
 use Rattle.md_resync.proofs.StepsOn.{by_none, by_on, by_run, by_singles}
 
 -- ---- devices, each as honest as it was
@@ -71,7 +71,7 @@ goes_read old new rests sound = record {
   sound = rests_sound old new rests sound;
 }
 
-pub goes_then : (Of : ℕ → Type 0) (old mid new : MirrorView) → Copies Of old mid → CopyingGoesOn mid new → CopyingGoesOn old new
+pub goes_then : (Of : ℕ → Type 0) (old mid new : MirrorView) → CopiesOnly Of old mid → CopyingGoesOn mid new → CopyingGoesOn old new
 goes_then Of old mid new g h = record {
   events = g.goes.events ++ h.events;
   steps = all_on IsCopying g.goes.events h.events g.goes.steps h.steps;
@@ -100,15 +100,15 @@ copy_as Of Such widen (Event.Copy from k s) is = widen s is
 copy_as Of Such widen e is = absurd is
 
 module _ (Of : ℕ → Type 0) where
-  pub copies_none : (m : MirrorView) → IsConsistent m → Copies Of m m
+  pub copies_none : (m : MirrorView) → IsConsistent m → CopiesOnly Of m m
   unfolding goes_nowhere
   copies_none m sound = record { goes = goes_nowhere m sound; only = tt; array = refl }
 
-  pub copies_read : (old new : MirrorView) → Rests old new → IsConsistent old → Copies Of old new
+  pub copies_read : (old new : MirrorView) → Rests old new → IsConsistent old → CopiesOnly Of old new
   unfolding goes_read
   copies_read old new rests sound = record { goes = goes_read old new rests sound; only = tt; array = rests.array }
 
-  pub copies_then : (old mid new : MirrorView) → Copies Of old mid → Copies Of mid new → Copies Of old new
+  pub copies_then : (old mid new : MirrorView) → CopiesOnly Of old mid → CopiesOnly Of mid new → CopiesOnly Of old new
   unfolding goes_then
   copies_then old mid new g h = record {
     goes = goes_then Of old mid new g h.goes;
@@ -117,20 +117,20 @@ module _ (Of : ℕ → Type 0) where
   }
 
   -- a read after them is no event
-  pub events_then_read : (old mid new : MirrorView) (g : Copies Of old mid) (rests : Rests mid new) (sound : IsConsistent mid)
+  pub events_then_read : (old mid new : MirrorView) (g : CopiesOnly Of old mid) (rests : Rests mid new) (sound : IsConsistent mid)
       → (copies_then old mid new g (copies_read mid new rests sound)).goes.events ≡ g.goes.events
   unfolding copies_then copies_read goes_then goes_read
   events_then_read old mid new g rests sound = append-nil g.goes.events
 
   -- they are of other sectors too
-  pub copies_as : (Such : ℕ → Type 0) → ((s : ℕ) → Of s → Such s) → (old new : MirrorView) → Copies Of old new → Copies Such old new
+  pub copies_as : (Such : ℕ → Type 0) → ((s : ℕ) → Of s → Such s) → (old new : MirrorView) → CopiesOnly Of old new → CopiesOnly Such old new
   copies_as Such widen old new g = record { goes = g.goes; only = all_such (IsCopyIn Of) (IsCopyIn Such) (copy_as Of Such widen) g.goes.events g.only; array = g.array }
 
-  pub copies_unfailing : (old new : MirrorView) (g : Copies Of old new) → AllOf IsNoFailure g.goes.events
+  pub copies_unfailing : (old new : MirrorView) (g : CopiesOnly Of old new) → AllOf IsNoFailure g.goes.events
   copies_unfailing old new g = all_such (IsCopyIn Of) IsNoFailure (copy_unfailing Of) g.goes.events g.only
 
   -- a member fails after them
-  pub loses_then : (k : ℕ) (old mid new : MirrorView) → Copies Of old mid → LosesCopying k mid new → LosesCopying k old new
+  pub loses_then : (k : ℕ) (old mid new : MirrorView) → CopiesOnly Of old mid → LosesCopying k mid new → LosesCopying k old new
   unfolding goes_then
   loses_then k old mid new g h = record {
     goes = goes_then Of old mid new g h.goes;
@@ -141,7 +141,7 @@ module _ (Of : ℕ → Type 0) where
     faulty = h.faulty;
   }
 
-  pub halts_then : (old mid new : MirrorView) → Copies Of old mid → HaltsCopying mid new → HaltsCopying old new
+  pub halts_then : (old mid new : MirrorView) → CopiesOnly Of old mid → CopyingHalts mid new → CopyingHalts old new
   halts_then old mid new g h = record { mid = h.mid; goes = goes_then Of old mid h.mid g h.goes; failing = h.failing; of = h.of; halts = h.halts; sound = h.sound; halted = h.halted }
 
 all_copying : (from k s n : ℕ) → AllOf IsCopying (copies_of from k s n)
@@ -156,7 +156,7 @@ all_between from k s (suc n) start end low high = ((low, omega arith), all_betwe
 
 -- a sector of those bytes
 pub sector_held : (v : MirrorView) (k sector : ℕ) (bytes : List ℕ) → HoldsData v k sector bytes → (s : ℕ) → sector ≤ s → 512 * s + 512 ≤ 512 * sector + length bytes
-    → (m : MemberView) (d : Disk) → IsServed v k m d → sector_of m d s ≡ part bytes (512 * (s - sector)) 512
+    → (m : MemberView) (d : Disk) → IsHonestMember v k m d → sector_of m d s ≡ part bytes (512 * (s - sector)) 512
 sector_held v k sector bytes holds s from below m d served =
     let start : ℕ = m.superblock.data_offset + sector in
     let moved : 512 * (m.superblock.data_offset + s) ≡ 512 * start + 512 * (s - sector) = omega arith in
@@ -179,7 +179,7 @@ module _ (old new : MirrorView) (rests : Rests old new) where
   was_in_sync : (k : ℕ) (m : MemberView) → IsInSync new.array k m → IsInSync old.array k m
   was_in_sync k m is = subst (λ (a : ArrayView). IsInSync a k m) rests.array is
 
-  was_served : (k : ℕ) (m : MemberView) (e : Disk) → IsServed new k m e → (d : Disk) × IsServed old k m d × (e.content ≡ d.content)
+  was_served : (k : ℕ) (m : MemberView) (e : Disk) → IsHonestMember new k m e → (d : Disk) × IsHonestMember old k m d × (e.content ≡ d.content)
   was_served k m e is =
       let d = was_device k e is.disk in (
         d.0,
@@ -195,7 +195,7 @@ module _ (old new : MirrorView) (rests : Rests old new) where
       ∙ agree j k m n a.0 b.0 a.1 b.1 free free_too
       ∙ sym (ap (λ (c : List ℕ). part c (512 * (n.superblock.data_offset + s)) 512) b.2)
 
-  still_served : (k : ℕ) (m : MemberView) (d : Disk) → IsServed old k m d → (e : Disk) × IsServed new k m e × (d.content ≡ e.content)
+  still_served : (k : ℕ) (m : MemberView) (d : Disk) → IsHonestMember old k m d → (e : Disk) × IsHonestMember new k m e × (d.content ≡ e.content)
   still_served k m d is =
       let low = slice_get_within old.disks k d is.disk in
       let many = rests.disks.same.as_many in
@@ -250,7 +250,7 @@ module _ (k sector : ℕ) (bytes : List ℕ) (old new : MirrorView) (c : IsConsi
       (λ here. subst (λ (i : ℕ). HoldsData new i sector bytes) (sym here) target_holds)
       (λ apart d m at member honest. holds d m (sym (t.disks.tried.others j apart) ∙ at) (there_in j m member) honest)
 
-  beside_served : (s : ℕ) → IsBeside sector bytes s → (j : ℕ) (m : MemberView) (e : Disk) → IsServed new j m e → (d : Disk) × IsServed old j m d × (sector_of m e s ≡ sector_of m d s)
+  beside_served : (s : ℕ) → IsBesideSectors sector bytes s → (j : ℕ) (m : MemberView) (e : Disk) → IsHonestMember new j m e → (d : Disk) × IsHonestMember old j m d × (sector_of m e s ≡ sector_of m d s)
   beside_served s beside j m e is = by_same j k
       (λ here.
       let at : slice_get new.disks k ≡ Some e = sym (ap (slice_get new.disks) here) ∙ is.disk in
@@ -267,7 +267,7 @@ module _ (k sector : ℕ) (bytes : List ℕ) (old new : MirrorView) (c : IsConsi
       ))
       (λ apart. (e, record { in_sync = subst (λ (a : ArrayView). IsInSync a j m) t.array is.in_sync; disk = sym (t.disks.tried.others j apart) ∙ is.disk; honest = is.honest }, refl))
 
-  pub beside_agrees : (s : ℕ) → IsBeside sector bytes s → AllAgreeAt old s → AllAgreeAt new s
+  pub beside_agrees : (s : ℕ) → IsBesideSectors sector bytes s → AllAgreeAt old s → AllAgreeAt new s
   beside_agrees s beside agree i j m n d e one other free free_too =
       let a = beside_served s beside i m d one in
       let b = beside_served s beside j n e other in
@@ -342,7 +342,7 @@ module _ (k chunk : ℕ) (old new : MirrorView) where
         faulty = subst (λ (i : ℕ). IsFaulty i new.array) (sym r.0) (faulty_after old.array new.array k f.fails.array in_use);
       }
 
-  pub halts_copying : IsConsistent old → RefusesCopy k chunk old new copy_fault.Halted → IsConsistent new → HaltsCopying old new
+  pub halts_copying : IsConsistent old → RefusesCopy k chunk old new copy_fault.Halted → IsConsistent new → CopyingHalts old new
   halts_copying before h sound = record {
     mid = old;
     goes = goes_nowhere old before;

@@ -1,12 +1,12 @@
--- In the life of a mirror members agree where one lists in memory what its device does not: so a resync settles the content of the life.
+-- In the life of a mirror members agree where one lists in memory what its device does not: so a resync makes one content of it.
 use Rattle.std.proofs.Common.{inr, sym, subst}
 use Rattle.md_model.specs.Content.{HoldsBetween}
 use Rattle.md_array.specs.Worlds.{world_of}
 use Rattle.md_laws.proofs.Runs.MirrorContents.{life_held_at}
-use Rattle.md_resync.specs.InLives.{SettlesInLives}
+use Rattle.md_resync.specs.InLives.{ResyncsContentInLives}
 
-pub settles_in_lives : SettlesInLives
-settles_in_lives before m a start holds es rest final last b life new r =
+pub resyncs_content_in_lives : ResyncsContentInLives
+resyncs_content_in_lives before m a start holds es rest final last b life new r =
     let at = life_held_at before m a start holds es rest final last b life in
     let kept = at.held.kept in
     r.content at.sound.honest last.requests at.sound.in_flight b

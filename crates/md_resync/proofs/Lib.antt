@@ -2,7 +2,7 @@ pub mod Bests
 pub mod StepsOn
 pub mod CopiedRuns
 pub mod StepRuns
-pub mod StoppedSteps
+pub mod StepCrashes
 pub mod CopiedChunks
 pub mod Advancing
 pub mod Agreeing

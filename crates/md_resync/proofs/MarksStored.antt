@@ -20,8 +20,8 @@ use Rattle.md_state.specs.StoringMarks.{StoresMarkSector}
 use Rattle.md_state.specs.View.{ArrayView, Disk, MirrorView}
 use Rattle.md_array.specs.Consistency.{IsConsistent}
 use Rattle.md_array.specs.InTurn.{AllOf, IsSectorDue, Leads, Requests}
-use Rattle.md_array.specs.NotingResynced.{AllAgreeAt, IsServed, sector_of}
-use Rattle.md_array.specs.Worlds.{from_super, none_in_flight}
+use Rattle.md_array.specs.NotingResynced.{AllAgreeAt, IsHonestMember, sector_of}
+use Rattle.md_array.specs.Worlds.{sector_from_super, none_in_flight}
 use Rattle.md_array.proofs.Steps.Turns.{all_such}
 use Rattle.md_laws.proofs.Runs.ReadTurns.{unread}
 use Rattle.md_metadata.specs.Going as metadata
@@ -36,7 +36,7 @@ use Rattle.md_array.proofs.Steps.MarkSectors.{marks_stored_is_consistent}
 use Rattle.md_array.proofs.Worlds.Outside.{starts_at}
 use Rattle.md_array.proofs.Worlds.PartsApart.{marks_alone, parts_of}
 use Rattle.md_array.proofs.Openings.Opened.{same_through}
-use Rattle.md_resync.specs.Resyncing.{FailsToWrite, GoesOn, HaltsIdle, HasSameMembers, IsOfResync, StoresMarks}
+use Rattle.md_resync.specs.Resyncing.{FailsAtWrite, ResyncGoesOn, HaltsIdle, HasSameMembers, IsOfResync, StoresAllMarks}
 use Rattle.md_resync.proofs.Agreeing.{IsCalm, calm_content}
 use Rattle.md_resync.proofs.Cleared.{same_disks, same_members}
 use Rattle.md_resync.proofs.CopiedRuns.{tried_same}
@@ -53,7 +53,7 @@ module _ (k block : ℕ) (old new : MirrorView) (c : IsConsistent old) (low : bl
   n = record r.member { stored = r.stored }
 
   abbrev start : ℕ
-  start = from_super m.superblock.bitmap_offset
+  start = sector_from_super m.superblock.bitmap_offset
 
   members_are : new.array.members ≡ set old.array.members k n
   members_are = ap (λ (a : ArrayView). a.members) r.array
@@ -78,11 +78,11 @@ module _ (k block : ℕ) (old new : MirrorView) (c : IsConsistent old) (low : bl
   record WasServed (s j : ℕ) (x : MemberView) (e : Disk) : Type 0 where
     member : MemberView
     disk : Disk
-    served : IsServed old j member disk
+    served : IsHonestMember old j member disk
     listed : Lists member s → Lists x s
     sector : sector_of x e s ≡ sector_of member disk s
 
-  was_served : (s : ℕ) → s < old.array.chunks.size → (j : ℕ) (x : MemberView) (e : Disk) → IsServed new j x e → WasServed s j x e
+  was_served : (s : ℕ) → s < old.array.chunks.size → (j : ℕ) (x : MemberView) (e : Disk) → IsHonestMember new j x e → WasServed s j x e
   was_served s below j x e is = by_same j k
       (λ here.
       let inside = slice_get_within old.array.members k m r.may.in_sync.member in
@@ -200,7 +200,7 @@ marking_by_steps : (es : List Event) (old new : MirrorView) → AllOf IsMarking 
 marking_by_steps es old new all = by_singles es old new (all_such IsMarking IsNoCopy marking_no_copy es all)
 
 -- all of it
-pub stores_marks : (old new : MirrorView) → IsIdle old.array → IsConsistent old → StoresAll IsMarking (HasAllMarks old.array.marks) old new → StoresMarks old new
+pub stores_marks : (old new : MirrorView) → IsIdle old.array → IsConsistent old → StoresAll IsMarking (HasAllMarks old.array.marks) old new → StoresAllMarks old new
 stores_marks old new idle sound s =
     let g = s.stores.goes in
     let steps = all_stored g.events g.steps s.stores.unfailing in
@@ -230,7 +230,7 @@ marking_of (Event.StoreMarks k b) is = tt
 marking_of (Event.WriteFails k (MemberPart.BitmapSector b)) is = tt
 marking_of e is = absurd is
 
-marking_goes : (old new : MirrorView) → metadata.GoesOn only_others only_others IsMarking old new → GoesOn old new
+marking_goes : (old new : MirrorView) → metadata.GoesOn only_others only_others IsMarking old new → ResyncGoesOn old new
 marking_goes old new g = record {
   events = g.events;
   steps = all_such IsMarking IsOfResync marking_of g.events g.steps;
@@ -239,7 +239,7 @@ marking_goes old new g = record {
   unread = λ only_others. g.leads;
 }
 
-pub loses_marks : (k : ℕ) (old new : MirrorView) → IsIdle old.array → LosesStoring IsMarking k old new → FailsToWrite k old new
+pub loses_marks : (k : ℕ) (old new : MirrorView) → IsIdle old.array → LosesStoring IsMarking k old new → FailsAtWrite k old new
 unfolding marking_goes
 loses_marks k old new idle s =
     let l = s.loses in

@@ -31,8 +31,8 @@ use Rattle.md_metadata.specs.Clearing.{ClearsAll}
 use Rattle.md_metadata.specs.Storing.{HasAllMarks, IsMarking}
 use Rattle.md_resync.specs.declared.fault.ResyncFault.{ResyncFault}
 use Rattle.md_resync.specs.declared.fault.ResyncFault.TheVariants.{Halted, InFlight, MemberFailed, NoMemory, ReadFault}
-use Rattle.md_resync.specs.Copying.{Copies, CopyingFails, FailsReading, IsCopyIn, IsMarkedAt, LosesCopying}
-use Rattle.md_resync.specs.Resyncing.{Advances, AgreeUnstored, Agrees, ClearsStored, ComesTo, FailsToAgree, FailsToWrite, GoesOn, HasSameMembers, IdleFails, IsCopyBelow, IsResynced, LeavesMarks, MarkingFails, Resyncs, SettlesContent, StoresMarks}
+use Rattle.md_resync.specs.Copying.{CopiesOnly, CopyingFails, FailsReading, IsCopyIn, IsInMarkedChunk, LosesCopying}
+use Rattle.md_resync.specs.Resyncing.{ResyncAdvances, AgreeUnstored, Agrees, ClearsStored, ComesTo, FailsToAgree, FailsAtWrite, ResyncGoesOn, HasSameMembers, IdleFails, IsCopyBelow, IsResynced, LeavesMarks, MarkingFails, Resyncs, ResyncsContent, StoresAllMarks}
 use Rattle.md_resync.proofs.Advancing.{advances_on, agree_same, alone_still, fails_on, goes_on, none_flies}
 use Rattle.md_resync.proofs.Agreeing.{copies_advance, copying_goes, copying_is_calm}
 use Rattle.md_resync.proofs.Cleared.{cleared_stored, clearing_advances, content_on, same_but_marks, same_disks}
@@ -67,7 +67,7 @@ degraded_alike a b disks same =
     ∙ (λ i. list_any (λ role. not (filled role i)) (range_with_len 0 a.shared.raid_disks))
 
 -- ---- its end in memory
-pub resynced_advances : (b c : MirrorView) → BecomesResynced b c → Happens b Event.Resynced c → IsConsistent c → Advances b c
+pub resynced_advances : (b c : MirrorView) → BecomesResynced b c → Happens b Event.Resynced c → IsConsistent c → ResyncAdvances b c
 resynced_advances b c r happens sound = record {
   goes = record {
     events = Event.Resynced ∷ [];
@@ -88,12 +88,12 @@ pub all_noted : (a b : ArrayView) → AllInSync a (HasAllMarks a.marks) → b �
 all_noted a b stored same = subst AreNoted (sym same) (λ i c m is low on. stored i m is c low ∙ on)
 
 -- ---- up to there
-pub before : (old a b c : MirrorView) → IsIdle old.array → StoresMarks old a → Agrees a b → BecomesResynced b c → Happens b Event.Resynced c → IsConsistent c → Advances old c
+pub before : (old a b c : MirrorView) → IsIdle old.array → StoresAllMarks old a → Agrees a b → BecomesResynced b c → Happens b Event.Resynced c → IsConsistent c → ResyncAdvances old c
 before old a b c idle s g r happens sound =
     advances_on old b c idle (subst (HasSameMembers old.array) (sym g.array) s.members) (advances_on old a b idle s.members s.advances g.advances) (resynced_advances b c r happens sound)
 
 -- ---- all of it
-module _ (old a b c : MirrorView) (idle : IsIdle old.array) (s : StoresMarks old a) (g : Agrees a b) (r : BecomesResynced b c) (happens : Happens b Event.Resynced c) (sound : IsConsistent c) where
+module _ (old a b c : MirrorView) (idle : IsIdle old.array) (s : StoresAllMarks old a) (g : Agrees a b) (r : BecomesResynced b c) (happens : Happens b Event.Resynced c) (sound : IsConsistent c) where
   array_b : b.array ≡ record old.array { members = a.array.members }
   array_b = g.array ∙ s.array
 
@@ -136,7 +136,7 @@ module _ (old a b c : MirrorView) (idle : IsIdle old.array) (s : StoresMarks old
         inr (unstored_on a b g.advances (same_honest old.disks a.disks s.advances.same honest) requests (none_flies old.array a.array idle requests in_flight)
         (unstored_on old a s.advances honest requests in_flight agree))
 
-    content : SettlesContent old d
+    content : ResyncsContent old d
     content honest requests in_flight held holds agreed =
         let first = (content_on old a b idle s.advances.same (ap geometry_of s.array) s.content g.content) honest requests in_flight held holds in
         let same_b = same_through old.disks a.disks b.disks s.advances.same g.advances.same in
@@ -154,7 +154,7 @@ module _ (old a b c : MirrorView) (idle : IsIdle old.array) (s : StoresMarks old
           subst (λ (v : ArrayView). v.resynced ≡ true → (t : ℕ) → t < v.chunks.size → settled.0 t ≡ held t) array_b settled.3,
         )
 
-    whole : Advances old d
+    whole : ResyncAdvances old d
     whole = advances_on old c d idle members_c (before old a b c idle s g r happens sound) x.advances
 
     pub resyncs : Resyncs old d
@@ -179,7 +179,7 @@ copied_below : (sector : ℕ) (e : Event) → IsCopyIn (λ s. s < sector) e → 
 copied_below sector (Event.Copy from k s) is = is
 copied_below sector e is = absurd is
 
-module _ (old a b : MirrorView) (idle : IsIdle old.array) (s : StoresMarks old a) (two_there : IsAlone a.array → ⊥) where
+module _ (old a b : MirrorView) (idle : IsIdle old.array) (s : StoresAllMarks old a) (two_there : IsAlone a.array → ⊥) where
   marks_a : a.array.marks ≡ old.array.marks
   marks_a = ap (λ (v : ArrayView). v.marks) s.array
 
@@ -190,24 +190,24 @@ module _ (old a b : MirrorView) (idle : IsIdle old.array) (s : StoresMarks old a
   two alone = two_there (alone_still old.array a.array s.members alone)
 
   -- member k could not be read
-  module _ (k chunk : ℕ) (h : FailsReading (IsMarkedAt a.array) k chunk a b) where
+  module _ (k chunk : ℕ) (h : FailsReading (IsInMarkedChunk a.array) k chunk a b) where
     abbrev Of : ℕ → Type 0
     Of t = t < h.sector
 
-    all_copies : Copies Of a b
+    all_copies : CopiesOnly Of a b
     all_copies = copies_then Of a h.mid b h.copies (copies_read Of h.mid b h.fails.rests h.copies.goes.sound)
 
-    came : Advances a b
+    came : ResyncAdvances a b
     came = copies_advance Of a b two_there all_copies s.advances.idle
 
-    whole_way : Advances old b
+    whole_way : ResyncAdvances old b
     whole_way = advances_on old a b idle s.members s.advances came
 
     same : b.array ≡ a.array
     same = all_copies.array
 
     -- up to the read
-    reached : GoesOn old h.mid
+    reached : ResyncGoesOn old h.mid
     reached = goes_on old a h.mid idle s.members s.advances.goes (copying_goes a h.mid two_there h.copies.goes)
 
     by_events : reached.events ≡ whole_way.goes.events
@@ -228,7 +228,7 @@ module _ (old a b : MirrorView) (idle : IsIdle old.array) (s : StoresMarks old a
       marked = subst (λ (x : Bitmap). is_set x.bytes chunk ≡ true) marks_a h.marked;
       source = subst (IsSource k h.sector) (sym h.copies.array) h.source;
       before = λ t low marked. agreed_before h.mid b h.fails.rests t (h.before t
-          (subst (λ (v : ArrayView). IsMarkedAt v t) (sym s.array)
+          (subst (λ (v : ArrayView). IsInMarkedChunk v t) (sym s.array)
           ((let inside = subst (λ (x : Chunks). h.sector < x.size) chunks_a h.inside in omega arith), marked)) low);
       none = none_from;
     }
@@ -255,11 +255,11 @@ module _ (old a b : MirrorView) (idle : IsIdle old.array) (s : StoresMarks old a
           fails = h.fails;
         }
 
-  copying_loses : (k : ℕ) → LosesCopying k a b → FailsToWrite k a b
+  copying_loses : (k : ℕ) → LosesCopying k a b → FailsAtWrite k a b
   unfolding copying_goes
   copying_loses k h = record { goes = copying_goes a b two_there h.goes; last = h.last; marks = inl h.marks; idle = h.idle; was = h.was; faulty = h.faulty }
 
-  pub agreeing_fails : (fault : ResyncFault) → CopyingFails (IsMarkedAt a.array) a b fault → IdleFails old b fault
+  pub agreeing_fails : (fault : ResyncFault) → CopyingFails (IsInMarkedChunk a.array) a b fault → IdleFails old b fault
   agreeing_fails Halted h = record {
     halts = record {
       idle = idle;
@@ -282,7 +282,7 @@ pub marks_on : (a b c : ArrayView) → is_degraded b ≡ is_degraded a → Leave
 marks_on a b c degraded before (inl same) = subst (λ (x : Bitmap). LeavesMarks a (record b { marks = x })) (sym same) before
 marks_on a b c degraded before (inr cleared) = inr (sym degraded ∙ cleared.0, cleared.1)
 
-pub marks_stop : (old mid new : MirrorView) (fault : ResyncFault) → IsIdle old.array → Advances old mid → HasSameMembers old.array mid.array → is_degraded mid.array ≡ is_degraded old.array
+pub marks_stop : (old mid new : MirrorView) (fault : ResyncFault) → IsIdle old.array → ResyncAdvances old mid → HasSameMembers old.array mid.array → is_degraded mid.array ≡ is_degraded old.array
     → LeavesMarks old.array mid.array → MarkingFails mid new fault → MarkingFails old new fault
 marks_stop old mid new Halted idle g s degraded marks h = record {
   halts = record { idle = idle; mid = h.halts.mid; goes = goes_on old mid h.halts.mid idle s g.goes h.halts.goes; failing = h.halts.failing; of = h.halts.of; halts = h.halts.halts };
@@ -302,14 +302,14 @@ marks_stop_idle old new (MemberFailed k) h = h
 
 -- ---- what clearing answers
 pub cleared_or_stops : (old mid new : MirrorView) → IsIdle old.array → is_degraded old.array ≡ false → ClearsAll old mid
-    → {T : Type 0} (result : Result T ResyncFault) → MatchResult result (λ _. StoresMarks mid new) (MarkingFails mid new) → MatchResult result (λ _. ClearsStored old new) (MarkingFails old new)
+    → {T : Type 0} (result : Result T ResyncFault) → MatchResult result (λ _. StoresAllMarks mid new) (MarkingFails mid new) → MatchResult result (λ _. ClearsStored old new) (MarkingFails old new)
 cleared_or_stops old mid new idle full c (Ok t) s = cleared_stored old mid new idle full c s
 cleared_or_stops old mid new idle full c (Err fault) h =
     let same = same_but_marks old.array mid.array c.marks_alone.array in
     marks_stop old mid new fault idle (clearing_advances old mid idle c.marks_alone) same (degraded_alike old.array mid.array (ap (λ (v : ArrayView). v.shared.raid_disks) c.marks_alone.array) same) (inr (full, c.none)) h
 
 -- ---- what a resync answers while nothing is in flight
-pub resyncs_or_stops : (old a b c d : MirrorView) → IsIdle old.array → StoresMarks old a → Agrees a b → BecomesResynced b c → Happens b Event.Resynced c → IsConsistent c
+pub resyncs_or_stops : (old a b c d : MirrorView) → IsIdle old.array → StoresAllMarks old a → Agrees a b → BecomesResynced b c → Happens b Event.Resynced c → IsConsistent c
     → {T : Type 0} (result : Result T ResyncFault) → MatchResult result (λ _. ClearsStored c d) (MarkingFails c d) → MatchResult result (λ _. Resyncs old d) (IdleFails old d)
 resyncs_or_stops old a b c d idle s g r happens sound (Ok t) x = resyncs old a b c idle s g r happens sound d x
 resyncs_or_stops old a b c d idle s g r happens sound (Err fault) h =

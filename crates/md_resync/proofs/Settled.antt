@@ -12,7 +12,7 @@ use Rattle.md_state.specs.View.{MirrorView, geometry_of}
 use Rattle.md_array.specs.Events.{Happens}
 use Rattle.md_array.specs.Worlds.{world_of}
 use Rattle.md_array.proofs.Worlds.InSync.{in_sync_is}
-use Rattle.md_resync.specs.Resyncing.{AgreeUnstored, SettlesContent}
+use Rattle.md_resync.specs.Resyncing.{AgreeUnstored, ResyncsContent}
 
 -- where it is the same
 record IsSettledAs (g : Geometry) (w w' : World) (a b : Content) : Type 0 where
@@ -58,7 +58,7 @@ agreed_unstored g w a holds (inl resynced) = λ j k s low one other _ at_rest fr
     holds.at_rest j s low one free at_rest (inl resynced) ∙ sym (holds.at_rest k s low other free_too at_rest (inl resynced))
 agreed_unstored g w a holds (inr agreed) = agreed
 
-pub settles : (old new : MirrorView) → Happens old Event.Resynced new → SettlesContent old new
+pub settles : (old new : MirrorView) → Happens old Event.Resynced new → ResyncsContent old new
 settles old new happens honest requests in_flight a holds agreed =
     let does = happens honest requests in_flight in
     let w = world_of old requests in

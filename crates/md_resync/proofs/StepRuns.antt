@@ -16,7 +16,7 @@ use Rattle.md_laws.proofs.Runs.CallRuns.{run_on}
 use Rattle.md_laws.proofs.Runs.ReadTurns.{read_first, read_run, unread, left_whole}
 use Rattle.md_laws.proofs.Runs.Rests.{rests_same}
 use Rattle.md_resync.specs.StepRuns.{StepsAreRuns}
-use Rattle.md_resync.specs.Steps.{MirrorStep, StepsInTurn, copies_in, events_of}
+use Rattle.md_resync.specs.Steps.{MirrorStep, StepsInTurn, copies_in, events_of_steps}
 use Rattle.md_resync.proofs.CopiedRuns.{tried_same}
 
 -- the first of them lead to where the others begin
@@ -34,9 +34,9 @@ no_record : (from k s n : ℕ) → AllOf IsNoFailedRecord (copies_of from k s n)
 no_record from k s zero = tt
 no_record from k s (suc n) = (tt, no_record from k (s + 1) n)
 
-steps_run : (steps : List MirrorStep) (h : Moment) (Then : MirrorView → Requests → Type 0) → StepsInTurn h.mirror h.requests steps Then → AllOf IsNoFailedRecord (events_of steps)
+steps_run : (steps : List MirrorStep) (h : Moment) (Then : MirrorView → Requests → Type 0) → StepsInTurn h.mirror h.requests steps Then → AllOf IsNoFailedRecord (events_of_steps steps)
     → AreHonest h.mirror.disks → IsConsistent h.mirror
-    → (last : Moment) × MirrorRun h (events_of steps) last × AreHonest last.mirror.disks × IsConsistent last.mirror × Then last.mirror last.requests
+    → (last : Moment) × MirrorRun h (events_of_steps steps) last × AreHonest last.mirror.disks × IsConsistent last.mirror × Then last.mirror last.requests
 steps_run [] h Then t all honest sound =
     (record h { mirror = t.0 }, record { rests = t.1; is = refl }, same_honest h.mirror.disks t.0.disks t.1.disks.same honest, rests_sound h.mirror t.0 t.1 sound, t.2)
 steps_run (MirrorStep.Single e ∷ steps) h Then t all honest sound =
@@ -54,8 +54,8 @@ steps_run (MirrorStep.CopyRun r ∷ steps) h Then t all honest sound =
     (t.4 None) in
     let here = read_run (copies_in r) None h Here (read_first (copies_in r) None h.mirror t.0 h.requests Here t.2 (unread (copies_in r) None t.0 h.requests Here turn))
     (no_record r.from r.to r.sector (length r.bytes / 512)) honest in
-    let rest = steps_run steps here.0 Then here.2.0 (all_after IsNoFailedRecord (copies_in r) (events_of steps) all) here.2.1 here.2.2 in
-    (rest.0, run_on (copies_in r) (events_of steps) h here.0 rest.0 here.1 rest.1, rest.2, rest.3, rest.4)
+    let rest = steps_run steps here.0 Then here.2.0 (all_after IsNoFailedRecord (copies_in r) (events_of_steps steps) all) here.2.1 here.2.2 in
+    (rest.0, run_on (copies_in r) (events_of_steps steps) h here.0 rest.0 here.1 rest.1, rest.2, rest.3, rest.4)
 
 pub steps_are_runs : StepsAreRuns
 steps_are_runs steps more t new after leads = steps_run steps t (λ m r. StepsInTurn m r more (λ m r. (m ≡ new) × (r ≡ after))) (steps_apart steps more t.mirror t.requests (λ m r. (m ≡ new) × (r ≡ after)) leads)

@@ -9,7 +9,7 @@ use Rattle.md_state.specs.View.{MirrorView}
 use Rattle.md_array.specs.CopyEvents.{CopiesInTurn}
 use Rattle.md_array.specs.InTurn.{AllOf, InTurn, Leads, Requests}
 use Rattle.md_laws.proofs.Runs.Rests.{rests_same, rests_then}
-use Rattle.md_resync.specs.Steps.{GoesBySteps, IsNoCopy, MirrorStep, StepsInTurn, copies_in, events_of}
+use Rattle.md_resync.specs.Steps.{GoesBySteps, IsNoCopy, MirrorStep, StepsInTurn, copies_in, events_of_steps}
 
 -- what holds at the end, weaker
 steps_then : (steps : List MirrorStep) (old : MirrorView) (before : Requests) (P Q : MirrorView → Requests → Type 0)
@@ -32,11 +32,11 @@ steps_on [] more old before P t = steps_first more old t.0 before P t.1 t.2
 steps_on (MirrorStep.Single e ∷ steps) more old before P t = (t.0, t.1, t.2, t.3, t.4, t.5, t.6, t.7, steps_on steps more t.1 t.2 P t.8)
 steps_on (MirrorStep.CopyRun r ∷ steps) more old before P t = (t.0, t.1, t.2, t.3, t.4, steps_on steps more t.1 before P t.5)
 
-events_on : (steps more : List MirrorStep) → events_of (steps ++ more) ≡ events_of steps ++ events_of more
+events_on : (steps more : List MirrorStep) → events_of_steps (steps ++ more) ≡ events_of_steps steps ++ events_of_steps more
 events_on [] more = refl
 events_on (MirrorStep.Single e ∷ steps) more = ap (λ (es : List Event). e ∷ es) (events_on steps more)
 events_on (MirrorStep.CopyRun r ∷ steps) more =
-    ap (λ (es : List Event). copies_in r ++ es) (events_on steps more) ∙ sym (append_assoc (copies_in r) (events_of steps) (events_of more))
+    ap (λ (es : List Event). copies_in r ++ es) (events_on steps more) ∙ sym (append_assoc (copies_in r) (events_of_steps steps) (events_of_steps more))
 
 -- ---- nothing but reads
 pub by_none : (old new : MirrorView) → Rests old new → GoesBySteps [] old new
@@ -47,7 +47,7 @@ pub by_on : (es fs : List Event) (old mid new : MirrorView) → ((requests : Req
     → GoesBySteps es old mid → GoesBySteps fs mid new → GoesBySteps (es ++ fs) old new
 by_on es fs old mid new stay g h = record {
   steps = g.steps ++ h.steps;
-  all = ap (λ (xs : List Event). xs ++ fs) g.all ∙ ap (λ (xs : List Event). events_of g.steps ++ xs) h.all ∙ sym (events_on g.steps h.steps);
+  all = ap (λ (xs : List Event). xs ++ fs) g.all ∙ ap (λ (xs : List Event). events_of_steps g.steps ++ xs) h.all ∙ sym (events_on g.steps h.steps);
   leads = λ requests in_flight.
       steps_on g.steps h.steps old requests (λ m r. (m ≡ new) × (r ≡ requests))
       (steps_then g.steps old requests
@@ -84,7 +84,7 @@ abbrev singles : List Event → List MirrorStep
 singles [] = []
 singles (e ∷ es) = MirrorStep.Single e ∷ singles es
 
-singles_are : (es : List Event) → es ≡ events_of (singles es)
+singles_are : (es : List Event) → es ≡ events_of_steps (singles es)
 singles_are [] = refl
 singles_are (e ∷ es) = ap (λ (xs : List Event). e ∷ xs) (singles_are es)
 

@@ -17,7 +17,7 @@ use Rattle.md_array.proofs.General.Honesty.{same_honest}
 use Rattle.md_array.proofs.General.Resting.{geometry_rests, world_rests}
 use Rattle.md_laws.specs.ReadInTurn.{LeadsReading}
 use Rattle.md_metadata.specs.Storing.{IsNoFailure}
-use Rattle.md_resync.specs.Resyncing.{Advances, AgreeUnstored, IsOfResync}
+use Rattle.md_resync.specs.Resyncing.{ResyncAdvances, AgreeUnstored, IsOfResync}
 
 -- ---- by one event
 module _ (g : Geometry) where
@@ -77,7 +77,7 @@ unstored_along (e ∷ es) previous old before new after all done honest t u =
     unstored_along es (Some e) t.1 t.2 new after all.1 done.1 does.honest t.7
     (subst (λ (g : Geometry). AgreeUnstored g (world_of t.1 t.2)) (sym does.geometry) mid)
 
-pub unstored_on : (old new : MirrorView) → Advances old new → AreHonest old.disks → (requests : Requests) → AreInFlight old.array requests
+pub unstored_on : (old new : MirrorView) → ResyncAdvances old new → AreHonest old.disks → (requests : Requests) → AreInFlight old.array requests
     → AgreeUnstored (geometry_of old.array) (world_of old requests) → AgreeUnstored (geometry_of new.array) (world_of new requests)
 unstored_on old new g honest requests in_flight =
     unstored_along g.goes.events None old requests new requests g.goes.steps g.unfailing honest (g.goes.leads None requests in_flight)

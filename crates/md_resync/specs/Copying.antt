@@ -40,7 +40,7 @@ IsCopyIn Of (Event.Copy from k s) = Of s
 IsCopyIn Of e = ⊥
 
 -- None but these sectors were copied, nothing failed, and nothing changed that is kept in memory.
-pub record Copies (Of : ℕ → Type 0) (old new : MirrorView) : Type 0 where
+pub record CopiesOnly (Of : ℕ → Type 0) (old new : MirrorView) : Type 0 where
   pub goes : CopyingGoesOn old new
   pub only : AllOf (IsCopyIn Of) goes.events
   pub array : new.array ≡ old.array
@@ -55,12 +55,12 @@ abbrev pub IsAmong : ℕ → List ℕ → ℕ → Type 0
 IsAmong sector bytes = IsBetween sector (sector + length bytes / 512)
 
 -- The sector is of this chunk of the array.
-abbrev pub IsOfChunk : ArrayView → ℕ → ℕ → Type 0
-IsOfChunk a chunk s = (s < a.chunks.size) × (s / a.chunks.sectors ≡ chunk)
+abbrev pub IsInChunkOf : ArrayView → ℕ → ℕ → Type 0
+IsInChunkOf a chunk s = (s < a.chunks.size) × (s / a.chunks.sectors ≡ chunk)
 
 -- The sector is of a marked chunk of the array.
-abbrev pub IsMarkedAt : ArrayView → ℕ → Type 0
-IsMarkedAt a s = (s < a.chunks.size) × (is_set a.marks.bytes (s / a.chunks.sectors) ≡ true)
+abbrev pub IsInMarkedChunk : ArrayView → ℕ → Type 0
+IsInMarkedChunk a s = (s < a.chunks.size) × (is_set a.marks.bytes (s / a.chunks.sectors) ≡ true)
 
 -- ---- one run of sectors
 -- The sectors are of one chunk and have this source, which holds these bytes there.
@@ -76,29 +76,29 @@ pub record IsRun (from sector : ℕ) (bytes : List ℕ) (v : MirrorView) : Type 
   pub holds : HoldsData v from sector bytes
 
 -- The sector is none of those of the bytes.
-abbrev pub IsBeside : ℕ → List ℕ → ℕ → Type 0
-IsBeside sector bytes s = (s < sector) ⊎ (512 * sector + length bytes ≤ 512 * s)
+abbrev pub IsBesideSectors : ℕ → List ℕ → ℕ → Type 0
+IsBesideSectors sector bytes s = (s < sector) ⊎ (512 * sector + length bytes ≤ 512 * s)
 
 -- Member k has the bytes, if it is in sync; who had them has them, and members that agreed in another sector agree there.
 pub record GivesTo (k sector : ℕ) (bytes : List ℕ) (old new : MirrorView) : Type 0 where
-  pub copies : Copies (IsAmong sector bytes) old new
+  pub copies : CopiesOnly (IsAmong sector bytes) old new
   pub given : (m : MemberView) → IsInSync new.array k m → HoldsData new k sector bytes
   pub kept : (j : ℕ) → HoldsData old j sector bytes → HoldsData new j sector bytes
-  pub agree : (s : ℕ) → IsBeside sector bytes s → AllAgreeAt old s → AllAgreeAt new s
+  pub agree : (s : ℕ) → IsBesideSectors sector bytes s → AllAgreeAt old s → AllAgreeAt new s
 
 -- Each member in sync before member k has the bytes. Who had them has them, and members that agreed in
 -- another sector agree there.
 pub record GivesBelow (k sector : ℕ) (bytes : List ℕ) (old new : MirrorView) : Type 0 where
-  pub copies : Copies (IsAmong sector bytes) old new
+  pub copies : CopiesOnly (IsAmong sector bytes) old new
   pub given : (j : ℕ) (m : MemberView) → j < k → IsInSync new.array j m → HoldsData new j sector bytes
   pub kept : (j : ℕ) → HoldsData old j sector bytes → HoldsData new j sector bytes
-  pub agree : (s : ℕ) → IsBeside sector bytes s → AllAgreeAt old s → AllAgreeAt new s
+  pub agree : (s : ℕ) → IsBesideSectors sector bytes s → AllAgreeAt old s → AllAgreeAt new s
 
 -- Each member in sync has the bytes, and members that agreed in another sector agree there.
 pub record GivesAll (sector : ℕ) (bytes : List ℕ) (old new : MirrorView) : Type 0 where
-  pub copies : Copies (IsAmong sector bytes) old new
+  pub copies : CopiesOnly (IsAmong sector bytes) old new
   pub given : (j : ℕ) (m : MemberView) → IsInSync new.array j m → HoldsData new j sector bytes
-  pub agree : (s : ℕ) → IsBeside sector bytes s → AllAgreeAt old s → AllAgreeAt new s
+  pub agree : (s : ℕ) → IsBesideSectors sector bytes s → AllAgreeAt old s → AllAgreeAt new s
 
 -- ---- chunks
 -- these sectors are of this chunk, which may be copied
@@ -109,7 +109,7 @@ pub record IsPart (chunk sector end : ℕ) (a : ArrayView) : Type 0 where
 
 -- Members in sync agree in these sectors, and wherever they agreed.
 pub record AgreesTo (sector next : ℕ) (old new : MirrorView) : Type 0 where
-  pub copies : Copies (IsBetween sector next) old new
+  pub copies : CopiesOnly (IsBetween sector next) old new
   pub agree : (s : ℕ) → sector ≤ s → s < next → AllAgreeAt new s
   pub still : (s : ℕ) → AllAgreeAt old s → AllAgreeAt new s
 
@@ -120,13 +120,13 @@ pub record CopiesRun (sector end next : ℕ) (old new : MirrorView) : Type 0 whe
 
 -- Members in sync agree in each sector of this chunk, and wherever they agreed.
 pub record CopiesChunk (chunk : ℕ) (old new : MirrorView) : Type 0 where
-  pub copies : Copies (IsOfChunk old.array chunk) old new
+  pub copies : CopiesOnly (IsInChunkOf old.array chunk) old new
   pub agree : (s : ℕ) → s < old.array.chunks.size → s / old.array.chunks.sectors ≡ chunk → AllAgreeAt new s
   pub still : (s : ℕ) → AllAgreeAt old s → AllAgreeAt new s
 
 -- Members in sync agree in each sector of this chunk, if it is marked, and wherever they agreed.
 pub record CopiesIfMarked (chunk : ℕ) (old new : MirrorView) : Type 0 where
-  pub copies : Copies (IsOfChunk old.array chunk) old new
+  pub copies : CopiesOnly (IsInChunkOf old.array chunk) old new
   pub agree : is_set old.array.marks.bytes chunk ≡ true → (s : ℕ) → s < old.array.chunks.size → s / old.array.chunks.sectors ≡ chunk → AllAgreeAt new s
   pub still : (s : ℕ) → AllAgreeAt old s → AllAgreeAt new s
 
@@ -136,7 +136,7 @@ pub record MayCopyMarked (a : ArrayView) : Type 0 where
   pub stored : AllInSync a (HasAllMarks a.marks)
 
 pub record CopiesMarked (old new : MirrorView) : Type 0 where
-  pub copies : Copies (λ s. s < old.array.chunks.size) old new
+  pub copies : CopiesOnly (λ s. s < old.array.chunks.size) old new
   pub agree : AllAgreeWhereMarked new
 
 -- ---- why it does not come to its end
@@ -150,7 +150,7 @@ pub record FailsReading (Of : ℕ → Type 0) (k chunk : ℕ) (old new : MirrorV
   pub marked : is_set old.array.marks.bytes chunk ≡ true
   pub source : IsSource k sector old.array
   pub mid : MirrorView
-  pub copies : Copies (λ s. s < sector) old mid
+  pub copies : CopiesOnly (λ s. s < sector) old mid
   pub fails : FailsToRead k mid new
   pub before : (s : ℕ) → Of s → s < sector → AllAgreeAt new s
   pub still : (s : ℕ) → AllAgreeAt old s → AllAgreeAt new s
@@ -165,7 +165,7 @@ pub record LosesCopying (k : ℕ) (old new : MirrorView) : Type 0 where
   pub faulty : IsFaulty k new.array
 
 -- A member could not be written that can't be made faulty, so that the mirror is halted.
-pub record HaltsCopying (old new : MirrorView) : Type 0 where
+pub record CopyingHalts (old new : MirrorView) : Type 0 where
   pub mid : MirrorView
   pub goes : CopyingGoesOn old mid
   pub failing : Event
@@ -176,7 +176,7 @@ pub record HaltsCopying (old new : MirrorView) : Type 0 where
 
 -- what was read is not given to all
 abbrev pub GivingFails : MirrorView → MirrorView → ResyncFault → Type 0
-GivingFails old new Halted = HaltsCopying old new
+GivingFails old new Halted = CopyingHalts old new
 GivingFails old new (InFlight n) = ⊥
 GivingFails old new NoMemory = ⊥
 GivingFails old new (ReadFault k chunk) = ⊥
@@ -184,7 +184,7 @@ GivingFails old new (MemberFailed k) = LosesCopying k old new
 
 -- The sectors of a kind are not all copied, for this fault.
 abbrev pub CopyingFails : (ℕ → Type 0) → MirrorView → MirrorView → ResyncFault → Type 0
-CopyingFails Of old new Halted = HaltsCopying old new
+CopyingFails Of old new Halted = CopyingHalts old new
 CopyingFails Of old new (InFlight n) = ⊥
 CopyingFails Of old new NoMemory = ⊥
 CopyingFails Of old new (ReadFault k chunk) = FailsReading Of k chunk old new

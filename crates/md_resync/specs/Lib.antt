@@ -6,8 +6,8 @@ pub mod Steps
 pub mod StepRuns
 -- A whole resync.
 pub mod Resyncing
--- What a stop of the machine leaves within a whole resync.
-pub mod StoppedSteps
+-- What a crash leaves within a whole resync.
+pub mod StepCrashes
 -- A resync in the life of a mirror.
 pub mod InLives
 -- Marked chunks are copied, run by run.

@@ -25,7 +25,7 @@ use Rattle.md_array.specs.Worlds.{AreHonest, world_of}
 use Rattle.md_laws.specs.ReadInTurn.{LeadsReading}
 use Rattle.md_metadata.specs.Going.{IsFaulty}
 use Rattle.md_metadata.specs.Storing.{FailsAtLast, HasAllMarks, IsMarking, IsNoFailure, IsUpToDate}
-use Rattle.md_resync.specs.Copying.{CopyingFails, IsMarkedAt}
+use Rattle.md_resync.specs.Copying.{CopyingFails, IsInMarkedChunk}
 use Rattle.md_resync.specs.Steps.{GoesBySteps}
 use Rattle.md_resync.specs.declared.fault.ResyncFault.{ResyncFault}
 use Rattle.md_resync.specs.declared.fault.ResyncFault.TheVariants.{Halted, InFlight, MemberFailed, NoMemory, ReadFault}
@@ -42,7 +42,7 @@ IsOfResync e = ⊥
 
 -- Events of a resync were done, one after another. Devices were read between them, but none where only one
 -- member is in sync.
-pub record GoesOn (old new : MirrorView) : Type 0 where
+pub record ResyncGoesOn (old new : MirrorView) : Type 0 where
   pub events : List Event
   pub steps : AllOf IsOfResync events
   pub leads : (previous : Option Event) (requests : Requests) → AreInFlight old.array requests → LeadsReading previous old requests events new requests
@@ -79,8 +79,8 @@ AgreeUnstored g w =
 
 -- A content turns into one that members in sync hold after the resync. It is the same in each chunk that had
 -- no mark in memory, and throughout where the array was resynced.
-abbrev pub HasSettled : MirrorView → Requests → Content → MirrorView → Type 0
-HasSettled old requests a new =
+abbrev pub HasResyncedContent : MirrorView → Requests → Content → MirrorView → Type 0
+HasResyncedContent old requests a new =
     (b : Content) × HoldsBetween (geometry_of old.array) b (world_of new requests)
     × ((s : ℕ) → s < old.array.chunks.size → is_set old.array.marks.bytes (s / old.array.chunks.sectors) ≡ false → b s ≡ a s)
     × (old.array.resynced ≡ true → (s : ℕ) → s < old.array.chunks.size → b s ≡ a s)
@@ -89,18 +89,18 @@ HasSettled old requests a new =
 -- members agree where neither lists a sector in memory. A content is held where a device lists nothing, so of
 -- an array that was not resynced it is asked that members agreed in the sectors between: in the life of a
 -- mirror they do (`laws::resynced_in_life`).
-abbrev pub SettlesContent : MirrorView → MirrorView → Type 0
-SettlesContent old new =
+abbrev pub ResyncsContent : MirrorView → MirrorView → Type 0
+ResyncsContent old new =
     AreHonest old.disks → (requests : Requests) → AreInFlight old.array requests → (a : Content) → HoldsBetween (geometry_of old.array) a (world_of old requests)
-    → (old.array.resynced ≡ true) ⊎ AgreeUnstored (geometry_of old.array) (world_of old requests) → HasSettled old requests a new
+    → (old.array.resynced ≡ true) ⊎ AgreeUnstored (geometry_of old.array) (world_of old requests) → HasResyncedContent old requests a new
 
 pub record Resyncs (old new : MirrorView) : Type 0 where
   pub idle : IsIdle old.array
-  pub goes : GoesOn old new
+  pub goes : ResyncGoesOn old new
   pub unfailing : AllOf IsNoFailure goes.events
   pub array : IsResynced old.array new.array
   pub agree : (s : ℕ) → s < old.array.chunks.size → is_set old.array.marks.bytes (s / old.array.chunks.sectors) ≡ true → AllAgreeAt new s
-  pub content : SettlesContent old new
+  pub content : ResyncsContent old new
 
 -- where a sector is copied, it is one before this
 abbrev pub IsCopyBelow : ℕ → Event → Type 0
@@ -134,7 +134,7 @@ pub record ReadingFails (k chunk : ℕ) (old new : MirrorView) : Type 0 where
   pub marks : new.array.marks ≡ old.array.marks
   pub stored : AllInSync new.array (HasAllMarks new.array.marks)
   pub mid : MirrorView
-  pub reached : GoesOn old mid
+  pub reached : ResyncGoesOn old mid
   pub by_events : reached.events ≡ stops.goes.events
   pub sector : ℕ
   pub comes : ComesTo sector k chunk reached.events old mid
@@ -160,7 +160,7 @@ pub record LosesMember (k : ℕ) (old new : MirrorView) : Type 0 where
 pub record HaltsResync (old new : MirrorView) : Type 0 where
   pub idle : IsIdle old.array
   pub mid : MirrorView
-  pub goes : GoesOn old mid
+  pub goes : ResyncGoesOn old mid
   pub failing : Event
   pub of : IsOfResync failing
   pub halts : (requests : Requests) → HaltsAt mid requests failing new
@@ -179,20 +179,20 @@ RefusesResync old new (MemberFailed k) = LosesMember k old new
 
 -- ---- before it is kept that the array is not resynced
 -- Events of a resync were done, none of them failed, and nothing is in flight.
-pub record Advances (old new : MirrorView) : Type 0 where
-  pub goes : GoesOn old new
+pub record ResyncAdvances (old new : MirrorView) : Type 0 where
+  pub goes : ResyncGoesOn old new
   pub unfailing : AllOf IsNoFailure goes.events
   pub same : AreSame old.disks new.disks
   pub idle : IsIdle new.array
   pub sound : IsConsistent new
 
 pub record FailsToAgree (k chunk : ℕ) (old new : MirrorView) : Type 0 where
-  pub advances : Advances old new
+  pub advances : ResyncAdvances old new
   pub members : HasSameMembers old.array new.array
   pub marks : new.array.marks ≡ old.array.marks
   pub stored : AllInSync new.array (HasAllMarks new.array.marks)
   pub mid : MirrorView
-  pub reached : GoesOn old mid
+  pub reached : ResyncGoesOn old mid
   pub by_events : reached.events ≡ advances.goes.events
   pub sector : ℕ
   pub comes : ComesTo sector k chunk reached.events old mid
@@ -201,8 +201,8 @@ pub record FailsToAgree (k chunk : ℕ) (old new : MirrorView) : Type 0 where
   pub in_sync : IsInSync old.array k member
   pub fails : FailsToRead k mid new
 
-pub record FailsToWrite (k : ℕ) (old new : MirrorView) : Type 0 where
-  pub goes : GoesOn old new
+pub record FailsAtWrite (k : ℕ) (old new : MirrorView) : Type 0 where
+  pub goes : ResyncGoesOn old new
   pub last : FailsAtLast k goes.events
   pub marks : LeavesMarks old.array new.array
   pub idle : IsIdle new.array
@@ -218,7 +218,7 @@ IdleFails old new Halted = HaltsIdle old new
 IdleFails old new (InFlight n) = ⊥
 IdleFails old new NoMemory = new ≡ old
 IdleFails old new (ReadFault k chunk) = FailsToAgree k chunk old new
-IdleFails old new (MemberFailed k) = FailsToWrite k old new
+IdleFails old new (MemberFailed k) = FailsAtWrite k old new
 
 pub record Unresyncs (old new : MirrorView) : Type 0 where
   pub marks : NotesResynced false old new
@@ -226,62 +226,62 @@ pub record Unresyncs (old new : MirrorView) : Type 0 where
 
 -- ---- its parts
 -- A content that members in sync held before it they hold after it.
-abbrev pub KeepsContent : MirrorView → MirrorView → Type 0
-KeepsContent old new =
+abbrev pub KeepsHeldContent : MirrorView → MirrorView → Type 0
+KeepsHeldContent old new =
     AreHonest old.disks → (requests : Requests) → AreInFlight old.array requests → (a : Content) → HoldsBetween (geometry_of old.array) a (world_of old requests)
     → HoldsBetween (geometry_of old.array) a (world_of new requests)
 
 -- The marks of memory are stored on each member in sync, and nothing else changed.
-pub record StoresMarks (old new : MirrorView) : Type 0 where
-  pub advances : Advances old new
+pub record StoresAllMarks (old new : MirrorView) : Type 0 where
+  pub advances : ResyncAdvances old new
   pub only : AllOf IsMarking advances.goes.events
   pub members : HasSameMembers old.array new.array
   pub array : new.array ≡ record old.array { members = new.array.members }
   pub stored : AllInSync new.array (HasAllMarks new.array.marks)
   pub agree : (s : ℕ) → s < old.array.chunks.size → AllAgreeAt old s → AllAgreeAt new s
-  pub content : KeepsContent old new
+  pub content : KeepsHeldContent old new
 
 abbrev pub MarkingFails : MirrorView → MirrorView → ResyncFault → Type 0
 MarkingFails old new Halted = HaltsIdle old new
 MarkingFails old new (InFlight n) = ⊥
 MarkingFails old new NoMemory = ⊥
 MarkingFails old new (ReadFault k chunk) = ⊥
-MarkingFails old new (MemberFailed k) = FailsToWrite k old new
+MarkingFails old new (MemberFailed k) = FailsAtWrite k old new
 
 -- none of these members is in sync
-abbrev pub NoneInSync : ℕ → ℕ → ArrayView → Type 0
-NoneInSync start end a = (j : ℕ) (m : MemberView) → start ≤ j → j < end → IsInSync a j m → ⊥
+abbrev pub NoneInSyncBetween : ℕ → ℕ → ArrayView → Type 0
+NoneInSyncBetween start end a = (j : ℕ) (m : MemberView) → start ≤ j → j < end → IsInSync a j m → ⊥
 
 -- from the start on it is the first that is
-pub record IsFirstInSync (start first : ℕ) (a : ArrayView) : Type 0 where
+pub record IsFirstInSyncFrom (start first : ℕ) (a : ArrayView) : Type 0 where
   pub from : start ≤ first
   pub member : MemberView
   pub in_sync : IsInSync a first member
-  pub before : NoneInSync start first a
+  pub before : NoneInSyncBetween start first a
 
 -- Members in sync agree in marked chunks. Where there is one, nothing is done.
 pub record Agrees (old new : MirrorView) : Type 0 where
-  pub advances : Advances old new
+  pub advances : ResyncAdvances old new
   pub alone : IsAlone old.array → new ≡ old
   pub array : new.array ≡ old.array
   pub agree : AllAgreeWhereMarked new
-  pub content : KeepsContent old new
+  pub content : KeepsHeldContent old new
 
 -- The members in sync are not made to agree: there are two, and not all sectors of marked chunks are copied.
 pub record AgreeingFails (old new : MirrorView) (fault : ResyncFault) : Type 0 where
   pub two : IsAlone old.array → ⊥
-  pub copying : CopyingFails (IsMarkedAt old.array) old new fault
+  pub copying : CopyingFails (IsInMarkedChunk old.array) old new fault
 
 -- unless the array is degraded no chunk has a mark any more, stored or in memory
 pub record ClearsStored (old new : MirrorView) : Type 0 where
-  pub advances : Advances old new
+  pub advances : ResyncAdvances old new
   pub members : HasSameMembers old.array new.array
   pub array : new.array ≡ record old.array { members = new.array.members; marks = new.array.marks }
   pub kept : is_degraded old.array ≡ true → new.array.marks ≡ old.array.marks
   pub cleared : is_degraded old.array ≡ false → (c : ℕ) → is_set new.array.marks.bytes c ≡ false
   pub stored : AllInSync new.array (HasAllMarks new.array.marks)
   pub agree : (s : ℕ) → s < old.array.chunks.size → AllAgreeAt old s → AllAgreeAt new s
-  pub content : KeepsContent old new
+  pub content : KeepsHeldContent old new
 
 -- unless the mirror is halted it is kept that the array is not resynced
 pub record GivesUp (old new : MirrorView) : Type 0 where

@@ -7,13 +7,13 @@ use Rattle.md_state.specs.View.{ArrayView}
 use Rattle.md_state.specs.Members.{IsMember}
 
 -- the member is in sync in this role, and does not list the sector
-pub record IsFree (role sector : ℕ) (m : MemberView) : Type 0 where
+pub record IsUnlistedSource (role sector : ℕ) (m : MemberView) : Type 0 where
   pub in_sync : is_in_sync_as role m.state ≡ true
   pub unlisted : Lists m sector → ⊥
 
 -- no member is
 abbrev pub NoneFree : ℕ → ArrayView → Type 0
-NoneFree sector a = (k role : ℕ) (m : MemberView) → IsMember a k m → IsFree role sector m → ⊥
+NoneFree sector a = (k role : ℕ) (m : MemberView) → IsMember a k m → IsUnlistedSource role sector m → ⊥
 
 -- the lower of two roles, the earlier of two that are the same, each with its member
 abbrev pub lower_of : Option (ℕ × ℕ) → Option ℕ → ℕ → Option (ℕ × ℕ)
@@ -26,9 +26,9 @@ pub record IsBest (k sector role from : ℕ) (a : ArrayView) : Type 0 where
   pub before : from < k
   pub member : MemberView
   pub at : IsMember a from member
-  pub free : IsFree role sector member
-  pub lowest : (j other : ℕ) (m : MemberView) → j < k → IsMember a j m → IsFree other sector m → role ≤ other
+  pub free : IsUnlistedSource role sector member
+  pub lowest : (j other : ℕ) (m : MemberView) → j < k → IsMember a j m → IsUnlistedSource other sector m → role ≤ other
 
 abbrev pub BestBelow : ℕ → ℕ → ArrayView → Option (ℕ × ℕ) → Type 0
-BestBelow k sector a None = (j other : ℕ) (m : MemberView) → j < k → IsMember a j m → IsFree other sector m → ⊥
+BestBelow k sector a None = (j other : ℕ) (m : MemberView) → j < k → IsMember a j m → IsUnlistedSource other sector m → ⊥
 BestBelow k sector a (Some best) = IsBest k sector best.0 best.1 a

@@ -25,10 +25,10 @@ pub data MirrorStep : Type 0 where
 abbrev pub copies_in : CopiedRun → List Event
 copies_in r = copies_of r.from r.to r.sector (length r.bytes / 512)
 
-abbrev pub events_of : List MirrorStep → List Event
-events_of [] = []
-events_of (MirrorStep.Single e ∷ steps) = e ∷ events_of steps
-events_of (MirrorStep.CopyRun r ∷ steps) = copies_in r ++ events_of steps
+abbrev pub events_of_steps : List MirrorStep → List Event
+events_of_steps [] = []
+events_of_steps (MirrorStep.Single e ∷ steps) = e ∷ events_of_steps steps
+events_of_steps (MirrorStep.CopyRun r ∷ steps) = copies_in r ++ events_of_steps steps
 
 -- a sector is copied in a run alone
 abbrev pub IsNoCopy : Event → Type 0
@@ -40,7 +40,7 @@ abbrev pub IsDue : Event → ArrayView → Type 0
 IsDue e a = (previous : Option Event) × IsInOrder previous a e
 
 -- From this mirror, with these requests in flight, the steps were done one after another, and then it holds of where they lead.
--- Devices may have been read before each step, and after the last. What a stop leaves within a step is said by its own contract:
+-- Devices may have been read before each step, and after the last. What a crash leaves within a step is said by its own contract:
 -- `Did` of an event, and `CopiesTo` of a run, whose events lead from before its write to after it.
 abbrev pub StepsInTurn : MirrorView → Requests → List MirrorStep → (MirrorView → Requests → Type 0) → Type 0
 StepsInTurn old before [] Then = (rested : MirrorView) × Rests old rested × Then rested before
@@ -58,5 +58,5 @@ StepsLead old before steps new after = StepsInTurn old before steps (λ m r. (m 
 -- These events were done by such steps.
 pub record GoesBySteps (events : List Event) (old new : MirrorView) : Type 0 where
   pub steps : List MirrorStep
-  pub all : events ≡ events_of steps
+  pub all : events ≡ events_of_steps steps
   pub leads : (requests : Requests) → AreInFlight old.array requests → StepsLead old requests steps new requests

@@ -3,7 +3,7 @@ ghost use Rattle.std.specs.Prelude.{◌≡◌, ◌<◌, ◌≤◌, ◌%◌, Matc
 ghost use Rattle.std.specs.Int.{div_ceil};
 ghost use Rattle.md_state.specs.CopyingData.{MayCopyChunk};
 ghost use Rattle.md_array.specs.Consistency.{IsConsistent};
-ghost use Rattle.md_resync.specs.Copying.{CopiesChunk, CopiesIfMarked, CopiesMarked, CopiesRun, CopyingFails, IsBetween, IsMarkedAt, IsOfChunk, IsPart, MayCopyMarked};
+ghost use Rattle.md_resync.specs.Copying.{CopiesChunk, CopiesIfMarked, CopiesMarked, CopiesRun, CopyingFails, IsBetween, IsInMarkedChunk, IsInChunkOf, IsPart, MayCopyMarked};
 
 use crate::fault::ResyncFault;
 use crate::members::copy_to_members;
@@ -57,7 +57,7 @@ fn copy_chunk<D: Device + Drop>(
     requires as_much { length held.old ≡ length buffer.old }
     requires sound { IsConsistent mirror.old }
     requires may { MayCopyChunk chunk mirror.old.array }
-    ensures { MatchResult result (λ _. CopiesChunk chunk mirror.old mirror.new) (CopyingFails (IsOfChunk mirror.old.array chunk) mirror.old mirror.new) }
+    ensures { MatchResult result (λ _. CopiesChunk chunk mirror.old mirror.new) (CopyingFails (IsInChunkOf mirror.old.array chunk) mirror.old mirror.new) }
 {
     let (start, sectors) = mirror.chunks().range(chunk);
     let end = start + sectors;
@@ -84,7 +84,7 @@ fn copy_if_marked<D: Device + Drop>(
     requires as_much { length held.old ≡ length buffer.old }
     requires sound { IsConsistent mirror.old }
     requires may { MayCopyMarked mirror.old.array }
-    ensures { MatchResult result (λ _. CopiesIfMarked chunk mirror.old mirror.new) (CopyingFails (IsOfChunk mirror.old.array chunk) mirror.old mirror.new) }
+    ensures { MatchResult result (λ _. CopiesIfMarked chunk mirror.old mirror.new) (CopyingFails (IsInChunkOf mirror.old.array chunk) mirror.old mirror.new) }
 {
     if !mirror.marks().is_marked(chunk) {
         return Ok(());
@@ -105,7 +105,7 @@ pub(crate) fn copy_marked<D: Device + Drop>(
     requires as_much { length held.old ≡ length buffer.old }
     requires sound { IsConsistent mirror.old }
     requires may { MayCopyMarked mirror.old.array }
-    ensures { MatchResult result (λ _. CopiesMarked mirror.old mirror.new) (CopyingFails (IsMarkedAt mirror.old.array) mirror.old mirror.new) }
+    ensures { MatchResult result (λ _. CopiesMarked mirror.old mirror.new) (CopyingFails (IsInMarkedChunk mirror.old.array) mirror.old mirror.new) }
 {
     let mut unread = 0;
     for chunk in 0..mirror.chunks().count() {

@@ -3,7 +3,7 @@ ghost use Rattle.std.specs.Prelude.{◌≡◌, ◌<◌, ◌≤◌, MatchOption, 
 ghost use Rattle.md_state.specs.Members.{IsAlone};
 ghost use Rattle.md_array.specs.Consistency.{IsConsistent};
 ghost use Rattle.md_resync.specs.Copying.{MayCopyMarked};
-ghost use Rattle.md_resync.specs.Resyncing.{AgreeingFails, Agrees, IsFirstInSync, NoneInSync};
+ghost use Rattle.md_resync.specs.Resyncing.{AgreeingFails, Agrees, IsFirstInSyncFrom, NoneInSyncBetween};
 
 use crate::chunks::copy_marked;
 use crate::fault::ResyncFault;
@@ -50,7 +50,7 @@ fn has_two_in_sync<D: Device + Drop>(mirror: &Mirror<D>) -> bool
 
 // The first member in sync of those from this index on.
 fn in_sync_from<D: Device + Drop>(mirror: &Mirror<D>, start: usize) -> Option<usize>
-    ensures { MatchOption result (NoneInSync start (length mirror.now.array.members) mirror.now.array) (λ first. IsFirstInSync start first mirror.now.array) }
+    ensures { MatchOption result (NoneInSyncBetween start (length mirror.now.array.members) mirror.now.array) (λ first. IsFirstInSyncFrom start first mirror.now.array) }
 {
     for k in start..mirror.members() {
         if mirror.state(k).is_in_sync() {

@@ -4,7 +4,7 @@ ghost use Rattle.md_state.specs.MakingClean.{IsIdle};
 ghost use Rattle.md_state.specs.Members.{AllInSync};
 ghost use Rattle.md_array.specs.Consistency.{IsConsistent};
 ghost use Rattle.md_metadata.specs.Storing.{HasAllMarks};
-ghost use Rattle.md_resync.specs.Resyncing.{ClearsStored, MarkingFails, StoresMarks};
+ghost use Rattle.md_resync.specs.Resyncing.{ClearsStored, MarkingFails, StoresAllMarks};
 
 use crate::fault::ResyncFault;
 use md_array::Mirror;
@@ -17,7 +17,7 @@ pub(crate) fn store_memory_marks<D: Device + Drop>(
 ) -> Result<(), ResyncFault>
     requires sound { IsConsistent mirror.old }
     requires idle { IsIdle mirror.old.array }
-    ensures gives { MatchResult result (λ _. StoresMarks mirror.old mirror.new) (MarkingFails mirror.old mirror.new) }
+    ensures gives { MatchResult result (λ _. StoresAllMarks mirror.old mirror.new) (MarkingFails mirror.old mirror.new) }
     ensures sound { IsConsistent mirror.new }
 {
     match store_all_marks(mirror) {

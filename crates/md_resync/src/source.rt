@@ -4,7 +4,7 @@ ghost use Rattle.md_kept_members.specs.View.{MemberView};
 ghost use Rattle.md_assembly.specs.States.{is_in_sync_as};
 ghost use Rattle.md_state.specs.CopyingData.{IsSource, Lists};
 ghost use Rattle.md_state.specs.Members.{IsMember};
-ghost use Rattle.md_resync.specs.Sources.{IsFree, NoneFree, lower_of};
+ghost use Rattle.md_resync.specs.Sources.{IsUnlistedSource, NoneFree, lower_of};
 
 use md_array::Mirror;
 use md_assembly::MemberState;
@@ -28,7 +28,7 @@ fn lists<D: Device + Drop>(mirror: &Mirror<D>, k: usize, sector: u64) -> bool
 // The role in which member k may give the sector: it is in sync, and does not list it.
 fn role_to_read<D: Device + Drop>(mirror: &Mirror<D>, k: usize, sector: u64) -> Option<u16>
     requires { k < length mirror.now.array.members }
-    ensures { (m : MemberView) → IsMember mirror.now.array k m → MatchOption result ((role : ℕ) → IsFree role sector m → ⊥) (λ role. IsFree role sector m) }
+    ensures { (m : MemberView) → IsMember mirror.now.array k m → MatchOption result ((role : ℕ) → IsUnlistedSource role sector m → ⊥) (λ role. IsUnlistedSource role sector m) }
 {
     let MemberState::InSync(role) = mirror.state(k) else {
         return None;

@@ -1,36 +1,36 @@
 -- Reads of a device, one after another, and what they tell.
 use Rattle.std.proofs.Common.{◌≡◌, ℕ, ◌≤◌, ◌<◌, ◌*◌, ◌⊎◌, inl, inr, length, Bool, true, false, refl, ◌∙◌, sym, arith, subst}
 use Rattle.md_device.specs.declared.device.Device.{Ghosts}
-use Rattle.md_device.specs.Stops.{LeavesMore}
+use Rattle.md_device.specs.Crashes.{LeavesMore}
 use Rattle.md_device.proofs.Leaving.{leaves_none, leaves_then}
-use Rattle.md_signatures.specs.Reading.{OnlyRead, Tells}
+use Rattle.md_signatures.specs.Reading.{IsOnlySearched, TellsWhetherThere}
 
 module _ {D : Type 0} {g : Ghosts D} where
-  pub not_read : (d : D) → OnlyRead g d d
-  not_read d = record { kept = refl; honest = refl; counted = omega arith; within = λ h. leaves_none (g.stops d) (λ left. left ≡ g.content d) }
+  pub not_read : (d : D) → IsOnlySearched g d d
+  not_read d = record { kept = refl; honest = refl; counted = omega arith; within = λ h. leaves_none (g.crashes d) (λ left. left ≡ g.content d) }
 
-  pub read_then : {a b c : D} → OnlyRead g a b → OnlyRead g b c → OnlyRead g a c
+  pub read_then : {a b c : D} → IsOnlySearched g a b → IsOnlySearched g b c → IsOnlySearched g a c
   read_then {a = a} {b = b} {c = c} first second = record {
     kept = second.kept ∙ first.kept;
     honest = second.honest ∙ first.honest;
     counted = let m = first.counted in let n = second.counted in omega arith;
-    within = λ h. leaves_then (g.stops a) (g.stops b) (g.stops c) (λ left. left ≡ g.content a) (first.within h)
-        (subst (λ x. LeavesMore (g.stops b) (g.stops c) (λ left. left ≡ x)) first.kept (second.within (first.honest ∙ h)));
+    within = λ h. leaves_then (g.crashes a) (g.crashes b) (g.crashes c) (λ left. left ≡ g.content a) (first.within h)
+        (subst (λ x. LeavesMore (g.crashes b) (g.crashes c) (λ left. left ≡ x)) first.kept (second.within (first.honest ∙ h)));
   }
 
   -- nothing was found, and nothing is there
-  pub tells_none : (old new : D) (there : Bool) → (g.honest old ≡ true → g.failures new ≡ g.failures old → there ≡ false) → Tells g old new there false
+  pub tells_none : (old new : D) (there : Bool) → (g.honest old ≡ true → g.failures new ≡ g.failures old → there ≡ false) → TellsWhetherThere g old new there false
   tells_none old new there none = record { sound = λ h e. cc; whole = λ h same. sym (none h same) }
 
   -- what is there, said otherwise
-  pub tells_as : {old new : D} {there same found : Bool} → there ≡ same → Tells g old new there found → Tells g old new same found
-  tells_as {old = old} {new = new} {found = found} e tells = subst (λ b. Tells g old new b found) e tells
+  pub tells_as : {old new : D} {there same found : Bool} → there ≡ same → TellsWhetherThere g old new there found → TellsWhetherThere g old new same found
+  tells_as {old = old} {new = new} {found = found} e tells = subst (λ b. TellsWhetherThere g old new b found) e tells
 
   -- what was found is what is there
-  pub tells_same : {old new : D} {there found : Bool} → (g.honest old ≡ true → found ≡ there) → Tells g old new there found
+  pub tells_same : {old new : D} {there found : Bool} → (g.honest old ≡ true → found ≡ there) → TellsWhetherThere g old new there found
   tells_same same = record { sound = λ h e. sym (same h) ∙ e; whole = λ h _. same h }
 
   -- a sector that was not given
-  pub missed : {old new : D} (sector : ℕ) {there : Bool} → (length (g.content old) ≤ 512 * sector) ⊎ (g.honest old ≡ true → g.failures old < g.failures new) → (length (g.content old) ≤ 512 * sector → there ≡ false) → Tells g old new there false
+  pub missed : {old new : D} (sector : ℕ) {there : Bool} → (length (g.content old) ≤ 512 * sector) ⊎ (g.honest old ≡ true → g.failures old < g.failures new) → (length (g.content old) ≤ 512 * sector → there ≡ false) → TellsWhetherThere g old new there false
   missed {old = old} {new = new} sector {there = there} (inl past) none = tells_none old new there (λ h same. none past)
   missed {old = old} {new = new} sector {there = there} (inr failed) none = tells_none old new there (λ h same. let more = failed h in absurd (omega (arith, more, same)))

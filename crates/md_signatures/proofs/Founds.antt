@@ -6,31 +6,31 @@ use Rattle.md_device.specs.declared.device.Device.{Ghosts}
 use Rattle.md_signatures.specs.declared.signature.Signature.{Signature}
 use Rattle.md_signatures.specs.Bearing.{bears}
 use Rattle.md_signatures.specs.Finding.{signatures}
-use Rattle.md_signatures.specs.Reading.{OnlyRead, Tells}
+use Rattle.md_signatures.specs.Reading.{IsOnlySearched, TellsWhetherThere}
 
 module _ {D : Type 0} {g : Ghosts D} where
   -- the device bears what was found after reads of it
-  bears_same : {first mid : D} (s : Signature) → OnlyRead g first mid → bears (g.content first) s ≡ bears (g.content mid) s
+  bears_same : {first mid : D} (s : Signature) → IsOnlySearched g first mid → bears (g.content first) s ≡ bears (g.content mid) s
   bears_same s only = ap (λ (content : List ℕ). bears content s) (sym only.kept)
 
-  pub found_sound : {first mid last : D} (s : Signature) (answer : Bool) (found : List Signature) → OnlyRead g first mid → Tells g mid last (bears (g.content mid) s) answer → answer ≡ true
+  pub found_sound : {first mid last : D} (s : Signature) (answer : Bool) (found : List Signature) → IsOnlySearched g first mid → TellsWhetherThere g mid last (bears (g.content mid) s) answer → answer ≡ true
       → (g.honest first ≡ true → All (λ x. bears (g.content first) x ≡ true) found) → g.honest first ≡ true → All (λ x. bears (g.content first) x ≡ true) (found ++ s ∷ [])
   found_sound {first = first} s answer found only tells is sound h =
       let P : Signature → Type 0 = λ x. bears (g.content first) x ≡ true in
       All-append P found (s ∷ []) (sound h) (All-cons P s [] (bears_same s only ∙ tells.sound (only.honest ∙ h) is) (All-nil P))
 
   -- what is answered where no call failed
-  answered : {first mid last : D} (s : Signature) (answer : Bool) → OnlyRead g first mid → OnlyRead g mid last → Tells g mid last (bears (g.content mid) s) answer → g.honest first ≡ true → g.failures last ≡ g.failures first → bears (g.content first) s ≡ answer
+  answered : {first mid last : D} (s : Signature) (answer : Bool) → IsOnlySearched g first mid → IsOnlySearched g mid last → TellsWhetherThere g mid last (bears (g.content mid) s) answer → g.honest first ≡ true → g.failures last ≡ g.failures first → bears (g.content first) s ≡ answer
   answered {first = first} {mid = mid} {last = last} s answer only more tells h same =
       let a = only.counted in
       let b = more.counted in
       let still : g.failures last ≡ g.failures mid = omega (arith, a, b, same) in
       bears_same s only ∙ sym (tells.whole (only.honest ∙ h) still)
 
-  so_far : {first mid last : D} → OnlyRead g first mid → OnlyRead g mid last → g.failures last ≡ g.failures first → g.failures mid ≡ g.failures first
+  so_far : {first mid last : D} → IsOnlySearched g first mid → IsOnlySearched g mid last → g.failures last ≡ g.failures first → g.failures mid ≡ g.failures first
   so_far only more same = let a = only.counted in let b = more.counted in omega (arith, a, b, same)
 
-  pub found_one : {first mid last : D} (s : Signature) (answer : Bool) (found : List Signature) (i : ℕ) → i < length signatures → get_or signatures i s ≡ s → OnlyRead g first mid → OnlyRead g mid last → Tells g mid last (bears (g.content mid) s) answer → answer ≡ true
+  pub found_one : {first mid last : D} (s : Signature) (answer : Bool) (found : List Signature) (i : ℕ) → i < length signatures → get_or signatures i s ≡ s → IsOnlySearched g first mid → IsOnlySearched g mid last → TellsWhetherThere g mid last (bears (g.content mid) s) answer → answer ≡ true
       → (g.honest first ≡ true → g.failures mid ≡ g.failures first → found ≡ filter (bears (g.content first)) (take i signatures))
       → g.honest first ≡ true → g.failures last ≡ g.failures first → found ++ s ∷ [] ≡ filter (bears (g.content first)) (take (i + 1) signatures)
   found_one {first = first} s answer found i lt here only more tells is whole h same =
@@ -41,7 +41,7 @@ module _ {D : Type 0} {g : Ghosts D} where
       ∙ ap (λ (t : Signature). front ++ cond (p t) (t ∷ []) []) here
       ∙ ap (λ (b : Bool). front ++ cond b (s ∷ []) []) (answered s answer only more tells h same ∙ is))
 
-  pub found_no_more : {first mid last : D} (s : Signature) (answer : Bool) (found : List Signature) (i : ℕ) → i < length signatures → get_or signatures i s ≡ s → OnlyRead g first mid → OnlyRead g mid last → Tells g mid last (bears (g.content mid) s) answer → answer ≡ false
+  pub found_no_more : {first mid last : D} (s : Signature) (answer : Bool) (found : List Signature) (i : ℕ) → i < length signatures → get_or signatures i s ≡ s → IsOnlySearched g first mid → IsOnlySearched g mid last → TellsWhetherThere g mid last (bears (g.content mid) s) answer → answer ≡ false
       → (g.honest first ≡ true → g.failures mid ≡ g.failures first → found ≡ filter (bears (g.content first)) (take i signatures))
       → g.honest first ≡ true → g.failures last ≡ g.failures first → found ≡ filter (bears (g.content first)) (take (i + 1) signatures)
   found_no_more {first = first} s answer found i lt here only more tells is whole h same =

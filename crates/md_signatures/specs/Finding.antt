@@ -13,6 +13,6 @@ signatures =
     ∷ Fat ∷ Squashfs ∷ Iso9660 ∷ []
 
 -- an honest device bears all that was found; where no call failed, these are all that it bears, in their order
-pub record Finds {D : Type 0} (g : Ghosts D) (old new : D) (found : List Signature) : Type 0 where
+pub record FindsSignatures {D : Type 0} (g : Ghosts D) (old new : D) (found : List Signature) : Type 0 where
   pub sound : g.honest old ≡ true → All (λ s. bears (g.content old) s ≡ true) found
   pub whole : g.honest old ≡ true → g.failures new ≡ g.failures old → found ≡ filter (bears (g.content old)) signatures

@@ -2,18 +2,18 @@
 use Rattle.std.specs.Prelude.{◌≡◌, ◌⊎◌, ℕ, ◌+◌, ◌*◌, ◌<◌, ◌≤◌, Bool, true, List, length}
 use Rattle.md_device.specs.declared.device.Device.{Ghosts}
 use Rattle.md_device.specs.Device.{held}
-use Rattle.md_device.specs.Stops.{LeavesMore}
+use Rattle.md_device.specs.Crashes.{LeavesMore}
 
 module _ {D : Type 0} (g : Ghosts D) where
   -- the device is as it was, but that more of its calls may have failed
-  pub record OnlyRead (old new : D) : Type 0 where
+  pub record IsOnlySearched (old new : D) : Type 0 where
     pub kept : g.content new ≡ g.content old
     pub honest : g.honest new ≡ g.honest old
     pub counted : g.failures old ≤ g.failures new
-    pub within : g.honest old ≡ true → LeavesMore (g.stops old) (g.stops new) (λ left. left ≡ g.content old)
+    pub within : g.honest old ≡ true → LeavesMore (g.crashes old) (g.crashes new) (λ left. left ≡ g.content old)
 
   -- what the test finds is there, and where no call failed, it finds what is there
-  pub record Tells (old new : D) (there found : Bool) : Type 0 where
+  pub record TellsWhetherThere (old new : D) (there found : Bool) : Type 0 where
     pub sound : g.honest old ≡ true → found ≡ true → there ≡ true
     pub whole : g.honest old ≡ true → g.failures new ≡ g.failures old → found ≡ there
 

@@ -1,7 +1,7 @@
 // Whether a device bears a signature.
 ghost use Rattle.std.specs.Prelude.{◌≡◌, ◌%◌, ◌≤◌, ◌^◌, IfSome};
 ghost use Rattle.md_signatures.specs.Bearing.{bears, has_superblock, md_10_place, md_090_place};
-ghost use Rattle.md_signatures.specs.Reading.{OnlyRead, Tells};
+ghost use Rattle.md_signatures.specs.Reading.{IsOnlySearched, TellsWhetherThere};
 ghost use Rattle.md_signatures.specs.declared.signature.Signature.TheVariants.{Mbr};
 
 use crate::magic::{Magic, has_any, has_magic};
@@ -42,8 +42,8 @@ fn md_10_place(sectors: u64) -> Option<u64>
 // Whether an md superblock stands at a place of the device, where it has one.
 fn has_superblock<D: Device>(device: &mut D, place: Option<u64>) -> bool
     requires { IfSome place (λ p. p % 512 ≡ 0) }
-    ensures only_read { OnlyRead D.Device device.old device.new }
-    ensures tells { Tells D.Device device.old device.new (has_superblock (D.content device.old) place) result }
+    ensures only_read { IsOnlySearched D.Device device.old device.new }
+    ensures tells { TellsWhetherThere D.Device device.old device.new (has_superblock (D.content device.old) place) result }
 {
     match place {
         Some(place) => has_any(
@@ -59,8 +59,8 @@ fn has_superblock<D: Device>(device: &mut D, place: Option<u64>) -> bool
 
 // Whether the first sector has a partition table.
 fn has_partition_table<D: Device>(device: &mut D) -> bool
-    ensures only_read { OnlyRead D.Device device.old device.new }
-    ensures tells { Tells D.Device device.old device.new (bears (D.content device.old) Mbr) result }
+    ensures only_read { IsOnlySearched D.Device device.old device.new }
+    ensures tells { TellsWhetherThere D.Device device.old device.new (bears (D.content device.old) Mbr) result }
 {
     match read_sector(device, 0) {
         Some(sector) => is_partition_table(&sector),
@@ -70,8 +70,8 @@ fn has_partition_table<D: Device>(device: &mut D) -> bool
 
 /// Whether the device bears the signature. A sector that it has not, or that it does not give, bears none.
 pub(crate) fn bears<D: Device>(device: &mut D, signature: Signature) -> bool
-    ensures only_read { OnlyRead D.Device device.old device.new }
-    ensures tells { Tells D.Device device.old device.new (bears (D.content device.old) signature) result }
+    ensures only_read { IsOnlySearched D.Device device.old device.new }
+    ensures tells { TellsWhetherThere D.Device device.old device.new (bears (D.content device.old) signature) result }
 {
     match signature {
         Signature::Md090 => {

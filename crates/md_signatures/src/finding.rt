@@ -1,7 +1,7 @@
 // All that a device holds.
 ghost use Rattle.std.specs.Prelude.{◌≡◌, ◌≤◌, IfOk, true};
-ghost use Rattle.md_device.specs.Stops.{LeavesMore};
-ghost use Rattle.md_signatures.specs.Finding.{Finds};
+ghost use Rattle.md_device.specs.Crashes.{LeavesMore};
+ghost use Rattle.md_signatures.specs.Finding.{FindsSignatures};
 
 use crate::bearing::bears;
 use crate::signature::{SIGNATURES, Signature};
@@ -19,8 +19,8 @@ pub fn find_signatures<D: Device>(
     ensures kept { D.content device.new ≡ D.content device.old }
     ensures honest { D.honest device.new ≡ D.honest device.old }
     ensures counted { D.failures device.old ≤ D.failures device.new }
-    ensures within { D.honest device.old ≡ true → LeavesMore (D.stops device.old) (D.stops device.new) (λ left. left ≡ D.content device.old) }
-    ensures finds { IfOk result (λ found. Finds D.Device device.old device.new found.items) }
+    ensures within { D.honest device.old ≡ true → LeavesMore (D.crashes device.old) (D.crashes device.new) (λ left. left ≡ D.content device.old) }
+    ensures finds { IfOk result (λ found. FindsSignatures D.Device device.old device.new found.items) }
 {
     let mut found = Vec::new(alloc);
     for signature in SIGNATURES {

@@ -1,12 +1,12 @@
 // A sector of a device.
 ghost use Rattle.std.specs.Prelude.{MatchOption};
-ghost use Rattle.md_signatures.specs.Reading.{GivesSector, OnlyRead, Misses};
+ghost use Rattle.md_signatures.specs.Reading.{GivesSector, IsOnlySearched, Misses};
 
 use md_device::Device;
 
 /// Reads a sector, once, where the device has it.
 pub(crate) fn read_sector<D: Device>(device: &mut D, sector: u64) -> Option<[u8; 512]>
-    ensures only_read { OnlyRead D.Device device.old device.new }
+    ensures only_read { IsOnlySearched D.Device device.old device.new }
     ensures reads { MatchOption result (Misses D.Device device.old device.new sector) (GivesSector D.Device device.old device.new sector) }
 {
     if sector >= device.sectors() {

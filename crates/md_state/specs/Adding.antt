@@ -5,7 +5,7 @@ use Rattle.md_bitmap.specs.declared.header.BitmapHeader.{BitmapHeader}
 use Rattle.md_bitmap.specs.Header.{CountsFit, SettingsFit}
 use Rattle.md_create.specs.declared.params.NewMember.{NewMember}
 use Rattle.md_create.specs.Spares.{IsNewSpare}
-use Rattle.md_model.specs.Membership.{IsLeast}
+use Rattle.md_model.specs.Membership.{IsLeastNumber}
 use Rattle.md_assembly.specs.States.{role_in}
 use Rattle.md_kept_members.specs.Spares.{IsOfFreshest, kept_spare}
 use Rattle.md_faults.specs.declared.add_fault.AddFault.{AddFault}
@@ -32,34 +32,34 @@ pub record IsFree (a : ArrayView) (d : ℕ) : Type 0 where
 
 -- the least such; where there is none, the least that no member has
 abbrev pub IsNumber : ArrayView → ℕ → Type 0
-IsNumber a d = IsLeast (IsFree a) d ⊎ (((e : ℕ) → IsFree a e → ⊥) × IsLeast (λ e. has_number a e ≡ false) d)
+IsNumber a d = IsLeastNumber (IsFree a) d ⊎ (((e : ℕ) → IsFree a e → ⊥) × IsLeastNumber (λ e. has_number a e ≡ false) d)
 
 -- ---- whether it may come in
 -- 2048 sectors of the device are in front of its data
-abbrev pub IsLong : ArrayView → ℕ → Type 0
-IsLong a sectors = 2048 + a.shared.size ≤ sectors
+abbrev pub HasRoomForData : ArrayView → ℕ → Type 0
+HasRoomForData a sectors = 2048 + a.shared.size ≤ sectors
 
 -- a device of so many sectors may come in, with this number
 pub record MayAdd (a : ArrayView) (sectors d : ℕ) : Type 0 where
   pub running : a.halted ≡ false
-  pub long : IsLong a sectors
+  pub long : HasRoomForData a sectors
   pub room : HasMostMembers a → ⊥
   pub unspent : HasSpentEvents a → ⊥
   pub number : IsNumber a d
 
 pub record IsTooSmall (a : ArrayView) (sectors : ℕ) : Type 0 where
   pub running : a.halted ≡ false
-  pub short : IsLong a sectors → ⊥
+  pub short : HasRoomForData a sectors → ⊥
 
 pub record HasNoPlaceLeft (a : ArrayView) (sectors : ℕ) : Type 0 where
   pub running : a.halted ≡ false
-  pub long : IsLong a sectors
+  pub long : HasRoomForData a sectors
   pub full : HasMostMembers a
 
 -- the count has to rise, and can't
 pub record CannotCountAdd (a : ArrayView) (sectors : ℕ) : Type 0 where
   pub running : a.halted ≡ false
-  pub long : IsLong a sectors
+  pub long : HasRoomForData a sectors
   pub room : HasMostMembers a → ⊥
   pub spent : HasSpentEvents a
 

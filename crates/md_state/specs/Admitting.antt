@@ -39,7 +39,7 @@ pub record MayAdmit (k : ℕ) (a : ArrayView) (role : ℕ) : Type 0 where
   pub gets : GetsRole a member role
   pub unspent : HasSpentEvents a → ⊥
 
-pub record HasNoRole (k : ℕ) (a : ArrayView) : Type 0 where
+pub record HasNoRoleLeft (k : ℕ) (a : ArrayView) : Type 0 where
   pub running : a.halted ≡ false
   pub member : MemberView
   pub at : IsMember a k member
@@ -57,7 +57,7 @@ pub record CannotCountAdmit (k : ℕ) (a : ArrayView) : Type 0 where
 -- why it is not, before anything is written
 abbrev pub RefusesToAdmit : ℕ → ArrayView → AdmitFault → Type 0
 RefusesToAdmit k a Halted = a.halted ≡ true
-RefusesToAdmit k a NoRole = HasNoRole k a
+RefusesToAdmit k a NoRole = HasNoRoleLeft k a
 RefusesToAdmit k a EventsFull = CannotCountAdmit k a
 RefusesToAdmit k a TargetFault = ⊥
 RefusesToAdmit k a NoMemory = ⊥

@@ -39,8 +39,8 @@ pub record HasMarked (a : ArrayView) (sector sectors : ℕ) (new : Bitmap) : Typ
   pub bits : (c : ℕ) → is_set new.bytes c ≡ (is_set a.marks.bytes c || has_sector_of a sector sectors c)
 
 -- the array after the rise, where there is one
-abbrev pub counted : ArrayView → ArrayView
-counted a = cond (has_to_rise a) (risen a (not (is_degraded a))) a
+abbrev pub array_after_rise : ArrayView → ArrayView
+array_after_rise a = cond (has_to_rise a) (risen a (not (is_degraded a))) a
 
 -- The array is clean no more.
 abbrev pub active_offset : ℕ → ℕ
@@ -59,7 +59,7 @@ pub record Begins (sector : ℕ) (bytes : List ℕ) (old new : MirrorView) (p : 
   pub fresh : lookup old.array.requests.entries old.array.requests.next ≡ None
   pub disks : new.disks ≡ old.disks
   pub marked : HasMarked old.array sector (length bytes / 512) new.array.marks
-  pub array : new.array ≡ with_request (counted old.array) sector (length bytes / 512) new.array.marks
+  pub array : new.array ≡ with_request (array_after_rise old.array) sector (length bytes / 512) new.array.marks
   pub pending : p ≡ record { ticket = record { name = old.array.requests.name; number = old.array.requests.next }; sector = sector; bytes = bytes; written = [] }
 
 -- A request has no sector, or some past the end.

@@ -3,29 +3,29 @@
 use Rattle.std.specs.Prelude.{◌≡◌, ◌⊎◌, ℕ, ◌*◌, ◌<◌, true, false, max, set}
 use Rattle.md_bitmap.specs.Marks.{Bitmap, is_set}
 use Rattle.md_kept_members.specs.Permitting.{ListsAny}
-use Rattle.md_kept_members.specs.TakingBack.{with_offset}
+use Rattle.md_kept_members.specs.TakingBack.{with_recovery_offset}
 use Rattle.md_kept_members.specs.View.{MemberView}
 use Rattle.md_state.specs.Missing.{is_missing}
 use Rattle.md_state.specs.View.{ArrayView}
 
 -- a chunk stops a checkpoint: the member lacks it and it was not copied, whether it is marked or not; or the member lists a sector of it
-abbrev pub Stops : ArrayView → MemberView → Bitmap → ℕ → Type 0
-Stops a m copied c =
+abbrev pub EndsCheckpoint : ArrayView → MemberView → Bitmap → ℕ → Type 0
+EndsCheckpoint a m copied c =
     ((is_missing a m c ≡ true) × (is_set copied.bytes c ≡ false))
     ⊎ ListsAny a.chunks c m
 
 -- the start of the first such chunk, or the array's size where there is none
-abbrev pub IsFirstStop : ArrayView → MemberView → Bitmap → ℕ → Type 0
-IsFirstStop a m copied offset =
-    ((c : ℕ) × (c < a.marks.chunks) × Stops a m copied c × ((b : ℕ) → b < c → Stops a m copied b → ⊥) × (offset ≡ c * a.chunks.sectors))
-    ⊎ (((c : ℕ) → c < a.marks.chunks → Stops a m copied c → ⊥) × (offset ≡ a.chunks.size))
+abbrev pub IsFirstEnd : ArrayView → MemberView → Bitmap → ℕ → Type 0
+IsFirstEnd a m copied offset =
+    ((c : ℕ) × (c < a.marks.chunks) × EndsCheckpoint a m copied c × ((b : ℕ) → b < c → EndsCheckpoint a m copied b → ⊥) × (offset ≡ c * a.chunks.sectors))
+    ⊎ (((c : ℕ) → c < a.marks.chunks → EndsCheckpoint a m copied c → ⊥) × (offset ≡ a.chunks.size))
 
 -- The new offset: it never falls.
 pub record IsNextOffset (a : ArrayView) (m : MemberView) (copied : Bitmap) (offset : ℕ) : Type 0 where
   pub stop : ℕ
-  pub first : IsFirstStop a m copied stop
+  pub first : IsFirstEnd a m copied stop
   pub is : offset ≡ max m.superblock.recovery_offset stop
 
 -- member k has this offset
 abbrev pub with_offset_of : ArrayView → ℕ → MemberView → ℕ → ArrayView
-with_offset_of a k m offset = record a { members = set a.members k (with_offset offset m) }
+with_offset_of a k m offset = record a { members = set a.members k (with_recovery_offset offset m) }

@@ -61,7 +61,7 @@ pub record IsCopy (k sector : ℕ) (bytes : List ℕ) (v : MirrorView) : Type 0 
   pub may : MayCopy from k sector sectors v.array
   pub holds : HoldsData v from sector bytes
 
--- Of a stop within the write each of its sectors is as it was or as written (`disks.within`).
+-- Of a crash within the write each of its sectors is as it was or as written (`disks.within`).
 pub record CopiesTo (k sector : ℕ) (bytes : List ℕ) (old new : MirrorView) : Type 0 where
   pub copy : IsCopy k sector bytes old
   pub disks : IsWritten k (run_write copy.may.target sector bytes) old.disks new.disks
@@ -91,7 +91,7 @@ RefusesCopy k chunk old new Halted = HaltsCopying k chunk old new
 RefusesCopy k chunk old new (MemberFailed j) = (j ≡ k) × FailsToCopy k chunk old new
 
 -- ---- a run of sectors is its sectors, one after another
--- The write was done. What a stop within it leaves is said of the run's write, which is one.
+-- The write was done. What a crash within it leaves is said of the run's write, which is one.
 pub record IsDone (k : ℕ) (w : Write) (before after : List Disk) : Type 0 where
   pub tried : IsTried k w before after
   pub done : AtDevice k before after (λ d e. d.honest ≡ true → e.content ≡ written d.content w.sector w.bytes)

@@ -1,21 +1,21 @@
 -- Devices before and after a call.
 use Rattle.std.specs.Prelude.{◌≡◌, ℕ, ◌<◌, ◌≤◌, true, List, length, slice_get, Some}
-use Rattle.md_device.specs.Stops.{LeavesMore}
+use Rattle.md_device.specs.Crashes.{LeavesMore}
 use Rattle.md_state.specs.View.{Disk}
 
 -- A device is what it was.
 abbrev pub IsUnchanged : Disk → Disk → Type 0
 IsUnchanged old new = new.content ≡ old.content
 
--- Between two moments of a device a stop leaves what has P.
+-- Between two moments of a device a crash leaves what has P.
 abbrev pub LeavesOn : (List ℕ → Type 0) → Disk → Disk → Type 0
-LeavesOn P d e = LeavesMore d.stops e.stops P
+LeavesOn P d e = LeavesMore d.crashes e.crashes P
 
--- Between two moments of an honest device a stop leaves what the device was at the first.
+-- Between two moments of an honest device a crash leaves what the device was at the first.
 abbrev pub LeavesAsWas : Disk → Disk → Type 0
 LeavesAsWas d e = d.honest ≡ true → LeavesOn (λ left. left ≡ d.content) d e
 
--- nothing was written on it, and a stop leaves it as it was
+-- nothing was written on it, and a crash leaves it as it was
 abbrev pub IsLeftAlone : Disk → Disk → Type 0
 IsLeftAlone d e = IsUnchanged d e × LeavesAsWas d e
 
@@ -33,7 +33,7 @@ pub record AreSame (before after : List Disk) : Type 0 where
   pub as_many : length after ≡ length before
   pub honest : EachPair (λ _. StaysHonest) before after
 
--- nothing was written, and a stop leaves each as it was
+-- nothing was written, and a crash leaves each as it was
 pub record IsUntouched (before after : List Disk) : Type 0 where
   pub same : AreSame before after
   pub content : EachPair (λ _. IsUnchanged) before after

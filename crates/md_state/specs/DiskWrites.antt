@@ -17,13 +17,13 @@ pub record IsTried (k : ℕ) (w : Write) (before after : List Disk) : Type 0 whe
   pub stays : AtDevice k before after StaysHonest
   pub outside : AtDevice k before after (λ d e. SameOutside (512 * w.sector) (length w.bytes) d.content e.content)
 
--- The write was done. Within it a stop leaves device k before it, after it, or with some of its sectors written.
+-- The write was done. Within it a crash leaves device k before it, after it, or with some of its sectors written.
 pub record IsWritten (k : ℕ) (w : Write) (before after : List Disk) : Type 0 where
   pub tried : IsTried k w before after
   pub done : AtDevice k before after (λ d e. d.honest ≡ true → e.content ≡ written d.content w.sector w.bytes)
   pub within : AtDevice k before after (λ d e. d.honest ≡ true → LeavesOn (IsCutShort d.content (w ∷ [])) d e)
 
--- The write failed: any bytes may stand in its range, and a stop within it leaves so.
+-- The write failed: any bytes may stand in its range, and a crash within it leaves so.
 pub record IsFailed (k : ℕ) (w : Write) (before after : List Disk) : Type 0 where
   pub tried : IsTried k w before after
   pub failed : AtDevice k before after (λ d e. d.honest ≡ true → d.failures < e.failures)

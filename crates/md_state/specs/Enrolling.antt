@@ -54,12 +54,12 @@ pub record HasFullLog (k : ℕ) (copied orphans : Bitmap) (a : ArrayView) : Type
   pub full : HasRoomFor member.superblock list → ⊥
 
 -- why there is no such member. That memory was short is not said.
-abbrev pub RefusesMember : ℕ → Bitmap → Bitmap → ArrayView → EnrolFault → Type 0
-RefusesMember k copied orphans a (LogFull j) = (j ≡ k) × HasFullLog k copied orphans a
-RefusesMember k copied orphans a NoMemory = ⊤
-RefusesMember k copied orphans a Halted = ⊥
-RefusesMember k copied orphans a EventsFull = ⊥
-RefusesMember k copied orphans a TargetFault = ⊥
+abbrev pub RefusesEnrolledMember : ℕ → Bitmap → Bitmap → ArrayView → EnrolFault → Type 0
+RefusesEnrolledMember k copied orphans a (LogFull j) = (j ≡ k) × HasFullLog k copied orphans a
+RefusesEnrolledMember k copied orphans a NoMemory = ⊤
+RefusesEnrolledMember k copied orphans a Halted = ⊥
+RefusesEnrolledMember k copied orphans a EventsFull = ⊥
+RefusesEnrolledMember k copied orphans a TargetFault = ⊥
 
 -- ---- the array with it
 -- each role has a member in sync, once this is member k

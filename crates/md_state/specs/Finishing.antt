@@ -21,7 +21,7 @@ pub record MayFinish (a : ArrayView) (p : PendingView) : Type 0 where
 pub record Finishes (old new : MirrorView) (p : PendingView) : Type 0 where
   pub may : MayFinish old.array p
   pub disks : new.disks ≡ old.disks
-  pub array : new.array ≡ record old.array { requests = record old.array.requests { entries = inflight.without old.array.requests.entries p.ticket.number } }
+  pub array : new.array ≡ record old.array { requests = record old.array.requests { entries = inflight.entries_without old.array.requests.entries p.ticket.number } }
 
 -- member k lacks the request's bytes
 pub record LacksBytes (k : ℕ) (a : ArrayView) (p : PendingView) : Type 0 where

@@ -18,7 +18,7 @@ pub record HasRoles (a : ArrayView) : Type 0 where
   pub serving : a.halted ≡ false → (k : ℕ) × (m : MemberView) × IsInSync a k m
 
 -- Marks, in memory and stored, are of the array's chunks. In memory no bit past the last one is set.
-pub record HasChunks (a : ArrayView) : Type 0 where
+pub record HasMarksOfSize (a : ArrayView) : Type 0 where
   pub size : a.chunks.size ≡ a.shared.size
   pub count : a.marks.chunks ≡ div_ceil a.chunks.size a.chunks.sectors
   pub wide : 0 < a.chunks.sectors

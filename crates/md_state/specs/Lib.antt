@@ -38,7 +38,7 @@ pub mod Removing
 pub mod Finishing
 -- A mark goes from memory.
 pub mod ClearingMarks
--- An active array becomes clean, as at a stop.
+-- An active array becomes clean, as at a crash.
 pub mod MakingClean
 -- A request begins: it is entered, and its chunks are marked in memory.
 pub mod Beginning

@@ -10,7 +10,7 @@ use Rattle.md_members.specs.declared.info.MemberInfo.{MemberInfo}
 use Rattle.md_assembly.specs.declared.state.MemberState.{MemberState}
 use Rattle.md_assembly.specs.declared.state.MemberState.TheVariants.{InSync, Recovering, Stale, Spare, Faulty}
 use Rattle.md_assembly.specs.States.{has_recovery_offset, role_in, state_of, takes_role}
-use Rattle.md_kept_members.specs.TakingBack.{IsTakenBack, own_role}
+use Rattle.md_kept_members.specs.TakingBack.{IsKeptTakenBack, own_role}
 use Rattle.md_kept_members.specs.View.{MemberView}
 use Rattle.md_faults.specs.declared.re_add_fault.ReAddFault.{ReAddFault}
 use Rattle.md_faults.specs.declared.re_add_fault.ReAddFault.TheVariants.{Halted, Member, Full, NotReAddable, NoRole, EventsFull, WriteFault, NoMemory}
@@ -116,11 +116,11 @@ pub record TakesBack (info : MemberInfo) (old new : ArrayView) : Type 0 where
   pub member : MemberView
   pub offset : ℕ
   pub offset_is : IsOffsetBack old info offset
-  pub taken : IsTakenBack offset info member
+  pub taken : IsKeptTakenBack offset info member
   pub array : new ≡ joined old member (own_role info.superblock)
 
 -- no role is free for it
-pub record HasNoRole (a : ArrayView) (info : MemberInfo) : Type 0 where
+pub record HasNoFreeRole (a : ArrayView) (info : MemberInfo) : Type 0 where
   pub room : HasMostMembers a → ⊥
   pub fits : IsReAddable a info
   pub taken : is_taken a (own_role info.superblock) ≡ true
@@ -136,7 +136,7 @@ pub record CannotCountReAdd (a : ArrayView) (info : MemberInfo) : Type 0 where
 abbrev pub RefusesToTakeBack : ArrayView → MemberInfo → ReAddFault → Type 0
 RefusesToTakeBack a info Full = HasMostMembers a
 RefusesToTakeBack a info NotReAddable = (HasMostMembers a → ⊥) × (IsReAddable a info → ⊥)
-RefusesToTakeBack a info NoRole = HasNoRole a info
+RefusesToTakeBack a info NoRole = HasNoFreeRole a info
 RefusesToTakeBack a info EventsFull = CannotCountReAdd a info
 RefusesToTakeBack a info Halted = ⊥
 RefusesToTakeBack a info (Member fault) = ⊥

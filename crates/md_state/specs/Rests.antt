@@ -3,7 +3,7 @@ use Rattle.std.specs.Prelude.{◌≡◌}
 use Rattle.md_state.specs.View.{MirrorView}
 use Rattle.md_state.specs.DeviceChanges.{IsUntouched}
 
--- The array is as it was, and each device holds what it held. A stop leaves nothing else.
+-- The array is as it was, and each device holds what it held. A crash leaves nothing else.
 pub record Rests (old new : MirrorView) : Type 0 where
   pub array : new.array ≡ old.array
   pub disks : IsUntouched old.disks new.disks

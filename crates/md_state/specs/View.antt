@@ -9,20 +9,20 @@ use Rattle.md_inflight.specs.Inflight.{InflightList}
 use Rattle.md_requests.specs.declared.extent.Extent.{Extent}
 use Rattle.md_kept_members.specs.View.{MemberView}
 
--- a device: what stands on it, whether it does what it answers, how many of its calls have failed, and what stops within its
+-- a device: what stands on it, whether it does what it answers, how many of its calls have failed, and what crashes within its
 -- calls might have left
 pub record Disk : Type 0 where
   pub content : List ℕ
   pub honest : Bool
   pub failures : ℕ
-  pub stops : List (List ℕ)
+  pub crashes : List (List ℕ)
 
 abbrev pub disk_of : {D : Type 0} → Ghosts D → D → Disk
-disk_of g d = record { content = g.content d; honest = g.honest d; failures = g.failures d; stops = g.stops d }
+disk_of g d = record { content = g.content d; honest = g.honest d; failures = g.failures d; crashes = g.crashes d }
 
 -- a disk is its own view
 abbrev pub of_disks : Ghosts Disk
-of_disks = record { content = λ d. d.content; honest = λ d. d.honest; failures = λ d. d.failures; stops = λ d. d.stops }
+of_disks = record { content = λ d. d.content; honest = λ d. d.honest; failures = λ d. d.failures; crashes = λ d. d.crashes }
 
 -- all that is kept in memory
 pub record ArrayView : Type 0 where

@@ -17,8 +17,8 @@ abbrev pub data_write : MemberView → PendingView → Write
 data_write m p = record { sector = m.superblock.data_offset + p.sector; bytes = p.bytes }
 
 -- the member's stored marks have each chunk of the request, whether or not its bitmap is accepted
-abbrev pub HasMarksOf : ArrayView → PendingView → MemberView → Type 0
-HasMarksOf a p m = (s : ℕ) → p.sector ≤ s → s < p.sector + request_sectors p → is_set m.stored.bytes (s / a.chunks.sectors) ≡ true
+abbrev pub HasRequestMarks : ArrayView → PendingView → MemberView → Type 0
+HasRequestMarks a p m = (s : ℕ) → p.sector ≤ s → s < p.sector + request_sectors p → is_set m.stored.bytes (s / a.chunks.sectors) ≡ true
 
 -- A member's stored marks have the chunks from the first on and below the end.
 abbrev pub HasMarksFrom : ℕ → ℕ → MemberView → Type 0
@@ -31,7 +31,7 @@ IsNotDue m = m.due ≡ false
 pub record HasIntentStored (k : ℕ) (a : ArrayView) (p : PendingView) (m : MemberView) : Type 0 where
   pub running : a.halted ≡ false
   pub in_sync : IsInSync a k m
-  pub marked : AllInSync a (HasMarksOf a p)
+  pub marked : AllInSync a (HasRequestMarks a p)
   pub recorded : AllInSync a IsNotDue
 
 -- Member k lacks the request's bytes, and its intent is stored: the request's marks and all records are.
@@ -63,14 +63,14 @@ pub record LacksMarks (k j : ℕ) (a : ArrayView) (p : PendingView) : Type 0 whe
   pub running : a.halted ≡ false
   pub member : MemberView
   pub in_sync : IsInSync a k member
-  pub first : IsFirstInSyncWithout a (HasMarksOf a p) j
+  pub first : IsFirstInSyncWithout a (HasRequestMarks a p) j
 
 -- member j's superblock has to be stored
 pub record LacksRecord (k j : ℕ) (a : ArrayView) (p : PendingView) : Type 0 where
   pub running : a.halted ≡ false
   pub member : MemberView
   pub in_sync : IsInSync a k member
-  pub marked : AllInSync a (HasMarksOf a p)
+  pub marked : AllInSync a (HasRequestMarks a p)
   pub first : IsFirstInSyncWithout a IsNotDue j
 
 pub record HasBytes (k : ℕ) (a : ArrayView) (p : PendingView) : Type 0 where

@@ -2,7 +2,7 @@
 ghost use Rattle.std.specs.Prelude.{◌≡◌, ◌↔◌, ◌+◌, ◌/◌, ◌^◌, ◌==◌, ◌++◌, [], ◌∷◌, List, None, true, IfErr, IfOk, MatchResult, OnErr, OnOk, if◌then◌else◌, length};
 ghost use Rattle.std.specs.Int.{div_ceil};
 ghost use Rattle.md_inflight.specs.Inflight.{lookup};
-ghost use Rattle.md_state.specs.Beginning.{Begins, HasMarked, IsInRange, MayBeginAt, RefusesBegin, active_offset, counted, has_to_rise};
+ghost use Rattle.md_state.specs.Beginning.{Begins, HasMarked, IsInRange, MayBeginAt, RefusesBegin, active_offset, array_after_rise, has_to_rise};
 ghost use Rattle.md_state.specs.Rising.{HasSpentEvents};
 ghost use Rattle.md_state.specs.View.{Disk};
 
@@ -85,7 +85,7 @@ impl Array {
     // The count rises where a request makes it rise.
     fn count_request(&mut self)
         requires { has_to_rise self.old ≡ true → HasSpentEvents self.old → ⊥ }
-        ensures { self.new ≡ counted self.old }
+        ensures { self.new ≡ array_after_rise self.old }
     {
         if self.has_to_rise() {
             self.rise();

@@ -1,9 +1,9 @@
 // How far a recovering member is rebuilt.
 ghost use Rattle.std.specs.Prelude.{◌≡◌, ◌<◌, ◌↔◌, ℕ, IsTrue, length, set};
-ghost use Rattle.md_kept_members.specs.TakingBack.{with_offset};
+ghost use Rattle.md_kept_members.specs.TakingBack.{with_recovery_offset};
 ghost use Rattle.md_kept_members.specs.View.{MemberView};
-ghost use Rattle.md_state.specs.Checkpoints.{IsFirstStop, IsNextOffset, Stops, with_offset_of};
-ghost use Rattle.md_state.specs.InMemory.{HasChunks};
+ghost use Rattle.md_state.specs.Checkpoints.{IsFirstEnd, IsNextOffset, EndsCheckpoint, with_offset_of};
+ghost use Rattle.md_state.specs.InMemory.{HasMarksOfSize};
 ghost use Rattle.md_state.specs.Members.{IsMember};
 
 use crate::array::Array;
@@ -15,12 +15,12 @@ impl Array {
     /// it lacks and that was not copied, or of which it lists a sector; but never less than it has.
     pub fn next_offset(&self, k: usize, copied: &Marks) -> u64
         requires within { k < length self.now.members }
-        requires chunks { HasChunks self.now }
+        requires chunks { HasMarksOfSize self.now }
         requires copied { copied.now.chunks ≡ self.now.marks.chunks }
         ensures { (m : MemberView) → IsMember self.now k m → IsNextOffset self.now m copied.now result }
     {
         let own = self.members[k].superblock.recovery_offset;
-        own.max(self.first_stop(k, copied))
+        own.max(self.checkpoint_end(k, copied))
     }
 
     /// Member k has another offset, and gives the one that it had.
@@ -32,26 +32,26 @@ impl Array {
         with_offset(&mut self.members[k], offset)
     }
 
-    fn first_stop(&self, k: usize, copied: &Marks) -> u64
+    fn checkpoint_end(&self, k: usize, copied: &Marks) -> u64
         requires within { k < length self.now.members }
-        requires chunks { HasChunks self.now }
+        requires chunks { HasMarksOfSize self.now }
         requires copied { copied.now.chunks ≡ self.now.marks.chunks }
-        ensures { (m : MemberView) → IsMember self.now k m → IsFirstStop self.now m copied.now result }
+        ensures { (m : MemberView) → IsMember self.now k m → IsFirstEnd self.now m copied.now result }
     {
         for chunk in 0..self.marks.chunks() {
-            if self.stops(k, copied, chunk) {
+            if self.crashes(k, copied, chunk) {
                 return u64::from(chunk) * u64::from(self.chunks.sectors);
             }
         }
         self.chunks.size
     }
 
-    fn stops(&self, k: usize, copied: &Marks, chunk: u32) -> bool
+    fn ends_checkpoint(&self, k: usize, copied: &Marks, chunk: u32) -> bool
         requires within { k < length self.now.members }
-        requires chunks { HasChunks self.now }
+        requires chunks { HasMarksOfSize self.now }
         requires copied { copied.now.chunks ≡ self.now.marks.chunks }
         requires chunk { chunk < self.now.marks.chunks }
-        ensures { (m : MemberView) → IsMember self.now k m → IsTrue result ↔ Stops self.now m copied.now chunk }
+        ensures { (m : MemberView) → IsMember self.now k m → IsTrue result ↔ EndsCheckpoint self.now m copied.now chunk }
     {
         if self.is_missing(k, chunk) && !copied.is_marked(chunk) {
             return true;

@@ -6,7 +6,7 @@ ghost use Rattle.md_assembly.specs.States.{is_in_sync, is_recovering};
 ghost use Rattle.md_assembly.specs.declared.state.MemberState.TheVariants as state;
 ghost use Rattle.md_kept_members.specs.Members.{made_due};
 ghost use Rattle.md_kept_members.specs.View.{MemberView};
-ghost use Rattle.md_state.specs.Enrolling.{ComesWith, MayTakeRole, RefusesMember, RefusesRole, is_full_with};
+ghost use Rattle.md_state.specs.Enrolling.{ComesWith, MayTakeRole, RefusesEnrolledMember, RefusesRole, is_full_with};
 ghost use Rattle.md_state.specs.Members.{IsMember, is_filled};
 
 use crate::array::Array;
@@ -50,7 +50,7 @@ impl Array {
         requires within { k < length self.now.members }
         requires copied { copied.now.chunks ≡ div_ceil self.now.chunks.size self.now.chunks.sectors }
         requires orphans { orphans.now.chunks ≡ div_ceil self.now.chunks.size self.now.chunks.sectors }
-        ensures { MatchResult result (ComesWith k role copied.now orphans.now self.now) (RefusesMember k copied.now orphans.now self.now) }
+        ensures { MatchResult result (ComesWith k role copied.now orphans.now self.now) (RefusesEnrolledMember k copied.now orphans.now self.now) }
     {
         let member = &self.members[k];
         let Ok(list) = list_after(alloc, member, self.chunks, copied, orphans) else {

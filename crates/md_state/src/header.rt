@@ -1,7 +1,7 @@
 // The header that is stored with marks.
 ghost use Rattle.std.specs.Prelude.{◌≡◌, length};
 ghost use Rattle.md_bitmap.specs.Header.{CountsFit, SettingsFit};
-ghost use Rattle.md_bitmap.specs.Sound.{IsSound};
+ghost use Rattle.md_bitmap.specs.Sound.{IsSoundHeader};
 ghost use Rattle.md_state.specs.Headers.{IsHeaderFor};
 
 use crate::array::Array;
@@ -11,7 +11,7 @@ use md_kept_members::Member;
 impl Array {
     /// The header that is stored with a member's marks.
     pub fn header_for(&self, member: &Member) -> BitmapHeader
-        requires { IsSound self.now.shared.size member.now.header.chunksize }
+        requires { IsSoundHeader self.now.shared.size member.now.header.chunksize }
         ensures { IsHeaderFor self.now member.now result }
     {
         self.header_under(member, self.shared.events, self.events_cleared)
@@ -19,7 +19,7 @@ impl Array {
 
     /// It, once the count is this, and marks were last cleared at that one.
     pub fn header_under(&self, member: &Member, events: u64, events_cleared: u64) -> BitmapHeader
-        requires { IsSound self.now.shared.size member.now.header.chunksize }
+        requires { IsSoundHeader self.now.shared.size member.now.header.chunksize }
         ensures { IsHeaderFor (record self.now { shared = record self.now.shared { events = events }; events_cleared = events_cleared }) member.now result }
     {
         fitting(BitmapHeader {

@@ -1,7 +1,7 @@
 // Members in sync that lack something.
 ghost use Rattle.std.specs.Prelude.{◌≡◌, ◌&&◌, ◌≤◌, MatchOption, position};
 ghost use Rattle.md_assembly.specs.States.{is_in_sync};
-ghost use Rattle.md_state.specs.InMemory.{HasChunks};
+ghost use Rattle.md_state.specs.InMemory.{HasMarksOfSize};
 ghost use Rattle.md_state.specs.Members.{AllInSync, IsFirstInSyncWithout};
 ghost use Rattle.md_state.specs.Requests.{lacks};
 ghost use Rattle.md_state.specs.WritingMember.{HasMarksFrom};
@@ -31,7 +31,7 @@ impl Array {
     /// The first member in sync on which a mark of the chunks from `first` on and below `end`
     /// is not stored.
     pub(crate) fn first_unmarked(&self, first: u32, end: u32) -> Option<usize>
-        requires chunks { HasChunks self.now }
+        requires chunks { HasMarksOfSize self.now }
         requires within { end ≤ self.now.marks.chunks }
         ensures { MatchOption result (AllInSync self.now (HasMarksFrom first end)) (IsFirstInSyncWithout self.now (HasMarksFrom first end)) }
     {

@@ -24,7 +24,7 @@ impl Array {
         if !member.state.is_recovering() {
             return Marks::all(alloc, self.marks.chunks());
         }
-        let mut missing = copied(alloc, &self.marks)?;
+        let mut missing = copy_of(alloc, &self.marks)?;
         missing.mark_range(
             self.first_unpassed(member.superblock.recovery_offset),
             self.marks.chunks(),
@@ -80,7 +80,7 @@ impl Array {
 }
 
 // Marks of the same chunks as these.
-fn copied(alloc: Global, marks: &Marks) -> Result<Marks, AllocError>
+fn copy_of(alloc: Global, marks: &Marks) -> Result<Marks, AllocError>
     ensures chunks { IfOk result (λ copy. copy.chunks ≡ marks.now.chunks) }
     ensures bits { IfOk result (λ copy. (c : ℕ) → c < marks.now.chunks
         → is_set copy.bytes c ≡ is_set marks.now.bytes c) }

@@ -1,6 +1,6 @@
 // The number of a new device.
 ghost use Rattle.std.specs.Prelude.{◌≡◌, ◌↔◌, ◌<◌, IsTrue, false};
-ghost use Rattle.md_model.specs.Membership.{IsLeast};
+ghost use Rattle.md_model.specs.Membership.{IsLeastNumber};
 ghost use Rattle.md_state.specs.Adding.{IsFree, IsNumber, role_at_rise};
 ghost use Rattle.md_state.specs.Joining.{HasMostMembers};
 ghost use Rattle.md_state.specs.Rising.{has_number};
@@ -43,7 +43,7 @@ impl Array {
     // The least number that no member has. Of one number more than there are members, one is.
     fn least_unused(&self) -> u32
         requires { HasMostMembers self.now → ⊥ }
-        ensures { IsLeast (λ d. has_number self.now d ≡ false) result }
+        ensures { IsLeastNumber (λ d. has_number self.now d ≡ false) result }
     {
         let members = self.members.len() as u32;
         for number in 0..members {

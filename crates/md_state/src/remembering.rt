@@ -1,7 +1,7 @@
 // What is kept in memory of the array that members make.
 ghost use Rattle.std.specs.Prelude.{◌≡◌, IfOk, map};
 ghost use Rattle.md_assembly.specs.Assembled.{IsAssembled};
-ghost use Rattle.md_assembly.specs.Faults.{NoFault};
+ghost use Rattle.md_assembly.specs.Faults.{NoAssembleFault};
 ghost use Rattle.md_kept_members.specs.Kept.{with_known_offset};
 ghost use Rattle.md_kept_members.specs.Remembering.{AreWhole};
 ghost use Rattle.md_state.specs.Remembered.{IsRemembered};
@@ -24,7 +24,7 @@ impl Array {
     ) -> Result<Array, AllocError>
         requires whole { AreWhole infos.items }
         requires assembled { IsAssembled infos.items assembly }
-        requires sound { NoFault infos.items }
+        requires sound { NoAssembleFault infos.items }
         ensures { IfOk result (λ a. IsRemembered infos.items assembly a) }
     {
         let freshest = &infos[assembly.freshest];

@@ -1,8 +1,8 @@
 // What a new device is laid out with.
 ghost use Rattle.std.specs.Prelude.{◌≡◌, ◌+◌, ◌<◌, ◌≤◌, ℕ, IfOk, length};
-ghost use Rattle.md_bitmap.specs.Sound.{IsSound};
+ghost use Rattle.md_bitmap.specs.Sound.{IsSoundHeader};
 ghost use Rattle.md_kept_members.specs.View.{MemberView};
-ghost use Rattle.md_state.specs.Adding.{IsLong, IsSpareHeader, IsSpareOf, spare_role};
+ghost use Rattle.md_state.specs.Adding.{HasRoomForData, IsSpareHeader, IsSpareOf, spare_role};
 ghost use Rattle.md_state.specs.Joining.{joined_shared};
 ghost use Rattle.md_state.specs.Members.{IsMember};
 
@@ -26,9 +26,9 @@ impl Array {
     ) -> Result<NewMember, AllocError>
         requires shared { shared.now ≡ joined_shared self.now number spare_role }
         requires some { 0 < length self.now.members }
-        requires sound { (k : ℕ) (m : MemberView) → IsMember self.now k m → IsSound self.now.shared.size m.header.chunksize }
+        requires sound { (k : ℕ) (m : MemberView) → IsMember self.now k m → IsSoundHeader self.now.shared.size m.header.chunksize }
         requires some_size { 0 < self.now.shared.size }
-        requires long { IsLong self.now sectors }
+        requires long { HasRoomForData self.now sectors }
         ensures { IfOk result (IsSpareOf self.now number sectors) }
     {
         let settings = freshest_header(&self.members);
@@ -38,7 +38,7 @@ impl Array {
 
     // The header of its bitmap, once the count is this.
     fn spare_header(&self, settings: &BitmapHeader, events: u64) -> BitmapHeader
-        requires sound { IsSound self.now.shared.size settings.now.chunksize }
+        requires sound { IsSoundHeader self.now.shared.size settings.now.chunksize }
         requires risen { events ≡ self.now.shared.events + 1 }
         ensures { IsSpareHeader self.now settings.now result }
     {

@@ -3,7 +3,7 @@ ghost use Rattle.std.specs.Prelude.{◌≡◌, ◌<◌, List, [], ◌∷◌, ◌
 ghost use Rattle.md_requests.specs.Pending.{request_sectors};
 ghost use Rattle.md_kept_members.specs.View.{MemberView};
 ghost use Rattle.md_state.specs.Beginning.{IsInRange};
-ghost use Rattle.md_state.specs.InMemory.{HasChunks};
+ghost use Rattle.md_state.specs.InMemory.{HasMarksOfSize};
 ghost use Rattle.md_state.specs.Members.{IsMember};
 ghost use Rattle.md_state.specs.View.{Disk};
 ghost use Rattle.md_state.specs.WritingMember.{MayWrite, RefusesWriteMember};
@@ -16,7 +16,7 @@ impl Array {
     /// Whether member k may get the bytes: data come after marks and records.
     pub fn check_write(&self, pending: &Pending<'_>, k: usize) -> Result<(), WriteMemberFault>
         requires within { k < length self.now.members }
-        requires chunks { HasChunks self.now }
+        requires chunks { HasMarksOfSize self.now }
         requires range { IsInRange self.now pending.now.sector (request_sectors pending.now) }
         ensures { (disks : List Disk) → MatchResult result (λ _. (m : MemberView) → IsMember self.now k m → MayWrite k self.now pending.now m)
             (RefusesWriteMember k (record { disks = disks; array = self.now }) (record { disks = disks; array = self.now }) pending.now pending.now) }

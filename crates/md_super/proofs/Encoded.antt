@@ -9,7 +9,7 @@ use Rattle.byteorder.specs.Endian.{little_bytes}
 use Rattle.byteorder.specs.Numbers.{little_number-reads_back}
 use Rattle.md_format.specs.Fields.{number_at, bytes_at}
 use Rattle.md_format.proofs.Parts.{field, part_at}
-use Rattle.md_super.specs.Encoding.{head_bytes, shape_bytes, bitmap_bytes, reshape_bytes, place_bytes, log_bytes, count_bytes, front_bytes, back_bytes, bytes_with}
+use Rattle.md_super.specs.Encoding.{head_bytes, shape_bytes, bitmap_offset_bytes, reshape_bytes, place_bytes, log_field_bytes, state_bytes, front_bytes, back_bytes, bytes_with}
 use Rattle.md_super.specs.Fits.{ShapeFits, ReshapeFits, PlaceFits, LogFits, CountFits, TextsFit, FrontFits, RolesFit}
 use Rattle.md_super.specs.Format.{IsSuper}
 use Rattle.md_super.specs.declared.superblock.Superblock.{Superblock}
@@ -18,8 +18,8 @@ use Rattle.md_super.proofs.RoleLists.{length-flat_map_two, roles_read_back}
 -- the parts of the bytes, and their lengths
 abbrev parts : ℕ → Superblock → List (List ℕ)
 parts total v =
-    head_bytes v ∷ v.set_uuid ∷ v.set_name ∷ shape_bytes v ∷ bitmap_bytes v ∷ reshape_bytes v ∷ place_bytes v
-    ∷ v.device_uuid ∷ log_bytes v ∷ count_bytes v ∷ little_bytes 4 total ∷ little_bytes 4 (length v.roles)
+    head_bytes v ∷ v.set_uuid ∷ v.set_name ∷ shape_bytes v ∷ bitmap_offset_bytes v ∷ reshape_bytes v ∷ place_bytes v
+    ∷ v.device_uuid ∷ log_field_bytes v ∷ state_bytes v ∷ little_bytes 4 total ∷ little_bytes 4 (length v.roles)
     ∷ replicate 32 0 ∷ flat_map (little_bytes 2) v.roles ∷ replicate (3840 - 2 * length v.roles) 0 ∷ []
 
 abbrev lengths : ℕ → List ℕ
@@ -33,10 +33,10 @@ regroup a b c d e f g h i j s m p r z = simp (append_assoc, append-nil)
 
 in_parts : (total : ℕ) (v : Superblock) → bytes_with total v ≡ concat (parts total v)
 unfolding bytes_with front_bytes back_bytes
-in_parts total v = regroup (head_bytes v) v.set_uuid v.set_name (shape_bytes v) (bitmap_bytes v) (reshape_bytes v) (place_bytes v) v.device_uuid (log_bytes v) (count_bytes v) (little_bytes 4 total) (little_bytes 4 (length v.roles)) (replicate 32 0) (flat_map (little_bytes 2) v.roles) (replicate (3840 - 2 * length v.roles) 0)
+in_parts total v = regroup (head_bytes v) v.set_uuid v.set_name (shape_bytes v) (bitmap_offset_bytes v) (reshape_bytes v) (place_bytes v) v.device_uuid (log_field_bytes v) (state_bytes v) (little_bytes 4 total) (little_bytes 4 (length v.roles)) (replicate 32 0) (flat_map (little_bytes 2) v.roles) (replicate (3840 - 2 * length v.roles) 0)
 
 lengths_of : (total : ℕ) (v : Superblock) → TextsFit v → map length (parts total v) ≡ lengths (length v.roles)
-unfolding head_bytes shape_bytes bitmap_bytes reshape_bytes place_bytes log_bytes count_bytes
+unfolding head_bytes shape_bytes bitmap_offset_bytes reshape_bytes place_bytes log_field_bytes state_bytes
 lengths_of total v fit = rw (fit.set_uuid, fit.set_name, fit.device_uuid, length-flat_map_two v.roles, length-replicate {A = ℕ} (3840 - 2 * length v.roles) 0) refl
 
 -- the fields of each group
@@ -76,13 +76,13 @@ places_read v bytes fit e = (
   field 4 128 40 36 v.cnt_corrected_read bytes (place_bytes v) e (omega arith) (little_number-reads_back 4 v.cnt_corrected_read [] fit.cnt_corrected_read),
 )
 
-counts_read : (v : Superblock) (bytes : List ℕ) → CountFits v → bytes_at 24 192 bytes ≡ count_bytes v →
+counts_read : (v : Superblock) (bytes : List ℕ) → CountFits v → bytes_at 24 192 bytes ≡ state_bytes v →
     (v.utime ≡ number_at 8 192 bytes) × (v.events ≡ number_at 8 200 bytes) × (v.resync_offset ≡ number_at 8 208 bytes)
-unfolding number_at count_bytes
+unfolding number_at state_bytes
 counts_read v bytes fit e = (
-  field 8 192 24 0 v.utime bytes (count_bytes v) e (omega arith) (little_number-reads_back 8 v.utime [] fit.utime),
-  field 8 192 24 8 v.events bytes (count_bytes v) e (omega arith) (little_number-reads_back 8 v.events [] fit.events),
-  field 8 192 24 16 v.resync_offset bytes (count_bytes v) e (omega arith) (little_number-reads_back 8 v.resync_offset [] fit.resync_offset),
+  field 8 192 24 0 v.utime bytes (state_bytes v) e (omega arith) (little_number-reads_back 8 v.utime [] fit.utime),
+  field 8 192 24 8 v.events bytes (state_bytes v) e (omega arith) (little_number-reads_back 8 v.events [] fit.events),
+  field 8 192 24 16 v.resync_offset bytes (state_bytes v) e (omega arith) (little_number-reads_back 8 v.resync_offset [] fit.resync_offset),
 )
 
 head_read : (v : Superblock) (bytes : List ℕ) → v.feature_map < 2 ^ 32 → bytes_at 16 0 bytes ≡ head_bytes v →
@@ -97,23 +97,23 @@ head_read v bytes fit e = (
 bits_fit : (z : ℤ) → FitsSigned w32 z → cast_unsigned w32 z < 2 ^ 32
 bits_fit z fit = omega (arith, Fits-of_z {w = w32} fit)
 
-bitmap_read : (v : Superblock) (bytes : List ℕ) → FitsSigned w32 v.bitmap_offset → bytes_at 4 96 bytes ≡ bitmap_bytes v → v.bitmap_offset ≡ cast_signed w32 (number_at 4 96 bytes)
-unfolding number_at bitmap_bytes
+bitmap_read : (v : Superblock) (bytes : List ℕ) → FitsSigned w32 v.bitmap_offset → bytes_at 4 96 bytes ≡ bitmap_offset_bytes v → v.bitmap_offset ≡ cast_signed w32 (number_at 4 96 bytes)
+unfolding number_at bitmap_offset_bytes
 bitmap_read v bytes fit e =
     let bits = cast_unsigned w32 v.bitmap_offset in
     sym (to_z-of_z w32 v.bitmap_offset fit)
-    ∙ ap (cast_signed w32) (field 4 96 4 0 bits bytes (bitmap_bytes v) e (omega arith) (little_number-reads_back 4 bits [] (bits_fit v.bitmap_offset fit)))
+    ∙ ap (cast_signed w32) (field 4 96 4 0 bits bytes (bitmap_offset_bytes v) e (omega arith) (little_number-reads_back 4 bits [] (bits_fit v.bitmap_offset fit)))
 
-log_read : (v : Superblock) (bytes : List ℕ) → LogFits v → bytes_at 8 184 bytes ≡ log_bytes v →
+log_read : (v : Superblock) (bytes : List ℕ) → LogFits v → bytes_at 8 184 bytes ≡ log_field_bytes v →
     (v.devflags ≡ number_at 1 184 bytes) × (v.bblog_shift ≡ number_at 1 185 bytes) × (v.bblog_size ≡ number_at 2 186 bytes) × (v.bblog_offset ≡ cast_signed w32 (number_at 4 188 bytes))
-unfolding number_at log_bytes
+unfolding number_at log_field_bytes
 log_read v bytes fit e =
     let bits = cast_unsigned w32 v.bblog_offset in (
-      field 1 184 8 0 v.devflags bytes (log_bytes v) e (omega arith) (omega arith),
-      field 1 184 8 1 v.bblog_shift bytes (log_bytes v) e (omega arith) (omega arith),
-      field 2 184 8 2 v.bblog_size bytes (log_bytes v) e (omega arith) (little_number-reads_back 2 v.bblog_size (little_bytes 4 bits) fit.bblog_size),
+      field 1 184 8 0 v.devflags bytes (log_field_bytes v) e (omega arith) (omega arith),
+      field 1 184 8 1 v.bblog_shift bytes (log_field_bytes v) e (omega arith) (omega arith),
+      field 2 184 8 2 v.bblog_size bytes (log_field_bytes v) e (omega arith) (little_number-reads_back 2 v.bblog_size (little_bytes 4 bits) fit.bblog_size),
       sym (to_z-of_z w32 v.bblog_offset fit.bblog_offset)
-          ∙ ap (cast_signed w32) (field 4 184 8 4 bits bytes (log_bytes v) e (omega arith) (little_number-reads_back 4 bits [] (bits_fit v.bblog_offset fit.bblog_offset))),
+          ∙ ap (cast_signed w32) (field 4 184 8 4 bits bytes (log_field_bytes v) e (omega arith) (little_number-reads_back 4 bits [] (bits_fit v.bblog_offset fit.bblog_offset))),
     )
 
 number_read : (i x : ℕ) (bytes : List ℕ) → x < 2 ^ 32 → bytes_at 4 i bytes ≡ little_bytes 4 x → x ≡ number_at 4 (i + 0) bytes

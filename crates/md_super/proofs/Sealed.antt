@@ -5,8 +5,8 @@ use Rattle.std.specs.List.{flat_map}
 use Rattle.byteorder.specs.Endian.{little_bytes}
 use Rattle.md_format.specs.Fields.{number_at}
 use Rattle.md_super.specs.Checksum.{checksum_of}
-use Rattle.md_super.specs.Encoding.{head_bytes, shape_bytes, bitmap_bytes, reshape_bytes, place_bytes, log_bytes, count_bytes, front_bytes, back_bytes, bytes_with, super_bytes}
-use Rattle.md_super.specs.Faults.{Stands, place, NoFault}
+use Rattle.md_super.specs.Encoding.{head_bytes, shape_bytes, bitmap_offset_bytes, reshape_bytes, place_bytes, log_field_bytes, state_bytes, front_bytes, back_bytes, bytes_with, super_bytes}
+use Rattle.md_super.specs.Faults.{SuperFaultStands, super_fault_place, NoSuperFault}
 use Rattle.md_super.specs.Fits.{TextsFit, FrontFits, RolesFit}
 use Rattle.md_super.specs.Format.{IsSuper}
 use Rattle.md_super.specs.Profile.{unsupported_features}
@@ -23,9 +23,9 @@ length-ten : (a b c d e f g h i j : List ℕ) →
 length-ten a b c d e f g h i j = simp length-append
 
 length-front_bytes : (v : Superblock) → TextsFit v → length (front_bytes v) ≡ 216
-unfolding front_bytes head_bytes shape_bytes bitmap_bytes reshape_bytes place_bytes log_bytes count_bytes
+unfolding front_bytes head_bytes shape_bytes bitmap_offset_bytes reshape_bytes place_bytes log_field_bytes state_bytes
 length-front_bytes v fit =
-    length-ten (head_bytes v) v.set_uuid v.set_name (shape_bytes v) (bitmap_bytes v) (reshape_bytes v) (place_bytes v) v.device_uuid (log_bytes v) (count_bytes v)
+    length-ten (head_bytes v) v.set_uuid v.set_name (shape_bytes v) (bitmap_offset_bytes v) (reshape_bytes v) (place_bytes v) v.device_uuid (log_field_bytes v) (state_bytes v)
     ∙ rw (fit.set_uuid, fit.set_name, fit.device_uuid) refl
 
 length-back_bytes : (roles : List ℕ) → length roles ≤ 1920 → length (back_bytes roles) ≡ 3876
@@ -88,7 +88,7 @@ sealed_reads_back v fit roles_fit few =
     subst P (checksum_kept v total fit) (reads_back total v fit roles_fit few (checksum_fits (bytes_with 0 v) (length v.roles)))
 
 faultless : (bytes : List ℕ) (v : Superblock) → IsSuper bytes v → number_at 4 220 bytes ≡ length v.roles → v.sb_csum ≡ checksum_of bytes (length v.roles) → length v.roles ≤ 1920 →
-    (f : SuperFault) → place f < 9 → Stands bytes f → ⊥
+    (f : SuperFault) → super_fault_place f < 9 → SuperFaultStands bytes f → ⊥
 faultless bytes v is max_dev sum few Magic before s = s is.magic
 faultless bytes v is max_dev sum few Major before s = s is.major_version
 faultless bytes v is max_dev sum few MaxDev before s = omega (arith, max_dev, few, s)
@@ -105,7 +105,7 @@ faultless bytes v is max_dev sum few RaidDisks before s =
 faultless bytes v is max_dev sum few NoMemory before s = omega (arith, before)
 
 -- bytes that spell a superblock, with their checksum, have no fault
-pub no_fault_in : (bytes : List ℕ) (v : Superblock) → IsSuper bytes v → v.sb_csum ≡ checksum_of bytes (length v.roles) → length v.roles ≤ 1920 → NoFault bytes
+pub no_fault_in : (bytes : List ℕ) (v : Superblock) → IsSuper bytes v → v.sb_csum ≡ checksum_of bytes (length v.roles) → length v.roles ≤ 1920 → NoSuperFault bytes
 no_fault_in bytes v is sum few =
     let max_dev = sym (ap length is.roles ∙ length-roles_in (number_at 4 220 bytes) bytes) in
     faultless bytes v is max_dev sum few

@@ -18,8 +18,8 @@ shape_bytes v =
     ++ little_bytes 4 v.chunksize ++ little_bytes 4 v.raid_disks
 
 -- bytes 96 to 99
-unfoldable pub bitmap_bytes : Superblock → List ℕ
-bitmap_bytes v = little_bytes 4 (cast_unsigned w32 v.bitmap_offset)
+unfoldable pub bitmap_offset_bytes : Superblock → List ℕ
+bitmap_offset_bytes v = little_bytes 4 (cast_unsigned w32 v.bitmap_offset)
 
 -- bytes 100 to 127
 unfoldable pub reshape_bytes : Superblock → List ℕ
@@ -34,19 +34,19 @@ place_bytes v =
     ++ little_bytes 8 v.recovery_offset ++ little_bytes 4 v.dev_number ++ little_bytes 4 v.cnt_corrected_read
 
 -- bytes 184 to 191
-unfoldable pub log_bytes : Superblock → List ℕ
-log_bytes v =
+unfoldable pub log_field_bytes : Superblock → List ℕ
+log_field_bytes v =
     (v.devflags ∷ v.bblog_shift ∷ []) ++ little_bytes 2 v.bblog_size ++ little_bytes 4 (cast_unsigned w32 v.bblog_offset)
 
 -- bytes 192 to 215
-unfoldable pub count_bytes : Superblock → List ℕ
-count_bytes v = little_bytes 8 v.utime ++ little_bytes 8 v.events ++ little_bytes 8 v.resync_offset
+unfoldable pub state_bytes : Superblock → List ℕ
+state_bytes v = little_bytes 8 v.utime ++ little_bytes 8 v.events ++ little_bytes 8 v.resync_offset
 
 -- bytes 0 to 215, before the checksum
 unfoldable pub front_bytes : Superblock → List ℕ
 front_bytes v =
-    head_bytes v ++ v.set_uuid ++ v.set_name ++ shape_bytes v ++ bitmap_bytes v ++ reshape_bytes v ++ place_bytes v
-    ++ v.device_uuid ++ log_bytes v ++ count_bytes v
+    head_bytes v ++ v.set_uuid ++ v.set_name ++ shape_bytes v ++ bitmap_offset_bytes v ++ reshape_bytes v ++ place_bytes v
+    ++ v.device_uuid ++ log_field_bytes v ++ state_bytes v
 
 -- bytes 220 to 4095, after the checksum
 unfoldable pub back_bytes : List ℕ → List ℕ

@@ -1,7 +1,7 @@
 // From bytes to a superblock.
 ghost use Rattle.std.specs.Prelude.{◌≡◌, ◌≤◌, IfOk, IfErr};
 ghost use Rattle.md_super.specs.Format.{IsSuper, roles_in};
-ghost use Rattle.md_super.specs.Faults.{IsSound, IsFirstFault, NoFault, fault_of};
+ghost use Rattle.md_super.specs.Faults.{IsSoundSuper, IsFirstSuperFault, NoSuperFault, super_fault_of};
 
 use crate::fault::SuperFault;
 use crate::roles::{MAX_ROLES, Roles};
@@ -21,8 +21,8 @@ const UNSUPPORTED_FEATURES: u32 = !(FEATURE_BITMAP_OFFSET
 /// `NoMemory` comes last: only where no other fault stands.
 pub fn decode(alloc: Global, bytes: &[u8; 4096]) -> Result<Superblock, SuperFault>
     ensures ok { IfOk result (λ v. IsSuper bytes.now v) }
-    ensures sound { IfOk result (λ _. NoFault bytes.now) }
-    ensures refused { IfErr result (λ f. IsFirstFault bytes.now f) }
+    ensures sound { IfOk result (λ _. NoSuperFault bytes.now) }
+    ensures refused { IfErr result (λ f. IsFirstSuperFault bytes.now f) }
 {
     match first_fault(bytes) {
         Some(fault) => Err(fault),
@@ -31,9 +31,9 @@ pub fn decode(alloc: Global, bytes: &[u8; 4096]) -> Result<Superblock, SuperFaul
 }
 
 // The first fault but for NoMemory.
-#[tactic(auto, unfolding(crate::specs::Faults::fault_of))]
+#[tactic(auto, unfolding(crate::specs::Faults::super_fault_of))]
 fn first_fault(bytes: &[u8; 4096]) -> Option<SuperFault>
-    ensures { result ≡ fault_of bytes.now }
+    ensures { result ≡ super_fault_of bytes.now }
 {
     if u32_at(bytes, 0) != MAGIC {
         return Some(SuperFault::Magic);
@@ -66,7 +66,7 @@ fn first_fault(bytes: &[u8; 4096]) -> Option<SuperFault>
 }
 
 fn read_fields(alloc: Global, bytes: &[u8; 4096]) -> Result<Superblock, AllocError>
-    requires { IsSound bytes.now }
+    requires { IsSoundSuper bytes.now }
     ensures { IfOk result (λ v. IsSuper bytes.now v) }
 {
     let list = role_list(alloc, bytes, u32_at(bytes, 220) as usize)?;

@@ -2,7 +2,7 @@
 ghost use Rattle.std.specs.Prelude.{◌≡◌, ◌≤◌, ◌++◌, length, take};
 ghost use Rattle.md_super.specs.Checksum.{checksum_of};
 ghost use Rattle.md_super.specs.Encoding.{front_bytes, back_bytes, bytes_with, super_bytes};
-ghost use Rattle.md_super.specs.Faults.{NoFault};
+ghost use Rattle.md_super.specs.Faults.{NoSuperFault};
 ghost use Rattle.md_super.specs.Fits.{FrontFits, RolesFit};
 ghost use Rattle.md_super.specs.Format.{IsSuper};
 ghost use Rattle.md_super.specs.Merge.{merged};
@@ -21,7 +21,7 @@ impl Superblock {
     pub fn encode(&self, out: &mut [u8; 4096])
         ensures bytes { out.new ≡ super_bytes self.now }
         ensures fields { IsSuper out.new (record self.now { sb_csum = checksum_of out.new (length self.now.roles) }) }
-        ensures sound { NoFault out.new }
+        ensures sound { NoSuperFault out.new }
     {
         encode_member(self, self, out);
     }
@@ -32,7 +32,7 @@ impl Superblock {
 pub fn encode_member(shared: &Superblock, own: &Superblock, out: &mut [u8; 4096])
     ensures bytes { out.new ≡ super_bytes (merged shared.now own.now) }
     ensures fields { IsSuper out.new (record (merged shared.now own.now) { sb_csum = checksum_of out.new (length shared.now.roles) }) }
-    ensures sound { NoFault out.new }
+    ensures sound { NoSuperFault out.new }
 {
     let max_dev = shared.roles.max_dev();
     put_front(shared, own, out);

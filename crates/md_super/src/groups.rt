@@ -3,7 +3,7 @@ ghost use Rattle.std.specs.Prelude.{◌≡◌, ◌<◌, ◌≤◌, ◌+◌, ◌-
 ghost use Rattle.std.specs.List.{flat_map};
 ghost use Rattle.std.specs.Int.{w32};
 ghost use Rattle.byteorder.specs.Endian.{little_bytes};
-ghost use Rattle.md_super.specs.Encoding.{head_bytes, shape_bytes, bitmap_bytes, reshape_bytes, place_bytes, log_bytes, count_bytes};
+ghost use Rattle.md_super.specs.Encoding.{head_bytes, shape_bytes, bitmap_offset_bytes, reshape_bytes, place_bytes, log_field_bytes, state_bytes};
 ghost use Rattle.md_super.specs.Fits.{ShapeFits, ReshapeFits, PlaceFits, LogFits, CountFits, RolesFit};
 
 use crate::superblock::{MAGIC, MAJOR_VERSION, Superblock};
@@ -42,7 +42,7 @@ pub(crate) fn put_shape(v: &Superblock, out: &mut [u8; 4096])
 }
 
 pub(crate) fn put_bitmap_offset(v: &Superblock, out: &mut [u8; 4096])
-    ensures front { take 100 out.new ≡ take 96 out.old ++ bitmap_bytes v.now }
+    ensures front { take 100 out.new ≡ take 96 out.old ++ bitmap_offset_bytes v.now }
     ensures fit { FitsSigned w32 v.now.bitmap_offset }
 {
     let bitmap_offset = v.bitmap_offset;
@@ -92,7 +92,7 @@ pub(crate) fn put_places(v: &Superblock, out: &mut [u8; 4096])
 }
 
 pub(crate) fn put_log(v: &Superblock, out: &mut [u8; 4096])
-    ensures front { take 192 out.new ≡ take 184 out.old ++ log_bytes v.now }
+    ensures front { take 192 out.new ≡ take 184 out.old ++ log_field_bytes v.now }
     ensures fit { LogFits v.now }
 {
     let Superblock {
@@ -109,7 +109,7 @@ pub(crate) fn put_log(v: &Superblock, out: &mut [u8; 4096])
 }
 
 pub(crate) fn put_counts(v: &Superblock, out: &mut [u8; 4096])
-    ensures front { take 216 out.new ≡ take 192 out.old ++ count_bytes v.now }
+    ensures front { take 216 out.new ≡ take 192 out.old ++ state_bytes v.now }
     ensures fit { CountFits v.now }
 {
     let Superblock {

@@ -85,10 +85,10 @@ fills (reads sector count fill readonly) = fill
 fills _ = false
 
 -- the image that is to join it
-abbrev pub device_of : Ask → Option Text
-device_of (adds name) = Some name
-device_of (re_adds name) = Some name
-device_of _ = None
+abbrev pub device_to_add : Ask → Option Text
+device_to_add (adds name) = Some name
+device_to_add (re_adds name) = Some name
+device_to_add _ = None
 
 -- the member that it names
 abbrev pub member_of : Ask → Option ℕ

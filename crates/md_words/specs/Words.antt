@@ -93,8 +93,8 @@ abbrev pub member_app : Text → App
 member_app name = completed (with_member (new_app name))
 
 -- an option that is the image of a device which is to join the array
-abbrev pub with_device : App → App
-with_device a = with_rule a (required (value_rule (codes "device")))
+abbrev pub with_device_option : App → App
+with_device_option a = with_rule a (required (value_rule (codes "device")))
 
 -- an option by which nothing is asked
 abbrev pub with_run : App → App
@@ -102,7 +102,7 @@ with_run a = with_rule a (flag_rule (codes "run"))
 
 -- a command by which a device joins an array
 abbrev pub device_app : Text → App
-device_app name = completed (with_run (with_device (new_app name)))
+device_app name = completed (with_run (with_device_option (new_app name)))
 
 -- A command by which a member gets the data that it lacks.
 abbrev pub rebuild_app : App

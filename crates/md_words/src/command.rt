@@ -1,6 +1,6 @@
 // A command, and what it may do with the images.
 ghost use Rattle.std.specs.Prelude.{◌≡◌, option_map};
-ghost use Rattle.md_words.specs.Asks.{access_of, ask_of, device_of, failing_of, fills, is_readonly, leaving_of, long_task_of, member_of, opens_array, overwritten_by, takes_input, tells_parted};
+ghost use Rattle.md_words.specs.Asks.{access_of, ask_of, device_to_add, failing_of, fills, is_readonly, leaving_of, long_task_of, member_of, opens_array, overwritten_by, takes_input, tells_parted};
 
 use crate::create_options::CreateOptions;
 use crate::form::{CheckForm, ImageForm};
@@ -192,7 +192,7 @@ impl<'a> Command<'a> {
 
     /// The image that is to join the array.
     pub fn device(self) -> Option<&'a str>
-        ensures { option_map (λ s. s.now) result ≡ device_of (ask_of self.entry) }
+        ensures { option_map (λ s. s.now) result ≡ device_to_add (ask_of self.entry) }
     {
         match self {
             Command::Add { device } => Some(device),

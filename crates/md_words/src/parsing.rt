@@ -293,7 +293,7 @@ fn is_verbose(found: &ArgMatches<'_>) -> bool
     text_in(found, "verbose") == "true"
 }
 
-fn requested<'a>(alloc: Global, matches: &ArgMatches<'a>) -> Result<Request<'a>, AllocError>
+fn request_of<'a>(alloc: Global, matches: &ArgMatches<'a>) -> Result<Request<'a>, AllocError>
     ensures asks { IfOk result (λ r. ask_of r.command ≡ ask_found (subcommand_rows_of matches.now)) }
     ensures images { IfOk result
         (λ r. map (λ s. s.now) r.images.items ≡ images_found (subcommand_rows_of matches.now)) }
@@ -441,5 +441,5 @@ pub fn parse<'a>(alloc: Global, words: &'a [&'a str]) -> Result<Request<'a>, Err
         Err(error) => return Err(error),
     };
     check_command(alloc, &matches)?;
-    Ok(requested(alloc, &matches)?)
+    Ok(request_of(alloc, &matches)?)
 }

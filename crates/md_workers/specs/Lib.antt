@@ -2,5 +2,5 @@
 pub mod Tally
 -- How many chunks a worker reads in a turn.
 pub mod Batches
--- A lane: a source, and the chunks that it reads one after another.
-pub mod Lanes
+-- A queue: a source, and the chunks that it reads one after another.
+pub mod Queues

@@ -14,7 +14,7 @@ use Rattle.md_metadata.specs.declared.fault.PartFault.TheVariants.{Halted, Membe
 use Rattle.md_metadata.specs.Going.{GoesOn, StepsBy, only_others}
 use Rattle.md_metadata.specs.Storing.{StoringFails}
 use Rattle.md_metadata.proofs.Going.{fly_on, same_on, same_refl}
-use Rattle.md_write.specs.Progress.{Advances, HaltsOn, IsLater, IsOfRequest, LeavesAt, Part, WritingFails}
+use Rattle.md_write.specs.Progress.{AdvancesRequest, HaltsOn, IsLater, IsOfRequest, LeavesRoundsAt, Part, WritingFails}
 use Rattle.md_write.proofs.InRounds.{fails_leave, leaves_before, leaves_on, left_at}
 
 pub later_refl : (p : PendingView) → IsLater p p
@@ -24,7 +24,7 @@ pub later_on : (p q r : PendingView) → IsLater p q → IsLater q r → IsLater
 later_on p q r g h = record { request = h.request ∙ ap (λ (x : PendingView). record x { written = r.written }) g.request; more = λ d x. h.more d (g.more d x) }
 
 -- ---- no event, and one
-pub stays : (part : Part) (p q : PendingView) (m : MirrorView) → IsConsistent m → q ≡ p → Advances part part p q m m
+pub stays : (part : Part) (p q : PendingView) (m : MirrorView) → IsConsistent m → q ≡ p → AdvancesRequest part part p q m m
 stays part p q m sound same = record {
   goes = record {
     events = [];
@@ -39,7 +39,7 @@ stays part p q m sound same = record {
 }
 
 pub steps_once : (from to : Part) (p q : PendingView) (e : Event) (old new : MirrorView) → StepsBy (among p) (among q) (IsOfRequest old.array.chunks p) e old new
-    → ((previous : Option Event) → IsInOrder previous old.array e) → LeavesAt from to (e ∷ []) → IsLater p q → Advances from to p q old new
+    → ((previous : Option Event) → IsInOrder previous old.array e) → LeavesRoundsAt from to (e ∷ []) → IsLater p q → AdvancesRequest from to p q old new
 steps_once from to p q e old new s order rounds later = record {
   goes = record {
     events = e ∷ [];
@@ -54,7 +54,7 @@ steps_once from to p q e old new s order rounds later = record {
 }
 
 -- ---- one part after another
-module _ (p q r : PendingView) (old mid new : MirrorView) (a b : Part) (g : Advances a b p q old mid) where
+module _ (p q r : PendingView) (old mid new : MirrorView) (a b : Part) (g : AdvancesRequest a b p q old mid) where
   -- the events of the later part are of the same request
   same_request : (Of : (Event → Type 0) → Type 0) → Of (IsOfRequest mid.array.chunks q) → Of (IsOfRequest old.array.chunks p)
   same_request Of x =
@@ -81,7 +81,7 @@ module _ (p q r : PendingView) (old mid new : MirrorView) (a b : Part) (g : Adva
     pending = λ o is. h.pending o (g.goes.pending o is);
   }
 
-  pub advances_on : (c : Part) → Advances b c q r mid new → Advances a c p r old new
+  pub advances_on : (c : Part) → AdvancesRequest b c q r mid new → AdvancesRequest a c p r old new
   unfolding goes_then
   advances_on c h = record {
     goes = goes_then h.goes;
@@ -89,7 +89,7 @@ module _ (p q r : PendingView) (old mid new : MirrorView) (a b : Part) (g : Adva
     later = later_on p q r g.later h.later;
   }
 
-module _ (p q r : PendingView) (old mid new : MirrorView) (a b : Part) (g : Advances a b p q old mid) where
+module _ (p q r : PendingView) (old mid new : MirrorView) (a b : Part) (g : AdvancesRequest a b p q old mid) where
   pub halts_later : HaltsOn b q r mid new → HaltsOn a p r old new
   unfolding goes_then
   halts_later h = record {
@@ -127,8 +127,8 @@ module _ (Kind : Event → Type 0) (p : PendingView) (old new : MirrorView) (is 
     pending = g.pending;
   }
 
-  module _ (from to : Part) (leave : (es : List Event) → AllOf Kind es → LeavesAt from to es) where
-    pub stored_beside : GoesOn only_others only_others Kind old new → Advances from to p p old new
+  module _ (from to : Part) (leave : (es : List Event) → AllOf Kind es → LeavesRoundsAt from to es) where
+    pub stored_beside : GoesOn only_others only_others Kind old new → AdvancesRequest from to p p old new
     unfolding goes_beside
     stored_beside g = record { goes = goes_beside new g; rounds = leave g.events g.steps; later = later_refl p }
 

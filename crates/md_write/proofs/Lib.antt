@@ -5,4 +5,4 @@ pub mod WrittenData
 pub mod Received
 pub mod Entries
 pub mod Whole
-pub mod StoppedWrites
+pub mod WriteCrashes

@@ -18,16 +18,16 @@ use Rattle.md_metadata.specs.Storing.{IsSector, SectorFails, StaysReady, Stores,
 use Rattle.md_metadata.proofs.Going.{sector_stops, step_as, stops_as, stores_nowhere, stores_on, stores_step, was_in_sync}
 use Rattle.md_metadata.proofs.Steps.{now_at}
 use Rattle.md_metadata.proofs.StoredMembers.{IsLasting}
-use Rattle.md_write.specs.Progress.{AreMarked, HasBitsOf, HasMarksIn, IsMarkingOf}
+use Rattle.md_write.specs.Progress.{AreMarkedInMemory, HasBitsOf, HasMarksIn, IsMarkingOf}
 
-pub marks_last : (a : ArrayView) (first end : ℕ) → AreMarked a first end → IsLasting a.marks (HasMarksFrom first end)
+pub marks_last : (a : ArrayView) (first end : ℕ) → AreMarkedInMemory a first end → IsLasting a.marks (HasMarksFrom first end)
 marks_last a first end are = record {
   lasts = λ b c k n same s has x low high.
       let set = ap (λ (m : Bitmap). is_set m.bytes x) same ∙ are.marked x low high in
       s.marked x (has x low high ∙ sym set) ∙ set;
 }
 
-pub marked_still : (a b : ArrayView) (first end : ℕ) → IsSameArray a b → AreMarked a first end → AreMarked b first end
+pub marked_still : (a b : ArrayView) (first end : ℕ) → IsSameArray a b → AreMarkedInMemory a first end → AreMarkedInMemory b first end
 marked_still a b first end same are = record {
   some = are.some;
   within = subst (λ (m : Bitmap). end ≤ m.chunks) (sym same.marks) are.within;
@@ -46,7 +46,7 @@ module _ (k first end : ℕ) where
   pub up_none : (m : MirrorView) → IsConsistent m → StoresUpTo k first end (block_of first) m m
   up_none m sound = record { stores = stores_nowhere (IsMarkingOf first end) m sound; done = λ n in_sync c low high before. absurd (let l = block_mono first c low in omega arith) }
 
-  pub up_more : (block : ℕ) (old mid new : MirrorView) → AreMarked old.array first end → StoresUpTo k first end block old mid → StoresAt (IsMarkingOf first end) k (HasMarksIn block first end) mid new
+  pub up_more : (block : ℕ) (old mid new : MirrorView) → AreMarkedInMemory old.array first end → StoresUpTo k first end block old mid → StoresAt (IsMarkingOf first end) k (HasMarksIn block first end) mid new
       → StoresUpTo k first end (block + 1) old new
   up_more block old mid new are g h = record {
     stores = stores_on (IsMarkingOf first end) old mid new g.stores h.stores;
@@ -75,7 +75,7 @@ hit : (b x y : Bool) → b ≡ true → x ≡ true → cond b x y ≡ true
 hit true x y e is = is
 hit false x y e is = absurd cc
 
-module _ (k block first end : ℕ) (old new : MirrorView) (are : AreMarked old.array first end) (bits : HasBitsOf first end block) where
+module _ (k block first end : ℕ) (old new : MirrorView) (are : AreMarkedInMemory old.array first end) (bits : HasBitsOf first end block) where
   pub stored_in : IsConsistent old → IsSectorDue old.array k block → StoresOn k block old new → StoresAt (IsMarkingOf first end) k (HasMarksIn block first end) old new
   stored_in sound due s =
       let r = s.gives in
@@ -99,7 +99,7 @@ module _ (k block first end : ℕ) (old new : MirrorView) (are : AreMarked old.a
   stored_or_stops sound due (Err fault) s = stops_as (IsSector k block) (IsMarkingOf first end) (sector_marks k first end block bits) old new fault (sector_stops k block old new fault s)
 
 -- some of these marks are not stored
-pub sector_lacks : (a : ArrayView) (k block first end from to : ℕ) (answer : Bool) → AreMarked a first end
+pub sector_lacks : (a : ArrayView) (k block first end from to : ℕ) (answer : Bool) → AreMarkedInMemory a first end
     → ((c : ℕ) → ((from ≤ c) × (c < to)) ↔ ((first ≤ c) × (c < end) × (block_of c ≡ block)))
     → answer ≡ false → ((m : MemberView) → IsMember a k m → (answer ≡ true) ↔ HasMarksFrom from to m) → IsSectorDue a k block
 sector_lacks a k block first end from to answer are these lacks tells m in_sync =

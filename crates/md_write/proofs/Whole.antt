@@ -12,7 +12,7 @@ use Rattle.md_model.proofs.Puts.{put-self}
 use Rattle.md_bitmap.specs.Marks.{is_set}
 use Rattle.md_bitmap.specs.declared.chunks.Chunks.{Chunks}
 use Rattle.md_bitmap.proofs.Limits.{div-lt-div_ceil}
-use Rattle.md_inflight.specs.Inflight.{InflightList, lookup, without}
+use Rattle.md_inflight.specs.Inflight.{InflightList, lookup, entries_without}
 use Rattle.md_requests.specs.declared.extent.Extent.{Extent}
 use Rattle.md_requests.specs.Pending.{PendingView}
 use Rattle.md_faults.specs.declared.step_fault.BeginFault.{BeginFault}
@@ -31,7 +31,7 @@ use Rattle.md_array.proofs.Steps.InFlight.{found_with_last}
 use Rattle.md_array.proofs.Steps.Turns.{turn_on, turn_then, turn_through}
 use Rattle.md_array.proofs.Worlds.InSync.{in_sync_is, number_at}
 use Rattle.md_write.specs.Progress.{AreChunksOf, HaltsOn, IsEventOf, IsOfRequest, IsReadyToFinish, Part, end_chunk, first_chunk}
-use Rattle.md_write.specs.Writing.{HaltsWrite, HasReceived, IsWritten, RefusesWrite, Writes, events_of}
+use Rattle.md_write.specs.Writing.{HaltsWrite, HasReceived, AreBytesWritten, RefusesWrite, Writes, events_of_write}
 use Rattle.md_write.proofs.WrittenData.{put_under, under}
 use Rattle.md_write.proofs.WrittenData as written
 use Rattle.md_write.proofs.Entries.{without_last}
@@ -236,12 +236,12 @@ module _ (sector : ℕ) (bytes : List ℕ) (old begun : MirrorView) (p : Pending
         middle : InTurn (Some (Event.Begin n r)) begun (among p others) g.advances.goes.events (λ m s. (last : Option Event) → InTurn last m s (Event.Finish n ∷ []) Ends)
         middle = turn_then g.advances.goes.events (Some (Event.Begin n r)) begun (among p others) _ _ ends (g.advances.goes.leads (Some (Event.Begin n r)) others (beside others in_flight))
 
-        abbrev in_turn : (previous : Option Event) → InTurn previous old others (events_of p g.advances.goes.events) Ends
+        abbrev in_turn : (previous : Option Event) → InTurn previous old others (events_of_write p g.advances.goes.events) Ends
         in_turn previous =
             first_turn (g.advances.goes.events ++ Event.Finish n ∷ []) Ends previous others in_flight
             (turn_on g.advances.goes.events (Event.Finish n ∷ []) (Some (Event.Begin n r)) begun (among p others) Ends middle)
 
-        all_received : (previous : Option Event) → AreHonest old.disks → AllLeftWhole (events_of p g.advances.goes.events) previous old others Ends (in_turn previous) → HasReceived r old new others
+        all_received : (previous : Option Event) → AreHonest old.disks → AllLeftWhole (events_of_write p g.advances.goes.events) previous old others Ends (in_turn previous) → HasReceived r old new others
         all_received previous honest whole =
             let shape = geometry_of old.array in
             let first = world_of old others in
@@ -254,7 +254,7 @@ module _ (sector : ℕ) (bytes : List ℕ) (old begun : MirrorView) (p : Pending
             (on_end n r old others x.mirror x.requests x.rest.0 x.kept
             (subst (λ (y : Requests). Does x.mirror x.requests (Event.Finish n) x.rest.0 y) x.rest.5.1 (x.rest.4 x.honest tt)))
 
-        is_written : (previous : Option Event) → IsWritten p g.advances.goes.events previous others old new
+        is_written : (previous : Option Event) → AreBytesWritten p g.advances.goes.events previous others old new
         is_written previous = record { done = in_turn previous; received = all_received previous }
 
       pub writes : Writes sector bytes old new
@@ -267,8 +267,8 @@ module _ (sector : ℕ) (bytes : List ℕ) (old begun : MirrorView) (p : Pending
         rounds = left_at Part.Marks Part.Bytes g.advances.goes.events g.advances.rounds;
         happens = λ previous others in_flight. is_written others in_flight previous;
         entries = ap (λ (x : ArrayView). x.requests.entries) f.array
-            ∙ ap (λ xs. without xs q.ticket.number) (ap (λ (x : InflightList Extent). x.entries) g.advances.goes.array.requests ∙ entries_are)
-            ∙ ap (λ m. without (old.array.requests.entries ++ (old.array.requests.next, record { start = sector; sectors = sectors }) ∷ []) m) (same_n ∙ number_is)
+            ∙ ap (λ xs. entries_without xs q.ticket.number) (ap (λ (x : InflightList Extent). x.entries) g.advances.goes.array.requests ∙ entries_are)
+            ∙ ap (λ m. entries_without (old.array.requests.entries ++ (old.array.requests.next, record { start = sector; sectors = sectors }) ∷ []) m) (same_n ∙ number_is)
             ∙ without_last old.array.requests.next _ old.array.requests.entries b.fresh;
         resynced = ap (λ (x : ArrayView). x.resynced) f.array ∙ g.advances.goes.array.resynced ∙ resynced_is;
         recorded = λ i m at. g.recorded i m (ap (λ (x : ArrayView). slice_get x.members i) (sym f.array) ∙ at);

@@ -16,7 +16,7 @@ use Rattle.md_state.specs.View.{ArrayView, MirrorView}
 use Rattle.md_state.specs.Members.{AllInSync, IsInSync, IsMember}
 use Rattle.md_state.specs.Requests.{IsPending, among, request_of}
 use Rattle.md_state.specs.Finishing.{HasBytesOf}
-use Rattle.md_state.specs.WritingMember.{HasMarksFrom, HasMarksOf, IsNotDue, RefusesWriteMember, WritesTo}
+use Rattle.md_state.specs.WritingMember.{HasMarksFrom, HasRequestMarks, IsNotDue, RefusesWriteMember, WritesTo}
 use Rattle.md_state.proofs.Changes.RequestChunks.{div_mono}
 use Rattle.md_array.specs.Consistency.{IsConsistent}
 use Rattle.md_array.specs.Events.{HappensAmong}
@@ -28,7 +28,7 @@ use Rattle.md_metadata.specs.Storing.{AllRecorded, IsRecording, RecordsAll, Stor
 use Rattle.md_metadata.proofs.Going.{same_refl, stores_as, stores_on}
 use Rattle.md_metadata.proofs.StoredMembers.{last_on, records_last}
 use Rattle.md_metadata.proofs.Steps.{failure_step, fewer_after, halted_after, in_use_there, never_halted}
-use Rattle.md_write.specs.Progress.{Advances, AreChunksOf, HaltsOn, IsLater, IsMarkingOf, IsOfRequest, IsReadyToFinish, LosesOn, Part, WritingFails, WritesAt, WritesBelow, WritesOn, WritesToAll, end_chunk, first_chunk}
+use Rattle.md_write.specs.Progress.{AdvancesRequest, AreChunksOf, HaltsOn, IsLater, IsMarkingOf, IsOfRequest, IsReadyToFinish, LosesOn, Part, WritingFails, WritesAt, WritesBelow, WritesOn, WritesToAll, end_chunk, first_chunk}
 use Rattle.md_write.proofs.InRounds.{first_records_leave, marks_leave, other_records_leave}
 use Rattle.md_write.proofs.Advancing.{advances_on, later_refl, stays, steps_once, stops_later, stored_beside, storing_stops}
 use Rattle.md_write.proofs.StoredMarks.{marked_still, marks_last}
@@ -153,7 +153,7 @@ module _ (old new : MirrorView) (k : ℕ) (p q : PendingView) (before : IsConsis
   pub data_inactive : {P : Type 0} → RefusesWriteMember k old new p q NotActive → ((m : MemberView) → IsMember old.array k m → is_in_sync m.state ≡ true) → P
   data_inactive r active = absurd (let yes = active r.0.reason.member r.0.reason.at in let no = r.0.reason.out in cc)
 
-  pub data_unmarked : {P : Type 0} (j : ℕ) → RefusesWriteMember k old new p q (NotMarked j) → AllInSync old.array (HasMarksOf old.array p) → P
+  pub data_unmarked : {P : Type 0} (j : ℕ) → RefusesWriteMember k old new p q (NotMarked j) → AllInSync old.array (HasRequestMarks old.array p) → P
   data_unmarked j r marked = absurd (r.0.reason.first.lacks (marked j r.0.reason.first.member r.0.reason.first.in_sync))
 
   pub data_unrecorded : {P : Type 0} (j : ℕ) → RefusesWriteMember k old new p q (NotRecorded j) → AllInSync old.array IsNotDue → P
@@ -161,10 +161,10 @@ module _ (old new : MirrorView) (k : ℕ) (p q : PendingView) (before : IsConsis
 
 -- ---- the members, one after another
 module _ (p q : PendingView) (old new : MirrorView) (w : WritesOn p q old new) where
-  pub marked_on : AllInSync old.array (HasMarksOf old.array p) → AllInSync new.array (HasMarksOf new.array q)
+  pub marked_on : AllInSync old.array (HasRequestMarks old.array p) → AllInSync new.array (HasRequestMarks new.array q)
   marked_on all i m in_sync =
-      subst (λ (x : ArrayView). HasMarksOf x q m) (sym w.array)
-      (subst (λ (x : PendingView). HasMarksOf old.array x m) (sym w.advances.later.request) (all i m (subst (λ (x : ArrayView). IsInSync x i m) w.array in_sync)))
+      subst (λ (x : ArrayView). HasRequestMarks x q m) (sym w.array)
+      (subst (λ (x : PendingView). HasRequestMarks old.array x m) (sym w.advances.later.request) (all i m (subst (λ (x : ArrayView). IsInSync x i m) w.array in_sync)))
 
   pub recorded_on : AllInSync old.array IsNotDue → AllInSync new.array IsNotDue
   recorded_on all i m in_sync = all i m (subst (λ (x : ArrayView). IsInSync x i m) w.array in_sync)
@@ -232,7 +232,7 @@ module _ (p : PendingView) (first end : ℕ) (a : MirrorView) (chunks : AreChunk
     marks_stop = storing_stops (IsMarkingOf first end) p a b is marking Part.Marks Part.Marks (marks_leave first end)
 
     module _ (c : MirrorView) (x : Stores (IsMarkingOf first end) a b) where
-      marked : Advances Part.Marks Part.Marks p p a b
+      marked : AdvancesRequest Part.Marks Part.Marks p p a b
       marked = stored_beside (IsMarkingOf first end) p a b is marking Part.Marks Part.Marks (marks_leave first end) x.goes
 
       pub records_stop : (fault : PartFault) → StoringFails IsRecording b c fault → WritingFails Part.Marks p p a c fault
@@ -241,7 +241,7 @@ module _ (p : PendingView) (first end : ℕ) (a : MirrorView) (chunks : AreChunk
           (storing_stops IsRecording p b c (x.goes.pending p is) (recording_is b.array.chunks p) Part.Marks Part.Records first_records_leave fault s)
 
       module _ (d : MirrorView) (y : Stores IsRecording b c) where
-        recorded : Advances Part.Marks Part.Records p p a c
+        recorded : AdvancesRequest Part.Marks Part.Records p p a c
         recorded =
             advances_on p p p a b c Part.Marks Part.Marks marked Part.Records
             (stored_beside IsRecording p b c (x.goes.pending p is) (recording_is b.array.chunks p) Part.Marks Part.Records first_records_leave y.goes)
@@ -251,7 +251,7 @@ module _ (p : PendingView) (first end : ℕ) (a : MirrorView) (chunks : AreChunk
             stops_later p p p a c d Part.Marks Part.Records recorded fault (y.ready.halted ∙ x.ready.halted)
             (storing_stops IsRecording p c d (y.goes.pending p (x.goes.pending p is)) (recording_is c.array.chunks p) Part.Records Part.Bytes other_records_leave fault s)
 
-        pub all_stored : Stores IsRecording c d → Advances Part.Marks Part.Bytes p p a d
+        pub all_stored : Stores IsRecording c d → AdvancesRequest Part.Marks Part.Bytes p p a d
         all_stored z =
             advances_on p p p a c d Part.Marks Part.Records recorded Part.Bytes
             (stored_beside IsRecording p c d (y.goes.pending p (x.goes.pending p is)) (recording_is c.array.chunks p) Part.Records Part.Bytes other_records_leave z.goes)
@@ -274,7 +274,7 @@ module _ (p q : PendingView) (first end : ℕ) (a b c d e : MirrorView) (is : Is
   abbrev all : Stores (IsOfRequest a.array.chunks p) a d
   all = stores_on (IsOfRequest a.array.chunks p) a b d (marks_stored p first end a chunks b x.stores) rest
 
-  pub marked_then : AllInSync d.array (HasMarksOf d.array p)
+  pub marked_then : AllInSync d.array (HasRequestMarks d.array p)
   marked_then i m in_sync s low high =
       let later = chunks_later a.array d.array p p first end all.goes.array (later_refl p) chunks in
       let wide = others.stores.goes.sound.chunks.wide in
@@ -288,7 +288,7 @@ module _ (p q : PendingView) (first end : ℕ) (a b c d e : MirrorView) (is : Is
   pub recorded_then : AllInSync d.array IsNotDue
   recorded_then = last_on IsRecording IsNotDue b c d (records_last b.array.marks) y.stores.goes.array.marks y.done others.stores
 
-  abbrev stored : Advances Part.Marks Part.Bytes p p a d
+  abbrev stored : AdvancesRequest Part.Marks Part.Bytes p p a d
   stored = all_stored p first end a chunks b is c x.stores d y.stores others.stores
 
   pub writes_or_stops : a.array.halted ≡ false → {T : Type 0} (result : Result T PartFault) → MatchResult result (λ _. WritesToAll p q d e) (WritingFails Part.Bytes p q d e)

@@ -2,5 +2,5 @@
 pub mod Progress
 -- A whole write.
 pub mod Writing
--- What a stop of the machine leaves within a whole write, and within a whole `stop`.
-pub mod StoppedWrites
+-- What a crash leaves within a whole write, and within a whole `stop`.
+pub mod WriteCrashes

@@ -72,12 +72,12 @@ InRounds part (Event.WriteFails k (MemberPart.RequestData n) ∷ es) = InRounds 
 InRounds part (e ∷ es) = ⊥
 
 -- these events, and then any that are in rounds from that part on, are in rounds from this one on
-abbrev pub LeavesAt : Part → Part → List Event → Type 0
-LeavesAt from to events = (after : List Event) → InRounds to after → InRounds from (events ++ after)
+abbrev pub LeavesRoundsAt : Part → Part → List Event → Type 0
+LeavesRoundsAt from to events = (after : List Event) → InRounds to after → InRounds from (events ++ after)
 
 -- ---- marks
 -- these chunks are marked in memory
-pub record AreMarked (a : ArrayView) (first end : ℕ) : Type 0 where
+pub record AreMarkedInMemory (a : ArrayView) (first end : ℕ) : Type 0 where
   pub some : first < end
   pub within : end ≤ a.marks.chunks
   pub marked : (c : ℕ) → first ≤ c → c < end → is_set a.marks.bytes c ≡ true
@@ -89,7 +89,7 @@ HasMarksIn block first end m = (c : ℕ) → first ≤ c → c < end → block_o
 -- ---- a request
 -- A request has these chunks, and they are marked in memory.
 pub record AreChunksOf (a : ArrayView) (p : PendingView) (first end : ℕ) : Type 0 where
-  pub are : AreMarked a first end
+  pub are : AreMarkedInMemory a first end
   pub first_is : first ≡ first_chunk a.chunks p
   pub end_is : end ≡ end_chunk a.chunks p
 
@@ -99,14 +99,14 @@ pub record IsLater (p q : PendingView) : Type 0 where
   pub more : (d : ℕ) → has_written p d ≡ true → has_written q d ≡ true
 
 -- A request goes on by its events, from one part of a round to another.
-pub record Advances (from to : Part) (p q : PendingView) (old new : MirrorView) : Type 0 where
+pub record AdvancesRequest (from to : Part) (p q : PendingView) (old new : MirrorView) : Type 0 where
   pub goes : GoesOn (among p) (among q) (IsOfRequest old.array.chunks p) old new
-  pub rounds : LeavesAt from to goes.events
+  pub rounds : LeavesRoundsAt from to goes.events
   pub later : IsLater p q
 
 -- A request's bytes are written, and what is kept in memory of the array is as before.
 pub record WritesOn (p q : PendingView) (old new : MirrorView) : Type 0 where
-  pub advances : Advances Part.Bytes Part.Bytes p q old new
+  pub advances : AdvancesRequest Part.Bytes Part.Bytes p q old new
   pub still : IsPending new.array q
   pub array : new.array ≡ old.array
 
@@ -124,7 +124,7 @@ pub record WritesToAll (p q : PendingView) (old new : MirrorView) : Type 0 where
 
 -- a member failed on the way, and another round may follow
 pub record LosesOn (from : Part) (p q : PendingView) (old new : MirrorView) : Type 0 where
-  pub advances : Advances from Part.Marks p q old new
+  pub advances : AdvancesRequest from Part.Marks p q old new
   pub lost : recorded_count new.array < recorded_count old.array
   pub halted : new.array.halted ≡ old.array.halted
   pub still : IsPending new.array q
@@ -140,7 +140,7 @@ WritingFails from p q old new (MemberFailed k) = LosesOn from p q old new
 
 -- all is done: it may be finished
 pub record IsReadyToFinish (p q : PendingView) (old new : MirrorView) : Type 0 where
-  pub advances : Advances Part.Marks Part.Bytes p q old new
+  pub advances : AdvancesRequest Part.Marks Part.Bytes p q old new
   pub still : IsPending new.array q
   pub may : MayFinish new.array q
   pub recorded : AllRecorded new.array

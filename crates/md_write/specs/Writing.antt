@@ -22,14 +22,14 @@ pub record HasReceived (p : Request) (old new : MirrorView) (others : Requests) 
   pub content : (a : Content) → HoldsBetween (geometry_of old.array) a (world_of old others) → HoldsBetween (geometry_of old.array) (with_request (Some p) a) (world_of new others)
 
 -- The list of a write's events: it begins, its marks, records and bytes are stored, members failing on the way, and it is finished.
-abbrev pub events_of : PendingView → List Event → List Event
-events_of p events = Event.Begin p.ticket.number (request_of p) ∷ (events ++ Event.Finish p.ticket.number ∷ [])
+abbrev pub events_of_write : PendingView → List Event → List Event
+events_of_write p events = Event.Begin p.ticket.number (request_of p) ∷ (events ++ Event.Finish p.ticket.number ∷ [])
 
 -- A request's events were done, and lead to the new mirror. Where devices do what they answer, and each
 -- failed write of a superblock left the old one, the new one or none, the members have the bytes.
-pub record IsWritten (p : PendingView) (events : List Event) (previous : Option Event) (others : Requests) (old new : MirrorView) : Type 0 where
-  pub done : Leads previous old others (events_of p events) new others
-  pub received : AreHonest old.disks → AllLeftWhole (events_of p events) previous old others (λ m r. (m ≡ new) × (r ≡ others)) done
+pub record AreBytesWritten (p : PendingView) (events : List Event) (previous : Option Event) (others : Requests) (old new : MirrorView) : Type 0 where
+  pub done : Leads previous old others (events_of_write p events) new others
+  pub received : AreHonest old.disks → AllLeftWhole (events_of_write p events) previous old others (λ m r. (m ≡ new) × (r ≡ others)) done
       → HasReceived (request_of p) old new others
 
 pub record Writes (sector : ℕ) (bytes : List ℕ) (old new : MirrorView) : Type 0 where
@@ -39,7 +39,7 @@ pub record Writes (sector : ℕ) (bytes : List ℕ) (old new : MirrorView) : Typ
   pub events : List Event
   pub steps : AllOf (IsOfRequest old.array.chunks request) events
   pub rounds : InRounds Part.Marks events
-  pub happens : (previous : Option Event) (others : Requests) → AreInFlight old.array others → IsWritten request events previous others old new
+  pub happens : (previous : Option Event) (others : Requests) → AreInFlight old.array others → AreBytesWritten request events previous others old new
   -- of any devices: what the mirror keeps of the array
   pub entries : new.array.requests.entries ≡ old.array.requests.entries
   pub resynced : new.array.resynced ≡ old.array.resynced

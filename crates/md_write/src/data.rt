@@ -2,7 +2,7 @@
 ghost use Rattle.std.specs.Prelude.{◌≡◌, ◌<◌, MatchResult, length, false};
 ghost use Rattle.md_state.specs.Members.{AllInSync};
 ghost use Rattle.md_state.specs.Requests.{IsPending};
-ghost use Rattle.md_state.specs.WritingMember.{HasMarksOf, IsNotDue};
+ghost use Rattle.md_state.specs.WritingMember.{HasRequestMarks, IsNotDue};
 ghost use Rattle.md_array.specs.Consistency.{IsConsistent};
 ghost use Rattle.md_write.specs.Progress.{Part, WritingFails, WritesAt, WritesToAll};
 
@@ -20,7 +20,7 @@ fn write_to<D: Device + Drop>(
     requires sound { IsConsistent mirror.old }
     requires pending { IsPending mirror.old.array pending.old }
     requires running { mirror.old.array.halted ≡ false }
-    requires marked { AllInSync mirror.old.array (HasMarksOf mirror.old.array pending.old) }
+    requires marked { AllInSync mirror.old.array (HasRequestMarks mirror.old.array pending.old) }
     requires recorded { AllInSync mirror.old.array IsNotDue }
     ensures { MatchResult result (λ _. WritesAt k pending.old pending.new mirror.old mirror.new) (WritingFails Part.Bytes pending.old pending.new mirror.old mirror.new) }
 {
@@ -47,7 +47,7 @@ pub(crate) fn write_to_members<D: Device + Drop>(
     requires sound { IsConsistent mirror.old }
     requires pending { IsPending mirror.old.array pending.old }
     requires running { mirror.old.array.halted ≡ false }
-    requires marked { AllInSync mirror.old.array (HasMarksOf mirror.old.array pending.old) }
+    requires marked { AllInSync mirror.old.array (HasRequestMarks mirror.old.array pending.old) }
     requires recorded { AllInSync mirror.old.array IsNotDue }
     ensures { MatchResult result (λ _. WritesToAll pending.old pending.new mirror.old mirror.new) (WritingFails Part.Bytes pending.old pending.new mirror.old mirror.new) }
 {

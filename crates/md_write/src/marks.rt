@@ -4,7 +4,7 @@ ghost use Rattle.md_members.specs.Areas.{bitmap_sectors};
 ghost use Rattle.md_state.specs.WritingMember.{HasMarksFrom};
 ghost use Rattle.md_array.specs.Consistency.{IsConsistent};
 ghost use Rattle.md_metadata.specs.Storing.{StoresAll, StoresAt, StoringFails};
-ghost use Rattle.md_write.specs.Progress.{AreMarked, HasBitsOf, HasMarksIn, IsMarkingOf};
+ghost use Rattle.md_write.specs.Progress.{AreMarkedInMemory, HasBitsOf, HasMarksIn, IsMarkingOf};
 
 use crate::chunks::{block_of, chunks_in};
 use md_array::Mirror;
@@ -24,7 +24,7 @@ fn store_lacking<D: Device + Drop>(
     requires bits { HasBitsOf first end block }
     requires sound { IsConsistent mirror.old }
     requires running { mirror.old.array.halted ≡ false }
-    requires marked { AreMarked mirror.old.array first end }
+    requires marked { AreMarkedInMemory mirror.old.array first end }
     ensures { MatchResult result (λ _. StoresAt (IsMarkingOf first end) k (HasMarksIn block first end) mirror.old mirror.new) (StoringFails (IsMarkingOf first end) mirror.old mirror.new) }
 {
     if !mirror.state(k).is_in_sync() {
@@ -47,7 +47,7 @@ fn store_member_marks<D: Device + Drop>(
     requires within { k < length mirror.old.array.members }
     requires sound { IsConsistent mirror.old }
     requires running { mirror.old.array.halted ≡ false }
-    requires marked { AreMarked mirror.old.array first end }
+    requires marked { AreMarkedInMemory mirror.old.array first end }
     ensures { MatchResult result (λ _. StoresAt (IsMarkingOf first end) k (HasMarksFrom first end) mirror.old mirror.new) (StoringFails (IsMarkingOf first end) mirror.old mirror.new) }
 {
     for block in block_of(first)..block_of(end - 1) + 1 {
@@ -66,7 +66,7 @@ pub(crate) fn store_marks_of_chunks<D: Device + Drop>(
 ) -> Result<(), PartFault>
     requires sound { IsConsistent mirror.old }
     requires running { mirror.old.array.halted ≡ false }
-    requires marked { AreMarked mirror.old.array first end }
+    requires marked { AreMarkedInMemory mirror.old.array first end }
     ensures { MatchResult result (λ _. StoresAll (IsMarkingOf first end) (HasMarksFrom first end) mirror.old mirror.new) (StoringFails (IsMarkingOf first end) mirror.old mirror.new) }
 {
     for k in 0..mirror.members() {

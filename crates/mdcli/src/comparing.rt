@@ -38,7 +38,7 @@ impl Comparing {
     pub fn line(&self, alloc: Global, now: u64, read: u64) -> Result<String, AllocError> {
         let bytes = self.bytes.load(Ordering::SeqCst);
         let done = self.pace.read_since(read).min(bytes);
-        let left = self.pace.left(now, done / SECTOR, bytes / SECTOR);
+        let left = self.pace.time_left(now, done / SECTOR, bytes / SECTOR);
         format!(in alloc;
             "{} of {} MiB, {} MiB/s, {} min {} s left",
             done / MIB,

@@ -66,7 +66,7 @@ impl Copying {
         if done == 0 {
             return Some(format!(in alloc; "{from}0 of {chunks} chunks{bad}"));
         }
-        let left = self.pace.left(now, done, chunks);
+        let left = self.pace.time_left(now, done, chunks);
         Some(format!(in alloc;
             "{from}{done} of {chunks} chunks{bad}, {} MiB/s, {} min {} s left",
             self.pace.speed(now, read),

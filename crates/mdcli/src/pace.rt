@@ -40,17 +40,17 @@ impl Pace {
 
     /// How many MiB a second that is.
     pub fn speed(&self, now: u64, read: u64) -> u64 {
-        self.read_since(read).saturating_mul(1000) / self.elapsed(now) / MIB
+        self.read_since(read).saturating_mul(1000) / self.elapsed_time(now) / MIB
     }
 
     /// How many seconds are left, where so much is done of all.
-    pub fn left(&self, now: u64, done: u64, all: u64) -> u64 {
+    pub fn time_left(&self, now: u64, done: u64, all: u64) -> u64 {
         let rest = all.saturating_sub(done);
-        self.elapsed(now).saturating_mul(rest) / done.max(1) / 1000
+        self.elapsed_time(now).saturating_mul(rest) / done.max(1) / 1000
     }
 
     // In milliseconds.
-    fn elapsed(&self, now: u64) -> u64
+    fn elapsed_time(&self, now: u64) -> u64
         ensures { 0 < result }
     {
         now.saturating_sub(self.began.load(Ordering::SeqCst)).max(1)

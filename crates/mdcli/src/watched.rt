@@ -39,7 +39,7 @@ impl<'a> Device for WatchedFile<'a> {
 
     ghost failures = { λ _. 0 };
 
-    ghost stops = { λ _. [] };
+    ghost crashes = { λ _. [] };
 
     fn sectors(&self) -> u64 {
         self.sectors

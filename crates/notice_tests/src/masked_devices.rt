@@ -12,7 +12,7 @@ use std::test::Fail;
 const FAILING: u64 = 2;
 
 // Sixteen sectors of zeros, of which 4 to 9 are not given.
-fn masked(alloc: Global) -> Result<MaskedDevice<FaultDevice<MemDevice>>, AllocError> {
+fn masked_device(alloc: Global) -> Result<MaskedDevice<FaultDevice<MemDevice>>, AllocError> {
     let mut mask = BadSet::new(alloc);
     mask.add(4, 6)?;
     let inner = FaultDevice::new(zeros(alloc, 16)?, Vec::new(alloc), FAILING, FAILING, false);
@@ -88,7 +88,7 @@ fn check_masked<D: Device>(rt: &impl Abort, device: &mut D) -> Result<(), Fail> 
 
 #[test]
 fn masked_sectors_are_not_given(rt: HostRuntime) -> Result<(), Fail> {
-    let mut device = masked(rt.alloc())?;
+    let mut device = masked_device(rt.alloc())?;
     let judged = check_masked(&rt, &mut device);
     let mut inner = device.into_inner();
     same_at(&rt, &"the device below", read_at(&mut inner, 5), Z);

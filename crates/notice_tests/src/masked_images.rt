@@ -35,7 +35,7 @@ fn map_texts(alloc: Global, text: &[u8]) -> Result<Vec<MapText>, AllocError> {
 }
 
 // The second image is under a map.
-fn masked(alloc: Global, text: &[u8]) -> Result<Result<Masked, MapsFault>, AllocError> {
+fn masked_images_of(alloc: Global, text: &[u8]) -> Result<Result<Masked, MapsFault>, AllocError> {
     let images = images(alloc)?;
     let maps = map_texts(alloc, text)?;
     Ok(mask_images(alloc, images, &NAMES, &maps))
@@ -70,7 +70,7 @@ fn shows(rt: &impl Abort, images: &mut Masked, wanted: &[(&str, u64, bool)]) {
 
 #[test]
 fn a_mask_is_kept_with_its_image(rt: HostRuntime) -> Result<(), Fail> {
-    let Ok(mut images) = masked(rt.alloc(), MAP)? else {
+    let Ok(mut images) = masked_images_of(rt.alloc(), MAP)? else {
         return Err(Fail::new("no memory: mask_images"));
     };
     shows(
@@ -92,8 +92,8 @@ fn a_mask_is_kept_with_its_image(rt: HostRuntime) -> Result<(), Fail> {
 }
 
 // The name of a refusal.
-fn refused(alloc: Global, text: &[u8]) -> Result<&'static str, Fail> {
-    match masked(alloc, text)? {
+fn refusal_text(alloc: Global, text: &[u8]) -> Result<&'static str, Fail> {
+    match masked_images_of(alloc, text)? {
         Ok(images) => {
             drop(images);
             Ok("taken")
@@ -118,24 +118,24 @@ fn refused(alloc: Global, text: &[u8]) -> Result<&'static str, Fail> {
 #[test]
 fn a_map_is_of_the_whole_image(rt: HostRuntime) -> Result<(), Fail> {
     let alloc = rt.alloc();
-    same_at(&rt, &"the map", refused(alloc, MAP)?, "taken");
+    same_at(&rt, &"the map", refusal_text(alloc, MAP)?, "taken");
     same_at(
         &rt,
         &"a short one",
-        refused(alloc, b"0x0 + 1\n0 4096 +\n")?,
+        refusal_text(alloc, b"0x0 + 1\n0 4096 +\n")?,
         "ends",
     );
     same_at(
         &rt,
         &"a long one",
-        refused(alloc, b"0x0 + 1\n0 8704 +\n")?,
+        refusal_text(alloc, b"0x0 + 1\n0 8704 +\n")?,
         "past the end",
     );
     Ok(())
 }
 
 // What words name: the image and the file of the last, or the name of a refusal and the word that it is about.
-fn named<'a>(alloc: Global, words: &[&'a str]) -> Result<(&'a str, usize), Fail> {
+fn named_culprit<'a>(alloc: Global, words: &[&'a str]) -> Result<(&'a str, usize), Fail> {
     match map_list(alloc, &NAMES, words) {
         Ok(list) => match list.last() {
             Some(word) => Ok((word.file, word.image)),
@@ -150,25 +150,25 @@ fn named<'a>(alloc: Global, words: &[&'a str]) -> Result<(&'a str, usize), Fail>
 #[test]
 fn words_name_maps(rt: HostRuntime) -> Result<(), Fail> {
     let alloc = rt.alloc();
-    same_at(&rt, &"one", named(alloc, &["b.img=f=g"])?, ("f=g", 1));
-    same_at(&rt, &"two", named(alloc, &["b.img=f", "a.img="])?, ("", 0));
-    same_at(&rt, &"none", named(alloc, &[])?, ("", 0));
+    same_at(&rt, &"one", named_culprit(alloc, &["b.img=f=g"])?, ("f=g", 1));
+    same_at(&rt, &"two", named_culprit(alloc, &["b.img=f", "a.img="])?, ("", 0));
+    same_at(&rt, &"none", named_culprit(alloc, &[])?, ("", 0));
     same_at(
         &rt,
         &"another image",
-        named(alloc, &["a.img=f", "c.img=f"])?,
+        named_culprit(alloc, &["a.img=f", "c.img=f"])?,
         ("not listed", 1),
     );
     same_at(
         &rt,
         &"no file",
-        named(alloc, &["a.img"])?,
+        named_culprit(alloc, &["a.img"])?,
         ("not listed", 0),
     );
     same_at(
         &rt,
         &"the same image",
-        named(alloc, &["b.img=f", "a.img=f", "b.img=g"])?,
+        named_culprit(alloc, &["b.img=f", "a.img=f", "b.img=g"])?,
         ("repeated", 2),
     );
     Ok(())

@@ -1,6 +1,6 @@
 // Objects of JSON: what serde_json reads of them is what the reports say.
 use crate::checks::same_at;
-use example_members::{put, sealed, small_image, small_metadata, vault};
+use example_members::{put, seal, small_image, small_metadata, vault};
 use md_array::Mirror;
 use md_badblocks::BadSet;
 use md_bitmap::Marks;
@@ -61,7 +61,7 @@ fn a_superblock_reads_back(rt: HostRuntime) -> Result<(), Fail> {
     put(&mut bytes, 32, b"\"a\\b\"\xff\x01\0x");
     put(&mut bytes, 200, &u64::MAX.to_le_bytes());
     put(&mut bytes, 208, &[0; 8]);
-    let superblock = decode(rt.alloc(), &sealed(bytes, 2))?;
+    let superblock = decode(rt.alloc(), &seal(bytes, 2))?;
     let mut out = Output::new(vec![in rt.alloc()]?);
     superblock_json(&mut out, &superblock)?;
     drop(superblock);

@@ -2,7 +2,7 @@
 // the fields that are told.
 ghost use Rattle.std.specs.Prelude.{◌≤◌};
 
-use example_members::{copied, member_image, put, sealed, small_metadata, zeros};
+use example_members::{copy_of, member_image, put, seal, small_metadata, zeros};
 use md_device::{Device, FaultDevice, MemDevice};
 use std::alloc::Global;
 use std::test::Fail;
@@ -121,7 +121,7 @@ pub(crate) fn image_of(alloc: Global, image: &Image) -> Result<MemDevice, Fail> 
     set(&mut superblock, &mut marks, image.fields);
     set(&mut superblock, &mut marks, image.also);
     let roles = roles_in(&superblock);
-    let superblock = sealed(superblock, roles);
+    let superblock = seal(superblock, roles);
     match image.log {
         Some(entries) => large(alloc, &superblock, &marks, entries),
         None => small(alloc, &superblock, &marks),
@@ -170,7 +170,7 @@ pub(crate) fn new_device(alloc: Global, sectors: u64, fails: u64) -> Result<Test
 pub(crate) fn used_device(alloc: Global, data: &[u8; 512]) -> Result<Testing, Fail> {
     let (mut superblock, marks) = small_metadata(0, 10);
     put(&mut superblock, 16, &[0x77; 16]);
-    let mut device = member_image(alloc, &sealed(superblock, 2), &marks)?;
+    let mut device = member_image(alloc, &seal(superblock, 2), &marks)?;
     device.write(2032, &[0x20; 512])?;
     device.write(2048, data)?;
     device.write(2111, data)?;
@@ -184,7 +184,7 @@ fn add_copy(
     image: &MemDevice,
     first: u64,
 ) -> Result<(), Fail> {
-    let copy = copied(alloc, image)?;
+    let copy = copy_of(alloc, image)?;
     devices.push(FaultDevice::new(copy, Vec::new(alloc), first, u64::MAX - 1, false))?;
     Ok(())
 }

@@ -38,13 +38,13 @@ fn make_one(
     run: &mut Run,
     step: Step,
 ) -> Result<Answer, Fail> {
-    let before = run.shown();
+    let before = run.shown_state();
     let answer = run.make(alloc, step)?;
     if !answer.lacks_memory() {
         return Ok(answer);
     }
     let wanted = after_refusal(step, before);
-    same(rt, &"without memory", run.shown(), wanted);
+    same(rt, &"without memory", run.shown_state(), wanted);
     rt.println(step.call())?;
     run.make(alloc, step)
 }

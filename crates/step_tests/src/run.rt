@@ -119,7 +119,7 @@ impl Run {
         })
     }
 
-    pub(crate) fn shown(&self) -> Shown {
+    pub(crate) fn shown_state(&self) -> Shown {
         what_shows(&self.mirror)
     }
 
@@ -151,13 +151,13 @@ impl Run {
             Step::Admit => Ok(self.admit_last(alloc)),
             Step::NoteBad(k, chunk) => Ok(self.note_bad(alloc, k, chunk)),
             Step::StoreLog(k) => Ok(self.store_log(k)),
-            Step::Show => Ok(Answer::Shows(self.shown())),
+            Step::Show => Ok(Answer::Shows(self.shown_state())),
             Step::Member(k) => Ok(self.member(k)),
             Step::Lack(k) => Ok(self.lack(alloc, k)),
             Step::List(k) => Ok(self.list(k)),
             Step::Permit(chunk) => Ok(self.permit(chunk)),
             Step::Entry(number) => Ok(Answer::Role(self.mirror.shared().role_of(number))),
-            Step::Left => self.left(alloc),
+            Step::Left => self.devices_left(alloc),
         }
     }
 
@@ -411,7 +411,7 @@ impl Run {
         Answer::Permits(self.mirror.permitted(chunk))
     }
 
-    fn left(&mut self, alloc: Global) -> Result<Answer, Fail> {
+    fn devices_left(&mut self, alloc: Global) -> Result<Answer, Fail> {
         match &mut self.left {
             Some(device) => Ok(Answer::Device(stored_on(alloc, device)?)),
             None => Ok(Answer::NotCalled),

@@ -12,7 +12,7 @@ use Rattle.md_kept_members.specs.View.{MemberView}
 use Rattle.md_state.specs.InMemory.{HasRoles}
 use Rattle.md_state.specs.Members.{is_degraded, is_filled}
 use Rattle.md_state.specs.View.{ArrayView}
-use Rattle.md_array.specs.InSyncCount.{in_sync_count}
+use Rattle.md_array.specs.InSyncCount.{count_in_sync}
 use Rattle.md_array.proofs.General.Indices.{any_at, at_any, got_in_range, in_range}
 use Rattle.md_array.proofs.General.Tests.{true_unless_false}
 
@@ -112,7 +112,7 @@ module _ (a : ArrayView) (r : HasRoles a) where
       (λ empty. absurd (true≢false (sym (any_at (λ n. not (is_filled a n)) (range_with_len 0 a.shared.raid_disks) q q (got_in_range a.shared.raid_disks q low) (ap not empty)) ∙ none)))
 
   -- no role is empty: there are as many roles as raid disks, or more
-  enough : is_degraded a ≡ false → a.shared.raid_disks ≤ in_sync_count a
+  enough : is_degraded a ≡ false → a.shared.raid_disks ≤ count_in_sync a
   enough none = omega (arith, as_many a.members, le-length_from_below roles a.shared.raid_disks (λ q low. as_filled q a.members ∙ all_filled none q low))
 
   below_with : (empty q : ℕ) → empty < a.shared.raid_disks → (q == empty || list_any (eqb q) roles) ≡ true → q < a.shared.raid_disks
@@ -121,7 +121,7 @@ module _ (a : ArrayView) (r : HasRoles a) where
       (λ isnt. filled_below q (sym (as_filled q a.members) ∙ sym (ap (λ b. b || list_any (eqb q) roles) isnt) ∙ has))
 
   -- one is: with it the roles are distinct and below
-  few_with : (empty : ℕ) → empty < a.shared.raid_disks → is_filled a empty ≡ false → in_sync_count a < a.shared.raid_disks
+  few_with : (empty : ℕ) → empty < a.shared.raid_disks → is_filled a empty ≡ false → count_in_sync a < a.shared.raid_disks
   unfolding IsDistinct
   few_with empty low lacks = omega (
     arith,
@@ -130,13 +130,13 @@ module _ (a : ArrayView) (r : HasRoles a) where
         (none_else empty roles (as_filled empty a.members ∙ lacks), are_distinct a.members apart) (λ q has. below_with empty q low has),
   )
 
-  few : is_degraded a ≡ true → in_sync_count a < a.shared.raid_disks
+  few : is_degraded a ≡ true → count_in_sync a < a.shared.raid_disks
   few some =
       let x = at_any (λ n. not (is_filled a n)) (range_with_len 0 a.shared.raid_disks) some in
       few_with x.1 (in_range a.shared.raid_disks x.0 x.1 x.2) (true_unless_false (is_filled a x.1) (λ is. true≢false (sym x.3 ∙ ap not is)))
 
-  pub degraded_when_few : (is_degraded a ≡ true) ↔ (in_sync_count a < a.shared.raid_disks)
+  pub degraded_when_few : (is_degraded a ≡ true) ↔ (count_in_sync a < a.shared.raid_disks)
   degraded_when_few = (few, λ less. by_test (is_degraded a) (λ is. is) (λ isnt. absurd (let more = enough isnt in omega (arith, less, more))))
 
-pub counted : (a : ArrayView) → HasRoles a → (answer : Bool) → answer ≡ is_degraded a → IsTrue answer ↔ (in_sync_count a < a.shared.raid_disks)
-counted a r answer is = subst (λ b. IsTrue b ↔ (in_sync_count a < a.shared.raid_disks)) (sym is) (degraded_when_few a r)
+pub counted : (a : ArrayView) → HasRoles a → (answer : Bool) → answer ≡ is_degraded a → IsTrue answer ↔ (count_in_sync a < a.shared.raid_disks)
+counted a r answer is = subst (λ b. IsTrue b ↔ (count_in_sync a < a.shared.raid_disks)) (sym is) (degraded_when_few a r)

@@ -19,7 +19,7 @@ use Rattle.md_kept_members.specs.View.{MemberView}
 use Rattle.md_kept_members.specs.Kept.{IsKept}
 use Rattle.md_state.specs.View.{ArrayView, Disk, MirrorView}
 use Rattle.md_state.specs.Members.{IsInSync, IsMember}
-use Rattle.md_state.specs.InMemory.{HasChunks, HasRoles}
+use Rattle.md_state.specs.InMemory.{HasMarksOfSize, HasRoles}
 use Rattle.md_array.specs.Fits.{Fits}
 use Rattle.md_array.specs.Consistency.{HasPlaces, HasSuper, IsConsistent}
 use Rattle.md_array.specs.Opening.{IsOpenedFrom}
@@ -136,7 +136,7 @@ module _ (before : List Disk) (v : MirrorView) (o : IsOpenedFrom before v) where
       (λ marked. let k = (o.array.remembered.marks c).0 marked in let count = o.array.remembered.mark_count k.0 k.1 k.2.member in let low = k.3.0 in absurd (omega arith))
       (λ clear. clear)
 
-  chunks : HasChunks a
+  chunks : HasMarksOfSize a
   chunks =
       let some = serving in
       record {

@@ -4,7 +4,7 @@ use Rattle.std.specs.Prelude.{slice_get, Some, option_map}
 use Rattle.std.proofs.lemmas.Bool.Decides.{eqb_tells}
 use Rattle.std.proofs.lemmas.List.{get_or_push, get_or_append_left}
 use Rattle.std.proofs.lemmas.Option.{slice_get-get_or, slice_get_within, get_or_from_slice_get, same_Some, slice_get-map}
-use Rattle.md_device.specs.Stops.{LeavesMore}
+use Rattle.md_device.specs.Crashes.{LeavesMore}
 use Rattle.md_device.proofs.Leaving.{leaves_none}
 use Rattle.md_members.proofs.Untouched.{leaves_same}
 use Rattle.md_state.specs.View.{Disk}
@@ -47,7 +47,7 @@ none_touched disks = record {
     honest = λ k d e was is. let same = same_Some d e (sym was ∙ is) in record { honest = ap (λ (x : Disk). x.honest) (sym same); counted = rw same (omega arith) };
   };
   content = λ k d e was is. ap (λ (x : Disk). x.content) (sym (same_Some d e (sym was ∙ is)));
-  within = λ k d e was is honest. subst (λ (x : Disk). LeavesMore d.stops x.stops (λ left. left ≡ d.content)) (same_Some d e (sym was ∙ is)) (leaves_none d.stops (λ left. left ≡ d.content));
+  within = λ k d e was is honest. subst (λ (x : Disk). LeavesMore d.crashes x.crashes (λ left. left ≡ d.content)) (same_Some d e (sym was ∙ is)) (leaves_none d.crashes (λ left. left ≡ d.content));
 }
 
 pub still_same : (before now : List Disk) (k : ℕ) (d e : Disk) → slice_get now k ≡ Some d → AreSame before now → StaysHonest d e → AreSame before (set now k e)
@@ -62,5 +62,5 @@ still_untouched before now k d e here untouched stays unchanged leaves = record 
   same = still_same before now k d e here untouched.same stays;
   content = each_after (λ _. IsUnchanged) (λ _. IsUnchanged) before now k d e here untouched.content (λ j a b other is. is) (λ a was is. unchanged ∙ is);
   within = each_after (λ _. LeavesAsWas) (λ _. LeavesAsWas) before now k d e here untouched.within (λ j a b other is. is)
-      (λ a was is. leaves_same a.stops d.stops e.stops a.content d.content a.honest d.honest (untouched.content k a d was here) (untouched.same.honest k a d was here).honest is leaves);
+      (λ a was is. leaves_same a.crashes d.crashes e.crashes a.content d.content a.honest d.honest (untouched.content k a d was here) (untouched.same.honest k a d was here).honest is leaves);
 }

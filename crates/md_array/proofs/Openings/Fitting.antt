@@ -9,7 +9,7 @@ use Rattle.md_bitmap.specs.Sound.{IsChunkSize, chunk_count}
 use Rattle.md_bitmap.proofs.Accepted.{sound_is}
 use Rattle.md_members.specs.declared.info.MemberInfo.{MemberInfo}
 use Rattle.md_members.specs.Areas.{has_bitmap}
-use Rattle.md_members.specs.Members.{HasBitmap, reads_log, sectors_of}
+use Rattle.md_members.specs.Members.{HasBitmap, reads_log, sectors_of_device}
 use Rattle.md_members.specs.Reading.{ReadsBitmap, ReadsHeader, front_of}
 use Rattle.md_kept_members.specs.View.{MemberView}
 use Rattle.md_kept_members.specs.OwnFields.{kept_superblock}
@@ -28,10 +28,10 @@ use Rattle.md_assembly.proofs.Indices.{got_within}
 record ReadsWith (content : List ℕ) (honest : Bool) (v : Superblock) (h : BitmapHeader) : Type 0 where
   has : has_bitmap v ≡ true
   marks : Bitmap
-  reads : ReadsBitmap content honest (sectors_of content) v h marks
+  reads : ReadsBitmap content honest (sectors_of_device content) v h marks
 
 reads_with : (content : List ℕ) (honest : Bool) (v : Superblock) (header : Option BitmapHeader) (marks : Option Bitmap) (h : BitmapHeader) → header ≡ Some h → HasBitmap content honest v header marks → ReadsWith content honest v h
-reads_with content honest v (Some g) (Some m) h is b = record { has = b.0; marks = m; reads = subst (λ (x : BitmapHeader). ReadsBitmap content honest (sectors_of content) v x m) (same_Some g h is) b.1 }
+reads_with content honest v (Some g) (Some m) h is b = record { has = b.0; marks = m; reads = subst (λ (x : BitmapHeader). ReadsBitmap content honest (sectors_of_device content) v x m) (same_Some g h is) b.1 }
 reads_with content honest v (Some g) None h is b = absurd b
 reads_with content honest v None (Some m) h is b = absurd b
 reads_with content honest v None None h is b = absurd (none-some h is)
@@ -47,14 +47,14 @@ superblock_at infos i v is = by (slice_get infos i) refl where
   by None at = absurd (none-some v (sym (slice_get-map (λ info. info.superblock) infos i ∙ ap (option_map (λ info. info.superblock)) at) ∙ is))
 
 -- a member that is kept of what was read on its device
-kept_fits : (a : ArrayView) (m : MemberView) (d : Disk) (offset : ℕ) (info : MemberInfo) → 16 ≤ sectors_of d.content → sectors_of d.content ≤ 2 ^ 54
+kept_fits : (a : ArrayView) (m : MemberView) (d : Disk) (offset : ℕ) (info : MemberInfo) → 16 ≤ sectors_of_device d.content → sectors_of_device d.content ≤ 2 ^ 54
     → m.superblock ≡ at_offset offset (kept_superblock info) → m.stored.chunks ≡ chunk_count info.superblock.size m.header.chunksize → a.shared.size ≡ info.superblock.size
     → ReadsWith d.content d.honest info.superblock m.header → ((sector : ℕ) → lies_in m.bad sector ≡ true → reads_log (kept_superblock info) ≡ true) → FitsMember a m d
 kept_fits a m d offset info long short superblock chunks size read told = record {
   long = long;
   short = short;
   has = rw superblock (bitmap_same info.bad info.superblock ∙ read.has);
-  placed = rw (superblock, chunks) (placed_next info.bad offset info.superblock (sectors_of d.content) _ read.reads.placed);
+  placed = rw (superblock, chunks) (placed_next info.bad offset info.superblock (sectors_of_device d.content) _ read.reads.placed);
   few_chunks = rw chunks read.reads.few_chunks;
   sound = record {
     chunk_size = chunk_size_of d.content d.honest info.superblock m.header read.reads.header;

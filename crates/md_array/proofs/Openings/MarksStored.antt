@@ -8,18 +8,18 @@ use Rattle.md_state.specs.Members.{IsMember}
 use Rattle.md_state.specs.View.{Disk, ArrayView}
 use Rattle.md_device.proofs.Leaving.{leaves_none}
 use Rattle.md_state.specs.DeviceChanges.{AreSame, EachPair, IsLeftAlone, StaysHonest}
-use Rattle.md_array.specs.Storing.{AreMarked, FailsToStore, IsMarked, IsMarkedBy, StopsAtMember}
+use Rattle.md_array.specs.Storing.{AreMarksOnDisks, FailsToStore, AreMarksOnDisk, IsMarkedBy, EndsAtMember}
 use Rattle.md_array.proofs.Openings.DevicesInTurn.{each_after, none_touched, still_same}
 use Rattle.md_array.proofs.General.Indices.{at_set_same, got_other}
 use Rattle.md_assembly.proofs.Indices.{got_same}
 
 pub left_alone : (d : Disk) → IsLeftAlone d d
-left_alone d = (refl, λ _. leaves_none d.stops (λ left. left ≡ d.content))
+left_alone d = (refl, λ _. leaves_none d.crashes (λ left. left ≡ d.content))
 
 -- they are on the first k members, and the devices from there on are what they were
 pub record AreStoredTo (a : ArrayView) (before now : List Disk) (k : ℕ) : Type 0 where
   pub same : AreSame before now
-  pub earlier : EachPair (λ j d e. j < k → IsMarked a j d e) before now
+  pub earlier : EachPair (λ j d e. j < k → AreMarksOnDisk a j d e) before now
   pub rest : (j : ℕ) (d : Disk) → k ≤ j → slice_get now j ≡ Some d → slice_get before j ≡ Some d
 
 pub stored_none : (a : ArrayView) (disks : List Disk) → AreStoredTo a disks disks 0
@@ -33,7 +33,7 @@ module _ (a : ArrayView) (before now : List Disk) (k : ℕ) (d e : Disk) (to : A
   pub stored_more : (m : MemberView) → IsMember a k m → IsMarkedBy a m d e → AreStoredTo a before (set now k e) (k + 1)
   stored_more m at marked = record {
     same = still_same before now k d e here to.same stays;
-    earlier = each_after (λ j x y. j < k → IsMarked a j x y) (λ j x y. j < k + 1 → IsMarked a j x y) before now k d e here to.earlier
+    earlier = each_after (λ j x y. j < k → AreMarksOnDisk a j x y) (λ j x y. j < k + 1 → AreMarksOnDisk a j x y) before now k d e here to.earlier
         (λ j x y other is below. is (omega arith))
         (λ x was is below n at_n. let same_disk : x ≡ d = got_same before k x d was (to.rest k d (omega arith) here) in
         let same_member : n ≡ m = got_same a.members k n m at_n at in
@@ -41,7 +41,7 @@ module _ (a : ArrayView) (before now : List Disk) (k : ℕ) (d e : Disk) (to : A
     rest = λ j x from at_j. to.rest j x (omega arith) (sym (got_other now k j e (λ same. absurd (omega arith))) ∙ at_j);
   }
 
-  pub stopped_at : (m : MemberView) → IsMember a k m → NeedsMarks m → FailsToStore a m d e → StopsAtMember a before (set now k e) k
+  pub stopped_at : (m : MemberView) → IsMember a k m → NeedsMarks m → FailsToStore a m d e → EndsAtMember a before (set now k e) k
   stopped_at m at needs fails = record {
     same = still_same before now k d e here to.same stays;
     member = m;
@@ -51,13 +51,13 @@ module _ (a : ArrayView) (before now : List Disk) (k : ℕ) (d e : Disk) (to : A
         let same_before : x ≡ d = got_same before k x d was (to.rest k d (omega arith) here) in
         let same_after : y ≡ e = got_same (set now k e) k y e is (at_set_same now k e (slice_get_within now k d here)) in
         rw (same_before, same_after) fails;
-    earlier = each_after (λ j x y. j < k → IsMarked a j x y) (λ j x y. j < k → IsMarked a j x y) before now k d e here to.earlier (λ j x y other is. is) (λ x was is below. absurd (omega arith));
+    earlier = each_after (λ j x y. j < k → AreMarksOnDisk a j x y) (λ j x y. j < k → AreMarksOnDisk a j x y) before now k d e here to.earlier (λ j x y other is. is) (λ x was is below. absurd (omega arith));
     later = λ j x y was is behind.
         let kept : x ≡ y = got_same before j x y was (to.rest j y (omega arith) (sym (got_other now k j e (λ same. absurd (omega arith))) ∙ is)) in
         subst (IsLeftAlone x) kept (left_alone x);
   }
 
-pub stored_all : (a : ArrayView) (before now : List Disk) (k : ℕ) → AreStoredTo a before now k → length now ≤ k → AreMarked before now a
+pub stored_all : (a : ArrayView) (before now : List Disk) (k : ℕ) → AreStoredTo a before now k → length now ≤ k → AreMarksOnDisks before now a
 stored_all a before now k to end = record {
   same = to.same;
   each = λ j d e was is. let within = slice_get_within now j e is in to.earlier j d e was is (omega arith);

@@ -9,21 +9,21 @@ use Rattle.md_super.specs.declared.superblock.Superblock.{Superblock}
 use Rattle.md_members.specs.declared.fault.MemberFault.{MemberFault}
 use Rattle.md_members.specs.declared.fault.MemberFault.TheVariants.{TooShort, ReadFault, Super, Region, Bitmap, Log, NoMemory}
 use Rattle.md_members.specs.declared.info.MemberInfo.{MemberInfo}
-use Rattle.md_members.specs.Members.{IsMember, RefusesMember, RefusesRest, by_place, by_bitmap, by_log, sectors_of}
+use Rattle.md_members.specs.Members.{IsReadMember, RefusesMember, RefusesRest, by_place, by_bitmap, by_log, sectors_of_device}
 use Rattle.md_members.specs.Reading.{RefusesSuper, RefusesBitmap, RefusesLog}
 use Rattle.md_state.specs.View.{Disk}
 use Rattle.md_state.specs.DeviceChanges.{FailsAt, IsUntouched}
-use Rattle.md_array.specs.Reading.{RefusesMember as RefusesMemberAt, RefusesRead, refusal_of}
+use Rattle.md_array.specs.Reading.{RefusesDeviceRead as RefusesMemberAt, RefusesReading, open_fault_of}
 use Rattle.md_array.proofs.Openings.DevicesInTurn.{at_push_before, at_push_last, same_place}
 use Rattle.md_array.proofs.General.Indices.{at_set_same}
 
 -- those that were read so far, from the first device on
 abbrev pub AreReadSoFar : List Disk → List MemberInfo → Type 0
-AreReadSoFar disks infos = (k : ℕ) (d : Disk) (info : MemberInfo) → slice_get disks k ≡ Some d → slice_get infos k ≡ Some info → IsMember d.content d.honest info
+AreReadSoFar disks infos = (k : ℕ) (d : Disk) (info : MemberInfo) → slice_get disks k ≡ Some d → slice_get infos k ≡ Some info → IsReadMember d.content d.honest info
 
 -- what is true of a member on a device is true on one of the same content
-pub member_on : (d a : Disk) (info : MemberInfo) → d.content ≡ a.content → d.honest ≡ a.honest → IsMember d.content d.honest info → IsMember a.content a.honest info
-member_on d a info content honest is = subst (λ (h : Bool). IsMember a.content h info) honest (subst (λ (c : List ℕ). IsMember c d.honest info) content is)
+pub member_on : (d a : Disk) (info : MemberInfo) → d.content ≡ a.content → d.honest ≡ a.honest → IsReadMember d.content d.honest info → IsReadMember a.content a.honest info
+member_on d a info content honest is = subst (λ (h : Bool). IsReadMember a.content h info) honest (subst (λ (c : List ℕ). IsReadMember c d.honest info) content is)
 
 -- a refusal for which a call failed, where the same says that another did
 super_more : (content : List ℕ) (honest : Bool) {F G : Type 0} (fault : MemberFault) → (F → G) → RefusesSuper content honest F fault → RefusesSuper content honest G fault
@@ -55,7 +55,7 @@ log_more honest v NoMemory f r = r
 
 rest_more : (content : List ℕ) (honest : Bool) {F G : Type 0} (v : Superblock) (fault : MemberFault) → (F → G) → RefusesRest content honest F v fault → RefusesRest content honest G v fault
 rest_more content honest v fault f (by_place is unplaced) = by_place is unplaced
-rest_more content honest v fault f (by_bitmap placed has r) = by_bitmap placed has (bitmap_more content honest (sectors_of content) v fault f r)
+rest_more content honest v fault f (by_bitmap placed has r) = by_bitmap placed has (bitmap_more content honest (sectors_of_device content) v fault f r)
 rest_more content honest v fault f (by_log placed h m has reads r) = by_log placed h m has reads (log_more honest v fault f r)
 
 refuses_more : (content : List ℕ) (honest : Bool) {F G : Type 0} (fault : MemberFault) → (F → G) → RefusesMember content honest F fault → RefusesMember content honest G fault
@@ -64,7 +64,7 @@ refuses_more content honest fault f r =
 
 -- one member more
 pub read_more : (before now : List Disk) (infos : List MemberInfo) (k : ℕ) (d : Disk) (info : MemberInfo) → length infos ≡ k → slice_get now k ≡ Some d → IsUntouched before now
-    → AreReadSoFar before infos → IsMember d.content d.honest info → AreReadSoFar before (infos ++ info ∷ [])
+    → AreReadSoFar before infos → IsReadMember d.content d.honest info → AreReadSoFar before (infos ++ info ∷ [])
 read_more before now infos k d info count here untouched read is = λ j a x was at.
     ⊎_elim
     (λ same. let at_k : j ≡ length infos = same.1 ∙ sym count in
@@ -78,13 +78,13 @@ read_more before now infos k d info count here untouched read is = λ j a x was 
 
 -- so many devices are no longer than any
 abbrev pub AreShortSoFar : List Disk → ℕ → Type 0
-AreShortSoFar disks k = (j : ℕ) (d : Disk) → j < k → slice_get disks j ≡ Some d → sectors_of d.content ≤ 2 ^ 54
+AreShortSoFar disks k = (j : ℕ) (d : Disk) → j < k → slice_get disks j ≡ Some d → sectors_of_device d.content ≤ 2 ^ 54
 
-pub short_more : (before now : List Disk) (k : ℕ) (d : Disk) → slice_get now k ≡ Some d → IsUntouched before now → sectors_of d.content ≤ 2 ^ 54
+pub short_more : (before now : List Disk) (k : ℕ) (d : Disk) → slice_get now k ≡ Some d → IsUntouched before now → sectors_of_device d.content ≤ 2 ^ 54
     → AreShortSoFar before k → AreShortSoFar before (k + 1)
 short_more before now k d here untouched short earlier j a below was =
     ⊎_elim
-    (λ same. subst (λ (content : List ℕ). sectors_of content ≤ 2 ^ 54) (untouched.content j a d was (ap (slice_get now) same.1 ∙ here)) short)
+    (λ same. subst (λ (content : List ℕ). sectors_of_device content ≤ 2 ^ 54) (untouched.content j a d was (ap (slice_get now) same.1 ∙ here)) short)
     (λ other. earlier j a (omega (arith, below, other.1)) was)
     (eqb_tells j k)
 
@@ -113,7 +113,7 @@ refused_member before now infos k d e fault count here untouched read refused me
     }
 
 pub refused_at : (before now : List Disk) (infos : List MemberInfo) (k : ℕ) (d e : Disk) (fault : MemberFault) → length infos ≡ k → slice_get now k ≡ Some d → IsUntouched before now
-    → AreReadSoFar before infos → RefusesMember d.content d.honest (d.failures < e.failures) fault → RefusesRead before (set now k e) (refusal_of k fault)
+    → AreReadSoFar before infos → RefusesMember d.content d.honest (d.failures < e.failures) fault → RefusesReading before (set now k e) (open_fault_of k fault)
 refused_at before now infos k d e TooShort count here untouched read refused = refused_member before now infos k d e TooShort count here untouched read refused (λ same. cc)
 refused_at before now infos k d e ReadFault count here untouched read refused = refused_member before now infos k d e ReadFault count here untouched read refused (λ same. cc)
 refused_at before now infos k d e (Super f) count here untouched read refused = refused_member before now infos k d e (Super f) count here untouched read refused (λ same. cc)

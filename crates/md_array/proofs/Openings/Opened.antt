@@ -2,13 +2,13 @@
 use Rattle.std.proofs.Common.{◌≡◌, ◌⊎◌, inl, ℕ, ◌*◌, ◌≤◌, true, List, [], ◌∷◌, length, refl, sym, ap, ◌∙◌, arith, subst, get_or, ◌^◌}
 use Rattle.std.specs.Prelude.{slice_get, Some}
 use Rattle.md_device.specs.Splice.{SameOutside}
-use Rattle.md_members.specs.Areas.{IsPlaced, bitmap_sectors}
-use Rattle.md_members.specs.Members.{sectors_of}
+use Rattle.md_members.specs.Areas.{AreAreasPlaced, bitmap_sectors}
+use Rattle.md_members.specs.Members.{sectors_of_device}
 use Rattle.md_members.specs.declared.info.MemberInfo.{MemberInfo}
 use Rattle.md_assembly.specs.declared.fault.AssembleFault.{AssembleFault}
 use Rattle.md_assembly.specs.declared.fault.AssembleFault.TheVariants.{Empty, TooMany, Stranger, DoubleNumber, NoBitmap, Geometry, DoubleRole, NotEnough, NoMemory as NoMemoryOfAssembly}
-use Rattle.md_assembly.specs.Faults.{IsFirstFault}
-use Rattle.md_device.specs.Stops.{IsMixed}
+use Rattle.md_assembly.specs.Faults.{IsFirstAssembleFault}
+use Rattle.md_device.specs.Crashes.{IsMixed}
 use Rattle.md_device.proofs.Leaving.{leaves_less, leaves_then, mixed_none}
 use Rattle.md_device_writes.specs.Writes.{IsAnyIn, IsCutShort, Write, after}
 use Rattle.md_kept_members.specs.View.{MemberView}
@@ -18,9 +18,9 @@ use Rattle.md_array.specs.declared.fault.OpenFault.{OpenFault}
 use Rattle.md_array.specs.declared.fault.OpenFault.TheVariants.{Member, Assemble, MetadataFault, NoMemory}
 use Rattle.md_array.specs.Fits.{Fits}
 use Rattle.md_array.specs.Opening.{IsArrayOf}
-use Rattle.md_array.specs.Reading.{AreRead, RefusesRead}
+use Rattle.md_array.specs.Reading.{AreRead, RefusesReading}
 use Rattle.md_array.specs.Refusals.{RefusesArray, RefusesOpen, assembly_refusal_of}
-use Rattle.md_array.specs.Storing.{AreMarked, FailsToStore, IsMarked, IsMarkedBy, RefusesMarks, StopsAtMember, StoresMarks}
+use Rattle.md_array.specs.Storing.{AreMarksOnDisks, FailsToStore, AreMarksOnDisk, IsMarkedBy, RefusesStoringMarks, EndsAtMember, StoresMarksOn}
 use Rattle.md_array.proofs.Openings.DevicesInTurn.{same_place}
 
 -- what holds of each pair, in two steps
@@ -44,13 +44,13 @@ cut_before old left (w ∷ rest) same = record { done = []; rest = w ∷ rest; o
 
 -- marks are stored on a device of the same content, which was read before
 module _ (a : ArrayView) (m : MemberView) (d x e : Disk) (stays : StaysHonest d x) (content : x.content ≡ d.content) (read : LeavesAsWas d x) where
-  -- a stop within both leaves what it leaves within the second, if that may leave what was there
+  -- a crash within both leaves what it leaves within the second, if that may leave what was there
   leaves_from : (P : List ℕ → List ℕ → Type 0) → ((old left : List ℕ) → left ≡ old → P old left) → (x.honest ≡ true → LeavesOn (P x.content) x e) → d.honest ≡ true → LeavesOn (P d.content) d e
-  leaves_from P same leaves h = leaves_then d.stops x.stops e.stops (P d.content)
-      (leaves_less d.stops x.stops (λ left. left ≡ d.content) (P d.content) (same d.content) (read h))
+  leaves_from P same leaves h = leaves_then d.crashes x.crashes e.crashes (P d.content)
+      (leaves_less d.crashes x.crashes (λ left. left ≡ d.content) (P d.content) (same d.content) (read h))
       (subst (λ (c : List ℕ). LeavesOn (P c) x e) content (leaves (stays.honest ∙ h)))
 
-  stores_from : StoresMarks a m x e → StoresMarks a m d e
+  stores_from : StoresMarksOn a m x e → StoresMarksOn a m d e
   stores_from s = record {
     start = s.start;
     writes = s.writes;
@@ -85,19 +85,19 @@ module _ (before mid : List Disk) (untouched : IsUntouched before mid) (a : Arra
   place : (k : ℕ) (d : Disk) → slice_get before k ≡ Some d → slice_get mid k ≡ Some (get_or mid k d)
   place k d was = same_place mid before k d (sym untouched.same.as_many) was d
 
-  marked_at : (k : ℕ) (d e : Disk) → slice_get before k ≡ Some d → IsMarked a k (get_or mid k d) e → IsMarked a k d e
+  marked_at : (k : ℕ) (d e : Disk) → slice_get before k ≡ Some d → AreMarksOnDisk a k (get_or mid k d) e → AreMarksOnDisk a k d e
   marked_at k d e was is = λ m at.
       let x = get_or mid k d in
       marked_from a m d x e (untouched.same.honest k d x was (place k d was)) (untouched.content k d x was (place k d was)) (untouched.within k d x was (place k d was)) (is m at)
 
   -- what was stored on devices that were read stands on those that were opened
-  pub marked_after : (end : List Disk) → AreMarked mid end a → AreMarked before end a
+  pub marked_after : (end : List Disk) → AreMarksOnDisks mid end a → AreMarksOnDisks before end a
   marked_after end marked = record {
     same = same_through before mid end untouched.same marked.same;
     each = λ k d e was is. marked_at k d e was (marked.each k (get_or mid k d) e (place k d was) is);
   }
 
-  pub stopped_after : (end : List Disk) (k : ℕ) → StopsAtMember a mid end k → StopsAtMember a before end k
+  pub stopped_after : (end : List Disk) (k : ℕ) → EndsAtMember a mid end k → EndsAtMember a before end k
   stopped_after end k stop = record {
     same = same_through before mid end untouched.same stop.same;
     member = stop.member;
@@ -120,10 +120,10 @@ module _ (before mid : List Disk) (untouched : IsUntouched before mid) (a : Arra
         let d = get_or before k x in
         let fit = fits.each k d m was at in
         record {
-          long = subst (λ (c : List ℕ). 16 ≤ sectors_of c) (sym (untouched.content k d x was is)) fit.long;
-          short = subst (λ (c : List ℕ). sectors_of c ≤ 2 ^ 54) (sym (untouched.content k d x was is)) fit.short;
+          long = subst (λ (c : List ℕ). 16 ≤ sectors_of_device c) (sym (untouched.content k d x was is)) fit.long;
+          short = subst (λ (c : List ℕ). sectors_of_device c ≤ 2 ^ 54) (sym (untouched.content k d x was is)) fit.short;
           has = fit.has;
-          placed = subst (λ (c : List ℕ). IsPlaced (sectors_of c) m.superblock (bitmap_sectors m.stored.chunks)) (sym (untouched.content k d x was is)) fit.placed;
+          placed = subst (λ (c : List ℕ). AreAreasPlaced (sectors_of_device c) m.superblock (bitmap_sectors m.stored.chunks)) (sym (untouched.content k d x was is)) fit.placed;
           few_chunks = fit.few_chunks;
           sound = fit.sound;
           told = fit.told;
@@ -131,13 +131,13 @@ module _ (before mid : List Disk) (untouched : IsUntouched before mid) (a : Arra
   }
 
 -- why there is no array
-pub read_refused : (before end : List Disk) (fault : OpenFault) → RefusesRead before end fault → RefusesArray before end fault
+pub read_refused : (before end : List Disk) (fault : OpenFault) → RefusesReading before end fault → RefusesArray before end fault
 read_refused before end (Member k f) r = r
 read_refused before end (Assemble f) r = absurd r
 read_refused before end (MetadataFault k) r = absurd r
 read_refused before end NoMemory r = tt
 
-pub assembly_refused : (before end : List Disk) (infos : List MemberInfo) (fault : AssembleFault) → AreRead before infos → IsFirstFault infos fault → RefusesArray before end (assembly_refusal_of fault)
+pub assembly_refused : (before end : List Disk) (infos : List MemberInfo) (fault : AssembleFault) → AreRead before infos → IsFirstAssembleFault infos fault → RefusesArray before end (assembly_refusal_of fault)
 assembly_refused before end infos Empty read first = record { infos = infos; read = read; refused = first; memory = λ same. cc }
 assembly_refused before end infos TooMany read first = record { infos = infos; read = read; refused = first; memory = λ same. cc }
 assembly_refused before end infos (Stranger i) read first = record { infos = infos; read = read; refused = first; memory = λ same. cc }
@@ -155,7 +155,7 @@ array_refused before end (Assemble f) untouched r = (untouched, r)
 array_refused before end (MetadataFault k) untouched r = absurd r
 array_refused before end NoMemory untouched r = untouched
 
-pub marks_refused : (before mid end : List Disk) (a : ArrayView) (fault : OpenFault) → IsUntouched before mid → IsArrayOf before a → RefusesMarks a mid end fault → RefusesOpen before end fault
+pub marks_refused : (before mid end : List Disk) (a : ArrayView) (fault : OpenFault) → IsUntouched before mid → IsArrayOf before a → RefusesStoringMarks a mid end fault → RefusesOpen before end fault
 marks_refused before mid end a (Member k f) untouched is r = absurd r
 marks_refused before mid end a (Assemble f) untouched is r = absurd r
 marks_refused before mid end a (MetadataFault k) untouched is r = record { array = a; is = is; stopped = stopped_after before mid untouched a end k r }

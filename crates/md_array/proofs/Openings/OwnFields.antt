@@ -7,7 +7,7 @@ use Rattle.md_super.specs.declared.superblock.Superblock.{Superblock}
 use Rattle.md_bitmap.specs.declared.header.BitmapHeader.{BitmapHeader}
 use Rattle.md_bitmap.specs.Marks.{Bitmap}
 use Rattle.md_badblocks.specs.declared.run.Run.{Run}
-use Rattle.md_members.specs.Areas.{BitmapIsPlaced, IsPlaced, LogIsPlaced, has_bad_blocks, has_bitmap}
+use Rattle.md_members.specs.Areas.{BitmapIsPlaced, AreAreasPlaced, LogIsPlaced, has_bad_blocks, has_bitmap}
 use Rattle.md_members.specs.Reading.{ReadsBitmap}
 use Rattle.md_assembly.specs.States.{has_recovery_offset, role_in, state_of}
 use Rattle.md_kept_members.specs.OwnFields.{stored_next}
@@ -50,7 +50,7 @@ module _ (bad : List Run) (offset : ℕ) (v : Superblock) where
   bitmap_placed : (sectors width : ℕ) → BitmapIsPlaced sectors v width → BitmapIsPlaced sectors next width
   bitmap_placed sectors width p = record { within = p.within; from_super = p.from_super; from_data = p.from_data; from_log = p.from_log }
 
-  pub placed_next : (sectors width : ℕ) → IsPlaced sectors v width → IsPlaced sectors next width
+  pub placed_next : (sectors width : ℕ) → AreAreasPlaced sectors v width → AreAreasPlaced sectors next width
   placed_next sectors width p = record {
     some_size = p.some_size;
     data_holds = p.data_holds;

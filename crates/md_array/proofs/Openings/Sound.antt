@@ -12,8 +12,8 @@ use Rattle.md_members.specs.declared.info.MemberInfo.{MemberInfo}
 use Rattle.md_assembly.specs.declared.state.MemberState.{MemberState}
 use Rattle.md_assembly.specs.declared.assembling.Assembly.{Assembly}
 use Rattle.md_assembly.specs.declared.fault.AssembleFault.TheVariants.{Stranger, DoubleNumber, Geometry, DoubleRole, NotEnough}
-use Rattle.md_assembly.specs.Assembled.{ByFreshest, IsAssembled, IsFreshest, superblocks}
-use Rattle.md_assembly.specs.Faults.{NoFault, IsStranger, HasOtherGeometry, HasSameNumber, RepeatsNumber, IsDoubleRole}
+use Rattle.md_assembly.specs.Assembled.{ByFreshest, IsAssembled, IsFirstFreshest, superblocks}
+use Rattle.md_assembly.specs.Faults.{NoAssembleFault, IsStranger, HasOtherGeometry, HasSameNumber, RepeatsNumber, IsDoubleRole}
 use Rattle.md_assembly.specs.Listed.{PairAt}
 use Rattle.md_assembly.specs.States.{state_of, states_by, is_in_sync, takes_role}
 use Rattle.md_assembly.proofs.Indices.{got_within, got_same}
@@ -32,7 +32,7 @@ same_bytes_unless_other xs ys h =
     let d = bytes_eq-Decides xs ys in
     by_test (bytes_eq xs ys) d.0 (λ other. absurd (h (λ e. true≢false (sym (d.1 e) ∙ other))))
 
-module _ (infos : List MemberInfo) (sound : NoFault infos) where
+module _ (infos : List MemberInfo) (sound : NoAssembleFault infos) where
   no_stranger : (k : ℕ) → PairAt IsStranger infos 0 k → ⊥
   no_stranger k = none_by_least (PairAt IsStranger infos 0) (λ n least. sound (Stranger n) (omega arith) least) k
 
@@ -85,12 +85,12 @@ module _ (infos : List MemberInfo) (sound : NoFault infos) where
       ]
 
 -- the array that was assembled, by its superblock
-module _ (infos : List MemberInfo) (assembly : Assembly) (a : ArrayView) (assembled : IsAssembled infos assembly) (sound : NoFault infos) (remembered : IsRemembered infos assembly a) where
+module _ (infos : List MemberInfo) (assembly : Assembly) (a : ArrayView) (assembled : IsAssembled infos assembly) (sound : NoAssembleFault infos) (remembered : IsRemembered infos assembly a) where
   by_shared : assembled.superblock ≡ a.shared
   by_shared = got_same (superblocks infos) assembly.freshest _ _ assembled.freshest.listed remembered.shared
 
-  pub freshest : IsFreshest (superblocks infos) assembly.freshest a.shared
-  freshest = subst (IsFreshest (superblocks infos) assembly.freshest) by_shared assembled.freshest
+  pub freshest : IsFirstFreshest (superblocks infos) assembly.freshest a.shared
+  freshest = subst (IsFirstFreshest (superblocks infos) assembly.freshest) by_shared assembled.freshest
 
   states_are : assembly.states.items ≡ states_by a.shared (superblocks infos)
   states_are = assembled.states ∙ ap (λ v. states_by v (superblocks infos)) by_shared

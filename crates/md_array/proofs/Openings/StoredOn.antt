@@ -10,7 +10,7 @@ use Rattle.md_device_writes.specs.Writes.{MakesWrites}
 use Rattle.md_kept_members.specs.View.{MemberView}
 use Rattle.md_state.specs.View.{ArrayView, disk_of}
 use Rattle.md_state.specs.Headers.{IsHeaderFor}
-use Rattle.md_array.specs.Storing.{AreMarkWrites, FailsToStore, StoresMarks}
+use Rattle.md_array.specs.Storing.{AreMarkWrites, FailsToStore, StoresMarksOn}
 
 module _ {D : Type 0} (g : Ghosts D) (a : ArrayView) (m : MemberView) (start : ℕ) (h : BitmapHeader) (old new : D) (at : BitmapStartsAt m.superblock start) (is : IsHeaderFor a m h)
     (outside : SameOutside (512 * start) (512 * bitmap_sectors m.stored.chunks) (g.content old) (g.content new)) where
@@ -18,7 +18,7 @@ module _ {D : Type 0} (g : Ghosts D) (a : ArrayView) (m : MemberView) (start : �
   writes_are = record { at = at; header = h; header_is = is; writes_are = refl }
 
   pub stores : {T E : Type 0} (result : Result T E) → MakesWrites g (bitmap_writes start h m.stored (bitmap_sectors m.stored.chunks)) old new result
-      → OnOk result (StoresMarks a m (disk_of g old) (disk_of g new))
+      → OnOk result (StoresMarksOn a m (disk_of g old) (disk_of g new))
   stores (Ok x) does = record { start = start; writes = bitmap_writes start h m.stored (bitmap_sectors m.stored.chunks); are = writes_are; done = does.all_done; within = does.within; outside = outside }
   stores (Err e) stops = tt
 

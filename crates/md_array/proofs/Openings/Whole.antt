@@ -5,7 +5,7 @@ use Rattle.md_bitmap.specs.declared.header.BitmapHeader.{BitmapHeader}
 use Rattle.md_bitmap.specs.Marks.{Bitmap}
 use Rattle.md_members.specs.declared.info.MemberInfo.{MemberInfo}
 use Rattle.md_members.specs.Members.{HasBitmap}
-use Rattle.md_assembly.specs.Faults.{NoFault}
+use Rattle.md_assembly.specs.Faults.{NoAssembleFault}
 use Rattle.md_assembly.proofs.Indices.{got_within}
 use Rattle.md_kept_members.specs.Remembering.{AreWhole, IsWhole}
 use Rattle.md_state.specs.View.{Disk}
@@ -24,7 +24,7 @@ whole_by content honest info (Some h) (Some m) has_h has_m read some = record {
 whole_by content honest info (Some h) None has_h has_m read some = absurd read
 whole_by content honest info None m has_h has_m read some = absurd (some refl)
 
-pub are_whole : (disks : List Disk) (infos : List MemberInfo) → AreRead disks infos → NoFault infos → AreWhole infos
+pub are_whole : (disks : List Disk) (infos : List MemberInfo) → AreRead disks infos → NoAssembleFault infos → AreWhole infos
 are_whole disks infos read sound k info listed =
     let within = slice_get_within infos k info listed in
     let as_many = read.as_many in

@@ -15,8 +15,8 @@ use Rattle.md_device.proofs.Splices.{part-spliced}
 use Rattle.md_kept_members.specs.Members.{made_due}
 use Rattle.md_kept_members.specs.TakingBack.{admitted_member}
 use Rattle.md_kept_members.specs.View.{MemberView}
-use Rattle.md_members.specs.Areas.{BitmapIsPlaced, IsPlaced, bitmap_sectors}
-use Rattle.md_members.specs.Members.{sectors_of}
+use Rattle.md_members.specs.Areas.{BitmapIsPlaced, AreAreasPlaced, bitmap_sectors}
+use Rattle.md_members.specs.Members.{sectors_of_device}
 use Rattle.md_model.specs.Counts as counts
 use Rattle.md_model.specs.Devices.{Stored}
 use Rattle.md_model.specs.Events.{Event, Step}
@@ -41,7 +41,7 @@ use Rattle.md_array.specs.Consistency.{IsConsistent}
 use Rattle.md_array.specs.Events.{Happens, listed_on}
 use Rattle.md_array.specs.ReadAsKept.{AreReadAsKept, IsReadAsKept}
 use Rattle.md_array.specs.Recording.{IsReadable, super_write}
-use Rattle.md_array.specs.Worlds.{AreHonest, block_on, from_super, is_listed, is_listed_next, is_logged, kind_of, lists_of, stored_of, stored_on, super_in, super_of, world_of, world_on}
+use Rattle.md_array.specs.Worlds.{AreHonest, block_on, sector_from_super, is_listed, is_listed_next, is_logged, kind_of, lists_of, stored_of, stored_on, super_in, super_of, world_of, world_on}
 use Rattle.md_array.proofs.General.Honesty.{tried_honest}
 use Rattle.md_array.proofs.General.Indices.{any_at, any_kept, at_map, at_set_same, count_map, counted_kept, got_in_map, got_other}
 use Rattle.md_array.proofs.General.Replaced.{of_set, read_changed, read_kept}
@@ -257,9 +257,9 @@ module _ (k : ℕ) (old new : MirrorView) (c : IsConsistent old) (r : Admits k o
     parts_then : HasParts b n d.content
     parts_then =
         let p : HasParts b n e.content = subst (λ (x : ArrayView). HasParts x n e.content) r.array (parts_of new admitted_is_consistent k e n is admitted_at) in
-        let sectors : sectors_of e.content ≡ sectors_of d.content = ap (λ (x : ℕ). x / 512) (outside d e was is).size in
+        let sectors : sectors_of_device e.content ≡ sectors_of_device d.content = ap (λ (x : ℕ). x / 512) (outside d e was is).size in
         record {
-          placed = subst (λ (x : ℕ). IsPlaced x n.superblock (bitmap_sectors n.stored.chunks)) sectors p.placed;
+          placed = subst (λ (x : ℕ). AreAreasPlaced x n.superblock (bitmap_sectors n.stored.chunks)) sectors p.placed;
           bitmap = subst (λ (x : ℕ). BitmapIsPlaced x n.superblock (bitmap_sectors n.stored.chunks)) sectors p.bitmap;
           size = p.size;
           count = p.count;
@@ -271,7 +271,7 @@ module _ (k : ℕ) (old new : MirrorView) (c : IsConsistent old) (r : Admits k o
     still_listed sector =
         listed_written b n e.content readable (block_is d e was is honest) sector
         ∙ next_kept n.superblock d.content e.content (log_beside_super b n d.content e.content parts_then (outside d e was is)) sector
-        ∙ ap (λ x. x && is_logged d.content (from_super m.superblock.bblog_offset) m.superblock.bblog_size m.superblock.bblog_shift sector) (recovering_log_bit 0 m.superblock)
+        ∙ ap (λ x. x && is_logged d.content (sector_from_super m.superblock.bblog_offset) m.superblock.bblog_size m.superblock.bblog_shift sector) (recovering_log_bit 0 m.superblock)
 
     stored_up : u.stored k ≡ stored_of a m d.content
     stored_up = ap (λ o. stored_on up o (slice_get old.disks k)) up_at ∙ ap (stored_on up (Some (made_due m))) was
@@ -311,7 +311,7 @@ module _ (k : ℕ) (old new : MirrorView) (c : IsConsistent old) (r : Admits k o
     bad_put : put k (w.bad k) u.bad ≡ u.bad
     bad_put = ap (λ (f : ℕ → Bool). put k f u.bad) bad_here ∙ put-self k u.bad
 
-    world_b : world_on new.disks b requests ≡ model.takes_role u k taking
+    world_b : world_on new.disks b requests ≡ model.with_role_taken u k taking
     world_b = λ i. record {
       members = length-set up.members k n i;
       stored = λ j. stored_put j i;
@@ -351,7 +351,7 @@ module _ (k : ℕ) (old new : MirrorView) (c : IsConsistent old) (r : Admits k o
     world_admitted =
         ap (λ (x : ArrayView). world_on new.disks x requests) r.array
         ∙ world_b
-        ∙ ap (λ (x : World). model.takes_role x k taking) (world_risen a false old.disks requests)
+        ∙ ap (λ (x : World). model.with_role_taken x k taking) (world_risen a false old.disks requests)
 
     -- its role has no member in sync, so that the array is not full
     not_full : counts.IsFull (geometry_of a) (world_of new requests) → ⊥

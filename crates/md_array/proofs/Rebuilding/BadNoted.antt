@@ -25,7 +25,7 @@ use Rattle.md_state.specs.Requests.{IsPending}
 use Rattle.md_state.specs.View.{ArrayView, Disk, MirrorView, geometry_of}
 use Rattle.md_array.specs.Consistency.{HasSuper, IsConsistent}
 use Rattle.md_array.specs.Events.{Happens}
-use Rattle.md_array.specs.Listing.{IsWhole, NoteHappens, NotesChunk, RefusesChunk}
+use Rattle.md_array.specs.Listing.{IsBelowListLimit, NoteHappens, NotesChunk, RefusesChunk}
 use Rattle.md_array.specs.ReadAsKept.{AreReadAsKept, IsReadAsKept}
 use Rattle.md_array.specs.Worlds.{AreHonest, lies_in, lists_of, stored_of, world_of}
 use Rattle.md_array.proofs.General.Replaced.{of_set}
@@ -117,7 +117,7 @@ module _ (k chunk : ℕ) (old new : MirrorView) (c : IsConsistent old) (r : Note
       (λ apart is. let had = are j e x there is in record { super = had.super; header = had.header }))
 
   -- ---- the event
-  module _ (resynced : a.resynced ≡ true) (whole : IsWhole k chunk old) (requests : ℕ → Option Request) where
+  module _ (resynced : a.resynced ≡ true) (whole : IsBelowListLimit k chunk old) (requests : ℕ → Option Request) where
     abbrev w : World
     w = world_of old requests
 
@@ -174,7 +174,7 @@ module _ (k chunk : ℕ) (old new : MirrorView) (c : IsConsistent old) (r : Note
     step : Step (geometry_of a) w (Event.NoteBad k chunk) (world_of new requests)
     step = (r.notes.may.running, (record { in_sync = in_sync_there old.disks a requests k m (record { member = r.notes.may.at; in_sync = in_sync }); resynced = resynced }, world_noted))
 
-  pub note_happens : a.resynced ≡ true → IsWhole k chunk old → Happens old (Event.NoteBad k chunk) new
+  pub note_happens : a.resynced ≡ true → IsBelowListLimit k chunk old → Happens old (Event.NoteBad k chunk) new
   note_happens resynced whole honest requests in_flight =
       let event : Event = Event.NoteBad k chunk in
       let happens = step resynced whole requests in
@@ -195,7 +195,7 @@ module _ (k chunk : ℕ) (old new : MirrorView) (c : IsConsistent old) (r : Note
 below_limit : (offset s size held sectors limit : ℕ) → s < size → size ≤ held → offset + held ≤ sectors → sectors ≤ limit → offset + s < limit
 below_limit offset s size held sectors limit low holds within most = omega arith
 
-pub is_whole : (k chunk : ℕ) (v : MirrorView) → IsConsistent v → (d : Disk) → slice_get v.disks k ≡ Some d → (sectors : ℕ) → length d.content ≡ 512 * sectors → sectors ≤ 2 ^ 54 → IsWhole k chunk v
+pub is_whole : (k chunk : ℕ) (v : MirrorView) → IsConsistent v → (d : Disk) → slice_get v.disks k ≡ Some d → (sectors : ℕ) → length d.content ≡ 512 * sectors → sectors ≤ 2 ^ 54 → IsBelowListLimit k chunk v
 is_whole k chunk v c d there sectors long limit m at s inside =
     let has = parts_of v c k d m there at in
     let same = told sectors d.content long in
@@ -219,7 +219,7 @@ module _ (k chunk : ℕ) (old new : MirrorView) (c : IsConsistent old) (disks : 
   note_pending (Ok x) notes p = noted_is_pending k chunk old new c (record { disks = disks; notes = notes }) (in_sync notes.may.member notes.may.at) p
   note_pending (Err f) refuses p = subst (λ (a : ArrayView). IsPending a p) (sym refuses.unchanged)
 
-  pub note_event : old.array.resynced ≡ true → IsWhole k chunk old
+  pub note_event : old.array.resynced ≡ true → IsBelowListLimit k chunk old
       → {T : Type 0} (r : Result T NoteFault) → MatchResult r (λ _. NotesBad k chunk old.array new.array) (RefusesNote k chunk old.array new.array) → NoteHappens k chunk old new r
   note_event resynced whole (Ok x) notes =
       note_happens k chunk old new c (record { disks = disks; notes = notes }) (in_sync notes.may.member notes.may.at) resynced whole

@@ -6,7 +6,7 @@ use Rattle.md_assembly.proofs.Indices.{got_same}
 use Rattle.md_bitmap.specs.Marks.{Bitmap}
 use Rattle.md_faults.specs.declared.enrol_fault.TargetFault.{TargetFault as TargetFaults}
 use Rattle.md_faults.specs.declared.enrol_fault.TargetFault.TheVariants.{Halted, TargetFault}
-use Rattle.md_kept_members.specs.TakingBack.{with_offset}
+use Rattle.md_kept_members.specs.TakingBack.{with_recovery_offset}
 use Rattle.md_kept_members.specs.View.{MemberView}
 use Rattle.md_model.specs.Content.{Content}
 use Rattle.md_model.specs.Events.{Event}
@@ -19,7 +19,7 @@ use Rattle.md_super.specs.Merge.{merged}
 use Rattle.md_array.specs.Admitting.{FailsAsTarget}
 use Rattle.md_array.specs.Checkpoints.{Checkpoints, FailsToCheckpoint, IfCheckpointFailed, MayCheckpoint, MovesOffset, RefusesCheckpoint}
 use Rattle.md_array.specs.Consistency.{IsConsistent}
-use Rattle.md_array.specs.Enrolling.{HasContent}
+use Rattle.md_array.specs.Enrolling.{HoldsContent}
 use Rattle.md_array.specs.Events.{Happens, listed_on}
 use Rattle.md_array.specs.Recording.{IsReadable, Records, super_write}
 use Rattle.md_array.specs.RecordingTarget.{LeavesUnrecorded, RefusesTarget}
@@ -39,7 +39,7 @@ module _ (k : ℕ) (copied : Bitmap) (had : ℕ) (old mid : MirrorView) (c : IsC
   m = may.member
 
   abbrev n : MemberView
-  n = with_offset offset m
+  n = with_recovery_offset offset m
 
   its : moves.member ≡ m
   its = got_same a.members k moves.member m moves.at may.at
@@ -69,7 +69,7 @@ module _ (k : ℕ) (copied : Bitmap) (had : ℕ) (old mid : MirrorView) (c : IsC
     pub checkpointed : Checkpoints k copied old new
     checkpointed = event.checkpoints k copied had old mid new c may offset (next m may.at) moves r sound happens
 
-    pub checkpoint_ends : (o : ℕ) × ((content : Content) → HasContent old.disks a content → Happens old (Event.Checkpoint k o (listed_on new k)) new)
+    pub checkpoint_ends : (o : ℕ) × ((content : Content) → HoldsContent old.disks a content → Happens old (Event.Checkpoint k o (listed_on new k)) new)
     checkpoint_ends = (offset, λ content has. event.checkpoint_happens k copied had old mid new c may offset (next m may.at) moves r sound happens content has)
 
   -- ---- it was not, and the offset is the one before
@@ -116,9 +116,9 @@ module _ (k : ℕ) (copied : Bitmap) (had : ℕ) (old mid : MirrorView) (c : IsC
         let f = failed left in
         let its = got_same a.members k f.member m f.at may.at in
         let recovers : is_recovering f.member.state ≡ true = ap (λ (x : MemberView). is_recovering x.state) its ∙ may.recovering in
-        left_as_target k old new c f.running f.member f.at (recovers_rebuilt f.member.state recovers) f.array a.shared (with_offset f.offset f.member).superblock f.readable f.disks
+        left_as_target k old new c f.running f.member f.at (recovers_rebuilt f.member.state recovers) f.array a.shared (with_recovery_offset f.offset f.member).superblock f.readable f.disks
 
 -- such a write that failed spoils the member
 pub checkpoint_spoils : (k : ℕ) (copied : Bitmap) (old new : MirrorView) → IsConsistent old → (f : FailsToCheckpoint k copied old new) → is_recovering f.member.state ≡ true → SpoilsTarget k old new
 checkpoint_spoils k copied old new c f recovers =
-    left_spoils k old new c f.running f.member f.at (recovers_rebuilt f.member.state recovers) f.array old.array.shared (with_offset f.offset f.member).superblock f.readable f.disks
+    left_spoils k old new c f.running f.member f.at (recovers_rebuilt f.member.state recovers) f.array old.array.shared (with_recovery_offset f.offset f.member).superblock f.readable f.disks

@@ -10,7 +10,7 @@ use Rattle.std.proofs.Math.Nat.{add-mul, mul-le-mul_right}
 use Rattle.md_assembly.proofs.Indices.{got_same, got_within}
 use Rattle.md_bitmap.specs.Marks.{Bitmap, is_set}
 use Rattle.md_device.specs.Splice.{part}
-use Rattle.md_kept_members.specs.TakingBack.{with_offset}
+use Rattle.md_kept_members.specs.TakingBack.{with_recovery_offset}
 use Rattle.md_kept_members.specs.View.{MemberView}
 use Rattle.md_model.specs.Content.{Content}
 use Rattle.md_model.specs.Devices.{Stored}
@@ -23,13 +23,13 @@ use Rattle.md_model.specs.Worlds.{Request, World}
 use Rattle.md_model.proofs.Cases.{below-nat_lt, by_test, above-leb}
 use Rattle.md_model.proofs.Puts.{put-hit}
 use Rattle.md_model.proofs.Steps.Between.{between_step, in_flight_step}
-use Rattle.md_state.specs.Checkpoints.{IsNextOffset, Stops, with_offset_of}
+use Rattle.md_state.specs.Checkpoints.{IsNextOffset, EndsCheckpoint, with_offset_of}
 use Rattle.md_state.specs.Missing.{is_missing}
 use Rattle.md_state.specs.Requests.{AreInFlight}
 use Rattle.md_state.specs.View.{ArrayView, Disk, MirrorView, geometry_of}
 use Rattle.md_array.specs.Checkpoints.{Checkpoints, MayCheckpoint, MovesOffset}
 use Rattle.md_array.specs.Consistency.{IsConsistent}
-use Rattle.md_array.specs.Enrolling.{HasContent}
+use Rattle.md_array.specs.Enrolling.{HoldsContent}
 use Rattle.md_array.specs.Events.{Happens, ListsStill, listed_on}
 use Rattle.md_array.specs.Filling.{MayRebuild}
 use Rattle.md_array.specs.Recording.{IsReadable, Records, super_write}
@@ -73,7 +73,7 @@ marked_by false true marked false on at is = absurd cc
 marked_by false false marked passed on at is = absurd cc
 
 module _ (k : ℕ) (copied : Bitmap) (old : MirrorView) (c : IsConsistent old) (may : MayCheckpoint k copied old) (offset : ℕ) (next : IsNextOffset old.array may.member copied offset)
-    (honest : AreHonest old.disks) (content : Content) (has : HasContent old.disks old.array content) (running : old.array.halted ≡ false) (requests : ℕ → Option Request) (in_flight : AreInFlight old.array requests) where
+    (honest : AreHonest old.disks) (content : Content) (has : HoldsContent old.disks old.array content) (running : old.array.halted ≡ false) (requests : ℕ → Option Request) (in_flight : AreInFlight old.array requests) where
   abbrev a : ArrayView
   a = old.array
 
@@ -115,7 +115,7 @@ module _ (k : ℕ) (copied : Bitmap) (old : MirrorView) (c : IsConsistent old) (
         let many = c.fits.as_many in
         let d = got_within old.disks k (omega arith) in
         let inside = its_chunk a.chunks.size a.chunks.sectors s c.chunks.wide low in
-        let holds : (other : Content) → HasContent old.disks a other → part d.0.content (512 * (m.superblock.data_offset + s)) 512 ≡ other s =
+        let holds : (other : Content) → HoldsContent old.disks a other → part d.0.content (512 * (m.superblock.data_offset + s)) 512 ≡ other s =
         λ other held. may.holds honest other held d.0 m d.1 may.at chunk s (subst (λ x. chunk < x) (sym may.copied_chunks) chunk_low) set inside in
         let x = some.one_has_it old.disks a s content (part d.0.content (512 * (m.superblock.data_offset + s)) 512) has holds in
         let test = below-nat_lt s a.chunks.size low in
@@ -136,7 +136,7 @@ module _ (k : ℕ) (copied : Bitmap) (old : MirrorView) (c : IsConsistent old) (
     -- ---- or it stops the offset, which has passed it before
     stopped : is_set copied.bytes chunk ≡ false → is_passed g next.stop chunk ≡ true → ⊥
     stopped clear at =
-        let stops : Stops a m copied chunk = inl (lacked, clear) in
+        let stops : EndsCheckpoint a m copied chunk = inl (lacked, clear) in
         elim next.first [
           | inl x ↦
               let early : x.0 ≤ chunk = (elim (cases_lt chunk x.0) [ inl before ↦ absurd (x.3 chunk before stops) | inr late ↦ late ]) in
@@ -181,7 +181,7 @@ module _ (k : ℕ) (copied : Bitmap) (had : ℕ) (old mid new : MirrorView) (c :
   was = old.array
 
   abbrev n : MemberView
-  n = with_offset offset may.member
+  n = with_recovery_offset offset may.member
 
   its : moves.member ≡ may.member
   its = got_same was.members k moves.member may.member moves.at may.at
@@ -211,7 +211,7 @@ module _ (k : ℕ) (copied : Bitmap) (had : ℕ) (old mid new : MirrorView) (c :
         (subst (λ (xs : List Disk). IsWritten k (super_write mid.array r.member) xs new.disks) (ap (λ (v : MirrorView). v.disks) moves.moved) r.disks));
   }
 
-  pub checkpoint_happens : (content : Content) → HasContent old.disks was content → Happens old (Event.Checkpoint k offset (listed_on new k)) new
+  pub checkpoint_happens : (content : Content) → HoldsContent old.disks was content → Happens old (Event.Checkpoint k offset (listed_on new k)) new
   checkpoint_happens content has honest requests in_flight =
       let same_disks : mid.disks ≡ old.disks = ap (λ (v : MirrorView). v.disks) moves.moved in
       let then_flying : AreInFlight mid.array requests = subst (λ (x : ArrayView). AreInFlight x requests) (sym mid_array) in_flight in

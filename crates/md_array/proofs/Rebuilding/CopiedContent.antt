@@ -10,7 +10,7 @@ use Rattle.md_model.proofs.Cases.{by_test}
 use Rattle.md_model.proofs.Puts.{by_same}
 use Rattle.md_state.specs.Members.{IsInSync}
 use Rattle.md_state.specs.View.{ArrayView, Disk}
-use Rattle.md_array.specs.Enrolling.{HasContent}
+use Rattle.md_array.specs.Enrolling.{HoldsContent}
 use Rattle.md_array.specs.Worlds.{is_listed}
 
 not-false : (b : Bool) → not b ≡ true → b ≡ false
@@ -55,7 +55,7 @@ module _ (disks : List Disk) (a : ArrayView) (s : ℕ) where
   unlike : (xs : List ℕ) → xs ≡ 0 ∷ xs → ⊥
   unlike xs e = let same = ap (λ (ys : List ℕ). length ys) e in omega arith
 
-  not_alone : (content : Content) → HasContent disks a content → ((j : ℕ) → j < length a.members → has_it j ≡ false) → HasContent disks a (other_content content)
+  not_alone : (content : Content) → HoldsContent disks a content → ((j : ℕ) → j < length a.members → has_it j ≡ false) → HoldsContent disks a (other_content content)
   unfolding free other_content
   not_alone content has none = record {
     held = λ j z y there on t low unlisted. by_same t s
@@ -80,7 +80,7 @@ module _ (disks : List Disk) (a : ArrayView) (s : ℕ) where
       at None None member disk is = absurd cc
 
   -- these bytes are what any content has there
-  pub one_has_it : (content : Content) (bytes : List ℕ) → HasContent disks a content → ((other : Content) → HasContent disks a other → bytes ≡ other s) → HasSector disks a s
+  pub one_has_it : (content : Content) (bytes : List ℕ) → HoldsContent disks a content → ((other : Content) → HoldsContent disks a other → bytes ≡ other s) → HasSector disks a s
   unfolding other_content
   one_has_it content bytes has holds = elim (some_below has_it (length a.members)) [
     | inl some ↦ found some.0 some.1

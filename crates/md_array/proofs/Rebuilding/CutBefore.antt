@@ -1,4 +1,4 @@
--- What a stop leaves of a member's device within the writes of an enrolment: its bitmap and its log have changed at most, or all of them are
+-- What a crash leaves of a member's device within the writes of an enrolment: its bitmap and its log have changed at most, or all of them are
 -- stored, and the superblock has changed at most.
 use Rattle.std.proofs.Common.{◌≡◌, ◌⊎◌, ℕ, ◌+◌, ◌-◌, ◌*◌, ◌<◌, inl, inr, true, false, if◌then◌else◌, List, [], ◌∷◌, ◌++◌, length, append_assoc, slice_get, Some, refl, sym, ap, ◌∙◌, subst, arith}
 use Rattle.std.specs.Int.{div_ceil}
@@ -22,7 +22,7 @@ use Rattle.md_array.specs.Consistency.{IsConsistent}
 use Rattle.md_array.specs.Enrolling.{Enrols, log_writes}
 use Rattle.md_array.specs.Events.{IsBesideArea, IsBesideMarks, IsSameBesideMarks}
 use Rattle.md_array.specs.Recording.{write_of}
-use Rattle.md_array.specs.Worlds.{block_on, from_super}
+use Rattle.md_array.specs.Worlds.{block_on, sector_from_super}
 use Rattle.md_array.proofs.Rebuilding.InBetween.{beside_area, beside_bitmap, chunks, content_then, last_outside, log_there, log_width, marked, marks_outside, room_marked, starts, then_beside}
 use Rattle.md_array.proofs.Rebuilding.PreparedEvent.{block_kept}
 use Rattle.md_array.proofs.Worlds.PartsApart.{parts_of}
@@ -44,7 +44,7 @@ module _ (k : ℕ) (copied orphans : Bitmap) (old new : MirrorView) (c : IsConsi
   last = write_of new.array.shared n
 
   abbrev log : Write
-  log = record { sector = from_super n.superblock.bblog_offset; bytes = log_bytes n.bad (log_room n.superblock) }
+  log = record { sector = sector_from_super n.superblock.bblog_offset; bytes = log_bytes n.bad (log_room n.superblock) }
 
   abbrev ready : List ℕ
   ready = content_then k copied orphans old new c r d was
@@ -78,8 +78,8 @@ module _ (k : ℕ) (copied orphans : Bitmap) (old new : MirrorView) (c : IsConsi
   -- within the log
   cut_log : has_bad_block_log n.superblock ≡ true → (left : List ℕ) → SameOutside (512 * log.sector) (length log.bytes) (marked k copied orphans old new c r d was) left → IsSameBesideMarks it d.content left
   cut_log there left same =
-      let area : SameOutside (512 * from_super n.superblock.bblog_offset) (512 * n.superblock.bblog_size) (marked k copied orphans old new c r d was) left =
-      subst (λ (x : ℕ). SameOutside (512 * from_super n.superblock.bblog_offset) x (marked k copied orphans old new c r d was) left) (log_width k copied orphans old new c r d was there) same in
+      let area : SameOutside (512 * sector_from_super n.superblock.bblog_offset) (512 * n.superblock.bblog_size) (marked k copied orphans old new c r d was) left =
+      subst (λ (x : ℕ). SameOutside (512 * sector_from_super n.superblock.bblog_offset) x (marked k copied orphans old new c r d was) left) (log_width k copied orphans old new c r d was there) same in
       record {
         size = area.size ∙ (marks_outside k copied orphans old new c r d was).size;
         beside = λ at l b. log_there k copied orphans old new c r d was left area there at l b ∙ beside_bitmap k copied orphans old new c r d was at l b;

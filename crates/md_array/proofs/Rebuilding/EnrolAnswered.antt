@@ -7,9 +7,9 @@ use Rattle.md_super.specs.declared.superblock.Superblock.{Superblock}
 use Rattle.md_super.specs.Merge.{merged}
 use Rattle.md_bitmap.specs.declared.header.BitmapHeader.{BitmapHeader}
 use Rattle.md_bitmap.specs.Marks.{Bitmap}
-use Rattle.md_bitmap.specs.Sound.{IsSound}
+use Rattle.md_bitmap.specs.Sound.{IsSoundHeader}
 use Rattle.md_members.specs.Reading.{BitmapStartsAt}
-use Rattle.md_device_writes.specs.Writes.{DoesWrites, FailsInWrites, IsKept, Write}
+use Rattle.md_device_writes.specs.Writes.{DoesWrites, FailsInWrites, IsKeptByWrites, Write}
 use Rattle.md_assembly.proofs.Indices.{got_within}
 use Rattle.md_kept_members.specs.Enrolling.{HasRoomFor}
 use Rattle.md_kept_members.specs.Members.{made_due}
@@ -28,12 +28,12 @@ use Rattle.md_array.proofs.Steps.OneWrite.{at_device, here}
 -- ---- before anything is written
 module _ (k role : ℕ) (copied orphans : Bitmap) (v : MirrorView) (c : IsConsistent v) (n : MemberView) (comes : ComesWith k role copied orphans v.array n) where
   -- the header that is stored is sound
-  pub header_sound : IsSound v.array.shared.size n.header.chunksize
+  pub header_sound : IsSoundHeader v.array.shared.size n.header.chunksize
   header_sound =
       let low = slice_get_within v.array.members k comes.member comes.at in
       let many = c.fits.as_many in
       let d = got_within v.disks k (omega arith) in
-      subst (λ (h : BitmapHeader). IsSound v.array.shared.size h.chunksize) (sym comes.comes.header) (c.fits.each k d.0 comes.member d.1 comes.at).sound
+      subst (λ (h : BitmapHeader). IsSoundHeader v.array.shared.size h.chunksize) (sym comes.comes.header) (c.fits.each k d.0 comes.member d.1 comes.at).sound
 
   pub can_store : (d : Disk) → slice_get v.disks k ≡ Some d → IsStorable n d.content
   can_store d found = storable v c k comes.member n comes.list d comes.at comes.comes.superblock comes.comes.stored.chunks
@@ -87,7 +87,7 @@ module _ {D : Type 0} (g : Ghosts D) (devices : List D) (k : ℕ) (was : D) (rea
         change = at_device before k d e Change (here g devices k was read low) changed;
       })
 
-  seen : IsKept g was now → IsKept of_disks (disk_of g was) (disk_of g now)
+  seen : IsKeptByWrites g was now → IsKeptByWrites of_disks (disk_of g was) (disk_of g now)
   seen stays = record { size = stays.size; honest_kept = stays.honest_kept; counted = stays.counted }
 
   pub stored_alone : (writes : List Write) → DoesWrites g writes was now → IsUsedAlone k before after (λ d e. DoesWrites of_disks writes d e × KeepsData n d e)

@@ -90,7 +90,7 @@ module _ (k : ℕ) (copied orphans : Bitmap) (old new : MirrorView) (c : IsConsi
       kept = record { size = done_long; honest_kept = refl; counted = omega arith };
       unfailing = refl;
       all_done = λ _. refl;
-      within = λ _. leaves_none d.stops (IsCutShort d.content f.writes);
+      within = λ _. leaves_none d.crashes (IsCutShort d.content f.writes);
     }
 
     abbrev pub enrols_instead : Enrols k copied orphans old instead

@@ -2,8 +2,8 @@
 use Rattle.std.proofs.Common.{◌≡◌, ℕ, ◌/◌, ◌≤◌, false, true≢false, length, slice_get, Some, None, sym, ap, ◌∙◌, subst, arith, ◌^◌}
 use Rattle.std.proofs.lemmas.Option.{slice_get_within}
 use Rattle.md_bitmap.specs.Marks.{Bitmap}
-use Rattle.md_members.specs.Areas.{IsPlaced, bitmap_sectors}
-use Rattle.md_members.specs.Members.{sectors_of}
+use Rattle.md_members.specs.Areas.{AreAreasPlaced, bitmap_sectors}
+use Rattle.md_members.specs.Members.{sectors_of_device}
 use Rattle.md_model.proofs.Puts.{by_same}
 use Rattle.md_assembly.specs.States.{is_in_sync}
 use Rattle.md_assembly.proofs.Indices.{got_same, got_within}
@@ -30,12 +30,12 @@ out_of_sync a k role may m is =
 
 fits_as_long : (a : ArrayView) (m : MemberView) (d e : Disk) → length e.content ≡ length d.content → FitsMember a m d → FitsMember a m e
 fits_as_long a m d e long fit =
-    let sectors : sectors_of d.content ≡ sectors_of e.content = ap (λ (x : ℕ). x / 512) (sym long) in
+    let sectors : sectors_of_device d.content ≡ sectors_of_device e.content = ap (λ (x : ℕ). x / 512) (sym long) in
     record {
       long = subst (λ (x : ℕ). 16 ≤ x) sectors fit.long;
       short = subst (λ (x : ℕ). x ≤ 2 ^ 54) sectors fit.short;
       has = fit.has;
-      placed = subst (λ (x : ℕ). IsPlaced x m.superblock (bitmap_sectors m.stored.chunks)) sectors fit.placed;
+      placed = subst (λ (x : ℕ). AreAreasPlaced x m.superblock (bitmap_sectors m.stored.chunks)) sectors fit.placed;
       few_chunks = fit.few_chunks;
       sound = fit.sound;
       told = fit.told;

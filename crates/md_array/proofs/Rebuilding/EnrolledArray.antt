@@ -16,15 +16,15 @@ use Rattle.md_bitmap.specs.declared.header.BitmapHeader.{BitmapHeader}
 use Rattle.md_badblocks.specs.declared.run.Run.{Run}
 use Rattle.md_badblocks.specs.Log.{log_bytes}
 use Rattle.md_badblocks.specs.Runs.{IsBad, IsCanonical}
-use Rattle.md_members.specs.Areas.{IsPlaced, bitmap_sectors, has_bitmap}
-use Rattle.md_members.specs.Members.{sectors_of}
+use Rattle.md_members.specs.Areas.{AreAreasPlaced, bitmap_sectors, has_bitmap}
+use Rattle.md_members.specs.Members.{sectors_of_device}
 use Rattle.md_assembly.specs.declared.state.MemberState.TheVariants.{InSync, Recovering}
 use Rattle.md_assembly.specs.States.{is_in_sync, takes_role}
 use Rattle.md_kept_members.specs.Enrolling.{HasRoomFor, in_sync_superblock, log_room}
 use Rattle.md_kept_members.specs.Members.{made_due}
 use Rattle.md_kept_members.specs.View.{MemberView}
 use Rattle.md_state.specs.Enrolling.{enrolled}
-use Rattle.md_state.specs.InMemory.{HasChunks, HasRoles}
+use Rattle.md_state.specs.InMemory.{HasMarksOfSize, HasRoles}
 use Rattle.md_state.specs.Joining.{entries_with, joined_roles, role_after}
 use Rattle.md_state.specs.Members.{IsMember}
 use Rattle.md_state.specs.View.{ArrayView, Disk, MirrorView}
@@ -34,7 +34,7 @@ use Rattle.md_state.specs.Missing.{is_rebuilt}
 use Rattle.md_state.specs.Missing.{is_rebuilt}
 use Rattle.md_array.specs.Fits.{Fits}
 use Rattle.md_array.specs.Recording.{IsReadable}
-use Rattle.md_array.specs.Worlds.{from_super, is_listed_next, super_in, super_of, is_listed}
+use Rattle.md_array.specs.Worlds.{sector_from_super, is_listed_next, super_in, super_of, is_listed}
 use Rattle.md_array.proofs.General.Indices.{at_set_same, got_in_map}
 use Rattle.md_array.proofs.Steps.SuperRecorded.{listed_written, readable_super}
 use Rattle.md_array.proofs.Rebuilding.RoleTaken as taken
@@ -84,9 +84,9 @@ storable v c k m n list d is superblock chunks room found =
     record {
       long = fit.long;
       has = ap has_bitmap superblock ∙ bitmap_in_sync m.superblock list ∙ fit.has;
-      placed = subst (λ (o : Superblock). IsPlaced (sectors_of d.content) o (bitmap_sectors n.stored.chunks)) (sym superblock)
-          (placed_in_sync m.superblock list (sectors_of d.content) (bitmap_sectors n.stored.chunks)
-          (subst (λ (x : ℕ). IsPlaced (sectors_of d.content) m.superblock (bitmap_sectors x)) count fit.placed));
+      placed = subst (λ (o : Superblock). AreAreasPlaced (sectors_of_device d.content) o (bitmap_sectors n.stored.chunks)) (sym superblock)
+          (placed_in_sync m.superblock list (sectors_of_device d.content) (bitmap_sectors n.stored.chunks)
+          (subst (λ (x : ℕ). AreAreasPlaced (sectors_of_device d.content) m.superblock (bitmap_sectors x)) count fit.placed));
       few_chunks = subst (λ (x : ℕ). x ≤ 1048576) count fit.few_chunks;
       room = room;
     }
@@ -103,7 +103,7 @@ module _ (disks now : List Disk) (a : ArrayView) (c : IsConsistent (record { dis
     number = ap (λ (v : Superblock). v.dev_number) superblock;
     size = ap (λ (v : Superblock). v.size) superblock;
     has = ap has_bitmap superblock ∙ bitmap_in_sync m.superblock list;
-    placed = λ sectors width p. subst (λ (o : Superblock). IsPlaced sectors o width) (sym superblock) (placed_in_sync m.superblock list sectors width p);
+    placed = λ sectors width p. subst (λ (o : Superblock). AreAreasPlaced sectors o width) (sym superblock) (placed_in_sync m.superblock list sectors width p);
     header = header;
     chunks = chunks ∙ sym (c.chunks.member_count k m is);
     told = λ tells rebuilt. absurd (true≢false (sym rebuilt ∙ ap is_rebuilt state));
@@ -119,7 +119,7 @@ module _ (disks now : List Disk) (a : ArrayView) (c : IsConsistent (record { dis
   roles_enrolled = taken.roles_taken disks now a c k role m n is t places own b.events_cleared
       (k, n, record { member = at_set_same (map made_due a.members) k n low; in_sync = ap is_in_sync state })
 
-  pub chunks_enrolled : HasChunks b
+  pub chunks_enrolled : HasMarksOfSize b
   chunks_enrolled = taken.chunks_taken disks now a c k role m n is t places own b.events_cleared
 
   pub fits_enrolled : (room : HasRoomFor n.superblock n.bad) → length now ≡ length disks → ((j : ℕ) → j ≢ k → slice_get now j ≡ slice_get disks j)
@@ -133,7 +133,7 @@ module _ (disks now : List Disk) (a : ArrayView) (c : IsConsistent (record { dis
     next_lists h e holds sector =
         let v = m.superblock in
         let fits : HasRoomFor v list = subst (λ (o : Superblock). HasRoomFor o list) superblock (subst (HasRoomFor n.superblock) bad room) in
-        let log : has_bad_block_log v ≡ true → part e.content (512 * from_super v.bblog_offset) (512 * v.bblog_size) ≡ log_bytes list (log_room v) =
+        let log : has_bad_block_log v ≡ true → part e.content (512 * sector_from_super v.bblog_offset) (512 * v.bblog_size) ≡ log_bytes list (log_room v) =
         λ has. logged v n.superblock list n.bad (ap (λ (o : Superblock). o.bblog_size) superblock) (ap (λ (o : Superblock). o.bblog_offset) superblock) bad e.content holds.log has in
         subst (λ (t : Bool). (t ≡ true) ↔ IsBad n.bad sector) (sym (ap (λ (o : Superblock). is_listed_next o e.content sector) superblock))
         (subst (λ (runs : List Run). (is_listed_next (in_sync_superblock list v) e.content sector ≡ true) ↔ IsBad runs sector) (sym bad) (listed_enrolled v list e.content canonical fits log sector))

@@ -41,7 +41,7 @@ use Rattle.md_array.specs.Events.{Does}
 use Rattle.md_array.specs.InTurn.{Leads, Requests}
 use Rattle.md_array.specs.ReadAsKept.{AreReadAsKept, IsReadAsKept}
 use Rattle.md_array.specs.Recording.{IsReadable, write_of}
-use Rattle.md_array.specs.Worlds.{AreHonest, from_super, header_on, is_listed, kind_of, stored_of, world_of, world_on, lists_of}
+use Rattle.md_array.specs.Worlds.{AreHonest, sector_from_super, header_on, is_listed, kind_of, stored_of, world_of, world_on, lists_of}
 use Rattle.md_array.proofs.General.Indices.{at_map, at_set_same, got_in_map, got_other}
 use Rattle.md_array.proofs.General.Replaced.{of_set}
 use Rattle.md_array.proofs.General.Tests.{and_same}
@@ -175,7 +175,7 @@ module _ (k : ℕ) (copied orphans : Bitmap) (old new : MirrorView) (c : IsConsi
           let holds = then_holds k copied orphans old new c r d was in
           let h = r.are.header_is in
           ap (λ (s : Stored). s.bitmap_fits) stored_k
-          ∙ header_fits_there array r.are.header (header_on then.content (from_super it.superblock.bitmap_offset)) holds.header
+          ∙ header_fits_there array r.are.header (header_on then.content (sector_from_super it.superblock.bitmap_offset)) holds.header
           (h.uuid ∙ ap (λ (x : ArrayView). x.shared.set_uuid) r.array) (h.sync_size ∙ ap (λ (x : ArrayView). x.shared.size) r.array) h.state
 
       -- ---- its data
@@ -291,7 +291,7 @@ module _ (k : ℕ) (copied orphans : Bitmap) (old new : MirrorView) (c : IsConsi
         record {
           super = λ _. own_written (enrolled array k n r.role) n e.content readable (block ∙ ap (λ (x : ArrayView). (write_of x.shared n).bytes) r.array);
           header = λ _. inl (ap (λ (h : List ℕ). number_at 4 52 h / 512) kept
-              ∙ ap (λ (v : Superblock). number_at 4 52 (header_on then.content (from_super v.bitmap_offset)) / 512) (superblock k copied orphans old new c r)
+              ∙ ap (λ (v : Superblock). number_at 4 52 (header_on then.content (sector_from_super v.bitmap_offset)) / 512) (superblock k copied orphans old new c r)
               ∙ ap (λ (x : ℕ). x / 512) (sym holds.header.chunksize ∙ r.are.header_is.chunksize ∙ ap (λ (h : BitmapHeader). h.chunksize) r.comes.comes.header)
               ∙ c.chunks.member_width k it r.comes.at);
         }

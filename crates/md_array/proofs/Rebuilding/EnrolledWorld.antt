@@ -14,8 +14,8 @@ use Rattle.md_device.proofs.Splices.{part-spliced, spliced_outside}
 use Rattle.md_kept_members.specs.Enrolling.{in_sync_superblock}
 use Rattle.md_kept_members.specs.Members.{made_due}
 use Rattle.md_kept_members.specs.View.{MemberView}
-use Rattle.md_members.specs.Areas.{BitmapIsPlaced, IsPlaced, bitmap_sectors}
-use Rattle.md_members.specs.Members.{sectors_of}
+use Rattle.md_members.specs.Areas.{BitmapIsPlaced, AreAreasPlaced, bitmap_sectors}
+use Rattle.md_members.specs.Members.{sectors_of_device}
 use Rattle.md_model.specs.Counts as counts
 use Rattle.md_model.specs.Membership.{joined_super}
 use Rattle.md_model.specs.Rebuilding as model
@@ -126,9 +126,9 @@ module _ (k : ℕ) (copied orphans : Bitmap) (old new : MirrorView) (c : IsConsi
   pub parts_then : HasParts b n then.content
   parts_then =
       let p : HasParts b n e.content = subst (λ (x : ArrayView). HasParts x n e.content) r.array (parts_of new sound k e n is new_at) in
-      let sectors : sectors_of e.content ≡ sectors_of then.content = ap (λ (x : ℕ). x / 512) outside.size in
+      let sectors : sectors_of_device e.content ≡ sectors_of_device then.content = ap (λ (x : ℕ). x / 512) outside.size in
       record {
-        placed = subst (λ (x : ℕ). IsPlaced x n.superblock (bitmap_sectors n.stored.chunks)) sectors p.placed;
+        placed = subst (λ (x : ℕ). AreAreasPlaced x n.superblock (bitmap_sectors n.stored.chunks)) sectors p.placed;
         bitmap = subst (λ (x : ℕ). BitmapIsPlaced x n.superblock (bitmap_sectors n.stored.chunks)) sectors p.bitmap;
         size = p.size;
         count = p.count;

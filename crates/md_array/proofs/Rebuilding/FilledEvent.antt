@@ -31,8 +31,8 @@ use Rattle.md_state.specs.View.{ArrayView, Disk, MirrorView, geometry_of}
 use Rattle.md_array.specs.Consistency.{IsConsistent}
 use Rattle.md_array.specs.Events.{Happens, IsSameBesideMissing}
 use Rattle.md_array.specs.Filling.{Fills, MayRebuild}
-use Rattle.md_array.specs.Lending.{AreBack, ComesBack, IsBesideChunk}
-use Rattle.md_array.specs.Worlds.{AreHonest, from_super, header_fits, kind_of, stored_of, super_in, world_of}
+use Rattle.md_array.specs.Lending.{AreBack, ComesBackFromLoan, IsBesideChunk}
+use Rattle.md_array.specs.Worlds.{AreHonest, sector_from_super, header_fits, kind_of, stored_of, super_in, world_of}
 use Rattle.md_array.proofs.General.Tests.{and_same}
 use Rattle.md_array.proofs.Rebuilding.OneDevice.{IsOnlyAt, changed_only, only_does, only_left, only_world}
 use Rattle.md_array.proofs.Steps.DevicesBack.{block_back, header_back, in_area, log_back, read_back}
@@ -102,11 +102,11 @@ module _ (k : ℕ) (v : MirrorView) (requests : ℕ → Option Request) (may : M
   }
 
 -- ---- beside the data nothing changes
-module _ (old : MirrorView) (before after : List Disk) (b : AreBack old before after) (m : MemberView) (d e : Disk) (back : ComesBack old.array m d e) (has : HasParts old.array m d.content) where
+module _ (old : MirrorView) (before after : List Disk) (b : AreBack old before after) (m : MemberView) (d e : Disk) (back : ComesBackFromLoan old.array m d e) (has : HasParts old.array m d.content) where
   bits_back : (c : ℕ) → c < old.array.marks.chunks
-      → is_set (drop (512 * from_super m.superblock.bitmap_offset + 256) e.content) c ≡ is_set (drop (512 * from_super m.superblock.bitmap_offset + 256) d.content) c
+      → is_set (drop (512 * sector_from_super m.superblock.bitmap_offset + 256) e.content) c ≡ is_set (drop (512 * sector_from_super m.superblock.bitmap_offset + 256) d.content) c
   bits_back c low =
-      let start : ℕ = from_super m.superblock.bitmap_offset in
+      let start : ℕ = sector_from_super m.superblock.bitmap_offset in
       let width : ℕ = bitmap_sectors m.stored.chunks in
       let inside : 256 + c / 8 < 512 * width = within_area m.stored.chunks c (subst (λ n. c < n) (sym has.count) low) in
       let p : ℕ = 512 * start + 256 + c / 8 in
@@ -125,8 +125,8 @@ module _ (old : MirrorView) (before after : List Disk) (b : AreBack old before a
         super = super_in (block i);
         content = (stored_of old.array m e.content).content;
         listed = λ s. (nat_lt s old.array.chunks.size && lists.listed_kept m.superblock d.content e.content log (m.superblock.data_offset + s) block i);
-        bits = λ c. and_same (nat_lt c old.array.marks.chunks) (is_set (drop (512 * from_super m.superblock.bitmap_offset + 256) e.content) c)
-            (is_set (drop (512 * from_super m.superblock.bitmap_offset + 256) d.content) c) (λ low. bits_back c (is_below c old.array.marks.chunks low)) i;
+        bits = λ c. and_same (nat_lt c old.array.marks.chunks) (is_set (drop (512 * sector_from_super m.superblock.bitmap_offset + 256) e.content) c)
+            (is_set (drop (512 * sector_from_super m.superblock.bitmap_offset + 256) d.content) c) (λ low. bits_back c (is_below c old.array.marks.chunks low)) i;
         bitmap_events = number_at 8 24 (header i);
         bitmap_fits = header_fits old.array (header i);
       }
@@ -139,14 +139,14 @@ module _ (k : ℕ) (old new : MirrorView) (c : IsConsistent old) (f : Fills k ol
   abbrev m : MemberView
   m = f.may.member
 
-  back_at : (j : ℕ) (d e : Disk) (n : MemberView) → slice_get old.disks j ≡ Some d → slice_get new.disks j ≡ Some e → IsMember a j n → ComesBack a n d e
+  back_at : (j : ℕ) (d e : Disk) (n : MemberView) → slice_get old.disks j ≡ Some d → slice_get new.disks j ≡ Some e → IsMember a j n → ComesBackFromLoan a n d e
   back_at j d e n was is at = by_same j k
       (λ here.
       let was_k : slice_get old.disks k ≡ Some d = sym (ap (slice_get old.disks) here) ∙ was in
       let is_k : slice_get new.disks k ≡ Some e = sym (ap (slice_get new.disks) here) ∙ is in
       let same : n ≡ m = same_Some n m (sym at ∙ ap (slice_get a.members) here ∙ f.may.at) in
       let changed = f.disks.changed d e was_k is_k (honest k d was_k) in
-      subst (λ (x : MemberView). ComesBack a x d e) (sym same) (record {
+      subst (λ (x : MemberView). ComesBackFromLoan a x d e) (sym same) (record {
         stays = f.disks.stays d e was_k is_k;
         size = changed.size;
         beside = changed.beside;

@@ -21,7 +21,7 @@ use Rattle.md_state.specs.Missing.{is_missing}
 use Rattle.md_state.specs.View.{ArrayView, Disk, MirrorView}
 use Rattle.md_super.specs.declared.superblock.Superblock.{Superblock}
 use Rattle.md_array.specs.Consistency.{IsConsistent}
-use Rattle.md_array.specs.Enrolling.{Enrols, HasContent, MayEnrol}
+use Rattle.md_array.specs.Enrolling.{Enrols, HoldsContent, MayEnrol}
 use Rattle.md_array.specs.Enrolments.{IsHeldBy}
 use Rattle.md_array.specs.Worlds.{AreHonest, lies_in, lists_of}
 use Rattle.md_array.proofs.General.Indices.{got_other}
@@ -113,14 +113,14 @@ module _ (k : ℕ) (copied orphans : Bitmap) (old new : MirrorView) (c : IsConsi
       ]
 
   -- there it holds any content that the members in sync hold
-  holds_copied : (content : Content) → HasContent old.disks array content → (s : ℕ) → s < array.chunks.size → is_missing array it (chunk s) ≡ true → listed s ≡ false
+  holds_copied : (content : Content) → HoldsContent old.disks array content → (s : ℕ) → s < array.chunks.size → is_missing array it (chunk s) ≡ true → listed s ≡ false
       → part d.content (at s) 512 ≡ content s
   holds_copied content has s low missing unlisted =
       may.holds honest content has d it was r.comes.at (chunk s) s (subst (λ (x : ℕ). chunk s < x) (sym may.copied_chunks) (chunk_low s low)) (was_copied s low missing unlisted)
       (its_chunk array.chunks.size array.chunks.sectors s c.chunks.wide low)
 
   -- ---- the device of some member in sync does not list it either
-  pub one_has_it : (content : Content) → HasContent old.disks array content → (s : ℕ) → s < array.chunks.size → is_missing array it (chunk s) ≡ true → listed s ≡ false → HasSector old.disks array s
+  pub one_has_it : (content : Content) → HoldsContent old.disks array content → (s : ℕ) → s < array.chunks.size → is_missing array it (chunk s) ≡ true → listed s ≡ false → HasSector old.disks array s
   one_has_it content has s low missing unlisted =
       some.one_has_it old.disks array s content (part d.content (at s) 512) has (λ other held. holds_copied other held s low missing unlisted)
 
@@ -140,7 +140,7 @@ module _ (k : ℕ) (copied orphans : Bitmap) (old new : MirrorView) (c : IsConsi
       absurd (true≢false (sym (and_from (nat_lt s array.chunks.size) (lies_in r.member.bad (r.member.superblock.data_offset + s)) (lt-ltb s array.chunks.size low) (test_from_bad r.member.bad (r.member.superblock.data_offset + s) there)) ∙ unlisted)))
 
   -- ---- in the midst
-  pub had_content : (content : Content) → HasContent now array content → HasContent old.disks array content
+  pub had_content : (content : Content) → HoldsContent now array content → HoldsContent old.disks array content
   had_content content has = record {
     held = λ j z y there on s low unlisted.
         has.held j z y (got_other old.disks k j then (another j y on) ∙ there) on s low unlisted;

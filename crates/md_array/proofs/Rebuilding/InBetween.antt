@@ -29,7 +29,7 @@ use Rattle.md_array.specs.Enrolments.{Prepares, first_writes, prepared, with_wri
 use Rattle.md_array.specs.Events.{IsBesideArea, IsBesideMarks, IsChangedAlone, IsSameBesideMarks}
 use Rattle.md_array.specs.Filling.{MayRebuild}
 use Rattle.md_array.specs.Recording.{write_of}
-use Rattle.md_array.specs.Worlds.{from_super}
+use Rattle.md_array.specs.Worlds.{sector_from_super}
 use Rattle.md_array.proofs.General.Indices.{at_set_same, got_other}
 use Rattle.md_array.proofs.Rebuilding.EnrolledArray as array
 use Rattle.md_array.proofs.Rebuilding.MemberStored as stored
@@ -49,7 +49,7 @@ recovers_rebuilt (Stale role) on = absurd cc
 recovers_rebuilt Spare on = absurd cc
 recovers_rebuilt Faulty on = absurd cc
 
--- one device has another content, and no stop is counted
+-- one device has another content, and no crash is counted
 pub set_alone : (k : ℕ) (disks : List Disk) (d : Disk) → slice_get disks k ≡ Some d → (content : List ℕ) (Related : List ℕ → List ℕ → Type 0) → length content ≡ length d.content
     → (d.honest ≡ true → Related d.content content) → IsChangedAlone k Related disks (set disks k (record d { content = content }))
 set_alone k disks d was content Related long related =
@@ -59,11 +59,11 @@ set_alone k disks d was content Related long related =
       others = λ j apart x y before after.
           let same : y ≡ x = same_Some y x (sym after ∙ got_other disks k j then apart ∙ before) in
           subst (λ (z : Disk). StaysHonest x z × IsLeftAlone x z) (sym same)
-          (record { honest = refl; counted = omega arith }, (refl, λ _. leaves_none x.stops (λ left. left ≡ x.content)));
+          (record { honest = refl; counted = omega arith }, (refl, λ _. leaves_none x.crashes (λ left. left ≡ x.content)));
       stays = at_device disks k d then StaysHonest was (record { honest = refl; counted = omega arith });
       size = at_device disks k d then (λ x y. length y.content ≡ length x.content) was long;
       changed = at_device disks k d then (λ x y. x.honest ≡ true → Related x.content y.content) was related;
-      within = at_device disks k d then (λ x y. x.honest ≡ true → LeavesOn (Related x.content) x y) was (λ _. leaves_none d.stops (Related d.content));
+      within = at_device disks k d then (λ x y. x.honest ≡ true → LeavesOn (Related x.content) x y) was (λ _. leaves_none d.crashes (Related d.content));
     }
 
 module _ (k : ℕ) (copied orphans : Bitmap) (old new : MirrorView) (c : IsConsistent old) (r : Enrols k copied orphans old new) where
@@ -85,8 +85,8 @@ module _ (k : ℕ) (copied orphans : Bitmap) (old new : MirrorView) (c : IsConsi
   room : HasRoomFor n.superblock n.bad
   room = subst (HasRoomFor n.superblock) (sym r.comes.comes.bad) (subst (λ (v : Superblock). HasRoomFor v r.comes.list) (sym superblock) r.comes.room)
 
-  pub starts : from_super m.superblock.bitmap_offset ≡ r.are.start
-  starts = subst (λ (v : Superblock). from_super v.bitmap_offset ≡ r.are.start) superblock (starts_at n.superblock r.are.start r.are.starts)
+  pub starts : sector_from_super m.superblock.bitmap_offset ≡ r.are.start
+  starts = subst (λ (v : Superblock). sector_from_super v.bitmap_offset ≡ r.are.start) superblock (starts_at n.superblock r.are.start r.are.starts)
 
   module _ (d : Disk) (was : slice_get old.disks k ≡ Some d) where
     storable : IsStorable n d.content
@@ -110,7 +110,7 @@ module _ (k : ℕ) (copied orphans : Bitmap) (old new : MirrorView) (c : IsConsi
     pub then_long : length content_then ≡ length d.content
     then_long = ap (λ (xs : List ℕ). length xs) in_two ∙ listed_long
 
-    pub then_holds : HoldsBitmap content_then (from_super m.superblock.bitmap_offset) r.are.header n.stored
+    pub then_holds : HoldsBitmap content_then (sector_from_super m.superblock.bitmap_offset) r.are.header n.stored
     then_holds =
         subst (λ (start : ℕ). HoldsBitmap content_then start r.are.header n.stored) (sym starts)
         (subst (λ (xs : List ℕ). HoldsBitmap xs r.are.start r.are.header n.stored) (sym in_two)
@@ -129,13 +129,13 @@ module _ (k : ℕ) (copied orphans : Bitmap) (old new : MirrorView) (c : IsConsi
     log_width there = stored.log_long n room there
 
     -- where the log alone was written since
-    module _ (left : List ℕ) (same : SameOutside (512 * from_super n.superblock.bblog_offset) (512 * n.superblock.bblog_size) marked left) (there : has_bad_block_log n.superblock ≡ true) where
+    module _ (left : List ℕ) (same : SameOutside (512 * sector_from_super n.superblock.bblog_offset) (512 * n.superblock.bblog_size) marked left) (there : has_bad_block_log n.superblock ≡ true) where
       pub log_there : (at l : ℕ) → IsBesideMarks m at l → part left at l ≡ part marked at l
       log_there at l b =
           let named : has_bad_block_log m.superblock ≡ true = subst (λ (v : Superblock). has_bad_block_log v ≡ true) superblock there in
-          let lies : IsBesideArea (from_super n.superblock.bblog_offset) n.superblock.bblog_size at l =
-          subst (λ (v : Superblock). IsBesideArea (from_super v.bblog_offset) v.bblog_size at l) (sym superblock) (b.log named) in
-          beside_area (from_super n.superblock.bblog_offset) n.superblock.bblog_size marked left same at l lies
+          let lies : IsBesideArea (sector_from_super n.superblock.bblog_offset) n.superblock.bblog_size at l =
+          subst (λ (v : Superblock). IsBesideArea (sector_from_super v.bblog_offset) v.bblog_size at l) (sym superblock) (b.log named) in
+          beside_area (sector_from_super n.superblock.bblog_offset) n.superblock.bblog_size marked left same at l lies
 
     -- ---- beside its bitmap and its log nothing changes
     pub beside_bitmap : (at l : ℕ) → IsBesideMarks m at l → part marked at l ≡ part d.content at l

@@ -13,7 +13,7 @@ use Rattle.md_members.specs.Areas.{has_bad_blocks}
 use Rattle.md_members.specs.Members.{reads_log}
 use Rattle.md_model.proofs.Cases.{by_test}
 use Rattle.md_kept_members.specs.Enrolling.{HasRoomFor, in_sync_superblock, log_room, logged_superblock}
-use Rattle.md_array.specs.Worlds.{from_super, is_listed_next, is_logged, lies_in}
+use Rattle.md_array.specs.Worlds.{sector_from_super, is_listed_next, is_logged, lies_in}
 use Rattle.md_array.proofs.Openings.OwnFields as own_fields
 use Rattle.md_array.proofs.Worlds.Bad.{bad_from_test, test_from_bad}
 use Rattle.md_array.proofs.Rebuilding.MemberStored.{none_bad, some_bad}
@@ -38,12 +38,12 @@ has_entries (run ∷ runs) = true
 
 -- each sector that the log names is bad
 pub named_bad : (own : Superblock) (list : List Run) (content : List ℕ) → IsCanonical list
-    → part content (512 * from_super own.bblog_offset) (512 * own.bblog_size) ≡ log_bytes list (log_room own)
-    → (sector : ℕ) → is_logged content (from_super own.bblog_offset) own.bblog_size 0 sector ≡ true ↔ (IsBad list sector)
+    → part content (512 * sector_from_super own.bblog_offset) (512 * own.bblog_size) ≡ log_bytes list (log_room own)
+    → (sector : ℕ) → is_logged content (sector_from_super own.bblog_offset) own.bblog_size 0 sector ≡ true ↔ (IsBad list sector)
 named_bad own list content canonical log sector =
     let named = (log_read list (log_room own) canonical).named sector in
     let of : List ℕ → Bool = λ area. nat_lt sector (2 ^ 54) && lies_in (named_runs 0 area) sector in
-    let same : is_logged content (from_super own.bblog_offset) own.bblog_size 0 sector ≡ of (log_bytes list (log_room own)) = ap of log in
+    let same : is_logged content (sector_from_super own.bblog_offset) own.bblog_size 0 sector ≡ of (log_bytes list (log_room own)) = ap of log in
     let written = named_runs 0 (log_bytes list (log_room own)) in (
       (λ e.
           let p = and_parts (nat_lt sector (2 ^ 54)) (lies_in written sector) (sym same ∙ e) in
@@ -55,7 +55,7 @@ named_bad own list content canonical log sector =
 
 -- by a superblock without a shift, whose bit 8 tells whether there are entries
 pub listed_by : (own : Superblock) (list : List Run) (content : List ℕ) → IsCanonical list → HasRoomFor own list → has_bad_blocks own ≡ has_entries list → own.bblog_shift ≡ 0
-    → (has_bad_block_log own ≡ true → part content (512 * from_super own.bblog_offset) (512 * own.bblog_size) ≡ log_bytes list (log_room own))
+    → (has_bad_block_log own ≡ true → part content (512 * sector_from_super own.bblog_offset) (512 * own.bblog_size) ≡ log_bytes list (log_room own))
     → (sector : ℕ) → is_listed_next own content sector ≡ true ↔ IsBad list sector
 unfolding is_listed_next
 listed_by own [] content canonical room bit shift log sector = (
@@ -67,14 +67,14 @@ listed_by own (run ∷ runs) content canonical room bit shift log sector =
     let there = has_log own run runs canonical room in
     let reads : reads_log own ≡ true = and_from (has_bad_blocks own) (has_bad_block_log own) bit there in
     let named = named_bad own list content canonical (log there) sector in
-    let unshifted : is_logged content (from_super own.bblog_offset) own.bblog_size own.bblog_shift sector ≡ is_logged content (from_super own.bblog_offset) own.bblog_size 0 sector =
-    ap (λ shift. is_logged content (from_super own.bblog_offset) own.bblog_size shift sector) shift in (
+    let unshifted : is_logged content (sector_from_super own.bblog_offset) own.bblog_size own.bblog_shift sector ≡ is_logged content (sector_from_super own.bblog_offset) own.bblog_size 0 sector =
+    ap (λ shift. is_logged content (sector_from_super own.bblog_offset) own.bblog_size shift sector) shift in (
       (λ e. named.0 (sym unshifted ∙ (and_parts (reads_log own) _ e).1)),
       (λ h. and_from (reads_log own) _ reads (unshifted ∙ named.1 h)),
     )
 
 pub listed_enrolled : (v : Superblock) (list : List Run) (content : List ℕ) → IsCanonical list → HasRoomFor v list
-    → (has_bad_block_log v ≡ true → part content (512 * from_super v.bblog_offset) (512 * v.bblog_size) ≡ log_bytes list (log_room v))
+    → (has_bad_block_log v ≡ true → part content (512 * sector_from_super v.bblog_offset) (512 * v.bblog_size) ≡ log_bytes list (log_room v))
     → (sector : ℕ) → is_listed_next (in_sync_superblock list v) content sector ≡ true ↔ IsBad list sector
 listed_enrolled v [] content canonical room log sector = listed_by (in_sync_superblock [] v) [] content canonical room (none_bad v) refl log sector
 listed_enrolled v (run ∷ runs) content canonical room log sector = listed_by (in_sync_superblock (run ∷ runs) v) (run ∷ runs) content canonical room (some_bad run runs v) refl log sector
@@ -85,16 +85,16 @@ entries_logged v [] = own_fields.none_listed v
 entries_logged v (run ∷ runs) = own_fields.some_listed run runs v
 
 pub listed_logged : (v : Superblock) (list : List Run) (content : List ℕ) → IsCanonical list → HasRoomFor v list
-    → (has_bad_block_log v ≡ true → part content (512 * from_super v.bblog_offset) (512 * v.bblog_size) ≡ log_bytes list (log_room v))
+    → (has_bad_block_log v ≡ true → part content (512 * sector_from_super v.bblog_offset) (512 * v.bblog_size) ≡ log_bytes list (log_room v))
     → (sector : ℕ) → is_listed_next (logged_superblock list v) content sector ≡ true ↔ IsBad list sector
 listed_logged v list content canonical room log sector = listed_by (logged_superblock list v) list content canonical room (entries_logged v list) refl log sector
 
 -- a log is the same by any superblock that places it so
 pub logged : (v own : Superblock) (list bad : List Run) → own.bblog_size ≡ v.bblog_size → own.bblog_offset ≡ v.bblog_offset → bad ≡ list → (content : List ℕ)
-    → (has_bad_block_log own ≡ true → part content (512 * from_super own.bblog_offset) (512 * own.bblog_size) ≡ log_bytes bad (log_room own))
-    → has_bad_block_log v ≡ true → part content (512 * from_super v.bblog_offset) (512 * v.bblog_size) ≡ log_bytes list (log_room v)
+    → (has_bad_block_log own ≡ true → part content (512 * sector_from_super own.bblog_offset) (512 * own.bblog_size) ≡ log_bytes bad (log_room own))
+    → has_bad_block_log v ≡ true → part content (512 * sector_from_super v.bblog_offset) (512 * v.bblog_size) ≡ log_bytes list (log_room v)
 logged v own list bad size offset same content log has =
     let there : has_bad_block_log own ≡ has_bad_block_log v = λ i. not (size i == 0) && not (int_eq (offset i) (pos 0)) in
-    (λ i. part content (512 * from_super (sym offset i)) (512 * sym size i))
+    (λ i. part content (512 * sector_from_super (sym offset i)) (512 * sym size i))
     ∙ log (there ∙ has)
     ∙ (λ i. log_bytes (same i) (cond (there i) (64 * size i) 0))

@@ -15,7 +15,7 @@ use Rattle.md_device.proofs.Splices.{part-spliced}
 use Rattle.md_format.specs.Fields.{number_at}
 use Rattle.md_kept_members.specs.Enrolling.{HasRoomFor, log_room, logged_superblock}
 use Rattle.md_kept_members.specs.View.{MemberView}
-use Rattle.md_members.specs.Areas.{BitmapIsPlaced, IsPlaced, LogIsPlaced, log_area}
+use Rattle.md_members.specs.Areas.{BitmapIsPlaced, AreAreasPlaced, LogIsPlaced, log_area}
 use Rattle.md_model.specs.Devices.{Stored}
 use Rattle.md_model.specs.Events.{Event, MemberPart, Step}
 use Rattle.md_model.specs.Failures.{LeftByLog}
@@ -41,9 +41,9 @@ use Rattle.md_device_writes.specs.Writes.{DoesWrites, FailsInWrites, Write}
 use Rattle.md_array.specs.Consistency.{HasPlaces, HasSuper, IsConsistent}
 use Rattle.md_array.specs.Enrolling.{log_writes}
 use Rattle.md_array.specs.Events.{Happens, listed_on}
-use Rattle.md_array.specs.Listing.{AreWritten, FailsToStoreLog, HasNoShift, IfLogFailed, RefusesLog, StoresLog}
+use Rattle.md_array.specs.Listing.{AreWritten, FailsToStoreLog, HasNoShift, IfLogFailed, RefusesStoreLog, StoresLog}
 use Rattle.md_array.specs.ReadAsKept.{AreReadAsKept, HasOwnSuper, IsReadAsKept}
-use Rattle.md_array.specs.Worlds.{block_on, from_super, header_on, is_listed, is_listed_next, is_logged, list_bit, lists_of, reads_log_on, stored_of, stored_on, super_in, world_of, world_on}
+use Rattle.md_array.specs.Worlds.{block_on, sector_from_super, header_on, is_listed, is_listed_next, is_logged, list_bit, lists_of, reads_log_on, stored_of, stored_on, super_in, world_of, world_on}
 use Rattle.md_array.proofs.General.Honesty.{tried_honest}
 use Rattle.md_array.proofs.General.Indices.{at_set_same, set_itself}
 use Rattle.md_array.proofs.General.Replaced.{of_set}
@@ -74,7 +74,7 @@ module _ (bad : List Run) (v : Superblock) where
   bitmap_then : (sectors width : ℕ) → BitmapIsPlaced sectors v width → BitmapIsPlaced sectors (logged_superblock bad v) width
   bitmap_then sectors width p = record { within = p.within; from_super = p.from_super; from_data = p.from_data; from_log = p.from_log }
 
-  placed_then : (sectors width : ℕ) → IsPlaced sectors v width → IsPlaced sectors (logged_superblock bad v) width
+  placed_then : (sectors width : ℕ) → AreAreasPlaced sectors v width → AreAreasPlaced sectors (logged_superblock bad v) width
   placed_then sectors width p = record {
     some_size = p.some_size;
     data_holds = p.data_holds;
@@ -92,7 +92,7 @@ near_logged m = record {
 
 -- what is written of a member's log
 abbrev pub log_of : MemberView → Write
-log_of m = record { sector = from_super m.superblock.bblog_offset; bytes = log_bytes m.bad (log_room m.superblock) }
+log_of m = record { sector = sector_from_super m.superblock.bblog_offset; bytes = log_bytes m.bad (log_room m.superblock) }
 
 -- ---- what the device has of its log then, whose bit 8 is as before
 module _ (a : ArrayView) (m : MemberView) (old new : List ℕ) (block : block_on new ≡ block_on old) where
@@ -132,7 +132,7 @@ module _ (k : ℕ) (old new : MirrorView) (c : IsConsistent old) (r : StoresLog 
   has = has_bad_block_log own
 
   abbrev first : ℕ
-  first = from_super own.bitmap_offset
+  first = sector_from_super own.bitmap_offset
 
   at : IsMember a k m
   at = r.in_sync.member
@@ -159,8 +159,8 @@ module _ (k : ℕ) (old new : MirrorView) (c : IsConsistent old) (r : StoresLog 
     same_device : has ≡ false → e ≡ d
     same_device none = same_Some e d (sym is ∙ ap (λ (xs : List Disk). slice_get xs k) (same_disks none) ∙ was)
 
-    outside : has ≡ true → SameOutside (512 * from_super own.bblog_offset) (512 * own.bblog_size) d.content e.content
-    outside there = subst (λ (x : ℕ). SameOutside (512 * from_super own.bblog_offset) x d.content e.content) (log_long m r.room there) ((written there).tried.outside d e was is)
+    outside : has ≡ true → SameOutside (512 * sector_from_super own.bblog_offset) (512 * own.bblog_size) d.content e.content
+    outside there = subst (λ (x : ℕ). SameOutside (512 * sector_from_super own.bblog_offset) x d.content e.content) (log_long m r.room there) ((written there).tried.outside d e was is)
 
     block_same : block_on e.content ≡ block_on d.content
     block_same = by_test has
@@ -188,13 +188,13 @@ module _ (k : ℕ) (old new : MirrorView) (c : IsConsistent old) (r : StoresLog 
 
     -- where the device does what it answers, its log lists the member's list
     module _ (honest : d.honest ≡ true) where
-      log_there : has ≡ true → part e.content (512 * from_super own.bblog_offset) (512 * own.bblog_size) ≡ log_bytes m.bad (log_room own)
+      log_there : has ≡ true → part e.content (512 * sector_from_super own.bblog_offset) (512 * own.bblog_size) ≡ log_bytes m.bad (log_room own)
       log_there there =
           let log = parts.placed.log there in
-          let start : (log_area own).start ≡ pos (from_super own.bblog_offset) = sector_at_is (log_area own).start log.within.from in
-          let fits = fits_on (log_area own).start (from_super own.bblog_offset) own.bblog_size (length d.content) (sym start) log.within.to in
-          ap (λ (xs : List ℕ). part xs (512 * from_super own.bblog_offset) (512 * own.bblog_size)) ((written there).done d e was is honest)
-          ∙ part-spliced d.content (512 * from_super own.bblog_offset) (log_bytes m.bad (log_room own)) (512 * own.bblog_size) (sym (log_long m r.room there)) (omega (arith, fits))
+          let start : (log_area own).start ≡ pos (sector_from_super own.bblog_offset) = sector_at_is (log_area own).start log.within.from in
+          let fits = fits_on (log_area own).start (sector_from_super own.bblog_offset) own.bblog_size (length d.content) (sym start) log.within.to in
+          ap (λ (xs : List ℕ). part xs (512 * sector_from_super own.bblog_offset) (512 * own.bblog_size)) ((written there).done d e was is honest)
+          ∙ part-spliced d.content (512 * sector_from_super own.bblog_offset) (log_bytes m.bad (log_room own)) (512 * own.bblog_size) (sym (log_long m r.room there)) (omega (arith, fits))
 
       next_is : (sector : ℕ) → is_listed_next n.superblock e.content sector ≡ true ↔ IsBad m.bad sector
       next_is sector = listed_logged own m.bad e.content canonical r.room log_there sector
@@ -202,7 +202,7 @@ module _ (k : ℕ) (old new : MirrorView) (c : IsConsistent old) (r : StoresLog 
       listed_is_bad : (sector : ℕ) → is_listed n.superblock e.content sector ≡ true → IsBad m.bad sector
       unfolding is_listed
       listed_is_bad sector on =
-          let parts = and_parts (reads_log_on n.superblock e.content) (is_logged e.content (from_super own.bblog_offset) own.bblog_size 0 sector) on in
+          let parts = and_parts (reads_log_on n.superblock e.content) (is_logged e.content (sector_from_super own.bblog_offset) own.bblog_size 0 sector) on in
           let there : has ≡ true = (and_parts (list_bit n.superblock (block_on e.content) (super_in (block_on e.content))) has parts.0).1 in
           (named_bad own m.bad e.content canonical (log_there there) sector).0 parts.1
 
@@ -231,13 +231,13 @@ module _ (k : ℕ) (old new : MirrorView) (c : IsConsistent old) (r : StoresLog 
 
       was_read : (sector : ℕ) → is_listed own d.content sector ≡ true → reads_log_on own d.content ≡ true
       unfolding is_listed
-      was_read sector on = (and_parts (reads_log_on own d.content) (is_logged d.content (from_super own.bblog_offset) own.bblog_size own.bblog_shift sector) on).0
+      was_read sector on = (and_parts (reads_log_on own d.content) (is_logged d.content (sector_from_super own.bblog_offset) own.bblog_size own.bblog_shift sector) on).0
 
       listed_now : HasSuper m d → (sector : ℕ) → reads_log_on own d.content ≡ true → IsBad m.bad sector → is_listed n.superblock e.content sector ≡ true
       unfolding is_listed
       listed_now had sector reads bad =
           let bits = and_parts (list_bit own (block_on d.content) (super_in (block_on d.content))) has reads in
-          and_from (reads_log_on n.superblock e.content) (is_logged e.content (from_super own.bblog_offset) own.bblog_size 0 sector)
+          and_from (reads_log_on n.superblock e.content) (is_logged e.content (sector_from_super own.bblog_offset) own.bblog_size 0 sector)
           (and_from (list_bit n.superblock (block_on e.content) (super_in (block_on e.content))) has (same_bit had ∙ bits.0) bits.1)
           ((named_bad own m.bad e.content canonical (log_there bits.1) sector).1 bad)
 
@@ -353,9 +353,9 @@ module _ (k : ℕ) (old new : MirrorView) (c : IsConsistent old) (f : FailsToSto
   has_log = (is_log x u f.among).0
 
   beside_log : (d e : Disk) → slice_get old.disks k ≡ Some d → slice_get new.disks k ≡ Some e
-      → SameOutside (512 * from_super x.superblock.bblog_offset) (512 * x.superblock.bblog_size) d.content e.content
+      → SameOutside (512 * sector_from_super x.superblock.bblog_offset) (512 * x.superblock.bblog_size) d.content e.content
   beside_log d e was is =
-      subst (λ (n : ℕ). SameOutside (512 * from_super x.superblock.bblog_offset) n d.content e.content) (log_long x f.room has_log)
+      subst (λ (n : ℕ). SameOutside (512 * sector_from_super x.superblock.bblog_offset) n d.content e.content) (log_long x f.room has_log)
       (subst (λ (z : Write). SameOutside (512 * z.sector) (length z.bytes) d.content e.content) (is_log x u f.among).1 (f.fails.disks.tried.outside d e was is))
 
   left_by_log : (requests : ℕ → Option Request) (t : IsThere k old.disks new.disks) → LeftByLog (world_of old requests) k (left k u old new c f.fails x x_at requests)
@@ -381,25 +381,25 @@ module _ (k : ℕ) (old new : MirrorView) (c : IsConsistent old) (f : FailsToSto
 
 -- ---- all of the refusals
 module _ (k : ℕ) (old new : MirrorView) (c : IsConsistent old) where
-  pub log_refused_is_consistent : (f : StoreFault) → RefusesLog k old new f → IsConsistent new
+  pub log_refused_is_consistent : (f : StoreFault) → RefusesStoreLog k old new f → IsConsistent new
   log_refused_is_consistent Halted (inl r) = refused_is_consistent old new c r
   log_refused_is_consistent Halted (inr h) = halted_is_consistent k h.write old new c h.halts
   log_refused_is_consistent NotActive r = absurd r
   log_refused_is_consistent (MemberFailed j) r = failed_is_consistent k r.1.write old new c r.1.fails
 
-  pub log_refused_is_pending : (f : StoreFault) → RefusesLog k old new f → (p : PendingView) → IsPending old.array p → IsPending new.array p
+  pub log_refused_is_pending : (f : StoreFault) → RefusesStoreLog k old new f → (p : PendingView) → IsPending old.array p → IsPending new.array p
   log_refused_is_pending Halted (inl r) p = refused_is_pending old new c r p
   log_refused_is_pending Halted (inr h) p = halted_is_pending k old.array new.array p h.halts.array
   log_refused_is_pending NotActive r p = absurd r
   log_refused_is_pending (MemberFailed j) r p = failed_is_pending k old.array new.array p r.1.fails.array
 
-  pub log_refused_happens : (f : StoreFault) → RefusesLog k old new f → IfLogFailed (Happens old (Event.WriteFails k MemberPart.Log) new) f
+  pub log_refused_happens : (f : StoreFault) → RefusesStoreLog k old new f → IfLogFailed (Happens old (Event.WriteFails k MemberPart.Log) new) f
   log_refused_happens Halted r = tt
   log_refused_happens NotActive r = tt
   log_refused_happens (MemberFailed j) r = store_log_fails_happens k old new c r.1
 
 pub log_failed : (k : ℕ) (old new : MirrorView) (m : MemberView) (fault : StoreFault) → old.array.halted ≡ false → IsInSync old.array k m → IsCanonical m.bad → HasRoomFor m.superblock m.bad → has_bad_block_log m.superblock ≡ true
-    → IsFailed k (log_of m) old.disks new.disks → AnswersStore k old.array new.array fault → RefusesLog k old new fault
+    → IsFailed k (log_of m) old.disks new.disks → AnswersStore k old.array new.array fault → RefusesStoreLog k old new fault
 log_failed k old new m Halted running in_sync canonical room there disks halts =
     inr (record { running = running; member = m; in_sync = in_sync; canonical = canonical; room = room; write = log_of m; among = ap (λ (b : Bool). if b then log_of m ∷ [] else []) there; halts = record { disks = disks; array = halts } })
 log_failed k old new m NotActive running in_sync canonical room there disks never = absurd never
@@ -412,7 +412,7 @@ none_done [] w rest e = cc
 none_done (x ∷ xs) w rest e = cc
 
 module _ {D : Type 0} (g : Ghosts D) (devices : List D) (k : ℕ) (was : D) (read : was ≡ get_or devices k was) (new : D) (within : k < length devices) (m : MemberView) (room : HasRoomFor m.superblock m.bad)
-    (outside : has_bad_block_log m.superblock ≡ true → SameOutside (512 * from_super m.superblock.bblog_offset) (512 * m.superblock.bblog_size) (g.content was) (g.content new))
+    (outside : has_bad_block_log m.superblock ≡ true → SameOutside (512 * sector_from_super m.superblock.bblog_offset) (512 * m.superblock.bblog_size) (g.content was) (g.content new))
     (untouched : has_bad_block_log m.superblock ≡ false → new ≡ was) where
   abbrev before : List Disk
   before = map (disk_of g) devices
@@ -426,8 +426,8 @@ module _ {D : Type 0} (g : Ghosts D) (devices : List D) (k : ℕ) (was : D) (rea
   no_write : has_bad_block_log m.superblock ≡ false → log_writes m.superblock m.bad ≡ []
   no_write lacks = ap (λ (b : Bool). if b then log_of m ∷ [] else []) lacks
 
-  beside : has_bad_block_log m.superblock ≡ true → SameOutside (512 * from_super m.superblock.bblog_offset) (length (log_bytes m.bad (log_room m.superblock))) (g.content was) (g.content new)
-  beside there = subst (λ (n : ℕ). SameOutside (512 * from_super m.superblock.bblog_offset) n (g.content was) (g.content new)) (sym (log_long m room there)) (outside there)
+  beside : has_bad_block_log m.superblock ≡ true → SameOutside (512 * sector_from_super m.superblock.bblog_offset) (length (log_bytes m.bad (log_room m.superblock))) (g.content was) (g.content new)
+  beside there = subst (λ (n : ℕ). SameOutside (512 * sector_from_super m.superblock.bblog_offset) n (g.content was) (g.content new)) (sym (log_long m room there)) (outside there)
 
   pub are_written : DoesWrites g (log_writes m.superblock m.bad) was new → AreWritten k (log_writes m.superblock m.bad) before after
   are_written does = by_test (has_bad_block_log m.superblock)

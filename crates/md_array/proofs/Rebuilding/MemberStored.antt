@@ -19,8 +19,8 @@ use Rattle.md_badblocks.specs.Log.{all_ones, entries_of, entry_at, log_bytes}
 use Rattle.md_badblocks.specs.Runs.{entries_needed, entry_count}
 use Rattle.md_badblocks.proofs.Entries.{length-bytes}
 use Rattle.md_members.specs.declared.area.Area.{Area}
-use Rattle.md_members.specs.Areas.{AreApart, BitmapIsPlaced, IsPlaced, LogIsPlaced, bitmap_area, bitmap_sectors, data_area, has_bad_blocks, has_bitmap, log_area, super_area}
-use Rattle.md_members.specs.Members.{sectors_of}
+use Rattle.md_members.specs.Areas.{AreApart, BitmapIsPlaced, AreAreasPlaced, LogIsPlaced, bitmap_area, bitmap_sectors, data_area, has_bad_blocks, has_bitmap, log_area, super_area}
+use Rattle.md_members.specs.Members.{sectors_of_device}
 use Rattle.md_members.specs.Reading.{BitmapStartsAt}
 use Rattle.md_device_writes.specs.Bitmaps.{bitmap_writes}
 use Rattle.md_device_writes.specs.Writes.{after}
@@ -32,7 +32,7 @@ use Rattle.md_state.specs.Headers.{IsHeaderFor}
 use Rattle.md_state.specs.View.{ArrayView, Disk}
 use Rattle.md_array.specs.Enrolling.{IsStorable, KeepsData, log_writes, member_writes}
 use Rattle.md_array.specs.Recording.{IsReadable, write_of}
-use Rattle.md_array.specs.Worlds.{block_on, from_super}
+use Rattle.md_array.specs.Worlds.{block_on, sector_from_super}
 use Rattle.md_array.proofs.Openings.OwnFields as own_fields
 use Rattle.md_array.proofs.Worlds.Device.{fits_on}
 use Rattle.md_array.proofs.Worlds.Outside.{apart_either_way, bit_stays, header_stays, log_stays, sector_at_is, starts_at, stays}
@@ -63,7 +63,7 @@ module _ (v : Superblock) (list : List Run) where
   marks_in_sync : (sectors width : ℕ) → BitmapIsPlaced sectors v width → BitmapIsPlaced sectors (in_sync_superblock list v) width
   marks_in_sync sectors width p = record { within = p.within; from_super = p.from_super; from_data = p.from_data; from_log = p.from_log }
 
-  pub placed_in_sync : (sectors width : ℕ) → IsPlaced sectors v width → IsPlaced sectors (in_sync_superblock list v) width
+  pub placed_in_sync : (sectors width : ℕ) → AreAreasPlaced sectors v width → AreAreasPlaced sectors (in_sync_superblock list v) width
   placed_in_sync sectors width p = record {
     some_size = p.some_size;
     data_holds = p.data_holds;
@@ -105,7 +105,7 @@ data_beside n d e area start at apart same i m from to =
 pub data_then : (n : MemberView) (c d e : Disk) → KeepsData n c d → KeepsData n d e → KeepsData n c e
 data_then n c d e first second i m from to = second i m from to ∙ first i m from to
 
-module _ (n : MemberView) (d e : Disk) (sectors : ℕ) (placed : IsPlaced sectors n.superblock (bitmap_sectors n.stored.chunks)) where
+module _ (n : MemberView) (d e : Disk) (sectors : ℕ) (placed : AreAreasPlaced sectors n.superblock (bitmap_sectors n.stored.chunks)) where
   pub data_beside_bitmap : has_bitmap n.superblock ≡ true → (start : ℕ) → BitmapStartsAt n.superblock start
       → SameOutside (512 * start) (512 * bitmap_sectors n.stored.chunks) d.content e.content → KeepsData n d e
   data_beside_bitmap has start starts =
@@ -114,19 +114,19 @@ module _ (n : MemberView) (d e : Disk) (sectors : ℕ) (placed : IsPlaced sector
   pub data_beside_super : SameOutside (512 * 8) 4096 d.content e.content → KeepsData n d e
   data_beside_super = data_beside n d e super_area 8 refl (apart_either_way super_area (data_area n.superblock) placed.data_apart)
 
-  pub data_beside_log : has_bad_block_log n.superblock ≡ true → SameOutside (512 * from_super n.superblock.bblog_offset) (512 * n.superblock.bblog_size) d.content e.content → KeepsData n d e
+  pub data_beside_log : has_bad_block_log n.superblock ≡ true → SameOutside (512 * sector_from_super n.superblock.bblog_offset) (512 * n.superblock.bblog_size) d.content e.content → KeepsData n d e
   data_beside_log there =
       let log = placed.log there in
-      data_beside n d e (log_area n.superblock) (from_super n.superblock.bblog_offset) (sector_at_is (log_area n.superblock).start log.within.from) log.from_data
+      data_beside n d e (log_area n.superblock) (sector_from_super n.superblock.bblog_offset) (sector_at_is (log_area n.superblock).start log.within.from) log.from_data
 
 -- a member that can be stored can be so on a device that is as long
 pub still_storable : (n : MemberView) (old new : List ℕ) → length new ≡ length old → IsStorable n old → IsStorable n new
 still_storable n old new long s =
-    let same : sectors_of old ≡ sectors_of new = ap (λ (x : ℕ). x / 512) (sym long) in
+    let same : sectors_of_device old ≡ sectors_of_device new = ap (λ (x : ℕ). x / 512) (sym long) in
     record {
       long = subst (λ (x : ℕ). 16 ≤ x) same s.long;
       has = s.has;
-      placed = subst (λ (x : ℕ). IsPlaced x n.superblock (bitmap_sectors n.stored.chunks)) same s.placed;
+      placed = subst (λ (x : ℕ). AreAreasPlaced x n.superblock (bitmap_sectors n.stored.chunks)) same s.placed;
       few_chunks = s.few_chunks;
       room = s.room;
     }
@@ -135,8 +135,8 @@ still_storable n old new long s =
 -- All of the member but its data, beside these fields of the array, with this header.
 pub record HoldsMember (shared : Superblock) (n : MemberView) (h : BitmapHeader) (content : List ℕ) : Type 0 where
   pub block : block_on content ≡ (write_of shared n).bytes
-  pub log : has_bad_block_log n.superblock ≡ true → part content (512 * from_super n.superblock.bblog_offset) (512 * n.superblock.bblog_size) ≡ log_bytes n.bad (log_room n.superblock)
-  pub bitmap : HoldsBitmap content (from_super n.superblock.bitmap_offset) h n.stored
+  pub log : has_bad_block_log n.superblock ≡ true → part content (512 * sector_from_super n.superblock.bblog_offset) (512 * n.superblock.bblog_size) ≡ log_bytes n.bad (log_room n.superblock)
+  pub bitmap : HoldsBitmap content (sector_from_super n.superblock.bitmap_offset) h n.stored
 
 -- the log has so many bytes
 pub log_long : (n : MemberView) → HasRoomFor n.superblock n.bad → has_bad_block_log n.superblock ≡ true → length (log_bytes n.bad (log_room n.superblock)) ≡ 512 * n.superblock.bblog_size
@@ -164,7 +164,7 @@ module _ (a : ArrayView) (n : MemberView) (start : ℕ) (starts : BitmapStartsAt
   abbrev pub bitmap : Area
   bitmap = bitmap_area own width
 
-  pub bitmap_placed : BitmapIsPlaced (sectors_of old) own width
+  pub bitmap_placed : BitmapIsPlaced (sectors_of_device old) own width
   bitmap_placed = fit.placed.bitmap fit.has
 
   pub bitmap_room : 512 * (start + width) ≤ length old
@@ -182,29 +182,29 @@ module _ (a : ArrayView) (n : MemberView) (start : ℕ) (starts : BitmapStartsAt
 
   -- ---- the log
   module _ (there : has_bad_block_log own ≡ true) where
-    log_placed : LogIsPlaced (sectors_of old) own
+    log_placed : LogIsPlaced (sectors_of_device old) own
     log_placed = fit.placed.log there
 
-    pub log_at : (log_area own).start ≡ pos (from_super own.bblog_offset)
+    pub log_at : (log_area own).start ≡ pos (sector_from_super own.bblog_offset)
     log_at = sector_at_is (log_area own).start log_placed.within.from
 
-    log_fits : 512 * (from_super own.bblog_offset + own.bblog_size) ≤ length marked
-    log_fits = subst (λ (x : ℕ). 512 * (from_super own.bblog_offset + own.bblog_size) ≤ x) (sym marked_long)
-        (fits_on (log_area own).start (from_super own.bblog_offset) own.bblog_size (length old) (sym log_at) log_placed.within.to)
+    log_fits : 512 * (sector_from_super own.bblog_offset + own.bblog_size) ≤ length marked
+    log_fits = subst (λ (x : ℕ). 512 * (sector_from_super own.bblog_offset + own.bblog_size) ≤ x) (sym marked_long)
+        (fits_on (log_area own).start (sector_from_super own.bblog_offset) own.bblog_size (length old) (sym log_at) log_placed.within.to)
 
-    listed_is : listed ≡ written marked (from_super own.bblog_offset) (log_bytes n.bad (log_room own))
-    listed_is = ap (λ (b : Bool). after marked (if b then record { sector = from_super own.bblog_offset; bytes = log_bytes n.bad (log_room own) } ∷ [] else [])) there
+    listed_is : listed ≡ written marked (sector_from_super own.bblog_offset) (log_bytes n.bad (log_room own))
+    listed_is = ap (λ (b : Bool). after marked (if b then record { sector = sector_from_super own.bblog_offset; bytes = log_bytes n.bad (log_room own) } ∷ [] else [])) there
 
-    pub listed_outside : SameOutside (512 * from_super own.bblog_offset) (512 * own.bblog_size) marked listed
-    listed_outside = subst (SameOutside (512 * from_super own.bblog_offset) (512 * own.bblog_size) marked) (sym listed_is)
-        (spliced_outside marked (512 * from_super own.bblog_offset) (log_bytes n.bad (log_room own)) (512 * own.bblog_size) (sym (log_long n fit.room there)) (omega (arith, log_fits)))
+    pub listed_outside : SameOutside (512 * sector_from_super own.bblog_offset) (512 * own.bblog_size) marked listed
+    listed_outside = subst (SameOutside (512 * sector_from_super own.bblog_offset) (512 * own.bblog_size) marked) (sym listed_is)
+        (spliced_outside marked (512 * sector_from_super own.bblog_offset) (log_bytes n.bad (log_room own)) (512 * own.bblog_size) (sym (log_long n fit.room there)) (omega (arith, log_fits)))
 
-    listed_log : part listed (512 * from_super own.bblog_offset) (512 * own.bblog_size) ≡ log_bytes n.bad (log_room own)
-    listed_log = ap (λ (xs : List ℕ). part xs (512 * from_super own.bblog_offset) (512 * own.bblog_size)) listed_is
-        ∙ part-spliced marked (512 * from_super own.bblog_offset) (log_bytes n.bad (log_room own)) (512 * own.bblog_size) (sym (log_long n fit.room there)) (omega (arith, log_fits))
+    listed_log : part listed (512 * sector_from_super own.bblog_offset) (512 * own.bblog_size) ≡ log_bytes n.bad (log_room own)
+    listed_log = ap (λ (xs : List ℕ). part xs (512 * sector_from_super own.bblog_offset) (512 * own.bblog_size)) listed_is
+        ∙ part-spliced marked (512 * sector_from_super own.bblog_offset) (log_bytes n.bad (log_room own)) (512 * own.bblog_size) (sym (log_long n fit.room there)) (omega (arith, log_fits))
 
   pub unlisted : has_bad_block_log own ≡ false → listed ≡ marked
-  unlisted none = ap (λ (b : Bool). after marked (if b then record { sector = from_super own.bblog_offset; bytes = log_bytes n.bad (log_room own) } ∷ [] else [])) none
+  unlisted none = ap (λ (b : Bool). after marked (if b then record { sector = sector_from_super own.bblog_offset; bytes = log_bytes n.bad (log_room own) } ∷ [] else [])) none
 
   -- with a log or without
   pub by_log : {P : Type 0} → (has_bad_block_log own ≡ true → P) → (has_bad_block_log own ≡ false → P) → P
@@ -224,7 +224,7 @@ module _ (a : ArrayView) (n : MemberView) (start : ℕ) (starts : BitmapStartsAt
   block_new : block_on new ≡ (write_of shared n).bytes
   block_new = let long = listed_long in let enough = fit.long in part-spliced listed (512 * 8) (write_of shared n).bytes 4096 (sym readable.size) (omega arith)
 
-  log_new : has_bad_block_log own ≡ true → part new (512 * from_super own.bblog_offset) (512 * own.bblog_size) ≡ log_bytes n.bad (log_room own)
+  log_new : has_bad_block_log own ≡ true → part new (512 * sector_from_super own.bblog_offset) (512 * own.bblog_size) ≡ log_bytes n.bad (log_room own)
   log_new there =
       let log = log_placed there in
       log_stays super_area 8 refl listed new named own (apart_either_way super_area (log_area own) log.from_super) log.within.from ∙ listed_log there
@@ -239,7 +239,7 @@ module _ (a : ArrayView) (n : MemberView) (start : ℕ) (starts : BitmapStartsAt
 
   pub listed_holds : HoldsBitmap listed start h n.stored
   listed_holds = by_log
-      (λ there. bitmap_beside (log_area own) (from_super own.bblog_offset) (log_at there) (apart_either_way (log_area own) bitmap (bitmap_placed.from_log there)) marked listed (listed_outside there) marked_holds)
+      (λ there. bitmap_beside (log_area own) (sector_from_super own.bblog_offset) (log_at there) (apart_either_way (log_area own) bitmap (bitmap_placed.from_log there)) marked listed (listed_outside there) marked_holds)
       (λ none. subst (λ (xs : List ℕ). HoldsBitmap xs start h n.stored) (sym (unlisted none)) marked_holds)
 
   holds_new : HoldsBitmap new start h n.stored
@@ -260,10 +260,10 @@ module _ (a : ArrayView) (n : MemberView) (start : ℕ) (starts : BitmapStartsAt
   data_kept d =
       let at : List ℕ → Disk = λ xs. record d { content = xs } in
       data_then n (at old) (at marked) (at (after old (member_writes start h shared n)))
-      (data_beside_bitmap n (at old) (at marked) (sectors_of old) fit.placed fit.has start starts marks_outside)
+      (data_beside_bitmap n (at old) (at marked) (sectors_of_device old) fit.placed fit.has start starts marks_outside)
       (data_then n (at marked) (at listed) (at (after old (member_writes start h shared n)))
-      (by_log (λ there. data_beside_log n (at marked) (at listed) (sectors_of old) fit.placed there (listed_outside there)) (λ none. λ i m from to. ap (λ (xs : List ℕ). part xs i m) (unlisted none)))
-      (subst (λ (xs : List ℕ). KeepsData n (at listed) (at xs)) (sym in_order) (data_beside_super n (at listed) (at new) (sectors_of old) fit.placed named)))
+      (by_log (λ there. data_beside_log n (at marked) (at listed) (sectors_of_device old) fit.placed there (listed_outside there)) (λ none. λ i m from to. ap (λ (xs : List ℕ). part xs i m) (unlisted none)))
+      (subst (λ (xs : List ℕ). KeepsData n (at listed) (at xs)) (sym in_order) (data_beside_super n (at listed) (at new) (sectors_of_device old) fit.placed named)))
 
   -- all of it, once the writes are done
   pub holds_member : (content : List ℕ) → content ≡ after old (member_writes start h shared n) → HoldsMember shared n h content

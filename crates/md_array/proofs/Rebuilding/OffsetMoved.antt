@@ -7,9 +7,9 @@ use Rattle.md_assembly.specs.States.{has_recovery_offset, is_in_sync, is_recover
 use Rattle.md_assembly.proofs.Indices.{got_within}
 use Rattle.md_bitmap.specs.Marks.{is_set}
 use Rattle.md_device.specs.Splice.{SameOutside}
-use Rattle.md_kept_members.specs.TakingBack.{with_offset}
+use Rattle.md_kept_members.specs.TakingBack.{with_recovery_offset}
 use Rattle.md_kept_members.specs.View.{MemberView}
-use Rattle.md_members.specs.Areas.{BitmapIsPlaced, IsPlaced, LogIsPlaced}
+use Rattle.md_members.specs.Areas.{BitmapIsPlaced, AreAreasPlaced, LogIsPlaced}
 use Rattle.md_model.specs.Devices.{Stored}
 use Rattle.md_model.specs.Rebuilding as model
 use Rattle.md_model.specs.Sectors.{put}
@@ -59,7 +59,7 @@ module _ (offset : ℕ) (v : Superblock) where
   bitmap_at_offset : (sectors width : ℕ) → BitmapIsPlaced sectors v width → BitmapIsPlaced sectors (record v { recovery_offset = offset }) width
   bitmap_at_offset sectors width p = record { within = p.within; from_super = p.from_super; from_data = p.from_data; from_log = p.from_log }
 
-  placed_at_offset : (sectors width : ℕ) → IsPlaced sectors v width → IsPlaced sectors (record v { recovery_offset = offset }) width
+  placed_at_offset : (sectors width : ℕ) → AreAreasPlaced sectors v width → AreAreasPlaced sectors (record v { recovery_offset = offset }) width
   placed_at_offset sectors width p = record {
     some_size = p.some_size;
     data_holds = p.data_holds;
@@ -69,7 +69,7 @@ module _ (offset : ℕ) (v : Superblock) where
     bitmap = λ has. bitmap_at_offset sectors width (p.bitmap has);
   }
 
-pub near_at_offset : (offset : ℕ) (m : MemberView) → IsNear m (with_offset offset m)
+pub near_at_offset : (offset : ℕ) (m : MemberView) → IsNear m (with_recovery_offset offset m)
 near_at_offset offset m = record {
   places = record { number = refl; size = refl; has = refl; placed = placed_at_offset offset m.superblock; header = refl; chunks = refl; told = λ tells. tells };
   state = refl;
@@ -83,7 +83,7 @@ module _ (k offset had : ℕ) (old new : MirrorView) (c : IsConsistent old) (r :
   m = r.member
 
   abbrev n : MemberView
-  n = with_offset offset m
+  n = with_recovery_offset offset m
 
   same_disks : new.disks ≡ old.disks
   same_disks = ap (λ (v : MirrorView). v.disks) r.moved
@@ -162,13 +162,13 @@ set_again (z ∷ xs) (suc k) x y = ap (λ (ys : List _). z ∷ ys) (set_again xs
 pub moved_back : (k offset had again : ℕ) (old mid late new : MirrorView) (r : MovesOffset k offset had old mid) → late.array ≡ mid.array → MovesOffset k had again late new → new.array ≡ old.array
 moved_back k offset had again old mid late new r same back =
     let a = old.array in
-    let n = with_offset offset r.member in
+    let n = with_recovery_offset offset r.member in
     let low = slice_get_within a.members k r.member r.at in
     let mid_is : late.array ≡ with_offset_of a k r.member offset = same ∙ ap (λ (v : MirrorView). v.array) r.moved in
     let there : IsMember (with_offset_of a k r.member offset) k n = at_set_same a.members k n low in
     let member : back.member ≡ n = same_Some back.member n (sym back.at ∙ ap (λ (x : ArrayView). slice_get x.members k) mid_is ∙ there) in
-    let restored : with_offset had back.member ≡ r.member = ap (with_offset had) member ∙ ap (λ o. with_offset o r.member) r.had_is in
+    let restored : with_recovery_offset had back.member ≡ r.member = ap (with_recovery_offset had) member ∙ ap (λ o. with_recovery_offset o r.member) r.had_is in
     ap (λ (v : MirrorView). v.array) back.moved
-    ∙ ap (λ (x : ArrayView). record x { members = set x.members k (with_offset had back.member) }) mid_is
+    ∙ ap (λ (x : ArrayView). record x { members = set x.members k (with_recovery_offset had back.member) }) mid_is
     ∙ ap (λ (x : MemberView). record a { members = set (set a.members k n) k x }) restored
     ∙ ap (λ (xs : List MemberView). record a { members = xs }) (set_again a.members k n r.member ∙ set_itself a.members k r.member r.at)

@@ -16,14 +16,14 @@ use Rattle.md_model.proofs.Cases.{is_below}
 use Rattle.md_state.specs.Requests.{AreInFlight}
 use Rattle.md_state.specs.View.{ArrayView, Disk, MirrorView, geometry_of}
 use Rattle.md_super.specs.declared.superblock.Superblock.{Superblock}
-use Rattle.md_super.specs.Faults.{NoFault}
+use Rattle.md_super.specs.Faults.{NoSuperFault}
 use Rattle.md_super.specs.Format.{IsSuper}
 use Rattle.md_super.specs.Log.{has_bad_block_log}
 use Rattle.md_array.specs.Consistency.{IsConsistent}
 use Rattle.md_array.specs.Enrolments.{Prepares}
 use Rattle.md_array.specs.Events.{Happens, IsBesideArea, IsBesideMarks, IsSameBesideMarks}
 use Rattle.md_array.specs.ReadAsKept.{HasOwnSuper, IsReadAsKept}
-use Rattle.md_array.specs.Worlds.{AreHonest, block_on, from_super, is_listed, is_logged, stored_of, super_in, world_of}
+use Rattle.md_array.specs.Worlds.{AreHonest, block_on, sector_from_super, is_listed, is_logged, stored_of, super_in, world_of}
 use Rattle.md_array.proofs.Rebuilding.FilledEvent.{may_rebuild}
 use Rattle.md_array.proofs.Rebuilding.OneDevice.{IsOnlyAt, changed_only, only_does, only_left, only_world}
 use Rattle.md_array.proofs.Steps.OneMember.{stored_there}
@@ -49,8 +49,8 @@ module _ (a : ArrayView) (m : MemberView) (old new : List ℕ) (has : HasParts a
   beside_marks x s is apart_bitmap apart_log at n from to =
       let bitmap : Area = bitmap_area m.superblock (bitmap_sectors m.stored.chunks) in
       record {
-        bitmap = in_apart x bitmap s (from_super m.superblock.bitmap_offset) is (sector_at_is bitmap.start has.bitmap.within.from) apart_bitmap at n from to;
-        log = λ there. in_apart x (log_area m.superblock) s (from_super m.superblock.bblog_offset) is
+        bitmap = in_apart x bitmap s (sector_from_super m.superblock.bitmap_offset) is (sector_at_is bitmap.start has.bitmap.within.from) apart_bitmap at n from to;
+        log = λ there. in_apart x (log_area m.superblock) s (sector_from_super m.superblock.bblog_offset) is
             (sector_at_is (log_area m.superblock).start (has.placed.log there).within.from) (apart_log there) at n from to;
       }
 
@@ -82,14 +82,14 @@ module _ (a : ArrayView) (m : MemberView) (old new : List ℕ) (has : HasParts a
 
 -- ---- what an opening would read
 -- what is read by the superblock that is there, is read by another that places the log alike, and by the same shift
-listed_alike : (v w : Superblock) (content : List ℕ) (sector : ℕ) → IsSuper (block_on content) v → NoFault (block_on content)
+listed_alike : (v w : Superblock) (content : List ℕ) (sector : ℕ) → IsSuper (block_on content) v → NoSuperFault (block_on content)
     → v.bblog_size ≡ w.bblog_size → v.bblog_offset ≡ w.bblog_offset → (reads_log v ≡ true → v.bblog_shift ≡ w.bblog_shift) → is_listed v content sector ≡ is_listed w content sector
 unfolding is_listed
 listed_alike v w content sector fields sound size offset shift =
-    let by_v = is_logged content (from_super v.bblog_offset) v.bblog_size v.bblog_shift sector in
-    let by_w = is_logged content (from_super w.bblog_offset) w.bblog_size w.bblog_shift sector in
+    let by_v = is_logged content (sector_from_super v.bblog_offset) v.bblog_size v.bblog_shift sector in
+    let by_w = is_logged content (sector_from_super w.bblog_offset) w.bblog_size w.bblog_shift sector in
     ap (λ b. b && by_v) (bit_read v v content fields sound)
-    ∙ and_same (reads_log v) by_v by_w (λ on. λ i. is_logged content (from_super (offset i)) (size i) (shift on i) sector)
+    ∙ and_same (reads_log v) by_v by_w (λ on. λ i. is_logged content (sector_from_super (offset i)) (size i) (shift on i) sector)
     ∙ (λ i. (has_bad_blocks v && (not (size i == 0) && not (int_eq (offset i) (pos 0)))) && by_w)
     ∙ sym (ap (λ b. b && by_w) (bit_read w v content fields sound))
 

@@ -10,7 +10,7 @@ use Rattle.md_assembly.specs.States.{is_in_sync, role_in, takes_role}
 use Rattle.md_assembly.proofs.Indices.{got_within}
 use Rattle.md_kept_members.specs.Members.{made_due}
 use Rattle.md_kept_members.specs.View.{MemberView}
-use Rattle.md_state.specs.InMemory.{HasChunks, HasRoles}
+use Rattle.md_state.specs.InMemory.{HasMarksOfSize, HasRoles}
 use Rattle.md_state.specs.Joining.{joined_shared}
 use Rattle.md_state.specs.Members.{IsMember, is_degraded, IsInSync}
 use Rattle.md_state.specs.Rising.{risen}
@@ -104,7 +104,7 @@ module _ (disks now : List Disk) (a : ArrayView) (c : IsConsistent (record { dis
     serving = λ _. serves;
   }
 
-  pub chunks_taken : HasChunks b
+  pub chunks_taken : HasMarksOfSize b
   chunks_taken = record {
     size = u.chunks.size;
     count = u.chunks.count;

@@ -14,7 +14,7 @@ use Rattle.md_state.specs.DiskWrites.{IsFailed}
 use Rattle.md_state.specs.View.{ArrayView, Disk, MirrorView, geometry_of}
 use Rattle.md_device_writes.specs.Writes.{Write}
 use Rattle.md_array.specs.Consistency.{IsConsistent}
-use Rattle.md_array.specs.Events.{Happens, HasFailed}
+use Rattle.md_array.specs.Events.{Happens, HasWriteFailed}
 use Rattle.md_array.specs.ReadAsKept.{IsReadAsKept}
 use Rattle.md_array.specs.Spoiling.{SpoilsTarget}
 use Rattle.md_array.specs.Worlds.{block_on, kind_of, stored_of, super_in, world_of}
@@ -25,8 +25,8 @@ use Rattle.md_array.proofs.Steps.TargetUnrecorded.{rebuilt_recorded}
 use Rattle.md_array.proofs.Worlds.Failed.{there_is}
 use Rattle.md_array.proofs.Worlds.PartsApart.{HasParts, header_beside_super, parts_of, super_alone}
 
--- what is told of a stop within it is left out
-pub has_failed : (k : ℕ) (w : Write) (before after : List Disk) → IsFailed k w before after → HasFailed k w before after
+-- what is told of a crash within it is left out
+pub has_failed : (k : ℕ) (w : Write) (before after : List Disk) → IsFailed k w before after → HasWriteFailed k w before after
 has_failed k w before after is = record { tried = is.tried; failed = is.failed }
 
 module _ (k : ℕ) (old new : MirrorView) (c : IsConsistent old) (f : SpoilsTarget k old new) where

@@ -10,7 +10,7 @@ use Rattle.md_kept_members.specs.View.{MemberView}
 use Rattle.md_kept_members.specs.Members.{made_due}
 use Rattle.md_state.specs.View.{ArrayView, Disk, MirrorView}
 use Rattle.md_state.specs.Members.{IsInSync, IsMember, is_degraded}
-use Rattle.md_state.specs.InMemory.{HasChunks, HasRoles}
+use Rattle.md_state.specs.InMemory.{HasMarksOfSize, HasRoles}
 use Rattle.md_state.specs.DiskWrites.{IsTried}
 use Rattle.md_state.specs.Rising.{Fails, Halts, made_faulty, risen, without}
 use Rattle.md_state.specs.Requests.{IsPending, lacks}
@@ -73,7 +73,7 @@ module _ (a : ArrayView) (k : ℕ) (m : MemberView) (at : IsMember a k m) where
     serving = λ running. (o, n, record { member = got_other a.members k o (made_faulty m) apart ∙ in_sync.member; in_sync = in_sync.in_sync });
   }
 
-  chunks_without : HasChunks a → HasChunks b
+  chunks_without : HasMarksOfSize a → HasMarksOfSize b
   chunks_without h = record {
     size = h.size;
     count = h.count;

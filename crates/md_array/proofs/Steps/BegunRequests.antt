@@ -19,7 +19,7 @@ use Rattle.md_requests.specs.declared.extent.Extent.{Extent}
 use Rattle.md_state.specs.View.{Disk, ArrayView, MirrorView, geometry_of}
 use Rattle.md_state.specs.Members.{clean_offset, is_degraded}
 use Rattle.md_state.specs.Requests.{AreInFlight, AreInside, IsPending, among, lacks, request_of}
-use Rattle.md_state.specs.Beginning.{Begins, HasMarked, IsInRange, active_offset, counted, has_sector_of, has_to_rise, with_request}
+use Rattle.md_state.specs.Beginning.{Begins, HasMarked, IsInRange, active_offset, array_after_rise, has_sector_of, has_to_rise, with_request}
 use Rattle.md_array.specs.Consistency.{IsConsistent}
 use Rattle.md_array.specs.Events.{BeginHappens}
 use Rattle.md_array.specs.Worlds.{AreHonest, world_of, world_on}
@@ -139,43 +139,43 @@ module _ (sector : ℕ) (bytes : List ℕ) (old new : MirrorView) (c : IsConsist
   begun_request = record { ticket = record { name = a.requests.name; number = number }; sector = sector; bytes = bytes; written = [] }
 
   module _ (p : PendingView) (begins : Begins sector bytes old new p) where
-    range : IsInRange (counted a) sector sectors
+    range : IsInRange (array_after_rise a) sector sectors
     range = range_counted a full sector sectors (has_to_rise a) begins.may.range
 
-    marked : HasMarked (counted a) sector sectors new.array.marks
+    marked : HasMarked (array_after_rise a) sector sectors new.array.marks
     marked = marked_counted a full sector sectors new.array.marks (has_to_rise a) begins.marked
 
-    counted_consistent : IsConsistent (record { disks = old.disks; array = counted a })
+    counted_consistent : IsConsistent (record { disks = old.disks; array = array_after_rise a })
     counted_consistent = counted_is_consistent a full old.disks (has_to_rise a) c
 
     abbrev after : MirrorView
-    after = record { disks = old.disks; array = with_request (counted a) sector sectors new.array.marks }
+    after = record { disks = old.disks; array = with_request (array_after_rise a) sector sectors new.array.marks }
 
     is_after : new ≡ after
-    is_after = same_mirror new old.disks (with_request (counted a) sector sectors new.array.marks) begins.disks begins.array
+    is_after = same_mirror new old.disks (with_request (array_after_rise a) sector sectors new.array.marks) begins.disks begins.array
 
     pub begun_is_consistent : IsConsistent new
-    begun_is_consistent = subst IsConsistent (sym is_after) (entered_is_consistent old.disks (counted a) counted_consistent sector sectors new.array.marks range marked)
+    begun_is_consistent = subst IsConsistent (sym is_after) (entered_is_consistent old.disks (array_after_rise a) counted_consistent sector sectors new.array.marks range marked)
 
     pub begun_keeps_pending : (q : PendingView) → IsPending a q → IsPending new.array q
     begun_keeps_pending q is = subst (λ (x : ArrayView). IsPending x q) (sym begins.array)
-        (entered_keeps_pending old.disks (counted a) counted_consistent sector sectors new.array.marks range marked q (counted_keeps_pending a full q (has_to_rise a) is))
+        (entered_keeps_pending old.disks (array_after_rise a) counted_consistent sector sectors new.array.marks range marked q (counted_keeps_pending a full q (has_to_rise a) is))
 
-    same_requests : (counted a).requests ≡ a.requests
+    same_requests : (array_after_rise a).requests ≡ a.requests
     same_requests = same_if a full (λ x. x.requests) refl (has_to_rise a)
 
-    same_number : number ≡ (counted a).requests.next
+    same_number : number ≡ (array_after_rise a).requests.next
     same_number = ap (λ (x : InflightList Extent). x.next) (sym same_requests)
 
-    same_name : a.requests.name ≡ (counted a).requests.name
+    same_name : a.requests.name ≡ (array_after_rise a).requests.name
     same_name = ap (λ (x : InflightList Extent). x.name) (sym same_requests)
 
-    counted_fresh : lookup (counted a).requests.entries (counted a).requests.next ≡ None
+    counted_fresh : lookup (array_after_rise a).requests.entries (array_after_rise a).requests.next ≡ None
     counted_fresh = subst (λ (x : InflightList Extent). lookup x.entries x.next ≡ None) (sym same_requests) begins.fresh
 
-    found_there : lookup (with_request (counted a) sector sectors new.array.marks).requests.entries number ≡ Some (record { start = sector; sectors = sectors })
-    found_there = ap (λ x. lookup (with_request (counted a) sector sectors new.array.marks).requests.entries x) same_number
-        ∙ found_last (counted a).requests.next (record { start = sector; sectors = sectors }) (counted a).requests.entries counted_fresh
+    found_there : lookup (with_request (array_after_rise a) sector sectors new.array.marks).requests.entries number ≡ Some (record { start = sector; sectors = sectors })
+    found_there = ap (λ x. lookup (with_request (array_after_rise a) sector sectors new.array.marks).requests.entries x) same_number
+        ∙ found_last (array_after_rise a).requests.next (record { start = sector; sectors = sectors }) (array_after_rise a).requests.entries counted_fresh
 
     pub begun_is_pending : length bytes % 512 ≡ 0 → IsPending new.array p
     begun_is_pending whole = subst (IsPending new.array) (sym begins.pending) (subst (λ (x : ArrayView). IsPending x begun_request) (sym begins.array) (record {
@@ -183,7 +183,7 @@ module _ (sector : ℕ) (bytes : List ℕ) (old new : MirrorView) (c : IsConsist
       extent = found_there;
       whole = whole;
       room =
-          let least = count_by-le-length (lacks begun_request) (counted a).members in
+          let least = count_by-le-length (lacks begun_request) (array_after_rise a).members in
           let few = counted_consistent.roles.few in
           omega arith;
     }))
@@ -205,7 +205,7 @@ module _ (sector : ℕ) (bytes : List ℕ) (old new : MirrorView) (c : IsConsist
         unwritten = λ d. refl;
       }
 
-      same_geometry : geometry_of (counted a) ≡ geometry_of a
+      same_geometry : geometry_of (array_after_rise a) ≡ geometry_of a
       same_geometry = same_if a full geometry_of refl (has_to_rise a)
 
       new_geometry : geometry_of new.array ≡ geometry_of a
@@ -214,7 +214,7 @@ module _ (sector : ℕ) (bytes : List ℕ) (old new : MirrorView) (c : IsConsist
       world_begun : world_of new (among begun_request others) ≡ begun (geometry_of a) (world_of old others) number r (has_to_rise a) full
       world_begun =
           ap (λ (v : MirrorView). world_of v (among begun_request others)) is_after
-          ∙ world_entered old.disks (counted a) counted_consistent sector sectors new.array.marks range marked number r refl refl others
+          ∙ world_entered old.disks (array_after_rise a) counted_consistent sector sectors new.array.marks range marked number r refl refl others
           ∙ (λ i. entered (same_geometry i) (world_counted a full old.disks others (has_to_rise a) i) number r)
 
       still_full : is_degraded new.array ≡ is_degraded a
@@ -231,7 +231,7 @@ module _ (sector : ℕ) (bytes : List ℕ) (old new : MirrorView) (c : IsConsist
 
       in_flight_after : AreInFlight new.array (among begun_request others)
       in_flight_after = subst (λ (x : ArrayView). AreInFlight x (among begun_request others)) (sym begins.array)
-          (entered_in_flight old.disks (counted a) counted_consistent sector sectors new.array.marks range marked number r refl refl others same_number counted_fresh
+          (entered_in_flight old.disks (array_after_rise a) counted_consistent sector sectors new.array.marks range marked number r refl refl others same_number counted_fresh
           (subst (λ (x : InflightList Extent). (n : ℕ) (q : worlds.Request) → others n ≡ Some q → lookup x.entries n ≡ Some (record { start = q.start; sectors = q.sectors })) (sym same_requests) listed))
 
     same_begun : IsSameArray a new.array

@@ -10,7 +10,7 @@ use Rattle.std.proofs.lemmas.Option.{same_Some}
 use Rattle.md_device.specs.Splice.{SameOutside}
 use Rattle.md_format.specs.Fields.{number_at}
 use Rattle.md_super.specs.declared.superblock.Superblock.{Superblock}
-use Rattle.md_super.specs.Faults.{NoFault}
+use Rattle.md_super.specs.Faults.{NoSuperFault}
 use Rattle.md_super.specs.Log.{has_bad_block_log}
 use Rattle.md_super.specs.Merge.{merged}
 use Rattle.md_bitmap.specs.Marks.{Bitmap, is_set}
@@ -21,12 +21,12 @@ use Rattle.md_members.specs.Reading.{BitmapStartsAt}
 use Rattle.md_model.specs.Devices.{Stored, Super, is_accepted}
 use Rattle.md_model.proofs.Cases.{is_below}
 use Rattle.md_kept_members.specs.OwnFields.{kept_superblock}
-use Rattle.md_kept_members.specs.TakingBack.{IsTakenBack, recovering}
+use Rattle.md_kept_members.specs.TakingBack.{IsKeptTakenBack, recovering}
 use Rattle.md_kept_members.specs.View.{MemberView}
 use Rattle.md_state.specs.View.{ArrayView}
 use Rattle.md_array.specs.ReadAsKept.{HasWidth, IsReadAsKept, chunk_size_on}
 use Rattle.md_array.specs.Recording.{IsReadable, super_write}
-use Rattle.md_array.specs.Worlds.{block_on, from_super, is_listed, is_listed_next, is_logged, list_bit, stored_of, super_in, super_of, header_on, lies_in}
+use Rattle.md_array.specs.Worlds.{block_on, sector_from_super, is_listed, is_listed_next, is_logged, list_bit, stored_of, super_in, super_of, header_on, lies_in}
 use Rattle.md_array.proofs.General.Tests.{and_same}
 use Rattle.md_array.proofs.Steps.SuperRecorded.{listed_written, lists_alike, readable_super}
 use Rattle.md_array.proofs.Worlds.Bad as bad
@@ -49,27 +49,27 @@ module _ (offset : ℕ) (v : Superblock) (content : List ℕ) (sector : ℕ) whe
   listed_recovering : is_listed (recovering offset v) content sector ≡ is_listed v content sector
   unfolding is_listed
   listed_recovering =
-      ap (λ b. (b && has_bad_block_log v) && is_logged content (from_super v.bblog_offset) v.bblog_size v.bblog_shift sector)
+      ap (λ b. (b && has_bad_block_log v) && is_logged content (sector_from_super v.bblog_offset) v.bblog_size v.bblog_shift sector)
       (same_list_bit (block_on content) (super_in (block_on content)))
 
   next_recovering : is_listed_next (recovering offset v) content sector ≡ is_listed_next v content sector
   unfolding is_listed_next
-  next_recovering = ap (λ b. (b && has_bad_block_log v) && is_logged content (from_super v.bblog_offset) v.bblog_size v.bblog_shift sector) same_bad_blocks
+  next_recovering = ap (λ b. (b && has_bad_block_log v) && is_logged content (sector_from_super v.bblog_offset) v.bblog_size v.bblog_shift sector) same_bad_blocks
 
 -- ---- as it was read
-module _ (content : List ℕ) (offset : ℕ) (info : MemberInfo) (m : MemberView) (taken : IsTakenBack offset info m) (read : members.IsMember content true info) where
+module _ (content : List ℕ) (offset : ℕ) (info : MemberInfo) (m : MemberView) (taken : IsKeptTakenBack offset info m) (read : members.IsReadMember content true info) where
   abbrev kept : Superblock
   kept = kept_superblock info
 
   abbrev start : ℕ
-  start = from_super kept.bitmap_offset
+  start = sector_from_super kept.bitmap_offset
 
   -- what is listed is what will be listed
   listed_there : (sector : ℕ) → is_listed m.superblock content sector ≡ is_listed_next m.superblock content sector
   listed_there sector =
       let v = info.superblock in
       let fields = block_spells content v read.superblock in
-      let sound = subst NoFault (read.superblock.read.from_device refl) read.superblock.sound in
+      let sound = subst NoSuperFault (read.superblock.read.from_device refl) read.superblock.sound in
       ap (λ (own : Superblock). is_listed own content sector) taken.superblock
       ∙ listed_recovering offset kept content sector
       ∙ listed_kept_of content v info.bad fields sound sector
@@ -90,11 +90,11 @@ module _ (content : List ℕ) (offset : ℕ) (info : MemberInfo) (m : MemberView
       ∙ ap (λ (n : ℕ). n / 512) (sym (header_there content kept m.header start has_read.bitmap.header starts).chunksize)
       ∙ width
 
-  pub bits_there : (c : ℕ) → c < m.stored.chunks → is_set (drop (512 * from_super m.superblock.bitmap_offset + 256) content) c ≡ is_set m.stored.bytes c
+  pub bits_there : (c : ℕ) → c < m.stored.chunks → is_set (drop (512 * sector_from_super m.superblock.bitmap_offset + 256) content) c ≡ is_set m.stored.bytes c
   bits_there c low =
       let same : has_read.stored ≡ m.stored = same_Some has_read.stored m.stored (sym has_read.stored_is ∙ taken.stored) in
       let holds = (holds_read content kept m.header has_read.stored start has_read.bitmap starts).bits in
-      ap (λ (own : Superblock). is_set (drop (512 * from_super own.bitmap_offset + 256) content) c) taken.superblock
+      ap (λ (own : Superblock). is_set (drop (512 * sector_from_super own.bitmap_offset + 256) content) c) taken.superblock
       ∙ subst (λ (b : Bitmap). c < b.chunks → is_set (drop (512 * start + 256) content) c ≡ is_set b.bytes c) same (holds c) low
 
   -- what its log lists is the list that is kept
@@ -102,7 +102,7 @@ module _ (content : List ℕ) (offset : ℕ) (info : MemberInfo) (m : MemberView
   listed_is_bad sector =
       let v = info.superblock in
       let fields = block_spells content v read.superblock in
-      let sound = subst NoFault (read.superblock.read.from_device refl) read.superblock.sound in
+      let sound = subst NoSuperFault (read.superblock.read.from_device refl) read.superblock.sound in
       let as_read = bad.listed_as_read content v info.bad sector read.bad in
       ap (λ (own : Superblock). is_listed own content sector) taken.superblock
       ∙ listed_recovering offset kept content sector
@@ -117,9 +117,9 @@ module _ (content : List ℕ) (offset : ℕ) (info : MemberInfo) (m : MemberView
   accepted_taken a h has acc super uuid size =
       let same : h ≡ m.header = same_Some h m.header (sym has ∙ taken.header) in
       let there = header_there content kept m.header start has_read.bitmap.header starts in
-      let at : from_super m.superblock.bitmap_offset ≡ start = ap (λ (own : Superblock). from_super own.bitmap_offset) taken.superblock in
+      let at : sector_from_super m.superblock.bitmap_offset ≡ start = ap (λ (own : Superblock). sector_from_super own.bitmap_offset) taken.superblock in
       accepted_by a m (super_of info.superblock) content h super
-      (subst (λ (x : BitmapHeader). IsHeader (header_on content (from_super m.superblock.bitmap_offset)) x) (sym same) (subst (λ i. IsHeader (header_on content i) m.header) (sym at) there))
+      (subst (λ (x : BitmapHeader). IsHeader (header_on content (sector_from_super m.superblock.bitmap_offset)) x) (sym same) (subst (λ i. IsHeader (header_on content i) m.header) (sym at) there))
       (acc.uuid ∙ uuid) (acc.size ∙ size) acc.state acc.events
 
   -- ---- and once its superblock is written

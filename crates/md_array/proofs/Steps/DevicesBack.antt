@@ -20,9 +20,9 @@ use Rattle.md_kept_members.specs.View.{MemberView}
 use Rattle.md_state.specs.Missing.{is_rebuilt}
 use Rattle.md_state.specs.View.{ArrayView, Disk, MirrorView}
 use Rattle.md_array.specs.Consistency.{HasPlaces, HasSuper, IsConsistent}
-use Rattle.md_array.specs.Lending.{AreBack, ComesBack, IsBesideChunk}
+use Rattle.md_array.specs.Lending.{AreBack, ComesBackFromLoan, IsBesideChunk}
 use Rattle.md_array.specs.ReadAsKept.{AreReadAsKept, IsReadAsKept}
-use Rattle.md_array.specs.Worlds.{block_on, from_super, header_on, is_listed, is_listed_next, super_in}
+use Rattle.md_array.specs.Worlds.{block_on, sector_from_super, header_on, is_listed, is_listed_next, super_in}
 use Rattle.md_array.proofs.Steps.OneMember.{fits_like, like_itself}
 use Rattle.md_array.proofs.Worlds.Listed.{IsLogKept}
 use Rattle.md_array.proofs.Worlds.Outside.{apart_either_way, sector_at_is}
@@ -106,7 +106,7 @@ module _ (old : MirrorView) (before after : List Disk) (b : AreBack old before a
             same_super m d.0 e (back.others (unrebuilt m.state in_sync)) (c.supers running k d.0 m d.1 at_member in_sync (sym back.stays.honest ∙ honest));
       }
 
-  module _ (m : MemberView) (d e : Disk) (back : ComesBack a m d e) (has : HasParts a m d.content) where
+  module _ (m : MemberView) (d e : Disk) (back : ComesBackFromLoan a m d e) (has : HasParts a m d.content) where
     -- bytes that lie beside the data are as they were
     pub beside : (at n : ℕ) → (at + n ≤ 512 * m.superblock.data_offset) ⊎ (512 * (m.superblock.data_offset + a.chunks.size) ≤ at) → part e.content at n ≡ part d.content at n
     beside at n out = back.beside at n (λ c low missing.
@@ -128,14 +128,14 @@ module _ (old : MirrorView) (before after : List Disk) (b : AreBack old before a
     pub log_back : IsLogKept m.superblock d.content e.content
     log_back there =
         let log = has.placed.log there in
-        in_area (log_area m.superblock) (from_super m.superblock.bblog_offset) (sector_at_is (log_area m.superblock).start log.within.from) log.from_data
-        (512 * from_super m.superblock.bblog_offset) (512 * m.superblock.bblog_size) (omega arith) (omega arith)
+        in_area (log_area m.superblock) (sector_from_super m.superblock.bblog_offset) (sector_at_is (log_area m.superblock).start log.within.from) log.from_data
+        (512 * sector_from_super m.superblock.bblog_offset) (512 * m.superblock.bblog_size) (omega arith) (omega arith)
 
-    pub header_back : header_on e.content (from_super m.superblock.bitmap_offset) ≡ header_on d.content (from_super m.superblock.bitmap_offset)
+    pub header_back : header_on e.content (sector_from_super m.superblock.bitmap_offset) ≡ header_on d.content (sector_from_super m.superblock.bitmap_offset)
     header_back =
         let width : ℕ = bitmap_sectors m.stored.chunks in
         let some = div_ceil_times (256 + div_ceil m.stored.chunks 8) 512 (omega arith) in
-        let start : ℕ = from_super m.superblock.bitmap_offset in
+        let start : ℕ = sector_from_super m.superblock.bitmap_offset in
         in_area (bitmap_area m.superblock width) start (sector_at_is (bitmap_area m.superblock width).start has.bitmap.within.from) has.bitmap.from_data (512 * start) 256 (omega arith) (omega (arith, some.0))
 
     pub read_back : (failed_at : ℕ) (is_spoiled : Bool) → IsReadAsKept a m failed_at is_spoiled d.content → IsReadAsKept a m failed_at is_spoiled e.content

@@ -2,7 +2,7 @@
 use Rattle.std.proofs.Common.{slice_get, ◌≡◌, ◌≢◌, ℕ, true, false, not, ◌==◌, List, Option, Some, None, refl, sym, ap, ◌∙◌, subst}
 use Rattle.std.proofs.lemmas.Bool.{eqb-true, ne_eqb}
 use Rattle.std.proofs.lemmas.Map.Entries.{lookup-filter-keys}
-use Rattle.md_inflight.specs.Inflight.{InflightList, lookup, without}
+use Rattle.md_inflight.specs.Inflight.{InflightList, lookup, entries_without}
 use Rattle.md_inflight.proofs.Numbers.{belongs_without}
 use Rattle.md_model.specs.Events.{Event, Step}
 use Rattle.md_model.specs.Sectors.{put}
@@ -25,18 +25,18 @@ use Rattle.md_array.proofs.Worlds.Shown.{at_is}
 
 -- ---- the list without a number
 module _ {T : Type 0} (entries : List (ℕ × T)) (number : ℕ) where
-  others_stay : (other : ℕ) → other ≢ number → lookup (without entries number) other ≡ lookup entries other
+  others_stay : (other : ℕ) → other ≢ number → lookup (entries_without entries number) other ≡ lookup entries other
   others_stay other apart =
       lookup-filter-keys (λ k. k == other) (λ k. not (k == number)) true
       (λ k here. ap not (ne_eqb k number (λ there. apart (sym (eqb-true k other here) ∙ there)))) entries
 
-  it_goes : lookup (without entries number) number ≡ None
+  it_goes : lookup (entries_without entries number) number ≡ None
   it_goes = lookup-filter-keys (λ k. k == number) (λ k. not (k == number)) false (λ k here. ap not here) entries
 
   -- whatever is left was there
-  was_there : (other : ℕ) (item : T) → lookup (without entries number) other ≡ Some item → lookup entries other ≡ Some item
+  was_there : (other : ℕ) (item : T) → lookup (entries_without entries number) other ≡ Some item → lookup entries other ≡ Some item
   was_there other item left = by_same other number
-      (λ same. absurd (none_some item (sym it_goes ∙ ap (lookup (without entries number)) (sym same) ∙ left)))
+      (λ same. absurd (none_some item (sym it_goes ∙ ap (lookup (entries_without entries number)) (sym same) ∙ left)))
       (λ apart. sym (others_stay other apart) ∙ left)
 
 -- another list of requests, which lie within the array too
@@ -70,7 +70,7 @@ with_requests v list inside c = record {
 
 module _ (old new : MirrorView) (p : PendingView) (f : Finishes old new p) where
   abbrev list : InflightList Extent
-  list = record old.array.requests { entries = without old.array.requests.entries p.ticket.number }
+  list = record old.array.requests { entries = entries_without old.array.requests.entries p.ticket.number }
 
   left : new ≡ record old { array = record old.array { requests = list } }
   left = λ i. record { disks = f.disks i; array = f.array i }

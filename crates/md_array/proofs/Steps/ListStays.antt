@@ -15,7 +15,7 @@ use Rattle.md_state.specs.Missing.{is_rebuilt}
 use Rattle.md_state.specs.View.{ArrayView, Disk, MirrorView}
 use Rattle.md_array.specs.Consistency.{IsConsistent}
 use Rattle.md_array.specs.Events.{ListsIn, ListsStill}
-use Rattle.md_array.specs.Worlds.{from_super, is_listed, is_listed_next, is_logged, kind_of, lies_in, lists_of, reads_log_on, world_of}
+use Rattle.md_array.specs.Worlds.{sector_from_super, is_listed, is_listed_next, is_logged, kind_of, lies_in, lists_of, reads_log_on, world_of}
 use Rattle.md_array.proofs.Steps.OneMember.{member_there, stored_there}
 
 target_rebuilt : (s : MemberState) → is_target (kind_of s) ≡ true → is_rebuilt s ≡ true
@@ -29,7 +29,7 @@ target_rebuilt Faulty e = absurd cc
 listed_logged : (own : Superblock) (content : List ℕ) (sector : ℕ) → reads_log own ≡ true → is_listed own content sector ≡ true → is_listed_next own content sector ≡ true
 unfolding is_listed is_listed_next
 listed_logged own content sector reads listed =
-    let logged : Bool = is_logged content (from_super own.bblog_offset) own.bblog_size own.bblog_shift sector in
+    let logged : Bool = is_logged content (sector_from_super own.bblog_offset) own.bblog_size own.bblog_shift sector in
     and_from (reads_log own) logged reads (and_parts (reads_log_on own content) logged listed).1
 
 -- Member k was o on the device d, and is n on e, with the same list.

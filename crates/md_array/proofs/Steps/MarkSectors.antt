@@ -34,7 +34,7 @@ use Rattle.md_state.specs.Requests.{IsPending}
 use Rattle.md_array.specs.Consistency.{HasPlaces, HasSuper, IsConsistent}
 use Rattle.md_array.specs.ReadAsKept.{HasWidth, IsReadAsKept}
 use Rattle.md_array.specs.Events.{Happens}
-use Rattle.md_array.specs.Worlds.{block_on, from_super, header_on, kind_of, stored_of, super_in, world_of}
+use Rattle.md_array.specs.Worlds.{block_on, sector_from_super, header_on, kind_of, stored_of, super_in, world_of}
 use Rattle.md_array.proofs.General.Honesty.{tried_honest}
 use Rattle.md_array.proofs.Worlds.Listed.{still_next, still_known}
 use Rattle.md_array.proofs.Steps.OneMember.{ChangesMember, changed_in_flight, changed_is_consistent, changed_is_pending, changed_world, member_there, stored_there}
@@ -109,7 +109,7 @@ module _ (k block : ℕ) (old new : MirrorView) (is : IsConsistent old) (low : b
   h = r.may.write.header
 
   abbrev start : ℕ
-  start = from_super m.superblock.bitmap_offset
+  start = sector_from_super m.superblock.bitmap_offset
 
   count : m.stored.chunks ≡ a.marks.chunks
   count = is.chunks.member_count k m r.may.in_sync.member

@@ -14,7 +14,7 @@ use Rattle.md_state.specs.Members.{IsMember}
 use Rattle.md_state.specs.StoringMarks.{FailsToStoreMarks}
 use Rattle.md_array.specs.Consistency.{IsConsistent}
 use Rattle.md_array.specs.Events.{Happens}
-use Rattle.md_array.specs.Worlds.{from_super, stored_of, world_of, world_on}
+use Rattle.md_array.specs.Worlds.{sector_from_super, stored_of, world_of, world_on}
 use Rattle.md_array.proofs.Steps.OneMember.{stored_there}
 use Rattle.md_array.proofs.Worlds.PartsApart.{bits_elsewhere, block_beside_marks, events_elsewhere, fits_elsewhere, log_beside_marks, marks_alone, parts_of}
 use Rattle.md_array.proofs.Worlds.ReadAsKept.{own_stays}
@@ -34,7 +34,7 @@ module _ (k block : ℕ) (old new : MirrorView) (c : IsConsistent old) (f : Fail
   w = f.write
 
   abbrev first : ℕ
-  first = from_super m.superblock.bitmap_offset
+  first = sector_from_super m.superblock.bitmap_offset
 
   abbrev at : IsMember a k m
   at = f.may.in_sync.member

@@ -23,14 +23,14 @@ use Rattle.md_members.specs.declared.fault.MemberFault.{MemberFault}
 use Rattle.md_members.specs.declared.fault.MemberFault.TheVariants as member_fault
 use Rattle.md_members.specs.declared.info.MemberInfo.{MemberInfo}
 use Rattle.md_members.specs.Members as members
-use Rattle.md_members.specs.Areas.{BitmapIsPlaced, IsPlaced, LogIsPlaced, bitmap_sectors, has_bitmap}
-use Rattle.md_members.specs.Members.{HasBitmap, reads_log, sectors_of}
+use Rattle.md_members.specs.Areas.{BitmapIsPlaced, AreAreasPlaced, LogIsPlaced, bitmap_sectors, has_bitmap}
+use Rattle.md_members.specs.Members.{HasBitmap, reads_log, sectors_of_device}
 use Rattle.md_assembly.specs.declared.state.MemberState.{MemberState}
 use Rattle.md_assembly.specs.States.{is_in_sync}
 use Rattle.md_device_writes.specs.Writes.{DoesWrites, FailsInWrites}
 use Rattle.md_requests.specs.Pending.{PendingView, has_written}
 use Rattle.md_kept_members.specs.OwnFields.{kept_superblock}
-use Rattle.md_kept_members.specs.TakingBack.{IsTakenBack, own_role, recovering}
+use Rattle.md_kept_members.specs.TakingBack.{IsKeptTakenBack, own_role, recovering}
 use Rattle.md_kept_members.specs.View.{MemberView}
 use Rattle.md_kept_members.specs.Members.{made_due}
 use Rattle.md_faults.specs.declared.re_add_fault.ReAddFault.{ReAddFault}
@@ -66,7 +66,7 @@ module _ (offset : ℕ) (v : Superblock) where
   recovering_marks : (sectors width : ℕ) → BitmapIsPlaced sectors v width → BitmapIsPlaced sectors (recovering offset v) width
   recovering_marks sectors width p = record { within = p.within; from_super = p.from_super; from_data = p.from_data; from_log = p.from_log }
 
-  pub recovering_placed : (sectors width : ℕ) → IsPlaced sectors v width → IsPlaced sectors (recovering offset v) width
+  pub recovering_placed : (sectors width : ℕ) → AreAreasPlaced sectors v width → AreAreasPlaced sectors (recovering offset v) width
   recovering_placed sectors width p = record {
     some_size = p.some_size;
     data_holds = p.data_holds;
@@ -77,7 +77,7 @@ module _ (offset : ℕ) (v : Superblock) where
   }
 
 -- the number of a device that has a role is below the entries of a superblock
-pub small_number : (disks : ℕ) (content : List ℕ) (honest : Bool) (info : MemberInfo) → disks ≤ 32 → members.IsMember content honest info → own_role info.superblock < disks → info.superblock.dev_number < 1920
+pub small_number : (disks : ℕ) (content : List ℕ) (honest : Bool) (info : MemberInfo) → disks ≤ 32 → members.IsReadMember content honest info → own_role info.superblock < disks → info.superblock.dev_number < 1920
 small_number disks content honest info few read low =
     let v = info.superblock in
     let is = read.superblock in
@@ -93,7 +93,7 @@ record ReadsBitmapOf (content : List ℕ) (info : MemberInfo) (m : MemberView) :
   has : has_bitmap info.superblock ≡ true
   counted : m.stored.chunks ≡ chunk_count info.superblock.size m.header.chunksize
   few : chunk_count info.superblock.size m.header.chunksize ≤ 1048576
-  placed : IsPlaced (sectors_of content) info.superblock (bitmap_sectors (chunk_count info.superblock.size m.header.chunksize))
+  placed : AreAreasPlaced (sectors_of_device content) info.superblock (bitmap_sectors (chunk_count info.superblock.size m.header.chunksize))
 
 reads_of : (content : List ℕ) (honest : Bool) (info : MemberInfo) (m : MemberView) (h : Option BitmapHeader) (marks : Option Bitmap)
     → h ≡ Some m.header → marks ≡ Some m.stored → HasBitmap content honest info.superblock h marks → ReadsBitmapOf content info m
@@ -104,13 +104,13 @@ reads_of content honest info m (Some g) (Some s) header stored b =
       has = b.0;
       counted = sym (ap (λ (x : Bitmap). x.chunks) too) ∙ b.1.marks.chunks_are ∙ ap (λ (x : BitmapHeader). chunk_count info.superblock.size x.chunksize) same;
       few = subst (λ (x : BitmapHeader). chunk_count info.superblock.size x.chunksize ≤ 1048576) same b.1.few_chunks;
-      placed = subst (λ (x : BitmapHeader). IsPlaced (sectors_of content) info.superblock (bitmap_sectors (chunk_count info.superblock.size x.chunksize))) same b.1.placed;
+      placed = subst (λ (x : BitmapHeader). AreAreasPlaced (sectors_of_device content) info.superblock (bitmap_sectors (chunk_count info.superblock.size x.chunksize))) same b.1.placed;
     }
 reads_of content honest info m (Some g) None header stored b = absurd b
 reads_of content honest info m None (Some s) header stored b = absurd b
 reads_of content honest info m None None header stored b = absurd (none-some m.header header)
 
-module _ (a : ArrayView) (offset : ℕ) (info : MemberInfo) (m : MemberView) (taken : IsTakenBack offset info m) (may : MayReAdd a info) (content : List ℕ) (honest : Bool) (read : members.IsMember content honest info) where
+module _ (a : ArrayView) (offset : ℕ) (info : MemberInfo) (m : MemberView) (taken : IsKeptTakenBack offset info m) (may : MayReAdd a info) (content : List ℕ) (honest : Bool) (read : members.IsReadMember content honest info) where
   reads : ReadsBitmapOf content info m
   reads = reads_of content honest info m info.header info.marks taken.header taken.stored read.bitmap
 
@@ -134,10 +134,10 @@ module _ (a : ArrayView) (offset : ℕ) (info : MemberInfo) (m : MemberView) (ta
       ∙ ap (div_ceil a.chunks.size) width_kept
       ∙ sym count
 
-  pub fits_taken : (d : Disk) → length d.content ≡ length content → sectors_of content ≤ 2 ^ 54 → FitsMember a m d
+  pub fits_taken : (d : Disk) → length d.content ≡ length content → sectors_of_device content ≤ 2 ^ 54 → FitsMember a m d
   fits_taken d long short =
       let within = read.superblock.read.within in
-      let as_long : sectors_of content ≡ sectors_of d.content = ap (λ n. n / 512) (sym long) in
+      let as_long : sectors_of_device content ≡ sectors_of_device d.content = ap (λ n. n / 512) (sym long) in
       let v = kept_superblock info in
       record {
         long = omega arith;
@@ -182,7 +182,7 @@ module _ (k : ℕ) (device : Disk) (old new : MirrorView) (c : IsConsistent old)
   abbrev offset : ℕ
   offset = r.recorded.takes.offset
 
-  abbrev taken : IsTakenBack offset info m
+  abbrev taken : IsKeptTakenBack offset info m
   taken = r.recorded.takes.taken
 
   abbrev may : MayReAdd a info
@@ -203,8 +203,8 @@ module _ (k : ℕ) (device : Disk) (old new : MirrorView) (c : IsConsistent old)
       let outside = r.recorded.written.tried.outside r.after_reading r.recorded.now refl refl in
       outside.size ∙ ap length r.only_read.0.0
 
-  pub short_device : sectors_of device.content ≤ 2 ^ 54
-  short_device = subst (λ (content : List ℕ). sectors_of content ≤ 2 ^ 54) r.only_read.0.0 r.recorded.short
+  pub short_device : sectors_of_device device.content ≤ 2 ^ 54
+  short_device = subst (λ (content : List ℕ). sectors_of_device content ≤ 2 ^ 54) r.only_read.0.0 r.recorded.short
 
   pub small : m.superblock.dev_number < 1920
   small =
@@ -271,7 +271,7 @@ module _ (device given : Disk) (v : MirrorView) (running : v.array.halted ≡ fa
   refused_device member_fault.NoMemory r same = record { running = running; unchanged = refl; only_read = only_read; unfailing = same; reason = inl r }
 
   -- it is read as this, and may not be taken back
-  module _ (unfailing : given.failures ≡ device.failures) (info : MemberInfo) (read : members.IsMember device.content device.honest info) where
+  module _ (unfailing : given.failures ≡ device.failures) (info : MemberInfo) (read : members.IsReadMember device.content device.honest info) where
     refuses_info : (f : ReAddFault) → RefusesToTakeBack v.array info f → RefusesInfo device given v v f
     refuses_info f refused = record { running = running; unchanged = refl; only_read = only_read; unfailing = unfailing; info = info; read = read; refused = refused }
 
@@ -296,7 +296,7 @@ joined_is a b m v full number role shared same told due is =
     ∙ (λ i. record (joined a m role) { members = map made_due a.members ++ record m { due = sym due i } ∷ [] })
 
 -- on its device, by the contract of the write
-module _ {D : Type 0} (g : Ghosts D) (was now : D) (a : ArrayView) (offset : ℕ) (info : MemberInfo) (m : MemberView) (offset_is : IsOffsetBack a info offset) (taken : IsTakenBack offset info m) (v : Superblock)
+module _ {D : Type 0} (g : Ghosts D) (was now : D) (a : ArrayView) (offset : ℕ) (info : MemberInfo) (m : MemberView) (offset_is : IsOffsetBack a info offset) (taken : IsKeptTakenBack offset info m) (v : Superblock)
     (shared : v ≡ joined_shared a info.superblock.dev_number (own_role info.superblock)) (outside : SameOutside (512 * 8) (length (write_of v m).bytes) (g.content was) (g.content now)) where
   number_kept : m.superblock.dev_number ≡ info.superblock.dev_number
   number_kept = ap (λ (x : Superblock). x.dev_number) taken.superblock
@@ -305,7 +305,7 @@ module _ {D : Type 0} (g : Ghosts D) (was now : D) (a : ArrayView) (offset : ℕ
   shared_kept = shared ∙ ap (λ n. joined_shared a n (own_role info.superblock)) (sym number_kept)
 
   pub recorded_last : (devices devices_now : List D) (b : ArrayView) (k : ℕ) → MayReAdd a info → b ≡ joined a m (own_role info.superblock) → IsReadable (merged v m.superblock) → DoesWrites g (write_of v m ∷ []) was now
-      → sectors_of (g.content was) ≤ 2 ^ 54 → k ≡ length a.members → devices_now ≡ devices ++ now ∷ []
+      → sectors_of_device (g.content was) ≤ 2 ^ 54 → k ≡ length a.members → devices_now ≡ devices ++ now ∷ []
       → RecordsLast k (disk_of g was) info (record { disks = map (disk_of g) devices; array = a }) (record { disks = map (disk_of g) devices_now; array = b })
   recorded_last devices devices_now b k may array readable does short last items =
       let same : v ≡ b.shared = shared_kept ∙ sym (ap (λ (x : ArrayView). x.shared) array) in
@@ -332,7 +332,7 @@ module _ {D : Type 0} (g : Ghosts D) (was now : D) (a : ArrayView) (offset : ℕ
         (is_failed g (was ∷ []) 0 was refl now (write_of v m) (omega arith) outside stops));
   }
 
-module _ {D : Type 0} (of : D → Disk) (device after : Disk) (old new : MirrorView) (info : MemberInfo) (running : old.array.halted ≡ false) (read : members.IsMember device.content device.honest info) (only_read : IsOnlyRead device after) (unfailing : after.failures ≡ device.failures) (may : MayReAdd old.array info) where
+module _ {D : Type 0} (of : D → Disk) (device after : Disk) (old new : MirrorView) (info : MemberInfo) (running : old.array.halted ≡ false) (read : members.IsReadMember device.content device.honest info) (only_read : IsOnlyRead device after) (unfailing : after.failures ≡ device.failures) (may : MayReAdd old.array info) where
   refused : (given : Disk) (f : ReAddFault) → RefusesToRecordLast after given info old new f → RefusesReAdd device given old new f
   refused given fault.Halted r = absurd r
   refused given (fault.Member f) r = absurd r

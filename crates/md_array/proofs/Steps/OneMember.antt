@@ -7,10 +7,10 @@ use Rattle.std.proofs.lemmas.Option.{same_Some, slice_get_within}
 use Rattle.md_super.specs.declared.superblock.Superblock.{Superblock}
 use Rattle.md_bitmap.specs.declared.header.BitmapHeader.{BitmapHeader}
 use Rattle.md_bitmap.specs.Marks.{is_set}
-use Rattle.md_bitmap.specs.Sound.{IsSound}
+use Rattle.md_bitmap.specs.Sound.{IsSoundHeader}
 use Rattle.md_badblocks.specs.declared.run.Run.{Run}
-use Rattle.md_members.specs.Areas.{IsPlaced, bitmap_sectors, has_bitmap}
-use Rattle.md_members.specs.Members.{reads_log, sectors_of}
+use Rattle.md_members.specs.Areas.{AreAreasPlaced, bitmap_sectors, has_bitmap}
+use Rattle.md_members.specs.Members.{reads_log, sectors_of_device}
 use Rattle.md_assembly.specs.States.{has_recovery_offset, is_in_sync, role_in, takes_role}
 use Rattle.md_assembly.proofs.Indices.{got_within}
 use Rattle.md_model.specs.Sectors.{put}
@@ -23,7 +23,7 @@ use Rattle.md_kept_members.specs.View.{MemberView}
 use Rattle.md_state.specs.View.{ArrayView, Disk, MirrorView}
 use Rattle.md_state.specs.Members.{IsInSync, IsMember}
 use Rattle.md_state.specs.Missing.{is_rebuilt}
-use Rattle.md_state.specs.InMemory.{HasChunks, HasRoles}
+use Rattle.md_state.specs.InMemory.{HasMarksOfSize, HasRoles}
 use Rattle.md_state.specs.DiskWrites.{IsTried}
 use Rattle.md_state.specs.Requests.{AreInFlight, IsPending, lacks}
 use Rattle.md_array.specs.Fits.{Fits, FitsMember, TellsOfList}
@@ -36,7 +36,7 @@ pub record HasPlacesOf (m n : MemberView) : Type 0 where
   pub number : n.superblock.dev_number ≡ m.superblock.dev_number
   pub size : n.superblock.size ≡ m.superblock.size
   pub has : has_bitmap n.superblock ≡ has_bitmap m.superblock
-  pub placed : (sectors width : ℕ) → IsPlaced sectors m.superblock width → IsPlaced sectors n.superblock width
+  pub placed : (sectors width : ℕ) → AreAreasPlaced sectors m.superblock width → AreAreasPlaced sectors n.superblock width
   pub header : n.header ≡ m.header
   pub chunks : n.stored.chunks ≡ m.stored.chunks
   pub told : TellsOfList m → TellsOfList n
@@ -66,7 +66,7 @@ near_like m n like = record {
     number = ap (λ (v : Superblock). v.dev_number) like.superblock;
     size = ap (λ (v : Superblock). v.size) like.superblock;
     has = ap has_bitmap like.superblock;
-    placed = λ sectors width p. subst (λ (v : Superblock). IsPlaced sectors v width) (sym like.superblock) p;
+    placed = λ sectors width p. subst (λ (v : Superblock). AreAreasPlaced sectors v width) (sym like.superblock) p;
     header = like.header;
     chunks = like.chunks;
     told = λ tells rebuilt sector bad.
@@ -92,15 +92,15 @@ pub record ChangesMember (k : ℕ) (m n : MemberView) (w : Write) (old new : Mir
 -- a member with the places of another fits a device as long as the other's
 pub fits_places : (a b : ArrayView) (m n : MemberView) (d e : Disk) → b.shared.size ≡ a.shared.size → HasPlacesOf m n → length e.content ≡ length d.content → FitsMember a m d → FitsMember b n e
 fits_places a b m n d e size near long fit =
-    let sectors : sectors_of d.content ≡ sectors_of e.content = ap (λ (x : ℕ). x / 512) (sym long) in
+    let sectors : sectors_of_device d.content ≡ sectors_of_device e.content = ap (λ (x : ℕ). x / 512) (sym long) in
     record {
       long = subst (λ (x : ℕ). 16 ≤ x) sectors fit.long;
       short = subst (λ (x : ℕ). x ≤ 2 ^ 54) sectors fit.short;
       has = near.has ∙ fit.has;
-      placed = subst (λ (x : ℕ). IsPlaced (sectors_of e.content) n.superblock (bitmap_sectors x)) (sym near.chunks)
-          (near.placed (sectors_of e.content) (bitmap_sectors m.stored.chunks) (subst (λ (x : ℕ). IsPlaced x m.superblock (bitmap_sectors m.stored.chunks)) sectors fit.placed));
+      placed = subst (λ (x : ℕ). AreAreasPlaced (sectors_of_device e.content) n.superblock (bitmap_sectors x)) (sym near.chunks)
+          (near.placed (sectors_of_device e.content) (bitmap_sectors m.stored.chunks) (subst (λ (x : ℕ). AreAreasPlaced x m.superblock (bitmap_sectors m.stored.chunks)) sectors fit.placed));
       few_chunks = subst (λ (x : ℕ). x ≤ 1048576) (sym near.chunks) fit.few_chunks;
-      sound = subst (λ (x : ℕ). IsSound x n.header.chunksize) (sym size) (subst (λ (h : BitmapHeader). IsSound a.shared.size h.chunksize) (sym near.header) fit.sound);
+      sound = subst (λ (x : ℕ). IsSoundHeader x n.header.chunksize) (sym size) (subst (λ (h : BitmapHeader). IsSoundHeader a.shared.size h.chunksize) (sym near.header) fit.sound);
       told = near.told fit.told;
     }
 
@@ -185,7 +185,7 @@ module _ (k : ℕ) (m n : MemberView) (w : Write) (old new : MirrorView) (c : Ch
     serving = λ running. let s = r.serving running in serving_changed s.0 s.1 s.2;
   }
 
-  chunks_changed : HasChunks a → HasChunks b
+  chunks_changed : HasMarksOfSize a → HasMarksOfSize b
   chunks_changed h = record {
     size = h.size;
     count = h.count;

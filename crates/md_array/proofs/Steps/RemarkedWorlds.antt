@@ -5,7 +5,7 @@ use Rattle.md_inflight.specs.Inflight.{InflightList}
 use Rattle.md_model.specs.Worlds as worlds
 use Rattle.md_requests.specs.declared.extent.Extent.{Extent}
 use Rattle.md_state.specs.View.{Disk, ArrayView, MirrorView}
-use Rattle.md_state.specs.InMemory.{HasChunks, HasRoles}
+use Rattle.md_state.specs.InMemory.{HasMarksOfSize, HasRoles}
 use Rattle.md_state.specs.Requests.{AreInside}
 use Rattle.md_array.specs.Consistency.{IsConsistent}
 use Rattle.md_array.specs.Fits.{Fits}
@@ -36,7 +36,7 @@ module _ (a : ArrayView) (offset : ℕ) (marks : Bitmap) (requests : InflightLis
     serving = λ runs. let s = r.serving runs in (s.0, s.1, record { member = s.2.member; in_sync = s.2.in_sync });
   }
 
-  chunks_remarked : ((c : ℕ) → marks.chunks ≤ c → is_set marks.bytes c ≡ false) → HasChunks a → HasChunks remarked
+  chunks_remarked : ((c : ℕ) → marks.chunks ≤ c → is_set marks.bytes c ≡ false) → HasMarksOfSize a → HasMarksOfSize remarked
   chunks_remarked none c = record {
     size = c.size;
     count = same ∙ c.count;

@@ -6,16 +6,16 @@ use Rattle.std.proofs.lemmas.Bool.{cases_lt}
 use Rattle.std.proofs.lemmas.List.{map-append}
 use Rattle.std.proofs.lemmas.List.Sums.{sum_by_push}
 use Rattle.md_device.specs.declared.device.Device.{Ghosts}
-use Rattle.md_device.specs.Stops.{LeavesMore}
+use Rattle.md_device.specs.Crashes.{LeavesMore}
 use Rattle.md_bitmap.specs.declared.header.BitmapHeader.{BitmapHeader}
-use Rattle.md_bitmap.specs.Sound.{IsSound, chunk_count}
+use Rattle.md_bitmap.specs.Sound.{IsSoundHeader, chunk_count}
 use Rattle.md_bitmap.proofs.Limits.{div_ceil-sectors}
 use Rattle.md_members.specs.Areas.{bitmap_sectors}
-use Rattle.md_members.specs.Members.{sectors_of}
+use Rattle.md_members.specs.Members.{sectors_of_device}
 use Rattle.md_create.specs.declared.params.NewMember.{NewMember}
-use Rattle.md_create.specs.Layout.{IsHalfLaidOut, IsLaidOut, KeepsOthers, writes_of}
-use Rattle.md_create.specs.ReadBack.{IsReadable}
-use Rattle.md_device_writes.specs.Writes.{DoesWrites, IsKept, FailsInWrites}
+use Rattle.md_create.specs.Layout.{IsHalfLaidOut, IsLaidOutAs, KeepsOthers, writes_of}
+use Rattle.md_create.specs.ReadBack.{IsReadBack}
+use Rattle.md_device_writes.specs.Writes.{DoesWrites, IsKeptByWrites, FailsInWrites}
 use Rattle.md_create.proofs.Laid.{few_sectors}
 use Rattle.md_create.proofs.Taken.{new_placed}
 use Rattle.md_requests.specs.Pending.{PendingView}
@@ -23,7 +23,7 @@ use Rattle.md_kept_members.specs.View.{MemberView}
 use Rattle.md_faults.specs.declared.add_fault.AddFault.{AddFault}
 use Rattle.md_faults.specs.declared.add_fault.AddFault.TheVariants as fault
 use Rattle.md_state.specs.Adding.{IsSpareOf, MayAdd, RefusesToAdd, added, spare_role}
-use Rattle.md_state.specs.InMemory.{HasChunks}
+use Rattle.md_state.specs.InMemory.{HasMarksOfSize}
 use Rattle.md_state.specs.Requests.{IsPending, lacks}
 use Rattle.md_state.specs.Rising.{has_number, risen}
 use Rattle.md_state.specs.View.{ArrayView, Disk, MirrorView, disk_of, of_disks}
@@ -52,12 +52,12 @@ module _ (a : ArrayView) (number sectors : ℕ) (laid : NewMember) (may : MayAdd
   pub size_there : laid.superblock.size ≡ a.shared.size
   size_there = spare.spare.superblock.size_is
 
-  pub width_there : HasChunks a → laid.header.chunksize / 512 ≡ a.chunks.sectors
+  pub width_there : HasMarksOfSize a → laid.header.chunksize / 512 ≡ a.chunks.sectors
   width_there h =
       ap (λ (n : ℕ). n / 512) (spare.header.chunksize ∙ ap (λ (x : BitmapHeader). x.chunksize) spare.of_freshest.header)
       ∙ h.member_width spare.of_freshest.index spare.of_freshest.member spare.of_freshest.at
 
-  pub count_there : HasChunks a → laid.marks.chunks ≡ a.marks.chunks
+  pub count_there : HasMarksOfSize a → laid.marks.chunks ≡ a.marks.chunks
   count_there h =
       spare.spare.marks.chunks_are
       ∙ ap (λ (n : ℕ). chunk_count n laid.header.chunksize) (sym h.size)
@@ -65,7 +65,7 @@ module _ (a : ArrayView) (number sectors : ℕ) (laid : NewMember) (may : MayAdd
       ∙ ap (div_ceil a.chunks.size) (width_there h)
       ∙ sym h.count
 
-  pub fits_there : (d : Disk) → sectors_of d.content ≡ sectors → sectors ≤ 2 ^ 54 → FitsMember a (kept_of laid) d
+  pub fits_there : (d : Disk) → sectors_of_device d.content ≡ sectors → sectors ≤ 2 ^ 54 → FitsMember a (kept_of laid) d
   fits_there d long short =
       let enough = may.long in
       let its_sectors = spare.spare.superblock.data_size in
@@ -73,9 +73,9 @@ module _ (a : ArrayView) (number sectors : ℕ) (laid : NewMember) (may : MayAdd
         long = omega arith;
         short = omega arith;
         has = ap (λ n. not (bit_and n 1 == 0)) laid.new.places.feature_map;
-        placed = new_placed laid.superblock laid.new.places (sectors_of d.content) (bitmap_sectors laid.marks.chunks) (let few = few_sectors laid in omega arith) (omega arith);
+        placed = new_placed laid.superblock laid.new.places (sectors_of_device d.content) (bitmap_sectors laid.marks.chunks) (let few = few_sectors laid in omega arith) (omega arith);
         few_chunks = omega (arith, laid.new.chunks, laid.header.sound.few_chunks);
-        sound = subst (λ n. IsSound n laid.header.chunksize) (laid.new.sync_size ∙ size_there) laid.header.sound;
+        sound = subst (λ n. IsSoundHeader n laid.header.chunksize) (laid.new.sync_size ∙ size_there) laid.header.sound;
         told = λ rebuilt sector bad. absurd cc;
       }
 
@@ -91,7 +91,7 @@ module _ (k : ℕ) (device : Disk) (old new : MirrorView) (c : IsConsistent old)
   m = kept_of laid
 
   abbrev sectors : ℕ
-  sectors = sectors_of device.content
+  sectors = sectors_of_device device.content
 
   unfoldable pub after : MirrorView
   after = record { disks = old.disks ++ r.comes.now ∷ []; array = added a laid }
@@ -100,7 +100,7 @@ module _ (k : ℕ) (device : Disk) (old new : MirrorView) (c : IsConsistent old)
   unfolding after
   is_after = same_mirror new (old.disks ++ r.comes.now ∷ []) (added a laid) r.comes.disks r.comes.array
 
-  pub as_long : sectors_of r.comes.now.content ≡ sectors
+  pub as_long : sectors_of_device r.comes.now.content ≡ sectors
   as_long = ap (λ (n : ℕ). n / 512) r.comes.writes.kept.size
 
   pub added_is_consistent : IsConsistent new
@@ -137,10 +137,10 @@ add_unchanged device given old new fault.NoMemory r = r.unchanged
 
 -- it may not come in
 module _ (device : Disk) (v : MirrorView) where
-  unwritten : (f : AddFault) → RefusesToAdd v.array (sectors_of device.content) f → RefusesUnwritten device device v v f
+  unwritten : (f : AddFault) → RefusesToAdd v.array (sectors_of_device device.content) f → RefusesUnwritten device device v v f
   unwritten f refused = record { unchanged = refl; untouched = refl; refused = refused }
 
-  pub refused_unwritten : (f : AddFault) → RefusesToAdd v.array (sectors_of device.content) f → RefusesAdd device device v v f
+  pub refused_unwritten : (f : AddFault) → RefusesToAdd v.array (sectors_of_device device.content) f → RefusesAdd device device v v f
   refused_unwritten fault.Halted r = unwritten fault.Halted r
   refused_unwritten fault.TooSmall r = unwritten fault.TooSmall r
   refused_unwritten fault.Full r = unwritten fault.Full r
@@ -149,7 +149,7 @@ module _ (device : Disk) (v : MirrorView) where
   refused_unwritten fault.NoMemory r = absurd r
 
 -- it may, and was laid out or not
-module _ {D : Type 0} (of : D → Disk) (device : Disk) (number : ℕ) (old new : MirrorView) (may : MayAdd old.array (sectors_of device.content) number) where
+module _ {D : Type 0} (of : D → Disk) (device : Disk) (number : ℕ) (old new : MirrorView) (may : MayAdd old.array (sectors_of_device device.content) number) where
   refused : (given : Disk) (f : AddFault) → RefusesToLayOut device given number old new f → RefusesAdd device given old new f
   refused given fault.Halted r = absurd r
   refused given fault.TooSmall r = absurd r
@@ -176,12 +176,12 @@ module _ {D : Type 0} (of : D → Disk) (device : Disk) (old new : MirrorView) (
 
 -- ---- what is done once it has a number
 module _ {D : Type 0} (g : Ghosts D) (was now : D) where
-  seen : IsKept g was now → IsKept of_disks (disk_of g was) (disk_of g now)
+  seen : IsKeptByWrites g was now → IsKeptByWrites of_disks (disk_of g was) (disk_of g now)
   seen kept = record { size = kept.size; honest_kept = kept.honest_kept; counted = kept.counted }
 
-  pub laid_last : (a b : ArrayView) (number k : ℕ) (laid : NewMember) (devices devices_now : List D) → sectors_of (g.content was) ≤ 2 ^ 54 → IsSpareOf a number (sectors_of (g.content was)) laid → IsReadable laid.superblock
-      → DoesWrites g (writes_of laid) was now → KeepsOthers laid (g.content was) (g.content now) → (g.honest was ≡ true → IsLaidOut (g.content was) laid (g.content now))
-      → (g.honest was ≡ true → LeavesMore (g.stops was) (g.stops now) (IsHalfLaidOut (g.content was) laid)) → b ≡ added a laid → k ≡ length a.members → devices_now ≡ devices ++ now ∷ []
+  pub laid_last : (a b : ArrayView) (number k : ℕ) (laid : NewMember) (devices devices_now : List D) → sectors_of_device (g.content was) ≤ 2 ^ 54 → IsSpareOf a number (sectors_of_device (g.content was)) laid → IsReadBack laid.superblock
+      → DoesWrites g (writes_of laid) was now → KeepsOthers laid (g.content was) (g.content now) → (g.honest was ≡ true → IsLaidOutAs (g.content was) laid (g.content now))
+      → (g.honest was ≡ true → LeavesMore (g.crashes was) (g.crashes now) (IsHalfLaidOut (g.content was) laid)) → b ≡ added a laid → k ≡ length a.members → devices_now ≡ devices ++ now ∷ []
       → LaysOutLast k (disk_of g was) number (record { disks = map (disk_of g) devices; array = a }) (record { disks = map (disk_of g) devices_now; array = b })
   laid_last a b number k laid devices devices_now short spare readable does outside done within array last items = record {
     last = last;
@@ -198,7 +198,7 @@ module _ {D : Type 0} (g : Ghosts D) (was now : D) where
     disks = ap (map (disk_of g)) items ∙ map-append (disk_of g) devices (now ∷ []);
   }
 
-  pub not_laid : (old new : MirrorView) (number : ℕ) (laid : NewMember) → new ≡ old → IsSpareOf old.array number (sectors_of (g.content was)) laid → FailsInWrites g (writes_of laid) was now
+  pub not_laid : (old new : MirrorView) (number : ℕ) (laid : NewMember) → new ≡ old → IsSpareOf old.array number (sectors_of_device (g.content was)) laid → FailsInWrites g (writes_of laid) was now
       → KeepsOthers laid (g.content was) (g.content now) → FailsToLayOut (disk_of g was) (disk_of g now) number old new
   not_laid old new number laid unchanged spare stops outside = record {
     unchanged = unchanged;
@@ -209,9 +209,9 @@ module _ {D : Type 0} (g : Ghosts D) (was now : D) where
   }
 
 -- the sectors of a device, as it tells them
-pub told : (sectors : ℕ) (content : List ℕ) → length content ≡ 512 * sectors → sectors ≡ sectors_of content
+pub told : (sectors : ℕ) (content : List ℕ) → length content ≡ 512 * sectors → sectors ≡ sectors_of_device content
 told sectors content is = omega arith
 
 -- no device is longer
-pub told_short : (sectors : ℕ) (content : List ℕ) → length content ≡ 512 * sectors → sectors ≤ 2 ^ 54 → sectors_of content ≤ 2 ^ 54
+pub told_short : (sectors : ℕ) (content : List ℕ) → length content ≡ 512 * sectors → sectors ≤ 2 ^ 54 → sectors_of_device content ≤ 2 ^ 54
 told_short sectors content is limit = let same = told sectors content is in omega arith

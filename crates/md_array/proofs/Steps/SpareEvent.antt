@@ -5,8 +5,8 @@ use Rattle.std.proofs.lemmas.List.{length-map}
 use Rattle.md_bitmap.specs.Marks.{is_set}
 use Rattle.md_bitmap.specs.Sound.{chunk_count}
 use Rattle.md_create.specs.declared.params.NewMember.{NewMember}
-use Rattle.md_create.specs.Layout.{IsLaidOut, writes_of}
-use Rattle.md_members.specs.Members.{sectors_of}
+use Rattle.md_create.specs.Layout.{IsLaidOutAs, writes_of}
+use Rattle.md_members.specs.Members.{sectors_of_device}
 use Rattle.md_assembly.specs.States.{has_recovery_offset, role_in}
 use Rattle.md_model.specs.Counts as counts
 use Rattle.md_model.specs.Counts.{IsFull, role_at_rise}
@@ -73,7 +73,7 @@ module _ (k : ℕ) (device : Disk) (old new : MirrorView) (c : IsConsistent old)
   now = r.comes.now
 
   abbrev sectors : ℕ
-  sectors = sectors_of device.content
+  sectors = sectors_of_device device.content
 
   abbrev b : ArrayView
   b = added old.array laid
@@ -84,7 +84,7 @@ module _ (k : ℕ) (device : Disk) (old new : MirrorView) (c : IsConsistent old)
   same_array : new.array ≡ b
   same_array = r.comes.array
 
-  done : IsLaidOut device.content laid now.content
+  done : IsLaidOutAs device.content laid now.content
   done = r.comes.laid_out honest
 
   is_number : laid.superblock.dev_number ≡ r.number

@@ -4,30 +4,30 @@ use Rattle.std.proofs.Common.{◌≡◌, ℕ, ◌+◌, ◌*◌, ◌/◌, ◌<◌
 use Rattle.md_format.specs.Fields.{number_at}
 use Rattle.md_super.specs.declared.superblock.Superblock.{Superblock}
 use Rattle.md_super.specs.Encoding.{super_bytes}
-use Rattle.md_super.specs.Faults.{NoFault}
+use Rattle.md_super.specs.Faults.{NoSuperFault}
 use Rattle.md_super.specs.Format.{IsSuper}
 use Rattle.md_super.specs.Log.{has_bad_block_log}
 use Rattle.md_super.proofs.Unique.{unique}
 use Rattle.md_bitmap.specs.Marks.{is_set}
 use Rattle.md_bitmap.proofs.Encoded.{length-header_bytes, reads_back}
 use Rattle.md_create.specs.declared.params.NewMember.{NewMember}
-use Rattle.md_create.specs.Layout.{IsLaidOut}
-use Rattle.md_create.specs.ReadBack.{IsReadable, sealed}
+use Rattle.md_create.specs.Layout.{IsLaidOutAs}
+use Rattle.md_create.specs.ReadBack.{IsReadBack, sealed}
 use Rattle.md_create.proofs.Laid.{few_sectors}
 use Rattle.md_device_writes.proofs.Frames.{outside_none}
 use Rattle.md_state.specs.Adding.{IsSpareOf, added}
 use Rattle.md_state.specs.View.{ArrayView}
 use Rattle.md_array.specs.Adding.{kept_of}
 use Rattle.md_array.specs.ReadAsKept.{HasOwnSuper, HasWidth, IsReadAsKept}
-use Rattle.md_array.specs.Worlds.{block_on, from_super, header_on, is_listed, is_logged, list_bit, stored_of, super_in, super_of}
+use Rattle.md_array.specs.Worlds.{block_on, sector_from_super, header_on, is_listed, is_logged, list_bit, stored_of, super_in, super_of}
 use Rattle.md_array.proofs.General.Tests.{and_same}
 use Rattle.md_array.proofs.Worlds.Listed.{same_log}
 use Rattle.md_array.proofs.Worlds.Supers.{super_shown}
 use Rattle.md_array.proofs.Worlds.Writes.{HoldsBitmap, holds_stored}
 use Rattle.md_model.proofs.Cases.{is_below}
 
-module _ (a : ArrayView) (number sectors : ℕ) (laid : NewMember) (spare : IsSpareOf a number sectors laid) (readable : IsReadable laid.superblock)
-    (before now : List ℕ) (done : IsLaidOut before laid now) where
+module _ (a : ArrayView) (number sectors : ℕ) (laid : NewMember) (spare : IsSpareOf a number sectors laid) (readable : IsReadBack laid.superblock)
+    (before now : List ℕ) (done : IsLaidOutAs before laid now) where
   abbrev v : Superblock
   v = laid.superblock
 
@@ -39,19 +39,19 @@ module _ (a : ArrayView) (number sectors : ℕ) (laid : NewMember) (spare : IsSp
 
   -- ---- its superblock
   pub super_there : super_in (block_on now) ≡ Some (super_of v)
-  super_there = super_shown (block_on now) (sealed v) fields (subst NoFault (sym block) readable.sound)
+  super_there = super_shown (block_on now) (sealed v) fields (subst NoSuperFault (sym block) readable.sound)
 
   -- it lists nothing
   pub none_listed : (sector : ℕ) → is_listed v now sector ≡ false
   unfolding is_listed
   none_listed sector =
       let bit : number_at 4 8 (block_on now) ≡ 1 = sym fields.feature_map ∙ laid.new.places.feature_map in
-      ap (λ o. (list_bit v (block_on now) o && has_bad_block_log v) && is_logged now (from_super v.bblog_offset) v.bblog_size v.bblog_shift sector) super_there
-      ∙ ap (λ (n : ℕ). (not (bit_and n 8 == 0) && has_bad_block_log v) && is_logged now (from_super v.bblog_offset) v.bblog_size v.bblog_shift sector) bit
+      ap (λ o. (list_bit v (block_on now) o && has_bad_block_log v) && is_logged now (sector_from_super v.bblog_offset) v.bblog_size v.bblog_shift sector) super_there
+      ∙ ap (λ (n : ℕ). (not (bit_and n 8 == 0) && has_bad_block_log v) && is_logged now (sector_from_super v.bblog_offset) v.bblog_size v.bblog_shift sector) bit
 
   -- ---- its bitmap
-  starts : from_super v.bitmap_offset ≡ 16
-  starts = ap from_super laid.new.places.bitmap_offset
+  starts : sector_from_super v.bitmap_offset ≡ 16
+  starts = ap sector_from_super laid.new.places.bitmap_offset
 
   module _ (long : 2048 ≤ length now / 512) where
     pub holds : HoldsBitmap now 16 laid.header laid.marks
@@ -62,13 +62,13 @@ module _ (a : ArrayView) (number sectors : ℕ) (laid : NewMember) (spare : IsSp
         (omega arith)
         (record { outside = outside_none _ _ now; each = λ i low high. done.bitmap i high })
 
-    pub bits_there : (c : ℕ) → c < laid.marks.chunks → is_set (drop (512 * from_super v.bitmap_offset + 256) now) c ≡ is_set laid.marks.bytes c
+    pub bits_there : (c : ℕ) → c < laid.marks.chunks → is_set (drop (512 * sector_from_super v.bitmap_offset + 256) now) c ≡ is_set laid.marks.bytes c
     bits_there c low = ap (λ (start : ℕ). is_set (drop (512 * start + 256) now) c) starts ∙ holds.bits c low
 
     marked : (c : ℕ) → c < laid.marks.chunks → is_set laid.marks.bytes c ≡ true
     marked c low = spare.spare.marks.bits c ∙ lt-ltb c _ (subst (λ n. c < n) spare.spare.marks.chunks_are low)
 
-    pub all_marked : (c : ℕ) → c < laid.marks.chunks → is_set (drop (512 * from_super v.bitmap_offset + 256) now) c ≡ true
+    pub all_marked : (c : ℕ) → c < laid.marks.chunks → is_set (drop (512 * sector_from_super v.bitmap_offset + 256) now) c ≡ true
     all_marked c low = bits_there c low ∙ marked c low
 
     -- the marks that are kept are those that stand there

@@ -6,7 +6,7 @@ use Rattle.md_device.specs.Splice.{SameOutside}
 use Rattle.md_device.proofs.Splices.{part-spliced}
 use Rattle.md_format.specs.Fields.{number_at}
 use Rattle.md_super.specs.declared.superblock.Superblock.{Superblock}
-use Rattle.md_super.specs.Faults.{NoFault}
+use Rattle.md_super.specs.Faults.{NoSuperFault}
 use Rattle.md_super.specs.Format.{IsSuper}
 use Rattle.md_super.specs.Merge.{merged}
 use Rattle.md_bitmap.specs.Marks.{is_set}
@@ -53,7 +53,7 @@ pub listed_written : (a : ArrayView) (m : MemberView) (content : List ℕ) → I
     → (sector : ℕ) → is_listed m.superblock content sector ≡ is_listed_next m.superblock content sector
 listed_written a m content r block =
     let v = as_read (merged a.shared m.superblock) r in
-    listed_as_next m.superblock v content (subst (λ (b : List ℕ). IsSuper b v) (sym block) r.fields) (subst NoFault (sym block) r.sound) refl
+    listed_as_next m.superblock v content (subst (λ (b : List ℕ). IsSuper b v) (sym block) r.fields) (subst NoSuperFault (sym block) r.sound) refl
 
 -- the world's list of a member whose log lists the same
 pub lists_alike : (a : ArrayView) (m : MemberView) (old new : List ℕ) → ((sector : ℕ) → is_listed m.superblock new sector ≡ is_listed m.superblock old sector)

@@ -28,7 +28,7 @@ use Rattle.md_model.specs.Worlds.{Request, World}
 use Rattle.md_model.proofs.Steps.Between.{between_step, in_flight_step}
 use Rattle.md_kept_members.specs.OwnFields.{kept_superblock}
 use Rattle.md_kept_members.specs.Members.{made_due}
-use Rattle.md_kept_members.specs.TakingBack.{IsTakenBack, own_role}
+use Rattle.md_kept_members.specs.TakingBack.{IsKeptTakenBack, own_role}
 use Rattle.md_kept_members.specs.View.{MemberView}
 use Rattle.md_faults.specs.declared.re_add_fault.ReAddFault.{ReAddFault}
 use Rattle.md_state.specs.DiskWrites.{IsWritten}
@@ -39,10 +39,10 @@ use Rattle.md_state.specs.View.{ArrayView, Disk, MirrorView, geometry_of}
 use Rattle.md_array.specs.Consistency.{IsConsistent}
 use Rattle.md_array.specs.Events.{Does, Happens}
 use Rattle.md_array.specs.Fits.{FitsMember}
-use Rattle.md_array.specs.ReAdding.{ComesBack, ReAddHappens, ReAdds, RefusesReAdd, re_add_event}
+use Rattle.md_array.specs.ReAdding.{ComesBackReAdded, ReAddHappens, ReAdds, RefusesReAdd, re_add_event}
 use Rattle.md_array.specs.ReadAsKept.{AreReadAsKept}
 use Rattle.md_array.specs.Recording.{IsReadable, super_write}
-use Rattle.md_array.specs.Worlds.{AreHonest, block_on, kind_of, stored_of, super_in, super_of, world_of, from_super, lists_of}
+use Rattle.md_array.specs.Worlds.{AreHonest, block_on, kind_of, stored_of, super_in, super_of, world_of, sector_from_super, lists_of}
 use Rattle.md_array.proofs.General.Appended.{got_last}
 use Rattle.md_array.proofs.General.Indices.{any_at}
 use Rattle.md_array.proofs.Steps.DeviceTakenBack.{known_now, read_now, stored_now, accepted_taken, bits_there, listed_is_bad}
@@ -75,7 +75,7 @@ module _ (k : ℕ) (device : Disk) (old new : MirrorView) (c : IsConsistent old)
   abbrev offset : ℕ
   offset = r.recorded.takes.offset
 
-  abbrev taken : IsTakenBack offset info m
+  abbrev taken : IsKeptTakenBack offset info m
   taken = r.recorded.takes.taken
 
   abbrev now : Disk
@@ -99,8 +99,8 @@ module _ (k : ℕ) (device : Disk) (old new : MirrorView) (c : IsConsistent old)
   same_array : new.array ≡ b
   same_array = r.recorded.takes.array
 
-  its_read : members.IsMember device.content true info
-  its_read = subst (λ h. members.IsMember device.content h info) honest r.read
+  its_read : members.IsReadMember device.content true info
+  its_read = subst (λ h. members.IsReadMember device.content h info) honest r.read
 
   was : super_in (block_on device.content) ≡ Some own
   was = device_super device.content info.superblock its_read.superblock
@@ -166,7 +166,7 @@ module _ (k : ℕ) (device : Disk) (old new : MirrorView) (c : IsConsistent old)
         let chunk : ℕ = s / a.chunks.sectors in
         let count = count_kept a offset info m taken r.recorded.takes.may device.content device.honest r.read c.chunks.size c.chunks.count in
         let accepted : is_accepted (stored_of b m device.content) ≡ true = its_bitmap h in
-        let bit : (nat_lt chunk a.marks.chunks && is_set (drop (512 * from_super m.superblock.bitmap_offset + 256) device.content) chunk) ≡ true =
+        let bit : (nat_lt chunk a.marks.chunks && is_set (drop (512 * sector_from_super m.superblock.bitmap_offset + 256) device.content) chunk) ≡ true =
         sym (ap (λ t. cond t ((stored_of b m device.content).bits chunk) true) accepted) ∙ marked in
         let parts = and_parts (nat_lt chunk a.marks.chunks) _ bit in
         let below : chunk < a.marks.chunks = is_below chunk a.marks.chunks parts.0 in
@@ -323,7 +323,7 @@ module _ (k : ℕ) (device : Disk) (old new : MirrorView) (c : IsConsistent old)
       ∙ ap (slice_get (old.disks ++ now ∷ [])) (r.recorded.last ∙ sym c.fits.as_many)
       ∙ got_last old.disks now
 
-  comes_back : ComesBack k device old new
+  comes_back : ComesBackReAdded k device old new
   comes_back = record { own = own; was = was; member = m; at = last_member; now = now; is = last_disk; happens = re_add_happens }
 
 -- whatever it answers

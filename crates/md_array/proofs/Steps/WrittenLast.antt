@@ -4,7 +4,7 @@ use Rattle.std.proofs.lemmas.List.{length_push}
 use Rattle.std.proofs.lemmas.Option.{same_Some}
 use Rattle.md_device.specs.Device.{written}
 use Rattle.md_device.specs.Splice.{SameOutside}
-use Rattle.md_device.specs.Stops.{LeavesMore}
+use Rattle.md_device.specs.Crashes.{LeavesMore}
 use Rattle.md_device.proofs.Leaving.{leaves_less, leaves_then, mixed_none}
 use Rattle.md_device_writes.specs.Writes.{IsCutShort, Write}
 use Rattle.md_kept_members.proofs.Members.Indices.{listed_push}
@@ -22,7 +22,7 @@ at_last ds d e Related related x y was is =
     let second : y ≡ e = same_Some y e (sym is ∙ got_last ds e) in
     rw (first, second) related
 
--- It is written in its place, and a stop leaves of both calls what one leaves of the write.
+-- It is written in its place, and a crash leaves of both calls what one leaves of the write.
 pub written_last : (ds : List Disk) (d e f : Disk) (w : Write) → IsOnlyRead d e → IsWritten 0 w (e ∷ []) (f ∷ []) → IsWritten (length ds) w (ds ++ d ∷ []) (ds ++ f ∷ [])
 written_last ds d e f w only done =
     let same : e.content ≡ d.content = only.0.0 in
@@ -40,11 +40,11 @@ written_last ds d e f w only done =
       done = at_last ds d f (λ a b. a.honest ≡ true → b.content ≡ written a.content w.sector w.bytes)
           (λ honest. done.done e f refl refl (only.1.honest ∙ honest) ∙ ap (λ (x : List ℕ). written x w.sector w.bytes) same);
       within = at_last ds d f (λ a b. a.honest ≡ true → LeavesOn (IsCutShort a.content (w ∷ [])) a b)
-          (λ honest. leaves_then d.stops e.stops f.stops (IsCutShort d.content (w ∷ []))
-          (leaves_less d.stops e.stops (λ left. left ≡ d.content) (IsCutShort d.content (w ∷ []))
+          (λ honest. leaves_then d.crashes e.crashes f.crashes (IsCutShort d.content (w ∷ []))
+          (leaves_less d.crashes e.crashes (λ left. left ≡ d.content) (IsCutShort d.content (w ∷ []))
           (λ left as_was. record { done = []; rest = w ∷ []; order = refl; mixed = rw as_was (mixed_none w.sector w.bytes d.content) })
           (only.0.1 honest))
-          (subst (λ (x : List ℕ). LeavesMore e.stops f.stops (IsCutShort x (w ∷ []))) same (done.within e f refl refl (only.1.honest ∙ honest))));
+          (subst (λ (x : List ℕ). LeavesMore e.crashes f.crashes (IsCutShort x (w ∷ []))) same (done.within e f refl refl (only.1.honest ∙ honest))));
     }
 
 pub honest_last : (ds : List Disk) (d : Disk) → AreHonest ds → d.honest ≡ true → AreHonest (ds ++ d ∷ [])

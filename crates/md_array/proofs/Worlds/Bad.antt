@@ -12,7 +12,7 @@ use Rattle.md_members.specs.Areas.{has_bad_blocks}
 use Rattle.md_members.specs.Members.{HasBadSet, reads_log}
 use Rattle.md_members.specs.Reading.{ReadsLog}
 use Rattle.md_kept_members.specs.OwnFields.{kept_shift, stored_next}
-use Rattle.md_array.specs.Worlds.{from_super, is_listed_next, is_logged, lies_in, sector_at}
+use Rattle.md_array.specs.Worlds.{sector_from_super, is_listed_next, is_logged, lies_in, sector_at}
 use Rattle.md_model.proofs.Cases.{by_test, never}
 use Rattle.md_array.proofs.Openings.OwnFields.{none_listed, some_listed}
 
@@ -38,10 +38,10 @@ test_from_bad (run ∷ runs) sector (inl here) = ap (λ b. b || lies_in runs sec
 test_from_bad (run ∷ runs) sector (inr later) = rw (test_from_bad runs sector later) (or-true (nat_le run.start sector && nat_lt sector (run.start + run.len)))
 
 logged_is : (content : List ℕ) (v : Superblock) (bad : List Run) (sector : ℕ) → ReadsLog content true v bad
-    → is_logged content (from_super v.bblog_offset) v.bblog_size v.bblog_shift sector ≡ true ↔ IsBad bad sector
+    → is_logged content (sector_from_super v.bblog_offset) v.bblog_size v.bblog_shift sector ≡ true ↔ IsBad bad sector
 logged_is content v bad sector r =
-    let start : from_super v.bblog_offset ≡ r.start = ap sector_at (sym r.at) in
-    let area : part content (512 * from_super v.bblog_offset) (512 * v.bblog_size) ≡ r.area =
+    let start : sector_from_super v.bblog_offset ≡ r.start = ap sector_at (sym r.at) in
+    let area : part content (512 * sector_from_super v.bblog_offset) (512 * v.bblog_size) ≡ r.area =
     ap (λ s. part content (512 * s) (512 * v.bblog_size)) start ∙ sym (r.read.from_device refl) in
     let named = r.set.named sector in
     let runs = named_runs v.bblog_shift r.area in
@@ -74,7 +74,7 @@ listed_is_bad content v (run ∷ runs) sector (inl log) =
     let there = (and_parts (has_bad_blocks v) (has_bad_block_log v) log.0).1 in
     let read = and_from (has_bad_blocks (stored_next (run ∷ runs) v)) (has_bad_block_log v) (some_listed run runs v) there in
     let shift : kept_shift v ≡ v.bblog_shift = ap (λ b. if b then v.bblog_shift else 0) log.0 in
-    let same = ap (λ (n : ℕ). is_logged content (from_super v.bblog_offset) v.bblog_size n sector) shift in
+    let same = ap (λ (n : ℕ). is_logged content (sector_from_super v.bblog_offset) v.bblog_size n sector) shift in
     let logged = logged_is content v (run ∷ runs) sector log.1 in (
       (λ e. logged.0 (sym same ∙ (and_parts (reads_log (stored_next (run ∷ runs) v)) _ e).1)),
       (λ h. and_from (reads_log (stored_next (run ∷ runs) v)) _ read (same ∙ logged.1 h)),

@@ -11,9 +11,9 @@ use Rattle.md_bitmap.specs.declared.header.BitmapHeader.{BitmapHeader}
 use Rattle.md_bitmap.specs.Marks.{is_set}
 use Rattle.md_bitmap.proofs.Encoded.{length-header_bytes, reads_back}
 use Rattle.md_members.specs.declared.info.MemberInfo.{MemberInfo}
-use Rattle.md_members.specs.Areas.{BitmapIsPlaced, IsPlaced, bitmap_area, bitmap_sectors}
+use Rattle.md_members.specs.Areas.{BitmapIsPlaced, AreAreasPlaced, bitmap_area, bitmap_sectors}
 use Rattle.md_members.specs.Reading.{BitmapStartsAt}
-use Rattle.md_members.specs.Members.{sectors_of}
+use Rattle.md_members.specs.Members.{sectors_of_device}
 use Rattle.md_assembly.specs.States.{is_in_sync, state_of}
 use Rattle.md_badblocks.specs.Runs.{IsBad}
 use Rattle.md_model.specs.Devices.{is_accepted}
@@ -23,10 +23,10 @@ use Rattle.md_state.specs.View.{Disk, ArrayView}
 use Rattle.md_state.specs.DeviceChanges.{IsUnchanged}
 use Rattle.md_array.specs.Consistency.{HasPlaces}
 use Rattle.md_array.specs.ReadAsKept.{HasWidth, IsReadAsKept, chunk_size_on}
-use Rattle.md_array.specs.Storing.{StoresMarks}
+use Rattle.md_array.specs.Storing.{StoresMarksOn}
 use Rattle.md_device_writes.specs.Bitmaps.{bitmap_writes}
 use Rattle.md_device_writes.specs.Writes.{after}
-use Rattle.md_array.specs.Worlds.{block_on, from_super, is_listed, is_listed_next, stored_of, super_in, super_of}
+use Rattle.md_array.specs.Worlds.{block_on, sector_from_super, is_listed, is_listed_next, stored_of, super_in, super_of}
 use Rattle.md_array.proofs.Worlds.Listed.{IsLogKept, listed_as_next, listed_kept, listed_kept_of, next_kept, listed_at_offset, next_at_offset}
 use Rattle.md_array.proofs.Worlds.PartsApart.{log_beside_bitmap}
 use Rattle.md_array.proofs.Worlds.ReadAsKept.{own_stays}
@@ -45,7 +45,7 @@ use Rattle.md_array.proofs.Worlds.Writes.{HoldsBitmap, holds_written}
 pub record IsOpenedMember (a : ArrayView) (m : MemberView) (info : MemberInfo) (old new : Disk) : Type 0 where
   pub honest : old.honest ≡ true
   pub member : IsReadMember a m info old.content
-  pub stored : NeedsMarks m → StoresMarks a m old new
+  pub stored : NeedsMarks m → StoresMarksOn a m old new
   pub unchanged : (NeedsMarks m → ⊥) → IsUnchanged old new
 
 -- the sectors of the area lie on the device
@@ -66,7 +66,7 @@ module _ (a : ArrayView) (m : MemberView) (info : MemberInfo) (old new : Disk) (
   offset = known_offset a.events_cleared (state_of a.shared info.superblock) info.superblock
 
   abbrev start : ℕ
-  start = from_super own.bitmap_offset
+  start = sector_from_super own.bitmap_offset
 
   abbrev sectors : ℕ
   sectors = bitmap_sectors m.stored.chunks
@@ -80,10 +80,10 @@ module _ (a : ArrayView) (m : MemberView) (info : MemberInfo) (old new : Disk) (
   starts : BitmapStartsAt own start
   starts = read.starts a m info old.content there
 
-  placed : IsPlaced (sectors_of old.content) own sectors
+  placed : AreAreasPlaced (sectors_of_device old.content) own sectors
   placed = read.placed a m info old.content there
 
-  bitmap_placed : BitmapIsPlaced (sectors_of old.content) own sectors
+  bitmap_placed : BitmapIsPlaced (sectors_of_device old.content) own sectors
   bitmap_placed = read.bitmap_placed a m info old.content there
 
   -- no more than the bitmap's area changes

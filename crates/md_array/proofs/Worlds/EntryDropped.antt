@@ -5,7 +5,7 @@ use Rattle.md_model.specs.Worlds as worlds
 use Rattle.md_model.specs.Membership as membership
 use Rattle.md_assembly.specs.States.{role_in, takes_role}
 use Rattle.md_kept_members.specs.View.{MemberView}
-use Rattle.md_state.specs.InMemory.{HasChunks, HasRoles}
+use Rattle.md_state.specs.InMemory.{HasMarksOfSize, HasRoles}
 use Rattle.md_state.specs.Members.{IsMember}
 use Rattle.md_state.specs.Removing.{without_entry}
 use Rattle.md_state.specs.View.{ArrayView, Disk}
@@ -40,7 +40,7 @@ module _ (a : ArrayView) (k : ℕ) (m : MemberView) (at : IsMember a k m) where
       serving = λ running. let s = r.serving running in (s.0, s.1, record { member = s.2.member; in_sync = s.2.in_sync });
     }
 
-    chunks_dropped : HasChunks a → HasChunks b
+    chunks_dropped : HasMarksOfSize a → HasMarksOfSize b
     chunks_dropped h = record {
       size = h.size;
       count = h.count;

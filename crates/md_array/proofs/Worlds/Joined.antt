@@ -20,7 +20,7 @@ use Rattle.md_assembly.specs.States.{has_recovery_offset, is_in_sync, is_in_sync
 use Rattle.md_kept_members.specs.View.{MemberView}
 use Rattle.md_kept_members.specs.Members.{made_due}
 use Rattle.md_kept_members.proofs.Members.Indices.{listed_push}
-use Rattle.md_state.specs.InMemory.{HasChunks, HasRoles}
+use Rattle.md_state.specs.InMemory.{HasMarksOfSize, HasRoles}
 use Rattle.md_state.specs.Joining.{entries_with, joined, joined_roles, role_after}
 use Rattle.md_state.specs.Members.{IsMember, is_degraded, is_filled}
 use Rattle.md_state.specs.ReAdding.{is_taken}
@@ -162,7 +162,7 @@ module _ (a : ArrayView) (m : MemberView) (role : ℕ) (small : m.superblock.dev
     }
 
     module _ (size : m.superblock.size ≡ a.shared.size) (width : m.header.chunksize / 512 ≡ a.chunks.sectors) (count : m.stored.chunks ≡ a.marks.chunks) where
-      chunks_joined : HasChunks up → HasChunks b
+      chunks_joined : HasMarksOfSize up → HasMarksOfSize b
       chunks_joined h = record {
         size = h.size;
         count = h.count;

@@ -12,7 +12,7 @@ use Rattle.md_model.specs.Devices.{Super, accepts, is_accepted}
 use Rattle.md_kept_members.specs.View.{MemberView}
 use Rattle.md_kept_members.specs.Members.{NeedsMarks}
 use Rattle.md_state.specs.View.{ArrayView}
-use Rattle.md_array.specs.Worlds.{block_on, from_super, header_fits, header_on, stored_of, super_in, super_of}
+use Rattle.md_array.specs.Worlds.{block_on, sector_from_super, header_fits, header_on, stored_of, super_in, super_of}
 use Rattle.md_model.proofs.Cases.{by_test}
 
 -- ---- tests of numbers and bytes
@@ -78,19 +78,19 @@ nearby x y own e (inr h) = inr (sym e ∙ h)
 
 -- a device whose bitmap has such a header is accepted
 pub accepted_by : (a : ArrayView) (m : MemberView) (own : Super) (content : List ℕ) (h : BitmapHeader) → super_in (block_on content) ≡ Some own
-    → IsHeader (header_on content (from_super m.superblock.bitmap_offset)) h → h.uuid ≡ a.shared.set_uuid → h.sync_size ≡ a.shared.size → h.state ≡ 0
+    → IsHeader (header_on content (sector_from_super m.superblock.bitmap_offset)) h → h.uuid ≡ a.shared.set_uuid → h.sync_size ≡ a.shared.size → h.state ≡ 0
     → (h.events ≡ own.events) ⊎ (h.events ≡ own.events + 1) → is_accepted (stored_of a m content) ≡ true
 accepted_by a m own content h super header uuid size state events =
     accepts_when (super_in (block_on content)) own _ _ super
-    (header_fits_there a h (header_on content (from_super m.superblock.bitmap_offset)) header uuid size state)
+    (header_fits_there a h (header_on content (sector_from_super m.superblock.bitmap_offset)) header uuid size state)
     (nearby h.events _ own.events header.events events)
 
 -- so with the superblock that is kept, but for its offset
 pub accepted_there : (a : ArrayView) (m : MemberView) (offset : ℕ) (content : List ℕ) (h : BitmapHeader) → super_in (block_on content) ≡ Some (record (super_of m.superblock) { offset = offset })
-    → IsHeader (header_on content (from_super m.superblock.bitmap_offset)) h → Fits a m.superblock h → is_accepted (stored_of a m content) ≡ true
+    → IsHeader (header_on content (sector_from_super m.superblock.bitmap_offset)) h → Fits a m.superblock h → is_accepted (stored_of a m content) ≡ true
 accepted_there a m offset content h super header fits =
     accepts_when (super_in (block_on content)) (record (super_of m.superblock) { offset = offset }) _ _ super
-    (header_fits_there a h (header_on content (from_super m.superblock.bitmap_offset)) header fits.uuid fits.size fits.state)
+    (header_fits_there a h (header_on content (sector_from_super m.superblock.bitmap_offset)) header fits.uuid fits.size fits.state)
     (nearby h.events _ m.superblock.events header.events fits.events)
 
 -- ---- and what acceptance says
@@ -112,7 +112,7 @@ accepts_says super own events fits is e =
 
 -- the header of such a device fits
 pub fits_there : (a : ArrayView) (m : MemberView) (offset : ℕ) (content : List ℕ) (h : BitmapHeader) → super_in (block_on content) ≡ Some (record (super_of m.superblock) { offset = offset })
-    → IsHeader (header_on content (from_super m.superblock.bitmap_offset)) h → is_accepted (stored_of a m content) ≡ true → Fits a m.superblock h
+    → IsHeader (header_on content (sector_from_super m.superblock.bitmap_offset)) h → is_accepted (stored_of a m content) ≡ true → Fits a m.superblock h
 fits_there a m offset content h super is accepted =
     let says = accepts_says (super_in (block_on content)) (record (super_of m.superblock) { offset = offset }) _ _ super accepted in
     let parts = all_three_hold _ _ _ says.0 in

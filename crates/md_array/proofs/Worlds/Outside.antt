@@ -6,9 +6,9 @@ use Rattle.md_device.proofs.Splices.{part_before, part_after, slice_index-part}
 use Rattle.md_super.specs.declared.superblock.Superblock.{Superblock}
 use Rattle.md_bitmap.specs.Marks.{is_set}
 use Rattle.md_members.specs.declared.area.Area.{Area}
-use Rattle.md_members.specs.Areas.{AreApart, end_of, super_area, data_area, log_area}
+use Rattle.md_members.specs.Areas.{AreApart, end_of_area, super_area, data_area, log_area}
 use Rattle.md_members.specs.Reading.{BitmapStartsAt}
-use Rattle.md_array.specs.Worlds.{block_on, from_super, header_on, sector_at}
+use Rattle.md_array.specs.Worlds.{block_on, sector_from_super, header_on, sector_at}
 use Rattle.md_array.proofs.Worlds.Writes.{is_set-same}
 
 pub sector_at_is : (z : ℤ) → pos 0 ≤ℤ z → z ≡ pos (sector_at z)
@@ -16,13 +16,13 @@ sector_at_is (pos n) h = refl
 sector_at_is (negsuc n) h = absurd (omega (arith, ints))
 
 -- a sector where the bitmap starts is the one that the world takes
-pub starts_at : (v : Superblock) (start : ℕ) → BitmapStartsAt v start → from_super v.bitmap_offset ≡ start
+pub starts_at : (v : Superblock) (start : ℕ) → BitmapStartsAt v start → sector_from_super v.bitmap_offset ≡ start
 starts_at v start at = ap sector_at (sym at)
 
 -- what lies in an area is apart from what the area is apart from
 pub record LiesIn (outer inner : Area) : Type 0 where
   pub from : outer.start ≤ℤ inner.start
-  pub to : end_of inner ≤ℤ end_of outer
+  pub to : end_of_area inner ≤ℤ end_of_area outer
 
 pub apart_from_part : (a outer inner : Area) → LiesIn outer inner → AreApart a outer → AreApart a inner
 apart_from_part a outer inner i (inl before) = let from = i.from in inl (omega (arith, ints))
@@ -69,10 +69,10 @@ module _ (written : Area) (start : ℕ) (at : written.start ≡ pos start) (old 
     data_stays h holds s below = stays (data_area v) v.data_offset refl h (512 * (v.data_offset + s)) 512 (omega arith) (omega arith)
 
     pub log_stays : AreApart (log_area v) written → pos 0 ≤ℤ (log_area v).start
-        → part new (512 * from_super v.bblog_offset) (512 * v.bblog_size) ≡ part old (512 * from_super v.bblog_offset) (512 * v.bblog_size)
+        → part new (512 * sector_from_super v.bblog_offset) (512 * v.bblog_size) ≡ part old (512 * sector_from_super v.bblog_offset) (512 * v.bblog_size)
     log_stays h from =
-        stays (log_area v) (from_super v.bblog_offset) (sector_at_is (log_area v).start from) h
-        (512 * from_super v.bblog_offset) (512 * v.bblog_size) (omega arith) (omega arith)
+        stays (log_area v) (sector_from_super v.bblog_offset) (sector_at_is (log_area v).start from) h
+        (512 * sector_from_super v.bblog_offset) (512 * v.bblog_size) (omega arith) (omega arith)
 
   -- of a bitmap in the area a from a sector on
   module _ (a : Area) (first : ℕ) (from : a.start ≡ pos first) (h : AreApart a written) where

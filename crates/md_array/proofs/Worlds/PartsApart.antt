@@ -9,9 +9,9 @@ use Rattle.md_device.proofs.Splices.{part_before, part_after}
 use Rattle.md_format.specs.Fields.{number_at}
 use Rattle.md_bitmap.specs.Marks.{is_set}
 use Rattle.md_members.specs.declared.area.Area.{Area}
-use Rattle.md_members.specs.Areas.{BitmapIsPlaced, IsPlaced, LogIsPlaced, IsApartFromLog, AreApart, bitmap_area, bitmap_sectors, data_area, log_area, super_area}
+use Rattle.md_members.specs.Areas.{BitmapIsPlaced, AreAreasPlaced, LogIsPlaced, IsApartFromLog, AreApart, bitmap_area, bitmap_sectors, data_area, log_area, super_area}
 use Rattle.md_super.specs.Log.{has_bad_block_log}
-use Rattle.md_members.specs.Members.{sectors_of}
+use Rattle.md_members.specs.Members.{sectors_of_device}
 use Rattle.md_model.specs.Sectors.{block_of}
 use Rattle.md_model.specs.Devices.{Stored}
 use Rattle.md_model.proofs.Cases.{is_below}
@@ -19,7 +19,7 @@ use Rattle.md_kept_members.specs.View.{MemberView}
 use Rattle.md_state.specs.View.{ArrayView, Disk, MirrorView}
 use Rattle.md_state.specs.Members.{IsMember}
 use Rattle.md_array.specs.Consistency.{IsConsistent}
-use Rattle.md_array.specs.Worlds.{block_on, from_super, header_fits, header_on, stored_of, super_in}
+use Rattle.md_array.specs.Worlds.{block_on, sector_from_super, header_fits, header_on, stored_of, super_in}
 use Rattle.md_array.proofs.Worlds.Listed as lists
 use Rattle.md_array.proofs.Worlds.Listed.{IsLogKept}
 use Rattle.md_array.proofs.Worlds.Outside.{LiesIn, apart_either_way, apart_from_part, bit_stays, block_stays, byte_stays, data_stays, header_stays, log_stays, sector_at_is}
@@ -30,8 +30,8 @@ use Rattle.md_assembly.proofs.Indices.{got_within}
 
 -- a member's parts on a device of this content, whose sizes are the array's
 pub record HasParts (a : ArrayView) (m : MemberView) (content : List ℕ) : Type 0 where
-  pub placed : IsPlaced (sectors_of content) m.superblock (bitmap_sectors m.stored.chunks)
-  pub bitmap : BitmapIsPlaced (sectors_of content) m.superblock (bitmap_sectors m.stored.chunks)
+  pub placed : AreAreasPlaced (sectors_of_device content) m.superblock (bitmap_sectors m.stored.chunks)
+  pub bitmap : BitmapIsPlaced (sectors_of_device content) m.superblock (bitmap_sectors m.stored.chunks)
   pub size : m.superblock.size ≡ a.chunks.size
   pub count : m.stored.chunks ≡ a.marks.chunks
 
@@ -90,7 +90,7 @@ module _ (a : ArrayView) (m : MemberView) (old new : List ℕ) (has : HasParts a
   is = stored_of a m new
 
   abbrev first : ℕ
-  first = from_super m.superblock.bitmap_offset
+  first = sector_from_super m.superblock.bitmap_offset
 
   abbrev width : ℕ
   width = bitmap_sectors m.stored.chunks
@@ -170,11 +170,11 @@ module _ (a : ArrayView) (m : MemberView) (old new : List ℕ) (has : HasParts a
     }
 
   -- ---- the log is written
-  module _ (there : has_bad_block_log m.superblock ≡ true) (same : SameOutside (512 * from_super m.superblock.bblog_offset) (512 * m.superblock.bblog_size) old new) where
+  module _ (there : has_bad_block_log m.superblock ≡ true) (same : SameOutside (512 * sector_from_super m.superblock.bblog_offset) (512 * m.superblock.bblog_size) old new) where
     abbrev log_start : ℕ
-    log_start = from_super m.superblock.bblog_offset
+    log_start = sector_from_super m.superblock.bblog_offset
 
-    log_placed : LogIsPlaced (sectors_of old) m.superblock
+    log_placed : LogIsPlaced (sectors_of_device old) m.superblock
     log_placed = has.placed.log there
 
     log_first : (log_area m.superblock).start ≡ pos log_start

@@ -11,7 +11,7 @@ use Rattle.md_bitmap.specs.Marks.{Bitmap}
 use Rattle.md_members.specs.declared.info.MemberInfo.{MemberInfo}
 use Rattle.md_members.specs.Areas.{has_bitmap, bitmap_sectors}
 use Rattle.md_members.specs.Reading.{ReadsSuper, ReadsBitmap, ReadsHeader, BitmapStartsAt, chunks_of, front_of}
-use Rattle.md_members.specs.Members.{HasBitmap, IsMember, sectors_of}
+use Rattle.md_members.specs.Members.{HasBitmap, IsReadMember, sectors_of_device}
 use Rattle.md_kept_members.specs.OwnFields.{kept_superblock}
 use Rattle.md_array.specs.Worlds.{header_on}
 use Rattle.md_array.proofs.Openings.OwnFields.{at_offset, bitmap_same, reads_next}
@@ -23,23 +23,23 @@ pub record HasRead (content : List ℕ) (v : Superblock) (h : BitmapHeader) (mar
   pub there : has_bitmap v ≡ true
   pub stored : Bitmap
   pub stored_is : marks ≡ Some stored
-  pub bitmap : ReadsBitmap content true (sectors_of content) v h stored
+  pub bitmap : ReadsBitmap content true (sectors_of_device content) v h stored
 
 read_bitmap : (content : List ℕ) (v : Superblock) (o : Option BitmapHeader) (marks : Option Bitmap) (h : BitmapHeader) → HasBitmap content true v o marks → o ≡ Some h → HasRead content v h marks
 read_bitmap content v (Some g) (Some m) h b e =
-    record { there = b.0; stored = m; stored_is = refl; bitmap = subst (λ x. ReadsBitmap content true (sectors_of content) v x m) (same_Some g h e) b.1 }
+    record { there = b.0; stored = m; stored_is = refl; bitmap = subst (λ x. ReadsBitmap content true (sectors_of_device content) v x m) (same_Some g h e) b.1 }
 read_bitmap content v None None h b e = absurd (none-some h e)
 read_bitmap content v (Some g) None h b e = absurd b
 read_bitmap content v None (Some m) h b e = absurd b
 
-pub read_of : (content : List ℕ) (info : MemberInfo) (offset : ℕ) (v : Superblock) (h : BitmapHeader) → IsMember content true info → v ≡ at_offset offset (kept_superblock info) → info.header ≡ Some h → HasRead content v h info.marks
+pub read_of : (content : List ℕ) (info : MemberInfo) (offset : ℕ) (v : Superblock) (h : BitmapHeader) → IsReadMember content true info → v ≡ at_offset offset (kept_superblock info) → info.header ≡ Some h → HasRead content v h info.marks
 read_of content info offset v h read same header =
     let r = read_bitmap content info.superblock info.header info.marks h read.bitmap header in
     subst (λ x. HasRead content x h info.marks) (sym same) (record {
       there = bitmap_same info.bad info.superblock ∙ r.there;
       stored = r.stored;
       stored_is = r.stored_is;
-      bitmap = reads_next info.bad offset info.superblock content true (sectors_of content) h r.stored r.bitmap;
+      bitmap = reads_next info.bad offset info.superblock content true (sectors_of_device content) h r.stored r.bitmap;
     })
 
 front_is : (content : List ℕ) (at : ℕ) → front_of (part content at 512) ≡ part content at 256
@@ -64,7 +64,7 @@ marked_byte content area bytes start n i a b h =
     get_or-drop (512 * start + 256) content i 0 ∙ ap (slice_index content) place ∙ sym whole
 
 -- the header and the marks there
-pub holds_read : (content : List ℕ) (v : Superblock) (h : BitmapHeader) (m : Bitmap) (start : ℕ) → ReadsBitmap content true (sectors_of content) v h m → BitmapStartsAt v start → HoldsBitmap content start h m
+pub holds_read : (content : List ℕ) (v : Superblock) (h : BitmapHeader) (m : Bitmap) (start : ℕ) → ReadsBitmap content true (sectors_of_device content) v h m → BitmapStartsAt v start → HoldsBitmap content start h m
 holds_read content v h m start r at = record {
   header = header_there content v h start r.header at;
   bits = λ c below.

@@ -5,7 +5,7 @@ use Rattle.std.proofs.lemmas.Option.{slice_get_within}
 use Rattle.md_device.specs.Splice.{part, SameOutside}
 use Rattle.md_format.specs.Fields.{number_at}
 use Rattle.md_super.specs.declared.superblock.Superblock.{Superblock}
-use Rattle.md_super.specs.Faults.{NoFault}
+use Rattle.md_super.specs.Faults.{NoSuperFault}
 use Rattle.md_super.specs.Format.{IsSuper}
 use Rattle.md_super.specs.Log.{has_bad_block_log}
 use Rattle.md_super.specs.Merge.{merged}
@@ -22,7 +22,7 @@ use Rattle.md_state.specs.View.{ArrayView, Disk, MirrorView}
 use Rattle.md_state.specs.DiskWrites.{AtDevice, IsTried}
 use Rattle.md_array.specs.ReadAsKept.{AreReadAsKept, HasOwnSuper, HasWidth, IsFromBefore, IsReadAsKept, IsSuperOn}
 use Rattle.md_array.specs.Recording.{IsReadable, super_write}
-use Rattle.md_array.specs.Worlds.{block_on, from_super}
+use Rattle.md_array.specs.Worlds.{block_on, sector_from_super}
 use Rattle.md_array.proofs.Worlds.Listed.{IsLogKept, listed_read_both, same_log}
 use Rattle.md_array.proofs.Steps.OneMember.{ChangesMember}
 use Rattle.md_array.proofs.Worlds.PartsApart.{HasParts, block_beside_data, header_beside_data, log_beside_data}
@@ -33,12 +33,12 @@ use Rattle.md_array.proofs.General.Indices.{at_map}
 log_kept_as : (v own : Superblock) (old new : List ℕ) → v.bblog_size ≡ own.bblog_size → v.bblog_offset ≡ own.bblog_offset → IsLogKept own old new → IsLogKept v old new
 log_kept_as v own old new size offset kept there =
     let same : has_bad_block_log v ≡ has_bad_block_log own = λ i. not (size i == 0) && not (int_eq (offset i) (pos 0)) in
-    (λ i. part new (512 * from_super (offset i)) (512 * size i))
+    (λ i. part new (512 * sector_from_super (offset i)) (512 * size i))
     ∙ kept (sym same ∙ there)
-    ∙ sym (λ i. part old (512 * from_super (offset i)) (512 * size i))
+    ∙ sym (λ i. part old (512 * sector_from_super (offset i)) (512 * size i))
 
 pub super_was : (old new : List ℕ) (v : Superblock) → block_on new ≡ block_on old → IsSuperOn new v → IsSuperOn old v
-super_was old new v block on = record { fields = subst (λ (b : List ℕ). IsSuper b v) block on.fields; sound = subst NoFault block on.sound }
+super_was old new v block on = record { fields = subst (λ (b : List ℕ). IsSuper b v) block on.fields; sound = subst NoSuperFault block on.sound }
 
 -- where what is read there was read before
 pub own_stays_as : (shared own : Superblock) (old new : List ℕ) → ((v : Superblock) → IsSuperOn new v → IsSuperOn old v) → IsLogKept own old new → HasOwnSuper shared own old → HasOwnSuper shared own new

@@ -5,22 +5,22 @@ use Rattle.std.specs.Int.{div_ceil}
 use Rattle.std.specs.Ordering.{int_eq}
 use Rattle.std.proofs.lemmas.Grind.{div_ceil_times}
 use Rattle.md_super.specs.declared.superblock.Superblock.{Superblock}
-use Rattle.md_super.specs.Faults.{NoFault}
+use Rattle.md_super.specs.Faults.{NoSuperFault}
 use Rattle.md_bitmap.specs.Sound.{IsChunkSize, chunk_count}
 use Rattle.md_bitmap.proofs.Limits.{div-lt-div_ceil, div_ceil-sectors, not_above}
 use Rattle.md_members.specs.declared.info.MemberInfo.{MemberInfo}
-use Rattle.md_members.specs.Areas.{BitmapIsPlaced, IsPlaced, bitmap_sectors}
+use Rattle.md_members.specs.Areas.{BitmapIsPlaced, AreAreasPlaced, bitmap_sectors}
 use Rattle.md_members.specs.Reading.{BitmapStartsAt, chunks_of}
 use Rattle.md_members.specs.Members as members
 use Rattle.md_members.specs.Members.{reads_log}
-use Rattle.md_members.specs.Members.{IsAccepted, sectors_of}
+use Rattle.md_members.specs.Members.{IsAccepted, sectors_of_device}
 use Rattle.md_assembly.specs.States.{is_recorded, state_of}
 use Rattle.md_model.specs.Devices.{is_accepted, Super}
 use Rattle.md_kept_members.specs.View.{MemberView}
 use Rattle.md_kept_members.specs.Kept.{IsKept, known_offset}
 use Rattle.md_state.specs.View.{ArrayView}
 use Rattle.md_array.specs.ReadAsKept.{HasOwnSuper, HasWidth, chunk_size_on}
-use Rattle.md_array.specs.Worlds.{block_on, from_super, is_listed, stored_of, super_in, super_of}
+use Rattle.md_array.specs.Worlds.{block_on, sector_from_super, is_listed, stored_of, super_in, super_of}
 use Rattle.md_array.proofs.Openings.OwnFields.{state_same, super_same}
 use Rattle.md_array.proofs.Worlds.PartsApart.{HasParts}
 use Rattle.md_array.proofs.Worlds.Listed.{listed_kept_of, same_log, listed_at_offset}
@@ -31,7 +31,7 @@ use Rattle.md_array.proofs.Worlds.Supers.{block_spells, device_super}
 
 -- a member as it was read of a device that does what it answers, and as it is kept
 pub record IsReadMember (a : ArrayView) (m : MemberView) (info : MemberInfo) (content : List ℕ) : Type 0 where
-  pub read : members.IsMember content true info
+  pub read : members.IsReadMember content true info
   pub kept : IsKept a.shared.events a.events_cleared info (state_of a.shared info.superblock) m
   pub uuid : info.superblock.set_uuid ≡ a.shared.set_uuid
   pub raid_disks : info.superblock.raid_disks ≡ a.shared.raid_disks
@@ -67,7 +67,7 @@ module _ (a : ArrayView) (m : MemberView) (info : MemberInfo) (content : List �
   offset = known_offset a.events_cleared (state_of a.shared info.superblock) info.superblock
 
   abbrev start : ℕ
-  start = from_super own.bitmap_offset
+  start = sector_from_super own.bitmap_offset
 
   abbrev sectors : ℕ
   sectors = bitmap_sectors m.stored.chunks
@@ -81,10 +81,10 @@ module _ (a : ArrayView) (m : MemberView) (info : MemberInfo) (content : List �
   chunks : m.stored.chunks ≡ chunks_of own m.header
   chunks = o.kept.chunks ∙ ap (λ (v : Superblock). chunk_count v.size m.header.chunksize) (sym o.kept.superblock)
 
-  pub placed : IsPlaced (sectors_of content) own sectors
-  placed = subst (λ n. IsPlaced (sectors_of content) own (bitmap_sectors n)) (sym chunks) reads.bitmap.placed
+  pub placed : AreAreasPlaced (sectors_of_device content) own sectors
+  placed = subst (λ n. AreAreasPlaced (sectors_of_device content) own (bitmap_sectors n)) (sym chunks) reads.bitmap.placed
 
-  pub bitmap_placed : BitmapIsPlaced (sectors_of content) own sectors
+  pub bitmap_placed : BitmapIsPlaced (sectors_of_device content) own sectors
   bitmap_placed = placed.bitmap reads.there
 
   pub size_is : a.chunks.size ≡ own.size
@@ -136,8 +136,8 @@ module _ (a : ArrayView) (m : MemberView) (info : MemberInfo) (content : List �
   pub parts : HasParts a m content
   parts = record { placed = placed; bitmap = bitmap_placed; size = sym size_is; count = sym o.count }
 
-  pub sound_block : NoFault (block_on content)
-  sound_block = subst NoFault (o.read.superblock.read.from_device refl) o.read.superblock.sound
+  pub sound_block : NoSuperFault (block_on content)
+  sound_block = subst NoSuperFault (o.read.superblock.read.from_device refl) o.read.superblock.sound
 
   pub own_old : HasOwnSuper a.shared own content
   own_old v on =

@@ -14,12 +14,12 @@ use Rattle.md_model.proofs.Cases.{by_test, is_below}
 use Rattle.md_requests.specs.Pending.{PendingView}
 use Rattle.md_kept_members.specs.View.{MemberView}
 use Rattle.md_state.specs.View.{ArrayView, Disk, MirrorView, geometry_of}
-use Rattle.md_state.specs.InMemory.{HasChunks, HasRoles}
+use Rattle.md_state.specs.InMemory.{HasMarksOfSize, HasRoles}
 use Rattle.md_state.specs.Requests.{AreInFlight, IsPending}
 use Rattle.md_array.specs.Consistency.{IsConsistent}
 use Rattle.md_array.specs.Events.{Does, Happens, KeepsLists, WritesOnce}
 use Rattle.md_array.specs.Fits.{Fits}
-use Rattle.md_array.specs.NotingResynced.{AllAgreeWhereMarked, BecomesResynced, IsServed, NotesResynced, sector_of, AreNoted}
+use Rattle.md_array.specs.NotingResynced.{AllAgreeWhereMarked, BecomesResynced, IsHonestMember, NotesResynced, sector_of, AreNoted}
 use Rattle.md_array.specs.ReadAsKept.{AreReadAsKept}
 use Rattle.md_array.specs.Worlds.{AreHonest, world_of}
 use Rattle.md_array.proofs.Steps.OneMember.{stored_there}
@@ -55,7 +55,7 @@ module _ (is : Bool) (old new : MirrorView) (c : IsConsistent old) (t : NotesRes
     serving = λ runs. let s = r.serving runs in (s.0, s.1, record { member = s.2.member; in_sync = s.2.in_sync });
   }
 
-  chunks_marked : HasChunks b
+  chunks_marked : HasMarksOfSize b
   chunks_marked = let h = c.chunks in record {
     size = h.size;
     count = h.count;
@@ -115,7 +115,7 @@ module _ (old : MirrorView) (c : IsConsistent old) (running : old.array.halted �
   record IsHeld (k s : ℕ) : Type 0 where
     member : MemberView
     disk : Disk
-    served : IsServed old k member disk
+    served : IsHonestMember old k member disk
     is : (w.stored k).content s ≡ cond (nat_lt s old.array.chunks.size) (sector_of member disk s) []
 
   held_by : (k s : ℕ) → worlds.IsInSync w k → IsHeld k s

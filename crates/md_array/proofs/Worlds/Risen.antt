@@ -19,7 +19,7 @@ use Rattle.md_kept_members.specs.Members.{made_due}
 use Rattle.md_state.specs.Members.{IsMember, is_degraded, is_filled, faulty_role}
 use Rattle.md_state.specs.Rising.{has_number, is_absent, roles_at_rise, risen}
 use Rattle.md_state.specs.View.{Disk, ArrayView, MirrorView, geometry_of}
-use Rattle.md_state.specs.InMemory.{HasChunks, HasRoles}
+use Rattle.md_state.specs.InMemory.{HasMarksOfSize, HasRoles}
 use Rattle.md_array.specs.Consistency.{HasSuper, IsConsistent}
 use Rattle.md_array.specs.Fits.{Fits, FitsMember}
 use Rattle.md_array.specs.Worlds.{kind_of, stored_on, world_on, lists_of}
@@ -121,7 +121,7 @@ module _ (a : ArrayView) (full : Bool) where
       number : MemberView → ℕ
       number m = m.superblock.dev_number
 
-  chunks_risen : HasChunks a → HasChunks (risen a full)
+  chunks_risen : HasMarksOfSize a → HasMarksOfSize (risen a full)
   chunks_risen c = record {
     size = c.size;
     count = c.count;

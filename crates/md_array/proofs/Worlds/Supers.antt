@@ -6,14 +6,14 @@ use Rattle.md_super.specs.declared.superblock.Superblock.{Superblock}
 use Rattle.md_super.specs.declared.fault.SuperFault.TheVariants.{Checksum}
 use Rattle.md_super.specs.Checksum.{checksum_of}
 use Rattle.md_super.specs.Profile.{unsupported_features}
-use Rattle.md_super.specs.Faults.{NoFault, fault_of}
+use Rattle.md_super.specs.Faults.{NoSuperFault, super_fault_of}
 use Rattle.md_super.specs.Format.{IsSuper}
 use Rattle.md_super.proofs.Order.{sound_without_fault}
 use Rattle.md_members.specs.Reading.{ReadsSuper}
-use Rattle.md_array.specs.Worlds.{super_of, super_fields, super_in, block_on}
+use Rattle.md_array.specs.Worlds.{super_of, super_of_block, super_in, block_on}
 
-no_fault : (block : List ℕ) → NoFault block → fault_of block ≡ None
-unfolding fault_of
+no_fault : (block : List ℕ) → NoSuperFault block → super_fault_of block ≡ None
+unfolding super_fault_of
 no_fault block none =
     let s = sound_without_fault block none in
     let sum : number_at 4 216 block ≡ checksum_of block (number_at 4 220 block) = same_unless_other _ _ (none Checksum (omega arith)) in
@@ -29,7 +29,7 @@ no_fault block none =
       le-leb (number_at 4 92 block) 32 s.profile.few_disks,
     ) refl
 
-same_fields : (block : List ℕ) (v : Superblock) → IsSuper block v → super_fields block ≡ super_of v
+same_fields : (block : List ℕ) (v : Superblock) → IsSuper block v → super_of_block block ≡ super_of v
 same_fields block v f =
     λ i. record {
       number = sym f.dev_number i;
@@ -39,7 +39,7 @@ same_fields block v f =
       offset = sym f.recovery_offset i;
     }
 
-pub super_shown : (block : List ℕ) (v : Superblock) → IsSuper block v → NoFault block → super_in block ≡ Some (super_of v)
+pub super_shown : (block : List ℕ) (v : Superblock) → IsSuper block v → NoSuperFault block → super_in block ≡ Some (super_of v)
 unfolding super_in
 super_shown block v fields sound = rw (no_fault block sound) (ap Some (same_fields block v fields))
 
@@ -48,4 +48,4 @@ pub block_spells : (content : List ℕ) (v : Superblock) → ReadsSuper content 
 block_spells content v r = subst (λ (bytes : List ℕ). IsSuper bytes v) (r.read.from_device refl) r.fields
 
 pub device_super : (content : List ℕ) (v : Superblock) → ReadsSuper content true v → super_in (block_on content) ≡ Some (super_of v)
-device_super content v r = super_shown (block_on content) v (block_spells content v r) (subst (λ (bytes : List ℕ). NoFault bytes) (r.read.from_device refl) r.sound)
+device_super content v r = super_shown (block_on content) v (block_spells content v r) (subst (λ (bytes : List ℕ). NoSuperFault bytes) (r.read.from_device refl) r.sound)

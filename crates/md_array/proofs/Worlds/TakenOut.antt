@@ -13,7 +13,7 @@ use Rattle.md_assembly.specs.declared.state.MemberState.{MemberState}
 use Rattle.md_assembly.specs.declared.state.MemberState.TheVariants.{InSync, Recovering, Stale, Spare, Faulty}
 use Rattle.md_assembly.specs.States.{has_recovery_offset, is_in_sync, is_in_sync_as}
 use Rattle.md_kept_members.specs.View.{MemberView}
-use Rattle.md_state.specs.InMemory.{HasChunks, HasRoles}
+use Rattle.md_state.specs.InMemory.{HasMarksOfSize, HasRoles}
 use Rattle.md_state.specs.Members.{IsMember, is_degraded, is_filled}
 use Rattle.md_state.specs.View.{ArrayView, Disk}
 use Rattle.md_state.specs.Removing.{taken_out}
@@ -62,7 +62,7 @@ module _ (a : ArrayView) (k : ℕ) (m : MemberView) (at : IsMember a k m) (low :
         (i.0, s.1, record { member = got_left a.members k i.0 ∙ ap (slice_get a.members) i.1 ∙ s.2.member; in_sync = s.2.in_sync });
   }
 
-  chunks_left : HasChunks a → HasChunks b
+  chunks_left : HasMarksOfSize a → HasMarksOfSize b
   chunks_left h = record {
     size = h.size;
     count = h.count;

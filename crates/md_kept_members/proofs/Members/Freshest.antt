@@ -4,8 +4,8 @@ use Rattle.std.specs.List.{slice_get}
 use Rattle.std.specs.Option.{option_map}
 use Rattle.std.proofs.lemmas.Option.{slice_get-map, slice_get_within}
 use Rattle.md_super.specs.declared.superblock.Superblock.{Superblock}
-use Rattle.md_assembly.specs.Assembled.{IsFreshest}
-use Rattle.md_kept_members.specs.Spares.{IsOfFreshest, superblocks}
+use Rattle.md_assembly.specs.Assembled.{IsFirstFreshest}
+use Rattle.md_kept_members.specs.Spares.{IsOfFreshest, superblocks_kept}
 use Rattle.md_kept_members.specs.View.{MemberView}
 use Rattle.md_assembly.proofs.Indices.{got_same}
 use Rattle.md_kept_members.proofs.Members.Indices.{cases_more}
@@ -68,7 +68,7 @@ module _ (all : List Superblock) (n best : ℕ) (old new : Superblock) (f : IsFr
   }
 
 -- the freshest of all
-pub freshest_of_all : (all : List Superblock) (n best : ℕ) → length all ≤ n → IsFreshestBelow all n best → (v : Superblock) × IsFreshest all best v
+pub freshest_of_all : (all : List Superblock) (n best : ℕ) → length all ≤ n → IsFreshestBelow all n best → (v : Superblock) × IsFirstFreshest all best v
 freshest_of_all all n best whole f = (
   f.superblock,
   record {
@@ -79,14 +79,14 @@ freshest_of_all all n best whole f = (
 )
 
 -- the superblock of a member that is listed
-pub block_of : (members : List MemberView) (i : ℕ) (m : MemberView) → slice_get members i ≡ Some m → slice_get (superblocks members) i ≡ Some m.superblock
+pub block_of : (members : List MemberView) (i : ℕ) (m : MemberView) → slice_get members i ≡ Some m → slice_get (superblocks_kept members) i ≡ Some m.superblock
 block_of members i m there = slice_get-map (λ (x : MemberView). x.superblock) members i ∙ ap (option_map (λ (x : MemberView). x.superblock)) there
 
-pub header_of_freshest : (members : List MemberView) (i : ℕ) (m : MemberView) (v : Superblock) → slice_get members i ≡ Some m → IsFreshest (superblocks members) i v → IsOfFreshest members m.header
+pub header_of_freshest : (members : List MemberView) (i : ℕ) (m : MemberView) (v : Superblock) → slice_get members i ≡ Some m → IsFirstFreshest (superblocks_kept members) i v → IsOfFreshest members m.header
 header_of_freshest members i m v there f = record {
   index = i;
   member = m;
   at = there;
-  freshest = subst (IsFreshest (superblocks members) i) (got_same (superblocks members) i v m.superblock f.listed (block_of members i m there)) f;
+  freshest = subst (IsFirstFreshest (superblocks_kept members) i) (got_same (superblocks_kept members) i v m.superblock f.listed (block_of members i m there)) f;
   header = refl;
 }

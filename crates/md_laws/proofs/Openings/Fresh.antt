@@ -17,7 +17,7 @@ use Rattle.md_state.specs.View.{ArrayView, Disk, MirrorView, geometry_of}
 use Rattle.md_state.specs.DeviceChanges.{IsLeftAlone}
 use Rattle.md_state.specs.Members.{IsMember}
 use Rattle.md_array.specs.Opening.{IsArrayOf, IsOpenedFrom}
-use Rattle.md_array.specs.Storing.{AreMarked}
+use Rattle.md_array.specs.Storing.{AreMarksOnDisks}
 use Rattle.md_array.specs.Worlds.{AreHonest, none_in_flight, world_of, world_on}
 use Rattle.md_array.proofs.Worlds.Device.{bits_new}
 use Rattle.md_array.proofs.Worlds.Member.{by_need}
@@ -28,7 +28,7 @@ use Rattle.md_assembly.proofs.Indices.{got_within}
 use Rattle.md_laws.specs.Fresh.{AreFresh, StartsFresh, StaysFresh}
 use Rattle.md_laws.specs.HalfOpened.{IsHalfOpened}
 use Rattle.md_laws.proofs.Openings.OpenedFrom.{same_marks}
-use Rattle.md_laws.proofs.Stops.AtSteps.{new_has, same_lists}
+use Rattle.md_laws.proofs.Crashes.AtSteps.{new_has, same_lists}
 
 module _ (before : List Disk) (m : MirrorView) (honest : AreHonest before) (o : IsOpenedFrom before m) (fresh : AreFresh before) where
   abbrev a : ArrayView
@@ -97,10 +97,10 @@ module _ (before : List Disk) (a : ArrayView) (honest : AreHonest before) (o : I
       }
 
   module _ (left : List (List ℕ)) (half : IsHalfOpened a before left) where
-    marked : AreMarked before half.after a
+    marked : AreMarksOnDisks before half.after a
     marked = elim half.opens [
       | inl done ↦ done
-      | inr fails ↦ absurd (fails.stops.needs.refused (accepted fails.on fails.stops.member fails.stops.at))
+      | inr fails ↦ absurd (fails.ends.needs.refused (accepted fails.on fails.ends.member fails.ends.at))
     ]
 
     as_many : length left ≡ length before
@@ -128,7 +128,7 @@ module _ (before : List Disk) (a : ArrayView) (honest : AreHonest before) (o : I
           | inl within ↦
               elim (within.each k d e.0 c was e.1 is) [
                 | inl same ↦ same
-                | inr new ↦ new_has d.stops e.0.stops (λ x. x ≡ d.content) (stays.1 (honest k d was)) new.0 c new.1
+                | inr new ↦ new_has d.crashes e.0.crashes (λ x. x ≡ d.content) (stays.1 (honest k d was)) new.0 c new.1
               ]
           | inr last ↦ same_Some c e.0.content (sym is ∙ ap (λ (cs : List (List ℕ)). slice_get cs k) last ∙ got_in_map (λ (x : Disk). x.content) half.after k e.0 e.1) ∙ stays.0
         ]

@@ -26,12 +26,12 @@ use Rattle.md_state.specs.View.{ArrayView, Disk, geometry_of}
 use Rattle.md_state.specs.DeviceChanges.{IsLeftAlone}
 use Rattle.md_array.specs.Opening.{IsArrayOf}
 use Rattle.md_array.specs.ReadAsKept.{chunk_size_on}
-use Rattle.md_array.specs.Storing.{AreMarkWrites, FailsToStore, IsMarkedBy, StoresMarks}
-use Rattle.md_array.specs.Worlds.{from_super, header_fits, header_on, stored_of}
+use Rattle.md_array.specs.Storing.{AreMarkWrites, FailsToStore, IsMarkedBy, StoresMarksOn}
+use Rattle.md_array.specs.Worlds.{sector_from_super, header_fits, header_on, stored_of}
 use Rattle.md_laws.specs.HalfOpened.{FailsOnMember, IsHalfOpened, IsHeaderKept}
 use Rattle.md_laws.specs.Lives.{AreFoundAgain, IsAsLeft, IsFoundAgain, IsReadAsKeptInLives, StaysAsLeft}
 use Rattle.md_laws.specs.Runs.{Moment}
-use Rattle.md_laws.specs.StopsWithin.{MayBeLeft}
+use Rattle.md_laws.specs.CrashesWithin.{MayBeLeft}
 use Rattle.md_array.proofs.Worlds.PartsApart.{bitmap_alone}
 use Rattle.md_array.proofs.General.Indices.{got_in_map}
 use Rattle.md_array.proofs.Worlds.Device.{IsOpenedMember, bits_new, chunk_size_new, fits_on}
@@ -40,7 +40,7 @@ use Rattle.md_array.proofs.Worlds.Outside.{starts_at}
 use Rattle.md_array.proofs.Worlds.ReadMember as read
 use Rattle.md_array.proofs.Worlds.ReadMember.{IsReadMember}
 use Rattle.md_laws.proofs.Openings.BitmapArea.{AllIn, IsNextAny, all_in, area_kept, next_any}
-use Rattle.md_laws.proofs.Stops.AtSteps.{new_has}
+use Rattle.md_laws.proofs.Crashes.AtSteps.{new_has}
 use Rattle.md_laws.proofs.Runs.Moments.{IsSoundAt, life_keeps, sound_when_opened}
 use Rattle.md_laws.proofs.Openings.Reopened.{again, bitmap_offset, same_count, same_stored}
 use Rattle.md_assembly.proofs.Indices.{got_within}
@@ -52,9 +52,9 @@ above j k low apart = elim (cases_lt j k) [
 ]
 
 -- ---- a member's device, of which an opening made this
-module _ (a : ArrayView) (m : MemberView) (old : Disk) (left : List ℕ) (room : 512 * (from_super m.superblock.bitmap_offset + bitmap_sectors m.stored.chunks) ≤ length old.content) where
+module _ (a : ArrayView) (m : MemberView) (old : Disk) (left : List ℕ) (room : 512 * (sector_from_super m.superblock.bitmap_offset + bitmap_sectors m.stored.chunks) ≤ length old.content) where
   abbrev start : ℕ
-  start = from_super m.superblock.bitmap_offset
+  start = sector_from_super m.superblock.bitmap_offset
 
   abbrev sectors : ℕ
   sectors = bitmap_sectors m.stored.chunks
@@ -62,7 +62,7 @@ module _ (a : ArrayView) (m : MemberView) (old : Disk) (left : List ℕ) (room :
   -- all marks are stored, or the header is as it was
   pub record IsPartlyStored : Type 0 where
     pub outside : SameOutside (512 * start) (512 * sectors) old.content left
-    pub header : StoresMarks a m old (record old { content = left }) ⊎ IsHeaderKept m old.content left
+    pub header : StoresMarksOn a m old (record old { content = left }) ⊎ IsHeaderKept m old.content left
 
   as_was : left ≡ old.content → IsPartlyStored
   as_was same = record {
@@ -89,7 +89,7 @@ module _ (a : ArrayView) (m : MemberView) (old : Disk) (left : List ℕ) (room :
             writes = ws;
             are = are;
             done = λ _. all ∙ ap (after old.content) (sym writes);
-            within = λ _. leaves_none old.stops (IsCutShort old.content ws);
+            within = λ _. leaves_none old.crashes (IsCutShort old.content ws);
             outside = subst (λ (x : ℕ). SameOutside (512 * x) (512 * sectors) old.content left) (sym at) outside;
           })
           | inr kept ↦ inr (part_before kept (512 * start) 256 (omega arith))
@@ -105,10 +105,10 @@ module _ (a : ArrayView) (m : MemberView) (old : Disk) (left : List ℕ) (room :
       (subst (AllIn start sectors) (sym writes ∙ order) (all_in start are.header m.stored sectors (omega arith))) room next
 
   module _ (e : Disk) (honest : old.honest ≡ true) (may : MayBeLeft old e left ⊎ (left ≡ e.content)) where
-    stores_left : StoresMarks a m old e → IsPartlyStored
+    stores_left : StoresMarksOn a m old e → IsPartlyStored
     stores_left s = elim may [
       | inl (inl same) ↦ as_was same
-      | inl (inr new) ↦ stopped s.start s.writes s.are (new_has old.stops e.stops (IsCutShort old.content s.writes) (s.within honest) new.0 left new.1)
+      | inl (inr new) ↦ stopped s.start s.writes s.are (new_has old.crashes e.crashes (IsCutShort old.content s.writes) (s.within honest) new.0 left new.1)
       | inr end ↦ stopped s.start s.writes s.are (record { done = s.writes; rest = []; order = sym (append-nil s.writes); mixed = end ∙ s.done honest })
     ]
 
@@ -117,7 +117,7 @@ module _ (a : ArrayView) (m : MemberView) (old : Disk) (left : List ℕ) (room :
       outside = elim may [
         | inl (inl same) ↦ subst (SameOutside (512 * start) (512 * sectors) old.content) (sym same) (outside_none (512 * start) (512 * sectors) old.content)
         | inl (inr new) ↦
-            elim (new_has old.stops e.stops (λ c. IsCutShort old.content f.made c ⊎ IsAnyIn f.tried (after old.content f.made) c) (f.within honest) new.0 left new.1) [
+            elim (new_has old.crashes e.crashes (λ c. IsCutShort old.content f.made c ⊎ IsAnyIn f.tried (after old.content f.made) c) (f.within honest) new.0 left new.1) [
               | inl cut ↦ beside f.start f.writes f.are cut.done (cut.rest ++ f.tried ∷ f.rest)
                   (f.order ∙ ap (λ (xs : List Write). xs ++ f.tried ∷ f.rest) cut.order ∙ append_assoc cut.done cut.rest (f.tried ∷ f.rest)) (next_any cut.rest (f.tried ∷ f.rest) (after old.content cut.done) left cut.mixed)
               | inr any ↦ beside f.start f.writes f.are f.made (f.tried ∷ f.rest) f.order any
@@ -130,7 +130,7 @@ module _ (a : ArrayView) (m : MemberView) (old : Disk) (left : List ℕ) (room :
     alone_left : IsLeftAlone old e → left ≡ old.content
     alone_left is = elim may [
       | inl (inl same) ↦ same
-      | inl (inr new) ↦ new_has old.stops e.stops (λ c. c ≡ old.content) (is.1 honest) new.0 left new.1
+      | inl (inr new) ↦ new_has old.crashes e.crashes (λ c. c ≡ old.content) (is.1 honest) new.0 left new.1
       | inr end ↦ end ∙ is.0
     ]
 
@@ -166,14 +166,14 @@ module _ (t : Moment) (at_t : IsSoundAt t) (before : List Disk) (is : ArrayView)
   abbrev new : Disk
   new = record f.disk_now { content = left }
 
-  pub room : 512 * (from_super n.superblock.bitmap_offset + bitmap_sectors n.stored.chunks) ≤ length f.disk_now.content
-  room = fits_on _ (from_super n.superblock.bitmap_offset) (bitmap_sectors n.stored.chunks) (length f.disk_now.content) (read.starts is n info f.disk_now.content seen)
+  pub room : 512 * (sector_from_super n.superblock.bitmap_offset + bitmap_sectors n.stored.chunks) ≤ length f.disk_now.content
+  room = fits_on _ (sector_from_super n.superblock.bitmap_offset) (bitmap_sectors n.stored.chunks) (length f.disk_now.content) (read.starts is n info f.disk_now.content seen)
       (read.bitmap_placed is n info f.disk_now.content seen).within.to
 
   module _ (need : NeedsMarks n) (partly : IsPartlyStored is n f.disk_now left room) where
-    outside : SameOutside (512 * from_super m.superblock.bitmap_offset) (512 * bitmap_sectors m.stored.chunks) f.disk_now.content new.content
-    outside = subst (λ (x : ℕ). SameOutside (512 * from_super m.superblock.bitmap_offset) (512 * bitmap_sectors x) f.disk_now.content new.content) same_chunks
-        (subst (λ x. SameOutside (512 * from_super x) (512 * bitmap_sectors n.stored.chunks) f.disk_now.content new.content) at partly.outside)
+    outside : SameOutside (512 * sector_from_super m.superblock.bitmap_offset) (512 * bitmap_sectors m.stored.chunks) f.disk_now.content new.content
+    outside = subst (λ (x : ℕ). SameOutside (512 * sector_from_super m.superblock.bitmap_offset) (512 * bitmap_sectors x) f.disk_now.content new.content) same_chunks
+        (subst (λ x. SameOutside (512 * sector_from_super x) (512 * bitmap_sectors n.stored.chunks) f.disk_now.content new.content) at partly.outside)
 
     -- before it counted as all marked
     refused : is_accepted (stored_of was m f.disk_now.content) ≡ false
@@ -181,31 +181,31 @@ module _ (t : Moment) (at_t : IsSoundAt t) (before : List Disk) (is : ArrayView)
         ap is_accepted (sym (same_stored t at_t before is r o k j there n is_member))
         ∙ by_test (is_accepted (stored_of is n f.disk_now.content)) (λ e. absurd (need.refused (read.accepted_before is n info f.disk_now.content seen e))) (λ e. e)
 
-    opened_member : StoresMarks is n f.disk_now new → IsOpenedMember is n info f.disk_now new
+    opened_member : StoresMarksOn is n f.disk_now new → IsOpenedMember is n info f.disk_now new
     opened_member stores = record { honest = r.honest j f.disk_now f.at_now; member = seen; stored = λ _. stores; unchanged = λ none. absurd (none need) }
 
     -- where all marks are stored
-    module _ (stores : StoresMarks is n f.disk_now new) where
+    module _ (stores : StoresMarksOn is n f.disk_now new) where
       stored_size : chunk_size_on m.superblock new.content ≡ chunk_size_on m.superblock f.disk_now.content
       stored_size =
-          (λ i. number_at 4 52 (header_on new.content (from_super (sym at i))))
+          (λ i. number_at 4 52 (header_on new.content (sector_from_super (sym at i))))
           ∙ chunk_size_new is n info f.disk_now new (opened_member stores) need.in_sync
           ∙ sym (read.chunk_size_old is n info f.disk_now.content seen)
-          ∙ (λ i. number_at 4 52 (header_on f.disk_now.content (from_super (at i))))
+          ∙ (λ i. number_at 4 52 (header_on f.disk_now.content (sector_from_super (at i))))
 
       stored_bit : (c : ℕ) → c < was.marks.chunks → (stored_of was m new.content).bits c ≡ true
       stored_bit c low =
           let low_is : c < is.marks.chunks = subst (λ (x : ℕ). c < x) (sym count) low in
           and_from (nat_lt c was.marks.chunks) _ (lt-ltb c was.marks.chunks low)
-          ((λ i. is_set (drop (512 * from_super (sym at i) + 256) new.content) c)
+          ((λ i. is_set (drop (512 * sector_from_super (sym at i) + 256) new.content) c)
           ∙ bits_new is n info f.disk_now new (opened_member stores) need.in_sync c low_is
           ∙ seen.kept.all_marks need c
           ∙ lt-ltb c n.stored.chunks (subst (λ (x : ℕ). c < x) seen.count low_is))
 
     -- where the header is as it was
     module _ (kept : IsHeaderKept n f.disk_now.content left) where
-      header_kept : header_on new.content (from_super m.superblock.bitmap_offset) ≡ header_on f.disk_now.content (from_super m.superblock.bitmap_offset)
-      header_kept = subst (λ x. header_on new.content (from_super x) ≡ header_on f.disk_now.content (from_super x)) at kept
+      header_kept : header_on new.content (sector_from_super m.superblock.bitmap_offset) ≡ header_on f.disk_now.content (sector_from_super m.superblock.bitmap_offset)
+      header_kept = subst (λ x. header_on new.content (sector_from_super x) ≡ header_on f.disk_now.content (sector_from_super x)) at kept
 
       still_refused : is_accepted (stored_of was m new.content) ≡ false
       still_refused =
@@ -260,7 +260,7 @@ module _ (t : Moment) (at_t : IsSoundAt t) (before : List Disk) (is : ArrayView)
   as_many : length half.after ≡ length before
   as_many = elim half.opens [
     | inl marked ↦ marked.same.as_many
-    | inr fails ↦ fails.stops.same.as_many
+    | inr fails ↦ fails.ends.same.as_many
   ]
 
   end : (e : Disk) × (slice_get half.after j ≡ Some e)
@@ -285,15 +285,15 @@ module _ (t : Moment) (at_t : IsSoundAt t) (before : List Disk) (is : ArrayView)
   by_failure : (x : FailsOnMember is before half.after left) → IsAsLeft t.mirror.array then.member then.disk_left.content c
   by_failure x = by_same j x.on
       (λ here.
-      let same : member.0 ≡ x.stops.member = same_Some member.0 x.stops.member (sym member.1 ∙ ap (slice_get is.members) here ∙ x.stops.at) in
+      let same : member.0 ≡ x.ends.member = same_Some member.0 x.ends.member (sym member.1 ∙ ap (slice_get is.members) here ∙ x.ends.at) in
       let was : slice_get before x.on ≡ Some then.disk_now = sym (ap (slice_get before) here) ∙ then.at_now in
       failed_as_left t at_t before is r o k j at member.0 member.1 c end.0 may
-      (subst NeedsMarks (sym same) x.stops.needs)
-      (subst (λ (n : MemberView). FailsToStore is n then.disk_now end.0) (sym same) (x.stops.failed then.disk_now end.0 was (sym (ap (slice_get half.after) here) ∙ end.1)))
+      (subst NeedsMarks (sym same) x.ends.needs)
+      (subst (λ (n : MemberView). FailsToStore is n then.disk_now end.0) (sym same) (x.ends.failed then.disk_now end.0 was (sym (ap (slice_get half.after) here) ∙ end.1)))
       (subst (λ (n : MemberView). IsHeaderKept n then.disk_now.content c) (sym same) (x.header then.disk_now c was (sym (ap (slice_get left) here) ∙ there))))
       (λ apart. elim (cases_lt j x.on) [
-        | inl earlier ↦ by_marks (x.stops.earlier j then.disk_now end.0 then.at_now end.1 earlier member.0 member.1)
-        | inr behind ↦ alone_as_left t at_t before is r o k j at member.0 member.1 c end.0 may (x.stops.later j then.disk_now end.0 then.at_now end.1 (above x.on j behind (λ same. apart (sym same))))
+        | inl earlier ↦ by_marks (x.ends.earlier j then.disk_now end.0 then.at_now end.1 earlier member.0 member.1)
+        | inr behind ↦ alone_as_left t at_t before is r o k j at member.0 member.1 c end.0 may (x.ends.later j then.disk_now end.0 then.at_now end.1 (above x.on j behind (λ same. apart (sym same))))
       ])
 
   pub as_left : IsAsLeft t.mirror.array then.member then.disk_left.content c

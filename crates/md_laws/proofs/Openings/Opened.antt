@@ -1,7 +1,7 @@
 -- A mirror that was opened is an opened world.
 use Rattle.std.proofs.Common.{ℕ, ◌*◌, ◌≤◌, List, refl, sym, subst}
 use Rattle.std.proofs.lemmas.List.{get_or_past}
-use Rattle.md_model.specs.Devices.{Super, EndsWith}
+use Rattle.md_model.specs.Devices.{Super, EndsWithArray}
 use Rattle.md_model.specs.Openings.{IsOpened}
 use Rattle.md_model.specs.Worlds as worlds
 use Rattle.md_kept_members.specs.View.{MemberView}
@@ -17,14 +17,14 @@ use Rattle.md_laws.proofs.Openings.Found as found
 use Rattle.md_laws.proofs.Openings.Marked as marked
 
 -- nothing is shown of a device past the array's end
-stored_ends : (a : ArrayView) (mv : MemberView) (content : List ℕ) → ((c : ℕ) → a.chunks.size ≤ c * a.chunks.sectors → a.marks.chunks ≤ c) → EndsWith (geometry_of a) (stored_of a mv content)
+stored_ends : (a : ArrayView) (mv : MemberView) (content : List ℕ) → ((c : ℕ) → a.chunks.size ≤ c * a.chunks.sectors → a.marks.chunks ≤ c) → EndsWithArray (geometry_of a) (stored_of a mv content)
 stored_ends a mv content none = record {
   content = λ s past. rw (not_below-nat_lt s a.chunks.size past) refl;
   listed = λ s past. rw (not_below-nat_lt s a.chunks.size past) refl;
   bits = λ c past. rw (not_below-nat_lt c a.marks.chunks (none c past)) refl;
 }
 
-nothing_ends : (a : ArrayView) → EndsWith (geometry_of a) nothing_stored
+nothing_ends : (a : ArrayView) → EndsWithArray (geometry_of a) nothing_stored
 nothing_ends a = record { content = λ s past. refl; listed = λ s past. refl; bits = λ c past. refl }
 
 module _ (before : List Disk) (m : MirrorView) (honest : AreHonest before) (o : IsOpenedFrom before m) where
@@ -40,11 +40,11 @@ module _ (before : List Disk) (m : MirrorView) (honest : AreHonest before) (o : 
   abbrev seen : (k : ℕ) (mv : MemberView) → IsMember a k mv → IsShown before m o.array.infos k mv
   seen = shown before m honest o
 
-  ends : (k : ℕ) → EndsWith (geometry_of a) (w.stored k)
+  ends : (k : ℕ) → EndsWithArray (geometry_of a) (w.stored k)
   ends k = by_member a k
       (λ mv is. let s = seen k mv is in
-      subst (EndsWith (geometry_of a)) (sym (stored_at before m honest o k mv is)) (stored_ends a mv s.new.content (none_past a mv s.info s.old.content s.opened.member)))
-      (λ past. subst (EndsWith (geometry_of a)) (sym (stored_past before m honest o k past)) (nothing_ends a))
+      subst (EndsWithArray (geometry_of a)) (sym (stored_at before m honest o k mv is)) (stored_ends a mv s.new.content (none_past a mv s.info s.old.content s.opened.member)))
+      (λ past. subst (EndsWithArray (geometry_of a)) (sym (stored_past before m honest o k past)) (nothing_ends a))
 
   pub opened : IsOpened (geometry_of a) first w
   opened = record {

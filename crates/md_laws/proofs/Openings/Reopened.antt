@@ -1,18 +1,18 @@
--- What the fields of the next array read of the devices that a stop left is what those of the mirror before read.
+-- What the fields of the next array read of the devices that a crash left is what those of the mirror before read.
 use Rattle.std.proofs.Common.{◌≡◌, ℕ, ◌+◌, ◌*◌, ◌/◌, ◌≤◌, inl, inr, true, false, true≢false, cond, ◌&&◌, ◌==◌, nat_lt, List, [], drop, slice_get, Some, refl, sym, ap, ◌∙◌, subst, arith, bytes_eq}
 use Rattle.std.specs.Int.{div_ceil}
 use Rattle.std.proofs.lemmas.Option.{same_Some, slice_get_within}
 use Rattle.md_device.specs.Splice.{part}
 use Rattle.md_format.specs.Fields.{number_at, bytes_at}
 use Rattle.md_super.specs.declared.superblock.Superblock.{Superblock}
-use Rattle.md_super.specs.Faults.{NoFault}
+use Rattle.md_super.specs.Faults.{NoSuperFault}
 use Rattle.md_bitmap.specs.Marks.{is_set}
 use Rattle.md_bitmap.proofs.Limits.{div_ceil-sectors}
 use Rattle.md_members.specs.declared.info.MemberInfo.{MemberInfo}
 use Rattle.md_members.specs.Reading.{ReadsSuper}
 use Rattle.md_model.specs.Sectors.{chunk_of}
 use Rattle.md_model.specs.Devices.{Stored, is_marked}
-use Rattle.md_model.specs.Stops as stops
+use Rattle.md_model.specs.Crashes as crashes
 use Rattle.md_kept_members.specs.View.{MemberView}
 use Rattle.md_assembly.specs.States.{is_in_sync}
 use Rattle.md_state.specs.View.{ArrayView, Disk, geometry_of}
@@ -20,7 +20,7 @@ use Rattle.md_state.specs.Members.{IsMember}
 use Rattle.md_state.specs.Missing.{is_rebuilt}
 use Rattle.md_array.specs.ReadAsKept.{HasWidth, IsOwnSuper, IsReadAsKept, IsSuperOn}
 use Rattle.md_array.specs.Opening.{IsArrayOf}
-use Rattle.md_array.specs.Worlds.{block_on, from_super, header_on, is_listed, stored_of, stored_on, super_in}
+use Rattle.md_array.specs.Worlds.{block_on, sector_from_super, header_on, is_listed, stored_of, stored_on, super_in}
 use Rattle.md_laws.specs.Lives.{AreFoundAgain, IsFoundAgain}
 use Rattle.md_laws.specs.Runs.{Moment}
 use Rattle.md_array.proofs.Worlds.Listed.{listed_kept_of}
@@ -32,14 +32,14 @@ use Rattle.md_array.proofs.Worlds.ReadMember.{IsReadMember, count_is, sound_size
 use Rattle.md_array.proofs.Worlds.Shown.{read_at}
 use Rattle.md_array.proofs.Worlds.States.{in_sync_recorded}
 use Rattle.md_array.proofs.Worlds.Supers.{block_spells}
-use Rattle.md_laws.proofs.Stops.LeftAtStops.{parts_on, sorted}
-use Rattle.md_laws.proofs.Stops.LeftContents.{read_in}
+use Rattle.md_laws.proofs.Crashes.LeftAtCrashes.{parts_on, sorted}
+use Rattle.md_laws.proofs.Crashes.LeftContents.{read_in}
 use Rattle.md_laws.proofs.Runs.Moments.{IsSoundAt}
 use Rattle.md_assembly.proofs.Indices.{got_within, got_same}
 
 -- the superblock of a device that was read
 pub super_on : (content : List ℕ) (v : Superblock) → ReadsSuper content true v → IsSuperOn content v
-super_on content v r = record { fields = block_spells content v r; sound = subst NoFault (r.read.from_device refl) r.sound }
+super_on content v r = record { fields = block_spells content v r; sound = subst NoSuperFault (r.read.from_device refl) r.sound }
 
 -- ---- devices that are found again, and the array that they make
 module _ (t : Moment) (at_t : IsSoundAt t) (before : List Disk) (is : ArrayView)
@@ -131,7 +131,7 @@ module _ (t : Moment) (at_t : IsSoundAt t) (before : List Disk) (is : ArrayView)
     width_by : HasWidth was.chunks.sectors own content → is.chunks.sectors ≡ was.chunks.sectors
     width_by has =
         sym (width_old is n info content again.seen)
-        ∙ (λ i. number_at 4 52 (header_on content (from_super (bitmap_offset i))) / 512)
+        ∙ (λ i. number_at 4 52 (header_on content (sector_from_super (bitmap_offset i))) / 512)
         ∙ has
 
     -- which are as wide as before, if it was not rebuilt, and the superblock is from after the last failure
@@ -211,18 +211,18 @@ module _ (t : Moment) (at_t : IsSoundAt t) (before : List Disk) (is : ArrayView)
       let start = bitmap_offset k j there n is_member in
       let lists : (s : ℕ) → is_listed n.superblock bytes (n.superblock.data_offset + s) ≡ is_listed m bytes (m.data_offset + s) =
       λ s. listed k j there n is_member (n.superblock.data_offset + s) ∙ ap (λ (x : ℕ). is_listed m bytes (x + s)) at in
-      λ i. let header = header_on bytes (from_super (start i)) in
+      λ i. let header = header_on bytes (sector_from_super (start i)) in
       record {
         super = super_in (block_on bytes);
         content = λ s. cond (nat_lt s (same_size i)) (part bytes (512 * (at i + s)) 512) [];
         listed = λ s. nat_lt s (same_size i) && lists s i;
-        bits = λ c. nat_lt c (same_count i) && is_set (drop (512 * from_super (start i) + 256) bytes) c;
+        bits = λ c. nat_lt c (same_count i) && is_set (drop (512 * sector_from_super (start i) + 256) bytes) c;
         bitmap_events = number_at 8 24 header;
         bitmap_fits = bytes_eq (bytes_at 16 8 header) (set_uuid k j there n is_member i) && (number_at 8 40 header == size k j there n is_member i) && (number_at 4 48 header == 0);
       }
 
   pub read_alike : (k j : ℕ) → r.at k ≡ Some j
-      → stops.IsHalfOpened (geometry_of was) (read_in was r.left k) (stored_on is (slice_get is.members j) (slice_get before j))
+      → crashes.IsHalfOpened (geometry_of was) (read_in was r.left k) (stored_on is (slice_get is.members j) (slice_get before j))
   read_alike k j at =
       let f = r.again k j at in
       let n = member_at k j f in

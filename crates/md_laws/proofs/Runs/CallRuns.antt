@@ -2,7 +2,7 @@
 use Rattle.std.proofs.Common.{◌≡◌, ◌∙◌, ℕ, false, List, [], ◌∷◌, Option, Some, refl, sym, ap}
 use Rattle.std.proofs.lemmas.Option.{slice_get_within}
 use Rattle.md_bitmap.specs.Marks.{Bitmap}
-use Rattle.md_kept_members.specs.TakingBack.{with_offset}
+use Rattle.md_kept_members.specs.TakingBack.{with_recovery_offset}
 use Rattle.md_kept_members.specs.View.{MemberView}
 use Rattle.md_model.specs.Content.{Content}
 use Rattle.md_model.specs.Events.{Event}
@@ -10,12 +10,12 @@ use Rattle.md_state.specs.Checkpoints.{with_offset_of}
 use Rattle.md_state.specs.View.{ArrayView, MirrorView}
 use Rattle.md_array.specs.Checkpoints.{Checkpoints, MovesOffset, checkpoint_event}
 use Rattle.md_array.specs.Consistency.{IsConsistent}
-use Rattle.md_array.specs.Enrolling.{HasContent}
+use Rattle.md_array.specs.Enrolling.{HoldsContent}
 use Rattle.md_array.specs.Events.{Happens}
 use Rattle.md_array.specs.Recording.{Records}
 use Rattle.md_array.specs.InTurn.{AllLeftWhole, InTurn, Requests}
 use Rattle.md_array.specs.Worlds.{AreHonest}
-use Rattle.md_laws.proofs.Stops.WithinTarget.{recovering_recorded}
+use Rattle.md_laws.proofs.Crashes.WithinTarget.{recovering_recorded}
 use Rattle.md_laws.specs.Runs.{MirrorRun, Moment, then_as}
 use Rattle.md_laws.specs.WholeCalls.{AddIsACall, AdmitIsACall, CallsAreRuns, CheckpointIsACall, EnrolIsACall, FailIsACall, FailedAdmitIsACall, FailedCheckpointIsACall, FailedEnrolIsACall, FillIsACall, NoteBadIsACall, PrepareIsACall, ReAddIsACall, RemoveIsACall, RunsGoOn, SpoilIsACall, StoreLogFailureIsACall, StoreLogIsACall, TargetFailureIsACall}
 use Rattle.md_array.proofs.General.Indices.{at_set_same}
@@ -115,7 +115,7 @@ module _ (k : ℕ) (copied : Bitmap) (old new : MirrorView) (sound : IsConsisten
   m = r.may.member
 
   abbrev n : MemberView
-  n = with_offset r.offset m
+  n = with_recovery_offset r.offset m
 
   abbrev mid : MirrorView
   mid = record old { array = with_offset_of a k m r.offset }
@@ -139,7 +139,7 @@ module _ (k : ℕ) (copied : Bitmap) (old new : MirrorView) (sound : IsConsisten
     array = r.array ∙ ap (λ (xs : List MemberView). record a { members = xs }) (sym (set_again a.members k n (record n { due = false })));
   }
 
-  checkpointed : (content : Content) → HasContent old.disks a content → Happens old (checkpoint_event r) new
+  checkpointed : (content : Content) → HoldsContent old.disks a content → Happens old (checkpoint_event r) new
   checkpointed = checkpoint_happens k copied m.superblock.recovery_offset old mid new sound r.may r.offset r.next moves records (recorded_is_consistent k mid new mid_sound records) (record_happens k mid new mid_sound records)
 
 pub checkpoint_is_a_call : CheckpointIsACall

@@ -5,7 +5,7 @@ use Rattle.md_model.specs.Devices.{Super}
 use Rattle.md_model.specs.Events.{Event, Step}
 use Rattle.md_model.specs.Runs as runs
 use Rattle.md_model.specs.Worlds.{World}
-use Rattle.md_model.specs.Content.{Content, Becomes, Holds, Tells}
+use Rattle.md_model.specs.Content.{Content, Becomes, Holds, TellsAtEnrolment}
 use Rattle.md_model.proofs.Content.ContentAlong.{after_event}
 use Rattle.md_model.proofs.Content.ContentLives.{IsHeld, held_opened}
 use Rattle.md_model.proofs.Content.Contents.{holds_step}
@@ -33,7 +33,7 @@ module _ (m : MirrorView) (start : runs.IsStart (geometry_of m.array) (super_of 
       let w = world_of r.0 r.1 in
       let leads = rests_does t.mirror r.0 t.requests r.1 e r.2 in
       let s = subst (λ x. Step x h.now e w) same leads.step in
-      let c = after_event g start.small opened h e w a held (subst (λ x. Tells x e h.now a) same told.0) s.1 in
+      let c = after_event g start.small opened h e w a held (subst (λ x. TellsAtEnrolment x e h.now a) same told.0) s.1 in
       let next = then_as t e r.0 r.1 in
       let becomes = subst (λ x. Becomes x e h.now a c.0) (sym same) c.1 in
       let more = along es next c.0 last (leads.geometry ∙ same)

@@ -4,7 +4,7 @@ use Rattle.md_device.specs.Splice.{part}
 use Rattle.md_kept_members.specs.OwnFields.{kept_superblock}
 use Rattle.md_kept_members.specs.TakingBack.{recovering}
 use Rattle.md_kept_members.specs.View.{MemberView}
-use Rattle.md_members.specs.Members.{IsMember as IsRead}
+use Rattle.md_members.specs.Members.{IsReadMember as IsRead}
 use Rattle.md_model.specs.Behind.{IsBehind}
 use Rattle.md_model.specs.Content.{Content}
 use Rattle.md_model.specs.Devices.{Stored, Super}
@@ -16,7 +16,7 @@ use Rattle.md_super.specs.Log.{has_bad_block_log}
 use Rattle.md_state.specs.View.{ArrayView, Disk, MirrorView, geometry_of}
 use Rattle.md_array.specs.ReAdding.{ReAdds}
 use Rattle.md_array.specs.ReadAsKept.{HasOwnSuper, IsOwnSuper, IsSuperOn}
-use Rattle.md_array.specs.Worlds.{block_on, from_super, is_listed, is_logged, list_bit, stored_of, super_in, super_of, world_of}
+use Rattle.md_array.specs.Worlds.{block_on, sector_from_super, is_listed, is_logged, list_bit, stored_of, super_in, super_of, world_of}
 use Rattle.md_array.proofs.Steps.OneMember.{stored_there}
 use Rattle.md_array.proofs.Worlds.InSync.{in_sync_there}
 use Rattle.md_array.proofs.Worlds.Listed.{listed_kept_of}
@@ -28,7 +28,7 @@ use Rattle.md_laws.specs.Runs.{history_of}
 use Rattle.md_laws.proofs.Openings.Reopened.{super_on}
 use Rattle.md_laws.proofs.Runs.LeftBehind.{failed_behind, failed_clear, failed_later, log_clear, log_held, log_later, missing_later}
 use Rattle.md_laws.proofs.Runs.MirrorContents.{life_held_at}
-use Rattle.md_laws.proofs.Stops.LeftAtStops.{sorted}
+use Rattle.md_laws.proofs.Crashes.LeftAtCrashes.{sorted}
 
 -- bit 2 and the offset don't change what a log lists, where the device has a superblock
 listed_recovering : (offset : ℕ) (v : Superblock) (content : List ℕ) (s : Super) → super_in (block_on content) ≡ Some s → (sector : ℕ) → is_listed (recovering offset v) content sector ≡ is_listed v content sector
@@ -36,7 +36,7 @@ unfolding is_listed
 listed_recovering offset v content s is sector =
     let block = block_on content in
     let bit : list_bit (recovering offset v) block (super_in block) ≡ list_bit v block (super_in block) = ap (list_bit (recovering offset v) block) is ∙ sym (ap (list_bit v block) is) in
-    ap (λ b. (b && has_bad_block_log v) && is_logged content (from_super v.bblog_offset) v.bblog_size v.bblog_shift sector) bit
+    ap (λ b. (b && has_bad_block_log v) && is_logged content (sector_from_super v.bblog_offset) v.bblog_size v.bblog_shift sector) bit
 
 -- ---- what is read of the device by the array that takes it back, and by the one that it left
 module _ (a : ArrayView) (m : MemberView) (left : List ℕ) (parts : HasParts a m left) (has : HasOwnSuper a.shared m.superblock left)

@@ -30,7 +30,7 @@ use Rattle.md_array.proofs.Steps.OneMember.{stored_there}
 use Rattle.md_array.proofs.Worlds.Supers.{super_shown}
 use Rattle.md_array.proofs.Worlds.InSync.{in_sync_there}
 use Rattle.md_array.proofs.Worlds.Risen.{full_when_not_degraded}
-use Rattle.md_laws.specs.LeftBehind.{DegradedLifeWith, DegradedRunWith, Fails, FailsWithLog, IsLeftOut, LiesBehind, LogLiesBehind, MissingLiesBehind, failed_then, log_failed_then}
+use Rattle.md_laws.specs.LeftBehind.{DegradedLifeWith, DegradedRunWith, MemberFails, MemberFailsWithLog, IsLeftOut, LiesBehind, LogLiesBehind, MissingLiesBehind, failed_then, log_failed_then}
 use Rattle.md_laws.specs.Lives.{IsReopened, MirrorLifeWith}
 use Rattle.md_laws.specs.Runs.{IsStart, MirrorRunWith, Moment, RestsThenDoes, history_of, opened_as, then_as}
 use Rattle.md_laws.proofs.Openings.Reopened.{same_geometry}
@@ -38,18 +38,18 @@ use Rattle.md_laws.proofs.Runs.MirrorContents.{IsHeldAt, final_geometry, life_he
 use Rattle.md_laws.proofs.Runs.MirrorLives.{cut_there, left, reopens_there}
 use Rattle.md_laws.proofs.Runs.Moments.{geometry_kept, run_keeps, sound_when_opened}
 use Rattle.md_laws.proofs.Runs.Rests.{history_rests, rests_does}
-use Rattle.md_laws.proofs.Stops.LeftAtStops.{IsSorted}
+use Rattle.md_laws.proofs.Crashes.LeftAtCrashes.{IsSorted}
 
 -- the device d is behind, and the content is held
 pub record StaysBehind (g : Geometry) (opened : Super) (d : Stored) (t : Moment) (a : Content) : Type 0 where
   pub held : IsHeldAt g opened t a
   pub behind : IsBehind g a d (world_of t.mirror t.requests)
 
--- the event within whose call a stop came
-at_stop : (t : Moment) (a : Content) (es : List Event) (last : Moment) → length es ≤ 1 → is_degraded t.mirror.array ≡ true → MirrorRunWith t a es last a → DegradedRunWith t a es last a
-at_stop t a [] last few empty r = r
-at_stop t a (e ∷ []) last few empty r = (r.0, r.1, r.2, empty, r.3, r.4, r.5)
-at_stop t a (e ∷ f ∷ es) last few empty r = absurd (omega (arith, few))
+-- the event within whose call a crash came
+at_crash : (t : Moment) (a : Content) (es : List Event) (last : Moment) → length es ≤ 1 → is_degraded t.mirror.array ≡ true → MirrorRunWith t a es last a → DegradedRunWith t a es last a
+at_crash t a [] last few empty r = r
+at_crash t a (e ∷ []) last few empty r = (r.0, r.1, r.2, empty, r.3, r.4, r.5)
+at_crash t a (e ∷ f ∷ es) last few empty r = absurd (omega (arith, few))
 
 module _ (g : Geometry) (small : IsWithinLimits g) (opened : Super) where
   pub leads_to : (t : Moment) (a : Content) → IsHeldAt g opened t a → (e : Event) (m : MirrorView) (requests : ℕ → Option Request) → RestsThenDoes t.mirror t.requests e m requests
@@ -98,7 +98,7 @@ module _ (g : Geometry) (small : IsWithinLimits g) (opened : Super) where
         behind = behind_step g d a r.2 (world_of t.mirror t.requests) e (world_of r.0 r.1) is.held.held.kept.tracked (degraded_there t a is.held r.3) is.behind s.1 becomes;
       })
 
--- ---- a stop, and the next opening
+-- ---- a crash, and the next opening
 module _ (g : Geometry) (small : IsWithinLimits g) (opened : MirrorView) (same_opened : geometry_of opened.array ≡ g) (t : Moment) (a : Content) (is : IsHeldAt g (super_of opened.array.shared) t a)
     (next : MirrorView) (again : IsReopened opened t next) where
   abbrev was : Super
@@ -113,8 +113,8 @@ module _ (g : Geometry) (small : IsWithinLimits g) (opened : MirrorView) (same_o
   abbrev s : IsSorted t again.devices.left
   s = left t is.sound next again.before again.devices again.opens
 
-  pub held_at_stop : IsHeldAt g was s.moment a
-  held_at_stop = held_along g small was s.events t a s.moment a (s.still a) is
+  pub held_at_crash : IsHeldAt g was s.moment a
+  held_at_crash = held_along g small was s.events t a s.moment a (s.still a) is
 
   pub same : geometry_of next.array ≡ g
   same = same_geometry t is.sound again.before next.array again.devices again.opens.array ∙ is.geometry
@@ -139,12 +139,12 @@ module _ (g : Geometry) (small : IsWithinLimits g) (opened : MirrorView) (same_o
   of_model = subst (λ x. Reopens x was (history_of s.moment) first w) is.geometry reopens_here
 
   pub start_next : runs.IsStart g first w
-  start_next = start_again g was (history_of s.moment) first w small held_at_stop.held.kept of_model
+  start_next = start_again g was (history_of s.moment) first w small held_at_crash.held.kept of_model
 
   -- some content is held then
   pub content_next : (b : Content) × BecomesAtOpening (geometry_of next.array) w a b
   content_next =
-      let b = has_content_again g was (history_of s.moment) held_at_stop.held.kept a first w of_model start_next held_at_stop.held.holds.unmarked in
+      let b = has_content_again g was (history_of s.moment) held_at_crash.held.kept a first w of_model start_next held_at_crash.held.holds.unmarked in
       (b.0, subst (λ x. BecomesAtOpening x w a b.0) (sym same) b.1)
 
   -- what it becomes
@@ -154,7 +154,7 @@ module _ (g : Geometry) (small : IsWithinLimits g) (opened : MirrorView) (same_o
 
     pub held_next : IsHeldAt g first (opened_as next) b
     held_next = record {
-      held = held_again g small (λ v. Unit {0}) was (history_of s.moment) a first w b held_at_stop.held of_model becomes_there;
+      held = held_again g small (λ v. Unit {0}) was (history_of s.moment) a first w b held_at_crash.held of_model becomes_there;
       sound = sound_when_opened again.before next again.devices.honest again.opens;
       geometry = same;
     }
@@ -162,13 +162,13 @@ module _ (g : Geometry) (small : IsWithinLimits g) (opened : MirrorView) (same_o
     -- a device that was behind
     behind_again : (d : Stored) → is_degraded t.mirror.array ≡ true → IsBehind g a d (world_of t.mirror t.requests) → StaysBehind g first d (opened_as next) b
     behind_again d empty late =
-        let then = behind_along g small was d s.events t a s.moment a (at_stop t a s.events s.moment s.few empty (s.still a)) (record { held = is; behind = late }) in
+        let then = behind_along g small was d s.events t a s.moment a (at_crash t a s.events s.moment s.few empty (s.still a)) (record { held = is; behind = late }) in
         record { held = held_next; behind = stays_behind g small was (history_of s.moment) a then.held.held first w of_model b becomes_there d then.behind }
 
-    -- a member that was in sync, as the stop left it
+    -- a member that was in sync, as the crash left it
     cut_behind : (k : ℕ) (o : MemberView) → IsInSync t.mirror.array k o → IsBehind g b (s.cut k) w
     cut_behind k o on =
-        let held = subst (λ x. IsHeld x was (history_of s.moment) a) (sym is.geometry) held_at_stop.held in
+        let held = subst (λ x. IsHeld x was (history_of s.moment) a) (sym is.geometry) held_at_crash.held in
         let becomes_here = subst (λ x. BecomesAtOpening x w a b) (sym is.geometry) becomes_there in
         let on_then = ap states.is_in_sync (s.memory.state k) ∙ in_sync_there t.mirror.disks t.mirror.array t.requests k o on in
         let cut_is = cut_there t is.sound next opened same_here small_here kept_here again in
@@ -202,7 +202,7 @@ same_content g w a k e it = absurd it
 
 pub failed_behind : (before : List Disk) (m : MirrorView) (a : Content) → IsStart before m → Holds (geometry_of m.array) a (world_of m none_in_flight)
     → (es : List Event) (rest : List (List Event)) (final : MirrorView) (t : Moment) (b : Content) → MirrorLifeWith m a es rest final t b
-    → (k : ℕ) (f : Fails t k) → StaysBehind (geometry_of m.array) (super_of final.array.shared) ((world_of f.mirror f.requests).stored k) (failed_then t k f) b
+    → (k : ℕ) (f : MemberFails t k) → StaysBehind (geometry_of m.array) (super_of final.array.shared) ((world_of f.mirror f.requests).stored k) (failed_then t k f) b
 failed_behind before m a start holds es rest final t b life k f =
     let g = geometry_of m.array in
     let opened = super_of final.array.shared in
@@ -219,7 +219,7 @@ failed_behind before m a start holds es rest final t b life k f =
 -- it was in sync, so its superblock is not spoiled
 pub failed_clear : (before : List Disk) (m : MirrorView) (a : Content) → IsStart before m → Holds (geometry_of m.array) a (world_of m none_in_flight)
     → (es : List Event) (rest : List (List Event)) (final : MirrorView) (t : Moment) (b : Content) → MirrorLifeWith m a es rest final t b
-    → (k : ℕ) (f : Fails t k) → (failed_then t k f).spoiled k ≡ false
+    → (k : ℕ) (f : MemberFails t k) → (failed_then t k f).spoiled k ≡ false
 failed_clear before m a start holds es rest final t b life k f =
     let g = geometry_of m.array in
     let w = world_of t.mirror t.requests in
@@ -230,7 +230,7 @@ failed_clear before m a start holds es rest final t b life k f =
 
 pub failed_later : (before : List Disk) (m : MirrorView) (a : Content) → IsStart before m → Holds (geometry_of m.array) a (world_of m none_in_flight)
     → (es : List Event) (rest : List (List Event)) (final : MirrorView) (t : Moment) (b : Content) → MirrorLifeWith m a es rest final t b
-    → (k : ℕ) (f : Fails t k) (more : List Event) (others : List (List Event)) (newest : MirrorView) (last : Moment) (c : Content)
+    → (k : ℕ) (f : MemberFails t k) (more : List Event) (others : List (List Event)) (newest : MirrorView) (last : Moment) (c : Content)
     → DegradedLifeWith final (failed_then t k f) b more others newest last c
     → StaysBehind (geometry_of m.array) (super_of newest.array.shared) ((world_of f.mirror f.requests).stored k) last c
 failed_later before m a start holds es rest final t b life k f more others newest last c degraded =
@@ -244,7 +244,7 @@ left_behind before m a start holds es rest final t b life k f more others newest
 -- its log could not be stored
 module _ (before : List Disk) (m : MirrorView) (a : Content) (start : IsStart before m) (holds : Holds (geometry_of m.array) a (world_of m none_in_flight))
     (es : List Event) (rest : List (List Event)) (final : MirrorView) (t : Moment) (b : Content) (life : MirrorLifeWith m a es rest final t b)
-    (k : ℕ) (f : FailsWithLog t k) where
+    (k : ℕ) (f : MemberFailsWithLog t k) where
   abbrev log_g : Geometry
   log_g = geometry_of m.array
 
@@ -284,7 +284,7 @@ pub log_left_behind : LogLiesBehind
 log_left_behind before m a start holds es rest final t b life k f device content listed more others newest last c degraded =
     (log_later before m a start holds es rest final t b life k f device content listed more others newest last c degraded).behind
 
--- what the stop left of one that was in sync is read as it was kept
+-- what the crash left of one that was in sync is read as it was kept
 pub missing_later : (before : List Disk) (m : MirrorView) (a : Content) → IsStart before m → Holds (geometry_of m.array) a (world_of m none_in_flight)
     → (es : List Event) (rest : List (List Event)) (final : MirrorView) (t : Moment) (b : Content) → MirrorLifeWith m a es rest final t b
     → (k : ℕ) (next : MirrorView) (r : IsLeftOut final t k next) (c : Content) → BecomesAtOpening (geometry_of next.array) (world_of next none_in_flight) b c

@@ -10,25 +10,25 @@ use Rattle.md_model.specs.Failures.{failed}
 use Rattle.md_model.specs.Steps.{marked_device, recorded_device, with_device, written_device}
 use Rattle.md_model.specs.Resyncing.{copied_device}
 use Rattle.md_model.specs.Membership.{Newcomer, former_member, is_spare, joined, new_member, removed, skip}
-use Rattle.md_model.specs.Rebuilding.{as_in_sync, as_recovering, is_target, takes_role, taking_device, with_offset}
+use Rattle.md_model.specs.Rebuilding.{as_in_sync, as_recovering, is_target, with_role_taken, taking_device, with_offset}
 use Rattle.md_model.specs.Events.{Event, Happens}
 use Rattle.md_model.specs.Listing.{noted_bad}
-use Rattle.md_model.specs.Stops as stops
+use Rattle.md_model.specs.Crashes as crashes
 use Rattle.md_model.proofs.Cases.{by_test, none_some}
 use Rattle.md_model.proofs.Puts.{by_same, put-at, put-hit, put-miss}
 use Rattle.md_state.specs.View.{Disk, MirrorView, geometry_of}
 use Rattle.md_array.specs.Events.{KeepsLists, ListsIn, ListsStill}
 use Rattle.md_array.specs.Opening.{IsOpenedFrom}
 use Rattle.md_array.specs.Worlds.{AreHonest, none_in_flight, world_of}
-use Rattle.md_laws.specs.Left.{IsLeft, IsStoring}
+use Rattle.md_laws.specs.Left.{IsLeftByCrash, IsStoringOwn}
 use Rattle.md_laws.specs.Recovering.{SaysNoMoreWhereKnown}
 use Rattle.md_laws.specs.Runs.{MirrorRun, Moment, history_of, log_unknown_after, opened_as, then_as}
 use Rattle.md_laws.proofs.Openings.Opened as opening
 use Rattle.md_laws.proofs.Runs.Moments.{IsSoundAt, run_keeps, sound_when_opened}
 use Rattle.md_laws.proofs.Runs.Offsets.{offsets_are_kept}
 use Rattle.md_laws.proofs.Runs.Rests.{history_rests, rests_does}
-use Rattle.md_laws.proofs.Stops.LeftAtStops.{IsSortedBeside, sorted_beside}
-use Rattle.md_laws.proofs.Stops.LeftContents.{read_in}
+use Rattle.md_laws.proofs.Crashes.LeftAtCrashes.{IsSortedBeside, sorted_beside}
+use Rattle.md_laws.proofs.Crashes.LeftContents.{read_in}
 
 -- so of each member that is rebuilt and whose log is known
 abbrev pub ListsAreIn : (ℕ → Bool) → World → Type 0
@@ -107,7 +107,7 @@ module _ (g : Geometry) (u : ℕ → Bool) (w : World) (t : ListsAreIn u w) wher
       (sym (ap (λ (f : ℕ → Bool). f s) (put-miss w.members n.device.listed w.bad j apart)) ∙ bad))
 
   -- a member takes a role, and is in sync
-  when_enrolled : (k role : ℕ) (listed : ℕ → Bool) → ListsAreIn (put k false u) (takes_role w k (as_in_sync w role listed))
+  when_enrolled : (k role : ℕ) (listed : ℕ → Bool) → ListsAreIn (put k false u) (with_role_taken w k (as_in_sync w role listed))
   when_enrolled k role listed j known target s bad = by_same j k
       (λ here. absurd (true≢false (sym target ∙ ap is_target (ap (put k InSync w.state) here ∙ put-hit k InSync w.state))))
       (λ apart.
@@ -116,8 +116,8 @@ module _ (g : Geometry) (u : ℕ → Bool) (w : World) (t : ListsAreIn u w) wher
       (sym (ap (λ (f : ℕ → Bool). f s) (put-miss k listed w.bad j apart)) ∙ bad))
 
   -- or is recovering
-  when_admitted : (k role : ℕ) (listed : ℕ → Bool) → is_spare (w.state k) ≡ true → ListsStill k w (takes_role w k (as_recovering w k role listed))
-      → ListsAreIn u (takes_role w k (as_recovering w k role listed))
+  when_admitted : (k role : ℕ) (listed : ℕ → Bool) → is_spare (w.state k) ≡ true → ListsStill k w (with_role_taken w k (as_recovering w k role listed))
+      → ListsAreIn u (with_role_taken w k (as_recovering w k role listed))
   when_admitted k role listed spare told j known target s bad = by_same j k
       (λ here.
       let on = spare_target (w.state k) spare in
@@ -173,8 +173,8 @@ lists_run (e ∷ es) t last r kept =
     lists_run es (then_as t e r.0 r.1) last r.3
     (list_step (geometry_of t.mirror.array) (world_of t.mirror t.requests) t.log_unknown kept e (world_of r.0 r.1) leads.step.1 leads.lists)
 
--- a stop leaves the logs
-cut_listed : (g : Geometry) (w : World) (cut : ℕ → Stored) → stops.IsCut g w cut → (k : ℕ) → (cut k).listed ≡ (w.stored k).listed
+-- a crash leaves the logs
+cut_listed : (g : Geometry) (w : World) (cut : ℕ → Stored) → crashes.MayStandAtCrash g w cut → (k : ℕ) → (cut k).listed ≡ (w.stored k).listed
 cut_listed g w cut is k = elim is [
   | inl whole ↦ ap (λ (f : ℕ → Stored). (f k).listed) whole
   | inr torn ↦ by_same k torn.on
@@ -182,13 +182,13 @@ cut_listed g w cut is k = elim is [
       (λ apart. ap (λ (d : Stored). d.listed) (torn.others k apart))
 ]
 
--- What a stop left of a member whose log is known lists what the list in memory has, if its superblock can be read.
-pub listed_at_stop : (t : Moment) → IsSoundAt t → ListsAreIn t.log_unknown (world_of t.mirror t.requests) → (left : List Disk) (is : IsLeft t left)
-    → (k : ℕ) → is_target ((world_of t.mirror t.requests).state k) ≡ true → t.log_unknown k ≡ false → (IsStoring t left is k → ⊥)
+-- What a crash left of a member whose log is known lists what the list in memory has, if its superblock can be read.
+pub listed_at_crash : (t : Moment) → IsSoundAt t → ListsAreIn t.log_unknown (world_of t.mirror t.requests) → (left : List Disk) (is : IsLeftByCrash t left)
+    → (k : ℕ) → is_target ((world_of t.mirror t.requests).state k) ≡ true → t.log_unknown k ≡ false → (IsStoringOwn t left is k → ⊥)
     → (own : Super) → (read_in t.mirror.array left k).super ≡ Some own
     → (s : ℕ) → (read_in t.mirror.array left k).listed s ≡ false → (world_of t.mirror t.requests).bad k s ≡ false
-listed_at_stop t sound kept left is k target known beside own told s off =
-    let x : IsSortedBeside (λ j. IsStoring t left is j → ⊥) t left = sorted_beside (λ j. IsStoring t left is j → ⊥) t sound left is (λ j on none. none on) in
+listed_at_crash t sound kept left is k target known beside own told s off =
+    let x : IsSortedBeside (λ j. IsStoringOwn t left is j → ⊥) t left = sorted_beside (λ j. IsStoringOwn t left is j → ⊥) t sound left is (λ j on none. none on) in
     let now : World = (history_of x.moment).now in
     let w : World = world_of t.mirror t.requests in
     elim (x.read k) [
@@ -213,5 +213,5 @@ says_no_more_where_known before m start at_first es t r left is k target clear k
     let kept = lists_run es (opened_as m) t r (lists_when_opened before m start.honest start.opened) in
     inl (record {
       offset = offsets_are_kept before m start at_first es t r left is k clear;
-      listed = listed_at_stop t sound kept left is k target known beside own told;
+      listed = listed_at_crash t sound kept left is k target known beside own told;
     })

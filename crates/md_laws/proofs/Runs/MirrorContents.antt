@@ -48,7 +48,7 @@ module _ (m : MirrorView) (begins : Begins m) (es : List Event) (t : Moment) (r 
   at_t : IsSoundAt t
   at_t = run_keeps es (opened_as m) t r begins.at_m
 
-  -- the moment of which the stop leaves devices
+  -- the moment of which the crash leaves devices
   abbrev stop : Moment
   stop = (left t at_t next again.before again.devices again.opens).moment
 

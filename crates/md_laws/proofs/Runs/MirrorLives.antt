@@ -11,8 +11,8 @@ use Rattle.md_model.specs.Lives.{AgreesUnstored, Always, IsCovered, IsSound, Reo
 use Rattle.md_model.specs.Openings as openings
 use Rattle.md_model.specs.Openings.{IsWithinLimits}
 use Rattle.md_model.specs.Runs as runs
-use Rattle.md_model.specs.Stops as stops
-use Rattle.md_model.specs.Stops.{IsFit}
+use Rattle.md_model.specs.Crashes as crashes
+use Rattle.md_model.specs.Crashes.{IsFit}
 use Rattle.md_model.proofs.Cases.{below-nat_lt, by_option, by_test, not_below-nat_lt}
 use Rattle.md_model.specs.States.{is_in_sync}
 use Rattle.md_assembly.specs.States as assembly
@@ -22,7 +22,7 @@ use Rattle.md_model.proofs.Lives.OpeningCovers.{own_of}
 use Rattle.md_model.proofs.Lives.Fits as fits
 use Rattle.md_model.proofs.Lives.Lives.{always, always_covered, always_out, always_safe, always_sound, always_stays_out, start_again}
 use Rattle.md_model.proofs.Lives.Opened.{kept_opened}
-use Rattle.md_model.proofs.Lives.Safe.{keeps_out, safe_at_stop, stays_out}
+use Rattle.md_model.proofs.Lives.Safe.{keeps_out, safe_at_crash, stays_out}
 use Rattle.md_model.proofs.Steps.Keeps.{IsKept, kept_run}
 use Rattle.md_model.proofs.Steps.Lists.{always_agrees}
 use Rattle.md_kept_members.specs.View.{MemberView}
@@ -31,13 +31,13 @@ use Rattle.md_state.specs.Members.{IsInSync, IsMember}
 use Rattle.md_array.specs.Opening.{IsOpenedFrom}
 use Rattle.md_array.specs.Worlds.{none_in_flight, nothing_stored, stored_on, super_of, world_of}
 use Rattle.md_laws.specs.Left.{IsLeftWriting}
-use Rattle.md_laws.specs.Lives.{AllRecorded, AreAllLeft, AreFoundAgain, AreFurther, AtEachMoment, FindsAll, FindsInSync, FindsOut, FitsWhenThere, IsCalledOut, IsReopened, IsShutOut, IsThereInSync, KeepsGeometry, MirrorLife}
+use Rattle.md_laws.specs.Lives.{FoundHaveRecorded, AreAllLeft, AreFoundAgain, AreFurther, AtEachMoment, FindsAll, FindsInSync, FindsOut, FitsWhenThere, IsCalledOut, IsReopened, IsShutOut, IsThereInSync, KeepsGeometry, MirrorLife}
 use Rattle.md_laws.specs.Runs.{IsStart, MirrorRun, Moment, history_of, opened_as}
 use Rattle.md_array.proofs.Worlds.InSync.{in_sync_is, in_sync_there}
 use Rattle.md_array.proofs.Worlds.Shown.{as_read, by_member, own_is, state_at, super_at}
 use Rattle.md_array.proofs.Worlds.States.{same_in_sync, same_state}
-use Rattle.md_laws.proofs.Stops.LeftAtStops.{IsSorted, sorted, sorted_writing}
-use Rattle.md_laws.proofs.Stops.LeftContents.{read_in}
+use Rattle.md_laws.proofs.Crashes.LeftAtCrashes.{IsSorted, sorted, sorted_writing}
+use Rattle.md_laws.proofs.Crashes.LeftContents.{read_in}
 use Rattle.md_laws.proofs.Runs.Moments.{IsSoundAt, geometry_kept, life_keeps, run_keeps, run_then, sound_when_opened}
 use Rattle.md_laws.proofs.Runs.MirrorRuns.{model_run, starts}
 use Rattle.md_laws.proofs.Openings.Reopened.{read_alike, recorded_first, same_geometry}
@@ -52,7 +52,7 @@ module _ (t : Moment) (at_t : IsSoundAt t) (next : MirrorView)
   abbrev read : ℕ → Stored
   read = read_in next.array before
 
-  -- the moment of which the stop leaves devices, or a torn write
+  -- the moment of which the crash leaves devices, or a torn write
   pub left : IsSorted t devices.left
   left = sorted t at_t devices.left devices.is_left
 
@@ -70,15 +70,15 @@ module _ (t : Moment) (at_t : IsSoundAt t) (next : MirrorView)
   at_none k is = ap (λ o. unwrap_or (option_map read o) nothing_stored) is
 
   -- device k is there, as device j by now, unless it has no superblock
-  left_at : (k j : ℕ) → devices.at k ≡ Some j → stops.IsHalfOpened g (left.cut k) (made_of k) ⊎ ((made_of k).super ≡ None)
+  left_at : (k j : ℕ) → devices.at k ≡ Some j → crashes.IsHalfOpened g (left.cut k) (made_of k) ⊎ ((made_of k).super ≡ None)
   left_at k j is =
-      let half = subst (stops.IsHalfOpened g (read_in t.mirror.array devices.left k)) (sym (at_some k j is)) (read_alike t at_t before next.array devices from_these.array k j is) in
+      let half = subst (crashes.IsHalfOpened g (read_in t.mirror.array devices.left k)) (sym (at_some k j is)) (read_alike t at_t before next.array devices from_these.array k j is) in
       elim (left.read k) [
-        | inl same ↦ inl (subst (λ (x : Stored). stops.IsHalfOpened g x (made_of k)) same half)
+        | inl same ↦ inl (subst (λ (x : Stored). crashes.IsHalfOpened g x (made_of k)) same half)
         | inr none ↦ inr (half.super ∙ none)
       ]
 
-  are_left : stops.IsLeft g (history_of stop) made_of
+  are_left : crashes.IsLeftByCrash g (history_of stop) made_of
   are_left = (
     left.cut,
     left.is_cut,
@@ -200,13 +200,13 @@ module _ (t : Moment) (at_t : IsSoundAt t) (next : MirrorView)
     abbrev read_of : (j : ℕ) (m : MemberView) → IsMember next.array j m → Super
     read_of j m is = as_read before next devices.honest from_these j m is
 
-    is_absent : (j : ℕ) (m : MemberView) (is : IsMember next.array j m) → devices.from j ≡ None → stops.IsAbsent was stop.away (read_of j m is)
+    is_absent : (j : ℕ) (m : MemberView) (is : IsMember next.array j m) → devices.from j ≡ None → crashes.IsAbsent was stop.away (read_of j m is)
     is_absent j m is none =
         let o = others j m is none in
         record { no_newer = o.no_newer; away = left.away m.superblock.dev_number ∙ o.away }
 
     -- the superblock that the opening goes by is of a device that was left, or is no newer than the opening before
-    freshest_there : stops.IsFreshestWithAbsent was made_of first
+    freshest_there : crashes.IsFreshestWithAbsent was made_of first
     freshest_there =
         let fresh = opens.opened.freshest in
         let x = own_is before next devices.honest from_these fresh.at first fresh.is in
@@ -231,7 +231,7 @@ module _ (t : Moment) (at_t : IsSoundAt t) (next : MirrorView)
         (x.0, ap (λ (d : Stored). d.super) (at_some k j is) ∙ super_was before next devices.honest from_these j x.0 x.1)
 
     -- one that is shut out is not in sync by that superblock
-    out_beside : stops.WasTried g (history_of stop) → IsThereInSync t devices.at → (other : Super) → stops.IsAbsent was stop.away other → is_in_sync (state_by g first other) ≡ false
+    out_beside : crashes.WasTried g (history_of stop) → IsThereInSync t devices.at → (other : Super) → crashes.IsAbsent was stop.away other → is_in_sync (state_by g first other) ≡ false
     out_beside tried beside other absent =
         let own = own_there beside.device beside.place beside.there in
         keeps_out g small was (history_of stop) kept_there tried made_of are_left beside.device own.0 (there_in_sync beside.device beside.member beside.in_sync) own.1 other absent first freshest_there fit_there
@@ -249,15 +249,15 @@ module _ (t : Moment) (at_t : IsSoundAt t) (next : MirrorView)
         sym (ap is_in_sync (opens.opened.states.by_table j (read_of j m is) (super_at before next devices.honest from_these j m is)))
         ∙ ap is_in_sync (state_at before next devices.honest from_these j m is) ∙ same_in_sync m.state
 
-    pub out_when_tried : stops.WasTried g (history_of stop) → IsThereInSync t devices.at → (j : ℕ) (m : MemberView) (is : IsMember next.array j m) → devices.from j ≡ None → assembly.is_in_sync m.state ≡ false
+    pub out_when_tried : crashes.WasTried g (history_of stop) → IsThereInSync t devices.at → (j : ℕ) (m : MemberView) (is : IsMember next.array j m) → devices.from j ≡ None → assembly.is_in_sync m.state ≡ false
     out_when_tried tried beside j m is none = sym (state_here j m is) ∙ out_beside tried beside (read_of j m is) (is_absent j m is none)
 
     pub out_when_called : (j : ℕ) (m : MemberView) (is : IsMember next.array j m) → devices.from j ≡ None → IsCalledOut opened m → assembly.is_in_sync m.state ≡ false
     out_when_called j m is none out = sym (state_here j m is) ∙ called_out j m is none out
 
     -- ---- who is found in sync
-    safe_there : stops.IsSafe g (history_of stop) made_of first
-    safe_there = safe_at_stop g small was (history_of stop) kept_there made_of first are_left freshest_there fit_there
+    safe_there : crashes.IsSafe g (history_of stop) made_of first
+    safe_there = safe_at_crash g small was (history_of stop) kept_there made_of first are_left freshest_there fit_there
 
     found_there : (k i : ℕ) → devices.from k ≡ Some i → worlds.IsInSync (world_of next none_in_flight) k → IsFound g made_of first i
     found_there k i is on =
@@ -274,7 +274,7 @@ module _ (t : Moment) (at_t : IsSoundAt t) (next : MirrorView)
     pub was_in_sync : (k i : ℕ) (n : MemberView) → IsInSync next.array k n → devices.from k ≡ Some i → (o : MemberView) × IsInSync t.mirror.array i o
     was_in_sync k i n on is = member_then i (safe_there.among i (found_there k i is (in_sync_there next.disks next.array none_in_flight k n on)))
 
-    recorded_there : AllRecorded t next before devices → (k : ℕ) (own : Super) → worlds.IsInSync (history_of stop).now k → (made_of k).super ≡ Some own
+    recorded_there : FoundHaveRecorded t next before devices → (k : ℕ) (own : Super) → worlds.IsInSync (history_of stop).now k → (made_of k).super ≡ Some own
         → (history_of stop).now.events ≤ own.events + 1
     recorded_there all k own on e = by_option (devices.at k)
         (λ gone. absurd (none-some own (sym (ap (λ (d : Stored). d.super) (at_none k gone)) ∙ e)))
@@ -283,7 +283,7 @@ module _ (t : Moment) (at_t : IsSoundAt t) (next : MirrorView)
         let x = own_is before next devices.honest from_these j own (super_stays before next devices.honest from_these j own (sym (ap (λ (d : Stored). d.super) (at_some k j there)) ∙ e)) in
         subst (λ (v : Super). (history_of stop).now.events ≤ v.events + 1) x.2 (subst (λ (n : ℕ). n ≤ x.0.superblock.events + 1) (sym left.count) (all k j o.0 o.1 there x.0 x.1)))
 
-    pub is_in_sync_again : AllRecorded t next before devices → (k j : ℕ) (o : MemberView) → IsInSync t.mirror.array k o → devices.at k ≡ Some j → (n : MemberView) × IsInSync next.array j n
+    pub is_in_sync_again : FoundHaveRecorded t next before devices → (k j : ℕ) (o : MemberView) → IsInSync t.mirror.array k o → devices.at k ≡ Some j → (n : MemberView) × IsInSync next.array j n
     is_in_sync_again all k j o on there =
         let own = own_there k j there in
         let f = safe_there.all (recorded_there all) k own.0 (there_in_sync k o on) own.1 in
@@ -298,7 +298,7 @@ module _ (t : Moment) (at_t : IsSoundAt t) (next : MirrorView)
           let known : (own : Super) → (read j).super ≡ Some own → (m : MemberView) × (is : IsMember next.array j m) × (read_of j m is ≡ own) =
           λ own e. own_is before next devices.honest from_these j own (super_stays before next devices.honest from_these j own e) in
           record {
-            absent = λ own e. let x = known own e in subst (stops.IsAbsent was stop.away) x.2 (is_absent j x.0 x.1 none);
+            absent = λ own e. let x = known own e in subst (crashes.IsAbsent was stop.away) x.2 (is_absent j x.0 x.1 none);
             out = λ own e.
                 let x = known own e in
                 sym (ap (λ (v : Super). is_in_sync (state_by g first v)) x.2) ∙ state_here j x.0 x.1 ∙ all_out j x.0 x.1 none;
@@ -335,15 +335,15 @@ module _ (t : Moment) (at_t : IsSoundAt t) (next : MirrorView)
         opens = opens_again;
       }
 
-      -- a member that was left stands where it stood, and is as the stop left it, but for marks
+      -- a member that was left stands where it stood, and is as the crash left it, but for marks
       pub left_there : (j k : ℕ) → devices.from j ≡ Some k
-          → (reopens.opens.at j ≡ k) × (reopens.made_of k ≡ reopens.left k) × stops.IsHalfOpened g (read_in t.mirror.array devices.left k) (reopens.left k)
+          → (reopens.opens.at j ≡ k) × (reopens.made_of k ≡ reopens.left k) × crashes.IsHalfOpened g (read_in t.mirror.array devices.left k) (reopens.left k)
       unfolding reopens opens_again opens
       left_there j k is =
           let there = devices.found j k is in (
             ap place (opens_in_place.1 j) ∙ ap (λ o. unwrap_or o (many + j)) is,
             all_left k (below-nat_lt k many (left_within k j there)),
-            subst (stops.IsHalfOpened g (read_in t.mirror.array devices.left k)) (sym (at_some k j there)) (read_alike t at_t before next.array devices from_these.array k j there),
+            subst (crashes.IsHalfOpened g (read_in t.mirror.array devices.left k)) (sym (at_some k j there)) (read_alike t at_t before next.array devices from_these.array k j there),
           )
 
       -- a member in sync of it is one that was left, and is found so
@@ -390,11 +390,11 @@ module _ (t : Moment) (at_t : IsSoundAt t) (next : MirrorView) (opened : MirrorV
     reopens_there = reopens t at_t next again.before again.devices again.opens opened same small kept again.others again.fit all_out
 
     pub as_left : (j k : ℕ) → again.devices.from j ≡ Some k
-        → (reopens_there.opens.at j ≡ k) × (reopens_there.made_of k ≡ reopens_there.left k) × stops.IsHalfOpened (geometry_of t.mirror.array) (read_in t.mirror.array again.devices.left k) (reopens_there.left k)
+        → (reopens_there.opens.at j ≡ k) × (reopens_there.made_of k ≡ reopens_there.left k) × crashes.IsHalfOpened (geometry_of t.mirror.array) (read_in t.mirror.array again.devices.left k) (reopens_there.left k)
     unfolding reopens_there
     as_left = left_there t at_t next again.before again.devices again.opens opened same small kept again.others again.fit all_out
 
-    -- what the stop left on its devices
+    -- what the crash left on its devices
     pub cut_there : reopens_there.is_left.0 ≡ (left t at_t next again.before again.devices again.opens).cut
     unfolding reopens_there reopens are_left
     cut_there = refl
@@ -404,7 +404,7 @@ module _ (t : Moment) (at_t : IsSoundAt t) (next : MirrorView) (opened : MirrorV
     from_left = in_sync_from t at_t next again.before again.devices again.opens opened same small kept again.others again.fit all_out
 
 -- ---- lives
--- A life of the model, with the same moment at its end: its runs have the event within which a stop came.
+-- A life of the model, with the same moment at its end: its runs have the event within which a crash came.
 module _ (g : Geometry) (small : IsWithinLimits g) where
   again_of_model : (m : MirrorView) (es : List Event) (t : Moment) → geometry_of m.array ≡ g → (at_t : IsSoundAt t) → IsKept g (super_of m.array.shared) (history_of (opened_as m))
       → MirrorRun (opened_as m) es t → (next : MirrorView) (again : IsReopened m t next)
@@ -477,7 +477,7 @@ fits_when_there before m start one es t r found next devices all opens late =
     (fits.fits_when_there g (super_of m.array.shared) (world_of m none_in_flight) (starts before m start) one (es ++ s.events) (history_of s.moment)
     (model_run g (es ++ s.events) (opened_as m) s.moment refl (run_then es s.events (opened_as m) t s.moment r s.run))
     there (super_of next.array.shared)
-    (subst (λ x. stops.IsLeft x (history_of s.moment) there) same (are_left t at_t next found devices opens))
+    (subst (λ x. crashes.IsLeftByCrash x (history_of s.moment) there) same (are_left t at_t next found devices opens))
     (freshest t at_t next found devices opens all) late (subst (λ (n : ℕ). n ≤ next.array.shared.events) (sym s.counted) (recorded_first t at_t found next.array devices opens.array)))
 
 at_each : (P : Geometry → Super → runs.History → Type 0) → Always P → AtEachMoment P
@@ -496,14 +496,14 @@ life_sound = at_each IsSound always_sound
 pub life_unstored : AtEachMoment AgreesUnstored
 life_unstored = at_each AgreesUnstored always_agrees
 
-pub life_safe : AtEachMoment stops.IsSafeAtStop
-life_safe = at_each stops.IsSafeAtStop always_safe
+pub life_safe : AtEachMoment crashes.IsSafeAtCrash
+life_safe = at_each crashes.IsSafeAtCrash always_safe
 
-pub life_keeps_out : AtEachMoment stops.KeepsOut
-life_keeps_out = at_each stops.KeepsOut always_out
+pub life_keeps_out : AtEachMoment crashes.KeepsOut
+life_keeps_out = at_each crashes.KeepsOut always_out
 
-pub life_stays_out : AtEachMoment stops.StaysOut
-life_stays_out = at_each stops.StaysOut always_stays_out
+pub life_stays_out : AtEachMoment crashes.StaysOut
+life_stays_out = at_each crashes.StaysOut always_stays_out
 
 pub life_kept : AtEachMoment IsKept
 life_kept = at_each IsKept (always IsKept (λ g small opened h t. t))
@@ -544,7 +544,7 @@ module _ (before : List Disk) (m : MirrorView) (start : IsStart before m) (es : 
       let was = was_in_sync last at_last next again.before again.devices again.opens final same_final small_last kept_last again.others again.fit k from.0 n on from.1 in
       (from.0, from.1, was.0, was.1)
 
-  found_all : (next : MirrorView) (again : IsReopened final last next) → AllRecorded last next again.before again.devices
+  found_all : (next : MirrorView) (again : IsReopened final last next) → FoundHaveRecorded last next again.before again.devices
       → (k j : ℕ) (o : MemberView) → IsInSync last.mirror.array k o → again.devices.at k ≡ Some j → (n : MemberView) × IsInSync next.array j n
   found_all next again = is_in_sync_again last at_last next again.before again.devices again.opens final same_final small_last kept_last again.others again.fit
 

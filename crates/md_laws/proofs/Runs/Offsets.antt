@@ -8,22 +8,22 @@ use Rattle.md_model.specs.Counts.{risen, risen_if}
 use Rattle.md_model.specs.Steps.{marked_device, recorded_device, super_for, with_device, written_device}
 use Rattle.md_model.specs.Resyncing.{copied_device}
 use Rattle.md_model.specs.Membership.{Newcomer, former_member, is_spare, joined, joined_super, new_member, removed, skip}
-use Rattle.md_model.specs.Rebuilding.{Taking, as_in_sync, as_recovering, takes_role, taking_device, with_offset}
+use Rattle.md_model.specs.Rebuilding.{Taking, as_in_sync, as_recovering, with_role_taken, taking_device, with_offset}
 use Rattle.md_model.specs.Events.{Event, Happens}
 use Rattle.md_model.specs.Runs.{spoiled_after}
-use Rattle.md_model.specs.Stops as stops
+use Rattle.md_model.specs.Crashes as crashes
 use Rattle.md_model.proofs.Cases.{none_some}
 use Rattle.md_model.proofs.Puts.{by_same, put-at, put-hit, put-miss}
 use Rattle.md_model.proofs.Steps.FailedWrites.{super_left}
 use Rattle.md_state.specs.View.{Disk, geometry_of}
 use Rattle.md_array.specs.Worlds.{world_of}
-use Rattle.md_laws.specs.Left.{IsLeft}
+use Rattle.md_laws.specs.Left.{IsLeftByCrash}
 use Rattle.md_laws.specs.Recovering.{OffsetsAreKept, SaysNoMoreWithoutList}
 use Rattle.md_laws.specs.Runs.{MirrorRun, Moment, history_of, opened_as, then_as}
 use Rattle.md_laws.proofs.Runs.Moments.{IsSoundAt, run_keeps, sound_when_opened}
 use Rattle.md_laws.proofs.Runs.Rests.{history_rests, rests_does}
-use Rattle.md_laws.proofs.Stops.LeftAtStops.{IsSorted, sorted}
-use Rattle.md_laws.proofs.Stops.LeftContents.{read_in}
+use Rattle.md_laws.proofs.Crashes.LeftAtCrashes.{IsSorted, sorted}
+use Rattle.md_laws.proofs.Crashes.LeftContents.{read_in}
 
 abbrev pub OffsetIn : World → ℕ → Type 0
 OffsetIn w k = (own : Super) → (w.stored k).super ≡ Some own → own.offset ≤ w.offset k
@@ -85,7 +85,7 @@ module _ (g : Geometry) (spoiled : ℕ → Bool) (w : World) (t : OffsetsIn spoi
   when_joined : (n : Newcomer) → ((own : Super) → n.device.super ≡ Some own → own.offset ≤ n.offset) → OffsetsIn (put w.members false spoiled) (joined w n)
   when_joined n = put_both spoiled (put w.members false spoiled) w w.members n.device (others_clear w.members false spoiled) t n.offset
 
-  when_taking : (k : ℕ) (x : Taking) → OffsetsIn (put k false spoiled) (takes_role w k x)
+  when_taking : (k : ℕ) (x : Taking) → OffsetsIn (put k false spoiled) (with_role_taken w k x)
   when_taking k x = put_both spoiled (put k false spoiled) w k (taking_device w k x) (others_clear k false spoiled) t x.offset
       (λ own is. let least : x.offset ≤ x.offset = omega arith in subst (λ (v : Super). v.offset ≤ x.offset) (same_Some (joined_super w (w.number k) x.role x.recovering x.offset) own is) least)
 
@@ -133,8 +133,8 @@ offsets_run (e ∷ es) t last r kept =
     offsets_run es (then_as t e r.0 r.1) last r.3
     (offset_step (geometry_of t.mirror.array) (world_of t.mirror t.requests) t.spoiled kept e (world_of r.0 r.1) (rests_does t.mirror r.0 t.requests r.1 e r.2).step.1)
 
--- a stop leaves the superblocks
-cut_super : (g : Geometry) (w : World) (cut : ℕ → Stored) → stops.IsCut g w cut → (k : ℕ) → (cut k).super ≡ (w.stored k).super
+-- a crash leaves the superblocks
+cut_super : (g : Geometry) (w : World) (cut : ℕ → Stored) → crashes.MayStandAtCrash g w cut → (k : ℕ) → (cut k).super ≡ (w.stored k).super
 cut_super g w cut is k = elim is [
   | inl whole ↦ ap (λ (f : ℕ → Stored). (f k).super) whole
   | inr torn ↦ by_same k torn.on
@@ -143,9 +143,9 @@ cut_super g w cut is k = elim is [
 ]
 
 -- so does what it left of a device
-pub offset_at_stop : (t : Moment) → IsSoundAt t → OffsetsIn t.spoiled (world_of t.mirror t.requests) → (left : List Disk) → IsLeft t left → (k : ℕ) → t.spoiled k ≡ false
+pub offset_at_crash : (t : Moment) → IsSoundAt t → OffsetsIn t.spoiled (world_of t.mirror t.requests) → (left : List Disk) → IsLeftByCrash t left → (k : ℕ) → t.spoiled k ≡ false
     → (own : Super) → (read_in t.mirror.array left k).super ≡ Some own → own.offset ≤ (world_of t.mirror t.requests).offset k
-offset_at_stop t sound held left is k clear own told =
+offset_at_crash t sound held left is k clear own told =
     let s : IsSorted t left = sorted t sound left is in
     let now : World = (history_of s.moment).now in
     let kept = offsets_run s.events t s.moment s.run held in
@@ -158,7 +158,7 @@ offset_at_stop t sound held left is k clear own told =
 
 pub offsets_are_kept : OffsetsAreKept
 offsets_are_kept before m start at_first es t r left is k clear own told =
-    offset_at_stop t (run_keeps es (opened_as m) t r (sound_when_opened before m start.honest start.opened)) (offsets_run es (opened_as m) t r (λ j _. at_first j)) left is k clear own told
+    offset_at_crash t (run_keeps es (opened_as m) t r (sound_when_opened before m start.honest start.opened)) (offsets_run es (opened_as m) t r (λ j _. at_first j)) left is k clear own told
 
 pub says_no_more_without_list : SaysNoMoreWithoutList
 says_no_more_without_list before m start at_first es t r left is k clear none =

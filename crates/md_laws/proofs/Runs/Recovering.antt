@@ -10,7 +10,7 @@ use Rattle.md_model.specs.Openings.{IsWithinLimits}
 use Rattle.md_model.specs.Rebuilding.{is_missing, is_target, lacks, MayFill}
 use Rattle.md_model.specs.Recovering as model
 use Rattle.md_model.specs.Recovering.{IsAsPrepared, IsAsStored, JoinsBehind, OpensBehind, RecoveringHolds, recovered}
-use Rattle.md_model.specs.Stops as stops
+use Rattle.md_model.specs.Crashes as crashes
 use Rattle.md_model.specs.Worlds.{Request, World}
 use Rattle.md_model.proofs.Content.AsKept.{prepared_as_kept, stored_as_kept}
 use Rattle.md_model.proofs.Content.ContentAlong.{after_event}
@@ -20,18 +20,18 @@ use Rattle.md_model.proofs.Steps.Roles.{HasRoles, roles_opened, roles_step}
 use Rattle.md_state.specs.View.{Disk, MirrorView, geometry_of}
 use Rattle.md_array.specs.Worlds.{none_in_flight, super_of, world_of}
 use Rattle.md_laws.specs.Lives.{IsReopened, MirrorLife, MirrorLifeWith}
-use Rattle.md_laws.specs.Recovering.{ContentGoesAlong, IsKnown, KeepsRecovering, MirrorLifeJoins, MirrorLifeTells, MirrorOpensBehind, MirrorRunJoins, MirrorRunTells, SaysNoMore, SaysNoMoreWhenOpened}
+use Rattle.md_laws.specs.Recovering.{ContentGoesAlong, IsOffsetKnown, KeepsRecovering, MirrorLifeJoins, MirrorLifeTells, MirrorOpensBehind, MirrorRunJoins, MirrorRunTells, SaysNoMore, SaysNoMoreWhenOpened}
 use Rattle.md_laws.specs.Runs.{HasRested, IsStart, MirrorRun, MirrorRunWith, Moment, RestsThenDoes, history_of, opened_as, then_as}
 use Rattle.md_laws.proofs.Runs.LeftBehind.{content_next, held_along, held_next, held_then, kept_here, leads_to, reopens_here, same, same_here, small_here}
 use Rattle.md_laws.proofs.Runs.ContentRuns.{without_content}
-use Rattle.md_laws.proofs.Runs.Lists.{ListsAreIn, listed_at_stop, lists_run, lists_when_opened}
-use Rattle.md_laws.proofs.Runs.Offsets.{offset_at_stop, offsets_run}
+use Rattle.md_laws.proofs.Runs.Lists.{ListsAreIn, listed_at_crash, lists_run, lists_when_opened}
+use Rattle.md_laws.proofs.Runs.Offsets.{offset_at_crash, offsets_run}
 use Rattle.md_laws.proofs.Runs.MirrorContents.{IsHeldAt, life_held_at, starts_small}
 use Rattle.md_laws.proofs.Runs.MirrorLives.{as_left, left}
 use Rattle.md_laws.proofs.Runs.MirrorRuns.{starts}
 use Rattle.md_laws.proofs.Runs.Rests.{at_rest, history_rests}
-use Rattle.md_laws.proofs.Stops.LeftAtStops.{IsSorted, KeepsMemory}
-use Rattle.md_laws.proofs.Stops.LeftContents.{read_in}
+use Rattle.md_laws.proofs.Crashes.LeftAtCrashes.{IsSorted, KeepsMemory}
+use Rattle.md_laws.proofs.Crashes.LeftContents.{read_in}
 
 -- the content is held, members have their roles, and those that recover hold it where they lack nothing
 record IsResumedAt (g : Geometry) (opened : Super) (t : Moment) (a : Content) : Type 0 where
@@ -67,7 +67,7 @@ module _ (g : Geometry) (w next : World) (keeps : KeepsMemory w next) (k : ℕ) 
     ];
   }
 
-half_kept : (g : Geometry) (w : World) (k : ℕ) (d e : Stored) → stops.IsHalfOpened g d e → model.IsAsKept g w k d → model.IsAsKept g w k e
+half_kept : (g : Geometry) (w : World) (k : ℕ) (d e : Stored) → crashes.IsHalfOpened g d e → model.IsAsKept g w k d → model.IsAsKept g w k e
 half_kept g w k d e half t = record {
   offset = λ own is. t.offset own (sym half.super ∙ is);
   listed = λ own is s low off at i in_ bit. t.listed own (sym half.super ∙ is) s low (sym (ap (λ f. f s) half.listed) ∙ off) at i in_ bit;
@@ -114,7 +114,7 @@ module _ (g : Geometry) (small : IsWithinLimits g) where
       let more = along opened es (then_as t e r.0 r.1) c.0 last (resumed_then opened t a is e r.0 r.1 r.2 c.0 becomes told.0) r.3 (told.1 c.0 becomes) in
       (more.0, (r.0, r.1, c.0, r.2, becomes, more.1), more.2)
 
-  -- ---- a stop, and the next opening
+  -- ---- a crash, and the next opening
   module _ (opened : MirrorView) (same_opened : geometry_of opened.array ≡ g) (t : Moment) (a : Content) (is : IsResumedAt g (super_of opened.array.shared) t a)
       (next : MirrorView) (again : IsReopened opened t next) where
     abbrev was : Super
@@ -157,11 +157,11 @@ module _ (g : Geometry) (small : IsWithinLimits g) where
 
     -- what a device says that is known
     module _ (es : List Event) (r : MirrorRun (opened_as opened) es t) (first_lists : ListsAreIn (λ _. false) (world_of opened none_in_flight)) (k : ℕ) (clear : t.spoiled k ≡ false)
-        (known : IsKnown opened t again.devices.left again.devices.is_left k) where
+        (known : IsOffsetKnown opened t again.devices.left again.devices.is_left k) where
       known_says : (own : Super) → (read_in t.mirror.array again.devices.left k).super ≡ Some own → SaysNoMore t again.devices.left k
       known_says own told = inl (record {
-        offset = offset_at_stop t is.held.sound (offsets_run es (opened_as opened) t r (λ j _. known.offsets j)) again.devices.left again.devices.is_left k clear;
-        listed = listed_at_stop t is.held.sound (lists_run es (opened_as opened) t r first_lists) again.devices.left again.devices.is_left k known.rebuilt known.log known.beside own told;
+        offset = offset_at_crash t is.held.sound (offsets_run es (opened_as opened) t r (λ j _. known.offsets j)) again.devices.left again.devices.is_left k clear;
+        listed = listed_at_crash t is.held.sound (lists_run es (opened_as opened) t r first_lists) again.devices.left again.devices.is_left k known.rebuilt known.log known.beside own told;
       })
 
       known_as_kept : model.IsAsKept here now k (read_in t.mirror.array again.devices.left k)

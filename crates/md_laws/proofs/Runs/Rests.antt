@@ -1,7 +1,7 @@
 -- A mirror whose devices were only read is as good as before.
 use Rattle.std.proofs.Common.{◌≡◌, ℕ, Bool, List, slice_get, Option, Some, refl, sym, ap, ◌∙◌, subst, arith}
 use Rattle.std.proofs.lemmas.Option.{slice_get_within}
-use Rattle.md_device.specs.Stops.{LeavesMore}
+use Rattle.md_device.specs.Crashes.{LeavesMore}
 use Rattle.md_device.proofs.Leaving.{leaves_then}
 use Rattle.md_model.specs.Events.{Event, Step}
 use Rattle.md_model.specs.Runs.{failed_after, spoiled_after}
@@ -45,8 +45,8 @@ module _ (before mid after : List Disk) (first : IsUntouched before mid) (second
     content = λ k d e was is. let x = between k d was in second.content k x.0 e x.1 is ∙ first.content k d x.0 was x.1;
     within = λ k d e was is honest.
         let x = between k d was in
-        leaves_then d.stops x.0.stops e.stops (λ left. left ≡ d.content) (first.within k d x.0 was x.1 honest)
-        (subst (λ (c : List ℕ). LeavesMore x.0.stops e.stops (λ left. left ≡ c)) (first.content k d x.0 was x.1)
+        leaves_then d.crashes x.0.crashes e.crashes (λ left. left ≡ d.content) (first.within k d x.0 was x.1 honest)
+        (subst (λ (c : List ℕ). LeavesMore x.0.crashes e.crashes (λ left. left ≡ c)) (first.content k d x.0 was x.1)
         (second.within k x.0 e x.1 is ((first.same.honest k d x.0 was x.1).honest ∙ honest)));
   }
 

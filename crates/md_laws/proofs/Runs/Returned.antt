@@ -9,8 +9,8 @@ use Rattle.md_model.specs.Worlds.{World}
 use Rattle.md_model.specs.Assembly.{IsFound, IsFreshest}
 use Rattle.md_model.specs.Events.{Event}
 use Rattle.md_model.specs.Returns.{KeepsMembers, WasAway, beside}
-use Rattle.md_model.specs.Stops as stops
-use Rattle.md_model.specs.Stops.{IsFit, WasTried}
+use Rattle.md_model.specs.Crashes as crashes
+use Rattle.md_model.specs.Crashes.{IsFit, WasTried}
 use Rattle.md_model.proofs.Cases.{by_option}
 use Rattle.md_model.proofs.Lives.OpeningCovers.{own_of}
 use Rattle.md_model.proofs.Present.{same_members}
@@ -22,7 +22,7 @@ use Rattle.md_laws.specs.Left.{contents_of}
 use Rattle.md_laws.specs.Lives.{AreFoundAgain}
 use Rattle.md_laws.specs.Returning.{StartsAgain, returned}
 use Rattle.md_laws.specs.Runs.{IsStart, MirrorRun, Moment, history_of, opened_as}
-use Rattle.md_laws.proofs.Stops.LeftContents.{read_in, read_same}
+use Rattle.md_laws.proofs.Crashes.LeftContents.{read_in, read_same}
 use Rattle.md_laws.proofs.Runs.MirrorLives.{all_of, as_placed, at_none, at_some, made_of, opens, opens_again, place}
 use Rattle.md_laws.proofs.Runs.MirrorRuns.{model_run, starts}
 use Rattle.md_laws.proofs.Runs.Moments.{IsSoundAt, geometry_kept, run_keeps, sound_when_opened}
@@ -58,11 +58,11 @@ module _ (before : List Disk) (m : MirrorView) (start : IsStart before m) (es : 
   abbrev left : ℕ → Stored
   left = made_of t at_t next found devices from_these
 
-  left_at : (k j : ℕ) → devices.at k ≡ Some j → stops.IsHalfOpened g (read_in t.mirror.array t.mirror.disks k) (left k) ⊎ ((left k).super ≡ None)
-  left_at k j is = inl (subst (λ (x : Stored). stops.IsHalfOpened g x (left k)) (read_same t.mirror.array devices.left t.mirror.disks same k)
-      (subst (stops.IsHalfOpened g (read_in t.mirror.array devices.left k)) (sym (at_some t at_t next found devices from_these k j is)) (read_alike t at_t found next.array devices from_these.array k j is)))
+  left_at : (k j : ℕ) → devices.at k ≡ Some j → crashes.IsHalfOpened g (read_in t.mirror.array t.mirror.disks k) (left k) ⊎ ((left k).super ≡ None)
+  left_at k j is = inl (subst (λ (x : Stored). crashes.IsHalfOpened g x (left k)) (read_same t.mirror.array devices.left t.mirror.disks same k)
+      (subst (crashes.IsHalfOpened g (read_in t.mirror.array devices.left k)) (sym (at_some t at_t next found devices from_these k j is)) (read_alike t at_t found next.array devices from_these.array k j is)))
 
-  is_left : stops.IsLeft g (history_of t) left
+  is_left : crashes.IsLeftByCrash g (history_of t) left
   is_left = (
     (world_of t.mirror t.requests).stored,
     inl refl,
@@ -104,7 +104,7 @@ module _ (before : List Disk) (m : MirrorView) (start : IsStart before m) (es : 
       subst (λ x. CoversAll x all) (sym kept) (subst (CoversAll (geometry_of m.array)) (sym all_beside)
       (covers_returns (geometry_of m.array) opened (world_of m none_in_flight) (starts before m start) back away es (history_of t) keeps
       (model_run (geometry_of m.array) es (opened_as m) t refl r) untried left first
-      (subst (λ x. stops.IsLeft x (history_of t) left) kept is_left)
+      (subst (λ x. crashes.IsLeftByCrash x (history_of t) left) kept is_left)
       (subst (λ (x : ℕ → Stored). IsFreshest x first) all_beside freshest) fit))
 
   -- a member in sync of the next mirror is found so among them

@@ -14,7 +14,7 @@ use Rattle.md_state.specs.Requests.{among, request_of}
 use Rattle.md_array.specs.Consistency.{IsConsistent}
 use Rattle.md_array.specs.Events.{BeginHappens, Happens}
 use Rattle.md_array.specs.Opening.{IsOpenedFrom}
-use Rattle.md_array.specs.Worlds.{AreHonest, from_super, none_in_flight, world_on}
+use Rattle.md_array.specs.Worlds.{AreHonest, sector_from_super, none_in_flight, world_on}
 use Rattle.md_laws.specs.Lives.{IsFoundAgain, IsReopened}
 use Rattle.md_laws.specs.Runs.{IsStart, Moment, opened_as}
 use Rattle.md_laws.specs.SmallLife.{HasSmallLife, RunsTwice}
@@ -93,7 +93,7 @@ again v sound k j is =
       at_left = d.1;
       disk_now = d.0;
       at_now = sym (ap (slice_get v.disks) same) ∙ d.1;
-      as_left = record { outside = outside_none (512 * from_super m.0.superblock.bitmap_offset) (512 * bitmap_sectors m.0.stored.chunks) d.0.content; chunk_size = refl; marks = λ s small clear. clear };
+      as_left = record { outside = outside_none (512 * sector_from_super m.0.superblock.bitmap_offset) (512 * bitmap_sectors m.0.stored.chunks) d.0.content; chunk_size = refl; marks = λ s small clear. clear };
     })
     (λ past. absurd (none-some j (sym (ap (λ b. cond b (Some k) None) past) ∙ is)))
 

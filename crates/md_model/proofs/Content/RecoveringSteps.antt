@@ -12,7 +12,7 @@ use Rattle.md_model.specs.Steps.{begun, with_device, recorded, recorded_device, 
 use Rattle.md_model.specs.Failures.{failed}
 use Rattle.md_model.specs.Resyncing.{copied, copied_device, made_clean, made_resynced}
 use Rattle.md_model.specs.Membership.{former_member, is_spare, joined, new_member, removed, skip, Newcomer}
-use Rattle.md_model.specs.Rebuilding.{as_in_sync, as_recovering, checkpointed, is_missing, taking_device, takes_role, with_offset, IsCopiedAt, IsStillMarked, LeftByFilling, MayCheckpoint, MayEnrol, MayFill, Taking}
+use Rattle.md_model.specs.Rebuilding.{as_in_sync, as_recovering, checkpointed, is_missing, taking_device, with_role_taken, with_offset, IsCopiedAt, IsStillMarked, LeftByFilling, MayCheckpoint, MayEnrol, MayFill, Taking}
 use Rattle.md_model.specs.Listing.{log_stored, noted_bad}
 use Rattle.md_model.specs.Events.{Event, Fails, Happens}
 use Rattle.md_model.specs.Content.{Content, Becomes, HoldsAtRest}
@@ -175,7 +175,7 @@ module _ (g : Geometry) (wide : 0 < g.width) (a : Content) (w : World) (tracked 
   -- ---- a member that takes a role
   module _ (k : ℕ) (n : Taking) (full : Bool) where
     abbrev u : World
-    u = takes_role (risen g w full) k n
+    u = with_role_taken (risen g w full) k n
 
     taking_old : (j : ℕ) → j ≢ k → is_recovering (u.state j) ≡ true → IsLate u j
     taking_old j apart on = from_old u j (record {

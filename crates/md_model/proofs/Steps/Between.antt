@@ -9,7 +9,7 @@ use Rattle.md_model.specs.Steps.{entered, begun, with_device, recorded, marks_st
 use Rattle.md_model.specs.Failures.{failed}
 use Rattle.md_model.specs.Resyncing.{copied, made_resynced, made_clean, MayCopy}
 use Rattle.md_model.specs.Events.{Event, Fails, Happens}
-use Rattle.md_model.specs.Content.{Content, with_request, IsSettled, IsKeptByEnrolling, Becomes, HoldsBetween, HoldsInFlight, KeepsBetween, KeepsInFlight, BeginsBetween}
+use Rattle.md_model.specs.Content.{Content, with_request, IsResyncedContent, IsKeptByEnrolling, Becomes, HoldsBetween, HoldsInFlight, KeepsBetween, KeepsInFlight, BeginsBetween}
 use Rattle.md_model.proofs.Cases.{by_test, none_some}
 use Rattle.md_model.proofs.Puts.{by_same, put-miss}
 use Rattle.md_model.proofs.Steps.Tracked.{IsFewer, in_flight_fewer}
@@ -103,7 +103,7 @@ module _ (g : Geometry) (a : Content) where
     in_flight = in_flight_copied g w from k s may t.in_flight;
   }
 
-  between_resynced : (w : World) (b : Content) → IsSettled g w a b → HoldsBetween g a w → HoldsBetween g b (made_resynced w true)
+  between_resynced : (w : World) (b : Content) → IsResyncedContent g w a b → HoldsBetween g a w → HoldsBetween g b (made_resynced w true)
   between_resynced w b c t = record { at_rest = λ k s low on clear _ _. c.held k s low on clear; in_flight = in_flight_resynced w true t.in_flight }
 
   between_unresynced : (w : World) → HoldsBetween g a w → HoldsBetween g a (made_resynced w false)

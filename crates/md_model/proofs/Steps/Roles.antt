@@ -10,7 +10,7 @@ use Rattle.md_model.specs.Counts.{risen}
 use Rattle.md_model.specs.Steps.{begun, with_device}
 use Rattle.md_model.specs.Failures.{failed}
 use Rattle.md_model.specs.Membership.{former_member, is_spare, joined, new_member, removed, skip, Newcomer}
-use Rattle.md_model.specs.Rebuilding.{as_in_sync, as_recovering, takes_role, Taking}
+use Rattle.md_model.specs.Rebuilding.{as_in_sync, as_recovering, with_role_taken, Taking}
 use Rattle.md_model.specs.Events.{Event, Fails, Happens}
 use Rattle.md_model.specs.Behind.{IsDegraded}
 use Rattle.md_model.specs.Openings.{IsOpened, IsWithinLimits}
@@ -199,7 +199,7 @@ module _ (g : Geometry) (small : IsWithinLimits g) (opened : Super) (h : History
   -- ---- a member that takes a role
   module _ (k : ℕ) (n : Taking) (full : Bool) (low : k < w.members) where
     abbrev u : World
-    u = takes_role (risen g w full) k n
+    u = with_role_taken (risen g w full) k n
 
     was : (j : ℕ) (is : State → Bool) → j ≢ k → is (u.state j) ≡ true → is (w.state j) ≡ true
     was j is apart on = sym (ap is (put-miss k n.state w.state j apart)) ∙ on

@@ -5,7 +5,7 @@ use Rattle.std.proofs.lemmas.Bool.{cases_lt}
 use Rattle.md_requests.specs.Pending.{PendingView, request_sectors}
 use Rattle.md_state.specs.View.{ArrayView}
 use Rattle.md_state.specs.Members.{AllInSync, IsFirstInSyncWithout}
-use Rattle.md_state.specs.WritingMember.{HasMarksFrom, HasMarksOf}
+use Rattle.md_state.specs.WritingMember.{HasMarksFrom, HasRequestMarks}
 
 pub div_mono : (w a b : ℕ) → 0 < w → a ≤ b → a / w ≤ b / w
 div_mono w a b wide le = let down = div-mul-le_self a w in (le-div_iff_mul-le {k = w} {x = a / w} {y = b} wide).1 (omega arith)
@@ -43,10 +43,10 @@ from_sectors w sector n first end P are each c from below =
     ]
 
 module _ (a : ArrayView) (p : PendingView) (first end : ℕ) (are : AreChunksOf a.chunks.sectors p.sector (request_sectors p) first end) where
-  pub all_marked : AllInSync a (HasMarksFrom first end) → AllInSync a (HasMarksOf a p)
+  pub all_marked : AllInSync a (HasMarksFrom first end) → AllInSync a (HasRequestMarks a p)
   all_marked marked i m there = to_sectors _ p.sector _ first end _ are (marked i m there)
 
-  pub first_unmarked : (j : ℕ) → IsFirstInSyncWithout a (HasMarksFrom first end) j → IsFirstInSyncWithout a (HasMarksOf a p) j
+  pub first_unmarked : (j : ℕ) → IsFirstInSyncWithout a (HasMarksFrom first end) j → IsFirstInSyncWithout a (HasRequestMarks a p) j
   first_unmarked j found = record {
     member = found.member;
     in_sync = found.in_sync;

@@ -12,7 +12,7 @@ use Rattle.md_faults.specs.declared.step_fault.BeginFault.TheVariants.{NoMemory,
 use Rattle.md_state.specs.View.{ArrayView, Disk}
 use Rattle.md_state.specs.Members.{clean_offset, is_degraded}
 use Rattle.md_state.specs.Rising.{risen}
-use Rattle.md_state.specs.Beginning.{HasMarked, IsInRange, MayBeginAt, RefusesBegin, active_offset, counted, has_to_rise, with_request}
+use Rattle.md_state.specs.Beginning.{HasMarked, IsInRange, MayBeginAt, RefusesBegin, active_offset, array_after_rise, has_to_rise, with_request}
 use Rattle.md_state.proofs.Changes.Profiles.{same_profile}
 
 -- the list with a request of these sectors
@@ -52,7 +52,7 @@ module _ (a e : ArrayView) (sector sectors : ℕ) (entered_is : e ≡ record a {
   pub still_rises : has_to_rise e ≡ true → has_to_rise a ≡ true
   still_rises rises = rw entered_is at rises
 
-  module _ (c d : ArrayView) (counted_is : c ≡ counted e) (active_is : d ≡ activated c) where
+  module _ (c d : ArrayView) (counted_is : c ≡ array_after_rise e) (active_is : d ≡ activated c) where
     same_chunks : d.chunks ≡ a.chunks
     same_chunks = rw (active_is, counted_is, entered_is) (by (has_to_rise a))
       where
@@ -73,7 +73,7 @@ module _ (a e : ArrayView) (sector sectors : ℕ) (entered_is : e ≡ record a {
     pub still_marked : (marks : Bitmap) → HasMarked d sector sectors marks → HasMarked a sector sectors marks
     still_marked marks has = record { chunks = rw (← same_marks) has.chunks; bits = λ k. rw (← same_marks, ← same_chunks) (has.bits k) }
 
-    pub with_request_is : (b : ArrayView) (marks : Bitmap) → b ≡ record d { marks = marks } → b ≡ with_request (counted a) sector sectors marks
+    pub with_request_is : (b : ArrayView) (marks : Bitmap) → b ≡ record d { marks = marks } → b ≡ with_request (array_after_rise a) sector sectors marks
     with_request_is b marks marked_is = rw (marked_is, active_is, counted_is, entered_is) (by (has_to_rise a))
       where
         by : (rises : Bool) → record (activated (cond rises (risen (record a { requests = entered a.requests sector sectors }) (not (is_degraded a))) (record a { requests = entered a.requests sector sectors }))) { marks = marks }

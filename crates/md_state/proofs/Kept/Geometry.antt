@@ -13,7 +13,7 @@ use Rattle.md_members.specs.declared.info.MemberInfo.{MemberInfo}
 use Rattle.md_assembly.specs.declared.assembling.Assembly.{Assembly}
 use Rattle.md_assembly.specs.declared.fault.AssembleFault.TheVariants.{Geometry, NoBitmap}
 use Rattle.md_assembly.specs.Assembled.{IsAssembled, superblocks}
-use Rattle.md_assembly.specs.Faults.{HasOtherGeometry, LacksBitmap, NoFault}
+use Rattle.md_assembly.specs.Faults.{HasOtherGeometry, LacksBitmap, NoAssembleFault}
 use Rattle.md_assembly.specs.Listed.{IsLeast, MemberAt, PairAt}
 use Rattle.md_assembly.proofs.Indices.{got_within}
 use Rattle.md_kept_members.specs.View.{MemberView}
@@ -30,11 +30,11 @@ none_below Fact none (suc m) n lt h = none n (record {
 pub none_by_least : (Fact : ℕ → Type 0) → ((n : ℕ) → IsLeast Fact n → ⊥) → (n : ℕ) → Fact n → ⊥
 none_by_least Fact none n h = none_below Fact none (n + 1) n (omega arith) h
 
-pub has_bitmap : (infos : List MemberInfo) (k : ℕ) (info : MemberInfo) → NoFault infos → slice_get infos k ≡ Some info → LacksBitmap info → ⊥
+pub has_bitmap : (infos : List MemberInfo) (k : ℕ) (info : MemberInfo) → NoAssembleFault infos → slice_get infos k ≡ Some info → LacksBitmap info → ⊥
 has_bitmap infos k info sound listed lacks =
     none_by_least (MemberAt LacksBitmap infos) (λ n least. sound (NoBitmap n) (omega arith) least) k (record { member = info; listed = listed; holds = lacks })
 
-no_other : (infos : List MemberInfo) (k : ℕ) (first info : MemberInfo) → NoFault infos → slice_get infos 0 ≡ Some first → slice_get infos k ≡ Some info → HasOtherGeometry first info → ⊥
+no_other : (infos : List MemberInfo) (k : ℕ) (first info : MemberInfo) → NoAssembleFault infos → slice_get infos 0 ≡ Some first → slice_get infos k ≡ Some info → HasOtherGeometry first info → ⊥
 no_other infos k first info sound at_first at_k other =
     none_by_least (PairAt HasOtherGeometry infos 0) (λ n least. sound (Geometry n) (omega arith) least) k
     (record { member = first; listed = at_first; holds = record { member = info; listed = at_k; holds = other } })
@@ -50,7 +50,7 @@ pub record AreAlike (a b : MemberInfo) (g h : BitmapHeader) : Type 0 where
   pub size : a.superblock.size ≡ b.superblock.size
   pub chunksize : g.chunksize ≡ h.chunksize
 
-like_first : (infos : List MemberInfo) (k : ℕ) (first info : MemberInfo) (g h : BitmapHeader) → NoFault infos → slice_get infos 0 ≡ Some first → slice_get infos k ≡ Some info → info.header ≡ Some g → first.header ≡ Some h → AreAlike info first g h
+like_first : (infos : List MemberInfo) (k : ℕ) (first info : MemberInfo) (g h : BitmapHeader) → NoAssembleFault infos → slice_get infos 0 ≡ Some first → slice_get infos k ≡ Some info → info.header ≡ Some g → first.header ≡ Some h → AreAlike info first g h
 like_first infos k first info g h sound at_first at_k has_g has_h =
     let same = no_other infos k first info sound at_first at_k in
     record {
@@ -58,7 +58,7 @@ like_first infos k first info g h sound at_first at_k has_g has_h =
       chunksize = elim (cases_eq g.chunksize h.chunksize) [ inl e ↦ e | inr ne ↦ absurd (same (inr (inr (λ e. ne (by_options (λ (x : BitmapHeader). x.chunksize) _ _ g h has_g has_h e))))) ];
     }
 
-pub alike : (infos : List MemberInfo) (j k : ℕ) (a b : MemberInfo) (g h : BitmapHeader) → AreWhole infos → NoFault infos → slice_get infos j ≡ Some a → slice_get infos k ≡ Some b → a.header ≡ Some g → b.header ≡ Some h → AreAlike a b g h
+pub alike : (infos : List MemberInfo) (j k : ℕ) (a b : MemberInfo) (g h : BitmapHeader) → AreWhole infos → NoAssembleFault infos → slice_get infos j ≡ Some a → slice_get infos k ≡ Some b → a.header ≡ Some g → b.header ≡ Some h → AreAlike a b g h
 alike infos j k a b g h whole sound at_j at_k has_g has_h =
     let within = slice_get_within infos j a at_j in
     let first = got_within infos 0 (omega arith) in
@@ -94,13 +94,13 @@ kept_at events cleared infos assembly members k m assembled kept listed =
     record { info = info.0; listed = info.1; header = is_kept.header; chunks = is_kept.chunks }
 
 -- all members have the width and the number of the chunks of the freshest
-pub width_of : (events cleared : ℕ) (infos : List MemberInfo) (assembly : Assembly) (members : List MemberView) (fresh : MemberInfo) (chunks : Chunks) → AreWhole infos → NoFault infos → IsAssembled infos assembly → slice_get infos assembly.freshest ≡ Some fresh → IsChunkingOf fresh chunks → AreKept events cleared infos assembly.states.items members → (k : ℕ) (m : MemberView) → slice_get members k ≡ Some m → chunks.sectors ≡ m.header.chunksize / 512
+pub width_of : (events cleared : ℕ) (infos : List MemberInfo) (assembly : Assembly) (members : List MemberView) (fresh : MemberInfo) (chunks : Chunks) → AreWhole infos → NoAssembleFault infos → IsAssembled infos assembly → slice_get infos assembly.freshest ≡ Some fresh → IsChunkingOf fresh chunks → AreKept events cleared infos assembly.states.items members → (k : ℕ) (m : MemberView) → slice_get members k ≡ Some m → chunks.sectors ≡ m.header.chunksize / 512
 width_of events cleared infos assembly members fresh chunks whole sound assembled at_fresh chunking kept k m listed =
     let at = kept_at events cleared infos assembly members k m assembled kept listed in
     let same = alike infos assembly.freshest k fresh at.info chunking.header m.header whole sound at_fresh at.listed chunking.has_header at.header in
     chunking.width ∙ ap (λ (n : ℕ). n / 512) same.chunksize
 
-pub count_of : (events cleared : ℕ) (infos : List MemberInfo) (assembly : Assembly) (members : List MemberView) (fresh : MemberInfo) (chunks : Chunks) → AreWhole infos → NoFault infos → IsAssembled infos assembly → slice_get infos assembly.freshest ≡ Some fresh → IsChunkingOf fresh chunks → AreKept events cleared infos assembly.states.items members → HaveChunks members (div_ceil chunks.size chunks.sectors)
+pub count_of : (events cleared : ℕ) (infos : List MemberInfo) (assembly : Assembly) (members : List MemberView) (fresh : MemberInfo) (chunks : Chunks) → AreWhole infos → NoAssembleFault infos → IsAssembled infos assembly → slice_get infos assembly.freshest ≡ Some fresh → IsChunkingOf fresh chunks → AreKept events cleared infos assembly.states.items members → HaveChunks members (div_ceil chunks.size chunks.sectors)
 count_of events cleared infos assembly members fresh chunks whole sound assembled at_fresh chunking kept k m listed =
     let at = kept_at events cleared infos assembly members k m assembled kept listed in
     let same = alike infos assembly.freshest k fresh at.info chunking.header m.header whole sound at_fresh at.listed chunking.has_header at.header in

@@ -9,7 +9,7 @@ use Rattle.md_bitmap.specs.Marks.{Bitmap, IsMarked, is_set}
 use Rattle.md_members.specs.declared.info.MemberInfo.{MemberInfo}
 use Rattle.md_assembly.specs.declared.assembling.Assembly.{Assembly}
 use Rattle.md_assembly.specs.Assembled.{IsAssembled}
-use Rattle.md_assembly.specs.Faults.{NoFault}
+use Rattle.md_assembly.specs.Faults.{NoAssembleFault}
 use Rattle.md_kept_members.specs.View.{MemberView}
 use Rattle.md_kept_members.specs.Remembering.{AreKept, AreWhole, ClearedIn, HaveChunks, IsAloneIn, IsChunkingOf, IsLastClearedOr, IsMarkedIn}
 use Rattle.md_state.specs.View.{ArrayView}
@@ -73,7 +73,7 @@ pub record IsFound (a : ArrayView) : Type 0 where
   pub running : a.halted ≡ false
   pub idle : a.requests ≡ record a.requests { entries = []; next = 0 }
 
-pub remembered : (infos : List MemberInfo) (assembly : Assembly) (fresh : MemberInfo) (a : ArrayView) → AreWhole infos → NoFault infos → IsAssembled infos assembly → slice_get infos assembly.freshest ≡ Some fresh → a.shared ≡ fresh.superblock → IsChunkingOf fresh a.chunks → AreKept a.shared.events a.events_cleared infos assembly.states.items a.members → IsFound a → IsRemembered infos assembly a
+pub remembered : (infos : List MemberInfo) (assembly : Assembly) (fresh : MemberInfo) (a : ArrayView) → AreWhole infos → NoAssembleFault infos → IsAssembled infos assembly → slice_get infos assembly.freshest ≡ Some fresh → a.shared ≡ fresh.superblock → IsChunkingOf fresh a.chunks → AreKept a.shared.events a.events_cleared infos assembly.states.items a.members → IsFound a → IsRemembered infos assembly a
 remembered infos assembly fresh a whole sound assembled at_fresh shared chunking kept found =
     let count = count_of a.shared.events a.events_cleared infos assembly a.members fresh a.chunks whole sound assembled at_fresh chunking kept in
     record {

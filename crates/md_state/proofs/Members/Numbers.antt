@@ -4,7 +4,7 @@ use Rattle.std.specs.List.{list_any}
 use Rattle.std.proofs.lemmas.Bool.{cases_lt}
 use Rattle.std.proofs.lemmas.Bool.Decides.{nat_tests}
 use Rattle.std.proofs.lemmas.List.Sums.{count_by-le-length, sum_by-cons}
-use Rattle.md_model.specs.Membership.{IsLeast}
+use Rattle.md_model.specs.Membership.{IsLeastNumber}
 use Rattle.md_kept_members.specs.View.{MemberView}
 use Rattle.md_state.specs.Adding.{IsNumber}
 use Rattle.md_state.specs.Joining.{HasMostMembers}
@@ -64,14 +64,14 @@ is_used a d used = by (has_number a d) refl
     by false is = absurd (used is)
 
 -- the least that no member has is no more than there are members
-pub unused_is_small : (a : ArrayView) (d : ℕ) → IsLeast (λ e. has_number a e ≡ false) d → d ≤ length a.members
+pub unused_is_small : (a : ArrayView) (d : ℕ) → IsLeastNumber (λ e. has_number a e ≡ false) d → d ≤ length a.members
 unused_is_small a d least = elim (cases_lt (length a.members) d) [
   | inl more ↦ absurd (one_unused a (λ e low. is_used a e (λ unused. let small = least.least e unused in absurd (omega arith))))
   | inr few ↦ few
 ]
 
 -- the number of the members is the least, where all below it are used
-pub last_is_least : (a : ArrayView) (n : ℕ) → n ≡ length a.members → ((e : ℕ) → e < n → has_number a e ≡ true) → IsLeast (λ e. has_number a e ≡ false) n
+pub last_is_least : (a : ArrayView) (n : ℕ) → n ≡ length a.members → ((e : ℕ) → e < n → has_number a e ≡ true) → IsLeastNumber (λ e. has_number a e ≡ false) n
 last_is_least a n many used = record {
   fits = by (has_number a n) refl;
   least = λ e unused. elim (cases_lt e n) [ inl low ↦ absurd (true≢false (sym (used e low) ∙ unused)) | inr more ↦ more ];

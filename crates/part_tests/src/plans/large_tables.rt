@@ -1,6 +1,6 @@
 // Large tables, with the certificates that they have to have.
 use crate::checks::{holds, same};
-use crate::plans::planning::planned;
+use crate::plans::planning::plan_masks;
 use md_plan::Planned;
 use std::alloc::{AllocError, Global};
 use std::process::Abort;
@@ -45,7 +45,7 @@ fn plans(rt: &impl Abort, alloc: Global, masks: &[u32], table: &Large) -> Result
     if masks.len() > MOST_CHUNKS {
         return Err(Fail::new("more chunks than a table may have"));
     }
-    let made = planned(rt, alloc, masks)?;
+    let made = plan_masks(rt, alloc, masks)?;
     expect_planned(rt, &made, table);
     drop(made);
     Ok(())

@@ -23,7 +23,7 @@ pub(crate) fn table_of(alloc: Global, masks: &[u32]) -> Result<Table, NoMemory>
 }
 
 /// The plan of such a table, which the checker has accepted.
-pub(crate) fn planned(rt: &impl Abort, alloc: Global, masks: &[u32]) -> Result<Planned, Fail>
+pub(crate) fn plan_masks(rt: &impl Abort, alloc: Global, masks: &[u32]) -> Result<Planned, Fail>
     requires { length masks.now ≤ 2 ^ 20 }
 {
     let table = table_of(alloc, masks)?;

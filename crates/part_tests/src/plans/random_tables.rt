@@ -1,7 +1,7 @@
 // Random tables: the planner and the plain one find the same number of rounds.
 use crate::checks::same;
 use crate::plans::plain_planner::fewest_rounds;
-use crate::plans::planning::planned;
+use crate::plans::planning::plan_masks;
 use std::alloc::{AllocError, Global};
 use std::process::Abort;
 use std::test::Fail;
@@ -36,7 +36,7 @@ fn expect_same_rounds(rt: &impl Abort, alloc: Global, masks: &[u32]) -> Result<(
     if masks.len() > MOST_CHUNKS {
         return Err(Fail::new("more chunks than were asked for"));
     }
-    let made = planned(rt, alloc, masks)?;
+    let made = plan_masks(rt, alloc, masks)?;
     let rounds = made.plan.rounds;
     drop(made);
     let fewest = fewest_rounds(alloc, masks)?;

@@ -2,7 +2,7 @@
 ghost use Rattle.std.specs.Prelude.{◌≤◌, ◌^◌, length};
 
 use crate::checks::{holds, same};
-use crate::plans::planning::{planned, table_of, verdict_with};
+use crate::plans::planning::{plan_masks, table_of, verdict_with};
 use md_cert::{Plan, Slot, Table, Verdict};
 use md_plan::Planned;
 use std::alloc::Global;
@@ -24,7 +24,7 @@ fn expect_known(rt: &impl Abort, made: &Planned, known: &Known<'_>) {
 fn plans(rt: &impl Abort, alloc: Global, masks: &[u32], known: &Known<'_>) -> Result<(), Fail>
     requires { length masks.now ≤ 2 ^ 20 }
 {
-    let made = planned(rt, alloc, masks)?;
+    let made = plan_masks(rt, alloc, masks)?;
     expect_known(rt, &made, known);
     drop(made);
     Ok(())
@@ -50,7 +50,7 @@ fn expect_moved(rt: &impl Abort, plan: &Plan) {
 
 #[test]
 fn plan_needs_a_move(rt: HostRuntime) -> Result<(), Fail> {
-    let made = planned(&rt, rt.alloc(), &[3, 1])?;
+    let made = plan_masks(&rt, rt.alloc(), &[3, 1])?;
     expect_moved(&rt, &made.plan);
     drop(made);
     Ok(())
@@ -81,7 +81,7 @@ fn expect_judged(rt: &impl Abort, alloc: Global, table: &Table, plan: &Plan) -> 
 fn plan_certificates(rt: HostRuntime) -> Result<(), Fail> {
     let masks = [1, 1, 3, 2];
     let table = table_of(rt.alloc(), &masks)?;
-    let made = planned(&rt, rt.alloc(), &masks)?;
+    let made = plan_masks(&rt, rt.alloc(), &masks)?;
     let judged = expect_judged(&rt, rt.alloc(), &table, &made.plan);
     drop(made);
     drop(table);

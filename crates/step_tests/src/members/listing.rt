@@ -105,7 +105,7 @@ const GROWS: [Chapter; 2] = [
     },
 ];
 
-// A stop before that leaves no list.
+// A crash before that leaves no list.
 const ONLY_NOTED: [Chapter; 2] = [
     Chapter {
         images: &[WITH_LOG, SECOND_WITH_LOG],

@@ -99,7 +99,7 @@ fn follow(
     for (at, step) in steps.iter().enumerate() {
         let answer = run.make(alloc, *step)?;
         same(rt, &(n, at), answer, expected.answer(*step));
-        same(rt, &(n, at), run.shown(), expected.shown());
+        same(rt, &(n, at), run.shown_state(), expected.shown_state());
         same(rt, &(n, at), are_members_right(run, expected), true);
     }
     Ok(())
@@ -137,7 +137,7 @@ fn play(
     let first = [writes[0].saturating_add(1), writes[1].saturating_add(1)];
     let devices = copies_of(alloc, images, &first)?;
     let mut run = Run::open(alloc, devices)?;
-    let mut expected = Expected::opened(images.len(), 10, writes);
+    let mut expected = Expected::at_opening(images.len(), 10, writes);
     let followed = follow_both(rt, alloc, &mut run, &mut expected, lead, steps, n);
     let devices = run.into_devices();
     expect_data(rt, devices, &expected, n);

@@ -53,7 +53,7 @@ fn opened_member(in_sync: bool, writes_left: u64) -> ExpectedMember {
 impl Expected {
     // A clean array with no marks, on devices that take so many writes. With a count of one the second
     // member is not there.
-    pub(crate) fn opened(count: usize, events: u64, writes: [u64; 2]) -> Expected {
+    pub(crate) fn at_opening(count: usize, events: u64, writes: [u64; 2]) -> Expected {
         Expected {
             members: [
                 opened_member(true, writes[0]),
@@ -71,7 +71,7 @@ impl Expected {
         }
     }
 
-    pub(crate) fn shown(&self) -> Shown {
+    pub(crate) fn shown_state(&self) -> Shown {
         let mut due = 0usize;
         for member in &self.members {
             if member.due {

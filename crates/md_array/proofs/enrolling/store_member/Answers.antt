@@ -1,7 +1,7 @@
 use Rattle.std.proofs.Common.{◌≡◌, ℕ, ◌*◌, List, ◌++◌, ◌∷◌, [], ap, ◌∙◌, subst, length}
 use Rattle.md_device.specs.Splice.{SameOutside}
 use Rattle.md_members.specs.Areas.{bitmap_sectors}
-use Rattle.md_members.specs.Members.{sectors_of}
+use Rattle.md_members.specs.Members.{sectors_of_device}
 use Rattle.md_members.specs.Reading.{BitmapStartsAt}
 use Rattle.md_device_writes.specs.Bitmaps.{bitmap_writes}
 use Rattle.md_device_writes.specs.Writes.{DoesWrites, FailsInWrites, MakesWrites}
@@ -23,7 +23,7 @@ beside_bitmap : (g : given.Over) (c : After-store_bitmap g) → KeepsData c.args
 beside_bitmap g c =
     let of = disk_of g.D.Device in
     let s = c.bitmap_start-start.result in
-    data_beside_bitmap c.args.member.now (of c.args.device.now) (of c.store_bitmap.new.device) (sectors_of (g.D.Device.content c.args.device.now)) c.requires.placed c.requires.has s (starts g c)
+    data_beside_bitmap c.args.member.now (of c.args.device.now) (of c.store_bitmap.new.device) (sectors_of_device (g.D.Device.content c.args.device.now)) c.requires.placed c.requires.has s (starts g c)
     (subst (λ (m : MemberView). SameOutside (512 * s) (512 * bitmap_sectors m.stored.chunks) (g.D.Device.content c.args.device.now) (g.D.Device.content c.store_bitmap.new.device)) c.member.view_is
     c.store_bitmap.ensures.outside)
 
@@ -110,5 +110,5 @@ returns-clause-data g c =
     data_then n was marked now
     (beside_bitmap g (goal.at.returns-clause-data g c).After-store_bitmap)
     (data_then n marked listed now c.in_ok-store_log.ensures.data
-    (data_beside_super n listed now (sectors_of was.content) c.requires.placed
+    (data_beside_super n listed now (sectors_of_device was.content) c.requires.placed
     (subst (λ (x : ℕ). SameOutside (512 * 8) x listed.content now.content) (ap length c.block_for-block.ensures.bytes ∙ c.block_for-block.ensures.readable.size) c.put.ensures.outside)))

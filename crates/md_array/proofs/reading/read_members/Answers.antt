@@ -3,7 +3,7 @@ use Rattle.std.proofs.lemmas.List.{length_push, map-set}
 use Rattle.md_state.specs.View.{Disk, disk_of}
 use Rattle.md_members.specs.declared.info.MemberInfo.{MemberInfo}
 use Rattle.md_state.specs.DeviceChanges.{IsUntouched, LeavesAsWas, StaysHonest}
-use Rattle.md_array.specs.Reading.{RefusesRead, refusal_of}
+use Rattle.md_array.specs.Reading.{RefusesReading, open_fault_of}
 use Rattle.md_array.proofs.Openings.DevicesInTurn.{disk_at, still_untouched}
 use Rattle.md_array.proofs.Openings.MembersRead.{AreReadSoFar, read_more, refused_at, short_more}
 use Rattle.md_array.proofs.reading.read_members.Goals as goal
@@ -22,8 +22,8 @@ returns-in-Err g c =
     record {
       untouched = untouched disk (map disk c.args.devices.now) c.loop-k.devices c.loop-k.k c.index-devices-k-in-loop-k.result c.read_member.new.device (omega arith) c.loop-k.invariant.untouched
           (record { honest = c.read_member.ensures.honest; counted = c.read_member.ensures.counted }) c.read_member.ensures.kept c.read_member.ensures.within;
-      read = subst (RefusesRead (map disk c.args.devices.now) (map disk (set c.loop-k.devices c.loop-k.k c.read_member.new.device))) (sym c.refusal.ensures)
-          (subst (λ (now : List Disk). RefusesRead (map disk c.args.devices.now) now (refusal_of c.loop-k.k c.in-Err.fault)) (sym (map-set disk c.loop-k.devices c.loop-k.k c.read_member.new.device))
+      read = subst (RefusesReading (map disk c.args.devices.now) (map disk (set c.loop-k.devices c.loop-k.k c.read_member.new.device))) (sym c.refusal.ensures)
+          (subst (λ (now : List Disk). RefusesReading (map disk c.args.devices.now) now (open_fault_of c.loop-k.k c.in-Err.fault)) (sym (map-set disk c.loop-k.devices c.loop-k.k c.read_member.new.device))
           (refused_at (map disk c.args.devices.now) (map disk c.loop-k.devices) c.loop-k.infos.items c.loop-k.k (disk was) (disk c.read_member.new.device) c.in-Err.fault c.loop-k.invariant.count
           (disk_at disk c.loop-k.devices c.loop-k.k c.index-devices-k-in-loop-k.result (omega arith))
           c.loop-k.invariant.untouched c.loop-k.invariant.read c.in-Err.ensures.reads));

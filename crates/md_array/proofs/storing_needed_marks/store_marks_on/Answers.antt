@@ -2,7 +2,7 @@ use Rattle.std.proofs.Common.{OnOk, OnErr, subst, sym}
 use Rattle.md_kept_members.specs.View.{MemberView}
 use Rattle.md_state.specs.View.{disk_of}
 use Rattle.md_state.specs.Headers.{IsHeaderFor}
-use Rattle.md_array.specs.Storing.{FailsToStore, StoresMarks}
+use Rattle.md_array.specs.Storing.{FailsToStore, StoresMarksOn}
 use Rattle.md_array.proofs.Openings.StoredOn.{fails_to_store, stores}
 use Rattle.md_array.proofs.storing_needed_marks.store_marks_on.Goals as goal
 
@@ -11,7 +11,7 @@ returns-clause-ok g c =
     let disk = disk_of g.D.Device in
     let a = c.args.array.now in
     let h = c.header_for-header.result in
-    subst (λ (m : MemberView). OnOk c.store_bitmap.result (StoresMarks a m (disk c.args.device.now) (disk c.store_bitmap.new.device))) c.member.view_is
+    subst (λ (m : MemberView). OnOk c.store_bitmap.result (StoresMarksOn a m (disk c.args.device.now) (disk c.store_bitmap.new.device))) c.member.view_is
     (stores g.D.Device a _ c.bitmap_start-start.result h c.args.device.now c.store_bitmap.new.device
     c.bitmap_start-start.ensures (subst (λ (m : MemberView). IsHeaderFor a m h) (sym c.member.view_is) c.header_for-header.ensures) c.store_bitmap.ensures.outside c.store_bitmap.result c.store_bitmap.ensures.writes)
 

@@ -5,7 +5,7 @@ use Rattle.md_kept_members.specs.View.{MemberView}
 use Rattle.md_kept_members.specs.Members.{NeedsMarks}
 use Rattle.md_state.specs.Members.{IsMember}
 use Rattle.md_state.specs.View.{ArrayView, Disk, disk_of}
-use Rattle.md_array.specs.Storing.{FailsToStore, IsMarkedBy, StopsAtMember}
+use Rattle.md_array.specs.Storing.{FailsToStore, IsMarkedBy, EndsAtMember}
 use Rattle.md_array.proofs.General.Answered.{err_gives, ok_gives}
 use Rattle.md_array.proofs.Openings.DevicesInTurn.{disk_at}
 use Rattle.md_array.proofs.Openings.MarksStored.{AreStoredTo, stored_all, stored_more, stored_none, stopped_at}
@@ -35,7 +35,7 @@ returns-then-is_err g c =
     let e = disk c.store_where_needed.new.device in
     let here = disk_at disk c.loop-k.devices c.loop-k.k c.index-devices-k.result (omega arith) in
     let many = sym (length-map c.args.devices.now disk) ∙ c.requires.as_many in
-    subst (λ (after : List Disk). StopsAtMember a (map disk c.args.devices.now) after c.loop-k.k) (sym (map-set disk c.loop-k.devices c.loop-k.k c.store_where_needed.new.device))
+    subst (λ (after : List Disk). EndsAtMember a (map disk c.args.devices.now) after c.loop-k.k) (sym (map-set disk c.loop-k.devices c.loop-k.k c.store_where_needed.new.device))
     (stopped_at a (map disk c.args.devices.now) (map disk c.loop-k.devices) c.loop-k.k d e c.loop-k.invariant.stored here c.store_where_needed.ensures.stays m
     (member_at _ a c.loop-k.k (length c.args.devices.now) m c.array.view_is many c.loop-k-test.true c.index-member.ensures)
     (err_gives c.store_where_needed.result (NeedsMarks m) c.if-is_err.ensures.value c.store_where_needed.ensures.needs)

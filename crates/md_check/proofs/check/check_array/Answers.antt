@@ -1,4 +1,4 @@
-use Rattle.md_check.proofs.SeatedMembers.{counts_set}
+use Rattle.md_check.proofs.MemberReaders.{counts_set}
 use Rattle.md_check.proofs.check.check_array.Goals as goal
 
 pub returns-clause-gives : goal.returns-clause-gives

@@ -5,7 +5,7 @@ use Rattle.md_bitmap.specs.Marks.{Bitmap}
 use Rattle.md_state.specs.MakingClean.{IsIdle}
 use Rattle.md_state.specs.View.{MirrorView}
 use Rattle.md_check.specs.Checking.{MarksMembers}
-use Rattle.md_check.proofs.SeatedMembers.{finds, marks_alone}
+use Rattle.md_check.proofs.MemberReaders.{finds, marks_alone}
 use Rattle.md_check.proofs.check.find_mismatches.Goals as goal
 use Rattle.md_check.proofs.check.find_mismatches.Goals.{then-has_two_in_sync+in_ok-mark_mismatches, else-has_two_in_sync}
 

@@ -2,67 +2,67 @@ use Rattle.std.proofs.Common.{◌≡◌, ◌∙◌, ◌*◌, map, ap, sym, subst
 use Rattle.std.specs.List.{All}
 use Rattle.md_bitmap.specs.declared.chunks.Chunks.{Chunks}
 use Rattle.md_state.specs.View.{MirrorView, disk_of}
-use Rattle.md_check.specs.declared.seat.Seat.{Seat}
+use Rattle.md_check.specs.declared.reader.Reader.{Reader}
 use Rattle.md_check.specs.Differences.{AreDifferent}
 use Rattle.md_check.specs.Readings.{MissesIn}
-use Rattle.md_check.specs.Seats.{IsSeated, SeatShows, on_device}
-use Rattle.md_check.proofs.SeatedMembers.{all_seated, come_back, fails_checking, honest_seats, mismatches, none_failed, rests_with, rooms, uses_in_sync}
+use Rattle.md_check.specs.Readers.{HasDataOnDevice, ReaderShows, on_device}
+use Rattle.md_check.proofs.MemberReaders.{all_read_here, come_back, fails_checking, honest_readers, mismatches, none_failed, rests_with, rooms, uses_in_sync}
 use Rattle.md_check.proofs.check.mark_mismatches.Goals as goal
 
-pub check_lent-answer-requires-clause-seated : goal.check_lent-answer-requires-clause-seated
-check_lent-answer-requires-clause-seated g c κs within =
-    let seats = c.seats_of.new.seats.items in
-    subst (λ (chunks : Chunks). All (IsSeated g.D.Device chunks) seats) (sym c.chunks-chunks.ensures)
-    (all_seated g.D.Device c.args.mirror.now c.requires.sound (512 * c.min.result) c.lend-devices.result.items c.in_ok-orders.orders.items seats c.lend-devices.ensures.devices c.in_ok-orders.ensures c.seats_of.ensures.len c.seats_of.ensures.seats)
+pub check_lent-answer-requires-clause-read_here : goal.check_lent-answer-requires-clause-read_here
+check_lent-answer-requires-clause-read_here g c κs within =
+    let readers = c.readers_of.new.readers.items in
+    subst (λ (chunks : Chunks). All (HasDataOnDevice g.D.Device chunks) readers) (sym c.chunks-chunks.ensures)
+    (all_read_here g.D.Device c.args.mirror.now c.requires.sound (512 * c.min.result) c.lend-devices.result.items c.in_ok-orders.orders.items readers c.lend-devices.ensures.devices c.in_ok-orders.ensures c.readers_of.ensures.len c.readers_of.ensures.readers)
 
 pub check_lent-answer-requires-clause-room : goal.check_lent-answer-requires-clause-room
 check_lent-answer-requires-clause-room g c κs within = λ k d below.
-    let seats = c.seats_of.new.seats.items in
-    let room = rooms g.D.Device c.args.mirror.now c.requires.sound (512 * c.min.result) c.lend-devices.result.items c.in_ok-orders.orders.items seats c.lend-devices.ensures.devices c.in_ok-orders.ensures c.seats_of.ensures.len c.seats_of.ensures.seats k d below in
+    let readers = c.readers_of.new.readers.items in
+    let room = rooms g.D.Device c.args.mirror.now c.requires.sound (512 * c.min.result) c.lend-devices.result.items c.in_ok-orders.orders.items readers c.lend-devices.ensures.devices c.in_ok-orders.ensures c.readers_of.ensures.len c.readers_of.ensures.readers k d below in
     omega (arith, room, c.min.ensures)
 
 pub give_back-requires-clause-back : goal.give_back-requires-clause-back
 give_back-requires-clause-back g c =
-    let seats = c.seats_of.new.seats.items in (
+    let readers = c.readers_of.new.readers.items in (
       c.args.mirror.now.disks,
-      rw (c.lend-devices.ensures.out, c.leave_seats.ensures)
-          (come_back g.D.Device c.args.mirror.now c.requires.sound (512 * c.min.result) c.lend-devices.result.items c.in_ok-orders.orders.items seats c.lend-devices.ensures.devices c.in_ok-orders.ensures c.seats_of.ensures.len c.seats_of.ensures.seats
-          c.check_lent-answer.new.seats.items c.check_lent-answer.ensures.read c.requires.idle),
+      rw (c.lend-devices.ensures.out, c.leave_readers.ensures)
+          (come_back g.D.Device c.args.mirror.now c.requires.sound (512 * c.min.result) c.lend-devices.result.items c.in_ok-orders.orders.items readers c.lend-devices.ensures.devices c.in_ok-orders.ensures c.readers_of.ensures.len c.readers_of.ensures.readers
+          c.check_lent-answer.new.readers.items c.check_lent-answer.ensures.read c.requires.idle),
     )
 
 pub returns-in-Ok-clause-gives : goal.returns-in-Ok-clause-gives
 returns-in-Ok-clause-gives g c =
     let old = c.args.mirror.now in
-    let seats = c.seats_of.new.seats.items in
-    let news = c.check_lent-answer.new.seats.items in
-    let after = map (disk_of g.D.Device) (map (λ (s : Seat _). s.device) news) in
+    let readers = c.readers_of.new.readers.items in
+    let news = c.check_lent-answer.new.readers.items in
+    let after = map (disk_of g.D.Device) (map (λ (s : Reader _). s.device) news) in
     let is : c.give_back.new.self ≡ record old { disks = after } =
-    c.give_back.ensures.in_place ∙ ap (λ (v : MirrorView). record v { disks = map (disk_of g.D.Device) c.leave_seats.new.devices.items }) c.lend-devices.ensures.out
-    ∙ ap (λ xs. record old { disks = map (disk_of g.D.Device) xs }) c.leave_seats.ensures in
-    let none = none_failed g.D.Device old c.requires.sound (512 * c.min.result) c.lend-devices.result.items c.in_ok-orders.orders.items seats c.lend-devices.ensures.devices c.in_ok-orders.ensures c.seats_of.ensures.len c.seats_of.ensures.seats news c.in-Ok.ensures.read c.in-Ok.ensures.unfailing in
+    c.give_back.ensures.in_place ∙ ap (λ (v : MirrorView). record v { disks = map (disk_of g.D.Device) c.leave_readers.new.devices.items }) c.lend-devices.ensures.out
+    ∙ ap (λ xs. record old { disks = map (disk_of g.D.Device) xs }) c.leave_readers.ensures in
+    let none = none_failed g.D.Device old c.requires.sound (512 * c.min.result) c.lend-devices.result.items c.in_ok-orders.orders.items readers c.lend-devices.ensures.devices c.in_ok-orders.ensures c.readers_of.ensures.len c.readers_of.ensures.readers news c.in-Ok.ensures.read c.in-Ok.ensures.unfailing in
     record {
       chunks = c.in-Ok.ensures.chunks;
-      rests = rests_with g.D.Device old c.requires.sound (512 * c.min.result) c.lend-devices.result.items c.in_ok-orders.orders.items seats c.lend-devices.ensures.devices c.in_ok-orders.ensures c.seats_of.ensures.len c.seats_of.ensures.seats news c.in-Ok.ensures.read
+      rests = rests_with g.D.Device old c.requires.sound (512 * c.min.result) c.lend-devices.result.items c.in_ok-orders.orders.items readers c.lend-devices.ensures.devices c.in_ok-orders.ensures c.readers_of.ensures.len c.readers_of.ensures.readers news c.in-Ok.ensures.read
           c.give_back.new.self is;
-      uses = uses_in_sync g.D.Device old c.requires.sound (512 * c.min.result) c.lend-devices.result.items c.in_ok-orders.orders.items seats c.lend-devices.ensures.devices c.in_ok-orders.ensures c.seats_of.ensures.len c.seats_of.ensures.seats news c.in-Ok.ensures.read
+      uses = uses_in_sync g.D.Device old c.requires.sound (512 * c.min.result) c.lend-devices.result.items c.in_ok-orders.orders.items readers c.lend-devices.ensures.devices c.in_ok-orders.ensures c.readers_of.ensures.len c.readers_of.ensures.readers news c.in-Ok.ensures.read
           c.give_back.new.self c.requires.two is;
       unfailing = rw is none;
       bits = λ honest.
-          mismatches g.D.Device old c.requires.sound (512 * c.min.result) c.lend-devices.result.items c.in_ok-orders.orders.items seats c.lend-devices.ensures.devices c.in_ok-orders.ensures c.seats_of.ensures.len c.seats_of.ensures.seats c.check_lent-answer.new.marks
-          (subst (λ (chunks : Chunks). AreDifferent (SeatShows (on_device g.D.Device) seats) chunks chunks.size c.check_lent-answer.new.marks) c.chunks-chunks.ensures
+          mismatches g.D.Device old c.requires.sound (512 * c.min.result) c.lend-devices.result.items c.in_ok-orders.orders.items readers c.lend-devices.ensures.devices c.in_ok-orders.ensures c.readers_of.ensures.len c.readers_of.ensures.readers c.check_lent-answer.new.marks
+          (subst (λ (chunks : Chunks). AreDifferent (ReaderShows (on_device g.D.Device) readers) chunks chunks.size c.check_lent-answer.new.marks) c.chunks-chunks.ensures
           (c.in-Ok.ensures.different
-          (honest_seats g.D.Device old c.requires.sound (512 * c.min.result) c.lend-devices.result.items c.in_ok-orders.orders.items seats c.lend-devices.ensures.devices c.in_ok-orders.ensures c.seats_of.ensures.len c.seats_of.ensures.seats honest)));
+          (honest_readers g.D.Device old c.requires.sound (512 * c.min.result) c.lend-devices.result.items c.in_ok-orders.orders.items readers c.lend-devices.ensures.devices c.in_ok-orders.ensures c.readers_of.ensures.len c.readers_of.ensures.readers honest)));
     }
 
 pub returns-clause-gives : goal.returns-clause-gives
 returns-clause-gives g c =
     let old = c.args.mirror.now in
-    let seats = c.seats_of.new.seats.items in
-    let news = c.check_lent-answer.new.seats.items in
-    let after = map (disk_of g.D.Device) (map (λ (s : Seat _). s.device) news) in
+    let readers = c.readers_of.new.readers.items in
+    let news = c.check_lent-answer.new.readers.items in
+    let after = map (disk_of g.D.Device) (map (λ (s : Reader _). s.device) news) in
     let is : c.give_back.new.self ≡ record old { disks = after } =
-    c.give_back.ensures.in_place ∙ ap (λ (v : MirrorView). record v { disks = map (disk_of g.D.Device) c.leave_seats.new.devices.items }) c.lend-devices.ensures.out
-    ∙ ap (λ xs. record old { disks = map (disk_of g.D.Device) xs }) c.leave_seats.ensures in
-    fails_checking g.D.Device old c.requires.sound (512 * c.min.result) c.lend-devices.result.items c.in_ok-orders.orders.items seats c.lend-devices.ensures.devices c.in_ok-orders.ensures c.seats_of.ensures.len c.seats_of.ensures.seats news c.in-Err.ensures.read
+    c.give_back.ensures.in_place ∙ ap (λ (v : MirrorView). record v { disks = map (disk_of g.D.Device) c.leave_readers.new.devices.items }) c.lend-devices.ensures.out
+    ∙ ap (λ xs. record old { disks = map (disk_of g.D.Device) xs }) c.leave_readers.ensures in
+    fails_checking g.D.Device old c.requires.sound (512 * c.min.result) c.lend-devices.result.items c.in_ok-orders.orders.items readers c.lend-devices.ensures.devices c.in_ok-orders.ensures c.readers_of.ensures.len c.readers_of.ensures.readers news c.in-Err.ensures.read
     c.give_back.new.self c.in-Err.missed c.requires.idle c.requires.two is
-    (subst (λ (chunks : Chunks). MissesIn g.D.Device chunks seats news c.in-Err.missed) c.chunks-chunks.ensures c.in-Err.ensures.missed)
+    (subst (λ (chunks : Chunks). MissesIn g.D.Device chunks readers news c.in-Err.missed) c.chunks-chunks.ensures c.in-Err.ensures.missed)

@@ -1,7 +1,7 @@
 use Rattle.std.proofs.Common.{◌≡◌, ◌+◌, sym, subst, arith}
 use Rattle.md_bitmap.specs.Marks.{Bitmap}
 use Rattle.md_check.specs.Differences.{AddsDifferent}
-use Rattle.md_check.specs.Seats.{SeatShows, in_window}
+use Rattle.md_check.specs.Readers.{ReaderShows, in_window}
 use Rattle.md_check.proofs.Differing.{adds_none, adds_not, adds_one}
 use Rattle.md_check.proofs.WindowCompared.{none_differ_alike}
 use Rattle.md_check.proofs.compare.mark_window.Goals as goal
@@ -9,12 +9,12 @@ use Rattle.md_check.proofs.compare.mark_window.Goals.{then-differ_in, else-diffe
 
 pub returns-then-are_alike : goal.returns-then-are_alike
 returns-then-are_alike g c =
-    adds_none (SeatShows (in_window c.args.lead.now c.args.from) c.args.seats.now) c.args.chunks c.args.from (c.args.from + c.args.sectors) c.args.marks.now
-    (λ s up below. none_differ_alike c.args.seats.now c.args.lead.now c.args.from s (c.are_alike.ensures c.if-are_alike.true))
+    adds_none (ReaderShows (in_window c.args.lead.now c.args.from) c.args.readers.now) c.args.chunks c.args.from (c.args.from + c.args.sectors) c.args.marks.now
+    (λ s up below. none_differ_alike c.args.readers.now c.args.lead.now c.args.from s (c.are_alike.ensures c.if-are_alike.true))
 
 pub loop-at-preserved : goal.loop-at-preserved
 loop-at-preserved g c =
-    let P = SeatShows (in_window c.args.lead.now c.args.from) c.args.seats.now in
+    let P = ReaderShows (in_window c.args.lead.now c.args.from) c.args.readers.now in
     let from = c.args.from in
     let at = c.loop-at.at in
     let old = c.args.marks.now in

@@ -1,14 +1,14 @@
 use Rattle.std.proofs.Common.{◌≡◌, ◌∙◌, ◌+◌, ◌*◌, ◌/◌, ◌<◌, ◌≤◌, ◌++◌, ℕ, List, length, take, drop, get_or, min, None, Some, refl, ap, sym, subst, arith, vec_len}
 use Rattle.std.proofs.lemmas.List.{length-take-le}
 use Rattle.std.specs.List.{All}
-use Rattle.md_check.specs.declared.seat.Seat.{Seat}
+use Rattle.md_check.specs.declared.reader.Reader.{Reader}
 use Rattle.md_check.specs.Differences.{AddsDifferent, AreDifferent}
 use Rattle.md_check.specs.Readings.{HasLed, IsLead}
-use Rattle.md_check.specs.Seats.{AreSeatsRead, HaveNotFailed, SeatShows, in_window, on_device}
+use Rattle.md_check.specs.Readers.{AreReadersRead, HaveNotFailed, ReaderShows, in_window, on_device}
 use Rattle.md_check.proofs.Differing.{different_after}
 use Rattle.md_check.proofs.LedAhead.{lead_room_after, next_lead, read_exchanged, rooms_exchanged, same_but_bytes, unfailing_exchanged}
 use Rattle.md_check.proofs.LentSlices.{comes_back}
-use Rattle.md_check.proofs.WindowsRead.{differ_in_window, differ_on_devices, misses_in, seated_still, turn_read, turn_unfailing}
+use Rattle.md_check.proofs.WindowsRead.{differ_in_window, differ_on_devices, misses_in, read_here_still, turn_read, turn_unfailing}
 use Rattle.md_check.proofs.lent.check_lent.Goals as goal
 
 pub loop-from-init : goal.loop-from-init
@@ -30,11 +30,11 @@ loop-from-init g c =
 
 pub turn-requires-clause-lead : goal.turn-requires-clause-lead
 turn-requires-clause-lead g c κs within = λ k d below same.
-    subst (λ (xs : List ℕ). IsLead g.D.Device c.loop-from.from (take (512 * c.loop-from.sectors) xs) (get_or c.loop-from.seats.items k d)) (sym c.as_slice-in-loop-from.ensures.value)
+    subst (λ (xs : List ℕ). IsLead g.D.Device c.loop-from.from (take (512 * c.loop-from.sectors) xs) (get_or c.loop-from.readers.items k d)) (sym c.as_slice-in-loop-from.ensures.value)
     (c.loop-from.invariant.lead k d below same)
 
-pub turn-requires-clause-seated : goal.turn-requires-clause-seated
-turn-requires-clause-seated g c κs within = seated_still c.args.chunks c.args.seats.now.items c.loop-from.seats.items c.loop-from.invariant.read c.requires.seated
+pub turn-requires-clause-read_here : goal.turn-requires-clause-read_here
+turn-requires-clause-read_here g c κs within = read_here_still c.args.chunks c.args.readers.now.items c.loop-from.readers.items c.loop-from.invariant.read c.requires.read_here
 
 pub mark_window-requires-clause-size : goal.mark_window-requires-clause-size
 mark_window-requires-clause-size g c =
@@ -55,11 +55,11 @@ mark_window-requires-clause-marks g c = c.loop-from.invariant.count ∙ c.requir
 pub returns-in-Some : goal.returns-in-Some
 returns-in-Some g c =
     let inv = c.loop-from.invariant in
-    let firsts = c.args.seats.now.items in
-    let olds = c.loop-from.seats.items in
-    let news = c.turn.new.seats.items in
+    let firsts = c.args.readers.now.items in
+    let olds = c.loop-from.readers.items in
+    let news = c.turn.new.readers.items in
     let missed = c.in-Some.missed in
-    let noted = subst (λ (xs : List (Seat _)). (missed.member < length xs) × ((d : Seat _) → (get_or xs missed.member d).missed ≡ Some missed.chunk) × ((k : ℕ) (d : Seat _) → k < missed.member → (get_or xs k d).missed ≡ None)) c.as_slice-in-loop-from-2.ensures.value c.in-Some.ensures in
+    let noted = subst (λ (xs : List (Reader _)). (missed.member < length xs) × ((d : Reader _) → (get_or xs missed.member d).missed ≡ Some missed.chunk) × ((k : ℕ) (d : Reader _) → k < missed.member → (get_or xs k d).missed ≡ None)) c.as_slice-in-loop-from-2.ensures.value c.in-Some.ensures in
     record {
       chunks = inv.count;
       different = tt;
@@ -71,10 +71,10 @@ returns-in-Some g c =
 pub loop-from-preserved : goal.loop-from-preserved
 loop-from-preserved g c =
     let inv = c.loop-from.invariant in
-    let firsts = c.args.seats.now.items in
-    let olds = c.loop-from.seats.items in
-    let mids = c.turn.new.seats.items in
-    let news = c.exchange.new.seats in
+    let firsts = c.args.readers.now.items in
+    let olds = c.loop-from.readers.items in
+    let mids = c.turn.new.readers.items in
+    let news = c.exchange.new.readers in
     let from = c.loop-from.from in
     let sectors = c.loop-from.sectors in
     let ahead = c.min-ahead.result in
@@ -94,29 +94,29 @@ loop-from-preserved g c =
     let turned = c.turn.ensures.turned in
     let as_many = inv.read.as_many in
     let news_len : length news ≡ length mids = c.exchange.ensures.len ∙ ap length lent.value in
-    let back = comes_back (vec_len c.turn.new.seats) mids news (sym lent.len ∙ ap length lent.value) news_len in
-    let none : All (λ (s : Seat _). s.missed ≡ None) mids = subst (λ (xs : List (Seat _)). All (λ (s : Seat _). s.missed ≡ None) xs) c.as_slice-in-loop-from-2.ensures.value c.in_default.ensures in
+    let back = comes_back (vec_len c.turn.new.readers) mids news (sym lent.len ∙ ap length lent.value) news_len in
+    let none : All (λ (s : Reader _). s.missed ≡ None) mids = subst (λ (xs : List (Reader _)). All (λ (s : Reader _). s.missed ≡ None) xs) c.as_slice-in-loop-from-2.ensures.value c.in_default.ensures in
     let first = c.unwrap_or-first.result in
-    let here = subst (λ (xs : List (Seat _)). (k : ℕ) (d : Seat _) → k < length xs → k ≡ first → (get_or news k d ≡ record (get_or xs k d) { bytes = c.loop-from.lead }) × (c.exchange.new.lead ≡ (get_or xs k d).bytes)) lent.value c.exchange.ensures.first in
-    let others = subst (λ (xs : List (Seat _)). (k : ℕ) (d : Seat _) → k < length xs → (k ≡ first → ⊥) → get_or news k d ≡ get_or xs k d) lent.value c.exchange.ensures.others in
-    let same = same_but_bytes mids news first (λ k d below is. let e = (here k d below is).0 in e ∙ ap (λ (s : Seat _). record (get_or mids k d) { bytes = s.bytes }) (sym e)) others in
+    let here = subst (λ (xs : List (Reader _)). (k : ℕ) (d : Reader _) → k < length xs → k ≡ first → (get_or news k d ≡ record (get_or xs k d) { bytes = c.loop-from.lead }) × (c.exchange.new.lead ≡ (get_or xs k d).bytes)) lent.value c.exchange.ensures.first in
+    let others = subst (λ (xs : List (Reader _)). (k : ℕ) (d : Reader _) → k < length xs → (k ≡ first → ⊥) → get_or news k d ≡ get_or xs k d) lent.value c.exchange.ensures.others in
+    let same = same_but_bytes mids news first (λ k d below is. let e = (here k d below is).0 in e ∙ ap (λ (s : Reader _). record (get_or mids k d) { bytes = s.bytes }) (sym e)) others in
     let read = turn_read firsts olds mids inv.read len turned in
-    let adds : AddsDifferent (SeatShows (in_window bytes from) mids) c.args.chunks from (from + sectors) c.loop-from.marks c.mark_window.new.marks
-    = subst (λ (xs : List (Seat _)). AddsDifferent (SeatShows (in_window bytes from) xs) c.args.chunks from (from + sectors) c.loop-from.marks c.mark_window.new.marks) c.as_slice-in-loop-from-3.ensures.value c.mark_window.ensures in
-    let rooms : (k : ℕ) (d : Seat _) → k < length mids → 512 * min 2048 c.args.chunks.size ≤ length (get_or mids k d).bytes.items
+    let adds : AddsDifferent (ReaderShows (in_window bytes from) mids) c.args.chunks from (from + sectors) c.loop-from.marks c.mark_window.new.marks
+    = subst (λ (xs : List (Reader _)). AddsDifferent (ReaderShows (in_window bytes from) xs) c.args.chunks from (from + sectors) c.loop-from.marks c.mark_window.new.marks) c.as_slice-in-loop-from-3.ensures.value c.mark_window.ensures in
+    let rooms : (k : ℕ) (d : Reader _) → k < length mids → 512 * min 2048 c.args.chunks.size ≤ length (get_or mids k d).bytes.items
     = λ k d below. let long = (turned k d (omega arith)).long in let r = inv.room k d (omega arith) in omega arith in
     record {
       few = omega arith;
       short = omega arith;
-      read = subst (λ (xs : List (Seat _)). AreSeatsRead g.D.Device firsts xs) (sym back) (read_exchanged firsts mids news read news_len same);
-      unfailing = subst (λ (xs : List (Seat _)). HaveNotFailed g.D.Device (length firsts) firsts xs) (sym back)
+      read = subst (λ (xs : List (Reader _)). AreReadersRead g.D.Device firsts xs) (sym back) (read_exchanged firsts mids news read news_len same);
+      unfailing = subst (λ (xs : List (Reader _)). HaveNotFailed g.D.Device (length firsts) firsts xs) (sym back)
           (unfailing_exchanged g.D.Device (length firsts) firsts mids news (omega arith) (turn_unfailing (length firsts) firsts olds mids (omega arith) turned (λ k d below. none k d (omega arith)) inv.unfailing) same);
-      room = subst (λ (xs : List (Seat _)). All (λ (s : Seat _). 512 * min 2048 c.args.chunks.size ≤ length s.bytes.items) xs) (sym back)
+      room = subst (λ (xs : List (Reader _)). All (λ (s : Reader _). 512 * min 2048 c.args.chunks.size ≤ length s.bytes.items) xs) (sym back)
           (rooms_exchanged (512 * min 2048 c.args.chunks.size) mids news first lead news_len lead_room rooms
-          (λ k d below is. ap (λ (s : Seat _). s.bytes.items) (here k d below is).0) others);
+          (λ k d below is. ap (λ (s : Reader _). s.bytes.items) (here k d below is).0) others);
       lead_room = lead_room_after (512 * min 2048 c.args.chunks.size) mids first lead c.exchange.new.lead.items lead_room rooms (λ k d below is. ap (λ v. v.items) (here k d below is).1)
           (λ past. ap (λ v. v.items) (c.exchange.ensures.none (let l = ap length lent.value in omega arith)));
-      lead = subst (λ (xs : List (Seat _)). (k : ℕ) (d : Seat _) → k < length xs → k ≡ first → IsLead g.D.Device (from + sectors) (take (512 * ahead) c.exchange.new.lead.items) (get_or xs k d)) (sym back)
+      lead = subst (λ (xs : List (Reader _)). (k : ℕ) (d : Reader _) → k < length xs → k ≡ first → IsLead g.D.Device (from + sectors) (take (512 * ahead) c.exchange.new.lead.items) (get_or xs k d)) (sym back)
           (λ k d below is.
           let low : k < length mids = omega arith in
           let at : k < length olds = omega arith in
@@ -125,9 +125,9 @@ loop-from-preserved g c =
           next_lead (get_or olds k d) (get_or mids k d) (get_or news k d) (from + sectors) ahead (turned k d at).read
           (subst (λ m. HasLed g.D.Device (from + m) ahead (get_or olds k d) (get_or mids k d)) n (c.turn.ensures.led k d at is))
           (none k d low) c.exchange.new.lead.items (ap (λ v. v.items) h.1) (let e = ap (λ v. length v.items) h.1 in omega arith)
-          (ap (λ (s : Seat _). s.device) h.0) (ap (λ (s : Seat _). s.role) h.0) (ap (λ (s : Seat _). s.offset) h.0) (ap (λ (s : Seat _). s.listed) h.0));
+          (ap (λ (s : Reader _). s.device) h.0) (ap (λ (s : Reader _). s.role) h.0) (ap (λ (s : Reader _). s.offset) h.0) (ap (λ (s : Reader _). s.listed) h.0));
       count = adds.chunks_kept ∙ inv.count;
-      different = λ honest. different_after (SeatShows (on_device g.D.Device) firsts) (SeatShows (in_window bytes from) mids) c.args.chunks from (from + sectors) c.loop-from.marks c.mark_window.new.marks (omega arith) (inv.different honest) adds
+      different = λ honest. different_after (ReaderShows (on_device g.D.Device) firsts) (ReaderShows (in_window bytes from) mids) c.args.chunks from (from + sectors) c.loop-from.marks c.mark_window.new.marks (omega arith) (inv.different honest) adds
           (λ s up below. differ_in_window bytes from (length bytes / 512) firsts olds mids inv.read len turned none honest s up (omega arith))
           (λ s up below. differ_on_devices bytes from (length bytes / 512) firsts olds mids inv.read len turned none honest s up (omega arith));
     }
@@ -140,7 +140,7 @@ returns g c =
     let end : c.loop-from.from ≡ c.args.chunks.size = omega arith in
     record {
       chunks = inv.count;
-      different = λ honest. subst (λ n. AreDifferent (SeatShows (on_device g.D.Device) c.args.seats.now.items) c.args.chunks n c.loop-from.marks) end (inv.different honest);
+      different = λ honest. subst (λ n. AreDifferent (ReaderShows (on_device g.D.Device) c.args.readers.now.items) c.args.chunks n c.loop-from.marks) end (inv.different honest);
       unfailing = inv.unfailing;
       missed = tt;
       read = inv.read;

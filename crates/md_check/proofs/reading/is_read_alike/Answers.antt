@@ -7,9 +7,9 @@ use Rattle.md_check.proofs.reading.is_read_alike.Goals as goal
 pub loop-done-preserved : goal.loop-done-preserved
 loop-done-preserved g c =
     let inv = c.loop-done.invariant in
-    let first = c.args.seat.now in
-    let old = c.loop-done.seat in
-    let new = c.is_block_alike.new.seat in
+    let first = c.args.reader.now in
+    let old = c.loop-done.reader in
+    let new = c.is_block_alike.new.reader in
     let done = c.loop-done.done in
     let lead = c.args.lead.now in
     let len = c.min-len.result in

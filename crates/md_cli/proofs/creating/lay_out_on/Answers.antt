@@ -4,7 +4,7 @@ use Rattle.std.proofs.lemmas.List.{length-map}
 use Rattle.md_state.specs.View.{disk_of}
 use Rattle.md_commands.specs.declared.fault.CommandFault.TheVariants.{MetadataFault}
 use Rattle.md_cli.specs.Arrays.{ShowsDevices}
-use Rattle.md_cli.specs.Creating.{AreLaidOut, FailsToLayOut}
+use Rattle.md_cli.specs.Creating.{AreLaidOut, FailsInLayout}
 use Rattle.md_cli.proofs.Created.{at_of, laid_out_of, written_back}
 use Rattle.md_images.proofs.Taken.{index_of_word}
 use Rattle.md_cli.proofs.creating.lay_out_on.Goals as goal
@@ -31,7 +31,7 @@ returns-then-place-len-clause-gives g c =
       within = subst (λ n. place < n) (sym (length-map c.args.devices.items disk)) within;
       is = ap (λ i. Err (MetadataFault i)) (sym (index_of_word c.args.words.now place inside));
       laid_out = laid_out_of _ before _ _ _ c.args.members.now place lent (sym back) refl laid.laid_out;
-      stopped = at_of FailsToLayOut _ before _ _ _ c.args.members.now place lent (sym back) refl stopped;
+      stopped = at_of FailsInLayout _ before _ _ _ c.args.members.now place lent (sym back) refl stopped;
       unwritten = refl;
     })
 

@@ -1,5 +1,5 @@
 use Rattle.std.proofs.Common.{◌<◌, refl}
-use Rattle.md_json.specs.Objects.{line_of}
+use Rattle.md_json.specs.Objects.{object_line}
 use Rattle.md_json.specs.BadblocksObject.{badblocks_object}
 use Rattle.md_words.specs.Asks.{examines_badblocks}
 use Rattle.md_words.specs.declared.form.ImageForm.TheVariants as image_form
@@ -7,11 +7,11 @@ use Rattle.md_cli.proofs.Flushed.{examined}
 use Rattle.md_cli.proofs.json_examining.show_badblocks_json.Goals as goal
 
 pub returns-clause-gives : goal.returns-clause-gives
-returns-clause-gives g c = (c.in-Err-badblocks_json.ensures, line_of (badblocks_object c.in-Ok.member.bad), (c.in-Ok.member, c.in-Ok.ensures.reads, refl))
+returns-clause-gives g c = (c.in-Err-badblocks_json.ensures, object_line (badblocks_object c.in-Ok.member.bad), (c.in-Ok.member, c.in-Ok.ensures.reads, refl))
 
 pub returns-in-Ok-badblocks_json-clause-gives : goal.returns-in-Ok-badblocks_json-clause-gives
 returns-in-Ok-badblocks_json-clause-gives g c =
     let device = g.D.Device in
     let before = c.args.device.now in
-    examined g.S.Sink.contents g.S.Sink.failed g.S.Sink.is_flushed c.args.out.now c.badblocks_json.new.out c.pass_on.new.out (line_of (badblocks_object c.in-Ok.member.bad)) (examines_badblocks image_form.Json) (device.content before) (device.honest before) (device.failures before < device.failures c.read_member.new.device) c.pass_on.result (c.in-Ok.member, c.in-Ok.ensures.reads, refl)
+    examined g.S.Sink.contents g.S.Sink.failed g.S.Sink.is_flushed c.args.out.now c.badblocks_json.new.out c.pass_on.new.out (object_line (badblocks_object c.in-Ok.member.bad)) (examines_badblocks image_form.Json) (device.content before) (device.honest before) (device.failures before < device.failures c.read_member.new.device) c.pass_on.result (c.in-Ok.member, c.in-Ok.ensures.reads, refl)
     c.in-Ok-badblocks_json.ensures c.pass_on.ensures

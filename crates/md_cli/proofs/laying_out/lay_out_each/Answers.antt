@@ -2,7 +2,7 @@ use Rattle.std.proofs.Common.{◌≡◌, ◌∙◌, ◌+◌, ◌<◌, length, ma
 use Rattle.std.specs.Prelude.{slice_index_or}
 use Rattle.std.proofs.lemmas.Option.{slice_get_read}
 use Rattle.md_state.specs.View.{disk_of}
-use Rattle.md_cli.specs.Creating.{AreLaidOut, At, FailsToLayOut}
+use Rattle.md_cli.specs.Creating.{AreLaidOut, At, FailsInLayout}
 use Rattle.md_cli.proofs.Laid.{IsLaidTo, all_laid, did, did_not, disk_at, does_on_disk, laid_up_to, one_laid, stopped_here, stops_on_disk, with_disk}
 use Rattle.md_cli.proofs.laying_out.lay_out_each.Goals as goal
 
@@ -38,7 +38,7 @@ returns-then-is_err-clause-stopped g c = λ _.
     let is_member = slice_get_read c.args.members.now (length c.args.members.now) c.loop-place.place c.index-members-place.result refl inside c.index-members-place.is in
     let same = sym (with_disk g.D.Device c.loop-place.devices c.loop-place.place c.lay_out.new.device) in
     let stops = did_not c.lay_out.result c.is_err.result _ _ c.is_err.ensures.value c.if-is_err.true c.lay_out.ensures.writes in
-    subst (λ now. At FailsToLayOut (map disk c.args.devices.now) now c.args.members.now c.loop-place.place) same
+    subst (λ now. At FailsInLayout (map disk c.args.devices.now) now c.args.members.now c.loop-place.place) same
     (stopped_here (map disk c.args.devices.now) (map disk c.loop-place.devices) c.args.members.now c.loop-place.place (disk old) (disk c.lay_out.new.device) member so there is_member
     (stops_on_disk g.D.Device old c.lay_out.new.device member stops))
 

@@ -3,7 +3,7 @@ use Rattle.std.specs.List.{flat_map, range_with_len}
 use Rattle.std.proofs.lemmas.List.{length-map}
 use Rattle.md_examine.specs.Sink.{Puts}
 use Rattle.md_examine.proofs.Puts.{puts_nothing}
-use Rattle.md_images.specs.Taking.{is_missing}
+use Rattle.md_images.specs.Taking.{is_missing_word}
 use Rattle.md_images.proofs.Listed.{text_at}
 use Rattle.md_cli.specs.Arrays.{texts}
 use Rattle.md_cli.specs.Telling.{each_at}
@@ -19,7 +19,7 @@ loop-place-preserved-then-is_missing g c =
     let k = c.loop-place.place in
     let so = c.loop-place.invariant in
     let inside : k < length names = subst (λ (n : ℕ). k < n) (sym (length-map c.args.names.now (λ s. s.now))) c.loop-place-test.true in
-    let is : is_missing true (get_or names k []) ≡ true = ap (is_missing true) (text_at c.args.names.now k c.loop-place-test.true) ∙ sym c.is_missing.ensures ∙ c.if-is_missing.true in
+    let is : is_missing_word true (get_or names k []) ≡ true = ap (is_missing_word true) (text_at c.args.names.now k c.loop-place-test.true) ∙ sym c.is_missing.ensures ∙ c.if-is_missing.true in
     record {
       told = missing_told g.S.Sink.contents g.S.Sink.failed c.args.each.now names k is so.told;
       next = so.next ∙ sym (place_kept names k inside is);
@@ -33,7 +33,7 @@ loop-place-preserved g c =
     let so = c.loop-place.invariant in
     let inside : k < length names = subst (λ (n : ℕ). k < n) (sym (length-map c.args.names.now (λ s. s.now))) c.loop-place-test.true in
     let named = text_at c.args.names.now k c.loop-place-test.true in
-    let is : is_missing true (get_or names k []) ≡ false = ap (is_missing true) named ∙ sym c.is_missing.ensures ∙ c.if-is_missing.false in
+    let is : is_missing_word true (get_or names k []) ≡ false = ap (is_missing_word true) named ∙ sym c.is_missing.ensures ∙ c.if-is_missing.false in
     record {
       told = image_told g.S.Sink.contents g.S.Sink.failed c.args.each.now names k c.loop-place.next _ is so.next (sym named) so.told c.in_ok-put_held_at.ensures;
       next = ap (λ (n : ℕ). n + 1) so.next ∙ sym (place_next names k inside is);

@@ -3,15 +3,15 @@ use Rattle.std.proofs.lemmas.Option.{same_Some}
 use Rattle.md_badblocks.specs.declared.run.Run.{Run}
 use Rattle.md_badblocks.specs.Runs.{IsCanonical}
 use Rattle.md_badblocks.proofs.Rising.{bad_from}
-use Rattle.md_commands.specs.Filling.{IsFirst}
+use Rattle.md_commands.specs.Filling.{IsLeastMissing}
 use Rattle.md_commands.proofs.reading.first_missing.Goals as goal
 
 -- the first sector of the first run
-first_is : (runs : List Run) (run : Run) → IsCanonical runs → slice_get runs 0 ≡ Some run → IsFirst runs run.start
+first_is : (runs : List Run) (run : Run) → IsCanonical runs → slice_get runs 0 ≡ Some run → IsLeastMissing runs run.start
 first_is [] run rises at = absurd cc
 first_is (r ∷ rs) run rises at =
     let same : r ≡ run = same_Some r run at in
-    subst (λ (x : Run). IsFirst (r ∷ rs) x.start) same (record {
+    subst (λ (x : Run). IsLeastMissing (r ∷ rs) x.start) same (record {
       is = let some = rises.1 in inl (omega arith, omega arith);
       least = λ t bad. elim bad [
         | inl here ↦ here.0

@@ -7,7 +7,7 @@ use Rattle.md_cert.specs.declared.slots.Slot.{Slot}
 use Rattle.md_passes.specs.Listed.{ServesAs}
 use Rattle.md_state.specs.View.{ArrayView}
 use Rattle.md_pass.specs.Copied.{failed_slots}
-use Rattle.md_copy.specs.Listing.{NotesLists, StopsNoting}
+use Rattle.md_copy.specs.Listing.{NotesLists, EndsNoting}
 use Rattle.md_copy.proofs.NotedLists.{all_noted, next_noted, notes_none, notes_stop}
 use Rattle.md_copy.proofs.listing.list_failed.Goals as goal
 
@@ -45,7 +45,7 @@ note_if_failed-requires-clause-source g c =
 
 pub returns-in-Err : goal.returns-in-Err
 returns-in-Err g c =
-    subst (λ (xs : List Slot). StopsNoting (failed_slots xs c.args.copied.now) c.args.mirror.now c.note_if_failed.new.mirror c.in-Err.fault) c.as_slice-slots.ensures
+    subst (λ (xs : List Slot). EndsNoting (failed_slots xs c.args.copied.now) c.args.mirror.now c.note_if_failed.new.mirror c.in-Err.fault) c.as_slice-slots.ensures
     (notes_stop c.as_slice-slots.result.now c.args.copied.now c.loop-slot.slot-index none c.loop-slot-test.true c.args.mirror.now c.loop-slot.mirror c.note_if_failed.new.mirror c.in-Err.fault
     c.loop-slot.invariant c.in-Err.ensures.failed c.in-Err.ensures.gives)
 

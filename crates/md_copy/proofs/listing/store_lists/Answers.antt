@@ -1,6 +1,6 @@
 use Rattle.std.proofs.Common.{◌∙◌, List, sym, subst, arith}
 use Rattle.md_cert.specs.declared.slots.Slot.{Slot}
-use Rattle.md_copy.specs.Listing.{HaveRoom, StopsStoringLists, StoresLists}
+use Rattle.md_copy.specs.Listing.{HaveRoom, EndsStoringLists, StoresLists}
 use Rattle.md_pass.specs.Copied.{failed_slots}
 use Rattle.md_copy.proofs.ListsStored.{below_all, below_more, below_none, lists_stop, room_below, unspent_below}
 use Rattle.md_copy.proofs.listing.store_lists.Goals as goal
@@ -34,7 +34,7 @@ store_if_failed-requires-clause-room g c =
 
 pub returns-in-Err : goal.returns-in-Err
 returns-in-Err g c =
-    subst (λ (xs : List Slot). StopsStoringLists (failed_slots xs c.args.copied.now) c.args.mirror.now c.store_if_failed.new.mirror c.in-Err.fault) c.as_slice-slots.ensures
+    subst (λ (xs : List Slot). EndsStoringLists (failed_slots xs c.args.copied.now) c.args.mirror.now c.store_if_failed.new.mirror c.in-Err.fault) c.as_slice-slots.ensures
     (lists_stop (failed_slots c.as_slice-slots.result.now c.args.copied.now) c.loop-k.k c.args.mirror.now c.loop-k.mirror c.loop-k.invariant c.requires.sound
     (subst (λ (xs : List Slot). HaveRoom (failed_slots xs c.args.copied.now) c.args.mirror.now.array) (sym c.as_slice-slots.ensures) c.requires.room)
     c.store_if_failed.new.mirror c.in-Err.fault c.in-Err.ensures)

@@ -4,7 +4,7 @@ use Rattle.md_assembly.proofs.Indices.{got_within}
 use Rattle.md_bitmap.specs.declared.chunks.Chunks.{Chunks}
 use Rattle.md_copy.proofs.Answered.{rebuilds, refused_at_once, refused_readied, refused_ready, refused_set}
 use Rattle.md_copy.proofs.Begun.{begins, ready_then, set_ready, within_ready}
-use Rattle.md_copy.proofs.StoppedWithin.{stopped_within}
+use Rattle.md_copy.proofs.EndedWithin.{stopped_within}
 use Rattle.md_copy.proofs.rebuilding.rebuild_by_steps.Goals as goal
 
 pub returns-in-Err-clause-gives : goal.returns-in-Err-clause-gives

@@ -30,4 +30,4 @@ returns-in-Err-enrol_copied-clause-gives g c m at =
 pub returns-clause-gives : goal.returns-clause-gives
 returns-clause-gives g c m at =
     rebuilds_readied c.args.target m c.args.copied.now c.args.mirror.now at c.requires.ready c.copy_passes.new.copied c.copy_passes.new.mirror c.in-Ok.plans.items (c.in-Ok.ensures.gives m at)
-    c.enrol_copied.new.mirror c.settle.new.mirror c.in-Ok-enrol_copied.told c.in-Ok-enrol_copied.ensures.gives c.enrol_copied.ensures.sound c.settle.ensures.settles
+    c.enrol_copied.new.mirror c.store_until_done.new.mirror c.in-Ok-enrol_copied.told c.in-Ok-enrol_copied.ensures.gives c.enrol_copied.ensures.sound c.store_until_done.ensures.stores_until_done

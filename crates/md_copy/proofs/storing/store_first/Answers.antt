@@ -3,8 +3,8 @@ use Rattle.md_metadata.proofs.Going.{marking_stores, recording_stores, stops_as,
 use Rattle.md_copy.proofs.StoredFirst.{fails_named, first_or_stops, in_sync_other, rebuilt_still, serving_where_halted, stops_then, unspent_still}
 use Rattle.md_copy.proofs.storing.store_first.Goals as goal
 
-pub named-requires : goal.named-requires
-named-requires g c =
+pub rebuild_fault_of-requires : goal.rebuild_fault_of-requires
+rebuild_fault_of-requires g c =
     let old = c.args.mirror.now in
     let new = c.store_all_marks.new.mirror in
     serving_where_halted old new c.in-Err.fault (stops_as IsMarking IsStoring marking_stores old new c.in-Err.fault c.in-Err.ensures.gives)
@@ -14,10 +14,10 @@ returns-in-Err g c =
     let old = c.args.mirror.now in
     let new = c.store_all_marks.new.mirror in
     fails_named c.args.target old new c.requires.unspent c.requires.target c.in-Err.fault (stops_as IsMarking IsStoring marking_stores old new c.in-Err.fault c.in-Err.ensures.gives)
-    (in_sync_other c.args.target old new c.requires.unspent c.requires.target c.in-Err.fault c.in-Err.ensures.in_sync) c.named.result c.named.ensures.failed c.named.ensures.halted
+    (in_sync_other c.args.target old new c.requires.unspent c.requires.target c.in-Err.fault c.in-Err.ensures.in_sync) c.rebuild_fault_of.result c.rebuild_fault_of.ensures.failed c.rebuild_fault_of.ensures.halted
 
-pub named-requires-in-Err-store_records : goal.named-requires-in-Err-store_records
-named-requires-in-Err-store_records g c =
+pub rebuild_fault_of-requires-in-Err-store_records : goal.rebuild_fault_of-requires-in-Err-store_records
+rebuild_fault_of-requires-in-Err-store_records g c =
     let mid = c.store_all_marks.new.mirror in
     let new = c.store_records.new.mirror in
     let at = c.in-Err-store_records in
@@ -29,7 +29,7 @@ returns-in-Err-store_records g c =
     let mid = c.store_all_marks.new.mirror in
     let new = c.store_records.new.mirror in
     let at = c.in-Err-store_records in
-    let named = c.named-in-Err-store_records in
+    let named = c.rebuild_fault_of-in-Err-store_records in
     let first = c.in_default.ensures.gives.stores in
     let unspent = unspent_still old.array mid.array first.ready c.requires.unspent in
     let target = rebuilt_still c.args.target old.array mid.array first.ready c.requires.target in

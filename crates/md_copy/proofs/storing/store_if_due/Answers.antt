@@ -36,8 +36,8 @@ store_record-requires-clause-active g c m at =
 abbrev failed : PartFault → Result (Unit {0}) PartFault
 failed fault = Err fault
 
-pub named-requires : goal.named-requires
-named-requires g c =
+pub rebuild_fault_of-requires : goal.rebuild_fault_of-requires
+rebuild_fault_of-requires g c =
     let k = c.args.k in
     let old = c.args.mirror.now in
     let new = c.store_record.new.mirror in
@@ -85,4 +85,4 @@ returns-in-Err g c =
     c.requires.recorded in
     let fails = stops_as IsRecording IsStoring recording_stores old new c.in-Err.fault (other_or_stops k old new order (failed c.in-Err.fault) c.in-Err.ensures) in
     fails_named c.args.target old new c.requires.unspent c.requires.target c.in-Err.fault fails
-    (recording_other k c.args.target old new c.in-Err.fault c.if-k-target.false c.in-Err.ensures) c.named.result c.named.ensures.failed c.named.ensures.halted
+    (recording_other k c.args.target old new c.in-Err.fault c.if-k-target.false c.in-Err.ensures) c.rebuild_fault_of.result c.rebuild_fault_of.ensures.failed c.rebuild_fault_of.ensures.halted

@@ -1,9 +1,9 @@
 use Rattle.std.proofs.Common.{arith, ◌≡◌, ◌*◌, ◌∷◌, [], ◌++◌, List, ℕ, ap, subst, sym, length, ◌∙◌, OnOk, Result, Ok, Err}
 use Rattle.md_device.specs.Splice.{SameOutside}
 use Rattle.md_super.specs.Checksum.{checksum_of}
-use Rattle.md_super.specs.Faults.{NoFault}
+use Rattle.md_super.specs.Faults.{NoSuperFault}
 use Rattle.md_super.specs.Format.{IsSuper}
-use Rattle.md_create.specs.Layout.{IsHalfLaidOut, IsLaidOut, empty_log, sectors_of, super_write, wipe, writes_of}
+use Rattle.md_create.specs.Layout.{IsHalfLaidOut, IsLaidOutAs, empty_log, bitmap_sectors_of, super_write_of, wipe, writes_of}
 use Rattle.md_create.proofs.HalfLaid.{half_laid}
 use Rattle.md_create.proofs.Laid.{bitmap_keeps, keeps_then, laid_out, log_keeps, super_keeps}
 use Rattle.md_device_writes.specs.Bitmaps.{bitmap_writes}
@@ -19,9 +19,9 @@ on_ok (Err e) p = tt
 pub returns-in_err-put-clause-writes : goal.returns-in_err-put-clause-writes
 returns-in_err-put-clause-writes g c =
     let v = c.args.member.now in
-    let bitmap = bitmap_writes 16 v.header v.marks (sectors_of v) in
+    let bitmap = bitmap_writes 16 v.header v.marks (bitmap_sectors_of v) in
     stops_any g.D.Device (writes_of v) c.args.device.now c.put.new.device c.from_residual.result
-    (stops_front g.D.Device (wipe ∷ []) (empty_log ∷ (bitmap ++ super_write v.superblock ∷ [])) c.args.device.now c.put.new.device c.in_err-put.ensures.writes)
+    (stops_front g.D.Device (wipe ∷ []) (empty_log ∷ (bitmap ++ super_write_of v.superblock ∷ [])) c.args.device.now c.put.new.device c.in_err-put.ensures.writes)
     c.from_residual.ensures.0
 
 pub returns-in_err-put-clause-outside : goal.returns-in_err-put-clause-outside
@@ -31,10 +31,10 @@ returns-in_err-put-clause-outside g c =
 pub returns-in_err-put-2-clause-writes : goal.returns-in_err-put-2-clause-writes
 returns-in_err-put-2-clause-writes g c =
     let v = c.args.member.now in
-    let bitmap = bitmap_writes 16 v.header v.marks (sectors_of v) in
+    let bitmap = bitmap_writes 16 v.header v.marks (bitmap_sectors_of v) in
     stops_any g.D.Device (writes_of v) c.args.device.now c.put-2.new.device c.from_residual-in_err-put-2.result
-    (stops_then g.D.Device (wipe ∷ []) (empty_log ∷ (bitmap ++ super_write v.superblock ∷ [])) c.args.device.now c.put.new.device c.put-2.new.device c.in_ok-put.ensures.writes
-    (stops_front g.D.Device (empty_log ∷ []) (bitmap ++ super_write v.superblock ∷ []) c.put.new.device c.put-2.new.device c.in_err-put-2.ensures.writes))
+    (stops_then g.D.Device (wipe ∷ []) (empty_log ∷ (bitmap ++ super_write_of v.superblock ∷ [])) c.args.device.now c.put.new.device c.put-2.new.device c.in_ok-put.ensures.writes
+    (stops_front g.D.Device (empty_log ∷ []) (bitmap ++ super_write_of v.superblock ∷ []) c.put.new.device c.put-2.new.device c.in_err-put-2.ensures.writes))
     c.from_residual-in_err-put-2.ensures.0
 
 pub returns-in_err-put-2-clause-outside : goal.returns-in_err-put-2-clause-outside
@@ -48,11 +48,11 @@ returns-in_err-put-2-clause-outside g c =
 pub returns-in_err-store_bitmap-clause-writes : goal.returns-in_err-store_bitmap-clause-writes
 returns-in_err-store_bitmap-clause-writes g c =
     let v = c.args.member.now in
-    let bitmap = bitmap_writes 16 v.header v.marks (sectors_of v) in
+    let bitmap = bitmap_writes 16 v.header v.marks (bitmap_sectors_of v) in
     stops_any g.D.Device (writes_of v) c.args.device.now c.store_bitmap.new.device c.from_residual-in_err-store_bitmap.result
-    (stops_then g.D.Device (wipe ∷ []) (empty_log ∷ (bitmap ++ super_write v.superblock ∷ [])) c.args.device.now c.put.new.device c.store_bitmap.new.device c.in_ok-put.ensures.writes
-    (stops_then g.D.Device (empty_log ∷ []) (bitmap ++ super_write v.superblock ∷ []) c.put.new.device c.put-2.new.device c.store_bitmap.new.device c.in_ok-put-2.ensures.writes
-    (stops_front g.D.Device bitmap (super_write v.superblock ∷ []) c.put-2.new.device c.store_bitmap.new.device c.in_err-store_bitmap.ensures.writes)))
+    (stops_then g.D.Device (wipe ∷ []) (empty_log ∷ (bitmap ++ super_write_of v.superblock ∷ [])) c.args.device.now c.put.new.device c.store_bitmap.new.device c.in_ok-put.ensures.writes
+    (stops_then g.D.Device (empty_log ∷ []) (bitmap ++ super_write_of v.superblock ∷ []) c.put.new.device c.put-2.new.device c.store_bitmap.new.device c.in_ok-put-2.ensures.writes
+    (stops_front g.D.Device bitmap (super_write_of v.superblock ∷ []) c.put-2.new.device c.store_bitmap.new.device c.in_err-store_bitmap.ensures.writes)))
     c.from_residual-in_err-store_bitmap.ensures.0
 
 pub returns-in_err-store_bitmap-clause-outside : goal.returns-in_err-store_bitmap-clause-outside
@@ -69,10 +69,10 @@ returns-in_err-store_bitmap-clause-outside g c =
 made : (g : _) (c : goal.After-put-3 g) → MakesWrites g.D.Device (writes_of c.args.member.now) c.args.device.now c.put-3.new.device c.put-3.result
 made g c =
     let v = c.args.member.now in
-    let bitmap = bitmap_writes 16 v.header v.marks (sectors_of v) in
-    does_any g.D.Device (wipe ∷ []) (empty_log ∷ (bitmap ++ super_write v.superblock ∷ [])) c.args.device.now c.put.new.device c.put-3.new.device c.put-3.result c.in_ok-put.ensures.writes
-    (does_any g.D.Device (empty_log ∷ []) (bitmap ++ super_write v.superblock ∷ []) c.put.new.device c.put-2.new.device c.put-3.new.device c.put-3.result c.in_ok-put-2.ensures.writes
-    (does_any g.D.Device bitmap (super_write v.superblock ∷ []) c.put-2.new.device c.store_bitmap.new.device c.put-3.new.device c.put-3.result c.in_ok-store_bitmap.ensures.writes
+    let bitmap = bitmap_writes 16 v.header v.marks (bitmap_sectors_of v) in
+    does_any g.D.Device (wipe ∷ []) (empty_log ∷ (bitmap ++ super_write_of v.superblock ∷ [])) c.args.device.now c.put.new.device c.put-3.new.device c.put-3.result c.in_ok-put.ensures.writes
+    (does_any g.D.Device (empty_log ∷ []) (bitmap ++ super_write_of v.superblock ∷ []) c.put.new.device c.put-2.new.device c.put-3.new.device c.put-3.result c.in_ok-put-2.ensures.writes
+    (does_any g.D.Device bitmap (super_write_of v.superblock ∷ []) c.put-2.new.device c.store_bitmap.new.device c.put-3.new.device c.put-3.result c.in_ok-store_bitmap.ensures.writes
     (subst (λ (bytes : List ℕ). MakesWrites g.D.Device (record { sector = 8; bytes = bytes } ∷ []) c.store_bitmap.new.device c.put-3.new.device c.put-3.result) c.encode.ensures.bytes c.put-3.ensures.writes)))
 
 pub returns-clause-writes : goal.returns-clause-writes
@@ -101,7 +101,7 @@ returns-clause-readable g c =
     on_ok c.put-3.result (record {
       size = ap length (sym c.encode.ensures.bytes) ∙ block;
       fields = subst (λ (bytes : List ℕ). IsSuper bytes (record v { sb_csum = checksum_of bytes (length v.roles) })) c.encode.ensures.bytes c.encode.ensures.fields;
-      sound = subst NoFault c.encode.ensures.bytes c.encode.ensures.sound;
+      sound = subst NoSuperFault c.encode.ensures.bytes c.encode.ensures.sound;
     })
 
 pub returns-clause-laid_out : goal.returns-clause-laid_out
@@ -111,14 +111,14 @@ returns-clause-laid_out g c =
     let block : length c.encode.new.out ≡ 4096 = omega arith in
     let long = ap length (sym c.encode.ensures.bytes) ∙ block in
     all_done_of g.D.Device (writes_of v) c.args.device.now c.put-3.new.device c.put-3.result (made g c)
-    (λ does honest. subst (IsLaidOut old v) (sym (does.all_done honest)) (laid_out v old c.requires long))
+    (λ does honest. subst (IsLaidOutAs old v) (sym (does.all_done honest)) (laid_out v old c.requires long))
 
-pub returns-clause-stops : goal.returns-clause-stops
-returns-clause-stops g c =
+pub returns-clause-crashes : goal.returns-clause-crashes
+returns-clause-crashes g c =
     let v = c.args.member.now in
     let old = g.D.Device.content c.args.device.now in
     let block : length c.encode.new.out ≡ 4096 = omega arith in
     let long = ap length (sym c.encode.ensures.bytes) ∙ block in
     all_done_of g.D.Device (writes_of v) c.args.device.now c.put-3.new.device c.put-3.result (made g c)
-    (λ does honest. leaves_less (g.D.Device.stops c.args.device.now) (g.D.Device.stops c.put-3.new.device) (IsCutShort old (writes_of v)) (IsHalfLaidOut old v)
+    (λ does honest. leaves_less (g.D.Device.crashes c.args.device.now) (g.D.Device.crashes c.put-3.new.device) (IsCutShort old (writes_of v)) (IsHalfLaidOut old v)
     (λ left cut. half_laid v old left c.requires long cut) (does.within honest))

@@ -1,7 +1,7 @@
 use Rattle.std.proofs.Common.{◌≡◌, List, ℕ, length, ap, sym, subst, ◌∙◌}
 use Rattle.md_super.specs.Checksum.{checksum_of}
 use Rattle.md_super.specs.Encoding.{super_bytes}
-use Rattle.md_super.specs.Faults.{NoFault}
+use Rattle.md_super.specs.Faults.{NoSuperFault}
 use Rattle.md_super.specs.Format.{IsSuper}
 use Rattle.md_bitmap.specs.Faults.{NoneStands}
 use Rattle.md_bitmap.specs.Header.{IsHeader, header_bytes}
@@ -26,5 +26,5 @@ returns-clause-same c old new info = read_back c.args.member.now old new info (s
 
 pub returns-clause-taken : goal.returns-clause-taken
 returns-clause-taken c old new fault laid room =
-    only_memory c.args.member.now old new (spelled c) (subst NoFault c.encode.ensures.bytes c.encode.ensures.sound) (header_is c)
+    only_memory c.args.member.now old new (spelled c) (subst NoSuperFault c.encode.ensures.bytes c.encode.ensures.sound) (header_is c)
     (subst NoneStands c.encode-2.ensures.bytes c.encode-2.ensures.sound) (long c) laid room fault

@@ -1,6 +1,6 @@
 use Rattle.std.proofs.Common.{◌≡◌, ◌≢◌, true, rules}
 use Rattle.md_members.specs.declared.fault.MemberFault.TheVariants.{NoMemory}
-use Rattle.md_signatures.specs.Reading.{OnlyRead}
+use Rattle.md_signatures.specs.Reading.{IsOnlySearched}
 use Rattle.md_state.specs.View.{disk_of, of_disks}
 use Rattle.md_held.proofs.Seen.{seen_then}
 use Rattle.md_held.proofs.held.held_on.Goals as goal
@@ -9,6 +9,6 @@ pub returns-else-eq-clause-holds : goal.returns-else-eq-clause-holds
 returns-else-eq-clause-holds g c =
     let disk = disk_of g.D.Device in
     let read = c.in-Err.ensures in
-    let first : OnlyRead of_disks (disk c.args.device.now) (disk c.read_super.new.device) = record { kept = read.kept; honest = read.honest; counted = read.counted; within = read.within } in
+    let first : IsOnlySearched of_disks (disk c.args.device.now) (disk c.read_super.new.device) = record { kept = read.kept; honest = read.honest; counted = read.counted; within = read.within } in
     let other : c.in-Err.fault ≢ NoMemory = search rules in
     seen_then (disk c.args.device.now) (disk c.read_super.new.device) (disk c.signature_on.new.device) c.in-Err.fault first c.signature_on.ensures.only_read other read.reads c.signature_on.result c.signature_on.ensures.holds

@@ -2,7 +2,7 @@ use Rattle.std.proofs.Common.{◌≡◌, ◌<◌, ◌∙◌, ◌+◌, ℕ, [], �
 use Rattle.std.specs.Prelude.{slice_index_or}
 use Rattle.md_images.specs.declared.image_refusal.ImageRefusal.TheVariants.{Unopened}
 use Rattle.md_images.specs.Images.{allows}
-use Rattle.md_images.specs.Taking.{IsBad, Repeats}
+use Rattle.md_images.specs.Taking.{IsNameRefused, Repeats}
 use Rattle.md_images.proofs.Taken.{Taking, all_taken, name_of_word, names_in, no_word, pushed, refused_bad, repeated_bad, taking_more, taking_refused}
 use Rattle.md_images.proofs.taking.take_each.Goals as goal
 
@@ -44,7 +44,7 @@ pub returns-in-Err-clause-stopped : goal.returns-in-Err-clause-stopped
 returns-in-Err-clause-stopped g c =
     let many = c.loop-place.invariant.0.took.many in (
       subst (λ (n : ℕ). n < length c.args.words.now) (sym many) c.loop-place-test.true,
-      subst (λ (n : ℕ). IsBad (g.I.Images.known c.args.images.now) (λ name. allows c.args.access (g.I.Images.changeable c.args.images.now name)) (g.I.Images.device_at c.args.images.now) (names_in c.args.words.now) n (Unopened c.in-Err.fault)) (sym many)
+      subst (λ (n : ℕ). IsNameRefused (g.I.Images.known c.args.images.now) (λ name. allows c.args.access (g.I.Images.changeable c.args.images.now name)) (g.I.Images.device_at c.args.images.now) (names_in c.args.words.now) n (Unopened c.in-Err.fault)) (sym many)
           (refused_bad g.I.Images.known g.I.Images.holds g.I.Images.device_at (λ images n. allows c.args.access (g.I.Images.changeable images n)) c.args.words.now c.args.images.now c.loop-place.images c.get.new.self c.loop-place.place c.loop-place.devices.items
           (slice_index_or c.args.words.now c.loop-place.place no_word).name.now c.loop-place-test.true (name_of_word c.args.words.now c.loop-place.place c.loop-place-test.true) c.loop-place.invariant.0
           (record { known_kept = c.get.ensures.known; places = c.get.ensures.places; rights = λ is n. ap (allows c.args.access) (c.get.ensures.rights is n); others = c.get.ensures.others })

@@ -11,4 +11,4 @@ returns g c =
     let its = c.in_ok-range_list.ensures in
     let its = rw (c.chunks.ensures) at its in
     puts_report g.S.Sink.contents g.S.Sink.failed (codes "check") (count_fields c.args.set.now ∷ range_fields c.args.mirror.now.array.chunks c.args.set.now ∷ members_fields c.args.mirror.now.array (texts_of c.args.images.now) ∷ [])
-    c.in_ok-open.ensures (puts_then g.S.Sink.contents g.S.Sink.failed c.in_ok-counted.ensures (puts_then g.S.Sink.contents g.S.Sink.failed its (puts_then g.S.Sink.contents g.S.Sink.failed c.in_ok-members.ensures c.in_ok-close.ensures)))
+    c.in_ok-open.ensures (puts_then g.S.Sink.contents g.S.Sink.failed c.in_ok-mismatch_counts.ensures (puts_then g.S.Sink.contents g.S.Sink.failed its (puts_then g.S.Sink.contents g.S.Sink.failed c.in_ok-members.ensures c.in_ok-close.ensures)))

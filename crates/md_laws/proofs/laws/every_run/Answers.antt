@@ -7,7 +7,7 @@ use Rattle.md_laws.proofs.laws.every_run.Goals as goal
 pub returns : goal.returns
 returns c = record {
   covered = lives.life_covered;
-  at_stop = lives.life_safe;
+  at_crash = lives.life_safe;
   sound = lives.life_sound;
   agrees_unstored = lives.life_unstored;
   finds_in_sync = lives.finds_in_sync;

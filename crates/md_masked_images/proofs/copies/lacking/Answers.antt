@@ -1,6 +1,6 @@
 use Rattle.std.proofs.Common.{◌∙◌, ℕ, List, ap, length, refl, rules, subst, sym}
 use Rattle.std.proofs.lemmas.Option.{slice_get_read}
-use Rattle.md_masked_images.specs.Masks.{IsLacking, IsNoMap}
+use Rattle.md_masked_images.specs.Masks.{IsMissingByMap, IsNoMap}
 use Rattle.md_masked_images.specs.declared.copies.MapText.{MapText}
 use Rattle.md_masked_images.proofs.copies.lacking.Goals as goal
 
@@ -10,7 +10,7 @@ returns-in-Ok-clause-lacks g c =
     record {
       map = c.index-maps-place.result;
       at = slice_get_read c.args.maps.now (length c.args.maps.now) c.args.place c.index-maps-place.result refl c.requires.within c.index-maps-place.is;
-      lacks = subst (λ (t : List ℕ). IsLacking g.I.Images g.I.Dev.Device c.args.name.now t c.args.masked.now.images c.in-Ok.missing) text c.in-Ok.ensures.ok;
+      lacks = subst (λ (t : List ℕ). IsMissingByMap g.I.Images g.I.Dev.Device c.args.name.now t c.args.masked.now.images c.in-Ok.missing) text c.in-Ok.ensures.ok;
     }
 
 pub returns-in-Err-Map-clause-refused : goal.returns-in-Err-Map-clause-refused

@@ -1,7 +1,7 @@
 use Rattle.std.proofs.Common.{◌≡◌, ◌*◌, ◌∙◌, sym, ap, refl, rules, arith, inr, IsTrue, subst, length}
 use Rattle.std.proofs.lemmas.Result.{err_from_is_err_and}
-use Rattle.md_members.specs.Areas.{IsPlaced}
-use Rattle.md_members.specs.Members.{by_place, sectors_of}
+use Rattle.md_members.specs.Areas.{AreAreasPlaced}
+use Rattle.md_members.specs.Members.{by_place, sectors_of_device}
 use Rattle.md_members.proofs.Headers.{placed_by, placed_of}
 use Rattle.md_members.proofs.Refusals.{rest_by_bitmap, rest_by_log, bitmap_as, bad_set_as}
 use Rattle.md_members.proofs.Untouched.{leaves_same}
@@ -41,7 +41,7 @@ pub read_bad_set-requires : goal.read_bad_set-requires
 read_bad_set-requires g c =
     let placed : IsTrue c.is_placed.result = search rules in
     let there = placed_by (g.D.Device.content c.read_super.new.device) c.in_ok-superblock.superblock c.sectors-sectors.result 1 1 c.sectors-sectors.ensures.size refl (c.is_placed.ensures.0 placed) in
-    record { placed = subst (λ bytes. IsPlaced (sectors_of bytes) c.in_ok-superblock.superblock 1) (sym c.read_any_bitmap.ensures.kept) there }
+    record { placed = subst (λ bytes. AreAreasPlaced (sectors_of_device bytes) c.in_ok-superblock.superblock 1) (sym c.read_any_bitmap.ensures.kept) there }
 
 pub returns-in_err-bad-clause-reads : goal.returns-in_err-bad-clause-reads
 returns-in_err-bad-clause-reads g c =

@@ -1,7 +1,7 @@
 use Rattle.std.proofs.Common.{subst}
 use Rattle.md_model.specs.Events.{Event, MemberPart}
 use Rattle.md_array.specs.Events.{Happens}
-use Rattle.md_array.specs.Listing.{HasNoShift, IfLogFailed, RefusesLog}
+use Rattle.md_array.specs.Listing.{HasNoShift, IfLogFailed, RefusesStoreLog}
 use Rattle.md_metadata.proofs.StoredLists.{log_fails, log_halts, log_stored}
 use Rattle.md_metadata.proofs.lists.store_member_log.Goals as goal
 
@@ -14,7 +14,7 @@ returns-in-Err-MemberFailed g c =
     let old = c.args.mirror.now in
     let new = c.store_log.new.self in
     log_fails old new c.args.k at.ensures.sound at.ensures.pending at.j
-    (subst (RefusesLog c.args.k old new) at.field-0-is at.ensures.gives)
+    (subst (RefusesStoreLog c.args.k old new) at.field-0-is at.ensures.gives)
     (λ unshifted. subst (IfLogFailed (Happens old (Event.WriteFails c.args.k MemberPart.Log) new)) at.field-0-is (at.ensures.event unshifted))
 
 pub returns-in-Err-Halted : goal.returns-in-Err-Halted
@@ -22,4 +22,4 @@ returns-in-Err-Halted g c =
     let at = c.in-Err-Halted in
     let old = c.args.mirror.now in
     let new = c.store_log.new.self in
-    log_halts old new c.args.k at.ensures.sound at.ensures.pending c.requires.running c.requires.sound (subst (RefusesLog c.args.k old new) at.field-0-is at.ensures.gives)
+    log_halts old new c.args.k at.ensures.sound at.ensures.pending c.requires.running c.requires.sound (subst (RefusesStoreLog c.args.k old new) at.field-0-is at.ensures.gives)

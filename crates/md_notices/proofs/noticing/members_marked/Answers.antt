@@ -1,5 +1,5 @@
 use Rattle.std.proofs.Common.{◌<◌, false, length, rules, arith}
-use Rattle.md_notices.specs.Noticing.{IsMarkedAt}
+use Rattle.md_notices.specs.Noticing.{WasMarkedAtOpening}
 use Rattle.md_notices.proofs.Members.{so_more}
 use Rattle.md_notices.proofs.noticing.members_marked.Goals as goal
 
@@ -9,5 +9,5 @@ loop-k-preserved g c =
     let inside : c.loop-k.k < length c.loop-k.marked = omega (arith, c.loop-k.invariant.size) in
     record {
       size = search rules;
-      so = so_more (IsMarkedAt members) c.loop-k.marked c.loop-k.k c.is_marked_at.result false inside c.loop-k.invariant.so c.is_marked_at.ensures;
+      so = so_more (WasMarkedAtOpening members) c.loop-k.marked c.loop-k.k c.is_marked_at.result false inside c.loop-k.invariant.so c.is_marked_at.ensures;
     }

@@ -3,14 +3,14 @@ use Rattle.std.proofs.lemmas.List.{length-map}
 use Rattle.md_collect.specs.Collecting.{copying}
 use Rattle.md_pass.specs.declared.fault.PassFault.TheVariants.{NoMemory}
 use Rattle.md_pass.specs.declared.reading.Reading.{Reading}
-use Rattle.md_pass.specs.Settling.{books}
+use Rattle.md_pass.specs.TakingReports.{books}
 use Rattle.md_pass.specs.Places.{FitPlaces}
 use Rattle.md_pass.specs.Copied.{failed_slots, pass_state}
 use Rattle.md_pass.specs.Preparing.{sources_of}
 use Rattle.md_workers.specs.Tally.{Tally}
 use Rattle.md_pass.proofs.Orders.{few_slots}
 use Rattle.md_pass.proofs.PassStarts.{all_fit, in_turn, starts, turns_enough}
-use Rattle.md_pass.proofs.PassEnds.{count_failed, devices_read, has_copied, have_left, lanes_parts, none_left, on_fault}
+use Rattle.md_pass.proofs.PassEnds.{count_failed, devices_read, has_copied, have_left, queues_parts, none_left, on_fault}
 use Rattle.md_pass.proofs.PassSources.{nothing_copied, nothing_written}
 use Rattle.md_pass.proofs.Totals.{total_slots}
 use Rattle.md_pass.proofs.pass.copy_prepared.Goals as goal
@@ -34,14 +34,14 @@ take_out-rest-requires-clause-slots g c =
 
 pub run_turns-result-requires-clause-turns : goal.run_turns-result-requires-clause-turns
 run_turns-result-requires-clause-turns g c κs within =
-    turns_enough c.turns_of-turns.result c.args.prepared.readings.items c.take_out-rest.new.lanes.items c.take_out-rest.ensures.len (rw (← c.as_slice.ensures.value) c.turns_of-turns.ensures) c.take_out-rest.ensures.lanes
+    turns_enough c.turns_of-turns.result c.args.prepared.readings.items c.take_out-rest.new.queues.items c.take_out-rest.ensures.len (rw (← c.as_slice.ensures.value) c.turns_of-turns.ensures) c.take_out-rest.ensures.queues
 
 pub run_turns-result-requires-clause-fresh : goal.run_turns-result-requires-clause-fresh
 run_turns-result-requires-clause-fresh g c κs within =
     let can = c.requires.can in
     let places = c.as_slice-places.result.now in
     starts (g.D.Device.honest c.args.target.now) (books c.args.prepared.collector (g.D.Device.content c.args.target.now) c.args.copied.now) c.args.devices.now.items c.take_out-rest.new.devices.items places c.args.prepared.readings.items
-    c.take_out-rest.new.lanes.items can.ordered.fresh can.planned can.uncopied can.sources can.ordered.orders (in_turn c.args.prepared places c.as_slice-places.ensures.value can.ordered) can.room can.marks c.take_out-rest.ensures.len c.take_out-rest.ensures.taken c.take_out-rest.ensures.lanes
+    c.take_out-rest.new.queues.items can.ordered.fresh can.planned can.uncopied can.sources can.ordered.orders (in_turn c.args.prepared places c.as_slice-places.ensures.value can.ordered) can.room can.marks c.take_out-rest.ensures.len c.take_out-rest.ensures.taken c.take_out-rest.ensures.queues
 
 pub put_back-all-requires-clause-fits : goal.put_back-all-requires-clause-fits
 put_back-all-requires-clause-fits g c =
@@ -51,13 +51,13 @@ put_back-all-requires-clause-fits g c =
     let count : length c.args.devices.now.items ≡ length c.take_out-rest.new.devices.items + length places = (let n = length-map c.args.prepared.readings.items (λ (r : Reading). r.source.place) in omega (arith, many, n, c.take_out-rest.ensures.count)) in
     subst (λ n. FitPlaces n places) count (all_fit c.args.devices.now.items c.args.prepared.readings.items places c.requires.can.sources turn)
 
-pub returns-in_err-lanes-clause-gives : goal.returns-in_err-lanes-clause-gives
-returns-in_err-lanes-clause-gives g c =
+pub returns-in_err-queues-clause-gives : goal.returns-in_err-queues-clause-gives
+returns-in_err-queues-clause-gives g c =
     let is : c.from_residual.result ≡ Err NoMemory = search rules in
     rw is (nothing_copied g.D.Device (copying c.args.prepared.collector) (sources_of c.args.prepared) (pass_state c.args.devices.now.items c.args.target.now c.args.copied.now) c.requires.can.uncopied)
 
-pub returns-in_err-lanes-clause-writes : goal.returns-in_err-lanes-clause-writes
-returns-in_err-lanes-clause-writes g c = nothing_written g.D.Device (copying c.args.prepared.collector) (pass_state c.args.devices.now.items c.args.target.now c.args.copied.now)
+pub returns-in_err-queues-clause-writes : goal.returns-in_err-queues-clause-writes
+returns-in_err-queues-clause-writes g c = nothing_written g.D.Device (copying c.args.prepared.collector) (pass_state c.args.devices.now.items c.args.target.now c.args.copied.now)
 
 -- where memory was refused within the pass, what the collector has taken by then is what was copied
 pub returns-in_err-result-clause-gives : goal.returns-in_err-result-clause-gives
@@ -65,7 +65,7 @@ returns-in_err-result-clause-gives g c =
     let fault = c.in_err-result.field-0.0 in
     let is : c.from_residual-in_err-result.result ≡ Err fault = search rules in
     let old = pass_state c.args.devices.now.items c.args.target.now c.args.copied.now in
-    let left = have_left c.args.prepared old c.take_out-rest.new.devices.items c.as_slice-places.result.now c.take_out-rest.new.lanes.items c.requires.can c.as_slice-places.ensures.value c.take_out-rest.ensures.len c.take_out-rest.ensures.taken c.take_out-rest.ensures.lanes in
+    let left = have_left c.args.prepared old c.take_out-rest.new.devices.items c.as_slice-places.result.now c.take_out-rest.new.queues.items c.requires.can c.as_slice-places.ensures.value c.take_out-rest.ensures.len c.take_out-rest.ensures.taken c.take_out-rest.ensures.queues in
     rw is (on_fault fault
     (λ p. has_copied c.args.target.now c.run_turns-result.new.target c.args.prepared.collector c.run_turns-result.new.collector c.args.copied.now c.run_turns-result.new.copied left p)
     (λ fails. fails) c.in_err-result.ensures.broken)
@@ -75,19 +75,19 @@ returns-in_err-result-clause-writes g c =
     let places = c.as_slice-places.result.now in
     let turn = in_turn c.args.prepared places c.as_slice-places.ensures.value c.requires.can.ordered in
     record {
-      sources = devices_read c.args.devices.now.items c.put_back-all.new.devices.items c.take_out-rest.new.devices.items places c.args.prepared.readings.items c.take_out-rest.new.lanes.items c.run_turns-result.new.lanes.items
+      sources = devices_read c.args.devices.now.items c.put_back-all.new.devices.items c.take_out-rest.new.devices.items places c.args.prepared.readings.items c.take_out-rest.new.queues.items c.run_turns-result.new.queues.items
           c.requires.can.sources turn c.take_out-rest.ensures.taken c.put_back-all.ensures.back (let many = turn.as_many in let n = length-map c.args.prepared.readings.items (λ (r : Reading). r.source.place) in let e = c.take_out-rest.ensures.count in let b = c.put_back-all.ensures.count in omega (arith, many, n, e, b)) c.run_turns-result.ensures.sources;
       target = c.run_turns-result.ensures.target;
     }
 
-pub settle-requires : goal.settle-requires
-settle-requires g c =
+pub audit_share-requires : goal.audit_share-requires
+audit_share-requires g c =
     let can = c.requires.can in
     let total = total_slots c.args.prepared.collector.slots c.args.prepared.readings.items can.ordered.orders can.sources.rising can.sources.serves in
     let old = pass_state c.args.devices.now.items c.args.target.now c.args.copied.now in
-    let left = have_left c.args.prepared old c.take_out-rest.new.devices.items c.as_slice-places.result.now c.take_out-rest.new.lanes.items can c.as_slice-places.ensures.value c.take_out-rest.ensures.len c.take_out-rest.ensures.taken c.take_out-rest.ensures.lanes in
+    let left = have_left c.args.prepared old c.take_out-rest.new.devices.items c.as_slice-places.result.now c.take_out-rest.new.queues.items can c.as_slice-places.ensures.value c.take_out-rest.ensures.len c.take_out-rest.ensures.taken c.take_out-rest.ensures.queues in
     let none = none_left left c.in_ok-result.ensures.passed c.in_ok-result.ensures.done in
-    let firsts = lanes_parts c.args.prepared.readings.items c.take_out-rest.new.lanes.items c.take_out-rest.ensures.len c.take_out-rest.ensures.lanes in
+    let firsts = queues_parts c.args.prepared.readings.items c.take_out-rest.new.queues.items c.take_out-rest.ensures.len c.take_out-rest.ensures.queues in
     let share : c.new-board.result.1.parts ≡ c.args.prepared.slots = ap (λ (t : Tally). t.parts) c.new-board.ensures.share in
     let all : c.put_back-all.result.parts ≡ c.args.prepared.slots = omega (arith, c.put_back-all.ensures.parts, none.2, firsts, c.take_out-rest.ensures.parts, share) in
     (all ∙ sym c.requires.left.2, all ∙ sym c.requires.failed.2)
@@ -97,7 +97,7 @@ returns-clause-writes g c =
     let places = c.as_slice-places.result.now in
     let turn = in_turn c.args.prepared places c.as_slice-places.ensures.value c.requires.can.ordered in
     record {
-      sources = devices_read c.args.devices.now.items c.put_back-all.new.devices.items c.take_out-rest.new.devices.items places c.args.prepared.readings.items c.take_out-rest.new.lanes.items c.run_turns-result.new.lanes.items
+      sources = devices_read c.args.devices.now.items c.put_back-all.new.devices.items c.take_out-rest.new.devices.items places c.args.prepared.readings.items c.take_out-rest.new.queues.items c.run_turns-result.new.queues.items
           c.requires.can.sources turn c.take_out-rest.ensures.taken c.put_back-all.ensures.back (let many = turn.as_many in let n = length-map c.args.prepared.readings.items (λ (r : Reading). r.source.place) in let e = c.take_out-rest.ensures.count in let b = c.put_back-all.ensures.count in omega (arith, many, n, e, b)) c.run_turns-result.ensures.sources;
       target = c.run_turns-result.ensures.target;
     }
@@ -109,7 +109,7 @@ returns-clause-gives g c =
     let places = c.as_slice-places.result.now in
     let turn = in_turn c.args.prepared places c.as_slice-places.ensures.value can.ordered in
     let old = pass_state c.args.devices.now.items c.args.target.now c.args.copied.now in
-    let left = have_left c.args.prepared old c.take_out-rest.new.devices.items places c.take_out-rest.new.lanes.items can c.as_slice-places.ensures.value c.take_out-rest.ensures.len c.take_out-rest.ensures.taken c.take_out-rest.ensures.lanes in
+    let left = have_left c.args.prepared old c.take_out-rest.new.devices.items places c.take_out-rest.new.queues.items can c.as_slice-places.ensures.value c.take_out-rest.ensures.len c.take_out-rest.ensures.taken c.take_out-rest.ensures.queues in
     let none = none_left left c.in_ok-result.ensures.passed c.in_ok-result.ensures.done in
     let share : c.new-board.result.1.left ≡ c.args.prepared.slots = ap (λ (t : Tally). t.left) c.new-board.ensures.share in
     let whole : c.new-board.result.1.failed ≡ 0 = ap (λ (t : Tally). t.failed) c.new-board.ensures.share in
@@ -117,7 +117,7 @@ returns-clause-gives g c =
     let failed : c.put_back-all.result.failed ≡ length (failed_slots c.args.prepared.collector.slots c.run_turns-result.new.copied) = omega (arith, c.put_back-all.ensures.failed, none.1, c.take_out-rest.ensures.failed, whole) in
     record {
       copied = has_copied c.args.target.now c.run_turns-result.new.target c.args.prepared.collector c.run_turns-result.new.collector c.args.copied.now c.run_turns-result.new.copied left c.in_ok-result.ensures.passed;
-      none_left = c.left.ensures ∙ c.settle.ensures.left ∙ rest;
-      failed = c.failed.ensures ∙ c.settle.ensures.failed ∙ failed;
+      none_left = c.left.ensures ∙ c.audit_share.ensures.left ∙ rest;
+      failed = c.failed.ensures ∙ c.audit_share.ensures.failed ∙ failed;
       counted = count_failed left c.in_ok-result.ensures.passed c.in_ok-result.ensures.done c.put_back-all.new.devices.items (let many = turn.as_many in let n = length-map c.args.prepared.readings.items (λ (r : Reading). r.source.place) in let e = c.take_out-rest.ensures.count in let b = c.put_back-all.ensures.count in omega (arith, many, n, e, b)) c.put_back-all.ensures.back;
     }

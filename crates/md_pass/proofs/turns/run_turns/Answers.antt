@@ -3,10 +3,10 @@ use Rattle.std.specs.List.{All}
 use Rattle.md_collect.specs.Reports.{Copying}
 use Rattle.md_collect.specs.Collecting.{copying}
 use Rattle.md_pass.specs.declared.fault.PassFault.TheVariants.{TargetFault}
-use Rattle.md_workers.specs.declared.lane.Lane.{Lane}
+use Rattle.md_workers.specs.declared.queue.Queue.{Queue}
 use Rattle.md_pass.specs.Beside.{KeepsBeside}
-use Rattle.md_workers.specs.Lanes.{IsReady}
-use Rattle.md_pass.specs.Settling.{books}
+use Rattle.md_workers.specs.Queues.{IsReadyForTurn}
+use Rattle.md_pass.specs.TakingReports.{books}
 use Rattle.md_pass.specs.Passes.{IsPassing}
 use Rattle.md_pass.proofs.Besides.{fails_later, keeps_then}
 use Rattle.md_workers.proofs.Workers.{chunks_kept}
@@ -17,65 +17,65 @@ pub returns-then-is_starved-clause-sources : goal.returns-then-is_starved-clause
 returns-then-is_starved-clause-sources g c =
     let inv = c.loop-turn.invariant in
     let same : c.loop-turn.collector.chunks ≡ c.args.chunks = ap (λ (v : Copying). v.chunks) inv.passing.books.same_copy ∙ sym c.requires.chunks in
-    sources_read c.turn.new.lanes.items (turned c.turn.new.lanes.items inv.passing inv.taken c.turn.ensures.len (λ k d below. rw same (c.turn.ensures.worked k d below))) refl (λ k d below. refl)
+    sources_read c.turn.new.queues.items (turned c.turn.new.queues.items inv.passing inv.taken c.turn.ensures.len (λ k d below. rw same (c.turn.ensures.worked k d below))) refl (λ k d below. refl)
 
 -- where a worker got no memory, the reports of the others wait, and nothing else has changed
 pub returns-then-is_starved-clause-broken : goal.returns-then-is_starved-clause-broken
 returns-then-is_starved-clause-broken g c =
     let inv = c.loop-turn.invariant in
     let same : c.loop-turn.collector.chunks ≡ c.args.chunks = ap (λ (v : Copying). v.chunks) inv.passing.books.same_copy ∙ sym c.requires.chunks in
-    turned c.turn.new.lanes.items inv.passing inv.taken c.turn.ensures.len (λ k d below. rw same (c.turn.ensures.worked k d below))
+    turned c.turn.new.queues.items inv.passing inv.taken c.turn.ensures.len (λ k d below. rw same (c.turn.ensures.worked k d below))
 
 pub turn-requires-after_bounds : goal.turn-requires-after_bounds
 turn-requires-after_bounds g c κs within =
     let inv = c.loop-turn.invariant in
     let same : c.loop-turn.collector.chunks ≡ c.args.chunks = ap (λ (v : Copying). v.chunks) inv.passing.books.same_copy ∙ sym c.requires.chunks in
-    subst (λ v. All (λ (lane : Lane _ _ _). IsReady g.D.Device v lane) c.loop-turn.lanes.items) same (all_ready inv.passing inv.taken)
+    subst (λ v. All (λ (queue : Queue _ _ _). IsReadyForTurn g.D.Device v queue) c.loop-turn.queues.items) same (all_ready inv.passing inv.taken)
 
-pub settle_all-requires : goal.settle_all-requires
-settle_all-requires g c =
+pub take_reports-requires : goal.take_reports-requires
+take_reports-requires g c =
     let inv = c.loop-turn.invariant in
     let same : c.loop-turn.collector.chunks ≡ c.args.chunks = ap (λ (v : Copying). v.chunks) inv.passing.books.same_copy ∙ sym c.requires.chunks in (
-      c.args.lanes.now.items,
+      c.args.queues.now.items,
       books c.args.collector.now (g.D.Device.content c.args.target.now) c.args.copied.now,
-      rw inv.target.honest_kept (turned c.turn.new.lanes.items inv.passing inv.taken c.turn.ensures.len (λ k d below. rw same (c.turn.ensures.worked k d below))),
+      rw inv.target.honest_kept (turned c.turn.new.queues.items inv.passing inv.taken c.turn.ensures.len (λ k d below. rw same (c.turn.ensures.worked k d below))),
     )
 
-pub returns-in_err-settle_all-clause-broken : goal.returns-in_err-settle_all-clause-broken
-returns-in_err-settle_all-clause-broken g c =
+pub returns-in_err-take_reports-clause-broken : goal.returns-in_err-take_reports-clause-broken
+returns-in_err-take_reports-clause-broken g c =
     let is : c.from_residual.result ≡ Err TargetFault = search rules in
-    rw is (fails_later (copying c.args.collector.now) c.args.target.now c.loop-turn.target c.settle_all.new.target c.loop-turn.invariant.target c.in_err-settle_all.ensures.failed)
+    rw is (fails_later (copying c.args.collector.now) c.args.target.now c.loop-turn.target c.take_reports.new.target c.loop-turn.invariant.target c.in_err-take_reports.ensures.failed)
 
-pub returns-in_err-settle_all-clause-sources : goal.returns-in_err-settle_all-clause-sources
-returns-in_err-settle_all-clause-sources g c =
+pub returns-in_err-take_reports-clause-sources : goal.returns-in_err-take_reports-clause-sources
+returns-in_err-take_reports-clause-sources g c =
     let inv = c.loop-turn.invariant in
     let same : c.loop-turn.collector.chunks ≡ c.args.chunks = ap (λ (v : Copying). v.chunks) inv.passing.books.same_copy ∙ sym c.requires.chunks in
-    sources_read c.settle_all.new.lanes.items (turned c.turn.new.lanes.items inv.passing inv.taken c.turn.ensures.len (λ k d below. rw same (c.turn.ensures.worked k d below))) c.settle_all.ensures.devices.as_many c.settle_all.ensures.devices.each
+    sources_read c.take_reports.new.queues.items (turned c.turn.new.queues.items inv.passing inv.taken c.turn.ensures.len (λ k d below. rw same (c.turn.ensures.worked k d below))) c.take_reports.ensures.devices.as_many c.take_reports.ensures.devices.each
 
-pub returns-in_err-settle_all-clause-target : goal.returns-in_err-settle_all-clause-target
-returns-in_err-settle_all-clause-target g c =
+pub returns-in_err-take_reports-clause-target : goal.returns-in_err-take_reports-clause-target
+returns-in_err-take_reports-clause-target g c =
     let inv = c.loop-turn.invariant in
-    keeps_then (copying c.args.collector.now) c.args.target.now c.loop-turn.target c.settle_all.new.target inv.target
-    (subst (λ v. KeepsBeside g.D.Device v c.loop-turn.target c.settle_all.new.target) inv.passing.books.same_copy c.settle_all.ensures.writes.target)
+    keeps_then (copying c.args.collector.now) c.args.target.now c.loop-turn.target c.take_reports.new.target inv.target
+    (subst (λ v. KeepsBeside g.D.Device v c.loop-turn.target c.take_reports.new.target) inv.passing.books.same_copy c.take_reports.ensures.writes.target)
 
 pub returns-clause-sources : goal.returns-clause-sources
-returns-clause-sources g c = sources_read c.loop-turn.lanes.items c.loop-turn.invariant.passing refl (λ k d below. refl)
+returns-clause-sources g c = sources_read c.loop-turn.queues.items c.loop-turn.invariant.passing refl (λ k d below. refl)
 
 pub loop-turn-preserved : goal.loop-turn-preserved
 loop-turn-preserved g c =
     let inv = c.loop-turn.invariant in
-    let firsts = c.args.lanes.now.items in
+    let firsts = c.args.queues.now.items in
     let start = books c.args.collector.now (g.D.Device.content c.args.target.now) c.args.copied.now in
-    let olds = c.loop-turn.lanes.items in
-    let mids = c.turn.new.lanes.items in
-    let news = c.settle_all.new.lanes.items in
+    let olds = c.loop-turn.queues.items in
+    let mids = c.turn.new.queues.items in
+    let news = c.take_reports.new.queues.items in
     let same : c.loop-turn.collector.chunks ≡ c.args.chunks = ap (λ (v : Copying). v.chunks) inv.passing.books.same_copy ∙ sym c.requires.chunks in
     let mid : IsPassing g.D.Device (g.D.Device.honest c.args.target.now) firsts mids start (books c.loop-turn.collector (g.D.Device.content c.loop-turn.target) c.loop-turn.copied)
     = turned mids inv.passing inv.taken c.turn.ensures.len (λ k d below. rw same (c.turn.ensures.worked k d below)) in
-    let next : IsPassing g.D.Device (g.D.Device.honest c.args.target.now) firsts news start (books c.settle_all.new.collector (g.D.Device.content c.settle_all.new.target) c.settle_all.new.copied)
-    = subst (λ (b : Bool). IsPassing g.D.Device b firsts news start (books c.settle_all.new.collector (g.D.Device.content c.settle_all.new.target) c.settle_all.new.copied)) inv.target.honest_kept
-    (c.in_ok-settle_all.ensures.settled.passing firsts start (rw inv.target.honest_kept mid)) in
-    let fed : All (λ (lane : Lane _ _ _). lane.starved ≡ false) mids = subst (λ (xs : List (Lane _ _ _)). All (λ (lane : Lane _ _ _). lane.starved ≡ false) xs) c.as_slice-in-loop-turn.ensures.value (c.is_starved.ensures c.if-is_starved.false) in
+    let next : IsPassing g.D.Device (g.D.Device.honest c.args.target.now) firsts news start (books c.take_reports.new.collector (g.D.Device.content c.take_reports.new.target) c.take_reports.new.copied)
+    = subst (λ (b : Bool). IsPassing g.D.Device b firsts news start (books c.take_reports.new.collector (g.D.Device.content c.take_reports.new.target) c.take_reports.new.copied)) inv.target.honest_kept
+    (c.in_ok-take_reports.ensures.reports_taken.passing firsts start (rw inv.target.honest_kept mid)) in
+    let fed : All (λ (queue : Queue _ _ _). queue.starved ≡ false) mids = subst (λ (xs : List (Queue _ _ _)). All (λ (queue : Queue _ _ _). queue.starved ≡ false) xs) c.as_slice-in-loop-turn.ensures.value (c.is_starved.ensures c.if-is_starved.false) in
     record {
       passing = next;
       done = λ k d below.
@@ -83,25 +83,25 @@ loop-turn-preserved g c =
           let between : k < length mids = omega (arith, here, c.turn.ensures.len) in
           let kept : (get_or news k d).chunks ≡ (get_or olds k d).chunks = chunks_kept (next.each k d (omega (arith, below, next.as_many))).read ∙ sym (chunks_kept (inv.passing.each k d (omega (arith, below, next.as_many))).read) in
           next_done g.D.Device c.args.chunks c.loop-turn._turn (get_or olds k d) (get_or mids k d) (get_or news k d)
-          (c.turn.ensures.worked k d here) (fed k d between) (c.in_ok-settle_all.ensures.settled.goes k d between) (c.in_ok-settle_all.ensures.taken k d below) kept (inv.done k d here);
-      taken = c.in_ok-settle_all.ensures.taken;
-      target = keeps_then (copying c.args.collector.now) c.args.target.now c.loop-turn.target c.settle_all.new.target inv.target
-          (subst (λ v. KeepsBeside g.D.Device v c.loop-turn.target c.settle_all.new.target) inv.passing.books.same_copy c.settle_all.ensures.writes.target);
+          (c.turn.ensures.worked k d here) (fed k d between) (c.in_ok-take_reports.ensures.reports_taken.goes k d between) (c.in_ok-take_reports.ensures.taken k d below) kept (inv.done k d here);
+      taken = c.in_ok-take_reports.ensures.taken;
+      target = keeps_then (copying c.args.collector.now) c.args.target.now c.loop-turn.target c.take_reports.new.target inv.target
+          (subst (λ v. KeepsBeside g.D.Device v c.loop-turn.target c.take_reports.new.target) inv.passing.books.same_copy c.take_reports.ensures.writes.target);
     }
 
 pub returns-then-are_done-clause-sources : goal.returns-then-are_done-clause-sources
-returns-then-are_done-clause-sources g c = sources_read c.loop-turn.lanes.items c.loop-turn.invariant.passing refl (λ k d below. refl)
+returns-then-are_done-clause-sources g c = sources_read c.loop-turn.queues.items c.loop-turn.invariant.passing refl (λ k d below. refl)
 
 pub returns-then-are_done-clause-done : goal.returns-then-are_done-clause-done
 returns-then-are_done-clause-done g c =
-    let past = subst (λ (xs : List (Lane _ _ _)). All (λ (lane : Lane _ _ _). length lane.chunks.items ≤ lane.done) xs) c.as_slice.ensures.value (c.are_done.ensures c.if-are_done.true) in
+    let past = subst (λ (xs : List (Queue _ _ _)). All (λ (queue : Queue _ _ _). length queue.chunks.items ≤ queue.done) xs) c.as_slice.ensures.value (c.are_done.ensures c.if-are_done.true) in
     all_done c.loop-turn.invariant.passing c.loop-turn.invariant.taken past
 
 pub returns-clause-done : goal.returns-clause-done
 returns-clause-done g c =
     let inv = c.loop-turn.invariant in
     all_done inv.passing inv.taken (λ k d below.
-    let here : k < length c.args.lanes.now.items = omega (arith, below, inv.passing.as_many) in
+    let here : k < length c.args.queues.now.items = omega (arith, below, inv.passing.as_many) in
     let n = ap (λ (v : _). length v.items) (chunks_kept (inv.passing.each k d here).read) in
     let enough = c.requires.turns k d here in
     let least = inv.done k d below in

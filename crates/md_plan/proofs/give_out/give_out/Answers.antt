@@ -5,7 +5,7 @@ use Rattle.md_cert.specs.declared.slots.Slot.{Slot}
 use Rattle.md_cert.specs.Tables.{orphans_of}
 use Rattle.md_cert.proofs.Bits.{has_below}
 use Rattle.md_plan.specs.declared.cell.Cell.{Cell}
-use Rattle.md_plan.specs.Slots.{IsLeft, IsSlotting}
+use Rattle.md_plan.specs.Slots.{AreCountsLeft, IsSlotting}
 use Rattle.md_plan.proofs.RowCounts.{passes}
 use Rattle.md_plan.proofs.CellMoves.{along}
 use Rattle.md_plan.proofs.SlotLists.{left_some, left_reordered, left_skip, left_more, used_fits, slotting_none, slotting_skip, slotting_more, left_first, orphans_yes, orphans_no}
@@ -51,7 +51,7 @@ loop-i-preserved c =
     let before = c.loop-i.invariant in
     elim c.if-row-eq0.branch [
       | then-row-eq0+in_ok-push w ↦ record {
-        left = along (λ (v : Vec Cell Global) (xs : List ℕ). IsLeft rows (i + 1) c.args.cells.now.items v.items xs) _ _ _ _ (sym w.cells-is) (sym w.used-is)
+        left = along (λ (v : Vec Cell Global) (xs : List ℕ). AreCountsLeft rows (i + 1) c.args.cells.now.items v.items xs) _ _ _ _ (sym w.cells-is) (sym w.used-is)
             (left_skip rows i d c.args.cells.now.items c.loop-i.cells.items c.loop-i.used c.loop-i-test.true w.if-row-eq0.true before.left);
         slotting = along (λ (v : Vec Slot Global) (xs : List ℕ). IsSlotting rows (i + 1) v.items xs) _ _ _ _ (sym w.slots-is) (sym w.used-is)
             (slotting_skip rows i d c.loop-i.slots.items c.loop-i.used c.loop-i-test.true w.if-row-eq0.true before.slotting);
@@ -62,7 +62,7 @@ loop-i-preserved c =
           let lt = has_below _ w.take_one-source.result source_is in
           let reordered = left_reordered rows i c.args.cells.now.items c.loop-i.cells.items w.bring_cell-at.new.cells.items c.loop-i.used w.bring_cell-at.ensures.same before.left in
           record {
-            left = along (λ (v : Vec Cell Global) (xs : List ℕ). IsLeft rows (i + 1) c.args.cells.now.items v.items xs) _ _ _ _ (sym w.cells-is) (sym w.used-is)
+            left = along (λ (v : Vec Cell Global) (xs : List ℕ). AreCountsLeft rows (i + 1) c.args.cells.now.items v.items xs) _ _ _ _ (sym w.cells-is) (sym w.used-is)
                 (left_more rows i d c.args.cells.now.items w.bring_cell-at.new.cells.items w.take_one-source.new.cells.items c.loop-i.used _ w.take_one-source.result c.loop-i-test.true w.if-row-eq0.false lt reordered w.take_one-source.ensures.takes refl);
             slotting = along (λ (v : Vec Slot Global) (xs : List ℕ). IsSlotting rows (i + 1) v.items xs) _ _ _ _ (sym w.slots-is) (sym w.used-is)
                 (slotting_more rows c.requires.table.rising i d c.loop-i.slots.items c.loop-i.used _ w.take_one-source.result _ c.loop-i-test.true before.left.long source_is refl w.in_ok-push-2.ensures.items before.slotting);

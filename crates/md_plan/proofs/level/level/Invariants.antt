@@ -5,5 +5,5 @@ use Rattle.md_plan.proofs.level.level.Given as goal
 abbrev pub invariant-paths : goal.invariant-paths
 invariant-paths l = record {
   levelled : IsLevelled l.fn.cells.items l.cells.items;
-  shelves : length l.shelves.items ≡ 32;
+  by_source : length l.by_source.items ≡ 32;
 }

@@ -1,7 +1,7 @@
 use Rattle.std.proofs.Common.{◌≡◌, ◌∙◌, ◌*◌, ◌≤◌, ℕ, List, ◌++◌, length, drop, take, sym, ap, subst, arith}
 use Rattle.std.proofs.Math.Seq.{take-append_seam}
 use Rattle.std.proofs.lemmas.List.{length-take-le}
-use Rattle.md_read.specs.Unresynced.{GivesPart, IsMarkedAt}
+use Rattle.md_read.specs.Unresynced.{GivesPart, IsSectorMarked}
 use Rattle.md_read.proofs.PartsRead.{all_given, nothing_given, source_failed}
 use Rattle.md_read.proofs.sources.read_first.Goals as goal
 
@@ -38,7 +38,7 @@ returns-in-All g c =
           let front : take (512 * 1) (bytes ++ rest) ≡ bytes = ap (λ (n : ℕ). take n (bytes ++ rest)) (let e : 512 * 1 ≡ length bytes = omega arith in e) ∙ take-append_seam bytes rest in
           subst (λ (xs : List ℕ). GivesPart c.args.sector xs old new) (sym front)
           (all_given c.args.sector was bytes old new same (omega arith)
-          (λ s from below. subst (λ (x : ℕ). IsMarkedAt old.array x) (let here : c.args.sector ≡ s = omega arith in here) c.requires.marked) c.in-All.ensures);
+          (λ s from below. subst (λ (x : ℕ). IsSectorMarked old.array x) (let here : c.args.sector ≡ s = omega arith in here) c.requires.marked) c.in-All.ensures);
     }
 
 pub returns-in-Nothing : goal.returns-in-Nothing

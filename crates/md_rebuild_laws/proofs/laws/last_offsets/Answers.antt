@@ -1,5 +1,5 @@
-use Rattle.md_rebuild_laws.proofs.LastOffsets.{offset_stands, openings_find, stops_copying_find, stops_listing_find, stops_storing_find, stops_unlisted_find}
+use Rattle.md_rebuild_laws.proofs.LastOffsets.{offset_stands, openings_find, crashes_copying_find, crashes_listing_find, crashes_storing_find, crashes_unlisted_find}
 use Rattle.md_rebuild_laws.proofs.laws.last_offsets.Goals as goal
 
 pub returns : goal.returns
-returns c = record { stands = offset_stands; copying = stops_copying_find; storing = stops_storing_find; listing = stops_listing_find; unlisted = stops_unlisted_find; opened = openings_find }
+returns c = record { stands = offset_stands; copying = crashes_copying_find; storing = crashes_storing_find; listing = crashes_listing_find; unlisted = crashes_unlisted_find; opened = openings_find }

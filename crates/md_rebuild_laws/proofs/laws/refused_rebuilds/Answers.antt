@@ -1,14 +1,14 @@
-use Rattle.md_rebuild_laws.proofs.RefusedRebuilds.{lost_is_a_run, refused_is_a_run, stops_leaving, stops_leaving_anyhow, stops_leaving_lost, stops_leaving_lost_anyhow, stops_unleft, stops_unleft_lost}
+use Rattle.md_rebuild_laws.proofs.RefusedRebuilds.{lost_is_a_run, refused_is_a_run, crashes_leaving, crashes_leaving_anyhow, crashes_leaving_lost, crashes_leaving_lost_anyhow, crashes_unleft, crashes_unleft_lost}
 use Rattle.md_rebuild_laws.proofs.laws.refused_rebuilds.Goals as goal
 
 pub returns : goal.returns
 returns c = record {
   runs = refused_is_a_run;
-  leaving = stops_leaving;
-  unleft = stops_unleft;
+  leaving = crashes_leaving;
+  unleft = crashes_unleft;
   lost = lost_is_a_run;
-  leaving_lost = stops_leaving_lost;
-  unleft_lost = stops_unleft_lost;
-  leaving_anyhow = stops_leaving_anyhow;
-  leaving_lost_anyhow = stops_leaving_lost_anyhow;
+  leaving_lost = crashes_leaving_lost;
+  unleft_lost = crashes_unleft_lost;
+  leaving_anyhow = crashes_leaving_anyhow;
+  leaving_lost_anyhow = crashes_leaving_lost_anyhow;
 }

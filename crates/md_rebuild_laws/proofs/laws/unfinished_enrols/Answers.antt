@@ -1,14 +1,14 @@
 use Rattle.std.proofs.Common.{inl, inr}
 use Rattle.md_copy.proofs.UnfinishedEnrol.{prepares}
-use Rattle.md_rebuild_laws.specs.UnfinishedEnrols.{StopsUnfinishedEnrol, UnfinishedEnrolsPrepare}
+use Rattle.md_rebuild_laws.specs.UnfinishedEnrols.{CrashesUnfinishedEnrol, UnfinishedEnrolsPrepare}
 use Rattle.md_rebuild_laws.proofs.laws.unfinished_enrols.Goals as goal
 
 unfinished_prepare : UnfinishedEnrolsPrepare
 unfinished_prepare k copied orphans old new c may f at_marks = prepares k copied orphans old new c f may at_marks
 
-stopped : StopsUnfinishedEnrol
+stopped : CrashesUnfinishedEnrol
 stopped t k copied orphans new c may f at_marks left within =
     inr (inr (inr (inr (inr (inr (inr (inl (record { on = k; next = new; call = prepares k copied orphans t.mirror new c f may at_marks; within = within }))))))))
 
 pub returns : goal.returns
-returns c = record { prepares = unfinished_prepare; stopped = stopped }
+returns c = record { prepares = unfinished_prepare; crashed = stopped }

@@ -5,5 +5,5 @@ use Rattle.md_report.proofs.detail_report.detail.Goals as goal
 pub returns : goal.returns
 unfolding detail_text
 returns g c =
-    let all = puts_then g.S.Sink.contents g.S.Sink.failed (puts_then g.S.Sink.contents g.S.Sink.failed c.in_ok-shared.ensures c.in_ok-condition.ensures) c.in_ok-member_lines.ensures in
-    rw (c.shared.ensures) at all
+    let all = puts_then g.S.Sink.contents g.S.Sink.failed (puts_then g.S.Sink.contents g.S.Sink.failed c.in_ok-shared_lines.ensures c.in_ok-condition.ensures) c.in_ok-member_lines.ensures in
+    rw (c.shared_lines.ensures) at all

@@ -1,4 +1,4 @@
-use Rattle.md_resync.specs.Copying.{IsMarkedAt}
+use Rattle.md_resync.specs.Copying.{IsInMarkedChunk}
 use Rattle.md_resync.proofs.Resynced.{agreeing_fails, all_noted, copying_sound, resyncs_or_stops}
 use Rattle.md_resync.proofs.whole.resync_through.Goals as goal
 
@@ -10,7 +10,7 @@ returns-in-Err-make_agree-clause-gives g c =
 pub returns-in-Err-make_agree-clause-sound : goal.returns-in-Err-make_agree-clause-sound
 returns-in-Err-make_agree-clause-sound g c =
     let mid = c.store_memory_marks.new.mirror in
-    copying_sound (IsMarkedAt mid.array) mid c.make_agree.new.mirror c.in-Err-make_agree.fault c.in-Err-make_agree.ensures.copying
+    copying_sound (IsInMarkedChunk mid.array) mid c.make_agree.new.mirror c.in-Err-make_agree.fault c.in-Err-make_agree.ensures.copying
 
 pub returns-clause-gives : goal.returns-clause-gives
 returns-clause-gives g c =

@@ -1,12 +1,12 @@
 use Rattle.std.proofs.Common.{◌∷◌, [], take, FitsSigned, arith, rules}
 use Rattle.std.specs.Int.{w32, cast_unsigned}
 use Rattle.byteorder.specs.Endian.{little_bytes}
-use Rattle.md_super.specs.Encoding.{log_bytes}
+use Rattle.md_super.specs.Encoding.{log_field_bytes}
 use Rattle.md_super.proofs.Joined.{group_4, signed_field}
 use Rattle.md_super.proofs.groups.put_log.Goals as goal
 
 pub returns-clause-front : goal.returns-clause-front
-unfolding log_bytes
+unfolding log_field_bytes
 returns-clause-front c =
     let v = c.args.v.now in
     let fits : FitsSigned w32 c.args.v.now.bblog_offset = search rules in

@@ -1,5 +1,5 @@
 use Rattle.std.proofs.Common.{ℕ, subst}
-use Rattle.md_members.specs.Members.{sectors_of}
+use Rattle.md_members.specs.Members.{sectors_of_device}
 use Rattle.md_state.specs.Adding.{MayAdd, RefusesToAdd}
 use Rattle.md_state.specs.View.{MirrorView, disk_of}
 use Rattle.md_array.proofs.Steps.SpareAdded.{add_is_consistent, add_keeps_pending, once_numbered, refused_unwritten, told}
@@ -12,7 +12,7 @@ returns-in-Err g c =
     let same = told c.sectors.result (g.D.Device.content c.args.device) c.sectors.ensures.size in
     record {
       gives = refused_unwritten (disk_of g.D.Device c.args.device) old c.in-Err.fault
-          (subst (λ (v : MirrorView). RefusesToAdd v.array (sectors_of (g.D.Device.content c.args.device)) c.in-Err.fault) c.self.view_is (subst (λ (n : ℕ). RefusesToAdd c.self.inside.array n c.in-Err.fault) same c.in-Err.ensures));
+          (subst (λ (v : MirrorView). RefusesToAdd v.array (sectors_of_device (g.D.Device.content c.args.device)) c.in-Err.fault) c.self.view_is (subst (λ (n : ℕ). RefusesToAdd c.self.inside.array n c.in-Err.fault) same c.in-Err.ensures));
       event = tt;
       sound = c.requires.sound;
       pending = λ p is. is;
@@ -23,7 +23,7 @@ lay_out_last-requires g c =
     let same = told c.sectors.result (g.D.Device.content c.args.device) c.sectors.ensures.size in
     record {
       sound = c.requires.sound;
-      may = subst (λ (v : MirrorView). MayAdd v.array (sectors_of (g.D.Device.content c.args.device)) c.in-Ok.number) c.self.view_is (subst (λ (n : ℕ). MayAdd c.self.inside.array n c.in-Ok.number) same c.in-Ok.ensures);
+      may = subst (λ (v : MirrorView). MayAdd v.array (sectors_of_device (g.D.Device.content c.args.device)) c.in-Ok.number) c.self.view_is (subst (λ (n : ℕ). MayAdd c.self.inside.array n c.in-Ok.number) same c.in-Ok.ensures);
     }
 
 pub returns : goal.returns
@@ -33,7 +33,7 @@ returns g c =
     let old = c.args.self.now in
     let new = c.lay_out_last.new.self in
     let same = told c.sectors.result (g.D.Device.content c.args.device) c.sectors.ensures.size in
-    let may = subst (λ (v : MirrorView). MayAdd v.array (sectors_of (g.D.Device.content c.args.device)) c.in-Ok.number) c.self.view_is (subst (λ (n : ℕ). MayAdd c.self.inside.array n c.in-Ok.number) same c.in-Ok.ensures) in
+    let may = subst (λ (v : MirrorView). MayAdd v.array (sectors_of_device (g.D.Device.content c.args.device)) c.in-Ok.number) c.self.view_is (subst (λ (n : ℕ). MayAdd c.self.inside.array n c.in-Ok.number) same c.in-Ok.ensures) in
     let gives = once_numbered of device c.in-Ok.number old new may c.lay_out_last.result c.lay_out_last.ensures in
     record {
       gives = gives;

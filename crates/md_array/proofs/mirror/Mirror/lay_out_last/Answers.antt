@@ -78,5 +78,5 @@ returns g c =
     (ok_of c.lay_out.result _ _ c.if-is_err-3.ensures.value c.lay_out.ensures.writes)
     c.lay_out.ensures.outside
     (ok_gives c.lay_out.result _ c.if-is_err-3.ensures.value c.lay_out.ensures.laid_out)
-    (ok_gives c.lay_out.result _ c.if-is_err-3.ensures.value c.lay_out.ensures.stops)
+    (ok_gives c.lay_out.result _ c.if-is_err-3.ensures.value c.lay_out.ensures.crashes)
     array last items)

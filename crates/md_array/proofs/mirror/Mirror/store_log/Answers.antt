@@ -4,7 +4,7 @@ use Rattle.md_state.specs.Members.{IsInSync, IsMember}
 use Rattle.md_state.specs.View.{MirrorView, disk_of}
 use Rattle.md_array.specs.Consistency.{IsConsistent}
 use Rattle.md_array.specs.Fits.{FitsMember}
-use Rattle.md_array.specs.Listing.{RefusesLog, StoresLog}
+use Rattle.md_array.specs.Listing.{RefusesStoreLog, StoresLog}
 use Rattle.md_array.specs.declared.mirror.Mirror.TheInside.{Inside}
 use Rattle.md_state.proofs.Members.At.{member_read}
 use Rattle.md_array.proofs.General.Answered.{err_of, ok_of}
@@ -79,7 +79,7 @@ returns-then-is_err g c =
     let sound = subst IsConsistent (sym c.self.view_is) c.requires.sound in
     let fails = is_unwritten g.D.Device devices c.args.k c.index_mut.result.now c.index_mut.ensures.value c.store_log.new.device (on_device g at) m (room g at) c.store_log.ensures.outside c.store_log.ensures.untouched
     (err_of c.store_log.result _ _ c.if-is_err.ensures.value c.store_log.ensures.writes) in
-    let refused : RefusesLog c.args.k was new c.store_failed.result =
+    let refused : RefusesStoreLog c.args.k was new c.store_failed.result =
     log_failed c.args.k was new m c.store_failed.result (running g (goal.at.returns-then-is_err g c).After-store_log) (in_sync g at) c.store_log.ensures.canonical (room g at) fails.0 fails.1 c.store_failed.ensures in
     rw (← c.self.view_is) (record {
       gives = refused;

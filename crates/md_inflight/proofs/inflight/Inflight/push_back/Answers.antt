@@ -3,7 +3,7 @@ use Rattle.std.specs.Option.{SomeIff}
 use denote.RawPtr.{Ptr}
 use Rattle.md_inflight.specs.Inflight.{InflightList, BelongsTo, next_number}
 use Rattle.md_inflight.specs.Linked.{entries}
-use Rattle.md_inflight.specs.Kept.{items, IsKept}
+use Rattle.md_inflight.specs.Kept.{items, IsKeptList}
 use Rattle.md_inflight.proofs.Numbers.{IsPushed, none_fresh, belongs_push, belongs_last}
 use Rattle.md_inflight.proofs.Entries.{kept_numbered, kept_grown}
 use Rattle.md_inflight.proofs.inflight.Inflight.push_back.Goals as goal
@@ -35,7 +35,7 @@ module _ (g : _) (c : goal.After-of g) where
   after : next_number c.checked_add-self-inside.result ≡ next_number c.self.inside.next + 1
   after = next_after _ c.in-Some.number fits c.checked_add-self-inside.ensures ∙ ap (λ n. n + 1) (sym number_is)
 
-  grown : IsKept c.push.new.self.first c.push.new.self.last c.push.new.self.nodes (c.self.inside.len + 1) (next_number c.checked_add-self-inside.result) (c.self.inside.book.addresses ++ c.in-Ok.place.ptr ∷ [])
+  grown : IsKeptList c.push.new.self.first c.push.new.self.last c.push.new.self.nodes (c.self.inside.len + 1) (next_number c.checked_add-self-inside.result) (c.self.inside.book.addresses ++ c.in-Ok.place.ptr ∷ [])
       × (items c.push.new.self.nodes ≡ items c.self.inside.chain.nodes ++ (next_number c.self.inside.next, c.args.item) ∷ [])
   grown = kept_grown c.self.invariant c.in-Ok.place.ptr c.args.item c.push.ensures.chain
       (c.in-Ok.ensures.entries ∙ ap (λ n. entries c.self.inside.chain.nodes ++ (c.in-Ok.place.ptr, (n, c.args.item)) ∷ []) (sym number_is)) after (subst (λ n. n < 2 ^ 64) (sym number_is) fits)
@@ -52,7 +52,7 @@ module _ (g : _) (c : goal.After-of g) where
 
 pub invariant_of-self : goal.invariant_of-self
 invariant_of-self g c =
-    subst (λ (s : ℕ × List Ptr). IsKept c.push.new.self.first c.push.new.self.last c.push.new.self.nodes s.0 (next_number c.checked_add-self-inside.result) s.1)
+    subst (λ (s : ℕ × List Ptr). IsKeptList c.push.new.self.first c.push.new.self.last c.push.new.self.nodes s.0 (next_number c.checked_add-self-inside.result) s.1)
     (λ i. (sym c.in-Some-checked_add.ensures.1 i, sym c.enter-page.ensures.1 i)) (grown g c).0
 
 pub returns-in-Ok-clause-belongs : goal.returns-in-Ok-clause-belongs

@@ -1,0 +1,28 @@
+//! Tests of what a crash leaves: whole calls on a mirror whose devices stop at each write in turn, or at some
+//! write of a list of calls that is drawn. What is left is opened again.
+#![tactic(auto)]
+
+#[cfg(test)]
+mod agreeing;
+#[cfg(test)]
+mod calls;
+#[cfg(test)]
+mod checks;
+#[cfg(test)]
+mod choosing;
+#[cfg(test)]
+mod content;
+#[cfg(test)]
+mod dice;
+#[cfg(test)]
+mod each_write;
+#[cfg(test)]
+mod fuses;
+#[cfg(test)]
+mod images;
+#[cfg(test)]
+mod judging;
+#[cfg(test)]
+mod lives;
+#[cfg(test)]
+mod run;

@@ -1,0 +1,2 @@
+-- A device that stops with others, for tests.
+pub mod Crashing

@@ -1,2 +1,0 @@
--- A device that stops with others, for tests.
-pub mod Stopping
