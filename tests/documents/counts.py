@@ -59,7 +59,18 @@ def code(file):
 
 
 def files_with_methods_of(name):
-    return [place(file) for file in sources() if name in IMPL.findall(code(file))]
+    """Files with methods of a type beside those of `steps/`, where each step has a file of its own."""
+    return [place(file) for file in sources() if name in IMPL.findall(code(file)) and file.parent.name != "steps"]
+
+
+def steps_of_no_function():
+    """Files of `steps/` that have the name of no function in them, nor in the file of that name of the other layer: what is no
+    step belongs beside its type."""
+    functions = {}
+    for file in sources():
+        if crate_of(file) in STEP_LAYERS and file.parent.name == "steps":
+            functions.setdefault(file.stem, set()).update(FUNCTION.findall(code(file)))
+    return sorted(name for name, found in functions.items() if name not in found | {"mod"})
 
 
 def shared_gerunds():
@@ -122,6 +133,7 @@ def leaning_comments(files, comment, *patterns):
 COUNTS = {
     "files with methods of Mirror": lambda: files_with_methods_of("Mirror"),
     "files with methods of Array": lambda: files_with_methods_of("Array"),
+    "files of steps that have the name of no function": steps_of_no_function,
     "gerunds that name sources of two crates": shared_gerunds,
     "names of several definitions": names_with_several_meanings,
     "functions named by a bare participle": bare_participles,

@@ -5,7 +5,7 @@ ghost use Rattle.md_array.specs.Consistency.{IsConsistent};
 use crate::checks::holds;
 use crate::data::{Data, Filling, NONE_OTHER, WHOLE};
 use crate::members::{DATA, FIRST, Member, NEVER, device_of};
-use crate::opening::open;
+use crate::open::open;
 use md_array::Mirror;
 use md_device::{Device, FaultDevice, MemDevice, ReadFault, WriteFault};
 use md_read::read;

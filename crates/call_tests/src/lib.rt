@@ -21,7 +21,7 @@ mod left;
 #[cfg(test)]
 mod members;
 #[cfg(test)]
-mod opening;
+mod open;
 #[cfg(test)]
 mod play;
 #[cfg(test)]

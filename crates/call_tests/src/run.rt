@@ -6,7 +6,7 @@ use crate::call::{Answer, Call, NOT_MISSING, Shown};
 use crate::data::{Data, WHOLE};
 use crate::gates::{Counting, Meeting, Silent};
 use crate::members::Testing;
-use crate::opening::open;
+use crate::open::open;
 use crate::told::{plans_of, told_of};
 use md_array::Mirror;
 use md_cert::Table;

@@ -1,13 +1,13 @@
 -- Marks that are stored on the members in sync, and a record of a member that was given nothing.
 use Rattle.std.proofs.Common.{◌≡◌, ◌<◌, ◌∙◌, ℕ, true, false, true≢false, inl, inr, length, ap, arith, subst, sym}
 use Rattle.std.proofs.lemmas.Option.{slice_get_cases}
-use Rattle.md_array.specs.Checkpoints.{MayCheckpoint}
-use Rattle.md_array.specs.NotingResynced.{AreNoted}
+use Rattle.md_array.specs.Steps.Checkpoint.{MayCheckpoint}
+use Rattle.md_array.specs.Steps.NoteResynced.{AreNoted}
 use Rattle.md_assembly.specs.States.{is_recovering}
 use Rattle.md_bitmap.specs.Marks.{Bitmap, is_set}
 use Rattle.md_kept_members.specs.View.{MemberView}
 use Rattle.md_metadata.specs.Storing.{HasAllMarks, IsMarking, StoresAll}
-use Rattle.md_state.specs.MakingClean.{IsIdle}
+use Rattle.md_state.specs.Steps.MakeClean.{IsIdle}
 use Rattle.md_state.specs.Members.{IsMember}
 use Rattle.md_state.specs.View.{ArrayView, MirrorView}
 

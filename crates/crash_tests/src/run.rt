@@ -1,11 +1,11 @@
 // A mirror of devices that crash together, and the devices that are in no mirror. Each `Run` is consistent.
 ghost use Rattle.std.specs.Prelude.{◌≡◌, ◌<◌, ◌%◌, ℕ, length, true, false, IsTrue};
 ghost use Rattle.md_array.specs.Consistency.{IsConsistent};
-ghost use Rattle.md_array.specs.NotingResynced.{AreNoted};
+ghost use Rattle.md_array.specs.Steps.NoteResynced.{AreNoted};
 ghost use Rattle.md_assembly.specs.States.{is_recovering};
 ghost use Rattle.md_bitmap.specs.Marks.{is_set};
 ghost use Rattle.md_kept_members.specs.View.{MemberView};
-ghost use Rattle.md_state.specs.MakingClean.{IsIdle};
+ghost use Rattle.md_state.specs.Steps.MakeClean.{IsIdle};
 ghost use Rattle.md_state.specs.Members.{IsMember};
 
 use crate::calls::{Answer, Call};

@@ -20,15 +20,15 @@ use Rattle.md_faults.specs.declared.step_fault.WriteMemberFault.TheVariants as w
 use Rattle.md_state.specs.DeviceChanges.{IsLeftAlone, LeavesOn, StaysHonest}
 use Rattle.md_state.specs.View.{ArrayView, Disk, MirrorView, of_disks, geometry_of}
 use Rattle.md_state.specs.Members.{IsMember}
-use Rattle.md_array.specs.Consistency.{IsConsistent}
-use Rattle.md_device_writes.specs.Writes.{DoesWrites, Write}
-use Rattle.md_state.specs.CopyingData.{IsDone}
+use Rattle.md_state.specs.Steps.CopyData.{IsDone}
 use Rattle.md_state.specs.DiskWrites.{AtDevice, IsFailed, IsTried, IsWritten}
 use Rattle.md_state.specs.Requests.{AreInFlight, among, request_of}
-use Rattle.md_array.specs.Lending.{IsBesideMissing}
+use Rattle.md_array.specs.Consistency.{IsConsistent}
+use Rattle.md_array.specs.Steps.Lend.{IsBesideMissing}
 use Rattle.md_array.specs.ReadAsKept.{AreReadAsKept}
-use Rattle.md_array.specs.Recording.{super_write}
+use Rattle.md_array.specs.Steps.Record.{super_write}
 use Rattle.md_array.specs.Worlds.{AreHonest, stored_on, world_of, super_in, block_on, sector_from_super}
+use Rattle.md_device_writes.specs.Writes.{DoesWrites, Write}
 
 -- A device that had this superblock is written once, and stands after the others then, none of which is used.
 pub record WritesLast (own : Super) (before after : List Disk) : Type 0 where

@@ -10,27 +10,28 @@ use Rattle.md_kept_members.specs.View.{MemberView}
 use Rattle.md_state.specs.View.{ArrayView, Disk, MirrorView}
 use Rattle.md_state.specs.Members.{IsInSync, IsMember}
 use Rattle.md_state.specs.DiskWrites.{AtDevice}
-use Rattle.md_state.specs.Beginning.{Begins}
-use Rattle.md_state.specs.ClearingMarks.{Clears}
-use Rattle.md_state.specs.FailingMembers.{FailsMember}
-use Rattle.md_state.specs.Finishing.{Finishes}
-use Rattle.md_state.specs.MakingClean.{MakesClean}
-use Rattle.md_state.specs.Removing.{Removes}
-use Rattle.md_state.specs.StoringMarks.{FailsToStoreMarks, HaltsStoringMarks, StoresMarkSector}
-use Rattle.md_state.specs.WritingMember.{FailsToWrite, HaltsWritingTo, IsNotDue, WritesTo}
+use Rattle.md_state.specs.Steps.Begin.{Begins}
+use Rattle.md_state.specs.Steps.ClearIdle.{Clears}
+use Rattle.md_state.specs.Steps.Fail.{FailsMember}
+use Rattle.md_state.specs.Steps.Finish.{Finishes}
+use Rattle.md_state.specs.Steps.MakeClean.{MakesClean}
+use Rattle.md_state.specs.Steps.Remove.{Removes}
+use Rattle.md_state.specs.Steps.StoreMarks.{FailsToStoreMarks, HaltsStoringMarks, StoresMarkSector}
+use Rattle.md_state.specs.Steps.WriteMember.{FailsToWrite, HaltsWritingTo, IsNotDue, WritesTo}
 use Rattle.md_state.specs.Requests.{request_of}
-use Rattle.md_state.specs.CopyingData.{CopiesSector, FailsToCopy, HaltsCopying}
-use Rattle.md_array.specs.Recording.{FailsToRecord, HaltsRecording, Records, super_write}
-use Rattle.md_array.specs.Enrolling.{HoldsContent}
-use Rattle.md_array.specs.Enrolments.{DidEnrol, IsHeldBy, Prepares}
-use Rattle.md_array.specs.Filling.{Fills}
-use Rattle.md_array.specs.RecordingTarget.{FailsOnTarget}
-use Rattle.md_array.specs.NotingResynced.{BecomesResynced, NotesResynced}
-use Rattle.md_array.specs.Adding.{Adds, add_event}
-use Rattle.md_array.specs.Admitting.{DidAdmit}
-use Rattle.md_array.specs.Checkpoints.{DidCheckpoint}
-use Rattle.md_array.specs.Listing.{FailsToStoreLog, HaltsStoringLog, HasNoShift, NotesChunk, StoresLog}
-use Rattle.md_array.specs.ReAdding.{ReAdds, re_add_event}
+use Rattle.md_state.specs.Steps.CopyData.{CopiesSector, FailsToCopy, HaltsCopying}
+use Rattle.md_array.specs.Steps.Record.{FailsToRecord, HaltsRecording, Records, super_write}
+use Rattle.md_array.specs.Steps.Enrol.{HoldsContent}
+use Rattle.md_array.specs.Steps.EnrolEvents.{DidEnrol, IsHeldBy, Prepares}
+use Rattle.md_array.specs.Steps.GiveBack.{Fills}
+use Rattle.md_array.specs.Steps.RecordTarget.{FailsOnTarget}
+use Rattle.md_array.specs.Steps.NoteResynced.{BecomesResynced, NotesResynced}
+use Rattle.md_array.specs.Steps.Add.{Adds, add_event}
+use Rattle.md_array.specs.Steps.Admit.{DidAdmit}
+use Rattle.md_array.specs.Steps.Checkpoint.{DidCheckpoint}
+use Rattle.md_array.specs.Steps.StoreLog.{FailsToStoreLog, HaltsStoringLog, HasNoShift, StoresLog}
+use Rattle.md_array.specs.Steps.NoteBad.{NotesChunk}
+use Rattle.md_array.specs.Steps.ReAdd.{ReAdds, re_add_event}
 use Rattle.md_array.specs.Spoiling.{SpoilsTarget}
 use Rattle.md_array.specs.Events.{Does, IsOldNewOrNone}
 use Rattle.md_array.specs.Worlds.{AreHonest}

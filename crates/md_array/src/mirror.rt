@@ -1,21 +1,27 @@
 // The mirror, and what can be seen of it.
-ghost use Rattle.std.specs.Prelude.{◌≡◌, ◌↔◌, ◌<◌, ℕ, IsTrue, Some, length, map, option_map, slice_get};
+ghost use Rattle.std.specs.Prelude.{◌≡◌, ◌↔◌, ◌<◌, ◌≤◌, ℕ, IsTrue, Some, length, map, option_map, slice_get, IfOk, true};
 ghost use Rattle.std.specs.Int.{bit_at, div_ceil};
+ghost use Rattle.md_model.specs.Sectors.{block_of};
+ghost use Rattle.md_bitmap.specs.Marks.{is_set};
+ghost use Rattle.md_members.specs.Areas.{bitmap_sectors};
 ghost use Rattle.md_kept_members.specs.View.{MemberView};
 ghost use Rattle.md_kept_members.specs.Members.{NeedsMarks};
 ghost use Rattle.md_state.specs.View.{disk_of};
-ghost use Rattle.md_state.specs.Missing.{is_re_added};
+ghost use Rattle.md_state.specs.Missing.{is_re_added, AreMissing, is_missing};
 ghost use Rattle.md_state.specs.Members.{IsMember, IsPermitted, is_degraded};
+ghost use Rattle.md_state.specs.Steps.WriteMember.{HasMarksFrom};
 ghost use Rattle.md_array.specs.Consistency.{IsConsistent};
 ghost use Rattle.md_array.specs.InSyncCount.{count_in_sync};
+ghost use Rattle.md_array.specs.InTurn.{HasSector};
 
 use md_assembly::MemberState;
 use md_badblocks::BadSet;
-use md_bitmap::{Chunks, Marks};
+use md_bitmap::{CHUNKS_OF_HEADER, CHUNKS_OF_SECTOR, Chunks, Marks};
 use md_device::Device;
 use md_kept_members::needs_marks;
 use md_state::Array;
 use md_super::Superblock;
+use std::alloc::{AllocError, Global};
 use std::marker::Model;
 
 /// An array on its devices. Members are counted from 0, in the order of the devices that were opened.
@@ -173,4 +179,73 @@ impl<D: Device + Drop> Mirror<D> {
     {
         self.devices
     }
+}
+
+// What a member lacks.
+impl<D: Device + Drop> Mirror<D> {
+    /// The chunks that member k lacks: none where it is in sync; where it is recovering the marked ones and
+    /// those that its offset has not passed; all of them otherwise.
+    pub fn missing(&self, alloc: Global, k: usize) -> Result<Marks, AllocError>
+        requires { k < length self.now.array.members }
+        ensures { (m : MemberView) → IsMember self.now.array k m → IfOk result (AreMissing self.now.array m) }
+    {
+        self.array.missing(alloc, k)
+    }
+
+    /// Whether member k lacks a chunk.
+    pub fn is_missing(&self, k: usize, chunk: u32) -> bool
+        requires within { k < length self.now.array.members }
+        requires chunk { chunk < self.now.array.marks.chunks }
+        ensures { (m : MemberView) → IsMember self.now.array k m → result ≡ is_missing self.now.array m chunk }
+    {
+        self.array.is_missing(k, chunk)
+    }
+}
+
+// Whether marks are stored.
+impl<D: Device + Drop> Mirror<D> {
+    /// Whether the marks of all chunks from `first` on and below `end` are stored on member k, as far as
+    /// the mirror knows.
+    pub fn has_marks(&self, k: usize, first: u32, end: u32) -> bool
+        requires within { k < length self.now.array.members }
+        requires chunks { end ≤ self.now.array.marks.chunks }
+        requires sound { IsConsistent self.now }
+        ensures { (m : MemberView) → IsMember self.now.array k m → (result ≡ true) ↔ HasMarksFrom first end m }
+    {
+        let array = &self.array;
+        let member = &array.members[k];
+        member.stored.is_range_marked(first, end)
+    }
+}
+
+// Whether a sector of a bitmap is stored.
+impl<D: Device + Drop> Mirror<D> {
+    /// Whether the bits of this sector of the bitmap are stored on member k as the marks in memory are, as
+    /// far as the mirror knows.
+    pub fn has_sector(&self, k: usize, block: u32) -> bool
+        requires within { k < length self.now.array.members }
+        requires block { block < bitmap_sectors self.now.array.marks.chunks }
+        requires sound { IsConsistent self.now }
+        ensures { (m : MemberView) → IsMember self.now.array k m → (result ≡ true) ↔ HasSector self.now.array block m }
+    {
+        let array = &self.array;
+        let member = &array.members[k];
+        is_alike(&array.marks, &member.stored, block)
+    }
+}
+
+// Whether two bitmaps have the same bits in a sector.
+fn is_alike(marks: &Marks, stored: &Marks, block: u32) -> bool
+    requires few { block ≤ 257 }
+    requires alike { stored.now.chunks ≡ marks.now.chunks }
+    ensures { (result ≡ true) ↔ ((c : ℕ) → block_of c ≡ block → c < marks.now.chunks → is_set stored.now.bytes c ≡ is_set marks.now.bytes c) }
+{
+    let first = (CHUNKS_OF_SECTOR * block).saturating_sub(CHUNKS_OF_HEADER);
+    let end = CHUNKS_OF_SECTOR * block + (CHUNKS_OF_SECTOR - CHUNKS_OF_HEADER);
+    for chunk in first..end.min(marks.chunks()) {
+        if stored.is_marked(chunk) != marks.is_marked(chunk) {
+            return false;
+        }
+    }
+    true
 }

@@ -18,12 +18,12 @@ use Rattle.md_assembly.proofs.Indices.{got_same, got_within}
 use Rattle.md_kept_members.specs.View.{MemberView}
 use Rattle.md_workers.specs.Queues.{OnlyRead}
 use Rattle.md_state.specs.DeviceChanges.{EachPair, IsUntouched, LeavesAsWas, StaysHonest}
-use Rattle.md_state.specs.MakingClean.{IsIdle}
+use Rattle.md_state.specs.Steps.MakeClean.{IsIdle}
 use Rattle.md_state.specs.Members.{IsAlone, IsMember}
 use Rattle.md_state.specs.Rests.{Rests}
 use Rattle.md_state.specs.View.{ArrayView, Disk, MirrorView, disk_of}
 use Rattle.md_array.specs.Consistency.{IsConsistent}
-use Rattle.md_array.specs.Lending.{AreBack, lent}
+use Rattle.md_array.specs.Steps.Lend.{AreBack, lent}
 use Rattle.md_array.specs.Worlds as worlds
 use Rattle.md_check.specs.declared.lent.Missed.{Missed}
 use Rattle.md_check.specs.declared.order.Order.{Order}

@@ -7,7 +7,7 @@ use Rattle.md_assembly.specs.States.{is_in_sync}
 use Rattle.md_kept_members.specs.View.{MemberView}
 use Rattle.md_state.specs.DeviceChanges.{EachPair}
 use Rattle.md_state.specs.DiskWrites.{AtDevice}
-use Rattle.md_state.specs.MakingClean.{HasInFlight, IsIdle}
+use Rattle.md_state.specs.Steps.MakeClean.{HasInFlight, IsIdle}
 use Rattle.md_state.specs.Members.{IsAlone, IsInSync, IsMember}
 use Rattle.md_state.specs.Rests.{Rests}
 use Rattle.md_state.specs.Trying.{Refuses, RefusesHalted}

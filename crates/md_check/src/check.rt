@@ -3,7 +3,7 @@ ghost use Rattle.std.specs.Prelude.{◌≡◌, ◌↔◌, ℕ, IfOk, MatchResult
 ghost use Rattle.std.specs.Int.{div_ceil};
 ghost use Rattle.md_bitmap.specs.Marks.{is_set};
 ghost use Rattle.md_kept_members.specs.View.{MemberView};
-ghost use Rattle.md_state.specs.MakingClean.{IsIdle};
+ghost use Rattle.md_state.specs.Steps.MakeClean.{IsIdle};
 ghost use Rattle.md_state.specs.Members.{IsAlone};
 ghost use Rattle.md_state.specs.Rests.{Rests};
 ghost use Rattle.md_array.specs.Consistency.{IsConsistent};

@@ -9,11 +9,11 @@ mod fault;
 mod lent;
 mod listed;
 mod order;
-mod reading;
 mod reader;
 mod readers;
 mod turn;
 mod window;
+mod work;
 
 pub use check::{check_array, find_mismatches};
 pub use fault::CheckFault;

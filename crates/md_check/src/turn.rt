@@ -4,7 +4,7 @@ ghost use Rattle.std.specs.List.{All};
 ghost use Rattle.md_check.specs.Readings.{HasLed, HasTurned, IsLead};
 ghost use Rattle.md_check.specs.Readers.{HasDataOnDevice};
 
-use crate::reading::{begin, work};
+use crate::work::{begin, work};
 use crate::reader::Reader;
 use crate::window::Window;
 use md_bitmap::Chunks;

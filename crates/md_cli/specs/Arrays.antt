@@ -4,12 +4,15 @@ use Rattle.std.specs.Prelude.{◌≡◌, ◌⊎◌, ◌<◌, ℕ, Bool, true, fa
 use Rattle.std.specs.Borrow.{Bor}
 use Rattle.clap.specs.Words.{Text}
 use Rattle.md_state.specs.View.{Disk, MirrorView, disk_of}
-use Rattle.md_array.specs.Opening.{IsOpenedFrom}
-use Rattle.md_array.specs.Refusals.{RefusesOpen}
+use Rattle.md_array.specs.Open.Opened.{IsOpenedFrom}
+use Rattle.md_array.specs.Open.Refusals.{RefusesOpen}
 use Rattle.md_array.specs.declared.fault.OpenFault.{OpenFault}
 use Rattle.md_array.specs.declared.fault.OpenFault.TheVariants.{MetadataFault}
 use Rattle.md_commands.specs.Output.{ShowsText}
 use Rattle.md_commands.specs.declared.source.Source.{Ghosts as SourceGhosts}
+use Rattle.md_commands.specs.Faults.{of_images}
+use Rattle.md_commands.specs.declared.fault.CommandFault.{CommandFault}
+use Rattle.md_commands.specs.declared.fault.CommandFault.TheVariants.{NoMemory, Open}
 use Rattle.md_examine.specs.declared.sink.Sink.{Ghosts as SinkGhosts}
 use Rattle.md_report.specs.SummaryReport.{summary_text}
 use Rattle.md_images.specs.declared.access.Access.{Access}
@@ -18,9 +21,6 @@ use Rattle.md_images.specs.declared.images.Images.{Ghosts as ImagesGhosts}
 use Rattle.md_images.specs.Images.{allows}
 use Rattle.md_images.specs.Taking.{ArePut, AreUnder, IsDistinct, IsThere, RefusesImages, Word, names_of}
 use Rattle.md_words.specs.Asks.{Ask, device_to_add, is_readonly}
-use Rattle.md_commands.specs.Faults.{of_images}
-use Rattle.md_commands.specs.declared.fault.CommandFault.{CommandFault}
-use Rattle.md_commands.specs.declared.fault.CommandFault.TheVariants.{NoMemory, Open}
 use Rattle.md_cli.specs.declared.notices.Notices.{Notices}
 use Rattle.md_cli.specs.Asking.{PerformsOrDeclines, Question}
 use Rattle.md_cli.specs.Holding.{NotesHeldOnJoining}

@@ -15,15 +15,15 @@ use Rattle.md_commands.specs.Removing.{HandsBack, RefusesToRemove, RemovesMember
 use Rattle.md_commands.specs.Resyncing.{RefusesToResync, ResyncsArray}
 use Rattle.md_commands.specs.Stopping.{RefusesToStop, StopsArray, StopsArrayAfter}
 use Rattle.md_commands.specs.Writing.{RefusesToWrite, WritesArray}
+use Rattle.md_commands.specs.declared.fault.CommandFault.{CommandFault}
 use Rattle.md_examine.specs.declared.sink.Sink.{Ghosts as SinkGhosts}
 use Rattle.md_images.specs.Taking.{Text}
 use Rattle.md_report.specs.CheckReport.{list_text}
-use Rattle.md_state.specs.FailingMembers.{FailsMember}
+use Rattle.md_state.specs.Steps.Fail.{FailsMember}
 use Rattle.md_state.specs.View.{Disk}
 use Rattle.md_words.specs.Asks.{Ask, assembles, details, plans, reads, checks, writes, resyncs, stops, fails, removes, adds, re_adds, rebuilds}
 use Rattle.md_words.specs.declared.form.CheckForm.{CheckForm}
 use Rattle.md_words.specs.declared.form.CheckForm.TheVariants as check_form
-use Rattle.md_commands.specs.declared.fault.CommandFault.{CommandFault}
 use Rattle.md_cli.specs.Opened.{OpenedView}
 use Rattle.md_cli.specs.Streams.{Streams}
 

@@ -10,10 +10,10 @@ ghost use Rattle.md_images.specs.Taking.{image_list, word_of};
 
 use crate::asker::Asker;
 use crate::asking::ask_first;
-use crate::laying_out::lay_out_each;
+use crate::lay_out_each::lay_out_each;
 use crate::notices::Notices;
 use crate::session::Session;
-use crate::showing::show_devices;
+use crate::show_devices::show_devices;
 use crate::sizing::sizes_of;
 use md_commands::CommandFault;
 use md_create::{CreateParams, NewMember, create};

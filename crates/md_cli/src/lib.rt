@@ -9,7 +9,7 @@ mod creating;
 mod devices;
 mod examining;
 mod json_examining;
-mod laying_out;
+mod lay_out_each;
 mod messages;
 mod missing;
 mod notices;
@@ -19,7 +19,7 @@ mod performing;
 mod raw_examining;
 mod running;
 mod session;
-mod showing;
+mod show_devices;
 mod sizing;
 mod telling;
 

@@ -11,13 +11,13 @@ use Rattle.md_device.specs.Splice.{part}
 use Rattle.md_device.proofs.Splices.{length-part, part_part}
 use Rattle.md_model.specs.Sectors.{Geometry}
 use Rattle.md_kept_members.specs.View.{MemberView}
-use Rattle.md_state.specs.CopyingData.{IsSource, Lists}
+use Rattle.md_state.specs.Steps.CopyData.{IsSource, Lists}
 use Rattle.md_state.specs.Members.{IsInSync, IsMember}
-use Rattle.md_state.specs.ReadingData.{HoldsData}
+use Rattle.md_state.specs.Steps.ReadData.{HoldsData}
 use Rattle.md_state.specs.Rests.{Rests}
 use Rattle.md_state.specs.View.{ArrayView, Disk, MirrorView, geometry_of}
 use Rattle.md_array.specs.Consistency.{IsConsistent}
-use Rattle.md_array.specs.NotingResynced.{AllAgreeAt, IsHonestMember, sector_of}
+use Rattle.md_array.specs.Steps.NoteResynced.{AllAgreeAt, IsHonestMember, sector_of}
 use Rattle.md_array.specs.Worlds.{AreHonest, world_of}
 use Rattle.md_array.proofs.Worlds.SectorCopied.{in_sync_as}
 use Rattle.md_read.specs.Unresynced.{GivesPart, IsSectorMarked, IsUnmarkedAt, PartsInTurn}

@@ -5,6 +5,7 @@ use Rattle.std.proofs.lemmas.List.Edits.{length-remove}
 use Rattle.std.proofs.lemmas.Option.{none-some, slice_get_within}
 use Rattle.md_badblocks.specs.declared.run.Run.{Run}
 use Rattle.md_bitmap.specs.declared.chunks.Chunks.{Chunks}
+use Rattle.md_bitmap.specs.Marks.{Bitmap}
 use Rattle.md_model.specs.Devices.{Stored, Super}
 use Rattle.md_model.specs.Events.{Event}
 use Rattle.md_requests.specs.Pending.{PendingView}
@@ -16,18 +17,17 @@ use Rattle.md_faults.specs.declared.step_fault.FailFault.{FailFault}
 use Rattle.md_faults.specs.declared.step_fault.FailFault.TheVariants as fail
 use Rattle.md_faults.specs.declared.step_fault.RemoveFault.{RemoveFault}
 use Rattle.md_faults.specs.declared.step_fault.RemoveFault.TheVariants as remove
-use Rattle.md_state.specs.FailingMembers.{FailsMember, RefusesFail}
-use Rattle.md_state.specs.Removing.{RefusesRemove, Removes}
+use Rattle.md_state.specs.Steps.Fail.{FailsMember, RefusesFail}
+use Rattle.md_state.specs.Steps.Remove.{RefusesRemove, Removes}
 use Rattle.md_state.specs.Requests.{AreInFlight, among, request_of}
 use Rattle.md_state.specs.Trying.{Refuses}
 use Rattle.md_state.specs.View.{ArrayView, Disk, MirrorView}
-use Rattle.md_array.specs.Adding.{Adds, RefusesAdd}
-use Rattle.md_array.specs.Enrolling.{log_writes}
+use Rattle.md_array.specs.Steps.Add.{Adds, RefusesAdd}
+use Rattle.md_array.specs.Steps.Enrol.{log_writes}
 use Rattle.md_array.specs.InTurn.{AllOf, Did, HaltsAt, Leads, Requests}
-use Rattle.md_array.specs.Listing.{AreWritten}
-use Rattle.md_bitmap.specs.Marks.{Bitmap}
-use Rattle.md_array.proofs.Steps.FailedParts.{failed_write, halting_write}
-use Rattle.md_array.proofs.Steps.Turns.{all_on, all_such}
+use Rattle.md_array.specs.Steps.StoreLog.{AreWritten}
+use Rattle.md_array.proofs.StepLemmas.FailedParts.{failed_write, halting_write}
+use Rattle.md_array.proofs.StepLemmas.Turns.{all_on, all_such}
 use Rattle.md_device_writes.specs.Writes.{Write as DiskWrite}
 use Rattle.md_laws.specs.ReadInTurn.{LeadsReading}
 use Rattle.md_metadata.specs.declared.stop_fault.StopFault.{StopFault}

@@ -11,7 +11,7 @@ use Rattle.md_metadata.specs.Going.{GoesOn, only_others}
 use Rattle.md_metadata.specs.Storing.{IsStoring}
 use Rattle.md_resync.specs.declared.fault.ResyncFault.{ResyncFault}
 use Rattle.md_state.specs.View.{Disk, MirrorView}
-use Rattle.md_array.specs.ReAdding.{ReAdds, RefusesReAdd}
+use Rattle.md_array.specs.Steps.ReAdd.{ReAdds, RefusesReAdd}
 use Rattle.md_copy.specs.declared.fault.RebuildFault.{RebuildFault}
 use Rattle.md_copy.specs.declared.fault.RebuildFault.TheVariants as rebuild
 use Rattle.md_copy.specs.declared.rebuilt.Rebuilt.{Rebuilt}

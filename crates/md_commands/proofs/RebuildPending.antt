@@ -1,14 +1,14 @@
 -- A rebuild leaves each request in flight: where there is one it is refused, and does nothing.
 use Rattle.std.proofs.Common.{◌≡◌, ⊎_elim, ℕ, Result, Ok, Err, MatchResult, sym, subst}
 use Rattle.md_requests.specs.Pending.{PendingView, extent_of}
-use Rattle.md_state.specs.MakingClean.{IsIdle}
+use Rattle.md_state.specs.Steps.MakeClean.{IsIdle}
 use Rattle.md_state.specs.Requests.{IsPending}
 use Rattle.md_state.specs.View.{ArrayView, MirrorView}
 use Rattle.md_copy.specs.declared.fault.RebuildFault.{RebuildFault}
 use Rattle.md_copy.specs.declared.fault.RebuildFault.TheVariants as rebuild
 use Rattle.md_copy.specs.declared.rebuilt.Rebuilt.{Rebuilt}
 use Rattle.md_copy.specs.Rebuilding.{Rebuilds, RefusesRebuild}
-use Rattle.md_array.proofs.Steps.MadeClean.{none_listed}
+use Rattle.md_array.proofs.StepLemmas.MakeClean.{none_listed}
 
 -- it stays one of the mirror's
 abbrev KeepsPending : MirrorView → MirrorView → PendingView → Type 0

@@ -13,17 +13,17 @@ use Rattle.md_model.proofs.Steps.TrackedCalls.{content_copied}
 use Rattle.md_model.proofs.Steps.TrackedSteps.{content_marked}
 use Rattle.md_assembly.specs.States.{takes_role}
 use Rattle.md_kept_members.specs.View.{MemberView}
-use Rattle.md_state.specs.CopyingData.{IsSource, Lists}
+use Rattle.md_state.specs.Steps.CopyData.{IsSource, Lists}
 use Rattle.md_state.specs.Members.{IsMember}
 use Rattle.md_state.specs.Requests.{AreInFlight}
 use Rattle.md_state.specs.View.{Disk, MirrorView, geometry_of}
 use Rattle.md_array.specs.Consistency.{IsConsistent}
 use Rattle.md_array.specs.InTurn.{AllOf, Did, LeftWhole, Requests}
-use Rattle.md_array.specs.NotingResynced.{sector_of}
+use Rattle.md_array.specs.Steps.NoteResynced.{sector_of}
 use Rattle.md_array.specs.Worlds.{AreHonest, lists_of, world_of}
 use Rattle.md_array.proofs.General.Honesty.{same_honest}
 use Rattle.md_array.proofs.General.Resting.{geometry_rests, rests_sound, world_rests}
-use Rattle.md_array.proofs.Steps.OneMember.{member_there, stored_there}
+use Rattle.md_array.proofs.StepLemmas.OneMember.{member_there, stored_there}
 use Rattle.md_array.proofs.Worlds.Bad.{bad_from_test}
 use Rattle.md_array.proofs.Worlds.InSync.{in_sync_is, in_sync_there, number_at}
 use Rattle.md_array.proofs.Worlds.SectorCopied.{has_role, in_sync_as, unlisted_is}

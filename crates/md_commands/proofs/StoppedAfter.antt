@@ -2,7 +2,7 @@
 use Rattle.std.proofs.Common.{ℕ, refl}
 use Rattle.std.specs.Prelude.{MatchResult, Option, Result, Ok, Err}
 use Rattle.md_examine.specs.declared.sink.Sink.{Ghosts}
-use Rattle.md_state.specs.FailingMembers.{FailsMember}
+use Rattle.md_state.specs.Steps.Fail.{FailsMember}
 use Rattle.md_state.specs.View.{Disk, MirrorView}
 use Rattle.md_commands.specs.declared.fault.CommandFault.{CommandFault}
 use Rattle.md_commands.specs.declared.fault.CommandFault.TheVariants.{Add, BadMember, Fail, Remove}

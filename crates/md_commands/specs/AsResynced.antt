@@ -2,11 +2,11 @@
 use Rattle.std.specs.Prelude.{◌≡◌, ℕ, ◌+◌, ◌/◌, ◌<◌, List, length, slice_get, Some}
 use Rattle.md_device.specs.Device.{held}
 use Rattle.md_kept_members.specs.View.{MemberView}
-use Rattle.md_state.specs.CopyingData.{IsSource, Lists}
+use Rattle.md_state.specs.Steps.CopyData.{IsSource, Lists}
 use Rattle.md_state.specs.Members.{IsMember}
 use Rattle.md_state.specs.View.{Disk, MirrorView}
 use Rattle.md_array.specs.Consistency.{IsConsistent}
-use Rattle.md_array.specs.NotingResynced.{AllAgreeAt, IsHonestMember, sector_of}
+use Rattle.md_array.specs.Steps.NoteResynced.{AllAgreeAt, IsHonestMember, sector_of}
 use Rattle.md_array.specs.Worlds.{AreHonest}
 use Rattle.md_read.specs.Reading.{Reads}
 use Rattle.md_read.specs.Unresynced.{IsSectorMarked, IsUnmarkedAt, ReadsUnresynced}

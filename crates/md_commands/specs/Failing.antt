@@ -1,7 +1,7 @@
 -- The command that fails a member.
 use Rattle.std.specs.Prelude.{◌≡◌, ℕ, ◌<◌, ◌≤◌, length}
 use Rattle.md_examine.specs.declared.sink.Sink.{Ghosts}
-use Rattle.md_state.specs.FailingMembers.{FailsMember, RefusesFail}
+use Rattle.md_state.specs.Steps.Fail.{FailsMember, RefusesFail}
 use Rattle.md_state.specs.Trying.{Refuses}
 use Rattle.md_state.specs.View.{ArrayView, MirrorView}
 use Rattle.md_commands.specs.declared.fault.CommandFault.{CommandFault}

@@ -4,7 +4,7 @@ use Rattle.md_examine.specs.declared.sink.Sink.{Ghosts}
 use Rattle.md_resync.specs.declared.fault.ResyncFault.TheVariants.{ReadFault}
 use Rattle.md_read.specs.declared.fault.UnreadFault.{UnreadFault}
 use Rattle.md_read.specs.declared.fault.UnreadFault.TheVariants.{Halted, NotResynced, OutOfRange, Unreadable}
-use Rattle.md_state.specs.Beginning.{IsInRange, IsOutOfRange}
+use Rattle.md_state.specs.Steps.Begin.{IsInRange, IsOutOfRange}
 use Rattle.md_state.specs.Members.{is_degraded}
 use Rattle.md_state.specs.Trying.{Refuses, RefusesHalted}
 use Rattle.md_state.specs.View.{ArrayView, MirrorView}

@@ -1,7 +1,7 @@
 // The command that fails a member.
 ghost use Rattle.std.specs.Prelude.{MatchResult};
 ghost use Rattle.md_requests.specs.Pending.{PendingView};
-ghost use Rattle.md_state.specs.FailingMembers.{FailsMember};
+ghost use Rattle.md_state.specs.Steps.Fail.{FailsMember};
 ghost use Rattle.md_state.specs.Requests.{IsPending};
 ghost use Rattle.md_array.specs.Consistency.{IsConsistent};
 ghost use Rattle.md_commands.specs.Failing.{RefusesFailing, RefusesToFail};

@@ -5,19 +5,19 @@ use Rattle.md_bitmap.specs.Marks.{Bitmap}
 use Rattle.md_kept_members.specs.TakingBack.{with_recovery_offset}
 use Rattle.md_kept_members.specs.View.{MemberView}
 use Rattle.md_model.specs.Content.{Content}
-use Rattle.md_state.specs.Checkpoints.{with_offset_of}
+use Rattle.md_state.specs.Steps.Checkpoint.{with_offset_of}
 use Rattle.md_state.specs.View.{MirrorView}
-use Rattle.md_array.specs.Checkpoints.{Checkpoints, MovesOffset, checkpoint_event}
+use Rattle.md_array.specs.Steps.Checkpoint.{Checkpoints, MovesOffset, checkpoint_event}
 use Rattle.md_array.specs.Consistency.{IsConsistent}
-use Rattle.md_array.specs.Enrolling.{HoldsContent}
+use Rattle.md_array.specs.Steps.Enrol.{HoldsContent}
 use Rattle.md_array.specs.Events.{Happens}
-use Rattle.md_array.specs.Recording.{Records}
+use Rattle.md_array.specs.Steps.Record.{Records}
 use Rattle.md_array.proofs.General.Indices.{at_set_same}
 use Rattle.md_array.proofs.Rebuilding.CheckpointEvent as event
 use Rattle.md_array.proofs.Rebuilding.InBetween.{recovers_rebuilt}
 use Rattle.md_array.proofs.Rebuilding.OffsetMoved.{moved_is_consistent, set_again}
-use Rattle.md_array.proofs.Steps.SuperRecorded.{record_happens}
-use Rattle.md_array.proofs.Steps.TargetUnrecorded.{rebuilt_recorded}
+use Rattle.md_array.proofs.StepLemmas.Record.{record_happens}
+use Rattle.md_array.proofs.StepLemmas.RecordTarget.{rebuilt_recorded}
 
 module _ (k : ℕ) (copied : Bitmap) (old new : MirrorView) (c : IsConsistent old) (r : Checkpoints k copied old new) (sound : IsConsistent new) where
   abbrev m : MemberView

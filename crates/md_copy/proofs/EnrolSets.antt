@@ -11,7 +11,7 @@ use Rattle.md_pass.proofs.FilteredLists.{kept}
 use Rattle.md_plan.specs.declared.planner.Planned.{Planned}
 use Rattle.md_state.specs.Members.{IsMember}
 use Rattle.md_state.specs.View.{ArrayView, MirrorView}
-use Rattle.md_array.specs.Enrolling.{Enrols, MayEnrol}
+use Rattle.md_array.specs.Steps.Enrol.{Enrols, MayEnrol}
 use Rattle.md_copy.specs.declared.fault.RebuildFault.{RebuildFault}
 use Rattle.md_copy.specs.declared.fault.RebuildFault.TheVariants.{Halted, NotSpare, Dirty, InFlight, LogFull, NoMemory, TargetFault, MetadataFault, EventsFull}
 use Rattle.md_copy.specs.declared.rebuilt.Rebuilt.{Rebuilt}

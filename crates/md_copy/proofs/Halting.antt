@@ -11,17 +11,17 @@ use Rattle.md_model.specs.Events.{Event, MemberPart}
 use Rattle.md_device_writes.specs.Writes.{Write}
 use Rattle.md_state.specs.DiskWrites.{AtDevice, IsTried}
 use Rattle.md_state.specs.Members.{IsInSync, IsMember}
-use Rattle.md_state.specs.StoringMarks.{IsMarkWrite}
+use Rattle.md_state.specs.Steps.StoreMarks.{IsMarkWrite}
 use Rattle.md_state.specs.View.{ArrayView, Disk, MirrorView}
 use Rattle.md_array.specs.Consistency.{IsConsistent}
-use Rattle.md_array.specs.Enrolling.{KeepsData}
+use Rattle.md_array.specs.Steps.Enrol.{KeepsData}
 use Rattle.md_array.specs.InTurn.{HaltsAt}
-use Rattle.md_array.specs.Recording.{super_write}
+use Rattle.md_array.specs.Steps.Record.{super_write}
+use Rattle.md_array.proofs.StepLemmas.FailedParts.{halted_then}
 use Rattle.md_metadata.specs.Storing.{IsFailureOf, IsStoring}
 use Rattle.md_copy.specs.declared.fault.RebuildFault.{RebuildFault}
 use Rattle.md_copy.specs.declared.fault.RebuildFault.TheVariants.{MetadataFault}
 use Rattle.md_copy.specs.Refused.{IsFromMarks, KeepsDataBeside, KeepsDataBut}
-use Rattle.md_array.proofs.Steps.FailedParts.{halted_then}
 use Rattle.md_copy.proofs.Refused.{Lasts}
 use Rattle.md_copy.proofs.StoringKeeps.{beside_super_of, places_of}
 

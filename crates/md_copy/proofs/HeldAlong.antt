@@ -14,11 +14,11 @@ use Rattle.md_model.proofs.Cases.{below-nat_lt}
 use Rattle.md_state.specs.Members.{IsInSync}
 use Rattle.md_state.specs.View.{Disk, MirrorView, geometry_of}
 use Rattle.md_array.specs.Consistency.{IsConsistent}
-use Rattle.md_array.specs.Enrolling.{HoldsContent}
+use Rattle.md_array.specs.Steps.Enrol.{HoldsContent}
 use Rattle.md_array.specs.Events.{Does}
 use Rattle.md_array.specs.InTurn.{AllOf, Leads, Requests}
 use Rattle.md_array.specs.Worlds.{AreHonest, is_listed, none_in_flight, stored_of, world_of}
-use Rattle.md_array.proofs.Steps.OneMember.{stored_there}
+use Rattle.md_array.proofs.StepLemmas.OneMember.{stored_there}
 use Rattle.md_array.proofs.Worlds.InSync.{in_sync_is, in_sync_there, number_at}
 use Rattle.md_metadata.specs.Storing.{IsNoFailure, IsStoring}
 use Rattle.md_copy.specs.Storing.{StoresFirst}

@@ -10,9 +10,9 @@ use Rattle.md_model.specs.Content.{Content}
 use Rattle.md_model.proofs.Cases.{by_test}
 use Rattle.md_state.specs.Members.{IsMember}
 use Rattle.md_state.specs.View.{Disk, MirrorView}
-use Rattle.md_array.specs.Checkpoints.{MayCheckpoint}
+use Rattle.md_array.specs.Steps.Checkpoint.{MayCheckpoint}
 use Rattle.md_array.specs.Consistency.{IsConsistent}
-use Rattle.md_array.specs.Enrolling.{HoldsContent, HoldsCopied}
+use Rattle.md_array.specs.Steps.Enrol.{HoldsContent, HoldsCopied}
 use Rattle.md_array.specs.Worlds.{AreHonest, is_listed}
 use Rattle.md_copy.specs.Held.{IsHeld}
 use Rattle.md_copy.specs.Ready.{IsReadyToCopy, IsRecordable}

@@ -20,13 +20,13 @@ use Rattle.md_kept_members.specs.TakingBack.{with_recovery_offset}
 use Rattle.md_kept_members.specs.View.{MemberView}
 use Rattle.md_model.specs.Rebuilding.{lacks}
 use Rattle.md_model.specs.Sectors.{is_passed}
-use Rattle.md_state.specs.Checkpoints.{EndsCheckpoint}
+use Rattle.md_state.specs.Steps.Checkpoint.{EndsCheckpoint}
 use Rattle.md_state.specs.Members.{IsMember}
 use Rattle.md_state.specs.Missing.{has_passed, is_missing}
 use Rattle.md_state.specs.View.{ArrayView, Disk, MirrorView, geometry_of}
-use Rattle.md_array.specs.Checkpoints.{Checkpoints}
+use Rattle.md_array.specs.Steps.Checkpoint.{Checkpoints}
 use Rattle.md_array.specs.Consistency.{IsConsistent}
-use Rattle.md_array.specs.Enrolling.{KeepsData}
+use Rattle.md_array.specs.Steps.Enrol.{KeepsData}
 use Rattle.md_array.proofs.General.Indices.{at_set_same, got_other}
 use Rattle.md_copy.specs.Held.{AreHeld, IsHeld}
 use Rattle.md_copy.proofs.Sectors.{chunk_within, same_chunk}

@@ -5,7 +5,7 @@ use Rattle.md_bitmap.specs.Marks.{Bitmap, is_set}
 use Rattle.md_faults.specs.declared.enrol_fault.TargetFault.{TargetFault as TargetFaults}
 use Rattle.md_faults.specs.declared.enrol_fault.TargetFault.TheVariants.{Halted, TargetFault}
 use Rattle.md_state.specs.View.{MirrorView}
-use Rattle.md_array.specs.Checkpoints.{MayCheckpoint, RefusesCheckpoint}
+use Rattle.md_array.specs.Steps.Checkpoint.{MayCheckpoint, RefusesCheckpoint}
 use Rattle.md_array.specs.Consistency.{IsConsistent}
 use Rattle.md_copy.specs.Held.{AreHeld}
 use Rattle.md_copy.specs.Leaving.{RecordsAtEnd}

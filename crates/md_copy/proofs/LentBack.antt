@@ -13,15 +13,15 @@ use Rattle.md_device.specs.Splice.{part}
 use Rattle.md_device.specs.declared.device.Device.{Ghosts}
 use Rattle.md_kept_members.specs.View.{MemberView}
 use Rattle.md_pass.specs.Beside.{KeepsBeside, has_chunk}
-use Rattle.md_workers.specs.Queues.{AreOnlyRead, OnlyRead}
 use Rattle.md_pass.specs.Sources.{copy_of}
-use Rattle.md_state.specs.MakingClean.{IsIdle}
+use Rattle.md_workers.specs.Queues.{AreOnlyRead, OnlyRead}
+use Rattle.md_state.specs.Steps.MakeClean.{IsIdle}
 use Rattle.md_state.specs.Members.{IsMember}
 use Rattle.md_state.specs.Missing as state
 use Rattle.md_state.specs.Missing.{is_rebuilt}
 use Rattle.md_state.specs.View.{ArrayView, Disk, MirrorView, disk_of, of_disks}
 use Rattle.md_array.specs.Consistency.{IsConsistent}
-use Rattle.md_array.specs.Lending.{AreBack, ComesBackFromLoan, lent}
+use Rattle.md_array.specs.Steps.Lend.{AreBack, ComesBackFromLoan, lent}
 use Rattle.md_copy.specs.Filling.{IsFilling}
 use Rattle.md_copy.specs.RebuildSources.{IsPlanOf}
 use Rattle.md_copy.proofs.Carried.{others_read, seen, target_kept}

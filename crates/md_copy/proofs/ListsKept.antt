@@ -19,13 +19,13 @@ use Rattle.md_model.specs.Events.{Event}
 use Rattle.md_passes.specs.Passes.{PassView, failed_chunks, slots_of_pass}
 use Rattle.md_state.specs.Members.{IsMember}
 use Rattle.md_state.specs.View.{ArrayView, Disk, MirrorView}
-use Rattle.md_array.specs.Checkpoints.{Checkpoints}
+use Rattle.md_array.specs.Steps.Checkpoint.{Checkpoints}
 use Rattle.md_array.specs.Consistency.{IsConsistent}
 use Rattle.md_array.specs.InTurn.{Leads}
-use Rattle.md_array.specs.Recording.{super_write}
+use Rattle.md_array.specs.Steps.Record.{super_write}
 use Rattle.md_array.proofs.General.Indices.{at_map, at_set_same, got_other}
 use Rattle.md_array.proofs.Rebuilding.MemberEnrolled.{holds_enrolled, lists_now}
-use Rattle.md_array.proofs.Steps.SuperRecorded.{listed_written}
+use Rattle.md_array.proofs.StepLemmas.Record.{listed_written}
 use Rattle.md_metadata.specs.Going.{GoesOn, only_others}
 use Rattle.md_metadata.specs.Storing.{IsStoring}
 use Rattle.md_copy.specs.declared.rebuilt.Rebuilt.{Rebuilt}

@@ -27,24 +27,24 @@ use Rattle.md_super.specs.Merge.{merged}
 use Rattle.md_device_writes.specs.Writes.{Write}
 use Rattle.md_state.specs.DiskWrites.{IsTried, IsWritten}
 use Rattle.md_state.specs.Members.{IsMember}
-use Rattle.md_state.specs.NotingBad.{logged}
-use Rattle.md_state.specs.Rising.{Fails, made_faulty}
-use Rattle.md_state.specs.StoringMarks.{StoresMarkSector}
+use Rattle.md_state.specs.Steps.StoreLog.{logged}
+use Rattle.md_state.specs.Steps.Rise.{Fails, made_faulty}
+use Rattle.md_state.specs.Steps.StoreMarks.{StoresMarkSector}
 use Rattle.md_state.specs.View.{ArrayView, Disk, MirrorView}
 use Rattle.md_array.specs.Consistency.{IsConsistent}
 use Rattle.md_array.specs.InTurn.{AllOf, Did, IsInOrder, Leads, Requests}
-use Rattle.md_array.specs.Listing.{AreWritten, StoresLog}
-use Rattle.md_array.specs.Recording.{IsReadable, Records, super_write}
+use Rattle.md_array.specs.Steps.StoreLog.{AreWritten, StoresLog}
+use Rattle.md_array.specs.Steps.Record.{IsReadable, Records, super_write}
 use Rattle.md_array.specs.Worlds.{block_on, sector_from_super, is_listed_next}
 use Rattle.md_array.proofs.General.Indices.{at_set_same, got_other}
 use Rattle.md_array.proofs.General.Replaced.{of_set}
 use Rattle.md_array.proofs.Rebuilding.LogListed.{listed_logged}
-use Rattle.md_array.proofs.Rebuilding.LogStored.{log_of, logged_is_consistent}
+use Rattle.md_array.proofs.Rebuilding.StoreLog.{log_of, logged_is_consistent}
 use Rattle.md_array.proofs.Rebuilding.MemberStored.{log_long}
-use Rattle.md_array.proofs.Steps.AfterFailure.{failed_is_consistent}
-use Rattle.md_array.proofs.Steps.FailedParts.{failed_write}
-use Rattle.md_array.proofs.Steps.MarkSectors.{marks_stored_is_consistent}
-use Rattle.md_array.proofs.Steps.SuperRecorded.{recorded_is_consistent}
+use Rattle.md_array.proofs.StepLemmas.AfterFailure.{failed_is_consistent}
+use Rattle.md_array.proofs.StepLemmas.FailedParts.{failed_write}
+use Rattle.md_array.proofs.StepLemmas.StoreMarks.{marks_stored_is_consistent}
+use Rattle.md_array.proofs.StepLemmas.Record.{recorded_is_consistent}
 use Rattle.md_array.proofs.Worlds.Device.{fits_on}
 use Rattle.md_array.proofs.Worlds.Listed.{IsLogKept, listed_alike, listed_as_next, next_kept}
 use Rattle.md_array.proofs.Worlds.Outside.{sector_at_is, starts_at}

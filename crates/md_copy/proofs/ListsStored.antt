@@ -23,9 +23,9 @@ use Rattle.md_model.specs.Events.{Event, MemberPart}
 use Rattle.md_super.specs.declared.superblock.Superblock.{Superblock}
 use Rattle.md_state.specs.DiskWrites.{AtDevice}
 use Rattle.md_state.specs.Members.{AllInSync, IsInSync, IsMember}
-use Rattle.md_state.specs.Rising.{HasSpentEvents}
+use Rattle.md_state.specs.Steps.Rise.{HasSpentEvents}
 use Rattle.md_state.specs.View.{ArrayView, MirrorView}
-use Rattle.md_state.specs.WritingMember.{IsNotDue}
+use Rattle.md_state.specs.Steps.WriteMember.{IsNotDue}
 use Rattle.md_array.specs.Consistency.{IsConsistent}
 use Rattle.md_array.specs.InTurn.{AllOf, Leads}
 use Rattle.md_array.proofs.General.Indices.{got_other}

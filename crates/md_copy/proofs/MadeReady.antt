@@ -8,9 +8,9 @@ use Rattle.md_kept_members.specs.TakingBack.{admitted_member}
 use Rattle.md_kept_members.specs.View.{MemberView}
 use Rattle.md_state.specs.Members.{IsMember}
 use Rattle.md_state.specs.Missing.{is_rebuilt}
-use Rattle.md_state.specs.Rising.{HasSpentEvents}
+use Rattle.md_state.specs.Steps.Rise.{HasSpentEvents}
 use Rattle.md_state.specs.View.{MirrorView}
-use Rattle.md_array.specs.Admitting.{Admits}
+use Rattle.md_array.specs.Steps.Admit.{Admits}
 use Rattle.md_array.specs.Consistency.{IsConsistent}
 use Rattle.md_array.proofs.Rebuilding.InBetween.{recovers_rebuilt}
 use Rattle.md_copy.specs.declared.fault.RebuildFault.{RebuildFault}

@@ -17,7 +17,7 @@ use Rattle.md_state.specs.Requests.{IsPending}
 use Rattle.md_state.specs.View.{ArrayView, MirrorView}
 use Rattle.md_array.specs.Consistency.{IsConsistent}
 use Rattle.md_array.specs.Events.{Happens}
-use Rattle.md_array.specs.Listing.{IsBelowListLimit, NotesChunk, RefusesChunk}
+use Rattle.md_array.specs.Steps.NoteBad.{IsBelowListLimit, NotesChunk, RefusesChunk}
 use Rattle.md_array.proofs.General.Replaced.{of_set}
 use Rattle.md_metadata.specs.Going.{only_others}
 use Rattle.md_metadata.proofs.Going.{goes_nowhere, goes_on, goes_step}

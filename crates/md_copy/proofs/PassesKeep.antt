@@ -19,8 +19,8 @@ use Rattle.md_passes.specs.Passes.{PassView, failed_chunks}
 use Rattle.md_state.specs.DiskWrites.{AtDevice}
 use Rattle.md_state.specs.Members.{IsMember}
 use Rattle.md_state.specs.View.{ArrayView, Disk, MirrorView}
-use Rattle.md_array.specs.Enrolling.{KeepsData}
-use Rattle.md_array.specs.Lending.{IsBesideChunk}
+use Rattle.md_array.specs.Steps.Enrol.{KeepsData}
+use Rattle.md_array.specs.Steps.Lend.{IsBesideChunk}
 use Rattle.md_copy.specs.Passing.{AreListedPasses, CopiesAll, ListsPass, RecordsPass}
 use Rattle.md_copy.specs.Rebuilt.{failed_of}
 use Rattle.md_copy.specs.Sources.{missing_chunks}

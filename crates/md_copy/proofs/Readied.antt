@@ -7,14 +7,14 @@ use Rattle.md_assembly.specs.States.{is_in_sync, is_recorded, is_recovering, is_
 use Rattle.md_bitmap.specs.Marks.{Bitmap, is_set}
 use Rattle.md_kept_members.specs.TakingBack.{admitted_member}
 use Rattle.md_kept_members.specs.View.{MemberView}
-use Rattle.md_state.specs.MakingClean.{first_number}
+use Rattle.md_state.specs.Steps.MakeClean.{first_number}
 use Rattle.md_state.specs.Members.{IsMember}
 use Rattle.md_state.specs.Missing.{is_rebuilt}
-use Rattle.md_state.specs.Rising.{HasSpentEvents}
+use Rattle.md_state.specs.Steps.Rise.{HasSpentEvents}
 use Rattle.md_state.specs.View.{ArrayView, MirrorView}
-use Rattle.md_array.specs.Admitting.{Admits}
-use Rattle.md_array.specs.NotingResynced.{AreNoted}
-use Rattle.md_array.proofs.Rebuilding.AdmittedEvent.{admitted_at}
+use Rattle.md_array.specs.Steps.Admit.{Admits}
+use Rattle.md_array.specs.Steps.NoteResynced.{AreNoted}
+use Rattle.md_array.proofs.Rebuilding.AdmitEvent.{admitted_at}
 use Rattle.md_metadata.specs.Storing.{StaysReady}
 use Rattle.md_metadata.proofs.Going.{same_state}
 use Rattle.md_copy.specs.Beginning.{MayBeginRebuild, rises}

@@ -10,19 +10,19 @@ use Rattle.md_kept_members.specs.Members.{made_due}
 use Rattle.md_kept_members.specs.View.{MemberView}
 use Rattle.md_model.specs.Events.{Event, MemberPart}
 use Rattle.md_model.specs.Sectors.{block_of}
-use Rattle.md_state.specs.MakingClean.{first_number}
+use Rattle.md_state.specs.Steps.MakeClean.{first_number}
 use Rattle.md_state.specs.Members.{AllInSync, IsInSync, IsMember}
-use Rattle.md_state.specs.NotingBad.{logged}
-use Rattle.md_state.specs.Rising.{Fails, made_faulty}
+use Rattle.md_state.specs.Steps.StoreLog.{logged}
+use Rattle.md_state.specs.Steps.Rise.{Fails, made_faulty}
 use Rattle.md_state.specs.View.{ArrayView, MirrorView}
-use Rattle.md_state.specs.WritingMember.{IsNotDue}
-use Rattle.md_array.specs.Checkpoints.{Checkpoints}
+use Rattle.md_state.specs.Steps.WriteMember.{IsNotDue}
+use Rattle.md_array.specs.Steps.Checkpoint.{Checkpoints}
 use Rattle.md_array.specs.Consistency.{IsConsistent}
 use Rattle.md_array.specs.InTurn.{AllOf, Did, Leads, Requests}
-use Rattle.md_array.specs.NotingResynced.{AreNoted}
+use Rattle.md_array.specs.Steps.NoteResynced.{AreNoted}
 use Rattle.md_array.proofs.General.Indices.{at_map}
 use Rattle.md_array.proofs.General.Replaced.{of_set}
-use Rattle.md_array.proofs.Steps.FailedParts.{failed_write}
+use Rattle.md_array.proofs.StepLemmas.FailedParts.{failed_write}
 use Rattle.md_metadata.specs.Going.{IsSameArray}
 use Rattle.md_metadata.specs.Storing.{FailsAtLast, IsFailureOf, IsNoFailure, IsStoring, LosesStoring}
 use Rattle.md_copy.specs.Listing.{ChangesListAlone, IsStoringList, ListsAll, NotesLists}

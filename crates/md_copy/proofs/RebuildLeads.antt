@@ -16,26 +16,26 @@ use Rattle.md_passes.specs.Passes.{PassView, failed_chunks, slots_of_pass}
 use Rattle.md_inflight.specs.Inflight.{InflightList, lookup}
 use Rattle.md_requests.specs.Pending.{PendingView}
 use Rattle.md_requests.specs.declared.extent.Extent.{Extent}
-use Rattle.md_state.specs.MakingClean.{IsIdle}
+use Rattle.md_state.specs.Steps.MakeClean.{IsIdle}
 use Rattle.md_state.specs.Members.{IsMember}
 use Rattle.md_state.specs.Missing.{is_rebuilt}
 use Rattle.md_state.specs.Requests.{AreInFlight, IsPending}
 use Rattle.md_state.specs.View.{ArrayView, MirrorView}
-use Rattle.md_array.specs.Admitting.{admit_event}
-use Rattle.md_array.specs.Checkpoints.{Checkpoints, checkpoint_event}
+use Rattle.md_array.specs.Steps.Admit.{admit_event}
+use Rattle.md_array.specs.Steps.Checkpoint.{Checkpoints, checkpoint_event}
 use Rattle.md_array.specs.Consistency.{IsConsistent}
-use Rattle.md_array.specs.Enrolling.{Enrols}
-use Rattle.md_array.specs.Enrolments.{enrol_event}
+use Rattle.md_array.specs.Steps.Enrol.{Enrols}
+use Rattle.md_array.specs.Steps.EnrolEvents.{enrol_event}
 use Rattle.md_array.specs.Events.{Does, IsChangedAlone, IsSameBesideMissing, listed_on}
-use Rattle.md_array.specs.Filling as array
+use Rattle.md_array.specs.Steps.GiveBack as array
 use Rattle.md_array.specs.InTurn.{AllOf, Did, InTurn, IsInOrder, Leads, LeftWhole, Requests}
 use Rattle.md_array.specs.Worlds.{AreHonest, lists_of}
-use Rattle.md_array.proofs.Rebuilding.AdmittedEvent.{admit_happens, admitted_is_pending}
+use Rattle.md_array.proofs.Rebuilding.AdmitEvent.{admit_happens, admitted_is_pending}
 use Rattle.md_array.proofs.Rebuilding.EnrolUnstored.{idle_pending}
-use Rattle.md_array.proofs.Rebuilding.EnrolledEvent.{enrol_leads}
+use Rattle.md_array.proofs.Rebuilding.EnrolEvent.{enrol_leads}
 use Rattle.md_array.proofs.Rebuilding.FilledEvent.{fill_happens}
 use Rattle.md_array.proofs.Rebuilding.InBetween.{recovers_rebuilt}
-use Rattle.md_array.proofs.Steps.Turns.{all_on, all_such, turn_on, turn_then}
+use Rattle.md_array.proofs.StepLemmas.Turns.{all_on, all_such, turn_on, turn_then}
 use Rattle.md_metadata.specs.Going.{GoesOn, LeadsBy, only_others}
 use Rattle.md_metadata.proofs.Going.{recording_stores}
 use Rattle.md_metadata.specs.Storing.{IsStoring}

@@ -21,7 +21,7 @@ use Rattle.md_state.specs.Missing.{is_missing}
 use Rattle.md_state.specs.View.{ArrayView, MirrorView}
 use Rattle.md_array.specs.Consistency.{IsConsistent}
 use Rattle.md_array.specs.InTurn.{HaltsAt}
-use Rattle.md_array.proofs.Steps.FailedParts.{halting_write}
+use Rattle.md_array.proofs.StepLemmas.FailedParts.{halting_write}
 use Rattle.md_copy.specs.declared.rebuilt.Rebuilt.{Rebuilt}
 use Rattle.md_copy.specs.Filling.{CountsFailed}
 use Rattle.md_copy.specs.Preparing.{is_in}

@@ -24,15 +24,15 @@ use Rattle.md_kept_members.specs.View.{MemberView}
 use Rattle.md_model.specs.Content.{Content}
 use Rattle.md_model.proofs.Cases.{by_test}
 use Rattle.md_pass.proofs.FilteredLists.{kept}
-use Rattle.md_passes.proofs.ArrayPasses.{fewer, others, passes_end}
 use Rattle.md_pass.specs.Readings.{is_of}
+use Rattle.md_passes.proofs.ArrayPasses.{fewer, others, passes_end}
 use Rattle.md_passes.specs.Listed.{AreAllArrayPasses, AreCopiedBy, ArrayPasses, IsOfFailed, ListsFailed, ListsOwn, ServesAs}
 use Rattle.md_state.specs.DiskWrites.{AtDevice}
 use Rattle.md_state.specs.Members.{IsInSync, IsMember}
 use Rattle.md_state.specs.Missing.{is_missing}
 use Rattle.md_state.specs.View.{ArrayView, Disk, MirrorView, of_disks}
 use Rattle.md_array.specs.Consistency.{IsConsistent}
-use Rattle.md_array.specs.Enrolling.{HoldsContent, KeepsData}
+use Rattle.md_array.specs.Steps.Enrol.{HoldsContent, KeepsData}
 use Rattle.md_array.specs.Worlds.{AreHonest, is_listed}
 use Rattle.md_array.proofs.General.Indices.{at_set_same, got_in_map, got_other}
 use Rattle.md_metadata.specs.Going.{GoesOn, only_others}

@@ -16,11 +16,11 @@ use Rattle.md_cert.specs.declared.slots.Slot.{Slot}
 use Rattle.md_kept_members.specs.Permitting.{ListsAny}
 use Rattle.md_kept_members.specs.View.{MemberView}
 use Rattle.md_passes.specs.Passes.{PassView, failed_chunks, slots_of_pass}
-use Rattle.md_state.specs.Checkpoints.{IsFirstEnd, EndsCheckpoint}
+use Rattle.md_state.specs.Steps.Checkpoint.{IsFirstEnd, EndsCheckpoint}
 use Rattle.md_state.specs.Members.{IsMember}
 use Rattle.md_state.specs.Missing.{has_passed, is_missing}
 use Rattle.md_state.specs.View.{ArrayView, MirrorView}
-use Rattle.md_array.specs.Checkpoints.{Checkpoints}
+use Rattle.md_array.specs.Steps.Checkpoint.{Checkpoints}
 use Rattle.md_array.specs.Consistency.{IsConsistent}
 use Rattle.md_copy.specs.Preparing.{IsSubset}
 use Rattle.md_copy.specs.Refused.{IsRebuiltTo, rebuilt_offset}

@@ -21,9 +21,9 @@ use Rattle.md_state.specs.Missing.{is_missing}
 use Rattle.md_state.specs.View.{ArrayView, Disk, MirrorView, of_disks}
 use Rattle.md_super.specs.declared.superblock.Superblock.{Superblock}
 use Rattle.md_array.specs.Consistency.{IsConsistent}
-use Rattle.md_array.specs.Enrolling.{KeepsData}
-use Rattle.md_array.specs.Lending.{IsBesideChunk, IsBesideMissing}
-use Rattle.md_array.specs.Recording.{super_write}
+use Rattle.md_array.specs.Steps.Enrol.{KeepsData}
+use Rattle.md_array.specs.Steps.Lend.{IsBesideChunk, IsBesideMissing}
+use Rattle.md_array.specs.Steps.Record.{super_write}
 use Rattle.md_copy.specs.Filling.{CountsFailed}
 use Rattle.md_copy.specs.declared.fault.RebuildFault.{RebuildFault}
 use Rattle.md_copy.specs.declared.fault.RebuildFault.TheVariants.{MetadataFault}

@@ -10,29 +10,29 @@ use Rattle.md_kept_members.specs.View.{MemberView}
 use Rattle.md_model.specs.Events.{Event}
 use Rattle.md_passes.specs.Listed.{IsArrayPass}
 use Rattle.md_passes.specs.Passes.{PassView, slots_of_pass}
-use Rattle.md_state.specs.Admitting.{admitted}
+use Rattle.md_state.specs.Steps.Admit.{admitted}
 use Rattle.md_state.specs.Members.{IsMember}
 use Rattle.md_state.specs.Missing.{is_rebuilt}
 use Rattle.md_state.specs.Requests.{IsPending}
 use Rattle.md_state.specs.View.{ArrayView, MirrorView}
-use Rattle.md_array.specs.Checkpoints.{FailsToCheckpoint, checkpoint_event}
+use Rattle.md_array.specs.Steps.Checkpoint.{FailsToCheckpoint, checkpoint_event}
 use Rattle.md_array.specs.Consistency.{IsConsistent}
-use Rattle.md_array.specs.Enrolling.{FailsToEnrol}
-use Rattle.md_array.specs.Enrolments.{FailsAtSuper}
+use Rattle.md_array.specs.Steps.Enrol.{FailsToEnrol}
+use Rattle.md_array.specs.Steps.EnrolEvents.{FailsAtSuper}
 use Rattle.md_array.specs.Events.{listed_on}
 use Rattle.md_array.specs.InTurn.{AllOf}
-use Rattle.md_array.specs.RecordingTarget as array_target
+use Rattle.md_array.specs.Steps.RecordTarget as array_target
 use Rattle.md_array.specs.Spoiling.{SpoilsTarget}
-use Rattle.md_array.proofs.Rebuilding.AdmitAnswered.{admit_spoils}
-use Rattle.md_array.proofs.Rebuilding.CheckpointAnswered.{checkpoint_spoils}
+use Rattle.md_array.proofs.Rebuilding.Admit.{admit_spoils}
+use Rattle.md_array.proofs.Rebuilding.Checkpoint.{checkpoint_spoils}
 use Rattle.md_array.proofs.Rebuilding.EnrolSpoils.{unenrol_leads}
 use Rattle.md_array.proofs.Rebuilding.InBetween.{recovers_rebuilt}
 use Rattle.md_array.proofs.Rebuilding.PreparedEvent.{prepare_happens}
 use Rattle.md_array.proofs.Rebuilding.SpoiledEvent.{spoil_happens}
-use Rattle.md_array.proofs.Rebuilding.TargetEvent.{target_fails_happens}
+use Rattle.md_array.proofs.Rebuilding.RecordTargetEvent.{target_fails_happens}
 use Rattle.md_array.proofs.Rebuilding.TargetLeft.{left_happens}
-use Rattle.md_array.proofs.Steps.FailedParts.{halted_then}
-use Rattle.md_array.proofs.Steps.Turns.{all_on}
+use Rattle.md_array.proofs.StepLemmas.FailedParts.{halted_then}
+use Rattle.md_array.proofs.StepLemmas.Turns.{all_on}
 use Rattle.md_metadata.specs.Storing.{FailsAtLast, IsFailureOf}
 use Rattle.md_copy.specs.declared.fault.RebuildFault.{RebuildFault}
 use Rattle.md_copy.specs.declared.fault.RebuildFault.TheVariants.{Halted, NotSpare, Dirty, InFlight, LogFull, NoMemory, TargetFault, MetadataFault, EventsFull}

@@ -7,8 +7,11 @@ use Rattle.std.proofs.lemmas.Option.{same_Some, slice_get_within}
 use Rattle.md_assembly.proofs.Indices.{got_within}
 use Rattle.md_assembly.specs.declared.state.MemberState.{MemberState}
 use Rattle.md_assembly.specs.declared.state.MemberState.TheVariants.{InSync, Recovering, Stale, Spare, Faulty}
-use Rattle.md_array.proofs.Worlds.States.{in_sync_recorded}
 use Rattle.md_assembly.specs.States.{is_in_sync, is_in_sync_as, is_recorded, is_recovering, is_spare}
+use Rattle.md_array.proofs.Worlds.States.{in_sync_recorded}
+use Rattle.md_array.specs.Consistency.{IsConsistent}
+use Rattle.md_array.specs.Steps.Enrol.{KeepsData}
+use Rattle.md_array.specs.Steps.Lend.{IsBesideMissing}
 use Rattle.md_badblocks.specs.declared.run.Run.{Run}
 use Rattle.md_badblocks.specs.Runs.{IsBad}
 use Rattle.md_bitmap.specs.Marks.{Bitmap, is_set}
@@ -27,13 +30,10 @@ use Rattle.md_passes.proofs.Listing.{lists_add}
 use Rattle.md_passes.specs.Listed.{AreCopiedBy, IsArrayPass, IsOfFailed, ListsFailed, MayServe, ServesAs, most_failures}
 use Rattle.md_passes.specs.Passes.{PassCopies, PassView, ServesAtMost, failed_chunks, slots_of_pass}
 use Rattle.md_state.specs.DiskWrites.{AtDevice}
-use Rattle.md_state.specs.Enrolling.{HasFullLog}
+use Rattle.md_state.specs.Steps.Enrol.{HasFullLog}
 use Rattle.md_state.specs.Members.{IsInSync, IsMember}
 use Rattle.md_state.specs.Missing.{has_passed, is_missing}
 use Rattle.md_state.specs.View.{ArrayView, Disk, MirrorView, of_disks}
-use Rattle.md_array.specs.Consistency.{IsConsistent}
-use Rattle.md_array.specs.Enrolling.{KeepsData}
-use Rattle.md_array.specs.Lending.{IsBesideMissing}
 use Rattle.md_metadata.specs.Storing.{IsStoring, Stores}
 use Rattle.md_copy.specs.declared.fault.RebuildFault.{RebuildFault}
 use Rattle.md_copy.specs.declared.fault.RebuildFault.TheVariants.{Halted, NotSpare, Dirty, InFlight, LogFull, NoMemory, TargetFault, MetadataFault, EventsFull}

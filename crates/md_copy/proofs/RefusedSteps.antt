@@ -17,16 +17,16 @@ use Rattle.md_kept_members.specs.View.{MemberView}
 use Rattle.md_pass.specs.Readings.{is_of}
 use Rattle.md_passes.specs.Listed.{IsOfFailed}
 use Rattle.md_model.specs.Rebuilding.{lacks}
-use Rattle.md_state.specs.Admitting.{admitted}
+use Rattle.md_state.specs.Steps.Admit.{admitted}
 use Rattle.md_state.specs.DiskWrites.{IsTried}
 use Rattle.md_state.specs.Members.{IsInSync, IsMember}
 use Rattle.md_state.specs.Missing.{is_missing}
 use Rattle.md_state.specs.View.{ArrayView, Disk, MirrorView}
-use Rattle.md_array.specs.Checkpoints.{Checkpoints, FailsToCheckpoint}
+use Rattle.md_array.specs.Steps.Checkpoint.{Checkpoints, FailsToCheckpoint}
 use Rattle.md_array.specs.Consistency.{IsConsistent}
-use Rattle.md_array.specs.Enrolling.{FailsToEnrol, KeepsData}
-use Rattle.md_array.specs.Recording.{super_write}
-use Rattle.md_array.proofs.Steps.FailedParts.{halted_array, halted_then}
+use Rattle.md_array.specs.Steps.Enrol.{FailsToEnrol, KeepsData}
+use Rattle.md_array.specs.Steps.Record.{super_write}
+use Rattle.md_array.proofs.StepLemmas.FailedParts.{halted_array, halted_then}
 use Rattle.md_super.specs.declared.superblock.Superblock.{Superblock}
 use Rattle.md_metadata.specs.Storing.{IsStoring, StaysReady, Stores}
 use Rattle.md_copy.specs.Beginning.{MayBeginRebuild}

@@ -14,9 +14,9 @@ use Rattle.md_kept_members.specs.View.{MemberView}
 use Rattle.md_passes.specs.Listed.{IsOfFailed}
 use Rattle.md_state.specs.Members.{IsMember}
 use Rattle.md_state.specs.View.{ArrayView, Disk, MirrorView}
-use Rattle.md_array.specs.Checkpoints.{Checkpoints, FailsToCheckpoint}
+use Rattle.md_array.specs.Steps.Checkpoint.{Checkpoints, FailsToCheckpoint}
 use Rattle.md_array.specs.Consistency.{IsConsistent}
-use Rattle.md_array.specs.Enrolling.{FailsToEnrol}
+use Rattle.md_array.specs.Steps.Enrol.{FailsToEnrol}
 use Rattle.md_array.specs.ReadAsKept.{IsSuperOn}
 use Rattle.md_array.specs.Worlds.{is_listed}
 use Rattle.md_copy.specs.Filling.{IsFilling}

@@ -14,8 +14,8 @@ use Rattle.md_model.specs.Content.{Content}
 use Rattle.md_state.specs.Members.{IsMember}
 use Rattle.md_state.specs.Missing.{is_missing}
 use Rattle.md_state.specs.View.{Disk, MirrorView}
-use Rattle.md_array.specs.Enrolling.{HoldsContent, KeepsData}
-use Rattle.md_array.specs.Lending.{IsBesideChunk}
+use Rattle.md_array.specs.Steps.Enrol.{HoldsContent, KeepsData}
+use Rattle.md_array.specs.Steps.Lend.{IsBesideChunk}
 use Rattle.md_array.specs.Worlds.{AreHonest}
 use Rattle.md_copy.specs.Rebuilt.{IsBesideCopied, IsRebuilt, IsServedThen}
 

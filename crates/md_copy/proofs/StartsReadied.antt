@@ -19,13 +19,13 @@ use Rattle.md_model.specs.Rebuilding.{lacks}
 use Rattle.md_state.specs.Members.{IsMember}
 use Rattle.md_state.specs.Missing.{has_passed, is_missing}
 use Rattle.md_state.specs.View.{ArrayView, Disk, MirrorView}
-use Rattle.md_array.specs.Admitting.{Admits, admit_event}
+use Rattle.md_array.specs.Steps.Admit.{Admits, admit_event}
 use Rattle.md_array.specs.Consistency.{IsConsistent}
-use Rattle.md_array.specs.Enrolling.{HoldsContent, KeepsData}
+use Rattle.md_array.specs.Steps.Enrol.{HoldsContent, KeepsData}
 use Rattle.md_array.specs.Worlds.{AreHonest, none_in_flight}
 use Rattle.md_array.proofs.General.Indices.{at_map, got_in_map, got_other}
 use Rattle.md_array.proofs.General.Replaced.{of_set}
-use Rattle.md_array.proofs.Rebuilding.AdmittedEvent.{admit_happens, admitted_at}
+use Rattle.md_array.proofs.Rebuilding.AdmitEvent.{admit_happens, admitted_at}
 use Rattle.md_metadata.specs.Storing.{AllStayReady, StaysReady}
 use Rattle.md_copy.specs.Beginning.{MayBeginRebuild}
 use Rattle.md_copy.specs.Readying.{AdmitsFirst, Readies}

@@ -13,14 +13,14 @@ use Rattle.md_requests.specs.Pending.{PendingView}
 use Rattle.md_state.specs.Members.{AllInSync, IsInSync, IsMember}
 use Rattle.md_state.specs.Missing.{is_rebuilt}
 use Rattle.md_state.specs.Requests.{IsPending}
-use Rattle.md_state.specs.Rising.{Halts, HasSpentEvents}
+use Rattle.md_state.specs.Steps.Rise.{Halts, HasSpentEvents}
 use Rattle.md_state.specs.View.{ArrayView, MirrorView}
-use Rattle.md_state.specs.WritingMember.{IsNotDue}
+use Rattle.md_state.specs.Steps.WriteMember.{IsNotDue}
 use Rattle.md_array.specs.Consistency.{IsConsistent}
 use Rattle.md_array.specs.Events.{Happens}
 use Rattle.md_array.specs.InTurn.{HaltsAt}
-use Rattle.md_array.specs.Recording.{Records}
-use Rattle.md_array.specs.RecordingTarget.{RefusesTarget}
+use Rattle.md_array.specs.Steps.Record.{Records}
+use Rattle.md_array.specs.Steps.RecordTarget.{RefusesTarget}
 use Rattle.md_metadata.specs.declared.fault.PartFault.{PartFault}
 use Rattle.md_metadata.specs.declared.fault.PartFault.TheVariants as part
 use Rattle.md_metadata.specs.Storing.{AllStayReady, FailsInSync, HaltsStoring, HasAllMarks, IsFailureOf, IsMarking, IsRecording, IsStoring, RecordingFails, RecordsAll, RecordsAt, StaysReady, Stores, StoresAll, StoringFails}

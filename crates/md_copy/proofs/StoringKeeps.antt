@@ -17,13 +17,13 @@ use Rattle.md_kept_members.specs.View.{MemberView}
 use Rattle.md_assembly.specs.declared.state.MemberState.TheVariants.{Faulty}
 use Rattle.md_state.specs.DiskWrites.{AtDevice, IsTried}
 use Rattle.md_state.specs.Members.{IsInSync, IsMember}
-use Rattle.md_state.specs.Rising.{Fails, made_faulty}
-use Rattle.md_state.specs.StoringMarks.{IsMarkWrite}
+use Rattle.md_state.specs.Steps.Rise.{Fails, made_faulty}
+use Rattle.md_state.specs.Steps.StoreMarks.{IsMarkWrite}
 use Rattle.md_state.specs.View.{ArrayView, Disk, MirrorView}
 use Rattle.md_array.specs.Consistency.{IsConsistent}
-use Rattle.md_array.specs.Enrolling.{KeepsData}
+use Rattle.md_array.specs.Steps.Enrol.{KeepsData}
 use Rattle.md_array.specs.InTurn.{AllOf, Did, HaltsAt, IsInOrder, IsSectorDue, Leads, Requests}
-use Rattle.md_array.specs.Recording.{super_write}
+use Rattle.md_array.specs.Steps.Record.{super_write}
 use Rattle.md_array.proofs.General.Indices.{at_map}
 use Rattle.md_array.proofs.General.Replaced.{of_set}
 use Rattle.md_array.proofs.Worlds.Outside.{LiesIn, apart_either_way, apart_from_part, stays}

@@ -7,7 +7,7 @@ use Rattle.md_assembly.specs.declared.state.MemberState.{MemberState}
 use Rattle.md_assembly.specs.declared.state.MemberState.TheVariants.{InSync, Recovering, Stale, Spare, Faulty}
 use Rattle.md_assembly.specs.States.{is_recovering, is_spare, takes_role}
 use Rattle.md_kept_members.specs.View.{MemberView}
-use Rattle.md_state.specs.Admitting.{HasNoRoleLeft}
+use Rattle.md_state.specs.Steps.Admit.{HasNoRoleLeft}
 use Rattle.md_state.specs.Members.{IsMember}
 use Rattle.md_state.specs.Missing.{is_rebuilt}
 use Rattle.md_state.specs.View.{ArrayView}

@@ -16,7 +16,7 @@ use Rattle.md_kept_members.specs.View.{MemberView}
 use Rattle.md_members.specs.Areas.{bitmap_area, bitmap_sectors, log_area}
 use Rattle.md_state.specs.DeviceChanges.{IsLeftAlone, LeavesOn, StaysHonest}
 use Rattle.md_state.specs.DiskWrites.{AtDevice}
-use Rattle.md_state.specs.Enrolling.{enrolled}
+use Rattle.md_state.specs.Steps.Enrol.{enrolled}
 use Rattle.md_state.specs.Missing.{is_rebuilt}
 use Rattle.md_state.specs.View.{Disk, MirrorView, of_disks}
 use Rattle.md_super.specs.declared.superblock.Superblock.{Superblock}
@@ -26,13 +26,13 @@ use Rattle.md_device_writes.specs.Writes.{FailsInWrites, IsAnyIn, IsCutShort, Is
 use Rattle.md_device_writes.proofs.Frames.{outside_around, outside_none}
 use Rattle.md_device_writes.proofs.Sectors.{length-bitmap_run, runs_from}
 use Rattle.md_array.specs.Consistency.{IsConsistent}
-use Rattle.md_array.specs.Enrolling.{FailsToEnrol, IsStorable, MayEnrol, log_writes}
-use Rattle.md_array.specs.Enrolments.{FailsAtSuper, Prepares}
-use Rattle.md_array.specs.Filling.{MayRebuild}
+use Rattle.md_array.specs.Steps.Enrol.{FailsToEnrol, IsStorable, MayEnrol, log_writes}
+use Rattle.md_array.specs.Steps.EnrolEvents.{FailsAtSuper, Prepares}
+use Rattle.md_array.specs.Steps.GiveBack.{MayRebuild}
 use Rattle.md_array.specs.Events.{IsBesideArea, IsBesideMarks, IsChangedAlone, IsSameBesideMarks}
-use Rattle.md_array.specs.Recording.{write_of}
+use Rattle.md_array.specs.Steps.Record.{write_of}
 use Rattle.md_array.specs.Worlds.{sector_from_super}
-use Rattle.md_array.proofs.Rebuilding.EnrolAnswered.{can_store}
+use Rattle.md_array.proofs.Rebuilding.Enrol.{can_store}
 use Rattle.md_array.proofs.Rebuilding.InBetween.{beside_area, recovers_rebuilt}
 use Rattle.md_array.proofs.Rebuilding.MemberStored.{log_long}
 use Rattle.md_array.proofs.Worlds.Device.{fits_on}

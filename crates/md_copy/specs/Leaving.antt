@@ -2,7 +2,7 @@
 use Rattle.std.specs.Prelude.{◌≡◌, ◌⊎◌, ◌<◌, ℕ, true, false}
 use Rattle.md_bitmap.specs.Marks.{Bitmap, is_set}
 use Rattle.md_state.specs.View.{MirrorView}
-use Rattle.md_array.specs.Checkpoints.{Checkpoints, FailsToCheckpoint}
+use Rattle.md_array.specs.Steps.Checkpoint.{Checkpoints, FailsToCheckpoint}
 use Rattle.md_array.specs.Consistency.{IsConsistent}
 use Rattle.md_copy.specs.declared.fault.RebuildFault.{RebuildFault}
 use Rattle.md_copy.specs.declared.fault.RebuildFault.TheVariants.{LogFull, MetadataFault, NoMemory}

@@ -16,10 +16,10 @@ use Rattle.md_super.specs.declared.superblock.Superblock.{Superblock}
 use Rattle.md_state.specs.DeviceChanges.{StaysHonest}
 use Rattle.md_state.specs.DiskWrites.{AtDevice}
 use Rattle.md_state.specs.Members.{AllInSync, IsInSync, IsMember}
-use Rattle.md_state.specs.NotingBad.{HasFullLogFor}
+use Rattle.md_state.specs.Steps.NoteBad.{HasFullLogFor}
 use Rattle.md_state.specs.View.{ArrayView, Disk, MirrorView, of_disks}
-use Rattle.md_state.specs.WritingMember.{IsNotDue}
-use Rattle.md_array.specs.Enrolling.{KeepsData}
+use Rattle.md_state.specs.Steps.WriteMember.{IsNotDue}
+use Rattle.md_array.specs.Steps.Enrol.{KeepsData}
 use Rattle.md_array.specs.InTurn.{AllOf}
 use Rattle.md_array.specs.ReadAsKept.{IsSuperOn}
 use Rattle.md_array.specs.Worlds.{is_listed}

@@ -8,7 +8,7 @@ use Rattle.md_kept_members.specs.View.{MemberView}
 use Rattle.md_plan.specs.declared.planner.Planned.{Planned}
 use Rattle.md_state.specs.Members.{IsMember}
 use Rattle.md_state.specs.View.{MirrorView}
-use Rattle.md_array.specs.Checkpoints.{Checkpoints, FailsToCheckpoint}
+use Rattle.md_array.specs.Steps.Checkpoint.{Checkpoints, FailsToCheckpoint}
 use Rattle.md_array.specs.Consistency.{IsConsistent}
 use Rattle.md_pass.specs.Copied.{AreUncopied}
 use Rattle.md_passes.specs.Listed.{IsArrayPass, IsFailedOf}

@@ -2,12 +2,12 @@
 use Rattle.std.specs.Prelude.{◌≡◌, ℕ, ◌+◌, ◌^◌, ◌<◌, true}
 use Rattle.md_assembly.specs.States.{is_recovering}
 use Rattle.md_kept_members.specs.View.{MemberView}
-use Rattle.md_state.specs.MakingClean.{IsIdle}
+use Rattle.md_state.specs.Steps.MakeClean.{IsIdle}
 use Rattle.md_state.specs.Members.{AllInSync, IsMember}
 use Rattle.md_state.specs.View.{ArrayView, MirrorView}
-use Rattle.md_state.specs.WritingMember.{IsNotDue}
+use Rattle.md_state.specs.Steps.WriteMember.{IsNotDue}
 use Rattle.md_array.specs.Consistency.{IsConsistent}
-use Rattle.md_array.specs.NotingResynced.{AreNoted}
+use Rattle.md_array.specs.Steps.NoteResynced.{AreNoted}
 
 -- nothing is in flight, the array is resynced, and the count can rise so often
 pub record MayRebuildOn (n : ℕ) (a : ArrayView) : Type 0 where

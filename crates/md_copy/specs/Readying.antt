@@ -4,7 +4,7 @@ use Rattle.md_assembly.specs.States.{is_recovering, is_spare}
 use Rattle.md_kept_members.specs.View.{MemberView}
 use Rattle.md_state.specs.Members.{IsMember}
 use Rattle.md_state.specs.View.{MirrorView}
-use Rattle.md_array.specs.Admitting.{Admits, FailsToAdmit}
+use Rattle.md_array.specs.Steps.Admit.{Admits, FailsToAdmit}
 use Rattle.md_array.specs.Consistency.{IsConsistent}
 use Rattle.md_copy.specs.declared.fault.RebuildFault.{RebuildFault}
 use Rattle.md_copy.specs.declared.fault.RebuildFault.TheVariants.{MetadataFault, NoMemory, TargetFault}

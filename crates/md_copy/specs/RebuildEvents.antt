@@ -5,10 +5,10 @@ use Rattle.md_bitmap.specs.Marks.{Bitmap}
 use Rattle.md_kept_members.specs.View.{MemberView}
 use Rattle.md_model.specs.Events.{Event, MemberPart}
 use Rattle.md_state.specs.View.{Disk, MirrorView}
-use Rattle.md_array.specs.Admitting.{FailsOnTargetAlone, FailsToAdmit}
-use Rattle.md_array.specs.Checkpoints.{FailsToCheckpoint}
-use Rattle.md_array.specs.Enrolling.{FailsToEnrol}
-use Rattle.md_array.specs.Enrolments.{FailsAtSuper}
+use Rattle.md_array.specs.Steps.Admit.{FailsOnTargetAlone, FailsToAdmit}
+use Rattle.md_array.specs.Steps.Checkpoint.{FailsToCheckpoint}
+use Rattle.md_array.specs.Steps.Enrol.{FailsToEnrol}
+use Rattle.md_array.specs.Steps.EnrolEvents.{FailsAtSuper}
 use Rattle.md_array.specs.InTurn.{AllOf, HaltsAt, Requests}
 use Rattle.md_metadata.specs.Going.{LeadsBy}
 use Rattle.md_metadata.specs.Storing.{IsFailureOf, IsNoFailure, IsStoring}

@@ -7,7 +7,7 @@ use Rattle.md_passes.specs.Passes.{PassView}
 use Rattle.md_state.specs.Members.{IsMember}
 use Rattle.md_state.specs.View.{MirrorView}
 use Rattle.md_array.specs.Consistency.{IsConsistent}
-use Rattle.md_array.specs.Enrolling.{Enrols, FailsToEnrol}
+use Rattle.md_array.specs.Steps.Enrol.{Enrols, FailsToEnrol}
 use Rattle.md_copy.specs.declared.fault.RebuildFault.{RebuildFault}
 use Rattle.md_copy.specs.declared.fault.RebuildFault.TheVariants.{Halted, NotSpare, Dirty, InFlight, LogFull, NoMemory, TargetFault, MetadataFault, EventsFull}
 use Rattle.md_copy.specs.declared.rebuilt.Rebuilt.{Rebuilt}

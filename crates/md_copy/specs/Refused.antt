@@ -11,14 +11,14 @@ use Rattle.md_device.specs.Splice.{part}
 use Rattle.md_kept_members.specs.View.{MemberView}
 use Rattle.md_members.specs.Reading.{BitmapStartsAt}
 use Rattle.md_super.specs.declared.superblock.Superblock.{Superblock}
-use Rattle.md_state.specs.Checkpoints.{EndsCheckpoint}
+use Rattle.md_state.specs.Steps.Checkpoint.{EndsCheckpoint}
 use Rattle.md_state.specs.DiskWrites.{AtDevice}
-use Rattle.md_state.specs.Enrolling.{HasFullLog}
+use Rattle.md_state.specs.Steps.Enrol.{HasFullLog}
 use Rattle.md_state.specs.Members.{IsInSync, IsMember}
-use Rattle.md_state.specs.NotingBad.{HasFullLogFor}
+use Rattle.md_state.specs.Steps.NoteBad.{HasFullLogFor}
 use Rattle.md_state.specs.View.{ArrayView, Disk, MirrorView, of_disks}
-use Rattle.md_array.specs.Enrolling.{KeepsData}
-use Rattle.md_array.specs.Lending.{IsBesideMissing}
+use Rattle.md_array.specs.Steps.Enrol.{KeepsData}
+use Rattle.md_array.specs.Steps.Lend.{IsBesideMissing}
 use Rattle.md_array.specs.ReadAsKept.{IsSuperOn}
 use Rattle.md_array.specs.Worlds.{is_listed}
 use Rattle.md_passes.specs.Listed.{AreCopiedBy, IsArrayPass, IsOfFailed, ListsFailed, MayServe, ServesAs, most_failures}

@@ -6,7 +6,7 @@ use Rattle.md_state.specs.Members.{AllInSync, IsInSync, IsMember}
 use Rattle.md_state.specs.View.{MirrorView}
 use Rattle.md_array.specs.Consistency.{IsConsistent}
 use Rattle.md_array.specs.InTurn.{HaltsAt, Requests}
-use Rattle.md_array.specs.RecordingTarget.{LeavesUnrecorded}
+use Rattle.md_array.specs.Steps.RecordTarget.{LeavesUnrecorded}
 use Rattle.md_metadata.specs.Going.{GoesOn, only_others}
 use Rattle.md_metadata.specs.Storing.{AllRecorded, HasAllMarks, IsFailureOf, IsMarking, IsRecording, IsStoring, LosesStoring, Stores}
 use Rattle.md_copy.specs.declared.fault.RebuildFault.{RebuildFault}

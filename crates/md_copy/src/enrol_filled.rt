@@ -2,9 +2,9 @@
 ghost use Rattle.std.specs.Prelude.{◌≡◌, ◌^◌, ◌<◌, IfErr, MatchResult, false, length};
 ghost use Rattle.md_kept_members.specs.View.{MemberView};
 ghost use Rattle.md_state.specs.Members.{IsMember};
-ghost use Rattle.md_state.specs.Rising.{HasSpentEvents};
+ghost use Rattle.md_state.specs.Steps.Rise.{HasSpentEvents};
 ghost use Rattle.md_array.specs.Consistency.{IsConsistent};
-ghost use Rattle.md_array.specs.Enrolling.{Enrols, MayEnrol};
+ghost use Rattle.md_array.specs.Steps.Enrol.{Enrols, MayEnrol};
 ghost use Rattle.md_copy.specs.Enrolled.{EnrolsCopied, FailsCopied, RefusesFilledTarget};
 ghost use Rattle.md_copy.specs.Held.{AreHeld};
 ghost use Rattle.md_copy.specs.Leaving.{MayRecordAtEnd};

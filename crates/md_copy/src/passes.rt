@@ -19,8 +19,8 @@ ghost use Rattle.md_copy.specs.Sources.{IsTableIn};
 ghost use Rattle.md_copy.specs.Targets.{IsTarget};
 
 use crate::fault::RebuildFault;
-use crate::filling::fill;
-use crate::listing::{list_failed, store_lists};
+use crate::fill::fill;
+use crate::list_failed::{list_failed, store_lists};
 use crate::next_table::table_of_failed;
 use crate::rebuild_table::table;
 use crate::sources::sources_of;

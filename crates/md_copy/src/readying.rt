@@ -3,8 +3,8 @@ ghost use Rattle.std.specs.Prelude.{◌≡◌, ◌<◌, MatchResult, false, leng
 ghost use Rattle.md_assembly.specs.States.{is_spare};
 ghost use Rattle.md_kept_members.specs.View.{MemberView};
 ghost use Rattle.md_state.specs.Members.{IsMember};
-ghost use Rattle.md_state.specs.Rising.{HasSpentEvents};
-ghost use Rattle.md_array.specs.Admitting.{Admits};
+ghost use Rattle.md_state.specs.Steps.Rise.{HasSpentEvents};
+ghost use Rattle.md_array.specs.Steps.Admit.{Admits};
 ghost use Rattle.md_array.specs.Consistency.{IsConsistent};
 ghost use Rattle.md_copy.specs.Beginning.{MayBeginRebuild};
 ghost use Rattle.md_copy.specs.Readying.{Readies, RefusesAdmission, RefusesToReady};

@@ -3,8 +3,8 @@ ghost use Rattle.std.specs.Prelude.{◌≡◌, ◌<◌, ℕ, MatchResult, false,
 ghost use Rattle.md_kept_members.specs.View.{MemberView};
 ghost use Rattle.md_state.specs.Members.{AllInSync, IsInSync, IsMember};
 ghost use Rattle.md_state.specs.Missing.{is_rebuilt};
-ghost use Rattle.md_state.specs.Rising.{HasSpentEvents};
-ghost use Rattle.md_state.specs.WritingMember.{IsNotDue};
+ghost use Rattle.md_state.specs.Steps.Rise.{HasSpentEvents};
+ghost use Rattle.md_state.specs.Steps.WriteMember.{IsNotDue};
 ghost use Rattle.md_array.specs.Consistency.{IsConsistent};
 ghost use Rattle.md_metadata.specs.Going.{HaltsAfter, only_others};
 ghost use Rattle.md_metadata.specs.Storing.{IsStoring, RecordsAll, RecordsAt, StoringFails};

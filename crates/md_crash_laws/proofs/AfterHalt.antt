@@ -22,7 +22,7 @@ use Rattle.md_model.proofs.Lives.Safe.{safe_at_crash}
 use Rattle.md_model.proofs.Steps.Keeps.{IsKept}
 use Rattle.md_state.specs.Members.{IsInSync}
 use Rattle.md_state.specs.View.{ArrayView, Disk, MirrorView, geometry_of}
-use Rattle.md_array.specs.Opening.{IsOpenedFrom}
+use Rattle.md_array.specs.Open.Opened.{IsOpenedFrom}
 use Rattle.md_array.specs.Worlds.{none_in_flight, nothing_stored, stored_on, super_of, world_of}
 use Rattle.md_array.proofs.Worlds.InSync.{in_sync_is, in_sync_there}
 use Rattle.md_array.proofs.Worlds.Shown.{own_is}

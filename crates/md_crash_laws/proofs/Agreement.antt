@@ -9,15 +9,15 @@ use Rattle.md_model.specs.Sectors.{Geometry}
 use Rattle.md_model.specs.Worlds.{World, IsQuiet}
 use Rattle.md_model.proofs.Cases.{below-nat_lt, none_some}
 use Rattle.md_model.proofs.Steps.Keeps.{IsKept, kept_run}
-use Rattle.md_state.specs.CopyingData.{Lists}
+use Rattle.md_state.specs.Steps.CopyData.{Lists}
 use Rattle.md_state.specs.View.{ArrayView, Disk, MirrorView, geometry_of}
 use Rattle.md_array.specs.InTurn.{AllOf}
-use Rattle.md_array.specs.NotingResynced.{IsHonestMember, sector_of}
+use Rattle.md_array.specs.Steps.NoteResynced.{IsHonestMember, sector_of}
 use Rattle.md_array.specs.Worlds.{AreHonest, super_of, world_of}
-use Rattle.md_array.proofs.Steps.OneMember.{stored_there}
+use Rattle.md_array.proofs.StepLemmas.OneMember.{stored_there}
 use Rattle.md_array.proofs.Worlds.InSync.{in_sync_there}
 use Rattle.md_array.proofs.Worlds.SectorCopied.{none_there, unlisted_there}
-use Rattle.md_array.specs.Opening.{IsOpenedFrom}
+use Rattle.md_array.specs.Open.Opened.{IsOpenedFrom}
 use Rattle.md_laws.specs.Fresh.{AreFresh}
 use Rattle.md_laws.proofs.Openings.Fresh.{starts_fresh}
 use Rattle.md_laws.proofs.Runs.Rests.{at_rest}

@@ -1,6 +1,7 @@
 -- An opening of devices that a crash left, with others beside them that are no newer than the opening before: who of those is not found in sync;
 -- and where none is, that another life begins.
 use Rattle.std.proofs.Common.{◌≡◌, ◌∙◌, ◌⊎◌, inl, inr, ℕ, ◌+◌, ◌<◌, ◌≤◌, true, false, true≢false, List, Some, None, refl, sym, ap, subst, arith}
+use Rattle.std.proofs.lemmas.Option.{none-some, slice_get_within}
 use Rattle.md_assembly.specs.States as assembly
 use Rattle.md_assembly.specs.States.{state_of}
 use Rattle.md_kept_members.specs.View.{MemberView}
@@ -19,10 +20,9 @@ use Rattle.md_model.proofs.Lives.OpeningCovers.{own_of}
 use Rattle.md_model.proofs.Lives.Safe.{keeps_out, safe_at_crash, stays_out}
 use Rattle.md_model.proofs.Steps.Keeps.{IsKept, kept_run}
 use Rattle.md_model.proofs.Table.{found_says}
-use Rattle.std.proofs.lemmas.Option.{none-some, slice_get_within}
 use Rattle.md_state.specs.Members.{IsInSync, IsMember}
 use Rattle.md_state.specs.View.{Disk, MirrorView, geometry_of}
-use Rattle.md_array.specs.Opening.{IsOpenedFrom}
+use Rattle.md_array.specs.Open.Opened.{IsOpenedFrom}
 use Rattle.md_array.specs.Worlds.{none_in_flight, super_of, world_of}
 use Rattle.md_array.proofs.Worlds.InSync.{in_sync_is, in_sync_there}
 use Rattle.md_array.proofs.Worlds.Shown.{as_read, own_is, state_at, super_at}

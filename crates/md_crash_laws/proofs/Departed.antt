@@ -24,7 +24,7 @@ use Rattle.md_model.proofs.Table.{found_says, has_role}
 use Rattle.md_state.specs.Members.{IsMember}
 use Rattle.md_state.specs.View.{Disk, MirrorView, geometry_of}
 use Rattle.md_array.specs.Worlds.{block_on, kind_of, super_in, super_of, world_of}
-use Rattle.md_array.proofs.Steps.OneMember.{stored_there}
+use Rattle.md_array.proofs.StepLemmas.OneMember.{stored_there}
 use Rattle.md_array.proofs.Worlds.InSync.{number_at}
 use Rattle.md_array.proofs.Worlds.Shown.{at_is}
 use Rattle.md_array.proofs.Worlds.States.{same_in_sync, same_state}

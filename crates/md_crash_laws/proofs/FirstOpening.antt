@@ -15,7 +15,7 @@ use Rattle.md_model.proofs.Cases.{below-nat_lt, by_test, is_below}
 use Rattle.md_state.specs.Members.{IsInSync, IsMember}
 use Rattle.md_state.specs.View.{ArrayView, Disk, MirrorView, geometry_of}
 use Rattle.md_array.specs.ReadAsKept.{chunk_size_on}
-use Rattle.md_array.specs.Storing.{StoresMarksOn}
+use Rattle.md_array.specs.Open.Marks.{StoresMarksOn}
 use Rattle.md_array.specs.Worlds.{AreHonest, sector_from_super, none_in_flight, stored_of}
 use Rattle.md_array.proofs.General.Indices.{got_in_map}
 use Rattle.md_array.proofs.Worlds.Device.{chunk_size_new}

@@ -12,7 +12,7 @@ use Rattle.md_array.specs.Consistency.{IsConsistent}
 use Rattle.md_array.specs.Fits.{Fits}
 use Rattle.md_array.specs.ReadAsKept.{IsReadAsKept}
 use Rattle.md_array.proofs.General.Honesty.{tried_honest}
-use Rattle.md_array.proofs.Steps.OneMember.{fits_like, like_itself}
+use Rattle.md_array.proofs.StepLemmas.OneMember.{fits_like, like_itself}
 use Rattle.md_laws.specs.Runs.{Moment}
 use Rattle.md_laws.proofs.Runs.Moments.{IsSoundAt}
 use Rattle.md_assembly.proofs.Indices.{got_within}

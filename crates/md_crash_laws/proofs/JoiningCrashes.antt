@@ -17,12 +17,12 @@ use Rattle.md_super.specs.declared.fault.SuperFault.TheVariants.{Magic}
 use Rattle.md_device_writes.specs.Writes.{IsCutShort}
 use Rattle.md_state.specs.DiskWrites.{AtDevice}
 use Rattle.md_state.specs.View.{Disk, MirrorView}
-use Rattle.md_array.specs.Adding.{add_event}
-use Rattle.md_array.specs.ReAdding.{ReAdds, re_add_event}
+use Rattle.md_array.specs.Steps.Add.{add_event}
+use Rattle.md_array.specs.Steps.ReAdd.{ReAdds, re_add_event}
 use Rattle.md_array.specs.Worlds.{block_on, super_in}
 use Rattle.md_array.proofs.General.Appended.{got_beside, got_last}
 use Rattle.md_array.proofs.General.Indices.{got_in_map}
-use Rattle.md_array.proofs.Steps.OneMember.{stored_there}
+use Rattle.md_array.proofs.StepLemmas.OneMember.{stored_there}
 use Rattle.md_laws.specs.Left.{contents_of}
 use Rattle.md_laws.specs.Runs.{MirrorRun, Moment}
 use Rattle.md_laws.specs.ReadAfterCrashes.{EndsInFirstSector, ReadsAs}

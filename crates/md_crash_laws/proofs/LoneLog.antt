@@ -17,9 +17,9 @@ use Rattle.md_state.specs.DiskWrites.{IsTried}
 use Rattle.md_state.specs.Members.{IsMember}
 use Rattle.md_state.specs.View.{ArrayView, Disk}
 use Rattle.md_array.specs.Worlds.{sector_from_super, stored_on, super_of, world_of}
-use Rattle.md_array.proofs.Rebuilding.LogStored.{is_log, own_beside}
+use Rattle.md_array.proofs.Rebuilding.StoreLog.{is_log, own_beside}
 use Rattle.md_array.proofs.Rebuilding.MemberStored.{log_long}
-use Rattle.md_array.proofs.Steps.OneMember.{stored_there}
+use Rattle.md_array.proofs.StepLemmas.OneMember.{stored_there}
 use Rattle.md_array.proofs.Worlds.PartsApart.{HasParts, block_beside_log, header_beside_log, log_alone, parts_of}
 use Rattle.md_array.proofs.Worlds.States.{in_sync_recorded}
 use Rattle.md_laws.specs.Left.{contents_of}

@@ -11,18 +11,18 @@ use Rattle.md_kept_members.specs.View.{MemberView}
 use Rattle.md_model.specs.Events.{Event, MemberPart}
 use Rattle.md_model.proofs.Puts.{by_same}
 use Rattle.md_device_writes.specs.Writes.{IsAnyIn, Write}
-use Rattle.md_state.specs.CopyingData.{run_write}
+use Rattle.md_state.specs.Steps.CopyData.{run_write}
 use Rattle.md_state.specs.DeviceChanges.{StaysHonest}
 use Rattle.md_state.specs.DiskWrites.{IsFailed}
 use Rattle.md_state.specs.Members.{IsMember}
 use Rattle.md_state.specs.Trying.{HaltsWriting}
 use Rattle.md_state.specs.View.{Disk, MirrorView}
-use Rattle.md_state.specs.WritingMember.{data_write}
+use Rattle.md_state.specs.Steps.WriteMember.{data_write}
 use Rattle.md_array.specs.Consistency.{IsConsistent}
 use Rattle.md_array.specs.InTurn.{HaltsAt, Requests}
-use Rattle.md_array.specs.Recording.{super_write}
+use Rattle.md_array.specs.Steps.Record.{super_write}
 use Rattle.md_array.proofs.General.Indices.{at_set_same, got_in_map, got_other}
-use Rattle.md_array.proofs.Steps.FailedParts.{halting_write}
+use Rattle.md_array.proofs.StepLemmas.FailedParts.{halting_write}
 use Rattle.md_laws.specs.Left.{contents_of}
 use Rattle.md_laws.specs.CrashesWithin.{MayAllBeLeft}
 use Rattle.md_assembly.proofs.Indices.{got_within}

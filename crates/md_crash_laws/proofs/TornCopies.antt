@@ -18,12 +18,12 @@ use Rattle.md_model.proofs.Puts.{by_same}
 use Rattle.md_model.proofs.Steps.Keeps.{IsKept}
 use Rattle.md_model.proofs.Steps.Tracked.{agree_as}
 use Rattle.md_device_writes.specs.Writes.{Write}
-use Rattle.md_state.specs.CopyingData.{run_write}
+use Rattle.md_state.specs.Steps.CopyData.{run_write}
 use Rattle.md_state.specs.DiskWrites.{IsTried}
 use Rattle.md_state.specs.Members.{IsMember}
 use Rattle.md_state.specs.View.{ArrayView, Disk, MirrorView, geometry_of}
 use Rattle.md_array.specs.Worlds.{none_in_flight, stored_of, stored_on, super_of, world_of}
-use Rattle.md_array.proofs.Steps.OneMember.{stored_there}
+use Rattle.md_array.proofs.StepLemmas.OneMember.{stored_there}
 use Rattle.md_array.proofs.Worlds.PartsApart.{data_alone, data_elsewhere, parts_of}
 use Rattle.md_array.proofs.Worlds.ReadAsKept.{read_beside_data}
 use Rattle.md_array.proofs.Worlds.SectorCopied.{may_copy_chunk}

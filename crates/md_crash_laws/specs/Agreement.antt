@@ -7,7 +7,7 @@ use Rattle.md_model.specs.Runs.{History}
 use Rattle.md_model.specs.Sectors.{Geometry}
 use Rattle.md_model.specs.Worlds.{IsInSync, IsQuiet}
 use Rattle.md_state.specs.View.{Disk, MirrorView}
-use Rattle.md_array.specs.NotingResynced.{AllAgreeAt, IsHonestMember, sector_of}
+use Rattle.md_array.specs.Steps.NoteResynced.{AllAgreeAt, IsHonestMember, sector_of}
 use Rattle.md_array.specs.Worlds.{is_listed}
 use Rattle.md_laws.specs.Runs.{MirrorRun, Moment}
 use Rattle.md_laws.specs.CallCrashes.{AtMoments}

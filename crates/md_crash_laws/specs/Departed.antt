@@ -11,7 +11,7 @@ use Rattle.md_model.specs.Worlds.{Request}
 use Rattle.md_state.specs.Members.{IsInSync, IsMember}
 use Rattle.md_state.specs.View.{Disk, MirrorView}
 use Rattle.md_array.specs.InTurn.{AllOf}
-use Rattle.md_array.specs.Opening.{IsOpenedFrom}
+use Rattle.md_array.specs.Open.Opened.{IsOpenedFrom}
 use Rattle.md_array.specs.Worlds.{block_on, super_in, super_of}
 use Rattle.md_laws.specs.Lives.{AreFoundAgain, IsCalledOut, IsShutOut, MirrorLife}
 use Rattle.md_laws.specs.Runs.{IsStart, MirrorRun, Moment, RestsThenDoes, then_as}

@@ -4,7 +4,7 @@ use Rattle.md_model.specs.Events.{Event, MemberPart}
 use Rattle.md_state.specs.Requests.{AreInFlight, among}
 use Rattle.md_state.specs.View.{Disk, MirrorView}
 use Rattle.md_array.specs.InTurn.{AllLeftWhole, HaltsAt, Leads, Requests}
-use Rattle.md_array.specs.Listing.{HasNoShift}
+use Rattle.md_array.specs.Steps.StoreLog.{HasNoShift}
 use Rattle.md_laws.specs.HaltedWrites.{IsDoneOrNot, IsLeftInSectors}
 use Rattle.md_laws.specs.Left.{IsLeftByCrash, contents_of}
 use Rattle.md_laws.specs.Runs.{MirrorRun, Moment}

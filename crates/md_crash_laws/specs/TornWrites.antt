@@ -8,12 +8,12 @@ use Rattle.md_model.specs.Sectors.{chunk_of}
 use Rattle.md_model.specs.Crashes.{IsFit}
 use Rattle.md_model.specs.Worlds as worlds
 use Rattle.md_model.specs.Worlds.{IsQuiet}
-use Rattle.md_state.specs.CopyingData.{HaltsCopying}
+use Rattle.md_state.specs.Steps.CopyData.{HaltsCopying}
 use Rattle.md_state.specs.Members.{IsInSync, IsMember}
-use Rattle.md_state.specs.StoringMarks.{HaltsStoringMarks}
+use Rattle.md_state.specs.Steps.StoreMarks.{HaltsStoringMarks}
 use Rattle.md_state.specs.View.{Disk, MirrorView, geometry_of}
-use Rattle.md_array.specs.Listing.{HaltsStoringLog}
-use Rattle.md_array.specs.Opening.{IsOpenedFrom}
+use Rattle.md_array.specs.Steps.StoreLog.{HaltsStoringLog}
+use Rattle.md_array.specs.Open.Opened.{IsOpenedFrom}
 use Rattle.md_array.specs.ReadAsKept.{HasWidth}
 use Rattle.md_array.specs.Worlds.{none_in_flight, super_of, world_of}
 use Rattle.md_laws.specs.Left.{contents_of}

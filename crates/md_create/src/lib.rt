@@ -1,19 +1,19 @@
 //! New members of an array: what they say, and how they are laid out on their devices.
 #![tactic(auto)]
 
-mod creating;
 mod fault;
 mod geometry;
-mod laying_out;
+mod laid_out;
 mod naming;
+mod new_members;
 mod params;
 mod places;
 mod reading_back;
 mod spare;
 
-pub use creating::create;
 pub use fault::CreateFault;
-pub use laying_out::lay_out;
+pub use laid_out::lay_out;
+pub use new_members::create;
 pub use params::{CreateParams, NewMember};
 pub use places::{BITMAP_RESERVED, DATA_SECTOR};
 pub use reading_back::reads_back;

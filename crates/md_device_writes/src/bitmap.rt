@@ -5,7 +5,7 @@ ghost use Rattle.md_bitmap.specs.Sectors.{bitmap_sectors};
 ghost use Rattle.md_device_writes.specs.Bitmaps.{bitmap_run, bitmap_runs, bitmap_write, bitmap_writes, run_sectors, runs_of, sectors_write};
 ghost use Rattle.md_device_writes.specs.Writes.{MakesWrites};
 
-use crate::writing::put;
+use crate::one_write::put;
 use md_bitmap::{BLOCK_BYTES, BitmapHeader, Marks, sectors_of_bitmap};
 use md_device::{Device, WriteFault};
 

@@ -2,7 +2,7 @@
 #![tactic(auto)]
 
 mod bitmap;
-mod writing;
+mod one_write;
 
 pub use bitmap::{store_bitmap, store_bitmap_sector};
-pub use writing::put;
+pub use one_write::put;

@@ -2,8 +2,8 @@
 //! block of bytes, and refusals that come in a stated order.
 #![tactic(auto)]
 
-mod reading;
-mod writing;
+mod fields_at;
+mod put_fields;
 
-pub use reading::{array_at, u8_at, u16_at, u32_at, u64_at, uuid_at};
-pub use writing::{put_bytes, put_u8, put_u16, put_u32, put_u64};
+pub use fields_at::{array_at, u8_at, u16_at, u32_at, u64_at, uuid_at};
+pub use put_fields::{put_bytes, put_u8, put_u16, put_u32, put_u64};

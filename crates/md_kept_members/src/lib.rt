@@ -1,11 +1,12 @@
 //! What a mirror keeps in memory of each member, without its device, and what is found by going through a list of members.
 #![tactic(auto)]
 
-mod clearing;
+mod agreement;
+mod bad_lists;
+mod cleared_at;
 mod due;
 mod enrolling;
 mod freshest;
-mod listing;
 mod logging;
 mod marking;
 mod member;
@@ -14,16 +15,16 @@ mod other_in_sync;
 mod own_fields;
 mod permitting;
 mod remembering;
-mod resyncing;
 mod spares;
 mod stored_marks;
 mod taking_back;
 
-pub use clearing::last_cleared;
+pub use agreement::is_resynced;
+pub use bad_lists::{list_after, list_with, log_room};
+pub use cleared_at::last_cleared;
 pub use due::make_due;
 pub use enrolling::in_sync;
 pub use freshest::freshest_header;
-pub use listing::{list_after, list_with, log_room};
 pub use logging::note_logged;
 pub use marking::{needs_marks, united_marks};
 pub use member::Member;
@@ -32,7 +33,6 @@ pub use other_in_sync::has_other_in_sync;
 pub use own_fields::is_write_mostly;
 pub use permitting::{lists_any, permitted_roles};
 pub use remembering::{chunking_of, members_of};
-pub use resyncing::is_resynced;
 pub use spares::kept_spare;
 pub use stored_marks::copy_block;
 pub use taking_back::taken_back;

@@ -10,8 +10,8 @@ use Rattle.md_state.specs.Members.{IsMember}
 use Rattle.md_state.specs.View.{Disk, MirrorView}
 use Rattle.md_array.specs.Events.{IsOldNewOrNone}
 use Rattle.md_array.specs.InTurn.{AllLeftWhole, AllOf, HaltsAt, InTurn, Leads, LeftWhole, Requests}
-use Rattle.md_array.specs.Listing.{HasNoShift}
-use Rattle.md_array.specs.Recording.{super_write}
+use Rattle.md_array.specs.Steps.StoreLog.{HasNoShift}
+use Rattle.md_array.specs.Steps.Record.{super_write}
 use Rattle.md_array.specs.Worlds.{AreHonest, block_on}
 use Rattle.md_laws.specs.Left.{IsLeftByCrash, contents_of}
 use Rattle.md_laws.specs.Lives.{MirrorLife}

@@ -1,7 +1,7 @@
 -- What a crash leaves within the copy of a run of sectors.
 use Rattle.std.specs.Prelude.{◌≡◌, ℕ, List, [], ◌∷◌, map, Option}
 use Rattle.md_model.specs.Events.{Event}
-use Rattle.md_state.specs.CopyingData.{CopiesTo}
+use Rattle.md_state.specs.Steps.CopyData.{CopiesTo}
 use Rattle.md_state.specs.Requests.{AreInFlight}
 use Rattle.md_state.specs.View.{MirrorView}
 use Rattle.md_array.specs.Consistency.{IsConsistent}

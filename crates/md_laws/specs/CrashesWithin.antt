@@ -14,19 +14,19 @@ use Rattle.md_faults.specs.declared.re_add_fault.ReAddFault.TheVariants as re_ad
 use Rattle.md_kept_members.specs.Enrolling.{log_room}
 use Rattle.md_kept_members.specs.TakingBack.{own_role}
 use Rattle.md_kept_members.specs.View.{MemberView}
-use Rattle.md_state.specs.Joining.{joined_shared}
+use Rattle.md_state.specs.Steps.NoteJoined.{joined_shared}
 use Rattle.md_state.specs.View.{Disk, MirrorView}
 use Rattle.md_state.specs.DiskWrites.{IsFailed, IsTried, IsWritten}
-use Rattle.md_state.specs.Removing.{Removes}
+use Rattle.md_state.specs.Steps.Remove.{Removes}
 use Rattle.md_state.specs.Trying.{FailsWriting}
-use Rattle.md_array.specs.Adding.{Adds, FailsToAdd, RefusesAdd}
-use Rattle.md_array.specs.Enrolling.{Enrols, FailsToEnrol}
-use Rattle.md_array.specs.Enrolments.{Prepares}
+use Rattle.md_array.specs.Steps.Add.{Adds, FailsToAdd, RefusesAdd}
+use Rattle.md_array.specs.Steps.Enrol.{Enrols, FailsToEnrol}
+use Rattle.md_array.specs.Steps.EnrolEvents.{Prepares}
 use Rattle.md_array.specs.Events.{ComesLast, IsSameBesideMarks, IsSameBesideMissing, WritesOnce}
-use Rattle.md_array.specs.Filling.{Fills}
-use Rattle.md_array.specs.Listing.{StoresLog}
-use Rattle.md_array.specs.ReAdding.{FailsToReAdd, ReAdds, RefusesReAdd}
-use Rattle.md_array.specs.Recording.{super_write, write_of}
+use Rattle.md_array.specs.Steps.GiveBack.{Fills}
+use Rattle.md_array.specs.Steps.StoreLog.{StoresLog}
+use Rattle.md_array.specs.Steps.ReAdd.{FailsToReAdd, ReAdds, RefusesReAdd}
+use Rattle.md_array.specs.Steps.Record.{super_write, write_of}
 use Rattle.md_array.specs.Worlds.{AreHonest, sector_from_super}
 
 -- A crash since the device was d, and until it was e, might have left this.

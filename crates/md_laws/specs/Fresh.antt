@@ -7,7 +7,7 @@ use Rattle.md_create.specs.Values.{IsNewMember}
 use Rattle.md_members.specs.declared.info.MemberInfo.{MemberInfo}
 use Rattle.md_members.specs.Members.{IsReadMember}
 use Rattle.md_state.specs.View.{ArrayView, Disk, MirrorView}
-use Rattle.md_array.specs.Opening.{IsArrayOf, IsOpenedFrom}
+use Rattle.md_array.specs.Open.Opened.{IsArrayOf, IsOpenedFrom}
 use Rattle.md_array.specs.Worlds.{AreHonest}
 use Rattle.md_laws.specs.HalfOpened.{IsHalfOpened}
 use Rattle.md_laws.specs.Runs.{IsStart}

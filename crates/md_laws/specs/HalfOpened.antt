@@ -2,7 +2,7 @@
 use Rattle.std.specs.Prelude.{◌≡◌, ◌⊎◌, ℕ, List, map, slice_get, Some}
 use Rattle.md_kept_members.specs.View.{MemberView}
 use Rattle.md_state.specs.View.{Disk, ArrayView}
-use Rattle.md_array.specs.Storing.{AreMarksOnDisks, EndsAtMember}
+use Rattle.md_array.specs.Open.Marks.{AreMarksOnDisks, EndsAtMember}
 use Rattle.md_array.specs.Worlds.{sector_from_super, header_on}
 use Rattle.md_laws.specs.CrashesWithin.{MayAllBeLeft}
 

@@ -8,12 +8,12 @@ use Rattle.md_device.specs.Crashes.{IsMixed}
 use Rattle.md_members.specs.Areas.{bitmap_sectors}
 use Rattle.md_model.specs.Events.{Event}
 use Rattle.md_device_writes.specs.Writes.{Write}
-use Rattle.md_state.specs.CopyingData.{HaltsCopying}
-use Rattle.md_state.specs.StoringMarks.{HaltsStoringMarks, StoresMarkSector}
+use Rattle.md_state.specs.Steps.CopyData.{HaltsCopying}
+use Rattle.md_state.specs.Steps.StoreMarks.{HaltsStoringMarks, StoresMarkSector}
 use Rattle.md_state.specs.View.{Disk, MirrorView}
 use Rattle.md_array.specs.Consistency.{IsConsistent}
 use Rattle.md_array.specs.Events.{Happens, listed_on}
-use Rattle.md_array.specs.Listing.{HaltsStoringLog, HasNoShift, StoresLog}
+use Rattle.md_array.specs.Steps.StoreLog.{HaltsStoringLog, HasNoShift, StoresLog}
 use Rattle.md_array.specs.Worlds.{AreHonest}
 use Rattle.md_laws.specs.CopyCrashes.{IsCopiedInPart}
 use Rattle.md_laws.specs.CrashesWithin.{MayAllBeLeft}

@@ -12,19 +12,19 @@ use Rattle.md_state.specs.View.{Disk, MirrorView}
 use Rattle.md_state.specs.DiskWrites.{AtDevice}
 use Rattle.md_state.specs.Members.{IsMember}
 use Rattle.md_state.specs.Requests.{among}
-use Rattle.md_state.specs.StoringMarks.{StoresMarkSector}
-use Rattle.md_state.specs.WritingMember.{FailsToWrite, HaltsWritingTo, WritesTo}
-use Rattle.md_array.specs.Admitting.{Admits, FailsToAdmit}
-use Rattle.md_array.specs.Checkpoints.{Checkpoints, FailsToCheckpoint}
+use Rattle.md_state.specs.Steps.StoreMarks.{StoresMarkSector}
+use Rattle.md_state.specs.Steps.WriteMember.{FailsToWrite, HaltsWritingTo, WritesTo}
+use Rattle.md_array.specs.Steps.Admit.{Admits, FailsToAdmit}
+use Rattle.md_array.specs.Steps.Checkpoint.{Checkpoints, FailsToCheckpoint}
 use Rattle.md_array.specs.Events.{IsOldNewOrNone}
 use Rattle.md_array.specs.Consistency.{IsConsistent}
-use Rattle.md_array.specs.Enrolling.{Enrols, MayEnrol}
-use Rattle.md_array.specs.Enrolments.{Prepares}
-use Rattle.md_array.specs.Filling.{Fills}
+use Rattle.md_array.specs.Steps.Enrol.{Enrols, MayEnrol}
+use Rattle.md_array.specs.Steps.EnrolEvents.{Prepares}
+use Rattle.md_array.specs.Steps.GiveBack.{Fills}
 use Rattle.md_array.specs.ReadAsKept.{AreReadAsKept}
-use Rattle.md_array.specs.ReAdding.{ReAdds}
-use Rattle.md_array.specs.Recording.{FailsToRecord, HaltsRecording, Records, super_write}
-use Rattle.md_array.specs.RecordingTarget.{LeavesUnrecorded}
+use Rattle.md_array.specs.Steps.ReAdd.{ReAdds}
+use Rattle.md_array.specs.Steps.Record.{FailsToRecord, HaltsRecording, Records, super_write}
+use Rattle.md_array.specs.Steps.RecordTarget.{LeavesUnrecorded}
 use Rattle.md_array.specs.Worlds.{AreHonest, block_on, super_in}
 use Rattle.md_laws.specs.Runs.{Moment}
 use Rattle.md_laws.specs.ReadAfterCrashes.{EndsInFirstSector, ReadsAs, AdmitsOrCheckpoints}

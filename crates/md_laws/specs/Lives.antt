@@ -1,21 +1,21 @@
 -- One opening of a mirror's devices after another: runs, each but the last ended by a crash, and what the next mirror is made of.
 use Rattle.std.specs.Prelude.{◌≡◌, ◌⊎◌, ℕ, ◌+◌, ◌*◌, ◌<◌, ◌≤◌, true, false, List, [], ◌∷◌, length, Option, slice_get, Some, None}
 use Rattle.md_model.specs.Sectors.{Geometry, chunk_of}
-use Rattle.md_device.specs.Splice.{SameOutside}
-use Rattle.md_super.specs.declared.superblock.Superblock.{Superblock}
-use Rattle.md_members.specs.Areas.{bitmap_sectors}
-use Rattle.md_assembly.specs.States.{is_in_sync, state_of}
 use Rattle.md_model.specs.Devices.{Super, is_marked}
 use Rattle.md_model.specs.Events.{Event}
 use Rattle.md_model.specs.Fits.{HasOneView}
 use Rattle.md_model.specs.Content.{Content, BecomesAtOpening, Holds}
 use Rattle.md_model.specs.Runs.{History}
 use Rattle.md_model.specs.Crashes.{IsFit}
+use Rattle.md_device.specs.Splice.{SameOutside}
+use Rattle.md_super.specs.declared.superblock.Superblock.{Superblock}
+use Rattle.md_members.specs.Areas.{bitmap_sectors}
+use Rattle.md_assembly.specs.States.{is_in_sync, state_of}
 use Rattle.md_kept_members.specs.View.{MemberView}
 use Rattle.md_state.specs.View.{ArrayView, Disk, MirrorView, geometry_of}
 use Rattle.md_state.specs.Members.{IsInSync, IsMember}
 use Rattle.md_state.specs.Missing.{is_rebuilt}
-use Rattle.md_array.specs.Opening.{IsArrayOf, IsOpenedFrom}
+use Rattle.md_array.specs.Open.Opened.{IsArrayOf, IsOpenedFrom}
 use Rattle.md_array.specs.ReadAsKept.{AreReadAsKept, HasWidth, IsSuperOn, chunk_size_on}
 use Rattle.md_array.specs.Worlds.{AreHonest, sector_from_super, none_in_flight, stored_of, super_of, world_of}
 use Rattle.md_laws.specs.HalfOpened.{IsHalfOpened}

@@ -11,11 +11,11 @@ use Rattle.md_super.specs.Faults.{NoSuperFault}
 use Rattle.md_super.specs.Format.{IsSuper}
 use Rattle.md_create.specs.Layout.{KeepsOthers, wipe}
 use Rattle.md_state.specs.View.{Disk, MirrorView}
-use Rattle.md_array.specs.Adding.{Adds}
-use Rattle.md_array.specs.Admitting.{Admits}
-use Rattle.md_array.specs.Checkpoints.{Checkpoints}
+use Rattle.md_array.specs.Steps.Add.{Adds}
+use Rattle.md_array.specs.Steps.Admit.{Admits}
+use Rattle.md_array.specs.Steps.Checkpoint.{Checkpoints}
 use Rattle.md_array.specs.Consistency.{IsConsistent}
-use Rattle.md_array.specs.ReAdding.{ReAdds}
+use Rattle.md_array.specs.Steps.ReAdd.{ReAdds}
 use Rattle.md_array.specs.Worlds.{AreHonest, block_on, super_in}
 use Rattle.md_laws.specs.CrashesWithin.{IsLeftBut, MayAllBeLeft}
 

@@ -6,7 +6,7 @@ use Rattle.md_model.specs.Events.{Event}
 use Rattle.md_model.specs.Returns.{KeepsMembers, WasAway}
 use Rattle.md_model.specs.Crashes.{IsFit, WasTried}
 use Rattle.md_state.specs.View.{ArrayView, Disk, MirrorView, geometry_of}
-use Rattle.md_array.specs.Opening.{IsOpenedFrom}
+use Rattle.md_array.specs.Open.Opened.{IsOpenedFrom}
 use Rattle.md_array.specs.Worlds.{none_in_flight, nothing_stored, super_of, world_of, world_on}
 use Rattle.md_laws.specs.Left.{contents_of}
 use Rattle.md_laws.specs.Lives.{AreFoundAgain}

@@ -8,10 +8,10 @@ use Rattle.md_model.specs.Worlds.{Request, World, IsInSync}
 use Rattle.md_model.specs.Content.{Content, Becomes, Holds, TellsAtEnrolment}
 use Rattle.md_model.specs.Events.{Event}
 use Rattle.md_model.specs.Runs.{History, away_after, failed_after, spoiled_after, tried_after}
-use Rattle.md_state.specs.Rising.{has_number}
+use Rattle.md_state.specs.Steps.Rise.{has_number}
 use Rattle.md_state.specs.View.{Disk, MirrorView, geometry_of}
 use Rattle.md_state.specs.Rests.{Rests}
-use Rattle.md_array.specs.Opening.{IsOpenedFrom}
+use Rattle.md_array.specs.Open.Opened.{IsOpenedFrom}
 use Rattle.md_array.specs.Events.{Does}
 use Rattle.md_array.specs.Worlds.{AreHonest, none_in_flight, world_of, world_on}
 

@@ -6,10 +6,10 @@ use Rattle.md_state.specs.Members.{IsMember}
 use Rattle.md_state.specs.Missing.{is_rebuilt}
 use Rattle.md_state.specs.View.{MirrorView}
 use Rattle.md_array.specs.Consistency.{IsConsistent}
-use Rattle.md_array.specs.Enrolling.{Enrols, FailsToEnrol, MayEnrol}
-use Rattle.md_array.specs.Enrolments.{FailsAtSuper, Prepares}
-use Rattle.md_array.specs.Recording.{Records}
-use Rattle.md_array.specs.RecordingTarget.{LeavesUnrecorded}
+use Rattle.md_array.specs.Steps.Enrol.{Enrols, FailsToEnrol, MayEnrol}
+use Rattle.md_array.specs.Steps.EnrolEvents.{FailsAtSuper, Prepares}
+use Rattle.md_array.specs.Steps.Record.{Records}
+use Rattle.md_array.specs.Steps.RecordTarget.{LeavesUnrecorded}
 use Rattle.md_array.specs.Spoiling.{SpoilsTarget}
 use Rattle.md_array.specs.Worlds.{AreHonest}
 use Rattle.md_laws.specs.Left.{IsTargetCall}

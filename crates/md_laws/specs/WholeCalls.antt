@@ -5,23 +5,24 @@ use Rattle.md_badblocks.specs.Runs.{IsCanonical}
 use Rattle.md_bitmap.specs.Marks.{Bitmap}
 use Rattle.md_kept_members.specs.View.{MemberView}
 use Rattle.md_model.specs.Events.{Event, MemberPart}
-use Rattle.md_state.specs.FailingMembers.{FailsMember}
+use Rattle.md_state.specs.Steps.Fail.{FailsMember}
 use Rattle.md_state.specs.Members.{IsMember}
-use Rattle.md_state.specs.Removing.{Removes}
+use Rattle.md_state.specs.Steps.Remove.{Removes}
 use Rattle.md_state.specs.Requests.{AreInFlight}
 use Rattle.md_state.specs.View.{Disk, MirrorView}
-use Rattle.md_array.specs.Adding.{Adds, add_event}
-use Rattle.md_array.specs.Admitting.{Admits, FailsToAdmit, admit_event}
-use Rattle.md_array.specs.Checkpoints.{Checkpoints, FailsToCheckpoint, checkpoint_event}
+use Rattle.md_array.specs.Steps.Add.{Adds, add_event}
+use Rattle.md_array.specs.Steps.Admit.{Admits, FailsToAdmit, admit_event}
+use Rattle.md_array.specs.Steps.Checkpoint.{Checkpoints, FailsToCheckpoint, checkpoint_event}
 use Rattle.md_array.specs.Consistency.{IsConsistent}
-use Rattle.md_array.specs.Enrolling.{Enrols, FailsToEnrol, MayEnrol}
-use Rattle.md_array.specs.Enrolments.{FailsAtSuper, Prepares, enrol_event}
+use Rattle.md_array.specs.Steps.Enrol.{Enrols, FailsToEnrol, MayEnrol}
+use Rattle.md_array.specs.Steps.EnrolEvents.{FailsAtSuper, Prepares, enrol_event}
 use Rattle.md_array.specs.Events.{listed_on}
-use Rattle.md_array.specs.Filling.{Fills}
+use Rattle.md_array.specs.Steps.GiveBack.{Fills}
 use Rattle.md_array.specs.InTurn.{AllLeftWhole, Leads, Requests}
-use Rattle.md_array.specs.Listing.{FailsToStoreLog, IsBelowListLimit, NotesChunk, StoresLog}
-use Rattle.md_array.specs.ReAdding.{ReAdds, re_add_event}
-use Rattle.md_array.specs.RecordingTarget.{FailsOnTarget}
+use Rattle.md_array.specs.Steps.StoreLog.{FailsToStoreLog, StoresLog}
+use Rattle.md_array.specs.Steps.NoteBad.{IsBelowListLimit, NotesChunk}
+use Rattle.md_array.specs.Steps.ReAdd.{ReAdds, re_add_event}
+use Rattle.md_array.specs.Steps.RecordTarget.{FailsOnTarget}
 use Rattle.md_array.specs.Spoiling.{SpoilsTarget}
 use Rattle.md_array.specs.Worlds.{AreHonest}
 use Rattle.md_laws.specs.Runs.{MirrorRun, Moment}

@@ -10,7 +10,7 @@ ghost use Rattle.md_model.specs.Worlds.{IsInSync};
 ghost use Rattle.md_kept_members.specs.View.{MemberView};
 ghost use Rattle.md_state.specs.Members.{IsMember};
 ghost use Rattle.md_state.specs.View.{Disk, MirrorView, geometry_of};
-ghost use Rattle.md_array.specs.Opening.{IsOpenedFrom};
+ghost use Rattle.md_array.specs.Open.Opened.{IsOpenedFrom};
 ghost use Rattle.md_array.specs.ReadAsKept.{AreReadAsKept};
 ghost use Rattle.md_array.specs.Worlds.{AreHonest, none_in_flight, super_of, world_of, world_on};
 ghost use Rattle.md_laws.specs.Fresh.{StartsFresh, StaysFresh};

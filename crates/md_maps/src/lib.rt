@@ -4,12 +4,12 @@
 mod fault;
 mod fields;
 mod line;
+mod lines_read;
 mod map;
+mod map_text;
 mod numbers;
-mod reading;
-mod writing;
 
 pub use fault::{LineFault, MapFault};
 pub use line::Block;
 pub use map::read_map;
-pub use writing::write_map;
+pub use map_text::write_map;

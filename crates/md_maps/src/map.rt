@@ -7,7 +7,7 @@ ghost use Rattle.md_maps.specs.declared.fault.MapFault.TheVariants.{NoMemory};
 
 use crate::fault::{LineFault, MapFault};
 use crate::line::read_line;
-use crate::reading::Reading;
+use crate::lines_read::Reading;
 use md_badblocks::BadSet;
 use std::alloc::Global;
 

@@ -6,7 +6,7 @@ ghost use Rattle.md_members.specs.Reading.{BitmapStartsAt, GivesBitmap, GivesMar
 
 use crate::fault::MemberFault;
 use crate::placing::is_placed;
-use crate::reading::read_sectors;
+use crate::super_read::read_sectors;
 use md_bitmap::{BitmapFault, BitmapHeader, Chunks, Marks, has_few_chunks, sectors_of_bitmap};
 use md_device::Device;
 use md_format::array_at;

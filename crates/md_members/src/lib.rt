@@ -8,9 +8,9 @@ mod info;
 mod log;
 mod member;
 mod placing;
-mod reading;
+mod super_read;
 
 pub use fault::MemberFault;
 pub use info::MemberInfo;
 pub use member::{accepted, read_member};
-pub use reading::read_super;
+pub use super_read::read_super;

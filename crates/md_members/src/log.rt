@@ -6,7 +6,7 @@ ghost use Rattle.md_members.specs.Reading.{GivesLog, LogStartsAt, UnlessReadFaul
 ghost use Rattle.md_super.specs.Log.{has_bad_block_log};
 
 use crate::fault::MemberFault;
-use crate::reading::read_sectors;
+use crate::super_read::read_sectors;
 use md_badblocks::{BadSet, LogFault};
 use md_device::Device;
 use md_super::{SUPER_SECTOR, Superblock};

@@ -10,7 +10,7 @@ use crate::fault::MemberFault;
 use crate::info::MemberInfo;
 use crate::log::read_log;
 use crate::placing::{has_a_bitmap, is_placed, lists_bad_blocks};
-use crate::reading::read_super;
+use crate::super_read::read_super;
 use md_badblocks::BadSet;
 use md_bitmap::{BitmapHeader, Marks};
 use md_device::Device;

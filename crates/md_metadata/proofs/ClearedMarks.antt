@@ -12,8 +12,8 @@ use Rattle.md_requests.specs.Pending.{PendingView}
 use Rattle.md_faults.specs.declared.step_fault.ClearFault.{ClearFault}
 use Rattle.md_faults.specs.declared.step_fault.ClearFault.TheVariants.{Halted, NotResynced, Degraded, Busy, NotMarked}
 use Rattle.md_state.specs.View.{ArrayView, MirrorView}
-use Rattle.md_state.specs.ClearingMarks.{Clears, RefusesClear, first_touching}
-use Rattle.md_state.specs.MakingClean.{first_number}
+use Rattle.md_state.specs.Steps.ClearIdle.{Clears, RefusesClear, first_touching}
+use Rattle.md_state.specs.Steps.MakeClean.{first_number}
 use Rattle.md_state.specs.Requests.{IsPending}
 use Rattle.md_array.specs.Consistency.{IsConsistent}
 use Rattle.md_array.specs.Events.{ClearHappens}

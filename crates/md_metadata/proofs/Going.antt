@@ -13,7 +13,7 @@ use Rattle.md_state.specs.View.{ArrayView, MirrorView}
 use Rattle.md_state.specs.Requests.{AreInFlight, IsPending}
 use Rattle.md_array.specs.Consistency.{IsConsistent}
 use Rattle.md_array.specs.InTurn.{AllOf, HaltsAt, InTurn, IsInOrder, Requests}
-use Rattle.md_array.proofs.Steps.Turns.{all_on, all_such, turn_on, turn_then}
+use Rattle.md_array.proofs.StepLemmas.Turns.{all_on, all_such, turn_on, turn_then}
 use Rattle.md_metadata.specs.declared.fault.PartFault.{PartFault}
 use Rattle.md_metadata.specs.declared.fault.PartFault.TheVariants.{Halted, MemberFailed}
 use Rattle.md_metadata.specs.Going.{GoesOn, HaltsAfter, IsFaulty, IsSameArray, LosesSomeMember, StepsBy, only_others, recorded_count}

@@ -10,7 +10,7 @@ use Rattle.md_array.specs.Consistency.{IsConsistent}
 use Rattle.md_array.specs.Events.{Does}
 use Rattle.md_array.specs.InTurn.{Did, InTurn, IsInOrder, LeftWhole, Requests}
 use Rattle.md_array.specs.Worlds.{AreHonest}
-use Rattle.md_array.proofs.Steps.Turns.{all_on, all_such, turn_on, turn_then}
+use Rattle.md_array.proofs.StepLemmas.Turns.{all_on, all_such, turn_on, turn_then}
 use Rattle.md_metadata.specs.Going.{GoesOn, LeadsBy, only_others}
 
 pub leads_nowhere : (IsOf : Event → Type 0) (m : MirrorView) → IsConsistent m → LeadsBy IsOf m m

@@ -12,16 +12,16 @@ use Rattle.md_kept_members.specs.View.{MemberView}
 use Rattle.md_kept_members.specs.Members.{made_due}
 use Rattle.md_faults.specs.declared.step_fault.StoreFault.TheVariants.{Halted, NotActive, MemberFailed}
 use Rattle.md_state.specs.Members.{IsMember}
-use Rattle.md_state.specs.Rising.{Fails, made_faulty}
+use Rattle.md_state.specs.Steps.Rise.{Fails, made_faulty}
 use Rattle.md_state.specs.View.{ArrayView, MirrorView}
 use Rattle.md_state.specs.Requests.{AreInFlight, IsPending}
-use Rattle.md_state.specs.StoringMarks.{FailsToStoreMarks, RefusesMarkSector, StoresMarkSector}
+use Rattle.md_state.specs.Steps.StoreMarks.{FailsToStoreMarks, RefusesMarkSector, StoresMarkSector}
 use Rattle.md_state.specs.Trying.{RefusesHalted}
-use Rattle.md_state.specs.WritingMember.{IsNotDue}
+use Rattle.md_state.specs.Steps.WriteMember.{IsNotDue}
 use Rattle.md_array.specs.Consistency.{IsConsistent}
 use Rattle.md_array.specs.Events.{Does, Happens, HappensIfOldNewOrNone}
 use Rattle.md_array.specs.InTurn.{Did, IsInOrder, IsSectorDue, LeftWhole, Requests}
-use Rattle.md_array.specs.Recording.{FailsToRecord, Records, RefusesRecord}
+use Rattle.md_array.specs.Steps.Record.{FailsToRecord, Records, RefusesRecord}
 use Rattle.md_array.specs.Worlds.{AreHonest}
 use Rattle.md_array.proofs.General.Replaced.{of_set}
 use Rattle.md_array.proofs.General.Indices.{at_set_same}

@@ -7,16 +7,16 @@ use Rattle.md_model.specs.Events.{Event, MemberPart}
 use Rattle.md_bitmap.specs.Marks.{Bitmap, is_set}
 use Rattle.md_requests.specs.Pending.{PendingView}
 use Rattle.md_kept_members.specs.View.{MemberView}
-use Rattle.md_assembly.specs.States.{is_recorded}
 use Rattle.md_kept_members.specs.Members.{made_due}
+use Rattle.md_assembly.specs.States.{is_recorded}
 use Rattle.md_faults.specs.declared.step_fault.CleanFault.{CleanFault}
 use Rattle.md_faults.specs.declared.step_fault.CleanFault.TheVariants as clean
 use Rattle.md_state.specs.View.{ArrayView, MirrorView}
 use Rattle.md_state.specs.Members.{clean_offset, is_degraded}
-use Rattle.md_state.specs.Rising.{HasSpentEvents}
-use Rattle.md_state.specs.MakingClean.{CannotRise, IsIdle, MakesClean, RefusesClean, made_clean}
+use Rattle.md_state.specs.Steps.Rise.{HasSpentEvents}
+use Rattle.md_state.specs.Steps.MakeClean.{CannotRise, IsIdle, MakesClean, RefusesClean, made_clean}
 use Rattle.md_state.specs.Requests.{IsPending}
-use Rattle.md_state.specs.WritingMember.{IsNotDue}
+use Rattle.md_state.specs.Steps.WriteMember.{IsNotDue}
 use Rattle.md_array.specs.Consistency.{IsConsistent}
 use Rattle.md_array.specs.Events.{CleanHappens}
 use Rattle.md_metadata.specs.declared.fault.PartFault.{PartFault}

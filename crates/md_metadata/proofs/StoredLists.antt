@@ -8,15 +8,15 @@ use Rattle.md_kept_members.specs.View.{MemberView}
 use Rattle.md_faults.specs.declared.step_fault.StoreFault.TheVariants.{Halted, MemberFailed}
 use Rattle.md_requests.specs.Pending.{PendingView}
 use Rattle.md_state.specs.Members.{IsInSync, IsMember}
-use Rattle.md_state.specs.NotingBad.{logged}
+use Rattle.md_state.specs.Steps.StoreLog.{logged}
 use Rattle.md_state.specs.Requests.{IsPending}
 use Rattle.md_state.specs.View.{ArrayView, MirrorView}
-use Rattle.md_state.specs.WritingMember.{IsNotDue}
+use Rattle.md_state.specs.Steps.WriteMember.{IsNotDue}
 use Rattle.md_array.specs.Consistency.{IsConsistent}
 use Rattle.md_array.specs.Events.{Happens, listed_on}
 use Rattle.md_array.specs.InTurn.{HaltsAt, IsRecordDue, IsSectorDue}
-use Rattle.md_array.specs.Listing.{FailsToStoreLog, HasNoShift, RefusesStoreLog, StoresLog}
-use Rattle.md_array.specs.Recording.{Records}
+use Rattle.md_array.specs.Steps.StoreLog.{FailsToStoreLog, HasNoShift, RefusesStoreLog, StoresLog}
+use Rattle.md_array.specs.Steps.Record.{Records}
 use Rattle.md_array.proofs.General.Replaced.{of_set}
 use Rattle.md_array.proofs.Worlds.States.{in_sync_recorded}
 use Rattle.md_metadata.specs.declared.fault.PartFault.{PartFault}

@@ -7,7 +7,7 @@ use Rattle.md_bitmap.specs.Marks.{Bitmap}
 use Rattle.md_kept_members.specs.View.{MemberView}
 use Rattle.md_state.specs.View.{ArrayView, MirrorView}
 use Rattle.md_state.specs.Members.{IsInSync}
-use Rattle.md_state.specs.WritingMember.{IsNotDue}
+use Rattle.md_state.specs.Steps.WriteMember.{IsNotDue}
 use Rattle.md_array.specs.Consistency.{IsConsistent}
 use Rattle.md_metadata.specs.Storing.{StaysReady, Stores, StoresAll, StoresAt, StoresBelow}
 use Rattle.md_metadata.proofs.Going.{stores_nowhere, stores_on, was_in_sync}

@@ -4,9 +4,9 @@ use Rattle.md_model.specs.Events.{Event, MemberPart}
 use Rattle.md_bitmap.specs.Marks.{Bitmap, is_set}
 use Rattle.md_kept_members.specs.View.{MemberView}
 use Rattle.md_state.specs.View.{ArrayView, MirrorView}
-use Rattle.md_state.specs.MakingClean.{CannotRise, HasInFlight, IsIdle, made_clean}
+use Rattle.md_state.specs.Steps.MakeClean.{CannotRise, HasInFlight, IsIdle, made_clean}
 use Rattle.md_state.specs.Members.{AllInSync, clean_offset, is_degraded}
-use Rattle.md_state.specs.Rising.{HasSpentEvents}
+use Rattle.md_state.specs.Steps.Rise.{HasSpentEvents}
 use Rattle.md_state.specs.Trying.{Refuses, RefusesHalted}
 use Rattle.md_metadata.specs.declared.stop_fault.StopFault.{StopFault}
 use Rattle.md_metadata.specs.declared.stop_fault.StopFault.TheVariants.{Halted, InFlight, EventsFull, MemberFailed}

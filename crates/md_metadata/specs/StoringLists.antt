@@ -7,7 +7,7 @@ use Rattle.md_model.specs.Events.{Event, MemberPart}
 use Rattle.md_state.specs.Members.{IsInSync}
 use Rattle.md_state.specs.View.{ArrayView, MirrorView}
 use Rattle.md_array.specs.Events.{listed_on}
-use Rattle.md_array.specs.Listing.{StoresLog}
+use Rattle.md_array.specs.Steps.StoreLog.{StoresLog}
 use Rattle.md_metadata.specs.declared.fault.PartFault.{PartFault}
 use Rattle.md_metadata.specs.declared.fault.PartFault.TheVariants.{Halted, MemberFailed}
 use Rattle.md_metadata.specs.Going.{GoesOn, StepsBy, only_others}

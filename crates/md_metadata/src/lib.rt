@@ -6,19 +6,19 @@
 #![tactic(auto)]
 
 mod all_marks;
-mod clearing;
 mod fault;
+mod idle_marks;
 mod lists;
 mod records;
 mod sectors;
 mod stop_fault;
-mod stopping;
+mod whole_stop;
 
 pub use all_marks::store_all_marks;
-pub use clearing::clear_marks;
 pub use fault::PartFault;
+pub use idle_marks::clear_marks;
 pub use lists::store_list;
 pub use records::{store_other_records, store_record, store_records};
 pub use sectors::store_sector;
 pub use stop_fault::StopFault;
-pub use stopping::stop;
+pub use whole_stop::stop;

@@ -4,7 +4,7 @@ ghost use Rattle.md_assembly.specs.States.{is_in_sync};
 ghost use Rattle.md_kept_members.specs.Enrolling.{HasRoomFor};
 ghost use Rattle.md_kept_members.specs.View.{MemberView};
 ghost use Rattle.md_state.specs.Members.{IsInSync, IsMember};
-ghost use Rattle.md_state.specs.WritingMember.{IsNotDue};
+ghost use Rattle.md_state.specs.Steps.WriteMember.{IsNotDue};
 ghost use Rattle.md_array.specs.Consistency.{IsConsistent};
 ghost use Rattle.md_metadata.specs.StoringLists.{ListFails, LogsOn, StoresList};
 

@@ -4,7 +4,7 @@ ghost use Rattle.md_model.specs.Events.{Event};
 ghost use Rattle.md_kept_members.specs.View.{MemberView};
 ghost use Rattle.md_assembly.specs.States.{is_recorded};
 ghost use Rattle.md_state.specs.Members.{AllInSync, IsInSync, IsMember};
-ghost use Rattle.md_state.specs.WritingMember.{IsNotDue};
+ghost use Rattle.md_state.specs.Steps.WriteMember.{IsNotDue};
 ghost use Rattle.md_array.specs.Consistency.{IsConsistent};
 ghost use Rattle.md_metadata.specs.Storing.{FailsInSync, IsRecording, RecordingFails, RecordsAll, RecordsAt, RecordsOn, StoresAll, StoresAt, StoringFails};
 

@@ -13,13 +13,15 @@ use Rattle.md_collect.specs.Places.{chunk_on}
 use Rattle.md_collect.specs.Collecting.{CollectorView, copying}
 use Rattle.md_collect.specs.Reports.{Copying}
 use Rattle.md_workers.specs.declared.queue.Queue.{Queue}
+use Rattle.md_workers.specs.Queues.{OnlyRead, AreOnlyRead, is_failed}
+use Rattle.md_workers.proofs.OnlyReads.{not_read}
+use Rattle.md_workers.proofs.Workers.{chunks_kept}
 use Rattle.md_pass.specs.declared.fault.PassFault.{PassFault}
 use Rattle.md_pass.specs.declared.fault.PassFault.TheVariants.{NoMemory, TargetFault}
 use Rattle.md_pass.specs.declared.preparing.Preparation.{Preparation}
-use Rattle.md_pass.specs.declared.reading.Reading.{Reading}
+use Rattle.md_pass.specs.declared.source_reading.Reading.{Reading}
 use Rattle.md_pass.specs.declared.source.Source.{Source}
 use Rattle.md_pass.specs.Beside.{has_chunk}
-use Rattle.md_workers.specs.Queues.{OnlyRead, AreOnlyRead, is_failed}
 use Rattle.md_pass.specs.Places.{AreInTurn, AreTaken}
 use Rattle.md_pass.specs.Readings.{IsQueueOf, IsOrderOf, is_of, slot_count_of}
 use Rattle.md_pass.specs.TakingReports.{Books, books}
@@ -28,12 +30,10 @@ use Rattle.md_pass.specs.Preparing.{CanCopy}
 use Rattle.md_pass.specs.Sources.{MayRead}
 use Rattle.md_pass.specs.Passes.{HasLanded, IsPassing, IsUnderWay, QueuesOnlyRead, count_left, is_left}
 use Rattle.md_pass.proofs.Departures.{related}
-use Rattle.md_workers.proofs.OnlyReads.{not_read}
 use Rattle.md_pass.proofs.Orders.{order_covers}
 use Rattle.md_pass.proofs.PassStarts.{all_fit, device_at, in_turn, reading_like, source_at}
 use Rattle.md_pass.proofs.Lefts.{order_left}
 use Rattle.md_pass.proofs.Totals.{all_counted, same_sums, same_totals, sum_none}
-use Rattle.md_workers.proofs.Workers.{chunks_kept}
 
 same_tests : (a b : Bool) → (a ≡ true → b ≡ true) → (b ≡ true → a ≡ true) → a ≡ b
 same_tests true b f h = sym (f refl)

@@ -11,20 +11,20 @@ use Rattle.md_bitmap.specs.Marks.{is_set}
 use Rattle.md_collect.specs.Places.{HasRoom}
 use Rattle.md_collect.specs.Collecting.{ArePlanned, IsUnreported}
 use Rattle.md_workers.specs.declared.queue.Queue.{Queue}
+use Rattle.md_workers.specs.Queues.{HasRead}
+use Rattle.md_workers.proofs.Workers.{none_read}
 use Rattle.md_pass.specs.declared.preparing.Preparation.{Preparation}
-use Rattle.md_pass.specs.declared.reading.Reading.{Reading}
+use Rattle.md_pass.specs.declared.source_reading.Reading.{Reading}
 use Rattle.md_pass.specs.declared.source.Source.{Source}
 use Rattle.md_pass.specs.Places.{AreInTurn, AreTaken, FitPlaces, AreDistinct}
 use Rattle.md_pass.specs.Readings.{IsQueueOf, IsOrderOf}
 use Rattle.md_pass.specs.TakingReports.{Books}
 use Rattle.md_pass.specs.Preparing.{IsOrdered}
 use Rattle.md_pass.specs.Sources.{MayRead}
-use Rattle.md_workers.specs.Queues.{HasRead}
 use Rattle.md_pass.specs.Passes.{HasBooks, IsAtStart, IsUnderWay, IsPassing, count_left}
 use Rattle.md_pass.proofs.InTurn.{taken_at, turns_fit}
 use Rattle.md_pass.proofs.Orders.{one_slot, order_apart, order_chunk, order_planned, slot_at}
 use Rattle.md_pass.proofs.Rounds.{first_goes}
-use Rattle.md_workers.proofs.Workers.{none_read}
 
 no_source : Source
 no_source = record { place = 0; role = 0; offset = 0 }

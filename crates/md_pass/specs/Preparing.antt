@@ -8,7 +8,7 @@ use Rattle.md_bitmap.specs.declared.chunks.Chunks.{Chunks}
 use Rattle.md_collect.specs.Places.{HasRoom}
 use Rattle.md_collect.specs.Collecting.{ArePlanned, IsUnreported, copying}
 use Rattle.md_pass.specs.declared.preparing.Preparation.{Preparation}
-use Rattle.md_pass.specs.declared.reading.Reading.{Reading}
+use Rattle.md_pass.specs.declared.source_reading.Reading.{Reading}
 use Rattle.md_pass.specs.declared.source.Source.{Source}
 use Rattle.md_pass.specs.Copied.{AreUncopied, PassState}
 use Rattle.md_pass.specs.Places.{AreInTurn}

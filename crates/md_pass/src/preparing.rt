@@ -4,9 +4,9 @@ ghost use Rattle.md_collect.specs.Collecting.{ArePlanned};
 ghost use Rattle.md_pass.specs.Preparing.{IsPreparedFor};
 
 use crate::places::places_in_turn;
-use crate::reading::Reading;
 use crate::readings::readings_of;
 use crate::source::Source;
+use crate::source_reading::Reading;
 use md_bitmap::Chunks;
 use md_cert::{NoMemory, Plan};
 use md_collect::Collector;

@@ -10,7 +10,7 @@ use Rattle.md_cert.specs.declared.slots.Slot.{Slot}
 use Rattle.md_kept_members.specs.Enrolling.{IsOfChunk}
 use Rattle.md_kept_members.specs.View.{MemberView}
 use Rattle.md_state.specs.Members.{IsMember}
-use Rattle.md_state.specs.NotingBad.{NotesBad}
+use Rattle.md_state.specs.Steps.NoteBad.{NotesBad}
 use Rattle.md_state.specs.View.{ArrayView}
 use Rattle.md_passes.specs.Listed.{IsListable, IsOfFailed, IsSourceInRole, ListsAdd, ListsFailed, ListsOwn}
 

@@ -10,7 +10,7 @@ use Rattle.md_kept_members.specs.Enrolling.{IsOfChunk}
 use Rattle.md_kept_members.specs.View.{MemberView}
 use Rattle.md_pass.specs.Copied.{AreJoined, AreUncopied, failed_slots}
 use Rattle.md_state.specs.Members.{IsMember, IsPermitted, IsServed}
-use Rattle.md_state.specs.NotingBad.{NotesBad}
+use Rattle.md_state.specs.Steps.NoteBad.{NotesBad}
 use Rattle.md_state.specs.View.{ArrayView}
 use Rattle.md_passes.specs.Passes.{AddsPass, AreAllPasses, ArePasses, LeadsToPasses, IsCopiedIn, IsPassOf, PassView, ServesAtMost, slots_of_pass}
 

@@ -2,7 +2,7 @@
 ghost use Rattle.std.specs.Prelude.{◌≡◌, ◌<◌, ◌≤◌, ◌*◌, length};
 ghost use Rattle.md_raw_members.specs.Elsewhere.{FindsAt, FindsElsewhere, IsFoundInSector};
 
-use crate::reading::read_sectors;
+use crate::read_parts::read_sectors;
 use md_device::Device;
 use md_examine::Found;
 use md_format::{u32_at, uuid_at};

@@ -5,7 +5,7 @@
 mod elsewhere;
 mod fault;
 mod parts;
-mod reading;
+mod read_parts;
 
 pub use fault::RawFault;
 pub use parts::{read_raw_bitmap, read_raw_log, read_raw_super};

@@ -6,7 +6,7 @@ ghost use Rattle.md_raw_members.specs.Raw.{IsArea, IsBitmapSector, RefusesRawBit
 
 use crate::elsewhere::find_elsewhere;
 use crate::fault::RawFault;
-use crate::reading::{read_bitmap_sector, read_log_area, read_super_bytes};
+use crate::read_parts::{read_bitmap_sector, read_log_area, read_super_bytes};
 use md_device::Device;
 use md_examine::Found;
 

@@ -7,7 +7,7 @@ use Rattle.md_badblocks.specs.declared.run.Run.{Run}
 use Rattle.md_badblocks.specs.Runs.{IsBad, RisesFrom}
 use Rattle.md_kept_members.specs.View.{MemberView}
 use Rattle.md_kept_members.proofs.Members.Roles.{bad_below}
-use Rattle.md_state.specs.CopyingData.{Lists}
+use Rattle.md_state.specs.Steps.CopyData.{Lists}
 use Rattle.md_array.proofs.General.Tests.{one_is}
 use Rattle.md_read.specs.Reading.{has_all}
 use Rattle.md_read.proofs.InRoles.{ListsAll, ListsSome}

@@ -5,20 +5,20 @@ use Rattle.std.proofs.lemmas.Option.{same_Some, slice_get_within}
 use Rattle.md_badblocks.specs.Runs.{IsBad, RisesFrom}
 use Rattle.md_model.proofs.Puts.{by_same}
 use Rattle.md_assembly.specs.declared.state.MemberState.{MemberState}
+use Rattle.md_assembly.specs.States.{is_in_sync_as}
+use Rattle.md_assembly.proofs.Indices.{got_within}
 use Rattle.md_array.proofs.Worlds.SectorCopied.{in_sync_as}
+use Rattle.md_array.specs.Consistency.{IsConsistent}
 use Rattle.md_kept_members.specs.OwnFields.{is_write_mostly}
 use Rattle.md_kept_members.specs.View.{MemberView}
 use Rattle.md_kept_members.proofs.Members.Roles.{bad_below, none_bad}
-use Rattle.md_assembly.specs.States.{is_in_sync_as}
-use Rattle.md_assembly.proofs.Indices.{got_within}
-use Rattle.md_state.specs.CopyingData.{Lists}
+use Rattle.md_state.specs.Steps.CopyData.{Lists}
 use Rattle.md_state.specs.DiskWrites.{AtDevice}
-use Rattle.md_array.specs.Consistency.{IsConsistent}
-use Rattle.md_device.specs.Device.{held}
 use Rattle.md_state.specs.Members.{IsMember}
-use Rattle.md_state.specs.ReadingData.{FailsToRead, ReadsData}
+use Rattle.md_state.specs.Steps.ReadData.{FailsToRead, ReadsData}
 use Rattle.md_state.specs.View.{ArrayView, MirrorView}
 use Rattle.md_state.proofs.Members.At.{told}
+use Rattle.md_device.specs.Device.{held}
 use Rattle.md_read.specs.Reading.{GivesInGroup, HasRole, IsInRole, ListedIn, NotGivenIn}
 
 -- ---- what is listed

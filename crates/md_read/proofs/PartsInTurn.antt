@@ -4,7 +4,7 @@ use Rattle.std.specs.List.{concat}
 use Rattle.std.proofs.lemmas.Option.{slice_get_within}
 use Rattle.std.proofs.lemmas.List.Folds.{concat-append}
 use Rattle.md_assembly.proofs.Indices.{got_within}
-use Rattle.md_state.specs.CopyingData.{IsSource, Lists}
+use Rattle.md_state.specs.Steps.CopyData.{IsSource, Lists}
 use Rattle.md_state.specs.Members.{AllInSync}
 use Rattle.md_state.specs.Rests.{Rests}
 use Rattle.md_state.specs.View.{ArrayView, MirrorView}

@@ -11,7 +11,7 @@ use Rattle.md_state.specs.Members.{IsInSync}
 use Rattle.md_state.specs.Rests.{Rests}
 use Rattle.md_state.specs.View.{ArrayView, MirrorView}
 use Rattle.md_array.specs.Consistency.{IsConsistent}
-use Rattle.md_array.proofs.Steps.OneMember.{stored_there}
+use Rattle.md_array.proofs.StepLemmas.OneMember.{stored_there}
 use Rattle.md_array.proofs.Worlds.InSync.{in_sync_there}
 use Rattle.md_array.proofs.Worlds.SectorCopied.{in_sync_as, unlisted_there}
 use Rattle.md_read.specs.declared.fault.UnreadFault.{UnreadFault}

@@ -4,8 +4,8 @@ use Rattle.std.specs.List.{concat}
 use Rattle.std.proofs.lemmas.Bool.{cases_lt}
 use Rattle.std.proofs.lemmas.List.Folds.{concat-append}
 use Rattle.md_device.specs.Device.{held}
-use Rattle.md_state.specs.CopyingData.{Lists}
-use Rattle.md_state.specs.ReadingData.{HoldsData}
+use Rattle.md_state.specs.Steps.CopyData.{Lists}
+use Rattle.md_state.specs.Steps.ReadData.{HoldsData}
 use Rattle.md_state.specs.Rests.{Rests}
 use Rattle.md_state.specs.View.{MirrorView}
 use Rattle.md_laws.proofs.Runs.Rests.{rests_same, rests_then}

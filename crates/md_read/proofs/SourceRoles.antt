@@ -3,7 +3,7 @@ use Rattle.std.proofs.Common.{ℕ, ◌+◌, ◌<◌, ◌≤◌, refl, sym, subst
 use Rattle.std.proofs.lemmas.Bool.{cases_lt}
 use Rattle.md_model.proofs.Puts.{by_same}
 use Rattle.md_kept_members.specs.OwnFields.{is_write_mostly}
-use Rattle.md_state.specs.CopyingData.{IsSource, Lists}
+use Rattle.md_state.specs.Steps.CopyData.{IsSource, Lists}
 use Rattle.md_state.specs.Members.{AllInSync}
 use Rattle.md_state.specs.View.{ArrayView, MirrorView}
 use Rattle.md_array.specs.Consistency.{IsConsistent}

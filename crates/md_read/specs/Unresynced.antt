@@ -5,10 +5,10 @@ use Rattle.std.specs.List.{concat}
 use Rattle.md_bitmap.specs.Marks.{is_set}
 use Rattle.md_kept_members.specs.View.{MemberView}
 use Rattle.md_assembly.specs.States.{is_in_sync_as}
-use Rattle.md_state.specs.Beginning.{IsInRange, IsOutOfRange}
-use Rattle.md_state.specs.CopyingData.{IsSource, Lists}
+use Rattle.md_state.specs.Steps.Begin.{IsInRange, IsOutOfRange}
+use Rattle.md_state.specs.Steps.CopyData.{IsSource, Lists}
 use Rattle.md_state.specs.Members.{AllInSync, IsMember}
-use Rattle.md_state.specs.ReadingData.{HoldsData}
+use Rattle.md_state.specs.Steps.ReadData.{HoldsData}
 use Rattle.md_state.specs.Rests.{Rests}
 use Rattle.md_state.specs.Trying.{Refuses, RefusesHalted}
 use Rattle.md_state.specs.View.{ArrayView, MirrorView}

@@ -2,14 +2,14 @@
 #![tactic(auto)]
 
 mod fault;
-mod reading;
 mod roles;
 mod runs;
 mod sources;
 mod unresynced;
 mod unresynced_fault;
+mod whole_read;
 
 pub use fault::UnreadFault;
-pub use reading::read;
 pub use unresynced::read_unresynced;
 pub use unresynced_fault::UnresyncedFault;
+pub use whole_read::read;

@@ -5,7 +5,7 @@ ghost use Rattle.md_kept_members.specs.OwnFields.{is_write_mostly};
 ghost use Rattle.md_kept_members.specs.View.{MemberView};
 ghost use Rattle.md_assembly.specs.States.{is_in_sync_as};
 ghost use Rattle.md_state.specs.Members.{IsMember};
-ghost use Rattle.md_state.specs.CopyingData.{Lists};
+ghost use Rattle.md_state.specs.Steps.CopyData.{Lists};
 ghost use Rattle.md_array.specs.Consistency.{IsConsistent};
 ghost use Rattle.md_read.specs.Reading.{HasRole, IsInRole, TriesRole, has_all};
 

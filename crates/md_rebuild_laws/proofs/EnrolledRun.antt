@@ -11,15 +11,15 @@ use Rattle.md_model.proofs.Cases.{below-nat_lt}
 use Rattle.md_state.specs.Requests.{AreInFlight}
 use Rattle.md_state.specs.View.{Disk, MirrorView, geometry_of}
 use Rattle.md_array.specs.Consistency.{IsConsistent}
-use Rattle.md_array.specs.Enrolling.{Enrols, MayEnrol}
-use Rattle.md_array.specs.Enrolments.{IsHeldBy, Prepares, enrol_event, prepared}
+use Rattle.md_array.specs.Steps.Enrol.{Enrols, MayEnrol}
+use Rattle.md_array.specs.Steps.EnrolEvents.{IsHeldBy, Prepares, enrol_event, prepared}
 use Rattle.md_array.specs.Events.{Does}
 use Rattle.md_array.specs.Worlds.{AreHonest, lists_of, stored_of, world_of}
-use Rattle.md_array.proofs.Rebuilding.EnrolledEvent.{does_enrol}
+use Rattle.md_array.proofs.Rebuilding.EnrolEvent.{does_enrol}
 use Rattle.md_array.proofs.Rebuilding.HeldContent.{it_holds}
 use Rattle.md_array.proofs.Rebuilding.InBetween.{prepared_is, prepares, then_at, then_disk}
 use Rattle.md_array.proofs.Rebuilding.PreparedEvent.{prepare_happens}
-use Rattle.md_array.proofs.Steps.OneMember.{stored_there}
+use Rattle.md_array.proofs.StepLemmas.OneMember.{stored_there}
 use Rattle.md_laws.specs.Runs.{MirrorRun, MirrorRunWith, Moment, RestsThenDoes, then_as}
 use Rattle.md_laws.proofs.Runs.Rests.{at_once, at_rest}
 

@@ -24,8 +24,8 @@ use Rattle.md_state.specs.Missing.{is_missing}
 use Rattle.md_state.specs.View.{ArrayView, Disk, MirrorView}
 use Rattle.md_super.specs.declared.superblock.Superblock.{Superblock}
 use Rattle.md_array.specs.Consistency.{IsConsistent}
-use Rattle.md_array.specs.Enrolling.{Enrols, HoldsContent}
-use Rattle.md_array.specs.Enrolments.{IsHeldBy, prepared}
+use Rattle.md_array.specs.Steps.Enrol.{Enrols, HoldsContent}
+use Rattle.md_array.specs.Steps.EnrolEvents.{IsHeldBy, prepared}
 use Rattle.md_array.specs.Worlds.{AreHonest, lies_in, lists_of}
 use Rattle.md_array.proofs.General.Indices.{got_other}
 use Rattle.md_array.proofs.Rebuilding.HeldContent.{another, its_chunk, then_sector}

@@ -23,7 +23,7 @@ use Rattle.md_state.specs.Members.{IsMember}
 use Rattle.md_state.specs.Missing.{has_passed, is_missing, is_re_added}
 use Rattle.md_state.specs.View.{ArrayView, Disk, geometry_of}
 use Rattle.md_array.specs.Worlds.{kind_of, lies_in, lists_of, stored_of, world_of}
-use Rattle.md_array.proofs.Steps.OneMember.{member_there, stored_there}
+use Rattle.md_array.proofs.StepLemmas.OneMember.{member_there, stored_there}
 use Rattle.md_array.proofs.Worlds.Bad.{bad_from_test}
 use Rattle.md_array.proofs.Worlds.States.{same_in_sync, same_recovering}
 use Rattle.md_laws.specs.Runs.{Moment}

@@ -12,13 +12,13 @@ use Rattle.md_model.specs.Worlds.{IsQuiet, World}
 use Rattle.md_model.proofs.Cases.{below-nat_lt}
 use Rattle.md_model.proofs.Content.Picked.{picked, picked-one}
 use Rattle.md_model.proofs.Steps.Tracked.{IsTracked}
-use Rattle.md_state.specs.MakingClean.{IsIdle}
+use Rattle.md_state.specs.Steps.MakeClean.{IsIdle}
 use Rattle.md_state.specs.Members.{IsInSync}
 use Rattle.md_state.specs.View.{Disk, MirrorView, geometry_of}
-use Rattle.md_array.specs.Enrolling.{HoldsContent}
+use Rattle.md_array.specs.Steps.Enrol.{HoldsContent}
 use Rattle.md_array.specs.Worlds.{is_listed, stored_of, world_of}
-use Rattle.md_array.proofs.Steps.MadeClean.{none_listed}
-use Rattle.md_array.proofs.Steps.OneMember.{stored_there}
+use Rattle.md_array.proofs.StepLemmas.MakeClean.{none_listed}
+use Rattle.md_array.proofs.StepLemmas.OneMember.{stored_there}
 use Rattle.md_array.proofs.Worlds.InSync.{in_sync_is, in_sync_there}
 use Rattle.md_laws.specs.Runs.{Moment}
 use Rattle.md_laws.proofs.Runs.Moments.{IsSoundAt}

@@ -13,13 +13,13 @@ use Rattle.md_state.specs.Members.{IsInSync, IsMember}
 use Rattle.md_state.specs.Missing.{is_rebuilt}
 use Rattle.md_state.specs.Requests.{AreInFlight}
 use Rattle.md_state.specs.View.{ArrayView, Disk, MirrorView}
-use Rattle.md_array.specs.Checkpoints.{Checkpoints, FailsToCheckpoint}
-use Rattle.md_array.specs.Enrolling.{Enrols, FailsToEnrol}
+use Rattle.md_array.specs.Steps.Checkpoint.{Checkpoints, FailsToCheckpoint}
+use Rattle.md_array.specs.Steps.Enrol.{Enrols, FailsToEnrol}
 use Rattle.md_array.specs.Events.{Does}
-use Rattle.md_array.specs.Filling.{Fills}
+use Rattle.md_array.specs.Steps.GiveBack.{Fills}
 use Rattle.md_array.specs.InTurn.{AllLeftWhole, AllOf, Did, InTurn, IsInOrder, LeftWhole, Requests}
 use Rattle.md_array.specs.Worlds.{AreHonest, block_on}
-use Rattle.md_array.proofs.Steps.Turns.{all_on, all_such}
+use Rattle.md_array.proofs.StepLemmas.Turns.{all_on, all_such}
 use Rattle.md_laws.specs.Left.{IsLeftByCrash, IsLeftEnrolled, IsLeftEnrolling, IsLeftFilling, IsLeftPreparing, IsLeftRecording, IsLeftTargeted, IsLeftTargeting, contents_of}
 use Rattle.md_laws.specs.Runs.{Moment, then_as}
 use Rattle.md_laws.specs.CallCrashes.{IsLeftWhole, IsUnshifted, CrashesIn}

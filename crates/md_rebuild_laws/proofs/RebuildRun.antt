@@ -9,12 +9,12 @@ use Rattle.md_state.specs.DiskWrites.{AtDevice}
 use Rattle.md_state.specs.Requests.{AreInFlight}
 use Rattle.md_state.specs.View.{Disk, MirrorView, geometry_of}
 use Rattle.md_array.specs.Consistency.{IsConsistent}
-use Rattle.md_array.specs.Enrolling.{Enrols, HoldsContent}
-use Rattle.md_array.specs.Enrolments.{IsHeldBy, enrol_event, prepared}
+use Rattle.md_array.specs.Steps.Enrol.{Enrols, HoldsContent}
+use Rattle.md_array.specs.Steps.EnrolEvents.{IsHeldBy, enrol_event, prepared}
 use Rattle.md_array.specs.InTurn.{AllLeftWhole, AllOf, InTurn, Requests}
 use Rattle.md_array.specs.Worlds.{block_on, lists_of, none_in_flight, world_of}
 use Rattle.md_array.proofs.General.Resting.{geometry_rests, world_rests}
-use Rattle.md_array.proofs.Steps.Turns.{all_on, all_such}
+use Rattle.md_array.proofs.StepLemmas.Turns.{all_on, all_such}
 use Rattle.md_laws.specs.Left.{contents_of}
 use Rattle.md_laws.specs.Lives.{MirrorLifeWith}
 use Rattle.md_laws.specs.Runs.{HasRested, IsStart, MirrorRun, MirrorRunWith, Moment, log_unknown_after, opened_as, then_as}
@@ -24,6 +24,7 @@ use Rattle.md_laws.proofs.Runs.ContentRuns.{without_content}
 use Rattle.md_laws.proofs.Runs.MirrorContents.{life_held_at}
 use Rattle.md_laws.proofs.Runs.MirrorRuns.{rests_run}
 use Rattle.md_laws.proofs.Runs.Rests.{rests_then}
+use Rattle.md_laws.specs.CallCrashes.{CrashesIn}
 use Rattle.md_metadata.specs.Going.{GoesOn, only_others}
 use Rattle.md_metadata.specs.Storing.{IsStoring}
 use Rattle.md_copy.specs.declared.rebuilt.Rebuilt.{Rebuilt}
@@ -34,7 +35,6 @@ use Rattle.md_copy.proofs.PassesTold.{filled_ready}
 use Rattle.md_copy.proofs.RebuildLeads.{before_of, begin_holds, storing_before}
 use Rattle.md_rebuild_laws.specs.RebuildRuns.{LogsUnshifted, RebuildIsARun, RebuildRunsOn, RunsTo}
 use Rattle.md_rebuild_laws.specs.RebuiltInLife.{HeldWhatItHad}
-use Rattle.md_laws.specs.CallCrashes.{CrashesIn}
 use Rattle.md_rebuild_laws.specs.RebuildCrashes.{HasFilled, IsCrashEnrolled, CrashesAnyhow, CrashesEnrolled, CrashesInRebuild, CrashesStoringRecords}
 use Rattle.md_rebuild_laws.proofs.EnrolledRun.{at_end, enrolled_run_with}
 use Rattle.md_rebuild_laws.proofs.HeldAtEnrol.{is_held}

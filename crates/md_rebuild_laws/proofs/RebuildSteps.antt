@@ -9,12 +9,12 @@ use Rattle.md_model.proofs.Puts.{put-hit}
 use Rattle.md_passes.specs.Passes.{PassView, failed_chunks}
 use Rattle.md_state.specs.Requests.{AreInFlight}
 use Rattle.md_state.specs.View.{MirrorView}
-use Rattle.md_array.specs.Admitting.{Admits, admit_event}
-use Rattle.md_array.specs.Checkpoints.{Checkpoints, checkpoint_event}
+use Rattle.md_array.specs.Steps.Admit.{Admits, admit_event}
+use Rattle.md_array.specs.Steps.Checkpoint.{Checkpoints, checkpoint_event}
 use Rattle.md_array.specs.Events.{listed_on}
-use Rattle.md_array.specs.Filling.{Fills}
+use Rattle.md_array.specs.Steps.GiveBack.{Fills}
 use Rattle.md_array.specs.InTurn.{AllLeftWhole, AllOf, InTurn, LeftWhole, Requests}
-use Rattle.md_array.proofs.Steps.Turns.{all_on, all_such}
+use Rattle.md_array.proofs.StepLemmas.Turns.{all_on, all_such}
 use Rattle.md_laws.specs.ReadInTurn.{IsNoFailedRecord}
 use Rattle.md_laws.specs.Runs.{MirrorRun, Moment, then_as}
 use Rattle.md_laws.proofs.Runs.CallRuns.{admit_is_a_call, call_is_run, checkpoint_is_a_call, fill_is_a_call}

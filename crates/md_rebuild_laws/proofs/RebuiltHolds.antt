@@ -20,9 +20,9 @@ use Rattle.md_model.proofs.Cases.{by_test}
 use Rattle.md_state.specs.Missing.{is_missing}
 use Rattle.md_state.specs.View.{ArrayView, Disk, MirrorView, geometry_of}
 use Rattle.md_array.specs.Consistency.{IsConsistent}
-use Rattle.md_array.specs.Enrolling.{HoldsContent}
+use Rattle.md_array.specs.Steps.Enrol.{HoldsContent}
 use Rattle.md_array.proofs.Worlds.PartsApart.{ends_below}
-use Rattle.md_array.specs.Lending.{IsBesideChunk}
+use Rattle.md_array.specs.Steps.Lend.{IsBesideChunk}
 use Rattle.md_array.specs.Worlds.{AreHonest, none_in_flight, world_of}
 use Rattle.md_array.proofs.Rebuilding.HeldContent.{its_chunk}
 use Rattle.md_laws.specs.Lives.{MirrorLifeWith}

@@ -10,13 +10,13 @@ use Rattle.md_state.specs.Members.{IsMember}
 use Rattle.md_state.specs.Missing.{is_rebuilt}
 use Rattle.md_state.specs.Requests.{AreInFlight}
 use Rattle.md_state.specs.View.{ArrayView, Disk, MirrorView}
-use Rattle.md_array.specs.Checkpoints.{Checkpoints, FailsToCheckpoint}
-use Rattle.md_array.specs.Enrolling.{Enrols, FailsToEnrol}
-use Rattle.md_array.specs.Enrolments.{FailsAtSuper, Prepares}
+use Rattle.md_array.specs.Steps.Checkpoint.{Checkpoints, FailsToCheckpoint}
+use Rattle.md_array.specs.Steps.Enrol.{Enrols, FailsToEnrol}
+use Rattle.md_array.specs.Steps.EnrolEvents.{FailsAtSuper, Prepares}
 use Rattle.md_array.proofs.Rebuilding.InBetween.{recovers_rebuilt}
 use Rattle.md_array.proofs.Rebuilding.PreparedEvent.{prepare_happens}
 use Rattle.md_array.proofs.Rebuilding.SpoiledEvent.{spoil_happens}
-use Rattle.md_array.proofs.Steps.Turns.{all_on, all_such}
+use Rattle.md_array.proofs.StepLemmas.Turns.{all_on, all_such}
 use Rattle.md_laws.specs.Left.{IsTargetCall, contents_of}
 use Rattle.md_laws.specs.Runs.{MirrorRun, Moment, then_as}
 use Rattle.md_laws.specs.Spoiled.{IsLeftSpoiled}

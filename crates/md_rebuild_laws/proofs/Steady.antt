@@ -6,12 +6,12 @@ use Rattle.md_model.specs.Events.{Event}
 use Rattle.md_model.specs.Openings.{IsWithinLimits}
 use Rattle.md_model.specs.Sectors.{Geometry}
 use Rattle.md_model.proofs.Steps.Keeps.{IsKept, kept_run}
-use Rattle.md_state.specs.MakingClean.{IsIdle}
+use Rattle.md_state.specs.Steps.MakeClean.{IsIdle}
 use Rattle.md_state.specs.View.{Disk, MirrorView, geometry_of}
-use Rattle.md_array.specs.Enrolling.{HoldsContent}
+use Rattle.md_array.specs.Steps.Enrol.{HoldsContent}
 use Rattle.md_array.specs.InTurn.{AllLeftWhole, AllOf, Leads}
 use Rattle.md_array.specs.Worlds.{none_in_flight, super_of, world_of}
-use Rattle.md_array.proofs.Steps.Turns.{all_on, all_such}
+use Rattle.md_array.proofs.StepLemmas.Turns.{all_on, all_such}
 use Rattle.md_laws.specs.Lives.{MirrorLife, MirrorLifeWith}
 use Rattle.md_laws.specs.Runs.{IsStart, MirrorRun, Moment, history_of}
 use Rattle.md_laws.proofs.Runs.CallRuns.{call_is_run}

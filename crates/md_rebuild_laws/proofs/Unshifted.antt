@@ -10,10 +10,10 @@ use Rattle.md_kept_members.specs.TakingBack.{admitted_member, with_recovery_offs
 use Rattle.md_kept_members.specs.View.{MemberView}
 use Rattle.md_model.specs.Events.{Event}
 use Rattle.md_state.specs.Members.{IsInSync}
-use Rattle.md_state.specs.NotingBad.{logged}
+use Rattle.md_state.specs.Steps.StoreLog.{logged}
 use Rattle.md_state.specs.View.{ArrayView, MirrorView}
-use Rattle.md_array.specs.Admitting.{Admits}
-use Rattle.md_array.specs.Checkpoints.{Checkpoints}
+use Rattle.md_array.specs.Steps.Admit.{Admits}
+use Rattle.md_array.specs.Steps.Checkpoint.{Checkpoints}
 use Rattle.md_array.specs.InTurn.{AllLeftWhole, AllOf, Did, InTurn, LeftWhole, Requests}
 use Rattle.md_array.proofs.General.Indices.{at_map}
 use Rattle.md_array.proofs.General.Replaced.{of_set}

@@ -8,8 +8,8 @@ use Rattle.md_passes.specs.Passes.{PassView, slots_of_pass}
 use Rattle.md_super.specs.declared.superblock.Superblock.{Superblock}
 use Rattle.md_state.specs.Members.{IsMember}
 use Rattle.md_state.specs.View.{ArrayView, Disk, MirrorView}
-use Rattle.md_array.specs.Checkpoints.{Checkpoints}
-use Rattle.md_array.specs.Opening.{IsArrayOf}
+use Rattle.md_array.specs.Steps.Checkpoint.{Checkpoints}
+use Rattle.md_array.specs.Open.Opened.{IsArrayOf}
 use Rattle.md_array.specs.ReadAsKept.{IsSuperOn}
 use Rattle.md_array.specs.Worlds.{AreHonest}
 use Rattle.md_laws.specs.Left.{contents_of}

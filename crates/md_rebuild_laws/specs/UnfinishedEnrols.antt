@@ -3,8 +3,8 @@ use Rattle.std.specs.Prelude.{ℕ, List}
 use Rattle.md_bitmap.specs.Marks.{Bitmap}
 use Rattle.md_state.specs.View.{Disk, MirrorView}
 use Rattle.md_array.specs.Consistency.{IsConsistent}
-use Rattle.md_array.specs.Enrolling.{FailsToEnrol, MayEnrol}
-use Rattle.md_array.specs.Enrolments.{Prepares}
+use Rattle.md_array.specs.Steps.Enrol.{FailsToEnrol, MayEnrol}
+use Rattle.md_array.specs.Steps.EnrolEvents.{Prepares}
 use Rattle.md_laws.specs.Left.{IsLeftByCrash, IsLeftWithin}
 use Rattle.md_laws.specs.Runs.{Moment}
 use Rattle.md_copy.specs.RebuildEvents.{FailsAtMarks}

@@ -10,14 +10,14 @@ use Rattle.md_kept_members.specs.View.{MemberView}
 use Rattle.md_state.specs.DeviceChanges.{IsUntouched}
 use Rattle.md_state.specs.DiskWrites.{AtDevice}
 use Rattle.md_state.specs.View.{ArrayView, Disk, MirrorView}
-use Rattle.md_state.specs.MakingClean.{IsIdle, first_number}
+use Rattle.md_state.specs.Steps.MakeClean.{IsIdle, first_number}
 use Rattle.md_state.specs.Requests.{AreInFlight, IsPending}
 use Rattle.md_state.specs.Members.{AllInSync, IsAlone, IsInSync}
 use Rattle.md_array.specs.Consistency.{IsConsistent}
 use Rattle.md_array.specs.InTurn.{InTurn, Leads, Requests}
-use Rattle.md_array.specs.NotingResynced.{AllAgreeAt, IsHonestMember}
-use Rattle.md_array.proofs.Steps.MadeClean.{none_listed}
-use Rattle.md_array.proofs.Steps.Turns.{all_on, turn_on, turn_then}
+use Rattle.md_array.specs.Steps.NoteResynced.{AllAgreeAt, IsHonestMember}
+use Rattle.md_array.proofs.StepLemmas.MakeClean.{none_listed}
+use Rattle.md_array.proofs.StepLemmas.Turns.{all_on, turn_on, turn_then}
 use Rattle.md_array.proofs.Worlds.SectorCopied.{none_there}
 use Rattle.md_array.proofs.Openings.Opened.{same_through}
 use Rattle.md_laws.specs.ReadInTurn.{ReadInTurn}

@@ -8,18 +8,18 @@ use Rattle.md_model.specs.Events.{Event, MemberPart}
 use Rattle.md_model.specs.Worlds.{World}
 use Rattle.md_kept_members.specs.View.{MemberView}
 use Rattle.md_state.specs.View.{ArrayView, Disk, MirrorView, geometry_of}
-use Rattle.md_state.specs.MakingClean.{IsIdle}
+use Rattle.md_state.specs.Steps.MakeClean.{IsIdle}
 use Rattle.md_state.specs.Members.{IsAlone, IsInSync}
 use Rattle.md_state.specs.Requests.{AreInFlight}
 use Rattle.md_state.specs.Rests.{Rests}
 use Rattle.md_array.specs.Consistency.{IsConsistent}
 use Rattle.md_array.specs.InTurn.{AllOf, LeftWhole, Requests}
-use Rattle.md_array.specs.NotingResynced.{AllAgreeWhereMarked, sector_of}
+use Rattle.md_array.specs.Steps.NoteResynced.{AllAgreeWhereMarked, sector_of}
 use Rattle.md_array.specs.Worlds.{AreHonest, world_of}
 use Rattle.md_array.proofs.General.Honesty.{same_honest}
 use Rattle.md_array.proofs.General.Resting.{geometry_rests, world_rests}
+use Rattle.md_array.proofs.StepLemmas.Turns.{all_such}
 use Rattle.md_laws.specs.ReadInTurn.{LeadsReading}
-use Rattle.md_array.proofs.Steps.Turns.{all_such}
 use Rattle.md_metadata.specs.Clearing.{IsClearing}
 use Rattle.md_resync.specs.Copying.{CopiesOnly, CopiesMarked, CopyingGoesOn, IsCopying}
 use Rattle.md_resync.specs.Resyncing.{ResyncAdvances, Agrees, ResyncGoesOn, IsFirstInSyncFrom, IsOfResync, KeepsHeldContent, NoneInSyncBetween}

@@ -6,11 +6,11 @@ use Rattle.std.proofs.lemmas.Bool.{cases_lt}
 use Rattle.std.proofs.lemmas.Option.{same_Some, slice_get_within}
 use Rattle.md_assembly.specs.declared.state.MemberState.{MemberState}
 use Rattle.md_assembly.specs.declared.state.MemberState.TheVariants.{Faulty, InSync, Recovering, Spare, Stale}
-use Rattle.md_model.proofs.Cases.{by_test, is_above}
-use Rattle.md_kept_members.specs.View.{MemberView}
 use Rattle.md_assembly.specs.States.{is_in_sync_as}
 use Rattle.md_assembly.proofs.Indices.{got_within}
-use Rattle.md_state.specs.CopyingData.{IsSource}
+use Rattle.md_model.proofs.Cases.{by_test, is_above}
+use Rattle.md_kept_members.specs.View.{MemberView}
+use Rattle.md_state.specs.Steps.CopyData.{IsSource}
 use Rattle.md_state.specs.View.{ArrayView}
 use Rattle.md_state.specs.Members.{IsMember}
 use Rattle.md_resync.specs.Sources.{BestBelow, IsBest, IsUnlistedSource, NoneFree, lower_of}

@@ -4,21 +4,21 @@ use Rattle.md_model.specs.Content.{HoldsBetween}
 use Rattle.md_model.specs.Events.{Event}
 use Rattle.md_model.specs.Sectors.{Geometry}
 use Rattle.md_array.specs.Worlds.{world_of}
+use Rattle.md_array.specs.Consistency.{IsConsistent}
+use Rattle.md_array.proofs.StepLemmas.Turns.{all_such}
+use Rattle.md_array.proofs.General.Honesty.{same_honest}
 use Rattle.md_bitmap.specs.Marks.{Bitmap, is_set}
 use Rattle.md_kept_members.specs.View.{MemberView}
 use Rattle.md_state.specs.DeviceChanges.{AreSame, StaysHonest}
 use Rattle.md_state.specs.View.{ArrayView, Disk, MirrorView, geometry_of}
-use Rattle.md_state.specs.MakingClean.{IsIdle}
+use Rattle.md_state.specs.Steps.MakeClean.{IsIdle}
 use Rattle.md_state.specs.Members.{AllInSync, is_degraded}
-use Rattle.md_array.specs.Consistency.{IsConsistent}
-use Rattle.md_array.proofs.Steps.Turns.{all_such}
 use Rattle.md_laws.proofs.Runs.ReadTurns.{unread}
 use Rattle.md_metadata.specs.Clearing.{ClearsAll, IsClearing, ChangesMarksAlone}
 use Rattle.md_metadata.specs.Storing.{HasAllMarks, IsNoFailure}
 use Rattle.md_resync.specs.Resyncing.{ResyncAdvances, ClearsStored, HasSameMembers, IsOfResync, KeepsHeldContent, StoresAllMarks}
 use Rattle.md_resync.proofs.Advancing.{advances_on, agree_same, goes_none, none_flies}
 use Rattle.md_resync.proofs.Agreeing.{IsCalm, calm_content, clearing_is_calm}
-use Rattle.md_array.proofs.General.Honesty.{same_honest}
 use Rattle.md_resync.specs.Steps.{IsNoCopy}
 use Rattle.md_resync.proofs.StepsOn.{by_singles}
 use Rattle.md_assembly.proofs.Indices.{got_same}

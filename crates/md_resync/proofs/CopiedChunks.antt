@@ -7,12 +7,12 @@ use Rattle.md_bitmap.specs.declared.chunks.Chunks.{Chunks}
 use Rattle.md_bitmap.specs.Chunks.{InChunk}
 use Rattle.md_bitmap.specs.Marks.{is_set}
 use Rattle.md_state.specs.View.{ArrayView, MirrorView}
-use Rattle.md_state.specs.CopyingData.{IsSource, MayCopyChunk}
+use Rattle.md_state.specs.Steps.CopyData.{IsSource, MayCopyChunk}
 use Rattle.md_state.specs.Members.{IsInSync}
-use Rattle.md_state.specs.ReadingData.{FailsToRead, HoldsData, ReadsData}
+use Rattle.md_state.specs.Steps.ReadData.{FailsToRead, HoldsData, ReadsData}
 use Rattle.md_state.proofs.Changes.RequestChunks.{div_mono}
 use Rattle.md_array.specs.Consistency.{IsConsistent}
-use Rattle.md_array.specs.NotingResynced.{AllAgreeAt}
+use Rattle.md_array.specs.Steps.NoteResynced.{AllAgreeAt}
 use Rattle.md_array.proofs.Worlds.SectorCopied.{has_role}
 use Rattle.md_resync.specs.declared.fault.ResyncFault.{ResyncFault}
 use Rattle.md_resync.specs.declared.fault.ResyncFault.TheVariants.{Halted, InFlight, MemberFailed, NoMemory, ReadFault}

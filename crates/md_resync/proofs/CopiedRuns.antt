@@ -11,23 +11,23 @@ use Rattle.md_model.proofs.Puts.{by_same}
 use Rattle.md_device_writes.specs.Writes.{Write}
 use Rattle.md_kept_members.specs.View.{MemberView}
 use Rattle.md_state.specs.View.{ArrayView, Disk, MirrorView}
-use Rattle.md_state.specs.CopyingData.{CopiesTo, IsCopy, RefusesCopy, copies_of, run_write}
-use Rattle.md_faults.specs.declared.copy_fault.CopyFault.TheVariants as copy_fault
-use Rattle.md_state.specs.MakingClean.{IsIdle}
+use Rattle.md_state.specs.Steps.CopyData.{CopiesTo, IsCopy, RefusesCopy, copies_of, run_write}
+use Rattle.md_state.specs.Steps.MakeClean.{IsIdle}
 use Rattle.md_state.specs.DeviceChanges.{AreSame, StaysHonest}
 use Rattle.md_state.specs.DiskWrites.{IsTried}
 use Rattle.md_state.specs.Members.{IsInSync, IsMember}
-use Rattle.md_state.specs.ReadingData.{HoldsData}
+use Rattle.md_state.specs.Steps.ReadData.{HoldsData}
 use Rattle.md_state.specs.Requests.{AreInFlight}
 use Rattle.md_state.specs.Rests.{Rests}
+use Rattle.md_faults.specs.declared.copy_fault.CopyFault.TheVariants as copy_fault
 use Rattle.md_array.specs.Consistency.{IsConsistent}
-use Rattle.md_array.specs.CopyEvents.{CopiesInTurn}
+use Rattle.md_array.specs.Steps.CopyData.{CopiesInTurn}
 use Rattle.md_array.specs.Events.{Happens}
 use Rattle.md_array.specs.InTurn.{AllOf, Leads, Requests}
-use Rattle.md_array.specs.NotingResynced.{AllAgreeAt, IsHonestMember, sector_of}
+use Rattle.md_array.specs.Steps.NoteResynced.{AllAgreeAt, IsHonestMember, sector_of}
 use Rattle.md_array.proofs.General.Resting.{rests_sound}
-use Rattle.md_array.proofs.Steps.CopyWrites.{copied_run_is_consistent, run_fits}
-use Rattle.md_array.proofs.Steps.Turns.{all_on, all_such}
+use Rattle.md_array.proofs.StepLemmas.CopyData.{copied_run_is_consistent, run_fits}
+use Rattle.md_array.proofs.StepLemmas.Turns.{all_on, all_such}
 use Rattle.md_array.proofs.Worlds.States.{in_sync_recorded}
 use Rattle.md_array.proofs.Openings.Opened.{same_through}
 use Rattle.md_laws.specs.ReadInTurn.{ReadInTurn}

@@ -3,39 +3,39 @@ use Rattle.std.proofs.Common.{◌≡◌, ℕ, ◌+◌, ◌*◌, ◌<◌, inl, in
 use Rattle.std.proofs.lemmas.Bool.{cases_lt}
 use Rattle.std.proofs.lemmas.Option.{none-some, slice_get_within}
 use Rattle.md_bitmap.proofs.Padded.{length-padded}
+use Rattle.md_bitmap.specs.Marks.{Bitmap}
 use Rattle.md_device.specs.Splice.{SameOutside}
 use Rattle.md_members.specs.Areas.{bitmap_sectors}
 use Rattle.md_model.proofs.Cases.{below-nat_lt}
 use Rattle.md_model.proofs.Puts.{by_same}
-use Rattle.md_bitmap.specs.Marks.{Bitmap}
 use Rattle.md_model.specs.Devices.{Stored}
 use Rattle.md_model.specs.Events.{Event, MemberPart}
 use Rattle.md_device_writes.specs.Writes.{Write}
 use Rattle.md_requests.specs.declared.extent.Extent.{Extent}
 use Rattle.md_kept_members.specs.View.{MemberView}
-use Rattle.md_state.specs.CopyingData.{Lists}
+use Rattle.md_state.specs.Steps.CopyData.{Lists}
 use Rattle.md_state.specs.DeviceChanges.{AreSame}
 use Rattle.md_state.specs.Members.{IsInSync}
-use Rattle.md_state.specs.StoringMarks.{StoresMarkSector}
+use Rattle.md_state.specs.Steps.StoreMarks.{StoresMarkSector}
 use Rattle.md_state.specs.View.{ArrayView, Disk, MirrorView}
+use Rattle.md_state.specs.Steps.MakeClean.{IsIdle, first_number}
+use Rattle.md_state.specs.Requests.{AreInFlight}
 use Rattle.md_array.specs.Consistency.{IsConsistent}
 use Rattle.md_array.specs.InTurn.{AllOf, IsSectorDue, Leads, Requests}
-use Rattle.md_array.specs.NotingResynced.{AllAgreeAt, IsHonestMember, sector_of}
+use Rattle.md_array.specs.Steps.NoteResynced.{AllAgreeAt, IsHonestMember, sector_of}
 use Rattle.md_array.specs.Worlds.{sector_from_super, none_in_flight}
-use Rattle.md_array.proofs.Steps.Turns.{all_such}
-use Rattle.md_laws.proofs.Runs.ReadTurns.{unread}
-use Rattle.md_metadata.specs.Going as metadata
-use Rattle.md_metadata.specs.Going.{only_others}
-use Rattle.md_inflight.specs.Inflight.{InflightList}
-use Rattle.md_metadata.specs.Storing.{HasAllMarks, IsMarking, IsNoFailure, LosesStoring, StoresAll}
-use Rattle.md_state.specs.MakingClean.{IsIdle, first_number}
-use Rattle.md_state.specs.Requests.{AreInFlight}
+use Rattle.md_array.proofs.StepLemmas.Turns.{all_such}
 use Rattle.md_array.proofs.General.Indices.{at_set_same, got_other}
-use Rattle.md_array.proofs.Steps.FailedParts.{halted_then}
-use Rattle.md_array.proofs.Steps.MarkSectors.{marks_stored_is_consistent}
+use Rattle.md_array.proofs.StepLemmas.FailedParts.{halted_then}
+use Rattle.md_array.proofs.StepLemmas.StoreMarks.{marks_stored_is_consistent}
 use Rattle.md_array.proofs.Worlds.Outside.{starts_at}
 use Rattle.md_array.proofs.Worlds.PartsApart.{marks_alone, parts_of}
 use Rattle.md_array.proofs.Openings.Opened.{same_through}
+use Rattle.md_laws.proofs.Runs.ReadTurns.{unread}
+use Rattle.md_metadata.specs.Going as metadata
+use Rattle.md_metadata.specs.Going.{only_others}
+use Rattle.md_metadata.specs.Storing.{HasAllMarks, IsMarking, IsNoFailure, LosesStoring, StoresAll}
+use Rattle.md_inflight.specs.Inflight.{InflightList}
 use Rattle.md_resync.specs.Resyncing.{FailsAtWrite, ResyncGoesOn, HaltsIdle, HasSameMembers, IsOfResync, StoresAllMarks}
 use Rattle.md_resync.proofs.Agreeing.{IsCalm, calm_content}
 use Rattle.md_resync.proofs.Cleared.{same_disks, same_members}

@@ -12,18 +12,18 @@ use Rattle.md_model.specs.Events.{Event, MemberPart}
 use Rattle.md_model.specs.Sectors.{Geometry}
 use Rattle.md_kept_members.specs.View.{MemberView}
 use Rattle.md_state.specs.View.{ArrayView, MirrorView, geometry_of}
-use Rattle.md_state.specs.MakingClean.{IsIdle}
+use Rattle.md_state.specs.Steps.MakeClean.{IsIdle}
 use Rattle.md_state.specs.Members.{AllInSync, IsAlone, is_degraded, is_filled}
-use Rattle.md_state.specs.CopyingData.{IsSource}
+use Rattle.md_state.specs.Steps.CopyData.{IsSource}
 use Rattle.md_state.specs.Requests.{AreInFlight}
 use Rattle.md_array.specs.Consistency.{IsConsistent}
 use Rattle.md_array.specs.Events.{Happens}
 use Rattle.md_array.specs.InTurn.{AllOf, Requests}
-use Rattle.md_array.specs.NotingResynced.{AllAgreeAt, AreNoted, BecomesResynced}
+use Rattle.md_array.specs.Steps.NoteResynced.{AllAgreeAt, AreNoted, BecomesResynced}
 use Rattle.md_array.specs.Worlds.{AreHonest, world_of}
 use Rattle.md_array.proofs.General.Honesty.{same_honest}
 use Rattle.md_array.proofs.General.Resting.{rests_sound}
-use Rattle.md_array.proofs.Steps.Turns.{all_on, all_such}
+use Rattle.md_array.proofs.StepLemmas.Turns.{all_on, all_such}
 use Rattle.md_array.proofs.Worlds.SectorCopied.{in_sync_as}
 use Rattle.md_array.proofs.Openings.Opened.{same_through}
 use Rattle.md_laws.proofs.Runs.ReadTurns.{unread}

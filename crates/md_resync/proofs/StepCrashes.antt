@@ -1,10 +1,10 @@
 -- A crash within a whole resync is a crash of a run.
 use Rattle.std.proofs.Common.{◌≡◌, ◌∙◌, inl, inr, ℕ, zero, suc, ◌+◌, ◌/◌, List, [], ◌∷◌, ◌++◌, length, Option, Some, None, refl, sym, ap, subst}
 use Rattle.md_model.specs.Events.{Event, MemberPart}
-use Rattle.md_state.specs.CopyingData.{copies_of}
+use Rattle.md_state.specs.Steps.CopyData.{copies_of}
 use Rattle.md_state.specs.View.{Disk, MirrorView}
 use Rattle.md_array.specs.InTurn.{AllLeftWhole, AllOf, InTurn, LeftWhole, Requests}
-use Rattle.md_array.proofs.Steps.Turns.{all_on}
+use Rattle.md_array.proofs.StepLemmas.Turns.{all_on}
 use Rattle.md_laws.specs.Left.{contents_of}
 use Rattle.md_laws.specs.Runs.{HasRested, MirrorRun, Moment, then_as}
 use Rattle.md_laws.specs.CallCrashes.{IsLeftWhole, IsUnshifted}

@@ -1,15 +1,15 @@
 -- Steps of a mirror are a run of it.
 use Rattle.std.proofs.Common.{◌≡◌, ℕ, zero, suc, ◌+◌, ◌/◌, List, [], ◌∷◌, ◌++◌, length, None, refl, sym, subst}
 use Rattle.md_model.specs.Events.{Event}
-use Rattle.md_state.specs.CopyingData.{copies_of, run_write}
+use Rattle.md_state.specs.Steps.CopyData.{copies_of, run_write}
 use Rattle.md_state.specs.View.{MirrorView}
 use Rattle.md_array.specs.Consistency.{IsConsistent}
 use Rattle.md_array.specs.InTurn.{AllOf, Requests}
 use Rattle.md_array.specs.Worlds.{AreHonest}
 use Rattle.md_array.proofs.General.Honesty.{same_honest}
 use Rattle.md_array.proofs.General.Resting.{rests_sound}
-use Rattle.md_array.proofs.Steps.CopyWrites.{copied_run_is_consistent}
-use Rattle.md_array.proofs.Steps.Turns.{turn_then}
+use Rattle.md_array.proofs.StepLemmas.CopyData.{copied_run_is_consistent}
+use Rattle.md_array.proofs.StepLemmas.Turns.{turn_then}
 use Rattle.md_laws.specs.ReadInTurn.{IsNoFailedRecord}
 use Rattle.md_laws.specs.Runs.{MirrorRun, Moment, then_as}
 use Rattle.md_laws.proofs.Runs.CallRuns.{run_on}

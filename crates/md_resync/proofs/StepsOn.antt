@@ -2,11 +2,11 @@
 use Rattle.std.proofs.Common.{◌≡◌, ℕ, ◌/◌, List, [], ◌∷◌, ◌++◌, length, Option, Some, None, refl, sym, ap, ◌∙◌, subst, arith}
 use Rattle.std.proofs.lemmas.List.{append_assoc, append-nil}
 use Rattle.md_model.specs.Events.{Event}
-use Rattle.md_state.specs.CopyingData.{CopiesTo, copies_of}
+use Rattle.md_state.specs.Steps.CopyData.{CopiesTo, copies_of}
 use Rattle.md_state.specs.Requests.{AreInFlight}
 use Rattle.md_state.specs.Rests.{Rests}
 use Rattle.md_state.specs.View.{MirrorView}
-use Rattle.md_array.specs.CopyEvents.{CopiesInTurn}
+use Rattle.md_array.specs.Steps.CopyData.{CopiesInTurn}
 use Rattle.md_array.specs.InTurn.{AllOf, InTurn, Leads, Requests}
 use Rattle.md_laws.proofs.Runs.Rests.{rests_same, rests_then}
 use Rattle.md_resync.specs.Steps.{GoesBySteps, IsNoCopy, MirrorStep, StepsInTurn, copies_in, events_of_steps}

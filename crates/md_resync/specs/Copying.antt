@@ -3,16 +3,16 @@ use Rattle.std.specs.Prelude.{◌≡◌, ◌⊎◌, ℕ, ◌+◌, ◌*◌, ◌/�
 use Rattle.md_bitmap.specs.Marks.{is_set}
 use Rattle.md_model.specs.Events.{Event, MemberPart}
 use Rattle.md_kept_members.specs.View.{MemberView}
-use Rattle.md_state.specs.CopyingData.{IsSource, MayCopyChunk}
+use Rattle.md_state.specs.Steps.CopyData.{IsSource, MayCopyChunk}
 use Rattle.md_state.specs.DeviceChanges.{AreSame}
-use Rattle.md_state.specs.MakingClean.{IsIdle}
+use Rattle.md_state.specs.Steps.MakeClean.{IsIdle}
 use Rattle.md_state.specs.Members.{AllInSync, IsInSync}
-use Rattle.md_state.specs.ReadingData.{FailsToRead, HoldsData}
+use Rattle.md_state.specs.Steps.ReadData.{FailsToRead, HoldsData}
 use Rattle.md_state.specs.Requests.{AreInFlight}
 use Rattle.md_state.specs.View.{ArrayView, MirrorView}
 use Rattle.md_array.specs.Consistency.{IsConsistent}
 use Rattle.md_array.specs.InTurn.{AllOf, HaltsAt, Requests}
-use Rattle.md_array.specs.NotingResynced.{AllAgreeAt, AllAgreeWhereMarked}
+use Rattle.md_array.specs.Steps.NoteResynced.{AllAgreeAt, AllAgreeWhereMarked}
 use Rattle.md_laws.specs.ReadInTurn.{LeadsReading}
 use Rattle.md_metadata.specs.Going.{IsFaulty}
 use Rattle.md_metadata.specs.Storing.{FailsAtLast, HasAllMarks, IsUpToDate}

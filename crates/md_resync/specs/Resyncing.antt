@@ -8,19 +8,19 @@ use Rattle.md_model.specs.Sectors.{Geometry}
 use Rattle.md_model.specs.Worlds as worlds
 use Rattle.md_model.specs.Worlds.{IsQuiet, World}
 use Rattle.md_kept_members.specs.View.{MemberView}
-use Rattle.md_state.specs.CopyingData.{IsSource}
+use Rattle.md_state.specs.Steps.CopyData.{IsSource}
 use Rattle.md_state.specs.DeviceChanges.{AreSame, IsUntouched}
 use Rattle.md_state.specs.DiskWrites.{AtDevice}
-use Rattle.md_state.specs.MakingClean.{HasInFlight, IsIdle}
+use Rattle.md_state.specs.Steps.MakeClean.{HasInFlight, IsIdle}
 use Rattle.md_state.specs.Members.{AllInSync, IsAlone, IsInSync, IsMember, is_degraded}
-use Rattle.md_state.specs.ReadingData.{FailsToRead}
+use Rattle.md_state.specs.Steps.ReadData.{FailsToRead}
 use Rattle.md_state.specs.Requests.{AreInFlight}
 use Rattle.md_state.specs.Trying.{Refuses, RefusesHalted}
 use Rattle.md_state.specs.View.{ArrayView, MirrorView, geometry_of}
 use Rattle.md_array.specs.Consistency.{IsConsistent}
 use Rattle.md_array.specs.Events.{Happens}
 use Rattle.md_array.specs.InTurn.{AllOf, HaltsAt, Leads, Requests}
-use Rattle.md_array.specs.NotingResynced.{AllAgreeAt, AllAgreeWhereMarked, NotesResynced}
+use Rattle.md_array.specs.Steps.NoteResynced.{AllAgreeAt, AllAgreeWhereMarked, NotesResynced}
 use Rattle.md_array.specs.Worlds.{AreHonest, world_of}
 use Rattle.md_laws.specs.ReadInTurn.{LeadsReading}
 use Rattle.md_metadata.specs.Going.{IsFaulty}

@@ -2,7 +2,7 @@
 -- its device and as many events as it has sectors.
 use Rattle.std.specs.Prelude.{◌≡◌, ℕ, ◌/◌, List, [], ◌∷◌, ◌++◌, length, Option}
 use Rattle.md_model.specs.Events.{Event}
-use Rattle.md_state.specs.CopyingData.{CopiesTo, copies_of}
+use Rattle.md_state.specs.Steps.CopyData.{CopiesTo, copies_of}
 use Rattle.md_state.specs.Requests.{AreInFlight}
 use Rattle.md_state.specs.Rests.{Rests}
 use Rattle.md_state.specs.View.{ArrayView, MirrorView}

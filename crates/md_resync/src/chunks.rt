@@ -1,7 +1,7 @@
 // The marked chunks are copied, run by run.
 ghost use Rattle.std.specs.Prelude.{◌≡◌, ◌<◌, ◌≤◌, ◌%◌, MatchResult, length, true};
 ghost use Rattle.std.specs.Int.{div_ceil};
-ghost use Rattle.md_state.specs.CopyingData.{MayCopyChunk};
+ghost use Rattle.md_state.specs.Steps.CopyData.{MayCopyChunk};
 ghost use Rattle.md_array.specs.Consistency.{IsConsistent};
 ghost use Rattle.md_resync.specs.Copying.{CopiesChunk, CopiesIfMarked, CopiesMarked, CopiesRun, CopyingFails, IsBetween, IsInMarkedChunk, IsInChunkOf, IsPart, MayCopyMarked};
 

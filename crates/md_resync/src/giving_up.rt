@@ -1,6 +1,6 @@
 // A resync did not come to its end.
 ghost use Rattle.std.specs.Prelude.{◌≡◌, false};
-ghost use Rattle.md_state.specs.MakingClean.{IsIdle};
+ghost use Rattle.md_state.specs.Steps.MakeClean.{IsIdle};
 ghost use Rattle.md_array.specs.Consistency.{IsConsistent};
 ghost use Rattle.md_resync.specs.Resyncing.{GivesUp};
 

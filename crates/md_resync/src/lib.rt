@@ -6,9 +6,9 @@
 
 mod buffer;
 mod chunks;
-mod comparing;
 mod fault;
 mod giving_up;
+mod is_known_to_hold;
 pub mod laws;
 mod making_agree;
 mod marks;

@@ -1,6 +1,6 @@
 // The marks are stored as they are in memory, before sectors are copied and after marks are cleared.
 ghost use Rattle.std.specs.Prelude.{◌≡◌, MatchResult, true};
-ghost use Rattle.md_state.specs.MakingClean.{IsIdle};
+ghost use Rattle.md_state.specs.Steps.MakeClean.{IsIdle};
 ghost use Rattle.md_state.specs.Members.{AllInSync};
 ghost use Rattle.md_array.specs.Consistency.{IsConsistent};
 ghost use Rattle.md_metadata.specs.Storing.{HasAllMarks};

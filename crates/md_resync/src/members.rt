@@ -3,8 +3,8 @@ ghost use Rattle.std.specs.Prelude.{◌<◌, ◌≤◌, MatchResult, length};
 ghost use Rattle.md_array.specs.Consistency.{IsConsistent};
 ghost use Rattle.md_resync.specs.Copying.{GivesAll, GivesTo, GivingFails, IsRun};
 
-use crate::comparing::is_known_to_hold;
 use crate::fault::ResyncFault;
+use crate::is_known_to_hold::is_known_to_hold;
 use md_array::{CopyFault, Mirror};
 use md_device::Device;
 

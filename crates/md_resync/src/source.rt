@@ -2,7 +2,7 @@
 ghost use Rattle.std.specs.Prelude.{◌≡◌, ◌↔◌, true, ◌+◌, ◌<◌, ◌≤◌, ℕ, IfSome, IfNone, MatchOption, length};
 ghost use Rattle.md_kept_members.specs.View.{MemberView};
 ghost use Rattle.md_assembly.specs.States.{is_in_sync_as};
-ghost use Rattle.md_state.specs.CopyingData.{IsSource, Lists};
+ghost use Rattle.md_state.specs.Steps.CopyData.{IsSource, Lists};
 ghost use Rattle.md_state.specs.Members.{IsMember};
 ghost use Rattle.md_resync.specs.Sources.{IsUnlistedSource, NoneFree, lower_of};
 

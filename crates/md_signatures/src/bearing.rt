@@ -6,7 +6,7 @@ ghost use Rattle.md_signatures.specs.declared.signature.Signature.TheVariants.{M
 
 use crate::magic::{Magic, has_any, has_magic};
 use crate::partitions::is_partition_table;
-use crate::reading::read_sector;
+use crate::read_sector::read_sector;
 use crate::signature::Signature;
 use crate::table::magics;
 use md_device::Device;

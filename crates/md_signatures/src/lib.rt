@@ -6,7 +6,7 @@ mod bearing;
 mod finding;
 mod magic;
 mod partitions;
-mod reading;
+mod read_sector;
 mod signature;
 mod table;
 

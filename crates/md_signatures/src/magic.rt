@@ -6,7 +6,7 @@ ghost use Rattle.md_device.specs.Splice.{part};
 ghost use Rattle.md_signatures.specs.Magics.{has_sign, is_in_one_sector, sign_of};
 ghost use Rattle.md_signatures.specs.Reading.{IsOnlySearched, TellsWhetherThere};
 
-use crate::reading::read_sector;
+use crate::read_sector::read_sector;
 use md_device::Device;
 
 /// Bytes at a place, which counts from the start of the device.

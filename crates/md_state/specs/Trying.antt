@@ -3,7 +3,7 @@ use Rattle.std.specs.Prelude.{◌≡◌, ℕ, true}
 use Rattle.md_device_writes.specs.Writes.{Write}
 use Rattle.md_state.specs.View.{MirrorView}
 use Rattle.md_state.specs.DiskWrites.{IsFailed}
-use Rattle.md_state.specs.Rising.{Fails, Halts}
+use Rattle.md_state.specs.Steps.Rise.{Fails, Halts}
 
 -- A call is refused for this reason, and all is as before.
 pub record Refuses (old new : MirrorView) (Reason : Type 0) : Type 0 where

@@ -1,7 +1,6 @@
 //! The version 1.2 superblock of an md RAID-1 array.
 #![tactic(auto)]
 
-mod copying;
 mod decoding;
 mod encoding;
 mod fault;
@@ -9,6 +8,7 @@ mod groups;
 mod roles;
 mod summing;
 mod superblock;
+mod try_clone;
 
 pub use decoding::decode;
 pub use encoding::encode_member;

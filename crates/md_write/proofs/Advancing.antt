@@ -7,8 +7,8 @@ use Rattle.md_state.specs.View.{MirrorView}
 use Rattle.md_state.specs.Requests.{IsPending, among}
 use Rattle.md_array.specs.Consistency.{IsConsistent}
 use Rattle.md_array.specs.InTurn.{AllOf, InTurn, IsInOrder, Requests}
-use Rattle.md_array.proofs.Steps.InFlight.{among_in_flight}
-use Rattle.md_array.proofs.Steps.Turns.{all_on, all_such, turn_on, turn_then}
+use Rattle.md_array.proofs.StepLemmas.InFlight.{among_in_flight}
+use Rattle.md_array.proofs.StepLemmas.Turns.{all_on, all_such, turn_on, turn_then}
 use Rattle.md_metadata.specs.declared.fault.PartFault.{PartFault}
 use Rattle.md_metadata.specs.declared.fault.PartFault.TheVariants.{Halted, MemberFailed}
 use Rattle.md_metadata.specs.Going.{GoesOn, StepsBy, only_others}

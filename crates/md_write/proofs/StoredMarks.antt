@@ -9,7 +9,7 @@ use Rattle.md_bitmap.specs.Marks.{Bitmap, is_set}
 use Rattle.md_kept_members.specs.View.{MemberView}
 use Rattle.md_state.specs.View.{ArrayView, MirrorView}
 use Rattle.md_state.specs.Members.{IsInSync, IsMember}
-use Rattle.md_state.specs.WritingMember.{HasMarksFrom}
+use Rattle.md_state.specs.Steps.WriteMember.{HasMarksFrom}
 use Rattle.md_array.specs.Consistency.{IsConsistent}
 use Rattle.md_array.specs.InTurn.{IsSectorDue}
 use Rattle.md_metadata.specs.declared.fault.PartFault.{PartFault}

@@ -18,17 +18,17 @@ use Rattle.md_requests.specs.Pending.{PendingView}
 use Rattle.md_faults.specs.declared.step_fault.BeginFault.{BeginFault}
 use Rattle.md_faults.specs.declared.step_fault.BeginFault.TheVariants as begin
 use Rattle.md_state.specs.View.{ArrayView, MirrorView, geometry_of}
-use Rattle.md_state.specs.Beginning.{Begins, HasMarked, RefusesBegin, has_sector_of, has_to_rise}
-use Rattle.md_state.specs.Rising.{risen}
-use Rattle.md_state.specs.Finishing.{Finishes}
+use Rattle.md_state.specs.Steps.Begin.{Begins, HasMarked, RefusesBegin, has_sector_of, has_to_rise}
+use Rattle.md_state.specs.Steps.Rise.{risen}
+use Rattle.md_state.specs.Steps.Finish.{Finishes}
 use Rattle.md_state.specs.Requests.{AreInFlight, among, request_of}
 use Rattle.md_state.proofs.Changes.RequestChunks.{div_mono}
 use Rattle.md_array.specs.Consistency.{IsConsistent}
 use Rattle.md_array.specs.Events.{BeginHappens, Does, FinishHappens}
 use Rattle.md_array.specs.InTurn.{AllLeftWhole, AllOf, InTurn, IsPut, Requests}
 use Rattle.md_array.specs.Worlds.{AreHonest, world_of}
-use Rattle.md_array.proofs.Steps.InFlight.{found_with_last}
-use Rattle.md_array.proofs.Steps.Turns.{turn_on, turn_then, turn_through}
+use Rattle.md_array.proofs.StepLemmas.InFlight.{found_with_last}
+use Rattle.md_array.proofs.StepLemmas.Turns.{turn_on, turn_then, turn_through}
 use Rattle.md_array.proofs.Worlds.InSync.{in_sync_is, number_at}
 use Rattle.md_write.specs.Progress.{AreChunksOf, HaltsOn, IsEventOf, IsOfRequest, IsReadyToFinish, Part, end_chunk, first_chunk}
 use Rattle.md_write.specs.Writing.{HaltsWrite, HasReceived, AreBytesWritten, RefusesWrite, Writes, events_of_write}
@@ -36,8 +36,8 @@ use Rattle.md_write.proofs.WrittenData.{put_under, under}
 use Rattle.md_write.proofs.WrittenData as written
 use Rattle.md_write.proofs.Entries.{without_last}
 use Rattle.md_write.proofs.InRounds.{left_at}
-use Rattle.md_metadata.proofs.Going.{fly_on}
 use Rattle.md_write.proofs.Received.{HasBytes, IsReceiving, received, receives_begin, receives_step}
+use Rattle.md_metadata.proofs.Going.{fly_on}
 
 module _ (a : ArrayView) (full : Bool) where
   chunks_if : (rises : Bool) → (cond rises (risen a full) a).chunks ≡ a.chunks

@@ -5,11 +5,11 @@ use Rattle.std.proofs.lemmas.Option.{none-some}
 use Rattle.md_inflight.specs.Inflight.{lookup}
 use Rattle.md_model.specs.Events.{Event, MemberPart}
 use Rattle.md_requests.specs.Pending.{PendingView}
-use Rattle.md_state.specs.Beginning.{Begins}
+use Rattle.md_state.specs.Steps.Begin.{Begins}
 use Rattle.md_state.specs.Requests.{AreInFlight, among, request_of}
 use Rattle.md_state.specs.View.{MirrorView}
 use Rattle.md_array.specs.InTurn.{AllOf, Requests}
-use Rattle.md_array.proofs.Steps.Turns.{all_on, all_such}
+use Rattle.md_array.proofs.StepLemmas.Turns.{all_on, all_such}
 use Rattle.md_laws.specs.CallCrashes.{HaveWholeSectors, BeginsWhole, HasWholeSectors, IsWrittenBy}
 use Rattle.md_laws.proofs.Crashes.DataInFlight.{has_whole}
 use Rattle.md_laws.proofs.Crashes.CallCrashes.{crashes_at_halts, crashes_at_steps}

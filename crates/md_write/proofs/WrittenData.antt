@@ -15,8 +15,8 @@ use Rattle.md_faults.specs.declared.step_fault.WriteMemberFault.TheVariants.{Hal
 use Rattle.md_state.specs.View.{ArrayView, MirrorView}
 use Rattle.md_state.specs.Members.{AllInSync, IsInSync, IsMember}
 use Rattle.md_state.specs.Requests.{IsPending, among, request_of}
-use Rattle.md_state.specs.Finishing.{HasBytesOf}
-use Rattle.md_state.specs.WritingMember.{HasMarksFrom, HasRequestMarks, IsNotDue, RefusesWriteMember, WritesTo}
+use Rattle.md_state.specs.Steps.Finish.{HasBytesOf}
+use Rattle.md_state.specs.Steps.WriteMember.{HasMarksFrom, HasRequestMarks, IsNotDue, RefusesWriteMember, WritesTo}
 use Rattle.md_state.proofs.Changes.RequestChunks.{div_mono}
 use Rattle.md_array.specs.Consistency.{IsConsistent}
 use Rattle.md_array.specs.Events.{HappensAmong}

@@ -9,7 +9,7 @@ use Rattle.md_kept_members.specs.View.{MemberView}
 use Rattle.md_state.specs.View.{ArrayView, MirrorView}
 use Rattle.md_state.specs.Requests.{IsPending, among}
 use Rattle.md_state.specs.Members.{IsInSync}
-use Rattle.md_state.specs.Finishing.{HasBytesOf, MayFinish}
+use Rattle.md_state.specs.Steps.Finish.{HasBytesOf, MayFinish}
 use Rattle.md_metadata.specs.declared.fault.PartFault.{PartFault}
 use Rattle.md_metadata.specs.declared.fault.PartFault.TheVariants.{Halted, MemberFailed}
 use Rattle.md_metadata.specs.Going.{GoesOn, HaltsAfter, recorded_count}

@@ -7,7 +7,7 @@ use Rattle.md_requests.specs.Pending.{PendingView}
 use Rattle.md_faults.specs.declared.step_fault.BeginFault.{BeginFault}
 use Rattle.md_faults.specs.declared.step_fault.BeginFault.TheVariants.{Halted}
 use Rattle.md_state.specs.View.{MirrorView, geometry_of}
-use Rattle.md_state.specs.Beginning.{Begins, HasMarked, RefusesBegin}
+use Rattle.md_state.specs.Steps.Begin.{Begins, HasMarked, RefusesBegin}
 use Rattle.md_state.specs.Requests.{AreInFlight, among, request_of}
 use Rattle.md_array.specs.InTurn.{AllLeftWhole, AllOf, HaltsAt, Leads, Requests}
 use Rattle.md_array.specs.Worlds.{AreHonest, world_of}

@@ -2,7 +2,7 @@
 ghost use Rattle.std.specs.Prelude.{◌≡◌, ◌<◌, MatchResult, length, false};
 ghost use Rattle.md_state.specs.Members.{AllInSync};
 ghost use Rattle.md_state.specs.Requests.{IsPending};
-ghost use Rattle.md_state.specs.WritingMember.{HasRequestMarks, IsNotDue};
+ghost use Rattle.md_state.specs.Steps.WriteMember.{HasRequestMarks, IsNotDue};
 ghost use Rattle.md_array.specs.Consistency.{IsConsistent};
 ghost use Rattle.md_write.specs.Progress.{Part, WritingFails, WritesAt, WritesToAll};
 

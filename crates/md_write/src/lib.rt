@@ -5,6 +5,6 @@ mod chunks;
 mod data;
 pub mod laws;
 mod marks;
-mod writing;
+mod whole_write;
 
-pub use writing::write;
+pub use whole_write::write;

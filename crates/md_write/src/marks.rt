@@ -1,7 +1,7 @@
 // Storing the marks of a request.
 ghost use Rattle.std.specs.Prelude.{◌≡◌, ◌+◌, ◌-◌, ◌<◌, ◌≤◌, MatchResult, length, false};
 ghost use Rattle.md_members.specs.Areas.{bitmap_sectors};
-ghost use Rattle.md_state.specs.WritingMember.{HasMarksFrom};
+ghost use Rattle.md_state.specs.Steps.WriteMember.{HasMarksFrom};
 ghost use Rattle.md_array.specs.Consistency.{IsConsistent};
 ghost use Rattle.md_metadata.specs.Storing.{StoresAll, StoresAt, StoringFails};
 ghost use Rattle.md_write.specs.Progress.{AreMarkedInMemory, HasBitsOf, HasMarksIn, IsMarkingOf};

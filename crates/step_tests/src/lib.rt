@@ -10,7 +10,7 @@ mod images;
 #[cfg(test)]
 mod members;
 #[cfg(test)]
-mod opening;
+mod open;
 #[cfg(test)]
 mod openings;
 #[cfg(test)]

@@ -5,7 +5,7 @@ ghost use Rattle.md_requests.specs.Pending.{PendingView};
 ghost use Rattle.md_state.specs.Requests.{IsPending};
 
 use crate::images::{Image, Testing, device_of, new_device, used_device};
-use crate::opening::open;
+use crate::open::open;
 use crate::shown::{Shown, listed_in, stored_on, what_shows};
 use crate::step::{Answer, Step};
 use md_array::{AddFault, BeginFault, Mirror, Pending, ReAddFault, RemoveFault, StoreFault};

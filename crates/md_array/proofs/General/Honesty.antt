@@ -6,7 +6,7 @@ use Rattle.md_device_writes.specs.Writes.{Write}
 use Rattle.md_state.specs.DeviceChanges.{AreSame}
 use Rattle.md_state.specs.DiskWrites.{IsTried}
 use Rattle.md_state.specs.View.{Disk, MirrorView}
-use Rattle.md_array.specs.Opening.{IsOpenedFrom}
+use Rattle.md_array.specs.Open.Opened.{IsOpenedFrom}
 use Rattle.md_array.specs.Worlds.{AreHonest}
 use Rattle.md_assembly.proofs.Indices.{got_within}
 

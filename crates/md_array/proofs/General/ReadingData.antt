@@ -8,10 +8,10 @@ use Rattle.md_kept_members.specs.View.{MemberView}
 use Rattle.md_state.specs.View.{Disk, MirrorView}
 use Rattle.md_state.specs.DeviceChanges.{IsUntouched}
 use Rattle.md_state.specs.DiskWrites.{AtDevice}
-use Rattle.md_state.specs.ReadingData.{FailsToRead, ReadsData}
+use Rattle.md_state.specs.Steps.ReadData.{FailsToRead, ReadsData}
 use Rattle.md_state.specs.Rests.{Rests}
 use Rattle.md_array.specs.Consistency.{IsConsistent}
-use Rattle.md_array.proofs.Steps.CopyWrites.{own_of}
+use Rattle.md_array.proofs.StepLemmas.CopyData.{own_of}
 use Rattle.md_array.proofs.Worlds.PartsApart.{parts_of}
 use Rattle.md_assembly.proofs.Indices.{got_within}
 

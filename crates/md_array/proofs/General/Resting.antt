@@ -8,7 +8,7 @@ use Rattle.md_state.specs.Rests.{Rests}
 use Rattle.md_array.specs.Consistency.{HasPlaces, HasSuper, IsConsistent}
 use Rattle.md_array.specs.ReadAsKept.{AreReadAsKept, IsReadAsKept}
 use Rattle.md_array.specs.Worlds.{block_on, is_listed, is_listed_next, stored_of, stored_on, super_in, world_of, world_on}
-use Rattle.md_array.proofs.Steps.OneMember.{fits_like, like_itself}
+use Rattle.md_array.proofs.StepLemmas.OneMember.{fits_like, like_itself}
 use Rattle.md_badblocks.specs.Runs.{IsBad}
 use Rattle.md_assembly.proofs.Indices.{got_within}
 

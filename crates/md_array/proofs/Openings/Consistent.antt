@@ -22,11 +22,11 @@ use Rattle.md_state.specs.Members.{IsInSync, IsMember}
 use Rattle.md_state.specs.InMemory.{HasMarksOfSize, HasRoles}
 use Rattle.md_array.specs.Fits.{Fits}
 use Rattle.md_array.specs.Consistency.{HasPlaces, HasSuper, IsConsistent}
-use Rattle.md_array.specs.Opening.{IsOpenedFrom}
-use Rattle.md_array.specs.Storing.{IsMarkedBy}
+use Rattle.md_array.specs.Open.Opened.{IsOpenedFrom}
+use Rattle.md_array.specs.Open.Marks.{IsMarkedBy}
 use Rattle.md_array.specs.Worlds.{block_on, is_listed, is_listed_next, super_in, super_of}
 use Rattle.md_array.proofs.Openings.Fitting as fitting
-use Rattle.md_array.proofs.Steps.OneMember.{fits_like, like_itself}
+use Rattle.md_array.proofs.StepLemmas.OneMember.{fits_like, like_itself}
 use Rattle.md_array.proofs.Worlds.Device.{bad_is_listed, listed_next_new, places_new, super_new}
 use Rattle.md_array.proofs.Worlds.Member.{by_need}
 use Rattle.md_array.proofs.Worlds.Shown.{shown_honest}

@@ -14,9 +14,9 @@ use Rattle.md_members.specs.Reading.{ReadsBitmap, ReadsHeader, front_of}
 use Rattle.md_kept_members.specs.View.{MemberView}
 use Rattle.md_kept_members.specs.OwnFields.{kept_superblock}
 use Rattle.md_state.specs.View.{Disk, ArrayView}
-use Rattle.md_array.specs.Opening.{IsArrayOf}
-use Rattle.md_array.specs.Fits.{Fits, FitsMember}
 use Rattle.md_state.proofs.Kept.Geometry.{alike, states_as_many}
+use Rattle.md_array.specs.Open.Opened.{IsArrayOf}
+use Rattle.md_array.specs.Fits.{Fits, FitsMember}
 use Rattle.md_array.proofs.Openings.OwnFields.{at_offset, bitmap_same, placed_next}
 use Rattle.md_array.proofs.Openings.Whole.{are_whole}
 use Rattle.md_array.proofs.Openings.ListTold.{told_next}

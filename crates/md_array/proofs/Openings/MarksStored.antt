@@ -6,9 +6,9 @@ use Rattle.md_kept_members.specs.View.{MemberView}
 use Rattle.md_kept_members.specs.Members.{NeedsMarks}
 use Rattle.md_state.specs.Members.{IsMember}
 use Rattle.md_state.specs.View.{Disk, ArrayView}
-use Rattle.md_device.proofs.Leaving.{leaves_none}
 use Rattle.md_state.specs.DeviceChanges.{AreSame, EachPair, IsLeftAlone, StaysHonest}
-use Rattle.md_array.specs.Storing.{AreMarksOnDisks, FailsToStore, AreMarksOnDisk, IsMarkedBy, EndsAtMember}
+use Rattle.md_device.proofs.Leaving.{leaves_none}
+use Rattle.md_array.specs.Open.Marks.{AreMarksOnDisks, FailsToStore, AreMarksOnDisk, IsMarkedBy, EndsAtMember}
 use Rattle.md_array.proofs.Openings.DevicesInTurn.{each_after, none_touched, still_same}
 use Rattle.md_array.proofs.General.Indices.{at_set_same, got_other}
 use Rattle.md_assembly.proofs.Indices.{got_same}

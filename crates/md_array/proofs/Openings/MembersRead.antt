@@ -13,7 +13,7 @@ use Rattle.md_members.specs.Members.{IsReadMember, RefusesMember, RefusesRest, b
 use Rattle.md_members.specs.Reading.{RefusesSuper, RefusesBitmap, RefusesLog}
 use Rattle.md_state.specs.View.{Disk}
 use Rattle.md_state.specs.DeviceChanges.{FailsAt, IsUntouched}
-use Rattle.md_array.specs.Reading.{RefusesDeviceRead as RefusesMemberAt, RefusesReading, open_fault_of}
+use Rattle.md_array.specs.Open.Members.{RefusesDeviceRead as RefusesMemberAt, RefusesReading, open_fault_of}
 use Rattle.md_array.proofs.Openings.DevicesInTurn.{at_push_before, at_push_last, same_place}
 use Rattle.md_array.proofs.General.Indices.{at_set_same}
 

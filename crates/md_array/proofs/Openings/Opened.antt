@@ -2,14 +2,14 @@
 use Rattle.std.proofs.Common.{◌≡◌, ◌⊎◌, inl, ℕ, ◌*◌, ◌≤◌, true, List, [], ◌∷◌, length, refl, sym, ap, ◌∙◌, arith, subst, get_or, ◌^◌}
 use Rattle.std.specs.Prelude.{slice_get, Some}
 use Rattle.md_device.specs.Splice.{SameOutside}
+use Rattle.md_device.specs.Crashes.{IsMixed}
+use Rattle.md_device.proofs.Leaving.{leaves_less, leaves_then, mixed_none}
 use Rattle.md_members.specs.Areas.{AreAreasPlaced, bitmap_sectors}
 use Rattle.md_members.specs.Members.{sectors_of_device}
 use Rattle.md_members.specs.declared.info.MemberInfo.{MemberInfo}
 use Rattle.md_assembly.specs.declared.fault.AssembleFault.{AssembleFault}
 use Rattle.md_assembly.specs.declared.fault.AssembleFault.TheVariants.{Empty, TooMany, Stranger, DoubleNumber, NoBitmap, Geometry, DoubleRole, NotEnough, NoMemory as NoMemoryOfAssembly}
 use Rattle.md_assembly.specs.Faults.{IsFirstAssembleFault}
-use Rattle.md_device.specs.Crashes.{IsMixed}
-use Rattle.md_device.proofs.Leaving.{leaves_less, leaves_then, mixed_none}
 use Rattle.md_device_writes.specs.Writes.{IsAnyIn, IsCutShort, Write, after}
 use Rattle.md_kept_members.specs.View.{MemberView}
 use Rattle.md_state.specs.View.{Disk, ArrayView}
@@ -17,10 +17,10 @@ use Rattle.md_state.specs.DeviceChanges.{AreSame, EachPair, IsLeftAlone, IsUntou
 use Rattle.md_array.specs.declared.fault.OpenFault.{OpenFault}
 use Rattle.md_array.specs.declared.fault.OpenFault.TheVariants.{Member, Assemble, MetadataFault, NoMemory}
 use Rattle.md_array.specs.Fits.{Fits}
-use Rattle.md_array.specs.Opening.{IsArrayOf}
-use Rattle.md_array.specs.Reading.{AreRead, RefusesReading}
-use Rattle.md_array.specs.Refusals.{RefusesArray, RefusesOpen, assembly_refusal_of}
-use Rattle.md_array.specs.Storing.{AreMarksOnDisks, FailsToStore, AreMarksOnDisk, IsMarkedBy, RefusesStoringMarks, EndsAtMember, StoresMarksOn}
+use Rattle.md_array.specs.Open.Opened.{IsArrayOf}
+use Rattle.md_array.specs.Open.Members.{AreRead, RefusesReading}
+use Rattle.md_array.specs.Open.Refusals.{RefusesArray, RefusesOpen, assembly_refusal_of}
+use Rattle.md_array.specs.Open.Marks.{AreMarksOnDisks, FailsToStore, AreMarksOnDisk, IsMarkedBy, RefusesStoringMarks, EndsAtMember, StoresMarksOn}
 use Rattle.md_array.proofs.Openings.DevicesInTurn.{same_place}
 
 -- what holds of each pair, in two steps

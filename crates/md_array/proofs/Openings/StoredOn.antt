@@ -10,7 +10,7 @@ use Rattle.md_device_writes.specs.Writes.{MakesWrites}
 use Rattle.md_kept_members.specs.View.{MemberView}
 use Rattle.md_state.specs.View.{ArrayView, disk_of}
 use Rattle.md_state.specs.Headers.{IsHeaderFor}
-use Rattle.md_array.specs.Storing.{AreMarkWrites, FailsToStore, StoresMarksOn}
+use Rattle.md_array.specs.Open.Marks.{AreMarkWrites, FailsToStore, StoresMarksOn}
 
 module _ {D : Type 0} (g : Ghosts D) (a : ArrayView) (m : MemberView) (start : ℕ) (h : BitmapHeader) (old new : D) (at : BitmapStartsAt m.superblock start) (is : IsHeaderFor a m h)
     (outside : SameOutside (512 * start) (512 * bitmap_sectors m.stored.chunks) (g.content old) (g.content new)) where

@@ -9,8 +9,8 @@ use Rattle.md_assembly.specs.Faults.{NoAssembleFault}
 use Rattle.md_assembly.proofs.Indices.{got_within}
 use Rattle.md_kept_members.specs.Remembering.{AreWhole, IsWhole}
 use Rattle.md_state.specs.View.{Disk}
-use Rattle.md_array.specs.Reading.{AreRead}
 use Rattle.md_state.proofs.Kept.Geometry.{has_bitmap}
+use Rattle.md_array.specs.Open.Members.{AreRead}
 
 pub whole_by : (content : List ℕ) (honest : Bool) (info : MemberInfo) (h : Option BitmapHeader) (m : Option Bitmap) → info.header ≡ h → info.marks ≡ m → HasBitmap content honest info.superblock h m → (h ≡ None → ⊥) → IsWhole info
 whole_by content honest info (Some h) (Some m) has_h has_m read some = record {

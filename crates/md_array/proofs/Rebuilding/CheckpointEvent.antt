@@ -23,19 +23,17 @@ use Rattle.md_model.specs.Worlds.{Request, World}
 use Rattle.md_model.proofs.Cases.{below-nat_lt, by_test, above-leb}
 use Rattle.md_model.proofs.Puts.{put-hit}
 use Rattle.md_model.proofs.Steps.Between.{between_step, in_flight_step}
-use Rattle.md_state.specs.Checkpoints.{IsNextOffset, EndsCheckpoint, with_offset_of}
+use Rattle.md_state.specs.Steps.Checkpoint.{IsNextOffset, EndsCheckpoint, with_offset_of}
 use Rattle.md_state.specs.Missing.{is_missing}
 use Rattle.md_state.specs.Requests.{AreInFlight}
 use Rattle.md_state.specs.View.{ArrayView, Disk, MirrorView, geometry_of}
-use Rattle.md_array.specs.Checkpoints.{Checkpoints, MayCheckpoint, MovesOffset}
-use Rattle.md_array.specs.Consistency.{IsConsistent}
-use Rattle.md_array.specs.Enrolling.{HoldsContent}
-use Rattle.md_array.specs.Events.{Happens, ListsStill, listed_on}
-use Rattle.md_array.specs.Filling.{MayRebuild}
-use Rattle.md_array.specs.Recording.{IsReadable, Records, super_write}
-use Rattle.md_super.specs.Merge.{merged}
-use Rattle.md_device_writes.specs.Writes.{Write}
 use Rattle.md_state.specs.DiskWrites.{IsWritten}
+use Rattle.md_array.specs.Steps.Checkpoint.{Checkpoints, MayCheckpoint, MovesOffset}
+use Rattle.md_array.specs.Consistency.{IsConsistent}
+use Rattle.md_array.specs.Steps.Enrol.{HoldsContent}
+use Rattle.md_array.specs.Events.{Happens, ListsStill, listed_on}
+use Rattle.md_array.specs.Steps.GiveBack.{MayRebuild}
+use Rattle.md_array.specs.Steps.Record.{IsReadable, Records, super_write}
 use Rattle.md_array.specs.Worlds.{AreHonest, is_listed, kind_of, world_of}
 use Rattle.md_array.proofs.General.Indices.{at_set_same}
 use Rattle.md_array.proofs.Rebuilding.CopiedContent as some
@@ -43,11 +41,13 @@ use Rattle.md_array.proofs.Rebuilding.FilledEvent.{same_missing}
 use Rattle.md_array.proofs.Rebuilding.HeldContent.{its_chunk}
 use Rattle.md_array.proofs.Rebuilding.InBetween.{recovers_rebuilt}
 use Rattle.md_array.proofs.Rebuilding.OffsetMoved.{moved_read, set_again, world_moved}
-use Rattle.md_array.proofs.Steps.OneMember.{member_there, stored_there}
+use Rattle.md_array.proofs.StepLemmas.OneMember.{member_there, stored_there}
 use Rattle.md_array.proofs.Worlds.InSync.{in_sync_there}
 use Rattle.md_array.proofs.Worlds.Noted.{noted_there}
 use Rattle.md_array.proofs.Worlds.SectorCopied.{none_there}
 use Rattle.md_array.proofs.Worlds.States.{same_recovering}
+use Rattle.md_super.specs.Merge.{merged}
+use Rattle.md_device_writes.specs.Writes.{Write}
 
 -- ---- where the next offset ends
 -- An offset that is the start of a chunk at this one or before it has not passed it.

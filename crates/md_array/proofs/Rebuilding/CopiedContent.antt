@@ -10,7 +10,7 @@ use Rattle.md_model.proofs.Cases.{by_test}
 use Rattle.md_model.proofs.Puts.{by_same}
 use Rattle.md_state.specs.Members.{IsInSync}
 use Rattle.md_state.specs.View.{ArrayView, Disk}
-use Rattle.md_array.specs.Enrolling.{HoldsContent}
+use Rattle.md_array.specs.Steps.Enrol.{HoldsContent}
 use Rattle.md_array.specs.Worlds.{is_listed}
 
 not-false : (b : Bool) → not b ≡ true → b ≡ false

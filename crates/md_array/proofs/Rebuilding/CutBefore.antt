@@ -19,9 +19,9 @@ use Rattle.md_device_writes.proofs.Frames.{outside_around}
 use Rattle.md_device_writes.proofs.Runs.{after-append, cut_last}
 use Rattle.md_device_writes.proofs.Stored.{stored_cut}
 use Rattle.md_array.specs.Consistency.{IsConsistent}
-use Rattle.md_array.specs.Enrolling.{Enrols, log_writes}
+use Rattle.md_array.specs.Steps.Enrol.{Enrols, log_writes}
 use Rattle.md_array.specs.Events.{IsBesideArea, IsBesideMarks, IsSameBesideMarks}
-use Rattle.md_array.specs.Recording.{write_of}
+use Rattle.md_array.specs.Steps.Record.{write_of}
 use Rattle.md_array.specs.Worlds.{block_on, sector_from_super}
 use Rattle.md_array.proofs.Rebuilding.InBetween.{beside_area, beside_bitmap, chunks, content_then, last_outside, log_there, log_width, marked, marks_outside, room_marked, starts, then_beside}
 use Rattle.md_array.proofs.Rebuilding.PreparedEvent.{block_kept}

@@ -11,7 +11,7 @@ use Rattle.md_members.specs.Areas.{bitmap_sectors}
 use Rattle.md_model.specs.Events.{Event}
 use Rattle.md_model.proofs.Cases.{by_test}
 use Rattle.md_state.specs.DeviceChanges.{StaysHonest}
-use Rattle.md_state.specs.Enrolling.{enrolled}
+use Rattle.md_state.specs.Steps.Enrol.{enrolled}
 use Rattle.md_state.specs.Missing.{is_rebuilt}
 use Rattle.md_state.specs.Requests.{AreInFlight}
 use Rattle.md_state.specs.View.{ArrayView, Disk, MirrorView, of_disks}
@@ -19,20 +19,20 @@ use Rattle.md_device_writes.specs.Bitmaps.{bitmap_writes}
 use Rattle.md_device_writes.proofs.Frames.{outside_none}
 use Rattle.md_device_writes.specs.Writes.{DoesWrites, FailsInWrites, IsAnyIn, IsCutShort, Write, after}
 use Rattle.md_array.specs.Consistency.{IsConsistent}
-use Rattle.md_array.specs.Enrolling.{Enrols, FailsToEnrol, IsStorable, KeepsData, MayEnrol, log_writes}
-use Rattle.md_array.specs.Enrolments.{FailsAtSuper, Prepares, before_last, prepared_only, with_first, writes_before}
+use Rattle.md_array.specs.Steps.Enrol.{Enrols, FailsToEnrol, IsStorable, KeepsData, MayEnrol, log_writes}
+use Rattle.md_array.specs.Steps.EnrolEvents.{FailsAtSuper, Prepares, before_last, prepared_only, with_first, writes_before}
 use Rattle.md_array.specs.Events.{IsChangedAlone, IsSameBesideMarks}
 use Rattle.md_array.specs.InTurn.{Leads, Requests}
-use Rattle.md_array.specs.Recording.{write_of}
+use Rattle.md_array.specs.Steps.Record.{write_of}
 use Rattle.md_array.specs.Spoiling.{SpoilsTarget}
 use Rattle.md_array.proofs.General.Indices.{at_set_same, got_other}
-use Rattle.md_array.proofs.Rebuilding.EnrolAnswered.{can_store}
+use Rattle.md_array.proofs.Rebuilding.Enrol.{can_store}
 use Rattle.md_array.proofs.Rebuilding.InBetween.{may_rebuild_it, recovers_rebuilt, set_alone, then_beside, then_long}
 use Rattle.md_array.proofs.Rebuilding.MemberStored.{all_long, data_kept}
 use Rattle.md_array.proofs.Rebuilding.OneDevice.{changed_only, only_is_consistent}
 use Rattle.md_array.proofs.Rebuilding.PreparedEvent.{prepare_happens}
 use Rattle.md_array.proofs.Rebuilding.SpoiledEvent.{spoil_happens}
-use Rattle.md_array.proofs.Steps.OneWrite.{at_device}
+use Rattle.md_array.proofs.StepLemmas.OneWrite.{at_device}
 
 -- two lists that are the same end alike
 not_empty : (ws : List Write) (w : Write) → ws ++ w ∷ [] ≢ []

@@ -11,15 +11,15 @@ use Rattle.md_requests.specs.Pending.{PendingView}
 use Rattle.md_kept_members.specs.View.{MemberView}
 use Rattle.md_faults.specs.declared.enrol_fault.EnrolFault.{EnrolFault}
 use Rattle.md_faults.specs.declared.enrol_fault.EnrolFault.TheVariants as fault
-use Rattle.md_state.specs.Enrolling.{MayTakeRole}
-use Rattle.md_state.specs.MakingClean.{first_number}
+use Rattle.md_state.specs.Steps.Enrol.{MayTakeRole}
+use Rattle.md_state.specs.Steps.MakeClean.{first_number}
 use Rattle.md_state.specs.Members.{IsMember}
 use Rattle.md_state.specs.Requests.{IsPending}
 use Rattle.md_state.specs.View.{ArrayView, Disk, MirrorView}
 use Rattle.md_array.specs.Consistency.{IsConsistent}
-use Rattle.md_array.specs.Enrolling.{FailsToEnrol, RefusesEnrol}
+use Rattle.md_array.specs.Steps.Enrol.{FailsToEnrol, RefusesEnrol}
 use Rattle.md_array.specs.Fits.{FitsMember}
-use Rattle.md_array.proofs.Steps.MadeClean.{none_listed}
+use Rattle.md_array.proofs.StepLemmas.MakeClean.{none_listed}
 
 -- ---- a write failed
 -- a member that may take its role is not in sync

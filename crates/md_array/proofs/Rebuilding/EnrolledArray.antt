@@ -1,11 +1,22 @@
 -- An array with a member that came into sync: what holds of it in memory, and of the member's device.
 use Rattle.std.proofs.Common.{◌≡◌, ◌≢◌, ℕ, ◌+◌, ◌*◌, ◌<◌, ◌≤◌, ◌↔◌, inl, inr, Bool, true, true≢false, List, length, slice_get, Some, refl, sym, ap, ◌∙◌, subst, arith, eq-eqb, eqb-true, map}
-use Rattle.md_array.proofs.Steps.OneMember.{HasPlacesOf}
 use Rattle.std.proofs.lemmas.Bool.{cases_lt}
 use Rattle.std.proofs.lemmas.Bool.Decides.{nat_tests}
 use Rattle.std.proofs.lemmas.List.{get_or_past}
 use Rattle.std.proofs.lemmas.List.FromFn.{length-map-range_with_len}
 use Rattle.std.proofs.lemmas.Option.{slice_get_within}
+use Rattle.md_array.proofs.StepLemmas.OneMember.{HasPlacesOf}
+use Rattle.md_array.specs.Consistency.{HasPlaces, HasSuper, IsConsistent}
+use Rattle.md_array.specs.Steps.Enrol.{IsStorable}
+use Rattle.md_array.specs.Fits.{Fits}
+use Rattle.md_array.specs.Steps.Record.{IsReadable}
+use Rattle.md_array.specs.Worlds.{sector_from_super, is_listed_next, super_in, super_of, is_listed}
+use Rattle.md_array.proofs.General.Indices.{at_set_same, got_in_map}
+use Rattle.md_array.proofs.StepLemmas.Record.{listed_written, readable_super}
+use Rattle.md_array.proofs.Rebuilding.RoleTaken as taken
+use Rattle.md_array.proofs.Rebuilding.RoleTaken.{TakesRole}
+use Rattle.md_array.proofs.Rebuilding.MemberStored.{HoldsMember, bitmap_in_sync, placed_in_sync}
+use Rattle.md_array.proofs.Rebuilding.LogListed.{listed_enrolled, logged}
 use Rattle.md_device.specs.Splice.{part}
 use Rattle.md_super.specs.declared.superblock.Superblock.{Superblock}
 use Rattle.md_super.specs.Log.{has_bad_block_log}
@@ -23,24 +34,12 @@ use Rattle.md_assembly.specs.States.{is_in_sync, takes_role}
 use Rattle.md_kept_members.specs.Enrolling.{HasRoomFor, in_sync_superblock, log_room}
 use Rattle.md_kept_members.specs.Members.{made_due}
 use Rattle.md_kept_members.specs.View.{MemberView}
-use Rattle.md_state.specs.Enrolling.{enrolled}
+use Rattle.md_state.specs.Steps.Enrol.{enrolled}
 use Rattle.md_state.specs.InMemory.{HasMarksOfSize, HasRoles}
-use Rattle.md_state.specs.Joining.{entries_with, joined_roles, role_after}
+use Rattle.md_state.specs.Steps.NoteJoined.{entries_with, joined_roles, role_after}
 use Rattle.md_state.specs.Members.{IsMember}
 use Rattle.md_state.specs.View.{ArrayView, Disk, MirrorView}
-use Rattle.md_array.specs.Consistency.{HasPlaces, HasSuper, IsConsistent}
-use Rattle.md_array.specs.Enrolling.{IsStorable}
 use Rattle.md_state.specs.Missing.{is_rebuilt}
-use Rattle.md_state.specs.Missing.{is_rebuilt}
-use Rattle.md_array.specs.Fits.{Fits}
-use Rattle.md_array.specs.Recording.{IsReadable}
-use Rattle.md_array.specs.Worlds.{sector_from_super, is_listed_next, super_in, super_of, is_listed}
-use Rattle.md_array.proofs.General.Indices.{at_set_same, got_in_map}
-use Rattle.md_array.proofs.Steps.SuperRecorded.{listed_written, readable_super}
-use Rattle.md_array.proofs.Rebuilding.RoleTaken as taken
-use Rattle.md_array.proofs.Rebuilding.RoleTaken.{TakesRole}
-use Rattle.md_array.proofs.Rebuilding.MemberStored.{HoldsMember, bitmap_in_sync, placed_in_sync}
-use Rattle.md_array.proofs.Rebuilding.LogListed.{listed_enrolled, logged}
 
 -- ---- its role
 module _ (a : ArrayView) (k : ℕ) (m : MemberView) (role : ℕ) (is : IsMember a k m) (r : HasRoles a) where

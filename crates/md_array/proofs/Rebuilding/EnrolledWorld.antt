@@ -1,11 +1,27 @@
 -- A member comes into sync by the write of its superblock: its device and the array's world then.
 use Rattle.std.proofs.Common.{◌≡◌, ℕ, ◌+◌, ◌*◌, ◌/◌, ◌<◌, ◌≤◌, ◌↔◌, Bool, true, false, cond, not, ◌&&◌, ◌||◌, ◌==◌, eqb, leb, nat_lt, List, [], ◌∷◌, ◌++◌, length, length-set, set, slice_get, Option, Some, None, option_map, unwrap_or, refl, sym, ap, ◌∙◌, subst, arith}
-use Rattle.md_array.proofs.Rebuilding.MemberEnrolled.{lists_now}
 use Rattle.std.specs.Int.Bits.{and_zero_r}
 use Rattle.std.specs.List.{list_any, range_with_len}
 use Rattle.std.proofs.lemmas.List.FromFn.{length-map-range_with_len}
 use Rattle.std.proofs.lemmas.Nat.{and_assoc}
 use Rattle.std.proofs.lemmas.Option.{slice_get_within}
+use Rattle.md_array.proofs.Rebuilding.MemberEnrolled.{lists_now}
+use Rattle.md_array.specs.Consistency.{IsConsistent}
+use Rattle.md_array.specs.Steps.Enrol.{Enrols, log_writes}
+use Rattle.md_array.specs.Steps.Record.{write_of}
+use Rattle.md_array.specs.Worlds.{block_on, is_listed, kind_of, lies_in, stored_of, stored_on, super_in, super_of, world_of, world_on, lists_of}
+use Rattle.md_array.proofs.General.Indices.{any_kept, at_set_same, got_in_map, got_other}
+use Rattle.md_array.proofs.General.Replaced.{read_changed, read_kept}
+use Rattle.md_array.proofs.General.Tests.{and_same}
+use Rattle.md_array.proofs.Openings.OwnFields as own_fields
+use Rattle.md_array.proofs.Rebuilding.InBetween.{in_two, superblock, then_at, then_disk, then_long}
+use Rattle.md_array.proofs.Rebuilding.MemberStored.{whole}
+use Rattle.md_array.proofs.StepLemmas.OneMember.{member_there}
+use Rattle.md_array.proofs.StepLemmas.Record.{readable_super}
+use Rattle.md_array.proofs.Worlds.Bad.{bad_from_test, same_test, test_from_bad}
+use Rattle.md_array.proofs.Worlds.Joined.{count_roles, grew, role_joined}
+use Rattle.md_array.proofs.Worlds.PartsApart.{HasParts, parts_of, super_alone}
+use Rattle.md_array.proofs.Worlds.Risen.{full_as_told, same_filled, world_risen}
 use Rattle.md_assembly.specs.States.{has_recovery_offset, is_in_sync, role_in}
 use Rattle.md_bitmap.specs.Marks.{Bitmap, is_set}
 use Rattle.md_device.specs.Device.{written}
@@ -25,31 +41,15 @@ use Rattle.md_model.specs.Worlds.{Request, World}
 use Rattle.md_model.proofs.Cases.{is_below}
 use Rattle.md_model.proofs.Puts.{put-at}
 use Rattle.md_state.proofs.Members.Filled.{filled_with}
-use Rattle.md_state.specs.Enrolling.{enrolled, is_full_with}
+use Rattle.md_state.specs.Steps.Enrol.{enrolled, is_full_with}
 use Rattle.md_state.specs.Members.{IsMember, is_degraded, is_filled}
-use Rattle.md_state.specs.Rising.{is_absent, risen}
+use Rattle.md_state.specs.Steps.Rise.{is_absent, risen}
 use Rattle.md_state.specs.View.{ArrayView, Disk, MirrorView, of_disks, geometry_of}
 use Rattle.md_super.specs.declared.superblock.Superblock.{Superblock}
 use Rattle.md_super.specs.Merge.{merged}
 use Rattle.md_device_writes.specs.Bitmaps.{bitmap_writes}
 use Rattle.md_device_writes.specs.Writes.{DoesWrites, Write, after}
 use Rattle.md_device_writes.proofs.Runs.{after-append}
-use Rattle.md_array.specs.Consistency.{IsConsistent}
-use Rattle.md_array.specs.Enrolling.{Enrols, log_writes}
-use Rattle.md_array.specs.Recording.{write_of}
-use Rattle.md_array.specs.Worlds.{block_on, is_listed, kind_of, lies_in, stored_of, stored_on, super_in, super_of, world_of, world_on, lists_of}
-use Rattle.md_array.proofs.General.Indices.{any_kept, at_set_same, got_in_map, got_other}
-use Rattle.md_array.proofs.General.Replaced.{read_changed, read_kept}
-use Rattle.md_array.proofs.General.Tests.{and_same}
-use Rattle.md_array.proofs.Openings.OwnFields as own_fields
-use Rattle.md_array.proofs.Rebuilding.InBetween.{in_two, superblock, then_at, then_disk, then_long}
-use Rattle.md_array.proofs.Rebuilding.MemberStored.{whole}
-use Rattle.md_array.proofs.Steps.OneMember.{member_there}
-use Rattle.md_array.proofs.Steps.SuperRecorded.{readable_super}
-use Rattle.md_array.proofs.Worlds.Bad.{bad_from_test, same_test, test_from_bad}
-use Rattle.md_array.proofs.Worlds.Joined.{count_roles, grew, role_joined}
-use Rattle.md_array.proofs.Worlds.PartsApart.{HasParts, parts_of, super_alone}
-use Rattle.md_array.proofs.Worlds.Risen.{full_as_told, same_filled, world_risen}
 
 module _ (k : ℕ) (copied orphans : Bitmap) (old new : MirrorView) (c : IsConsistent old) (sound : IsConsistent new) (r : Enrols k copied orphans old new)
     (out : is_in_sync r.comes.member.state ≡ false) (small : r.member.superblock.dev_number < 1920)

@@ -1,12 +1,33 @@
 -- A member that is rebuilt gets data in chunks that it lacks: that is the model's event.
 use Rattle.std.proofs.Common.{◌≡◌, ◌≢◌, ℕ, ◌+◌, ◌*◌, ◌/◌, ◌<◌, ◌≤◌, inl, inr, true, false, true≢false, cond, ◌&&◌, nat_lt, List, [], drop, length, slice_get, Option, Some, refl, sym, ap, ◌∙◌, subst, arith, get_or-drop}
-use Rattle.md_model.specs.Sectors.{is_passed}
-use Rattle.md_array.proofs.Worlds.States.{same_in_sync, same_recovering}
-use Rattle.md_array.proofs.Worlds.Noted.{noted_there}
 use Rattle.std.proofs.lemmas.Bool.{cases_lt}
 use Rattle.std.proofs.lemmas.Nat.{div_below, le-div}
 use Rattle.std.proofs.lemmas.Option.{same_Some, slice_get_within}
 use Rattle.std.proofs.Math.Nat.{add-mul}
+use Rattle.md_model.specs.Sectors.{is_passed}
+use Rattle.md_model.specs.Devices.{Stored}
+use Rattle.md_model.specs.Events.{Event, Step}
+use Rattle.md_model.specs.Rebuilding as model
+use Rattle.md_model.specs.States as states
+use Rattle.md_model.specs.Worlds.{Request, World}
+use Rattle.md_model.proofs.Cases.{below-nat_lt, by_option, is_below, not_below-nat_lt}
+use Rattle.md_model.proofs.Puts.{by_same}
+use Rattle.md_array.proofs.Worlds.States.{same_in_sync, same_recovering}
+use Rattle.md_array.proofs.Worlds.Noted.{noted_there}
+use Rattle.md_array.specs.Consistency.{IsConsistent}
+use Rattle.md_array.specs.Events.{Happens, IsSameBesideMissing}
+use Rattle.md_array.specs.Steps.GiveBack.{Fills, MayRebuild}
+use Rattle.md_array.specs.Steps.Lend.{AreBack, ComesBackFromLoan, IsBesideChunk}
+use Rattle.md_array.specs.Worlds.{AreHonest, sector_from_super, header_fits, kind_of, stored_of, super_in, world_of}
+use Rattle.md_array.proofs.General.Tests.{and_same}
+use Rattle.md_array.proofs.Rebuilding.OneDevice.{IsOnlyAt, changed_only, only_does, only_left, only_world}
+use Rattle.md_array.proofs.StepLemmas.Lend.{block_back, header_back, in_area, log_back, read_back}
+use Rattle.md_array.proofs.StepLemmas.MakeClean.{none_listed}
+use Rattle.md_array.proofs.StepLemmas.OneMember.{member_there, stored_there}
+use Rattle.md_array.proofs.Worlds.Listed as lists
+use Rattle.md_array.proofs.Worlds.Outside.{byte_of_part, sector_at_is}
+use Rattle.md_array.proofs.Worlds.PartsApart.{HasParts, parts_of}
+use Rattle.md_array.proofs.Worlds.Writes.{is_set-same, within_area}
 use Rattle.md_assembly.specs.declared.state.MemberState.{MemberState}
 use Rattle.md_assembly.specs.declared.state.MemberState.TheVariants.{InSync, Recovering, Stale, Spare, Faulty}
 use Rattle.md_assembly.specs.States.{is_in_sync, is_recovering}
@@ -17,31 +38,10 @@ use Rattle.md_device.specs.Splice.{part}
 use Rattle.md_format.specs.Fields.{number_at}
 use Rattle.md_kept_members.specs.View.{MemberView}
 use Rattle.md_members.specs.Areas.{bitmap_area, bitmap_sectors}
-use Rattle.md_model.specs.Devices.{Stored}
-use Rattle.md_model.specs.Events.{Event, Step}
-use Rattle.md_model.specs.Rebuilding as model
-use Rattle.md_model.specs.States as states
-use Rattle.md_model.specs.Worlds.{Request, World}
-use Rattle.md_model.proofs.Cases.{below-nat_lt, by_option, is_below, not_below-nat_lt}
-use Rattle.md_model.proofs.Puts.{by_same}
 use Rattle.md_state.specs.Members.{IsMember}
 use Rattle.md_state.specs.Missing.{is_missing, is_rebuilt}
 use Rattle.md_state.specs.Requests.{AreInFlight}
 use Rattle.md_state.specs.View.{ArrayView, Disk, MirrorView, geometry_of}
-use Rattle.md_array.specs.Consistency.{IsConsistent}
-use Rattle.md_array.specs.Events.{Happens, IsSameBesideMissing}
-use Rattle.md_array.specs.Filling.{Fills, MayRebuild}
-use Rattle.md_array.specs.Lending.{AreBack, ComesBackFromLoan, IsBesideChunk}
-use Rattle.md_array.specs.Worlds.{AreHonest, sector_from_super, header_fits, kind_of, stored_of, super_in, world_of}
-use Rattle.md_array.proofs.General.Tests.{and_same}
-use Rattle.md_array.proofs.Rebuilding.OneDevice.{IsOnlyAt, changed_only, only_does, only_left, only_world}
-use Rattle.md_array.proofs.Steps.DevicesBack.{block_back, header_back, in_area, log_back, read_back}
-use Rattle.md_array.proofs.Steps.MadeClean.{none_listed}
-use Rattle.md_array.proofs.Steps.OneMember.{member_there, stored_there}
-use Rattle.md_array.proofs.Worlds.Listed as lists
-use Rattle.md_array.proofs.Worlds.Outside.{byte_of_part, sector_at_is}
-use Rattle.md_array.proofs.Worlds.PartsApart.{HasParts, parts_of}
-use Rattle.md_array.proofs.Worlds.Writes.{is_set-same, within_area}
 
 -- ---- a chunk that a sector is not of lies beside it
 other_chunk : (chunks : Chunks) (offset s c : ℕ) → 0 < chunks.sectors → s / chunks.sectors ≢ c → IsBesideChunk chunks offset (512 * (offset + s)) 512 c

@@ -21,15 +21,15 @@ use Rattle.md_state.specs.Missing.{is_missing}
 use Rattle.md_state.specs.View.{ArrayView, Disk, MirrorView}
 use Rattle.md_super.specs.declared.superblock.Superblock.{Superblock}
 use Rattle.md_array.specs.Consistency.{IsConsistent}
-use Rattle.md_array.specs.Enrolling.{Enrols, HoldsContent, MayEnrol}
-use Rattle.md_array.specs.Enrolments.{IsHeldBy}
+use Rattle.md_array.specs.Steps.Enrol.{Enrols, HoldsContent, MayEnrol}
+use Rattle.md_array.specs.Steps.EnrolEvents.{IsHeldBy}
 use Rattle.md_array.specs.Worlds.{AreHonest, lies_in, lists_of}
 use Rattle.md_array.proofs.General.Indices.{got_other}
 use Rattle.md_array.proofs.Rebuilding.CopiedContent as some
 use Rattle.md_array.proofs.Rebuilding.CopiedContent.{HasSector}
 use Rattle.md_array.proofs.Rebuilding.InBetween.{may_rebuild_it, superblock, then_at, then_beside, then_disk}
 use Rattle.md_array.proofs.Rebuilding.PreparedEvent.{sector_kept}
-use Rattle.md_array.proofs.Steps.DevicesBack.{unrebuilt}
+use Rattle.md_array.proofs.StepLemmas.Lend.{unrebuilt}
 use Rattle.md_array.proofs.Worlds.Bad.{test_from_bad}
 use Rattle.md_array.proofs.Worlds.PartsApart.{ends_below, parts_of}
 

@@ -1,9 +1,9 @@
 -- The mirror in the midst of an enrolment: marks and log are stored, and the superblock is not. No caller sees it.
 use Rattle.std.proofs.Common.{◌≡◌, ◌+◌, ℕ, ◌*◌, ◌<◌, ◌≤◌, inl, inr, true, List, length, length-set, set, slice_get, Option, Some, refl, sym, ap, ◌∙◌, subst, arith}
+use Rattle.std.proofs.lemmas.Option.{same_Some, slice_get_within}
 use Rattle.md_assembly.specs.States.{is_recovering}
 use Rattle.md_assembly.specs.declared.state.MemberState.TheVariants.{InSync, Recovering, Stale, Spare, Faulty}
 use Rattle.md_assembly.specs.declared.state.MemberState.{MemberState}
-use Rattle.std.proofs.lemmas.Option.{same_Some, slice_get_within}
 use Rattle.md_assembly.proofs.Indices.{got_same, got_within}
 use Rattle.md_bitmap.specs.Marks.{Bitmap}
 use Rattle.md_badblocks.specs.Log.{log_bytes}
@@ -24,18 +24,18 @@ use Rattle.md_device_writes.specs.Writes.{after}
 use Rattle.md_device_writes.proofs.Frames.{outside_around}
 use Rattle.md_device_writes.proofs.Runs.{after-append}
 use Rattle.md_array.specs.Consistency.{IsConsistent}
-use Rattle.md_array.specs.Enrolling.{Enrols, IsStorable, MayEnrol, log_writes}
-use Rattle.md_array.specs.Enrolments.{Prepares, first_writes, prepared, with_writes}
+use Rattle.md_array.specs.Steps.Enrol.{Enrols, IsStorable, MayEnrol, log_writes}
+use Rattle.md_array.specs.Steps.EnrolEvents.{Prepares, first_writes, prepared, with_writes}
 use Rattle.md_array.specs.Events.{IsBesideArea, IsBesideMarks, IsChangedAlone, IsSameBesideMarks}
-use Rattle.md_array.specs.Filling.{MayRebuild}
-use Rattle.md_array.specs.Recording.{write_of}
+use Rattle.md_array.specs.Steps.GiveBack.{MayRebuild}
+use Rattle.md_array.specs.Steps.Record.{write_of}
 use Rattle.md_array.specs.Worlds.{sector_from_super}
 use Rattle.md_array.proofs.General.Indices.{at_set_same, got_other}
 use Rattle.md_array.proofs.Rebuilding.EnrolledArray as array
 use Rattle.md_array.proofs.Rebuilding.MemberStored as stored
 use Rattle.md_array.proofs.Worlds.Outside.{starts_at}
 use Rattle.md_array.proofs.Worlds.Writes.{HoldsBitmap}
-use Rattle.md_array.proofs.Steps.OneWrite.{at_device}
+use Rattle.md_array.proofs.StepLemmas.OneWrite.{at_device}
 
 -- bytes that lie beside an area are as they were where that alone was written
 pub beside_area : (start sectors : ℕ) (old new : List ℕ) → SameOutside (512 * start) (512 * sectors) old new → (at n : ℕ) → IsBesideArea start sectors at n → part new at n ≡ part old at n

@@ -1,27 +1,11 @@
 -- A member that was rebuilt comes into sync: the mirror stays consistent, and an opening reads what is kept.
 use Rattle.std.proofs.Common.{◌≡◌, ℕ, ◌+◌, ◌/◌, inl, true, not, map, slice_get, Some, refl, sym, ap, ◌∙◌, subst, arith, ◌↔◌, Bool, false}
-use Rattle.md_array.proofs.Rebuilding.RoleTaken.{TakesRole}
-use Rattle.md_badblocks.specs.Runs.{IsBad}
-use Rattle.md_assembly.specs.declared.state.MemberState.TheVariants.{Recovering}
 use Rattle.std.proofs.lemmas.Option.{slice_get_within}
-use Rattle.md_super.specs.declared.superblock.Superblock.{Superblock}
-use Rattle.md_super.specs.Merge.{merged}
-use Rattle.md_bitmap.specs.declared.header.BitmapHeader.{BitmapHeader}
-use Rattle.md_bitmap.specs.Marks.{Bitmap}
-use Rattle.md_model.proofs.Puts.{by_same, put-miss}
-use Rattle.md_assembly.proofs.Indices.{got_same, got_within}
-use Rattle.md_device_writes.specs.Writes.{after}
-use Rattle.md_kept_members.specs.Enrolling.{HasRoomFor}
-use Rattle.md_kept_members.specs.Members.{made_due}
-use Rattle.md_kept_members.specs.View.{MemberView}
-use Rattle.md_state.specs.Enrolling.{enrolled}
-use Rattle.md_state.specs.Joining.{entries_with, joined_roles}
-use Rattle.md_state.specs.Members.{is_degraded}
-use Rattle.md_state.specs.View.{ArrayView, Disk, MirrorView}
+use Rattle.md_array.proofs.Rebuilding.RoleTaken.{TakesRole}
 use Rattle.md_array.specs.Consistency.{HasSuper, IsConsistent}
-use Rattle.md_array.specs.Enrolling.{AreEnrolWrites, Enrols}
+use Rattle.md_array.specs.Steps.Enrol.{AreEnrolWrites, Enrols}
 use Rattle.md_array.specs.ReadAsKept.{AreReadAsKept, IsReadAsKept}
-use Rattle.md_array.specs.Recording.{IsReadable}
+use Rattle.md_array.specs.Steps.Record.{IsReadable}
 use Rattle.md_array.specs.Worlds.{AreHonest, is_listed}
 use Rattle.md_array.proofs.General.Indices.{at_map}
 use Rattle.md_array.proofs.General.Replaced.{of_set}
@@ -29,7 +13,23 @@ use Rattle.md_array.proofs.Worlds.ReadAsKept.{IsSameArray, kept_in, own_written}
 use Rattle.md_array.proofs.Worlds.Risen.{risen_is_consistent}
 use Rattle.md_array.proofs.Rebuilding.MemberStored.{HoldsMember, holds_member}
 use Rattle.md_array.proofs.Rebuilding.EnrolledArray.{chunks_enrolled, few_entries, fits_enrolled, lists_enrolled, roles_enrolled, storable, super_enrolled, takes_by}
+use Rattle.md_badblocks.specs.Runs.{IsBad}
+use Rattle.md_assembly.specs.declared.state.MemberState.TheVariants.{Recovering}
+use Rattle.md_assembly.proofs.Indices.{got_same, got_within}
+use Rattle.md_super.specs.declared.superblock.Superblock.{Superblock}
+use Rattle.md_super.specs.Merge.{merged}
+use Rattle.md_bitmap.specs.declared.header.BitmapHeader.{BitmapHeader}
+use Rattle.md_bitmap.specs.Marks.{Bitmap}
+use Rattle.md_model.proofs.Puts.{by_same, put-miss}
 use Rattle.md_model.specs.Sectors.{put}
+use Rattle.md_device_writes.specs.Writes.{after}
+use Rattle.md_kept_members.specs.Enrolling.{HasRoomFor}
+use Rattle.md_kept_members.specs.Members.{made_due}
+use Rattle.md_kept_members.specs.View.{MemberView}
+use Rattle.md_state.specs.Steps.Enrol.{enrolled}
+use Rattle.md_state.specs.Steps.NoteJoined.{entries_with, joined_roles}
+use Rattle.md_state.specs.Members.{is_degraded}
+use Rattle.md_state.specs.View.{ArrayView, Disk, MirrorView}
 
 -- ---- the mirror, once it is in sync
 module _ (k : ℕ) (copied orphans : Bitmap) (old new : MirrorView) (c : IsConsistent old) (r : Enrols k copied orphans old new) where

@@ -26,18 +26,18 @@ use Rattle.md_device_writes.specs.Bitmaps.{bitmap_writes}
 use Rattle.md_device_writes.specs.Writes.{after}
 use Rattle.md_device_writes.proofs.Runs.{after-append}
 use Rattle.md_device_writes.proofs.Stored.{AreStored, stored_all}
+use Rattle.md_device_writes.proofs.Frames.{outside_around}
 use Rattle.md_kept_members.specs.Enrolling.{HasRoomFor, in_sync_superblock, log_room, whole-supported}
 use Rattle.md_kept_members.specs.View.{MemberView}
 use Rattle.md_state.specs.Headers.{IsHeaderFor}
 use Rattle.md_state.specs.View.{ArrayView, Disk}
-use Rattle.md_array.specs.Enrolling.{IsStorable, KeepsData, log_writes, member_writes}
-use Rattle.md_array.specs.Recording.{IsReadable, write_of}
+use Rattle.md_array.specs.Steps.Enrol.{IsStorable, KeepsData, log_writes, member_writes}
+use Rattle.md_array.specs.Steps.Record.{IsReadable, write_of}
 use Rattle.md_array.specs.Worlds.{block_on, sector_from_super}
 use Rattle.md_array.proofs.Openings.OwnFields as own_fields
 use Rattle.md_array.proofs.Worlds.Device.{fits_on}
 use Rattle.md_array.proofs.Worlds.Outside.{apart_either_way, bit_stays, header_stays, log_stays, sector_at_is, starts_at, stays}
 use Rattle.md_array.proofs.Worlds.Writes.{HoldsBitmap, holds_written, within_area}
-use Rattle.md_device_writes.proofs.Frames.{outside_around}
 
 -- ---- its superblock, once it is in sync
 module _ (v : Superblock) (list : List Run) where

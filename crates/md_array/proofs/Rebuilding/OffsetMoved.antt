@@ -16,20 +16,20 @@ use Rattle.md_model.specs.Sectors.{put}
 use Rattle.md_model.specs.Worlds.{Request, World}
 use Rattle.md_model.proofs.Puts.{put-self}
 use Rattle.md_requests.specs.Pending.{PendingView}
-use Rattle.md_state.specs.Checkpoints.{with_offset_of}
+use Rattle.md_state.specs.Steps.Checkpoint.{with_offset_of}
 use Rattle.md_state.specs.DiskWrites.{IsTried}
 use Rattle.md_state.specs.Members.{IsMember}
 use Rattle.md_state.specs.Requests.{IsPending}
 use Rattle.md_state.specs.View.{ArrayView, Disk, MirrorView}
 use Rattle.md_super.specs.declared.superblock.Superblock.{Superblock}
 use Rattle.md_device_writes.specs.Writes.{Write}
-use Rattle.md_array.specs.Checkpoints.{MovesOffset}
+use Rattle.md_array.specs.Steps.Checkpoint.{MovesOffset}
 use Rattle.md_array.specs.Consistency.{IsConsistent}
 use Rattle.md_array.specs.ReadAsKept.{AreReadAsKept, HasOwnSuper, IsReadAsKept}
 use Rattle.md_array.specs.Worlds.{lists_of, stored_of, world_of}
 use Rattle.md_array.proofs.General.Indices.{at_set_same, set_itself}
 use Rattle.md_array.proofs.General.Replaced.{of_set}
-use Rattle.md_array.proofs.Steps.OneMember.{ChangesOwn, IsNear, member_there, own_is_consistent, own_is_pending, own_world, stored_there}
+use Rattle.md_array.proofs.StepLemmas.OneMember.{ChangesOwn, IsNear, member_there, own_is_consistent, own_is_pending, own_world, stored_there}
 use Rattle.md_array.proofs.Worlds.Listed.{listed_at_offset}
 
 pub recovering_out : (s : MemberState) → is_recovering s ≡ true → is_in_sync s ≡ false

@@ -23,8 +23,8 @@ use Rattle.md_array.specs.Consistency.{IsConsistent}
 use Rattle.md_array.specs.Events.{Does, IsChangedAlone, KeepsLists, WritesOnce}
 use Rattle.md_array.specs.ReadAsKept.{AreReadAsKept, IsReadAsKept}
 use Rattle.md_array.specs.Worlds.{AreHonest, stored_of, stored_on, world_of, world_on}
-use Rattle.md_array.proofs.Steps.DevicesBack.{same_super, unrebuilt}
-use Rattle.md_array.proofs.Steps.OneMember.{fits_like, like_itself}
+use Rattle.md_array.proofs.StepLemmas.Lend.{same_super, unrebuilt}
+use Rattle.md_array.proofs.StepLemmas.OneMember.{fits_like, like_itself}
 use Rattle.md_array.proofs.Worlds.ReadAsKept.{IsTheSameBut}
 
 -- no device but k holds anything else

@@ -20,13 +20,13 @@ use Rattle.md_super.specs.Faults.{NoSuperFault}
 use Rattle.md_super.specs.Format.{IsSuper}
 use Rattle.md_super.specs.Log.{has_bad_block_log}
 use Rattle.md_array.specs.Consistency.{IsConsistent}
-use Rattle.md_array.specs.Enrolments.{Prepares}
+use Rattle.md_array.specs.Steps.EnrolEvents.{Prepares}
 use Rattle.md_array.specs.Events.{Happens, IsBesideArea, IsBesideMarks, IsSameBesideMarks}
 use Rattle.md_array.specs.ReadAsKept.{HasOwnSuper, IsReadAsKept}
 use Rattle.md_array.specs.Worlds.{AreHonest, block_on, sector_from_super, is_listed, is_logged, stored_of, super_in, world_of}
 use Rattle.md_array.proofs.Rebuilding.FilledEvent.{may_rebuild}
 use Rattle.md_array.proofs.Rebuilding.OneDevice.{IsOnlyAt, changed_only, only_does, only_left, only_world}
-use Rattle.md_array.proofs.Steps.OneMember.{stored_there}
+use Rattle.md_array.proofs.StepLemmas.OneMember.{stored_there}
 use Rattle.md_array.proofs.General.Tests.{and_same}
 use Rattle.md_array.proofs.Worlds.Listed.{bit_read}
 use Rattle.md_array.proofs.Worlds.Outside.{apart, sector_at_is}

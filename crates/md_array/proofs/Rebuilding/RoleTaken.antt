@@ -1,8 +1,14 @@
 -- An array in which a member takes a role: what holds of it in memory.
 use Rattle.std.proofs.Common.{◌≡◌, ◌≢◌, ℕ, ◌/◌, ◌<◌, ◌≤◌, true, false, not, List, length, length-set, slice_get, Some, refl, sym, ap, ◌∙◌, subst, arith, set}
-use Rattle.md_array.proofs.Steps.OneMember.{HasPlacesOf, fits_places}
 use Rattle.std.proofs.lemmas.List.{length-map}
 use Rattle.std.proofs.lemmas.Option.{slice_get_within}
+use Rattle.md_array.proofs.StepLemmas.OneMember.{HasPlacesOf, fits_places}
+use Rattle.md_array.specs.Consistency.{IsConsistent}
+use Rattle.md_array.specs.Fits.{Fits, FitsMember}
+use Rattle.md_array.proofs.General.Indices.{at_map, at_set_same, got_in_map}
+use Rattle.md_array.proofs.General.Replaced.{of_set}
+use Rattle.md_array.proofs.Worlds.Joined.{role_joined}
+use Rattle.md_array.proofs.Worlds.Risen.{risen_is_consistent}
 use Rattle.md_bitmap.specs.declared.header.BitmapHeader.{BitmapHeader}
 use Rattle.md_model.specs.Sectors.{put}
 use Rattle.md_model.proofs.Puts.{put-hit, put-miss}
@@ -11,16 +17,10 @@ use Rattle.md_assembly.proofs.Indices.{got_within}
 use Rattle.md_kept_members.specs.Members.{made_due}
 use Rattle.md_kept_members.specs.View.{MemberView}
 use Rattle.md_state.specs.InMemory.{HasMarksOfSize, HasRoles}
-use Rattle.md_state.specs.Joining.{joined_shared}
+use Rattle.md_state.specs.Steps.NoteJoined.{joined_shared}
 use Rattle.md_state.specs.Members.{IsMember, is_degraded, IsInSync}
-use Rattle.md_state.specs.Rising.{risen}
+use Rattle.md_state.specs.Steps.Rise.{risen}
 use Rattle.md_state.specs.View.{ArrayView, Disk}
-use Rattle.md_array.specs.Consistency.{IsConsistent}
-use Rattle.md_array.specs.Fits.{Fits, FitsMember}
-use Rattle.md_array.proofs.General.Indices.{at_map, at_set_same, got_in_map}
-use Rattle.md_array.proofs.General.Replaced.{of_set}
-use Rattle.md_array.proofs.Worlds.Joined.{role_joined}
-use Rattle.md_array.proofs.Worlds.Risen.{risen_is_consistent}
 
 -- Role is one of the array's, and no other member has it; and its number has an entry.
 pub record TakesRole (a : ArrayView) (k : ℕ) (m : MemberView) (role : ℕ) : Type 0 where

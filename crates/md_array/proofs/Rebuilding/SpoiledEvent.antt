@@ -20,8 +20,8 @@ use Rattle.md_array.specs.Spoiling.{SpoilsTarget}
 use Rattle.md_array.specs.Worlds.{block_on, kind_of, stored_of, super_in, world_of}
 use Rattle.md_array.proofs.Rebuilding.FilledEvent.{rebuilt_target}
 use Rattle.md_array.proofs.Rebuilding.OneDevice.{IsOnlyAt, only_does, only_left, only_world, tried_only}
-use Rattle.md_array.proofs.Steps.OneMember.{member_there, stored_there}
-use Rattle.md_array.proofs.Steps.TargetUnrecorded.{rebuilt_recorded}
+use Rattle.md_array.proofs.StepLemmas.OneMember.{member_there, stored_there}
+use Rattle.md_array.proofs.StepLemmas.RecordTarget.{rebuilt_recorded}
 use Rattle.md_array.proofs.Worlds.Failed.{there_is}
 use Rattle.md_array.proofs.Worlds.PartsApart.{HasParts, header_beside_super, parts_of, super_alone}
 

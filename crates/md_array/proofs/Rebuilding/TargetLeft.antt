@@ -20,18 +20,18 @@ use Rattle.md_state.specs.View.{ArrayView, Disk, MirrorView, geometry_of}
 use Rattle.md_super.specs.declared.superblock.Superblock.{Superblock}
 use Rattle.md_super.specs.Merge.{merged}
 use Rattle.md_device_writes.specs.Writes.{Write}
-use Rattle.md_array.specs.Admitting.{FailsAsTarget, FailsOnTargetAlone, IsOldOrNone}
+use Rattle.md_array.specs.Steps.Admit.{FailsAsTarget, FailsOnTargetAlone, IsOldOrNone}
 use Rattle.md_array.specs.Consistency.{IsConsistent}
 use Rattle.md_array.specs.Events.{ListsStill}
 use Rattle.md_array.specs.ReadAsKept.{HasOwnSuper, IsReadAsKept}
-use Rattle.md_array.specs.Recording.{IsReadable, own_write}
+use Rattle.md_array.specs.Steps.Record.{IsReadable, own_write}
 use Rattle.md_array.specs.Worlds.{block_on, kind_of, stored_of, super_in, super_of, world_of}
 use Rattle.md_array.proofs.Rebuilding.FilledEvent.{rebuilt_target}
 use Rattle.md_array.proofs.Rebuilding.OneDevice.{IsOnlyAt, only_does, only_is_consistent, only_left, only_world, tried_only}
-use Rattle.md_array.proofs.Steps.DevicesBack.{unrebuilt}
-use Rattle.md_array.proofs.Steps.OneMember.{member_there, stored_there}
-use Rattle.md_array.proofs.Steps.ListStays.{lists_still}
-use Rattle.md_array.proofs.Steps.TargetUnrecorded.{rebuilt_recorded}
+use Rattle.md_array.proofs.StepLemmas.Lend.{unrebuilt}
+use Rattle.md_array.proofs.StepLemmas.OneMember.{member_there, stored_there}
+use Rattle.md_array.proofs.StepLemmas.ListStays.{lists_still}
+use Rattle.md_array.proofs.StepLemmas.RecordTarget.{rebuilt_recorded}
 use Rattle.md_array.proofs.Worlds.Failed.{there_is}
 use Rattle.md_array.proofs.Worlds.InSync.{in_sync_of}
 use Rattle.md_array.proofs.Worlds.Listed.{IsLogKept, listed_kept, listed_unread, next_kept}

@@ -13,16 +13,16 @@ use Rattle.md_kept_members.specs.View.{MemberView}
 use Rattle.md_faults.specs.declared.copy_fault.CopyFault.{CopyFault}
 use Rattle.md_faults.specs.declared.copy_fault.CopyFault.TheVariants.{Halted, MemberFailed}
 use Rattle.md_state.specs.View.{ArrayView, Disk, MirrorView, geometry_of}
-use Rattle.md_state.specs.CopyingData.{AnswersCopy, FailsToCopy, IsCopy, RefusesCopy, run_write}
+use Rattle.md_state.specs.Steps.CopyData.{AnswersCopy, FailsToCopy, IsCopy, RefusesCopy, run_write}
 use Rattle.md_state.specs.DiskWrites.{IsFailed}
 use Rattle.md_state.specs.Members.{IsMember}
 use Rattle.md_state.specs.Requests.{IsPending}
 use Rattle.md_array.specs.Consistency.{IsConsistent}
-use Rattle.md_array.specs.CopyEvents.{IfCopyingFailed}
+use Rattle.md_array.specs.Steps.CopyData.{IfCopyingFailed}
 use Rattle.md_array.specs.Events.{Happens}
 use Rattle.md_array.specs.Worlds.{stored_of, world_of, world_on}
-use Rattle.md_array.proofs.Steps.AfterFailure.{failed_is_consistent, failed_is_pending, halted_is_consistent, halted_is_pending}
-use Rattle.md_array.proofs.Steps.OneMember.{stored_there}
+use Rattle.md_array.proofs.StepLemmas.AfterFailure.{failed_is_consistent, failed_is_pending, halted_is_consistent, halted_is_pending}
+use Rattle.md_array.proofs.StepLemmas.OneMember.{stored_there}
 use Rattle.md_array.proofs.Worlds.PartsApart.{block_beside_data, data_alone, data_elsewhere, log_beside_data, parts_of}
 use Rattle.md_array.proofs.Worlds.ReadAsKept.{own_stays}
 use Rattle.md_array.proofs.Worlds.SectorCopied.{may_copy_chunk}

@@ -1,10 +1,12 @@
 -- The device of a member, before and after the opening.
 use Rattle.std.proofs.Common.{◌≡◌, ℕ, ◌+◌, ◌*◌, ◌/◌, ◌<◌, ◌≤◌, ◌⊎◌, inl, inr, true, false, List, length, drop, Some, ℤ, pos, ◌+ℤ◌, ◌≤ℤ◌, refl, sym, ap, ◌∙◌, subst, arith, lt-ltb, ◌↔◌, Bool}
-use Rattle.md_kept_members.specs.Kept.{known_offset}
-use Rattle.md_kept_members.specs.OwnFields.{kept_superblock}
 use Rattle.std.proofs.lemmas.Bool.{cases_lt}
 use Rattle.std.proofs.lemmas.Int.{ints}
 use Rattle.std.proofs.lemmas.Option.{same_Some}
+use Rattle.md_kept_members.specs.Kept.{known_offset}
+use Rattle.md_kept_members.specs.OwnFields.{kept_superblock}
+use Rattle.md_kept_members.specs.View.{MemberView}
+use Rattle.md_kept_members.specs.Members.{NeedsMarks}
 use Rattle.md_device.specs.Splice.{part, SameOutside}
 use Rattle.md_super.specs.declared.superblock.Superblock.{Superblock}
 use Rattle.md_bitmap.specs.declared.header.BitmapHeader.{BitmapHeader}
@@ -17,15 +19,12 @@ use Rattle.md_members.specs.Members.{sectors_of_device}
 use Rattle.md_assembly.specs.States.{is_in_sync, state_of}
 use Rattle.md_badblocks.specs.Runs.{IsBad}
 use Rattle.md_model.specs.Devices.{is_accepted}
-use Rattle.md_kept_members.specs.View.{MemberView}
-use Rattle.md_kept_members.specs.Members.{NeedsMarks}
+use Rattle.md_model.proofs.Cases.{by_test}
 use Rattle.md_state.specs.View.{Disk, ArrayView}
 use Rattle.md_state.specs.DeviceChanges.{IsUnchanged}
 use Rattle.md_array.specs.Consistency.{HasPlaces}
 use Rattle.md_array.specs.ReadAsKept.{HasWidth, IsReadAsKept, chunk_size_on}
-use Rattle.md_array.specs.Storing.{StoresMarksOn}
-use Rattle.md_device_writes.specs.Bitmaps.{bitmap_writes}
-use Rattle.md_device_writes.specs.Writes.{after}
+use Rattle.md_array.specs.Open.Marks.{StoresMarksOn}
 use Rattle.md_array.specs.Worlds.{block_on, sector_from_super, is_listed, is_listed_next, stored_of, super_in, super_of}
 use Rattle.md_array.proofs.Worlds.Listed.{IsLogKept, listed_as_next, listed_kept, listed_kept_of, next_kept, listed_at_offset, next_at_offset}
 use Rattle.md_array.proofs.Worlds.PartsApart.{log_beside_bitmap}
@@ -36,10 +35,11 @@ use Rattle.md_array.proofs.Worlds.Outside.{block_stays, data_stays, starts_at}
 use Rattle.md_array.proofs.Worlds.ReadMember as read
 use Rattle.md_array.proofs.Worlds.ReadMember.{IsReadMember}
 use Rattle.md_array.proofs.Worlds.Read.{HasRead, holds_read, uuid_long, name_long}
-use Rattle.md_model.proofs.Cases.{by_test}
 use Rattle.md_array.proofs.Worlds.States.{in_sync_up_to_date}
 use Rattle.md_array.proofs.Worlds.Supers.{block_spells}
 use Rattle.md_array.proofs.Worlds.Writes.{HoldsBitmap, holds_written}
+use Rattle.md_device_writes.specs.Bitmaps.{bitmap_writes}
+use Rattle.md_device_writes.specs.Writes.{after}
 
 -- what a member was opened from
 pub record IsOpenedMember (a : ArrayView) (m : MemberView) (info : MemberInfo) (old new : Disk) : Type 0 where

@@ -7,7 +7,7 @@ use Rattle.md_assembly.specs.States.{role_in, takes_role}
 use Rattle.md_kept_members.specs.View.{MemberView}
 use Rattle.md_state.specs.InMemory.{HasMarksOfSize, HasRoles}
 use Rattle.md_state.specs.Members.{IsMember}
-use Rattle.md_state.specs.Removing.{without_entry}
+use Rattle.md_state.specs.Steps.Remove.{without_entry}
 use Rattle.md_state.specs.View.{ArrayView, Disk}
 use Rattle.md_array.specs.Consistency.{IsConsistent}
 use Rattle.md_array.specs.Fits.{Fits}

@@ -16,12 +16,12 @@ use Rattle.md_model.specs.Runs.{failed_after, spoiled_after}
 use Rattle.md_model.proofs.Steps.Between.{between_step, in_flight_step}
 use Rattle.md_device_writes.specs.Writes.{Write}
 use Rattle.md_kept_members.specs.View.{MemberView}
+use Rattle.md_kept_members.specs.Members.{made_due}
 use Rattle.md_assembly.specs.States.{is_in_sync_as, is_recorded}
 use Rattle.md_assembly.proofs.Indices.{got_within}
-use Rattle.md_kept_members.specs.Members.{made_due}
 use Rattle.md_state.specs.Members.{IsMember, is_degraded}
 use Rattle.md_state.specs.View.{ArrayView, Disk, MirrorView, geometry_of}
-use Rattle.md_state.specs.Rising.{failed, made_faulty, risen, without}
+use Rattle.md_state.specs.Steps.Rise.{failed, made_faulty, risen, without}
 use Rattle.md_state.specs.DiskWrites.{AtDevice, IsTried}
 use Rattle.md_state.specs.Requests.{AreInFlight}
 use Rattle.md_state.specs.Trying.{FailsWriting}
@@ -30,8 +30,8 @@ use Rattle.md_array.specs.Events.{Does, KeepsLists, WritesOnce}
 use Rattle.md_array.specs.ReadAsKept.{AreReadAsKept, HasOwnSuper}
 use Rattle.md_array.specs.Worlds.{AreHonest, kind_of, world_of, world_on}
 use Rattle.md_array.proofs.General.Honesty.{tried_honest}
-use Rattle.md_array.proofs.Steps.AfterFailure.{failed_is_consistent}
-use Rattle.md_array.proofs.Steps.OneMember.{member_there}
+use Rattle.md_array.proofs.StepLemmas.AfterFailure.{failed_is_consistent}
+use Rattle.md_array.proofs.StepLemmas.OneMember.{member_there}
 use Rattle.md_array.proofs.Worlds.ReadAsKept.{failed_read}
 use Rattle.md_array.proofs.Worlds.InSync.{in_sync_there}
 use Rattle.md_array.proofs.General.Indices.{got_in_map}

@@ -21,10 +21,10 @@ use Rattle.md_kept_members.specs.View.{MemberView}
 use Rattle.md_kept_members.specs.Members.{made_due}
 use Rattle.md_kept_members.proofs.Members.Indices.{listed_push}
 use Rattle.md_state.specs.InMemory.{HasMarksOfSize, HasRoles}
-use Rattle.md_state.specs.Joining.{entries_with, joined, joined_roles, role_after}
+use Rattle.md_state.specs.Steps.NoteJoined.{entries_with, joined, joined_roles, role_after}
 use Rattle.md_state.specs.Members.{IsMember, is_degraded, is_filled}
-use Rattle.md_state.specs.ReAdding.{is_taken}
-use Rattle.md_state.specs.Rising.{has_number, is_absent, risen, roles_at_rise}
+use Rattle.md_state.specs.Steps.ReAdd.{is_taken}
+use Rattle.md_state.specs.Steps.Rise.{has_number, is_absent, risen, roles_at_rise}
 use Rattle.md_state.specs.View.{ArrayView, Disk, geometry_of}
 use Rattle.md_array.specs.Consistency.{IsConsistent}
 use Rattle.md_array.specs.Fits.{Fits, FitsMember}

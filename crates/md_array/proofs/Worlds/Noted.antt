@@ -6,9 +6,9 @@ use Rattle.md_model.specs.Worlds as worlds
 use Rattle.md_model.specs.Worlds.{Request}
 use Rattle.md_model.proofs.Cases.{is_below}
 use Rattle.md_state.specs.View.{MirrorView}
-use Rattle.md_array.specs.NotingResynced.{AreNoted}
+use Rattle.md_array.specs.Steps.NoteResynced.{AreNoted}
 use Rattle.md_array.specs.Worlds.{world_of}
-use Rattle.md_array.proofs.Steps.OneMember.{member_there}
+use Rattle.md_array.proofs.StepLemmas.OneMember.{member_there}
 use Rattle.md_array.proofs.Worlds.InSync.{in_sync_is}
 
 pub noted_there : (v : MirrorView) (requests : ℕ → Option Request) → AreNoted v.array → (i c : ℕ) → worlds.IsInSync (world_of v requests) i

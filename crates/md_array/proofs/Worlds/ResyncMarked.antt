@@ -1,8 +1,19 @@
 -- It is kept whether the array is resynced: that is the model's event.
 use Rattle.std.proofs.Common.{◌≡◌, ℕ, Bool, true, false, cond, nat_lt, List, [], slice_get, Option, refl, sym, ap, ◌∙◌, subst, arith}
-use Rattle.md_array.proofs.Worlds.Noted.{noted_there}
 use Rattle.std.proofs.lemmas.Option.{slice_get_within}
 use Rattle.std.proofs.lemmas.Bool.{and_parts}
+use Rattle.md_array.proofs.Worlds.Noted.{noted_there}
+use Rattle.md_array.specs.Consistency.{IsConsistent}
+use Rattle.md_array.specs.Events.{Does, Happens, KeepsLists, WritesOnce}
+use Rattle.md_array.specs.Fits.{Fits}
+use Rattle.md_array.specs.Steps.NoteResynced.{AllAgreeWhereMarked, BecomesResynced, IsHonestMember, NotesResynced, sector_of, AreNoted}
+use Rattle.md_array.specs.ReadAsKept.{AreReadAsKept}
+use Rattle.md_array.specs.Worlds.{AreHonest, world_of}
+use Rattle.md_array.proofs.StepLemmas.OneMember.{stored_there}
+use Rattle.md_array.proofs.Worlds.ReadAsKept.{same_array, same_member, unwritten_read}
+use Rattle.md_array.proofs.StepLemmas.RemarkedWorlds.{same_mirror}
+use Rattle.md_array.proofs.Worlds.SectorCopied.{none_there, unlisted_is}
+use Rattle.md_array.proofs.Worlds.InSync.{in_sync_is}
 use Rattle.md_model.specs.Devices.{Stored}
 use Rattle.md_model.specs.Events.{Event, Step}
 use Rattle.md_model.specs.Resyncing as model
@@ -16,17 +27,6 @@ use Rattle.md_kept_members.specs.View.{MemberView}
 use Rattle.md_state.specs.View.{ArrayView, Disk, MirrorView, geometry_of}
 use Rattle.md_state.specs.InMemory.{HasMarksOfSize, HasRoles}
 use Rattle.md_state.specs.Requests.{AreInFlight, IsPending}
-use Rattle.md_array.specs.Consistency.{IsConsistent}
-use Rattle.md_array.specs.Events.{Does, Happens, KeepsLists, WritesOnce}
-use Rattle.md_array.specs.Fits.{Fits}
-use Rattle.md_array.specs.NotingResynced.{AllAgreeWhereMarked, BecomesResynced, IsHonestMember, NotesResynced, sector_of, AreNoted}
-use Rattle.md_array.specs.ReadAsKept.{AreReadAsKept}
-use Rattle.md_array.specs.Worlds.{AreHonest, world_of}
-use Rattle.md_array.proofs.Steps.OneMember.{stored_there}
-use Rattle.md_array.proofs.Worlds.ReadAsKept.{same_array, same_member, unwritten_read}
-use Rattle.md_array.proofs.Steps.RemarkedWorlds.{same_mirror}
-use Rattle.md_array.proofs.Worlds.SectorCopied.{none_there, unlisted_is}
-use Rattle.md_array.proofs.Worlds.InSync.{in_sync_is}
 use Rattle.md_assembly.proofs.Indices.{got_within}
 
 module _ (is : Bool) (old new : MirrorView) (c : IsConsistent old) (t : NotesResynced is old new) where

@@ -17,7 +17,7 @@ use Rattle.md_assembly.specs.States.{has_recovery_offset, is_in_sync, is_in_sync
 use Rattle.md_kept_members.specs.View.{MemberView}
 use Rattle.md_kept_members.specs.Members.{made_due}
 use Rattle.md_state.specs.Members.{IsMember, is_degraded, is_filled, faulty_role}
-use Rattle.md_state.specs.Rising.{has_number, is_absent, roles_at_rise, risen}
+use Rattle.md_state.specs.Steps.Rise.{has_number, is_absent, roles_at_rise, risen}
 use Rattle.md_state.specs.View.{Disk, ArrayView, MirrorView, geometry_of}
 use Rattle.md_state.specs.InMemory.{HasMarksOfSize, HasRoles}
 use Rattle.md_array.specs.Consistency.{HasSuper, IsConsistent}

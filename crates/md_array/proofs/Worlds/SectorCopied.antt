@@ -1,8 +1,19 @@
 -- A sector is copied from a member in sync to another: no more than that sector of its data changes, and that is the model's event.
 use Rattle.std.proofs.Common.{◌≡◌, ◌≢◌, ℕ, ◌+◌, ◌*◌, ◌<◌, ◌≤◌, ◌⊎◌, inl, inr, true, false, cond, Bool, ◌&&◌, nat_lt, true≢false, List, [], slice_get, Option, Some, None, refl, sym, ap, ◌∙◌, subst, arith, eq-eqb}
-use Rattle.md_array.proofs.Worlds.Bad.{test_from_bad}
 use Rattle.std.proofs.lemmas.Bool.{cases_lt, and_from, and_parts}
 use Rattle.std.proofs.lemmas.Option.{slice_get_within}
+use Rattle.md_array.proofs.Worlds.Bad.{test_from_bad}
+use Rattle.md_array.specs.Consistency.{HasPlaces, HasSuper, IsConsistent}
+use Rattle.md_array.specs.Events.{Happens}
+use Rattle.md_array.specs.Worlds.{AreHonest, stored_of, super_in, world_of, lists_of}
+use Rattle.md_array.proofs.General.Honesty.{tried_honest}
+use Rattle.md_array.proofs.Worlds.Listed.{still_next, still_known}
+use Rattle.md_array.proofs.StepLemmas.MakeClean.{none_listed}
+use Rattle.md_array.proofs.StepLemmas.OneMember.{ChangesMember, changed_in_flight, changed_is_consistent, changed_world, member_there, stored_there}
+use Rattle.md_array.proofs.Worlds.PartsApart.{HasParts, block_beside_data, data_alone, data_elsewhere, log_beside_data, parts_of}
+use Rattle.md_array.proofs.Worlds.ReadAsKept.{changed_read, read_beside_data}
+use Rattle.md_array.proofs.Worlds.InSync.{in_sync_is, in_sync_there, number_at}
+use Rattle.md_array.proofs.General.Indices.{set_itself}
 use Rattle.md_bitmap.specs.Marks.{is_set}
 use Rattle.md_device.specs.Splice.{SameOutside, part}
 use Rattle.md_device.proofs.Splices.{part-spliced}
@@ -20,21 +31,10 @@ use Rattle.md_model.proofs.Cases.{below-nat_lt, by_test, not_below}
 use Rattle.md_model.proofs.Puts.{by_same, put-hit, put-miss, put-self}
 use Rattle.md_kept_members.specs.View.{MemberView}
 use Rattle.md_state.specs.View.{ArrayView, Disk, MirrorView, geometry_of}
-use Rattle.md_state.specs.CopyingData.{CopiesSector, Lists, MayCopy, MayCopyChunk, run_write}
+use Rattle.md_state.specs.Steps.CopyData.{CopiesSector, Lists, MayCopy, MayCopyChunk, run_write}
 use Rattle.md_state.specs.Members.{IsInSync, IsMember}
-use Rattle.md_state.specs.MakingClean.{first_number}
+use Rattle.md_state.specs.Steps.MakeClean.{first_number}
 use Rattle.md_state.specs.Requests.{AreInFlight}
-use Rattle.md_array.specs.Consistency.{HasPlaces, HasSuper, IsConsistent}
-use Rattle.md_array.specs.Events.{Happens}
-use Rattle.md_array.specs.Worlds.{AreHonest, stored_of, super_in, world_of, lists_of}
-use Rattle.md_array.proofs.General.Honesty.{tried_honest}
-use Rattle.md_array.proofs.Worlds.Listed.{still_next, still_known}
-use Rattle.md_array.proofs.Steps.MadeClean.{none_listed}
-use Rattle.md_array.proofs.Steps.OneMember.{ChangesMember, changed_in_flight, changed_is_consistent, changed_world, member_there, stored_there}
-use Rattle.md_array.proofs.Worlds.PartsApart.{HasParts, block_beside_data, data_alone, data_elsewhere, log_beside_data, parts_of}
-use Rattle.md_array.proofs.Worlds.ReadAsKept.{changed_read, read_beside_data}
-use Rattle.md_array.proofs.Worlds.InSync.{in_sync_is, in_sync_there, number_at}
-use Rattle.md_array.proofs.General.Indices.{set_itself}
 
 -- ---- states
 pub in_sync_as : (role : ℕ) (state : MemberState) → is_in_sync_as role state ≡ true → (is_in_sync state ≡ true) × (takes_role role state ≡ true)

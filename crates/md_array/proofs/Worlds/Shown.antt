@@ -12,7 +12,7 @@ use Rattle.md_model.specs.Worlds.{World}
 use Rattle.md_kept_members.specs.View.{MemberView}
 use Rattle.md_state.specs.View.{Disk, ArrayView, MirrorView}
 use Rattle.md_state.specs.Members.{IsMember}
-use Rattle.md_array.specs.Opening.{IsArrayOf, IsOpenedFrom}
+use Rattle.md_array.specs.Open.Opened.{IsArrayOf, IsOpenedFrom}
 use Rattle.md_array.specs.Worlds.{AreHonest, at_member, none_in_flight, nothing_stored, stored_of, stored_on, super_of, kind_of, world_of}
 use Rattle.md_array.proofs.Worlds.Device.{IsOpenedMember, super_new}
 use Rattle.md_array.proofs.Worlds.ReadMember.{IsReadMember}

@@ -16,7 +16,7 @@ use Rattle.md_kept_members.specs.View.{MemberView}
 use Rattle.md_state.specs.InMemory.{HasMarksOfSize, HasRoles}
 use Rattle.md_state.specs.Members.{IsMember, is_degraded, is_filled}
 use Rattle.md_state.specs.View.{ArrayView, Disk}
-use Rattle.md_state.specs.Removing.{taken_out}
+use Rattle.md_state.specs.Steps.Remove.{taken_out}
 use Rattle.md_array.specs.Consistency.{IsConsistent}
 use Rattle.md_array.specs.Fits.{Fits}
 use Rattle.md_array.specs.ReadAsKept.{AreReadAsKept}

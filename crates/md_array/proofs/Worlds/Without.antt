@@ -11,9 +11,9 @@ use Rattle.md_model.proofs.Puts.{by_same, put-hit, put-miss}
 use Rattle.md_assembly.specs.States.{has_recovery_offset, role_in}
 use Rattle.md_kept_members.specs.View.{MemberView}
 use Rattle.md_state.specs.View.{Disk, ArrayView}
-use Rattle.md_bitmap.specs.Marks.{is_set}
 use Rattle.md_state.specs.Members.{IsMember, faulty_role, clean_offset}
-use Rattle.md_state.specs.Rising.{made_faulty, roles_without, without}
+use Rattle.md_state.specs.Steps.Rise.{made_faulty, roles_without, without}
+use Rattle.md_bitmap.specs.Marks.{is_set}
 use Rattle.md_array.specs.Worlds.{kind_of, stored_on, world_on, lists_of}
 use Rattle.md_array.proofs.General.Replaced.{read_changed, read_kept}
 use Rattle.md_array.proofs.General.Indices.{any_kept}

@@ -8,8 +8,8 @@ use Rattle.md_state.specs.View.{Disk, MirrorView}
 use Rattle.md_device_writes.specs.Writes.{IsCutShort, Write}
 use Rattle.md_bitmap.specs.Marks.{Bitmap}
 use Rattle.md_array.specs.Consistency.{IsConsistent}
-use Rattle.md_array.specs.Enrolling.{Enrols, IsUsedAlone, MayEnrol}
-use Rattle.md_array.specs.Enrolments.{Prepares}
+use Rattle.md_array.specs.Steps.Enrol.{Enrols, IsUsedAlone, MayEnrol}
+use Rattle.md_array.specs.Steps.EnrolEvents.{Prepares}
 use Rattle.md_array.specs.Events.{IsChangedAlone, IsSameBesideMarks, IsSameBesideMissing}
 use Rattle.md_array.specs.Worlds.{AreHonest, block_on}
 use Rattle.md_array.proofs.Rebuilding.CutBefore.{cut_with_super}

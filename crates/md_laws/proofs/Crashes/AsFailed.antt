@@ -18,9 +18,9 @@ use Rattle.md_state.specs.DiskWrites.{IsFailed, IsTried, IsWritten}
 use Rattle.md_state.specs.View.{Disk}
 use Rattle.md_array.specs.Events.{IsSameBesideMarks, IsSameBesideMissing}
 use Rattle.md_array.specs.Worlds.{AreHonest}
-use Rattle.md_laws.specs.CrashesWithin.{IsLeftBut, MayAllBeLeft, CrashesAsFailed, CrashesAsTried, CrashesAtEvents, CrashesUndivided}
 use Rattle.md_array.proofs.General.Indices.{got_in_map}
-use Rattle.md_array.proofs.Steps.WrittenLast.{honest_last}
+use Rattle.md_array.proofs.StepLemmas.WrittenLast.{honest_last}
+use Rattle.md_laws.specs.CrashesWithin.{IsLeftBut, MayAllBeLeft, CrashesAsFailed, CrashesAsTried, CrashesAtEvents, CrashesUndivided}
 use Rattle.md_laws.proofs.Crashes.AtSteps.{put_back, same_lists, crashes_at_failure, crashes_at_sector, crashes_at_write, crashes_in_memory}
 use Rattle.md_laws.proofs.Crashes.AloneChanged.{contents_with, got_with, left_alone, long_with, with_contents}
 use Rattle.md_laws.proofs.Crashes.WithinAdd.{cut_none, left_of_new}

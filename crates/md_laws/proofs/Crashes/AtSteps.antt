@@ -10,10 +10,10 @@ use Rattle.md_device_writes.specs.Writes.{IsAnyIn, IsCutShort, Write}
 use Rattle.md_device_writes.proofs.Runs.{cut_one}
 use Rattle.md_state.specs.View.{Disk}
 use Rattle.md_state.specs.DiskWrites.{IsTried, IsWritten}
-use Rattle.md_array.specs.Recording.{super_write}
+use Rattle.md_array.specs.Steps.Record.{super_write}
+use Rattle.md_array.proofs.StepLemmas.WrittenLast.{honest_last, written_last}
 use Rattle.md_laws.specs.CrashesWithin.{IsLeftBut, MayAllBeLeft, MayBeLeft, CrashesAtFailure, CrashesAtReAdd, CrashesAtRemoval, CrashesAtSector, CrashesAtWrite, CrashesInMemory}
 use Rattle.md_assembly.proofs.Indices.{got_within}
-use Rattle.md_array.proofs.Steps.WrittenLast.{honest_last, written_last}
 
 -- what is listed since, has what is said of all that is new
 pub new_has : (past now : List (List ℕ)) (P : List ℕ → Type 0) → LeavesMore past now P → (i : ℕ) (c : List ℕ) → slice_get (drop (length past) now) i ≡ Some c → P c

@@ -10,17 +10,17 @@ use Rattle.md_model.specs.Sectors.{put}
 use Rattle.md_model.specs.Worlds.{Request}
 use Rattle.md_model.proofs.Puts.{by_same, put-self}
 use Rattle.md_requests.specs.Pending.{PendingView}
-use Rattle.md_state.specs.CopyingData.{FailsToCopy, run_write}
+use Rattle.md_state.specs.Steps.CopyData.{FailsToCopy, run_write}
 use Rattle.md_state.specs.Members.{IsInSync}
 use Rattle.md_state.specs.Requests.{among, request_of}
-use Rattle.md_state.specs.StoringMarks.{FailsToStoreMarks}
+use Rattle.md_state.specs.Steps.StoreMarks.{FailsToStoreMarks}
 use Rattle.md_state.specs.View.{ArrayView, Disk, MirrorView}
 use Rattle.md_array.specs.Events.{Does}
 use Rattle.md_array.specs.InTurn.{AllLeftWhole, Did, HaltsAt, InTurn, IsInOrder, IsPut, IsSectorDue, IsUnder, Leads, LeftWhole, Requests}
-use Rattle.md_array.specs.Listing.{FailsToStoreLog}
+use Rattle.md_array.specs.Steps.StoreLog.{FailsToStoreLog}
 use Rattle.md_array.specs.Worlds.{AreHonest}
-use Rattle.md_array.proofs.Rebuilding.LogStored.{store_log_fails_happens}
-use Rattle.md_array.proofs.Steps.MarksFailed.{store_marks_fails_happens}
+use Rattle.md_array.proofs.Rebuilding.StoreLog.{store_log_fails_happens}
+use Rattle.md_array.proofs.StepLemmas.MarksFailed.{store_marks_fails_happens}
 use Rattle.md_array.proofs.Worlds.CopyFailed.{copy_fails_happens}
 use Rattle.md_laws.specs.Left.{IsLeftByCrash, contents_of}
 use Rattle.md_laws.specs.Runs.{MirrorRun, Moment, then_as}

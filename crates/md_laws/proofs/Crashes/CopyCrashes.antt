@@ -13,22 +13,22 @@ use Rattle.md_device_writes.specs.Writes.{IsCutShort}
 use Rattle.md_device_writes.proofs.Runs.{cut_one}
 use Rattle.md_kept_members.specs.View.{MemberView}
 use Rattle.md_state.specs.View.{Disk, MirrorView}
-use Rattle.md_state.specs.CopyingData.{CopiesSector, CopiesTo, IsCopy, MayCopy, run_write}
+use Rattle.md_state.specs.Steps.CopyData.{CopiesSector, CopiesTo, IsCopy, MayCopy, run_write}
 use Rattle.md_state.specs.DeviceChanges.{StaysHonest}
-use Rattle.md_state.specs.ReadingData.{HoldsData}
+use Rattle.md_state.specs.Steps.ReadData.{HoldsData}
 use Rattle.md_state.specs.Requests.{AreInFlight}
 use Rattle.md_array.specs.Consistency.{IsConsistent}
 use Rattle.md_array.specs.InTurn.{Leads, Requests}
+use Rattle.md_array.proofs.StepLemmas.CopiedRun.{first_holds, first_may, others_hold, others_may}
+use Rattle.md_array.proofs.StepLemmas.WriteMember.{part-spliced_within}
+use Rattle.md_array.proofs.StepLemmas.OneWrite.{at_device}
+use Rattle.md_array.proofs.Worlds.PartsApart.{parts_of}
+use Rattle.md_array.proofs.StepLemmas.RunsOfSectors.{first_half, half, second_half}
+use Rattle.md_array.proofs.Worlds.SectorCopied.{copied_is_consistent, copy_happens}
+use Rattle.md_array.proofs.General.Indices.{at_set_same, got_in_map, got_other}
 use Rattle.md_laws.specs.HaltedWrites.{CrashesAtHaltedCopies}
 use Rattle.md_laws.specs.CopyCrashes.{IsCopiedInPart, CrashesAtCopies, copies_at}
 use Rattle.md_laws.specs.CrashesWithin.{IsLeftBut}
-use Rattle.md_array.proofs.Steps.CopiedRun.{first_holds, first_may, others_hold, others_may}
-use Rattle.md_array.proofs.Steps.DataWritten.{part-spliced_within}
-use Rattle.md_array.proofs.Steps.OneWrite.{at_device}
-use Rattle.md_array.proofs.Worlds.PartsApart.{parts_of}
-use Rattle.md_array.proofs.Steps.RunsOfSectors.{first_half, half, second_half}
-use Rattle.md_array.proofs.Worlds.SectorCopied.{copied_is_consistent, copy_happens}
-use Rattle.md_array.proofs.General.Indices.{at_set_same, got_in_map, got_other}
 use Rattle.md_laws.proofs.Crashes.AtSteps.{same_lists, crashes_at_failure, crashes_at_write}
 use Rattle.md_assembly.proofs.Indices.{got_within}
 

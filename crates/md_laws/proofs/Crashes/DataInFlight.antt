@@ -15,11 +15,11 @@ use Rattle.md_model.proofs.Puts.{put-hit}
 use Rattle.md_requests.specs.Pending.{PendingView, extent_of, has_written, request_sectors}
 use Rattle.md_state.specs.Requests.{AreInFlight, among, request_of}
 use Rattle.md_state.specs.View.{MirrorView, geometry_of}
-use Rattle.md_state.specs.WritingMember.{MayWrite}
+use Rattle.md_state.specs.Steps.WriteMember.{MayWrite}
 use Rattle.md_array.specs.Consistency.{IsConsistent}
 use Rattle.md_array.specs.Worlds.{world_of}
-use Rattle.md_array.proofs.Steps.InFlight.{is_touched}
-use Rattle.md_array.proofs.Steps.OneMember.{member_there}
+use Rattle.md_array.proofs.StepLemmas.InFlight.{is_touched}
+use Rattle.md_array.proofs.StepLemmas.OneMember.{member_there}
 use Rattle.md_array.proofs.Worlds.InSync.{in_sync_is, in_sync_there, number_at}
 use Rattle.md_laws.specs.CallCrashes.{HasWholeSectors}
 

@@ -12,16 +12,16 @@ use Rattle.md_super.specs.Format.{IsSuper}
 use Rattle.md_super.specs.Merge.{merged}
 use Rattle.md_device_writes.specs.Writes.{IsAnyIn, IsCutShort}
 use Rattle.md_array.specs.Consistency.{IsConsistent}
-use Rattle.md_array.specs.Enrolling.{Enrols}
+use Rattle.md_array.specs.Steps.Enrol.{Enrols}
 use Rattle.md_array.specs.ReadAsKept.{AreReadAsKept}
-use Rattle.md_array.specs.Recording.{MayRecord, super_write}
+use Rattle.md_array.specs.Steps.Record.{MayRecord, super_write}
 use Rattle.md_array.specs.Worlds.{AreHonest, block_on}
-use Rattle.md_laws.specs.CrashesWithin.{IsLeftBut}
 use Rattle.md_array.proofs.Rebuilding.CutBefore.{cut_enrol}
-use Rattle.md_array.proofs.Rebuilding.EnrolledEvent.{out, small, there}
+use Rattle.md_array.proofs.Rebuilding.EnrolEvent.{out, small, there}
 use Rattle.md_array.proofs.Rebuilding.EnrolledWorld.{block_is, outside}
 use Rattle.md_array.proofs.Rebuilding.PreparedEvent.{block_kept}
 use Rattle.md_array.proofs.Worlds.PartsApart.{parts_of}
+use Rattle.md_laws.specs.CrashesWithin.{IsLeftBut}
 
 outside_both : (at n : ℕ) (xs ys zs : List ℕ) → SameOutside at n xs ys → SameOutside at n xs zs → SameOutside at n ys zs
 outside_both at n xs ys zs a b = record { size = b.size ∙ sym a.size; before = b.before ∙ sym a.before; after = b.after ∙ sym a.after }

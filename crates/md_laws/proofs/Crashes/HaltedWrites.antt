@@ -12,13 +12,13 @@ use Rattle.md_model.proofs.Cases.{not_below-nat_lt}
 use Rattle.md_model.specs.Sectors.{block_of}
 use Rattle.md_device_writes.specs.Writes.{Write}
 use Rattle.md_kept_members.specs.StoredMarks.{HasStored}
-use Rattle.md_state.specs.NotingBad.{logged}
-use Rattle.md_state.specs.StoringMarks.{StoresMarkSector}
+use Rattle.md_state.specs.Steps.StoreLog.{logged}
+use Rattle.md_state.specs.Steps.StoreMarks.{StoresMarkSector}
 use Rattle.md_state.specs.View.{MirrorView}
-use Rattle.md_array.specs.Listing.{AreWritten, StoresLog}
+use Rattle.md_array.specs.Steps.StoreLog.{AreWritten, StoresLog}
+use Rattle.md_array.proofs.Rebuilding.StoreLog.{log_happens}
+use Rattle.md_array.proofs.StepLemmas.StoreMarks.{store_marks_happens}
 use Rattle.md_laws.specs.HaltedWrites.{CrashesAtHaltedLog, CrashesAtHaltedMarks}
-use Rattle.md_array.proofs.Rebuilding.LogStored.{log_happens}
-use Rattle.md_array.proofs.Steps.MarkSectors.{store_marks_happens}
 use Rattle.md_laws.proofs.Crashes.AsFailed.{done_or_not}
 
 -- ---- bytes of which the bits are known

@@ -23,6 +23,7 @@ use Rattle.md_model.proofs.Cases.{by_test, none_some}
 use Rattle.md_model.proofs.Puts.{by_same, put-at, put-miss}
 use Rattle.md_requests.specs.Pending.{request_sectors}
 use Rattle.md_assembly.specs.States.{is_recorded}
+use Rattle.md_assembly.proofs.Indices.{got_within, got_same}
 use Rattle.md_kept_members.specs.TakingBack.{admitted_member, with_recovery_offset}
 use Rattle.md_kept_members.specs.View.{MemberView}
 use Rattle.md_state.specs.View.{ArrayView, Disk, MirrorView, geometry_of}
@@ -30,30 +31,30 @@ use Rattle.md_state.specs.Members.{IsMember}
 use Rattle.md_state.specs.DeviceChanges.{LeavesOn, StaysHonest}
 use Rattle.md_state.specs.Requests.{among, request_of}
 use Rattle.md_state.specs.DiskWrites.{IsFailed, IsTried, IsWritten}
-use Rattle.md_state.specs.StoringMarks.{StoresMarkSector}
-use Rattle.md_state.specs.WritingMember.{MayWrite, data_write}
-use Rattle.md_array.specs.Enrolments.{Prepares}
+use Rattle.md_state.specs.Steps.StoreMarks.{StoresMarkSector}
+use Rattle.md_state.specs.Steps.WriteMember.{MayWrite, data_write}
+use Rattle.md_array.specs.Steps.EnrolEvents.{Prepares}
 use Rattle.md_array.specs.Events.{Does}
-use Rattle.md_array.specs.Filling.{Fills}
+use Rattle.md_array.specs.Steps.GiveBack.{Fills}
 use Rattle.md_array.specs.ReadAsKept.{HasOwnSuper, IsReadAsKept}
-use Rattle.md_array.specs.Recording.{MayRecord, Records, super_write}
+use Rattle.md_array.specs.Steps.Record.{MayRecord, Records, super_write}
 use Rattle.md_array.specs.Worlds.{block_on, is_listed, stored_of, stored_on, super_in, super_of, world_of}
+use Rattle.md_array.proofs.Rebuilding.FilledEvent.{fill_happens}
+use Rattle.md_array.proofs.Rebuilding.PreparedEvent.{prepare_happens}
+use Rattle.md_array.proofs.StepLemmas.InFlight.{not_touched}
+use Rattle.md_array.proofs.StepLemmas.StoreMarks.{read_marked, store_marks_happens}
+use Rattle.md_array.proofs.StepLemmas.OneMember.{stored_there}
+use Rattle.md_array.proofs.Worlds.Listed.{IsLogKept, listed_same_bit}
+use Rattle.md_array.proofs.Worlds.PartsApart.{HasParts, data_alone, data_elsewhere, header_beside_super, log_beside_super, parts_of, super_alone}
+use Rattle.md_array.proofs.Worlds.ReadAsKept.{own_stays_as, own_written_as, read_beside_data}
+use Rattle.md_array.proofs.StepLemmas.Record.{lists_alike, record_happens}
+use Rattle.md_array.proofs.General.Indices.{at_set_same, got_in_map, got_other}
+use Rattle.md_array.proofs.Worlds.Supers.{super_shown}
 use Rattle.md_laws.specs.CrashesWithin.{MayAllBeLeft}
 use Rattle.md_laws.specs.Left.{IsLeftByCrash, IsLeftEnrolled, IsLeftEnrolling, IsLeftFilling, IsLeftPreparing, IsLeftRecording, IsLeftRecordingShort, IsLeftTakingBack, IsLeftTargeted, IsLeftTargeting, IsLeftWriting, IsStoringOwn, contents_of}
 use Rattle.md_laws.specs.Recovering.{MirrorRunJoins}
 use Rattle.md_laws.specs.Runs.{MirrorRun, MirrorRunWith, Moment, history_of, then_as}
 use Rattle.md_laws.specs.ReadAfterCrashes.{ReadsAs}
-use Rattle.md_array.proofs.Rebuilding.FilledEvent.{fill_happens}
-use Rattle.md_array.proofs.Rebuilding.PreparedEvent.{prepare_happens}
-use Rattle.md_array.proofs.Steps.InFlight.{not_touched}
-use Rattle.md_array.proofs.Steps.MarkSectors.{read_marked, store_marks_happens}
-use Rattle.md_array.proofs.Steps.OneMember.{stored_there}
-use Rattle.md_array.proofs.Worlds.Listed.{IsLogKept, listed_same_bit}
-use Rattle.md_array.proofs.Worlds.PartsApart.{HasParts, data_alone, data_elsewhere, header_beside_super, log_beside_super, parts_of, super_alone}
-use Rattle.md_array.proofs.Worlds.ReadAsKept.{own_stays_as, own_written_as, read_beside_data}
-use Rattle.md_array.proofs.Steps.SuperRecorded.{lists_alike, record_happens}
-use Rattle.md_array.proofs.General.Indices.{at_set_same, got_in_map, got_other}
-use Rattle.md_array.proofs.Worlds.Supers.{super_shown}
 use Rattle.md_laws.proofs.Crashes.LeftContents.{got_content, got_like, read_changed, read_in, read_same}
 use Rattle.md_laws.proofs.Runs.Moments.{IsSoundAt}
 use Rattle.md_laws.proofs.Crashes.DataInFlight.{inside_array, may_write_on, whole_sectors}
@@ -65,7 +66,6 @@ use Rattle.md_laws.proofs.Crashes.Enrolled.{left_since, may_record_new}
 use Rattle.md_laws.proofs.Crashes.TakenBack.{left_after, may_record_again}
 use Rattle.md_laws.proofs.Crashes.WithinTarget.{admitted_there, checkpointed_there, recovering_recorded}
 use Rattle.md_laws.proofs.Runs.Rests.{at_once, at_rest}
-use Rattle.md_assembly.proofs.Indices.{got_within, got_same}
 
 -- ---- one device, as a crash left it
 -- parts are on a device as long as another

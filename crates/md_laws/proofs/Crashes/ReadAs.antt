@@ -10,12 +10,12 @@ use Rattle.md_device_writes.specs.Writes.{Write}
 use Rattle.md_model.proofs.Puts.{by_same}
 use Rattle.md_state.specs.DiskWrites.{IsWritten}
 use Rattle.md_state.specs.View.{Disk, MirrorView}
-use Rattle.md_array.specs.Recording.{super_write}
-use Rattle.md_array.specs.ReAdding.{ReAdds}
+use Rattle.md_array.specs.Steps.Record.{super_write}
+use Rattle.md_array.specs.Steps.ReAdd.{ReAdds}
 use Rattle.md_array.specs.Worlds.{block_on}
 use Rattle.md_array.proofs.General.Appended.{got_beside, got_last}
 use Rattle.md_array.proofs.General.Indices.{got_in_map}
-use Rattle.md_array.proofs.Steps.WrittenLast.{written_last}
+use Rattle.md_array.proofs.StepLemmas.WrittenLast.{written_last}
 use Rattle.md_assembly.proofs.Indices.{got_within}
 use Rattle.md_laws.specs.ReadAfterCrashes.{EndsInFirstSector, ReadsAs, ReadsAtAdd, ReadsAtReAdd}
 use Rattle.md_laws.specs.CrashesWithin.{IsLeftBut}

@@ -14,17 +14,17 @@ use Rattle.md_members.specs.Areas.{bitmap_sectors}
 use Rattle.md_device_writes.specs.Bitmaps.{bitmap_writes}
 use Rattle.md_device_writes.specs.Writes.{FailsInWrites, IsAnyIn, IsCutShort, Write, after}
 use Rattle.md_array.specs.Consistency.{IsConsistent}
-use Rattle.md_array.specs.Enrolling.{Enrols, FailsToEnrol, MayEnrol, log_writes}
-use Rattle.md_array.specs.Enrolments.{FailsAtSuper, Prepares, prepared, writes_before}
+use Rattle.md_array.specs.Steps.Enrol.{Enrols, FailsToEnrol, MayEnrol, log_writes}
+use Rattle.md_array.specs.Steps.EnrolEvents.{FailsAtSuper, Prepares, prepared, writes_before}
 use Rattle.md_array.specs.Events.{HasWriteFailed, IsSameBesideMarks}
-use Rattle.md_array.specs.Recording.{write_of}
+use Rattle.md_array.specs.Steps.Record.{write_of}
 use Rattle.md_array.specs.Worlds.{AreHonest}
-use Rattle.md_laws.specs.Spoiled.{IsLeftSpoiled, CrashesAsSpoiled, CrashesAtEnrolAsSpoiled, CrashesAtFailedEnrolAsSpoiled}
-use Rattle.md_laws.specs.CrashesWithin.{IsLeftBut, MayAllBeLeft}
 use Rattle.md_array.proofs.General.Indices.{got_other}
 use Rattle.md_array.proofs.Rebuilding.CutBefore.{cut_enrol, cut_first}
 use Rattle.md_array.proofs.Rebuilding.EnrolSpoils.{ends_alike, enrols_instead, instead}
 use Rattle.md_array.proofs.Rebuilding.InBetween.{may_rebuild_it, prepared_is, prepares, then_at, then_disk}
+use Rattle.md_laws.specs.Spoiled.{IsLeftSpoiled, CrashesAsSpoiled, CrashesAtEnrolAsSpoiled, CrashesAtFailedEnrolAsSpoiled}
+use Rattle.md_laws.specs.CrashesWithin.{IsLeftBut, MayAllBeLeft}
 use Rattle.md_laws.proofs.Crashes.AloneChanged.{contents_with, found_alone, crashes_at_enrol, used_alone, with_contents}
 use Rattle.md_laws.proofs.Crashes.AtSteps.{new_has}
 use Rattle.md_laws.proofs.Crashes.AsFailed.{failed_as_tried, left_as_tried, crashes_as_tried}

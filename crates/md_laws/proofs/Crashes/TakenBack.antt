@@ -6,11 +6,11 @@ use Rattle.md_assembly.specs.States.{is_recorded}
 use Rattle.md_kept_members.specs.Members.{made_due}
 use Rattle.md_kept_members.specs.View.{MemberView}
 use Rattle.md_state.specs.View.{ArrayView, Disk, MirrorView}
-use Rattle.md_array.specs.Recording.{MayRecord, super_write}
-use Rattle.md_array.specs.ReAdding.{ReAdds}
+use Rattle.md_array.specs.Steps.Record.{MayRecord, super_write}
+use Rattle.md_array.specs.Steps.ReAdd.{ReAdds}
 use Rattle.md_array.specs.Worlds.{AreHonest}
 use Rattle.md_array.proofs.General.Appended.{got_earlier, got_last}
-use Rattle.md_array.proofs.Steps.WrittenLast.{honest_last}
+use Rattle.md_array.proofs.StepLemmas.WrittenLast.{honest_last}
 use Rattle.md_laws.specs.CrashesWithin.{IsLeftBut, MayAllBeLeft}
 use Rattle.md_laws.proofs.Crashes.AsFailed.{left_after_write}
 use Rattle.md_laws.proofs.Crashes.ReadAs.{re_add_writes}

@@ -16,7 +16,7 @@ use Rattle.md_state.specs.View.{Disk, MirrorView}
 use Rattle.md_super.specs.Log.{has_bad_block_log}
 use Rattle.md_device_writes.specs.Writes.{Write}
 use Rattle.md_device_writes.proofs.Runs.{cut_one}
-use Rattle.md_array.specs.Listing.{AreWritten, StoresLog}
+use Rattle.md_array.specs.Steps.StoreLog.{AreWritten, StoresLog}
 use Rattle.md_array.specs.Worlds.{AreHonest, sector_from_super}
 use Rattle.md_array.proofs.Rebuilding.MemberStored.{log_long}
 use Rattle.md_laws.specs.CrashesWithin.{DiffersInFirst, IsLeftBut, MayAllBeLeft, CrashesAtLog}

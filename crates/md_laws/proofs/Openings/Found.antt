@@ -11,7 +11,7 @@ use Rattle.md_model.specs.Worlds as worlds
 use Rattle.md_kept_members.specs.View.{MemberView}
 use Rattle.md_state.specs.View.{Disk, ArrayView, MirrorView, geometry_of}
 use Rattle.md_state.specs.Members.{IsMember}
-use Rattle.md_array.specs.Opening.{IsOpenedFrom}
+use Rattle.md_array.specs.Open.Opened.{IsOpenedFrom}
 use Rattle.md_array.specs.Worlds.{AreHonest, is_listed, kind_of, lies_in, lists_of, none_in_flight, super_of, world_of}
 use Rattle.md_array.proofs.Openings.OwnFields.{state_same}
 use Rattle.md_array.proofs.Worlds.Bad.{bad_from_test, same_test, test_from_bad}

@@ -16,8 +16,8 @@ use Rattle.md_kept_members.specs.View.{MemberView}
 use Rattle.md_state.specs.View.{ArrayView, Disk, MirrorView, geometry_of}
 use Rattle.md_state.specs.DeviceChanges.{IsLeftAlone}
 use Rattle.md_state.specs.Members.{IsMember}
-use Rattle.md_array.specs.Opening.{IsArrayOf, IsOpenedFrom}
-use Rattle.md_array.specs.Storing.{AreMarksOnDisks}
+use Rattle.md_array.specs.Open.Opened.{IsArrayOf, IsOpenedFrom}
+use Rattle.md_array.specs.Open.Marks.{AreMarksOnDisks}
 use Rattle.md_array.specs.Worlds.{AreHonest, none_in_flight, world_of, world_on}
 use Rattle.md_array.proofs.Worlds.Device.{bits_new}
 use Rattle.md_array.proofs.Worlds.Member.{by_need}

@@ -5,13 +5,13 @@ use Rattle.std.proofs.lemmas.List.{append_assoc, append-nil}
 use Rattle.std.proofs.lemmas.Option.{same_Some, slice_get_within}
 use Rattle.md_device.specs.Splice.{SameOutside}
 use Rattle.md_device.proofs.Splices.{part_before}
+use Rattle.md_device.proofs.Leaving.{leaves_none}
 use Rattle.md_format.specs.Fields.{number_at}
 use Rattle.md_bitmap.specs.Marks.{is_set}
 use Rattle.md_bitmap.proofs.Limits.{div-lt-div_ceil}
 use Rattle.md_members.specs.declared.info.MemberInfo.{MemberInfo}
 use Rattle.md_members.specs.Areas.{bitmap_sectors}
 use Rattle.md_device_writes.specs.Bitmaps.{bitmap_writes}
-use Rattle.md_device.proofs.Leaving.{leaves_none}
 use Rattle.md_device_writes.specs.Writes.{IsAnyIn, IsCutShort, Write, after}
 use Rattle.md_device_writes.proofs.Frames.{outside_around, outside_none, outside_then}
 use Rattle.md_device_writes.proofs.Stored.{stored_all, stored_cut}
@@ -24,14 +24,10 @@ use Rattle.md_kept_members.specs.Members.{NeedsMarks}
 use Rattle.md_state.specs.Members.{IsMember}
 use Rattle.md_state.specs.View.{ArrayView, Disk, geometry_of}
 use Rattle.md_state.specs.DeviceChanges.{IsLeftAlone}
-use Rattle.md_array.specs.Opening.{IsArrayOf}
+use Rattle.md_array.specs.Open.Opened.{IsArrayOf}
 use Rattle.md_array.specs.ReadAsKept.{chunk_size_on}
-use Rattle.md_array.specs.Storing.{AreMarkWrites, FailsToStore, IsMarkedBy, StoresMarksOn}
+use Rattle.md_array.specs.Open.Marks.{AreMarkWrites, FailsToStore, IsMarkedBy, StoresMarksOn}
 use Rattle.md_array.specs.Worlds.{sector_from_super, header_fits, header_on, stored_of}
-use Rattle.md_laws.specs.HalfOpened.{FailsOnMember, IsHalfOpened, IsHeaderKept}
-use Rattle.md_laws.specs.Lives.{AreFoundAgain, IsAsLeft, IsFoundAgain, IsReadAsKeptInLives, StaysAsLeft}
-use Rattle.md_laws.specs.Runs.{Moment}
-use Rattle.md_laws.specs.CrashesWithin.{MayBeLeft}
 use Rattle.md_array.proofs.Worlds.PartsApart.{bitmap_alone}
 use Rattle.md_array.proofs.General.Indices.{got_in_map}
 use Rattle.md_array.proofs.Worlds.Device.{IsOpenedMember, bits_new, chunk_size_new, fits_on}
@@ -39,6 +35,10 @@ use Rattle.md_array.proofs.Worlds.Member.{by_need}
 use Rattle.md_array.proofs.Worlds.Outside.{starts_at}
 use Rattle.md_array.proofs.Worlds.ReadMember as read
 use Rattle.md_array.proofs.Worlds.ReadMember.{IsReadMember}
+use Rattle.md_laws.specs.HalfOpened.{FailsOnMember, IsHalfOpened, IsHeaderKept}
+use Rattle.md_laws.specs.Lives.{AreFoundAgain, IsAsLeft, IsFoundAgain, IsReadAsKeptInLives, StaysAsLeft}
+use Rattle.md_laws.specs.Runs.{Moment}
+use Rattle.md_laws.specs.CrashesWithin.{MayBeLeft}
 use Rattle.md_laws.proofs.Openings.BitmapArea.{AllIn, IsNextAny, all_in, area_kept, next_any}
 use Rattle.md_laws.proofs.Crashes.AtSteps.{new_has}
 use Rattle.md_laws.proofs.Runs.Moments.{IsSoundAt, life_keeps, sound_when_opened}

@@ -9,7 +9,7 @@ use Rattle.md_model.specs.Worlds as worlds
 use Rattle.md_kept_members.specs.View.{MemberView}
 use Rattle.md_state.specs.View.{Disk, ArrayView, MirrorView}
 use Rattle.md_state.specs.Members.{IsMember, IsAlone}
-use Rattle.md_array.specs.Opening.{IsOpenedFrom}
+use Rattle.md_array.specs.Open.Opened.{IsOpenedFrom}
 use Rattle.md_array.specs.Worlds.{AreHonest, super_of, world_of, none_in_flight}
 use Rattle.md_array.proofs.Worlds.Device.{bits_new, is_accepted_new}
 use Rattle.md_array.proofs.Worlds.Shown.{IsShown, at_is, in_sync_is, in_sync_there, shown, stored_at}

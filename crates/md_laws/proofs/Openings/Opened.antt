@@ -4,14 +4,14 @@ use Rattle.std.proofs.lemmas.List.{get_or_past}
 use Rattle.md_model.specs.Devices.{Super, EndsWithArray}
 use Rattle.md_model.specs.Openings.{IsOpened}
 use Rattle.md_model.specs.Worlds as worlds
+use Rattle.md_model.proofs.Cases.{not_below-nat_lt}
 use Rattle.md_kept_members.specs.View.{MemberView}
 use Rattle.md_state.specs.View.{Disk, ArrayView, MirrorView, geometry_of}
 use Rattle.md_state.specs.Members.{IsMember}
-use Rattle.md_array.specs.Opening.{IsOpenedFrom}
+use Rattle.md_array.specs.Open.Opened.{IsOpenedFrom}
 use Rattle.md_array.specs.Worlds.{AreHonest, nothing_stored, stored_of, super_of, world_of, none_in_flight}
 use Rattle.md_array.proofs.Worlds.ReadMember.{none_past}
 use Rattle.md_array.proofs.Worlds.Shown.{IsShown, by_member, shown, stored_at, stored_past}
-use Rattle.md_model.proofs.Cases.{not_below-nat_lt}
 use Rattle.md_laws.proofs.Openings.Present as present
 use Rattle.md_laws.proofs.Openings.Found as found
 use Rattle.md_laws.proofs.Openings.Marked as marked

@@ -12,7 +12,7 @@ use Rattle.md_model.proofs.Steps.Tracked.{agree_as}
 use Rattle.md_kept_members.specs.View.{MemberView}
 use Rattle.md_state.specs.View.{Disk, ArrayView, MirrorView, geometry_of}
 use Rattle.md_state.specs.Members.{IsMember}
-use Rattle.md_array.specs.Opening.{IsOpenedFrom}
+use Rattle.md_array.specs.Open.Opened.{IsOpenedFrom}
 use Rattle.md_array.specs.ReadAsKept.{AreReadAsKept, IsReadAsKept}
 use Rattle.md_array.specs.Worlds.{AreHonest, is_listed, nothing_stored, stored_of, stored_on, super_of, world_of, world_on, none_in_flight}
 use Rattle.md_array.proofs.Worlds.Device.{all_or_same, bad_is_listed, bits_new, is_accepted_new, read_new, same_data, same_listed}

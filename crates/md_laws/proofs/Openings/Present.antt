@@ -8,19 +8,19 @@ use Rattle.md_model.specs.Devices.{Stored, Super}
 use Rattle.md_model.specs.Openings.{HasMembers}
 use Rattle.md_model.specs.Worlds as worlds
 use Rattle.md_kept_members.specs.View.{MemberView}
-use Rattle.md_assembly.specs.States.{state_of}
 use Rattle.md_kept_members.specs.Kept.{known_offset}
 use Rattle.md_kept_members.specs.OwnFields.{kept_superblock}
+use Rattle.md_assembly.specs.States.{state_of}
+use Rattle.md_assembly.proofs.Indices.{got_within, got_same}
 use Rattle.md_state.specs.View.{Disk, ArrayView, MirrorView}
 use Rattle.md_state.specs.Members.{IsMember}
-use Rattle.md_array.specs.Opening.{IsOpenedFrom}
+use Rattle.md_array.specs.Open.Opened.{IsOpenedFrom}
 use Rattle.md_array.specs.Worlds.{AreHonest, super_of, world_of, none_in_flight}
 use Rattle.md_array.proofs.Openings.OwnFields.{at_offset, super_same}
 use Rattle.md_array.proofs.Worlds.ReadMember.{not_fresher_own}
 use Rattle.md_array.proofs.General.Indices.{any_at, at_any}
 use Rattle.md_array.proofs.Worlds.Shown.{IsShown, as_read, number_at_member, own_is, shown, stored_past, super_at}
 use Rattle.md_array.proofs.Openings.Sound.{freshest_at, numbers_distinct}
-use Rattle.md_assembly.proofs.Indices.{got_within, got_same}
 
 module _ (before : List Disk) (m : MirrorView) (honest : AreHonest before) (o : IsOpenedFrom before m) where
   abbrev a : ArrayView

@@ -15,27 +15,27 @@ use Rattle.md_model.specs.Devices.{Stored, is_marked}
 use Rattle.md_model.specs.Crashes as crashes
 use Rattle.md_kept_members.specs.View.{MemberView}
 use Rattle.md_assembly.specs.States.{is_in_sync}
+use Rattle.md_assembly.proofs.Indices.{got_within, got_same}
 use Rattle.md_state.specs.View.{ArrayView, Disk, geometry_of}
 use Rattle.md_state.specs.Members.{IsMember}
 use Rattle.md_state.specs.Missing.{is_rebuilt}
 use Rattle.md_array.specs.ReadAsKept.{HasWidth, IsOwnSuper, IsReadAsKept, IsSuperOn}
-use Rattle.md_array.specs.Opening.{IsArrayOf}
+use Rattle.md_array.specs.Open.Opened.{IsArrayOf}
 use Rattle.md_array.specs.Worlds.{block_on, sector_from_super, header_on, is_listed, stored_of, stored_on, super_in}
-use Rattle.md_laws.specs.Lives.{AreFoundAgain, IsFoundAgain}
-use Rattle.md_laws.specs.Runs.{Moment}
 use Rattle.md_array.proofs.Worlds.Listed.{listed_kept_of}
-use Rattle.md_array.proofs.Steps.DevicesBack.{unrebuilt}
-use Rattle.md_array.proofs.Steps.OneMember.{stored_there}
+use Rattle.md_array.proofs.StepLemmas.Lend.{unrebuilt}
+use Rattle.md_array.proofs.StepLemmas.OneMember.{stored_there}
 use Rattle.md_array.proofs.Worlds.PartsApart.{HasParts, bitmap_alone, block_beside_bitmap, log_beside_bitmap}
 use Rattle.md_array.proofs.Worlds.ReadAsKept.{stays}
 use Rattle.md_array.proofs.Worlds.ReadMember.{IsReadMember, count_is, sound_size, width_old}
 use Rattle.md_array.proofs.Worlds.Shown.{read_at}
 use Rattle.md_array.proofs.Worlds.States.{in_sync_recorded}
 use Rattle.md_array.proofs.Worlds.Supers.{block_spells}
+use Rattle.md_laws.specs.Lives.{AreFoundAgain, IsFoundAgain}
+use Rattle.md_laws.specs.Runs.{Moment}
 use Rattle.md_laws.proofs.Crashes.LeftAtCrashes.{parts_on, sorted}
 use Rattle.md_laws.proofs.Crashes.LeftContents.{read_in}
 use Rattle.md_laws.proofs.Runs.Moments.{IsSoundAt}
-use Rattle.md_assembly.proofs.Indices.{got_within, got_same}
 
 -- the superblock of a device that was read
 pub super_on : (content : List ℕ) (v : Superblock) → ReadsSuper content true v → IsSuperOn content v

@@ -6,37 +6,37 @@ use Rattle.md_kept_members.specs.TakingBack.{with_recovery_offset}
 use Rattle.md_kept_members.specs.View.{MemberView}
 use Rattle.md_model.specs.Content.{Content}
 use Rattle.md_model.specs.Events.{Event}
-use Rattle.md_state.specs.Checkpoints.{with_offset_of}
+use Rattle.md_state.specs.Steps.Checkpoint.{with_offset_of}
 use Rattle.md_state.specs.View.{ArrayView, MirrorView}
-use Rattle.md_array.specs.Checkpoints.{Checkpoints, MovesOffset, checkpoint_event}
+use Rattle.md_array.specs.Steps.Checkpoint.{Checkpoints, MovesOffset, checkpoint_event}
 use Rattle.md_array.specs.Consistency.{IsConsistent}
-use Rattle.md_array.specs.Enrolling.{HoldsContent}
+use Rattle.md_array.specs.Steps.Enrol.{HoldsContent}
 use Rattle.md_array.specs.Events.{Happens}
-use Rattle.md_array.specs.Recording.{Records}
+use Rattle.md_array.specs.Steps.Record.{Records}
 use Rattle.md_array.specs.InTurn.{AllLeftWhole, InTurn, Requests}
 use Rattle.md_array.specs.Worlds.{AreHonest}
-use Rattle.md_laws.proofs.Crashes.WithinTarget.{recovering_recorded}
-use Rattle.md_laws.specs.Runs.{MirrorRun, Moment, then_as}
-use Rattle.md_laws.specs.WholeCalls.{AddIsACall, AdmitIsACall, CallsAreRuns, CheckpointIsACall, EnrolIsACall, FailIsACall, FailedAdmitIsACall, FailedCheckpointIsACall, FailedEnrolIsACall, FillIsACall, NoteBadIsACall, PrepareIsACall, ReAddIsACall, RemoveIsACall, RunsGoOn, SpoilIsACall, StoreLogFailureIsACall, StoreLogIsACall, TargetFailureIsACall}
 use Rattle.md_array.proofs.General.Indices.{at_set_same}
-use Rattle.md_array.proofs.Rebuilding.AdmitAnswered.{admit_spoils}
-use Rattle.md_array.proofs.Rebuilding.AdmittedEvent.{admit_happens}
-use Rattle.md_array.proofs.Rebuilding.BadNoted.{note_happens}
-use Rattle.md_array.proofs.Rebuilding.CheckpointAnswered.{checkpoint_spoils}
+use Rattle.md_array.proofs.Rebuilding.Admit.{admit_spoils}
+use Rattle.md_array.proofs.Rebuilding.AdmitEvent.{admit_happens}
+use Rattle.md_array.proofs.Rebuilding.NoteBad.{note_happens}
+use Rattle.md_array.proofs.Rebuilding.Checkpoint.{checkpoint_spoils}
 use Rattle.md_array.proofs.Rebuilding.CheckpointEvent.{checkpoint_happens}
 use Rattle.md_array.proofs.Rebuilding.EnrolSpoils.{unenrol_leads}
-use Rattle.md_array.proofs.Rebuilding.EnrolledEvent.{enrol_leads}
+use Rattle.md_array.proofs.Rebuilding.EnrolEvent.{enrol_leads}
 use Rattle.md_array.proofs.Rebuilding.FilledEvent.{fill_happens}
-use Rattle.md_array.proofs.Rebuilding.LogStored.{log_happens, store_log_fails_happens}
+use Rattle.md_array.proofs.Rebuilding.StoreLog.{log_happens, store_log_fails_happens}
 use Rattle.md_array.proofs.Rebuilding.OffsetMoved.{moved_is_consistent, set_again}
 use Rattle.md_array.proofs.Rebuilding.PreparedEvent.{prepare_happens}
 use Rattle.md_array.proofs.Rebuilding.SpoiledEvent.{spoil_happens}
-use Rattle.md_array.proofs.Rebuilding.TargetEvent.{target_fails_happens}
-use Rattle.md_array.proofs.Steps.MemberFailed.{fail_happens}
-use Rattle.md_array.proofs.Steps.MemberRemoved.{remove_happens}
-use Rattle.md_array.proofs.Steps.SpareEvent.{add_happens}
-use Rattle.md_array.proofs.Steps.SuperRecorded.{record_happens, recorded_is_consistent}
-use Rattle.md_array.proofs.Steps.TakenBackEvent.{re_add_happens}
+use Rattle.md_array.proofs.Rebuilding.RecordTargetEvent.{target_fails_happens}
+use Rattle.md_array.proofs.StepLemmas.Fail.{fail_happens}
+use Rattle.md_array.proofs.StepLemmas.Remove.{remove_happens}
+use Rattle.md_array.proofs.StepLemmas.AddEvent.{add_happens}
+use Rattle.md_array.proofs.StepLemmas.Record.{record_happens, recorded_is_consistent}
+use Rattle.md_array.proofs.StepLemmas.ReAddEvent.{re_add_happens}
+use Rattle.md_laws.proofs.Crashes.WithinTarget.{recovering_recorded}
+use Rattle.md_laws.specs.Runs.{MirrorRun, Moment, then_as}
+use Rattle.md_laws.specs.WholeCalls.{AddIsACall, AdmitIsACall, CallsAreRuns, CheckpointIsACall, EnrolIsACall, FailIsACall, FailedAdmitIsACall, FailedCheckpointIsACall, FailedEnrolIsACall, FillIsACall, NoteBadIsACall, PrepareIsACall, ReAddIsACall, RemoveIsACall, RunsGoOn, SpoilIsACall, StoreLogFailureIsACall, StoreLogIsACall, TargetFailureIsACall}
 use Rattle.md_laws.proofs.Runs.MirrorRuns.{rests_run}
 use Rattle.md_laws.proofs.Runs.Rests.{at_once, at_rest}
 

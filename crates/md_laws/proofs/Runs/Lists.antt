@@ -18,7 +18,7 @@ use Rattle.md_model.proofs.Cases.{by_test, none_some}
 use Rattle.md_model.proofs.Puts.{by_same, put-at, put-hit, put-miss}
 use Rattle.md_state.specs.View.{Disk, MirrorView, geometry_of}
 use Rattle.md_array.specs.Events.{KeepsLists, ListsIn, ListsStill}
-use Rattle.md_array.specs.Opening.{IsOpenedFrom}
+use Rattle.md_array.specs.Open.Opened.{IsOpenedFrom}
 use Rattle.md_array.specs.Worlds.{AreHonest, none_in_flight, world_of}
 use Rattle.md_laws.specs.Left.{IsLeftByCrash, IsStoringOwn}
 use Rattle.md_laws.specs.Recovering.{SaysNoMoreWhereKnown}

@@ -15,8 +15,6 @@ use Rattle.md_model.specs.Crashes as crashes
 use Rattle.md_model.specs.Crashes.{IsFit}
 use Rattle.md_model.proofs.Cases.{below-nat_lt, by_option, by_test, not_below-nat_lt}
 use Rattle.md_model.specs.States.{is_in_sync}
-use Rattle.md_assembly.specs.States as assembly
-use Rattle.md_assembly.specs.States.{state_of}
 use Rattle.md_model.specs.Worlds as worlds
 use Rattle.md_model.proofs.Lives.OpeningCovers.{own_of}
 use Rattle.md_model.proofs.Lives.Fits as fits
@@ -25,17 +23,19 @@ use Rattle.md_model.proofs.Lives.Opened.{kept_opened}
 use Rattle.md_model.proofs.Lives.Safe.{keeps_out, safe_at_crash, stays_out}
 use Rattle.md_model.proofs.Steps.Keeps.{IsKept, kept_run}
 use Rattle.md_model.proofs.Steps.Lists.{always_agrees}
+use Rattle.md_assembly.specs.States as assembly
+use Rattle.md_assembly.specs.States.{state_of}
 use Rattle.md_kept_members.specs.View.{MemberView}
 use Rattle.md_state.specs.View.{Disk, MirrorView, geometry_of}
 use Rattle.md_state.specs.Members.{IsInSync, IsMember}
-use Rattle.md_array.specs.Opening.{IsOpenedFrom}
+use Rattle.md_array.specs.Open.Opened.{IsOpenedFrom}
 use Rattle.md_array.specs.Worlds.{none_in_flight, nothing_stored, stored_on, super_of, world_of}
-use Rattle.md_laws.specs.Left.{IsLeftWriting}
-use Rattle.md_laws.specs.Lives.{FoundHaveRecorded, AreAllLeft, AreFoundAgain, AreFurther, AtEachMoment, FindsAll, FindsInSync, FindsOut, FitsWhenThere, IsCalledOut, IsReopened, IsShutOut, IsThereInSync, KeepsGeometry, MirrorLife}
-use Rattle.md_laws.specs.Runs.{IsStart, MirrorRun, Moment, history_of, opened_as}
 use Rattle.md_array.proofs.Worlds.InSync.{in_sync_is, in_sync_there}
 use Rattle.md_array.proofs.Worlds.Shown.{as_read, by_member, own_is, state_at, super_at}
 use Rattle.md_array.proofs.Worlds.States.{same_in_sync, same_state}
+use Rattle.md_laws.specs.Left.{IsLeftWriting}
+use Rattle.md_laws.specs.Lives.{FoundHaveRecorded, AreAllLeft, AreFoundAgain, AreFurther, AtEachMoment, FindsAll, FindsInSync, FindsOut, FitsWhenThere, IsCalledOut, IsReopened, IsShutOut, IsThereInSync, KeepsGeometry, MirrorLife}
+use Rattle.md_laws.specs.Runs.{IsStart, MirrorRun, Moment, history_of, opened_as}
 use Rattle.md_laws.proofs.Crashes.LeftAtCrashes.{IsSorted, sorted, sorted_writing}
 use Rattle.md_laws.proofs.Crashes.LeftContents.{read_in}
 use Rattle.md_laws.proofs.Runs.Moments.{IsSoundAt, geometry_kept, life_keeps, run_keeps, run_then, sound_when_opened}

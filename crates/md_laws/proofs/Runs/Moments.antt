@@ -5,14 +5,14 @@ use Rattle.md_model.specs.Events.{Event}
 use Rattle.md_state.specs.View.{ArrayView, Disk, MirrorView, geometry_of}
 use Rattle.md_state.specs.Requests.{AreInFlight}
 use Rattle.md_array.specs.Consistency.{IsConsistent}
-use Rattle.md_array.specs.Opening.{IsOpenedFrom}
+use Rattle.md_array.specs.Open.Opened.{IsOpenedFrom}
 use Rattle.md_array.specs.ReadAsKept.{AreReadAsKept}
 use Rattle.md_array.specs.Worlds.{AreHonest}
-use Rattle.md_laws.specs.Lives.{MirrorLife}
-use Rattle.md_laws.specs.Runs.{MirrorRun, Moment, opened_as, then_as}
 use Rattle.md_array.proofs.Openings.Consistent.{consistent}
 use Rattle.md_array.proofs.General.Honesty.{opened_honest, same_honest}
 use Rattle.md_array.proofs.General.Resting.{geometry_rests}
+use Rattle.md_laws.specs.Lives.{MirrorLife}
+use Rattle.md_laws.specs.Runs.{MirrorRun, Moment, opened_as, then_as}
 use Rattle.md_laws.proofs.Runs.MirrorRuns.{rests_run}
 use Rattle.md_laws.proofs.Runs.Rests.{moment_keeps, rests_does}
 use Rattle.md_laws.proofs.Openings.OpenedFrom.{opened_read}

@@ -16,7 +16,7 @@ use Rattle.md_model.proofs.Lives.OpeningCovers.{own_of}
 use Rattle.md_model.proofs.Present.{same_members}
 use Rattle.md_model.proofs.Lives.Returns.{covers_returns}
 use Rattle.md_state.specs.View.{Disk, MirrorView, geometry_of}
-use Rattle.md_array.specs.Opening.{IsOpenedFrom}
+use Rattle.md_array.specs.Open.Opened.{IsOpenedFrom}
 use Rattle.md_array.specs.Worlds.{none_in_flight, super_of, world_of}
 use Rattle.md_laws.specs.Left.{contents_of}
 use Rattle.md_laws.specs.Lives.{AreFoundAgain}

@@ -13,12 +13,12 @@ use Rattle.md_state.specs.View.{ArrayView, Disk, MirrorView}
 use Rattle.md_state.specs.Requests.{among, request_of}
 use Rattle.md_array.specs.Consistency.{IsConsistent}
 use Rattle.md_array.specs.Events.{BeginHappens, Happens}
-use Rattle.md_array.specs.Opening.{IsOpenedFrom}
+use Rattle.md_array.specs.Open.Opened.{IsOpenedFrom}
 use Rattle.md_array.specs.Worlds.{AreHonest, sector_from_super, none_in_flight, world_on}
+use Rattle.md_array.proofs.Worlds.InSync.{in_sync_is}
 use Rattle.md_laws.specs.Lives.{IsFoundAgain, IsReopened}
 use Rattle.md_laws.specs.Runs.{IsStart, Moment, opened_as}
 use Rattle.md_laws.specs.SmallLife.{HasSmallLife, RunsTwice}
-use Rattle.md_array.proofs.Worlds.InSync.{in_sync_is}
 use Rattle.md_laws.proofs.Runs.Moments.{run_keeps, sound_when_opened}
 use Rattle.md_laws.proofs.Runs.Rests.{at_once, at_rest, rests_same}
 use Rattle.md_assembly.proofs.Indices.{got_within}

@@ -6,7 +6,7 @@ use Rattle.md_super.specs.Profile.{IsProfile}
 use Rattle.md_super.specs.declared.superblock.Superblock.{Superblock}
 use Rattle.md_kept_members.proofs.Members.Indices.{cases_more}
 use Rattle.md_state.specs.View.{ArrayView}
-use Rattle.md_state.specs.Rising.{has_number, is_absent, roles_at_rise}
+use Rattle.md_state.specs.Steps.Rise.{has_number, is_absent, roles_at_rise}
 use Rattle.md_state.proofs.Changes.Profiles.{same_profile}
 
 abbrev pub with_roles : ArrayView → List ℕ → ArrayView

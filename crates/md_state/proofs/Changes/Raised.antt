@@ -7,9 +7,9 @@ use Rattle.std.specs.Prelude.{option_map}
 use Rattle.md_super.specs.Profile.{IsProfile}
 use Rattle.md_super.specs.declared.superblock.Superblock.{Superblock}
 use Rattle.md_kept_members.specs.View.{MemberView}
-use Rattle.md_assembly.specs.States.{is_in_sync_as}
 use Rattle.md_kept_members.specs.Members.{made_due}
-use Rattle.md_state.specs.Rising.{made_faulty, risen, roles_at_rise, roles_without, without, failed}
+use Rattle.md_assembly.specs.States.{is_in_sync_as}
+use Rattle.md_state.specs.Steps.Rise.{made_faulty, risen, roles_at_rise, roles_without, without, failed}
 use Rattle.md_state.specs.Members.{IsMember, is_degraded, is_filled}
 use Rattle.md_state.specs.View.{ArrayView}
 use Rattle.md_state.proofs.Changes.AbsentRoles.{with_roles}

@@ -5,7 +5,7 @@ use Rattle.std.proofs.lemmas.Bool.{cases_lt}
 use Rattle.md_requests.specs.Pending.{PendingView, request_sectors}
 use Rattle.md_state.specs.View.{ArrayView}
 use Rattle.md_state.specs.Members.{AllInSync, IsFirstInSyncWithout}
-use Rattle.md_state.specs.WritingMember.{HasMarksFrom, HasRequestMarks}
+use Rattle.md_state.specs.Steps.WriteMember.{HasMarksFrom, HasRequestMarks}
 
 pub div_mono : (w a b : ℕ) → 0 < w → a ≤ b → a / w ≤ b / w
 div_mono w a b wide le = let down = div-mul-le_self a w in (le-div_iff_mul-le {k = w} {x = a / w} {y = b} wide).1 (omega arith)

@@ -11,8 +11,8 @@ use Rattle.md_faults.specs.declared.step_fault.BeginFault.{BeginFault}
 use Rattle.md_faults.specs.declared.step_fault.BeginFault.TheVariants.{NoMemory, NumbersSpent}
 use Rattle.md_state.specs.View.{ArrayView, Disk}
 use Rattle.md_state.specs.Members.{clean_offset, is_degraded}
-use Rattle.md_state.specs.Rising.{risen}
-use Rattle.md_state.specs.Beginning.{HasMarked, IsInRange, MayBeginAt, RefusesBegin, active_offset, array_after_rise, has_to_rise, with_request}
+use Rattle.md_state.specs.Steps.Rise.{risen}
+use Rattle.md_state.specs.Steps.Begin.{HasMarked, IsInRange, MayBeginAt, RefusesBegin, active_offset, array_after_rise, has_to_rise, with_request}
 use Rattle.md_state.proofs.Changes.Profiles.{same_profile}
 
 -- the list with a request of these sectors

@@ -6,7 +6,7 @@ use Rattle.md_assembly.specs.declared.state.MemberState.{MemberState}
 use Rattle.md_assembly.specs.declared.state.MemberState.TheVariants.{InSync, Recovering, Stale, Spare, Faulty}
 use Rattle.md_assembly.specs.States.{is_in_sync, is_in_sync_as}
 use Rattle.md_kept_members.specs.View.{MemberView}
-use Rattle.md_state.specs.Enrolling.{is_full_with}
+use Rattle.md_state.specs.Steps.Enrol.{is_full_with}
 use Rattle.md_state.specs.Members.{IsMember, is_filled}
 use Rattle.md_state.specs.View.{ArrayView}
 

@@ -10,8 +10,8 @@ use Rattle.md_kept_members.specs.View.{MemberView}
 use Rattle.md_state.specs.View.{ArrayView}
 use Rattle.md_state.specs.Members.{AllInSync, IsFirstInSyncWithout}
 use Rattle.md_state.specs.Requests.{lacks}
-use Rattle.md_state.specs.Finishing.{HasBytesOf}
-use Rattle.md_state.specs.WritingMember.{IsNotDue}
+use Rattle.md_state.specs.Steps.Finish.{HasBytesOf}
+use Rattle.md_state.specs.Steps.WriteMember.{IsNotDue}
 
 not_false : (b : Bool) → not b ≡ false → b ≡ true
 not_false true e = refl

@@ -6,9 +6,9 @@ use Rattle.std.proofs.lemmas.Bool.Decides.{nat_tests}
 use Rattle.std.proofs.lemmas.List.Sums.{count_by-le-length, sum_by-cons}
 use Rattle.md_model.specs.Membership.{IsLeastNumber}
 use Rattle.md_kept_members.specs.View.{MemberView}
-use Rattle.md_state.specs.Adding.{IsNumber}
-use Rattle.md_state.specs.Joining.{HasMostMembers}
-use Rattle.md_state.specs.Rising.{has_number}
+use Rattle.md_state.specs.Steps.Add.{IsNumber}
+use Rattle.md_state.specs.Steps.NoteJoined.{HasMostMembers}
+use Rattle.md_state.specs.Steps.Rise.{has_number}
 use Rattle.md_state.specs.View.{ArrayView}
 
 -- ---- a list has no more values than elements

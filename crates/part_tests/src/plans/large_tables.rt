@@ -1,6 +1,6 @@
 // Large tables, with the certificates that they have to have.
 use crate::checks::{holds, same};
-use crate::plans::planning::plan_masks;
+use crate::plans::checked_plan::plan_masks;
 use md_plan::Planned;
 use std::alloc::{AllocError, Global};
 use std::process::Abort;

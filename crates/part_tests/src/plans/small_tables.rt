@@ -2,7 +2,7 @@
 ghost use Rattle.std.specs.Prelude.{◌≤◌, ◌^◌, length};
 
 use crate::checks::{holds, same};
-use crate::plans::planning::{plan_masks, table_of, verdict_with};
+use crate::plans::checked_plan::{plan_masks, table_of, verdict_with};
 use md_cert::{Plan, Slot, Table, Verdict};
 use md_plan::Planned;
 use std::alloc::Global;

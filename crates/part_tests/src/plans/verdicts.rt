@@ -2,7 +2,7 @@
 ghost use Rattle.std.specs.Prelude.{◌≤◌, ◌^◌, length};
 
 use crate::checks::same;
-use crate::plans::planning::{table_of, verdict_with};
+use crate::plans::checked_plan::{table_of, verdict_with};
 use md_cert::{Plan, Slot, Slots, Table, Verdict};
 use std::alloc::{AllocError, Global};
 use std::process::Abort;

@@ -1,6 +1,6 @@
 use Rattle.std.proofs.Common.{refl, subst}
 use Rattle.std.proofs.lemmas.Bool.{both_ways}
-use Rattle.md_array.specs.Checkpoints.{RefusesCheckpoint}
+use Rattle.md_array.specs.Steps.Checkpoint.{RefusesCheckpoint}
 use Rattle.md_copy.proofs.PassMade.{broken_off, made_one, may_checkpoint, not_recorded, ready_then, uncopied, within_filled}
 use Rattle.md_copy.proofs.Readied.{recovering_target}
 use Rattle.md_copy.proofs.TargetStates.{recovering_rebuilt}

@@ -1,5 +1,5 @@
 use Rattle.std.proofs.Common.{subst}
-use Rattle.md_array.specs.Admitting.{RefusesAdmit}
+use Rattle.md_array.specs.Steps.Admit.{RefusesAdmit}
 use Rattle.md_copy.proofs.TargetStates.{has_role}
 use Rattle.md_copy.proofs.readying.admit_spare.Goals as goal
 

@@ -1,6 +1,6 @@
 use Rattle.std.proofs.Common.{List, map, refl, subst, arith}
 use Rattle.md_state.specs.View.{Disk, disk_of}
-use Rattle.md_array.specs.Opening.{IsOpenedFrom}
+use Rattle.md_array.specs.Open.Opened.{IsOpenedFrom}
 use Rattle.md_array.proofs.General.Honesty.{opened_honest}
 use Rattle.md_laws.proofs.Runs.SmallLife as lives
 use Rattle.md_laws.proofs.lone_life.small_life.Goals as goal

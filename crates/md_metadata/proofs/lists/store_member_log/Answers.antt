@@ -1,7 +1,7 @@
 use Rattle.std.proofs.Common.{subst}
 use Rattle.md_model.specs.Events.{Event, MemberPart}
 use Rattle.md_array.specs.Events.{Happens}
-use Rattle.md_array.specs.Listing.{HasNoShift, IfLogFailed, RefusesStoreLog}
+use Rattle.md_array.specs.Steps.StoreLog.{HasNoShift, IfLogFailed, RefusesStoreLog}
 use Rattle.md_metadata.proofs.StoredLists.{log_fails, log_halts, log_stored}
 use Rattle.md_metadata.proofs.lists.store_member_log.Goals as goal
 

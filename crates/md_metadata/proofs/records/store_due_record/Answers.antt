@@ -1,7 +1,7 @@
 use Rattle.std.proofs.Common.{◌≡◌, true}
 use Rattle.md_kept_members.specs.View.{MemberView}
 use Rattle.md_state.specs.Members.{IsMember}
-use Rattle.md_state.specs.WritingMember.{IsNotDue}
+use Rattle.md_state.specs.Steps.WriteMember.{IsNotDue}
 use Rattle.md_state.proofs.Members.At.{told}
 use Rattle.md_metadata.specs.Storing.{IsRecording, IsSector}
 use Rattle.md_metadata.proofs.Going.{first_records, sector_in_sync, sector_stops, stops_as}

@@ -1,5 +1,5 @@
 use Rattle.std.proofs.Common.{◌∙◌, arith, refl}
-use Rattle.md_state.specs.WritingMember.{IsNotDue}
+use Rattle.md_state.specs.Steps.WriteMember.{IsNotDue}
 use Rattle.md_metadata.specs.Storing.{IsRecording}
 use Rattle.md_metadata.proofs.Going.{stops_on}
 use Rattle.md_metadata.proofs.StoredMembers.{last_on, records_last}

@@ -1,6 +1,6 @@
 use Rattle.std.proofs.Common.{subst}
 use Rattle.md_array.specs.Events.{HappensIfOldNewOrNone, IfStoringFailed}
-use Rattle.md_array.specs.Recording.{RefusesRecord}
+use Rattle.md_array.specs.Steps.Record.{RefusesRecord}
 use Rattle.md_metadata.proofs.Steps.{record_fails, record_halts, record_refused, record_stored}
 use Rattle.md_metadata.proofs.records.store_record.Goals as goal
 

@@ -1,5 +1,5 @@
 use Rattle.std.proofs.Common.{◌∙◌, arith}
-use Rattle.md_state.specs.WritingMember.{IsNotDue}
+use Rattle.md_state.specs.Steps.WriteMember.{IsNotDue}
 use Rattle.md_metadata.specs.Storing.{IsRecording}
 use Rattle.md_metadata.proofs.Going.{in_sync_before, stops_on}
 use Rattle.md_metadata.proofs.StoredMembers.{below_all, below_more, below_none, records_last}

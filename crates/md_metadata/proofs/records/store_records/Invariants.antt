@@ -1,4 +1,4 @@
-use Rattle.md_state.specs.WritingMember.{IsNotDue}
+use Rattle.md_state.specs.Steps.WriteMember.{IsNotDue}
 use Rattle.md_metadata.specs.Storing.{IsRecording, StoresBelow}
 use Rattle.md_metadata.proofs.records.store_records.Given as goal
 

@@ -1,6 +1,6 @@
 use Rattle.std.proofs.Common.{subst}
 use Rattle.md_model.specs.Events.{Event, MemberPart}
-use Rattle.md_state.specs.StoringMarks.{RefusesMarkSector}
+use Rattle.md_state.specs.Steps.StoreMarks.{RefusesMarkSector}
 use Rattle.md_array.specs.Events.{Happens, IfStoringFailed}
 use Rattle.md_metadata.proofs.Steps.{sector_fails, sector_halts, sector_refused, sector_stored}
 use Rattle.md_metadata.proofs.sectors.store_sector.Goals as goal

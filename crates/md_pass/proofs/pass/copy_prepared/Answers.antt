@@ -2,18 +2,18 @@ use Rattle.std.proofs.Common.{rules, ◌≡◌, ◌+◌, Err, length, ap, sym, �
 use Rattle.std.proofs.lemmas.List.{length-map}
 use Rattle.md_collect.specs.Collecting.{copying}
 use Rattle.md_pass.specs.declared.fault.PassFault.TheVariants.{NoMemory}
-use Rattle.md_pass.specs.declared.reading.Reading.{Reading}
+use Rattle.md_pass.specs.declared.source_reading.Reading.{Reading}
 use Rattle.md_pass.specs.TakingReports.{books}
 use Rattle.md_pass.specs.Places.{FitPlaces}
 use Rattle.md_pass.specs.Copied.{failed_slots, pass_state}
 use Rattle.md_pass.specs.Preparing.{sources_of}
-use Rattle.md_workers.specs.Tally.{Tally}
 use Rattle.md_pass.proofs.Orders.{few_slots}
 use Rattle.md_pass.proofs.PassStarts.{all_fit, in_turn, starts, turns_enough}
 use Rattle.md_pass.proofs.PassEnds.{count_failed, devices_read, has_copied, have_left, queues_parts, none_left, on_fault}
 use Rattle.md_pass.proofs.PassSources.{nothing_copied, nothing_written}
 use Rattle.md_pass.proofs.Totals.{total_slots}
 use Rattle.md_pass.proofs.pass.copy_prepared.Goals as goal
+use Rattle.md_workers.specs.Tally.{Tally}
 
 pub new-board-requires-clause-limit : goal.new-board-requires-clause-limit
 new-board-requires-clause-limit g c =

@@ -1,7 +1,7 @@
 use Rattle.std.proofs.Common.{◌≡◌, List, length, map, refl, ap, sym, ◌∙◌, arith, subst}
 use Rattle.std.specs.List.{All}
 use Rattle.md_cert.specs.declared.slots.Slot.{Slot}
-use Rattle.md_pass.specs.declared.reading.Reading.{Reading}
+use Rattle.md_pass.specs.declared.source_reading.Reading.{Reading}
 use Rattle.md_pass.specs.Places.{AreInTurn}
 use Rattle.md_pass.specs.Readings.{IsOrderOf}
 use Rattle.md_pass.proofs.Orders.{few_slots}

@@ -1,6 +1,6 @@
 use Rattle.std.proofs.Common.{◌∙◌, ℕ, length, ◌-◌, ◌*◌, ◌/◌, ◌≤◌, arith, sym}
 use Rattle.std.proofs.lemmas.List.{length-take-le}
-use Rattle.md_state.specs.ReadingData.{FailsToRead, ReadsData}
+use Rattle.md_state.specs.Steps.ReadData.{FailsToRead, ReadsData}
 use Rattle.md_array.proofs.General.Answered.{err_of, ok_of}
 use Rattle.md_resync.proofs.CopiedChunks.{copies_run, copies_unfree, fails_reading, given_in_vain, giving_fails, run_read}
 use Rattle.md_resync.proofs.CopiedRuns.{copies_read}

@@ -1,11 +1,11 @@
 use Rattle.std.proofs.Common.{◌≡◌, ◌/◌, true, arith, subst, sym}
-use Rattle.md_array.specs.CopyEvents.{IfCopyingFailed}
+use Rattle.md_array.specs.Steps.CopyData.{IfCopyingFailed}
 use Rattle.md_array.specs.Events.{Happens}
 use Rattle.md_assembly.specs.States.{is_in_sync}
 use Rattle.md_model.specs.Events.{Event, MemberPart}
-use Rattle.md_state.specs.CopyingData.{RefusesCopy}
+use Rattle.md_state.specs.Steps.CopyData.{RefusesCopy}
 use Rattle.md_state.specs.Members.{IsInSync}
-use Rattle.md_state.specs.ReadingData.{HoldsData}
+use Rattle.md_state.specs.Steps.ReadData.{HoldsData}
 use Rattle.md_state.proofs.Members.At.{told}
 use Rattle.md_resync.specs.Copying.{IsAmong}
 use Rattle.md_resync.proofs.Bests.{member_at}

@@ -1,6 +1,6 @@
 use Rattle.std.proofs.Common.{◌≡◌, ◌∙◌, ℕ, Option, Some, MatchOption, arith, subst, sym, inl, inr}
 use Rattle.std.proofs.lemmas.Bool.{cases_lt}
-use Rattle.md_state.specs.CopyingData.{IsSource}
+use Rattle.md_state.specs.Steps.CopyData.{IsSource}
 use Rattle.md_resync.specs.Sources.{NoneFree}
 use Rattle.md_resync.proofs.Bests.{same_some}
 use Rattle.md_resync.proofs.source.end_of_run.Goals as goal

@@ -1,5 +1,5 @@
 use Rattle.std.proofs.Common.{ℕ, ◌<◌, ◌≤◌}
-use Rattle.md_state.specs.CopyingData.{IsSource}
+use Rattle.md_state.specs.Steps.CopyData.{IsSource}
 use Rattle.md_resync.proofs.source.end_of_run.Given as goal
 
 -- the sectors so far

@@ -1,4 +1,4 @@
-use Rattle.md_state.specs.MakingClean.{IsIdle}
+use Rattle.md_state.specs.Steps.MakeClean.{IsIdle}
 use Rattle.md_resync.proofs.Advancing.{is_idle, none_pending, refuses}
 use Rattle.md_resync.proofs.whole.resync.Goals as goal
 

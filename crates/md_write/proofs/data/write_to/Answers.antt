@@ -1,6 +1,6 @@
 use Rattle.std.proofs.Common.{subst}
 use Rattle.md_model.specs.Events.{Event, MemberPart}
-use Rattle.md_state.specs.WritingMember.{RefusesWriteMember}
+use Rattle.md_state.specs.Steps.WriteMember.{RefusesWriteMember}
 use Rattle.md_state.proofs.Members.At.{told}
 use Rattle.md_array.specs.Events.{HappensAmong, IfWritingFailed}
 use Rattle.md_write.proofs.WrittenData.{data_again, data_fails, data_halts, data_written, written_nothing}

@@ -1,10 +1,10 @@
 use Rattle.std.proofs.Common.{◌∙◌, arith}
-use Rattle.md_state.specs.WritingMember.{HasMarksFrom}
+use Rattle.md_state.specs.Steps.WriteMember.{HasMarksFrom}
 use Rattle.md_write.specs.Progress.{IsMarkingOf}
-use Rattle.md_metadata.proofs.Going.{stops_on}
-use Rattle.md_metadata.proofs.StoredMembers.{below_all, below_more, below_none}
 use Rattle.md_write.proofs.StoredMarks.{marked_still, marks_last}
 use Rattle.md_write.proofs.marks.store_marks_of_chunks.Goals as goal
+use Rattle.md_metadata.proofs.Going.{stops_on}
+use Rattle.md_metadata.proofs.StoredMembers.{below_all, below_more, below_none}
 
 pub loop-k-init : goal.loop-k-init
 loop-k-init g c = below_none (IsMarkingOf c.args.first c.args.end) (HasMarksFrom c.args.first c.args.end) c.args.mirror.now c.requires.sound

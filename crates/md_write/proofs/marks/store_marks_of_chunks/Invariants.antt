@@ -1,4 +1,4 @@
-use Rattle.md_state.specs.WritingMember.{HasMarksFrom}
+use Rattle.md_state.specs.Steps.WriteMember.{HasMarksFrom}
 use Rattle.md_metadata.specs.Storing.{StoresBelow}
 use Rattle.md_write.specs.Progress.{IsMarkingOf}
 use Rattle.md_write.proofs.marks.store_marks_of_chunks.Given as goal

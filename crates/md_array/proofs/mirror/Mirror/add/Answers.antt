@@ -1,9 +1,9 @@
 use Rattle.std.proofs.Common.{ℕ, subst}
 use Rattle.md_members.specs.Members.{sectors_of_device}
-use Rattle.md_state.specs.Adding.{MayAdd, RefusesToAdd}
+use Rattle.md_state.specs.Steps.Add.{MayAdd, RefusesToAdd}
 use Rattle.md_state.specs.View.{MirrorView, disk_of}
-use Rattle.md_array.proofs.Steps.SpareAdded.{add_is_consistent, add_keeps_pending, once_numbered, refused_unwritten, told}
-use Rattle.md_array.proofs.Steps.SpareEvent.{add_is_event}
+use Rattle.md_array.proofs.StepLemmas.Add.{add_is_consistent, add_keeps_pending, once_numbered, refused_unwritten, told}
+use Rattle.md_array.proofs.StepLemmas.AddEvent.{add_is_event}
 use Rattle.md_array.proofs.mirror.Mirror.add.Goals as goal
 
 pub returns-in-Err : goal.returns-in-Err

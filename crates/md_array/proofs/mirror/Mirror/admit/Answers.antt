@@ -3,17 +3,17 @@ use Rattle.md_assembly.specs.States.{is_spare}
 use Rattle.md_assembly.proofs.Indices.{got_same}
 use Rattle.md_kept_members.specs.TakingBack.{recovering}
 use Rattle.md_kept_members.specs.View.{MemberView}
-use Rattle.md_state.specs.Admitting.{MayAdmit}
+use Rattle.md_state.specs.Steps.Admit.{MayAdmit}
 use Rattle.md_state.specs.Members.{IsMember}
 use Rattle.md_state.specs.View.{MirrorView, disk_of}
-use Rattle.md_array.specs.Admitting.{Admits, FailsAsTarget, FailsToAdmit}
-use Rattle.md_array.specs.Consistency.{IsConsistent}
-use Rattle.md_array.specs.Recording.{own_write}
 use Rattle.md_state.proofs.Members.At.{member_read}
+use Rattle.md_array.specs.Steps.Admit.{Admits, FailsAsTarget, FailsToAdmit}
+use Rattle.md_array.specs.Consistency.{IsConsistent}
+use Rattle.md_array.specs.Steps.Record.{own_write}
 use Rattle.md_array.proofs.General.Answered.{err_of, ok_of}
-use Rattle.md_array.proofs.Rebuilding.AdmitAnswered.{admits_by, fails_to_admit, unadmitted_happens, unadmitted_is_consistent}
-use Rattle.md_array.proofs.Rebuilding.AdmittedEvent.{admit_happens, admitted_is_consistent, admitted_is_pending}
-use Rattle.md_array.proofs.Steps.OneWrite.{fits_now, fits_there, is_failed, is_written, within_devices, within_members}
+use Rattle.md_array.proofs.Rebuilding.Admit.{admits_by, fails_to_admit, unadmitted_happens, unadmitted_is_consistent}
+use Rattle.md_array.proofs.Rebuilding.AdmitEvent.{admit_happens, admitted_is_consistent, admitted_is_pending}
+use Rattle.md_array.proofs.StepLemmas.OneWrite.{fits_now, fits_there, is_failed, is_written, within_devices, within_members}
 use Rattle.md_array.proofs.mirror.Mirror.admit.Given as given
 use Rattle.md_array.proofs.mirror.Mirror.admit.Goals as goal
 use Rattle.md_array.proofs.mirror.Mirror.admit.Goals.{After-index_mut}

@@ -1,7 +1,7 @@
 use Rattle.std.proofs.Common.{map, sym, subst}
 use Rattle.md_state.specs.View.{disk_of}
 use Rattle.md_array.specs.Consistency.{IsConsistent}
-use Rattle.md_array.proofs.Steps.BeginKeeps.{begin_begun, begin_event, begin_pending, begin_sound}
+use Rattle.md_array.proofs.StepLemmas.BeginKeeps.{begin_begun, begin_event, begin_pending, begin_sound}
 use Rattle.md_array.proofs.mirror.Mirror.begin.Goals as goal
 
 pub returns : goal.returns

@@ -1,9 +1,9 @@
 use Rattle.std.proofs.Common.{subst}
 use Rattle.md_kept_members.specs.View.{MemberView}
-use Rattle.md_state.specs.Checkpoints.{IsNextOffset}
+use Rattle.md_state.specs.Steps.Checkpoint.{IsNextOffset}
 use Rattle.md_state.specs.Members.{IsMember}
 use Rattle.md_state.specs.View.{MirrorView}
-use Rattle.md_array.proofs.Rebuilding.CheckpointAnswered.{checkpoint_ends, checkpoint_refused, checkpointed, refusal_happens}
+use Rattle.md_array.proofs.Rebuilding.Checkpoint.{checkpoint_ends, checkpoint_refused, checkpointed, refusal_happens}
 use Rattle.md_array.proofs.mirror.Mirror.checkpoint.Goals as goal
 
 pub returns-in-Err-clause-gives : goal.returns-in-Err-clause-gives

@@ -1,7 +1,7 @@
 use Rattle.std.proofs.Common.{map, sym, subst}
 use Rattle.md_state.specs.View.{disk_of}
 use Rattle.md_array.specs.Consistency.{IsConsistent}
-use Rattle.md_array.proofs.Steps.BeginKeeps.{clear_event, clear_pending, clear_sound}
+use Rattle.md_array.proofs.StepLemmas.BeginKeeps.{clear_event, clear_pending, clear_sound}
 use Rattle.md_array.proofs.mirror.Mirror.clear_idle.Goals as goal
 
 pub returns : goal.returns

@@ -4,7 +4,7 @@ use Rattle.std.proofs.lemmas.List.{with_items_is}
 use Rattle.md_state.specs.View.{Disk, MirrorView, disk_of}
 use Rattle.md_array.proofs.General.Answered.{err_of, ok_of}
 use Rattle.md_array.proofs.Worlds.CopyFailed.{refused_copy_event, refused_copy_pending, refused_copy_sound}
-use Rattle.md_array.proofs.Steps.CopyWrites.{copied_run_is_consistent, copied_run_keeps_pending, copies_in_turn, copies_to, own_of, refuses_copy, run_fits}
+use Rattle.md_array.proofs.StepLemmas.CopyData.{copied_run_is_consistent, copied_run_keeps_pending, copies_in_turn, copies_to, own_of, refuses_copy, run_fits}
 use Rattle.md_array.proofs.mirror.Mirror.copy_data.Goals as goal
 
 pub put_on-requires-clause-room : goal.put_on-requires-clause-room

@@ -2,18 +2,18 @@ use Rattle.std.proofs.Common.{◌≡◌, ◌∙◌, ◌+◌, ◌<◌, arith, con
 use Rattle.std.proofs.lemmas.Option.{slice_get_within}
 use Rattle.md_super.specs.declared.superblock.Superblock.{Superblock}
 use Rattle.md_kept_members.specs.View.{MemberView}
-use Rattle.md_state.specs.Enrolling.{ComesWith, enrolled, is_full_with}
+use Rattle.md_state.specs.Steps.Enrol.{ComesWith, enrolled, is_full_with}
 use Rattle.md_state.specs.Headers.{IsHeaderFor}
-use Rattle.md_state.specs.Joining.{joined_shared}
+use Rattle.md_state.specs.Steps.NoteJoined.{joined_shared}
 use Rattle.md_state.specs.View.{MirrorView, disk_of}
 use Rattle.md_array.specs.Consistency.{IsConsistent}
-use Rattle.md_array.specs.Enrolling.{Enrols, FailsToEnrol}
+use Rattle.md_array.specs.Steps.Enrol.{Enrols, FailsToEnrol}
 use Rattle.md_array.specs.declared.mirror.Mirror.TheInside.{Inside}
 use Rattle.md_array.proofs.General.Answered.{err_of, ok_of}
-use Rattle.md_array.proofs.Steps.OneWrite.{here, within_devices}
+use Rattle.md_array.proofs.StepLemmas.OneWrite.{here, within_devices}
 use Rattle.md_array.proofs.Rebuilding.MemberEnrolled.{enrolled_is_consistent, enrolled_read}
 use Rattle.md_array.proofs.Rebuilding.EnrolUnstored.{out_of_sync, idle_pending, unenrolled_is_consistent}
-use Rattle.md_array.proofs.Rebuilding.EnrolAnswered.{can_store, enrolled_is, enrols_by, failed_alone, fails_by, header_enrolled, header_sound, stored_alone}
+use Rattle.md_array.proofs.Rebuilding.Enrol.{can_store, enrolled_is, enrols_by, failed_alone, fails_by, header_enrolled, header_sound, stored_alone}
 use Rattle.md_array.proofs.mirror.Mirror.enrol.Given as given
 use Rattle.md_array.proofs.mirror.Mirror.enrol.Goals as goal
 use Rattle.md_array.proofs.mirror.Mirror.enrol.Goals.{After-index_mut, After-header_under-header, After-store_member, else-full, then-full}

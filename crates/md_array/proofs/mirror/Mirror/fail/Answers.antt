@@ -1,7 +1,7 @@
 use Rattle.std.proofs.Common.{map, sym, subst}
 use Rattle.md_state.specs.View.{disk_of}
 use Rattle.md_array.specs.Consistency.{IsConsistent}
-use Rattle.md_array.proofs.Steps.MemberFailed.{fail_event, fail_pending, fail_sound}
+use Rattle.md_array.proofs.StepLemmas.Fail.{fail_event, fail_pending, fail_sound}
 use Rattle.md_array.proofs.mirror.Mirror.fail.Goals as goal
 
 pub returns : goal.returns

@@ -2,7 +2,7 @@ use Rattle.std.proofs.Common.{map, sym, subst}
 use Rattle.md_state.specs.Requests.{IsPending}
 use Rattle.md_state.specs.View.{MirrorView, disk_of}
 use Rattle.md_array.specs.Consistency.{IsConsistent}
-use Rattle.md_array.proofs.Steps.WriteKeeps.{finish_back, finish_event, finish_pending, finish_sound}
+use Rattle.md_array.proofs.StepLemmas.WriteKeeps.{finish_back, finish_event, finish_pending, finish_sound}
 use Rattle.md_array.proofs.mirror.Mirror.finish.Goals as goal
 
 pub returns : goal.returns

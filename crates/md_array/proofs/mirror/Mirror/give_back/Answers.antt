@@ -2,9 +2,9 @@ use Rattle.std.proofs.Common.{List, map, sym, ap, subst}
 use Rattle.md_state.specs.View.{Disk, MirrorView, disk_of}
 use Rattle.md_array.specs.Consistency.{IsConsistent}
 use Rattle.md_array.specs.ReadAsKept.{AreReadAsKept}
-use Rattle.md_array.specs.Filling.{FillHappens}
+use Rattle.md_array.specs.Steps.GiveBack.{FillHappens}
 use Rattle.md_array.proofs.Rebuilding.FilledEvent.{fill_happens}
-use Rattle.md_array.proofs.Steps.DevicesBack.{back_is_consistent, back_is_read}
+use Rattle.md_array.proofs.StepLemmas.Lend.{back_is_consistent, back_is_read}
 use Rattle.md_array.proofs.mirror.Mirror.give_back.Goals as goal
 
 pub returns-clause-sound : goal.returns-clause-sound

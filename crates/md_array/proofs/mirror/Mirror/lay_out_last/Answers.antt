@@ -2,15 +2,15 @@ use Rattle.std.proofs.Common.{◌≡◌, ◌∙◌, ℕ, ◌-◌, Bool, false, n
 use Rattle.std.proofs.lemmas.List.{length-map, length_push}
 use Rattle.md_kept_members.specs.Members.{made_due}
 use Rattle.md_kept_members.specs.View.{MemberView}
-use Rattle.md_state.specs.Adding.{IsSpareOf, added, spare_role}
-use Rattle.md_state.specs.Joining.{joined_shared}
+use Rattle.md_state.specs.Steps.Add.{IsSpareOf, added, spare_role}
+use Rattle.md_state.specs.Steps.NoteJoined.{joined_shared}
 use Rattle.md_state.specs.View.{ArrayView, MirrorView, disk_of}
-use Rattle.md_array.specs.Adding.{LaysOutLast, kept_of}
+use Rattle.md_array.specs.Steps.Add.{LaysOutLast, kept_of}
 use Rattle.md_array.specs.Consistency.{IsConsistent}
 use Rattle.md_array.specs.declared.mirror.Mirror.TheInside.{Inside}
 use Rattle.md_array.proofs.General.Answered.{err_of, ok_gives, ok_of}
-use Rattle.md_array.proofs.Steps.MemberTakenBack.{joined_is}
-use Rattle.md_array.proofs.Steps.SpareAdded.{laid_last, not_laid, told, told_short}
+use Rattle.md_array.proofs.StepLemmas.ReAdd.{joined_is}
+use Rattle.md_array.proofs.StepLemmas.Add.{laid_last, not_laid, told, told_short}
 use Rattle.md_array.proofs.mirror.Mirror.lay_out_last.Goals as goal
 
 pub push_reserved-requires : goal.push_reserved-requires

@@ -1,7 +1,7 @@
 use Rattle.std.proofs.Common.{map, sym, subst}
 use Rattle.md_state.specs.View.{disk_of}
 use Rattle.md_array.specs.Consistency.{IsConsistent}
-use Rattle.md_array.proofs.Steps.MadeClean.{clean_event, clean_pending, clean_sound}
+use Rattle.md_array.proofs.StepLemmas.MakeClean.{clean_event, clean_pending, clean_sound}
 use Rattle.md_array.proofs.mirror.Mirror.make_clean.Goals as goal
 
 pub returns : goal.returns

@@ -4,9 +4,9 @@ use Rattle.md_state.specs.View.{MirrorView, disk_of}
 use Rattle.md_assembly.specs.States.{is_in_sync}
 use Rattle.md_kept_members.specs.View.{MemberView}
 use Rattle.md_array.specs.Consistency.{IsConsistent}
-use Rattle.md_array.specs.Listing.{IsBelowListLimit}
-use Rattle.md_array.proofs.Rebuilding.BadNoted.{is_whole, note_event, note_gives, note_pending, note_sound}
-use Rattle.md_array.proofs.Steps.OneWrite.{here, within_devices}
+use Rattle.md_array.specs.Steps.NoteBad.{IsBelowListLimit}
+use Rattle.md_array.proofs.Rebuilding.NoteBad.{is_whole, note_event, note_gives, note_pending, note_sound}
+use Rattle.md_array.proofs.StepLemmas.OneWrite.{here, within_devices}
 use Rattle.md_array.proofs.mirror.Mirror.note_bad.Goals as goal
 
 pub returns : goal.returns

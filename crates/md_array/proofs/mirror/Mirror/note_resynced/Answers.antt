@@ -1,8 +1,8 @@
 use Rattle.std.proofs.Common.{true, map, refl, sym, subst}
-use Rattle.md_state.specs.MakingClean.{IsIdle}
+use Rattle.md_state.specs.Steps.MakeClean.{IsIdle}
 use Rattle.md_state.specs.View.{MirrorView, disk_of}
 use Rattle.md_array.specs.Consistency.{IsConsistent}
-use Rattle.md_array.specs.NotingResynced.{AllAgreeWhereMarked, AreNoted, BecomesResynced}
+use Rattle.md_array.specs.Steps.NoteResynced.{AllAgreeWhereMarked, AreNoted, BecomesResynced}
 use Rattle.md_array.proofs.Worlds.ResyncMarked.{marked_is_consistent, marked_keeps_pending, resynced_happens}
 use Rattle.md_array.proofs.mirror.Mirror.note_resynced.Goals as goal
 

@@ -1,8 +1,8 @@
 use Rattle.std.proofs.Common.{false, map, refl, sym, subst}
-use Rattle.md_state.specs.MakingClean.{IsIdle}
+use Rattle.md_state.specs.Steps.MakeClean.{IsIdle}
 use Rattle.md_state.specs.View.{MirrorView, disk_of}
 use Rattle.md_array.specs.Consistency.{IsConsistent}
-use Rattle.md_array.specs.NotingResynced.{NotesResynced}
+use Rattle.md_array.specs.Steps.NoteResynced.{NotesResynced}
 use Rattle.md_array.proofs.Worlds.ResyncMarked.{marked_is_consistent, marked_keeps_pending, unresynced_happens}
 use Rattle.md_array.proofs.mirror.Mirror.note_unresynced.Goals as goal
 

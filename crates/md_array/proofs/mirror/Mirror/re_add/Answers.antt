@@ -1,12 +1,12 @@
 use Rattle.std.proofs.Common.{◌≡◌, ◌∙◌, false, refl, sym, ap, subst}
 use Rattle.std.proofs.lemmas.Option.{none-some}
-use Rattle.md_state.specs.ReAdding.{MayReAdd, RefusesToTakeBack}
+use Rattle.md_state.specs.Steps.ReAdd.{MayReAdd, RefusesToTakeBack}
 use Rattle.md_state.specs.View.{MirrorView, disk_of}
 use Rattle.md_array.specs.declared.mirror.Mirror.TheInside.{Inside}
-use Rattle.md_array.specs.ReAdding.{IsOnlyRead, RefusesReAdd}
+use Rattle.md_array.specs.Steps.ReAdd.{IsOnlyRead, RefusesReAdd}
 use Rattle.md_array.proofs.Openings.Whole.{whole_by}
-use Rattle.md_array.proofs.Steps.MemberTakenBack.{once_read, re_add_is_consistent, re_add_keeps_pending, refused_device, refused_info}
-use Rattle.md_array.proofs.Steps.TakenBackEvent.{re_add_is_event}
+use Rattle.md_array.proofs.StepLemmas.ReAdd.{once_read, re_add_is_consistent, re_add_keeps_pending, refused_device, refused_info}
+use Rattle.md_array.proofs.StepLemmas.ReAddEvent.{re_add_is_event}
 use Rattle.md_array.proofs.mirror.Mirror.re_add.Given as given
 use Rattle.md_array.proofs.mirror.Mirror.re_add.Goals as goal
 use Rattle.md_array.proofs.mirror.Mirror.re_add.Goals.{After-read_member}

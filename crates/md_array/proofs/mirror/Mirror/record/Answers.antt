@@ -5,15 +5,15 @@ use Rattle.md_super.specs.declared.superblock.Superblock.{Superblock}
 use Rattle.md_super.specs.Merge.{merged}
 use Rattle.md_device_writes.specs.Writes.{MakesWrites}
 use Rattle.md_state.specs.View.{ArrayView, MirrorView, disk_of}
-use Rattle.md_state.specs.Checking.{IsActive}
+use Rattle.md_state.specs.Steps.Record.{IsActive}
 use Rattle.md_state.specs.Members.{IsMember}
-use Rattle.md_array.specs.Recording.{IsReadable, MayRecord, Records, RefusesRecord, super_write, write_of}
 use Rattle.md_state.proofs.Members.At.{member_read}
+use Rattle.md_array.specs.Steps.Record.{IsReadable, MayRecord, Records, RefusesRecord, super_write, write_of}
 use Rattle.md_array.proofs.General.Answered.{err_of, ok_of}
-use Rattle.md_array.proofs.Steps.OneWrite.{fits_now, fits_there, is_failed, is_written, within_devices, within_members}
-use Rattle.md_array.proofs.Steps.StoresKeep.{record_refused_happens, record_refused_is_consistent, record_refused_is_pending}
-use Rattle.md_array.proofs.Steps.SuperRecorded.{record_happens, recorded_is_consistent, recorded_is_pending}
-use Rattle.md_array.proofs.Steps.Refused.{record_failed, record_refused}
+use Rattle.md_array.proofs.StepLemmas.OneWrite.{fits_now, fits_there, is_failed, is_written, within_devices, within_members}
+use Rattle.md_array.proofs.StepLemmas.StoresKeep.{record_refused_happens, record_refused_is_consistent, record_refused_is_pending}
+use Rattle.md_array.proofs.StepLemmas.Record.{record_happens, recorded_is_consistent, recorded_is_pending}
+use Rattle.md_array.proofs.StepLemmas.Refused.{record_failed, record_refused}
 use Rattle.md_array.proofs.mirror.Mirror.record.Given as given
 use Rattle.md_array.proofs.mirror.Mirror.record.Goals as goal
 use Rattle.md_array.proofs.mirror.Mirror.record.Goals.{After-index_mut, After-store_superblock}

@@ -7,16 +7,16 @@ use Rattle.md_state.specs.Members.{IsMember}
 use Rattle.md_state.specs.Missing.{is_rebuilt}
 use Rattle.md_state.specs.Requests.{IsPending}
 use Rattle.md_state.specs.View.{ArrayView, MirrorView, disk_of}
-use Rattle.md_array.specs.Consistency.{IsConsistent}
-use Rattle.md_array.specs.Recording.{IsReadable, MayRecord, Records, super_write, write_of}
-use Rattle.md_array.specs.RecordingTarget.{LeavesUnrecorded, TargetFails}
-use Rattle.md_array.specs.declared.mirror.Mirror.TheInside.{Inside}
 use Rattle.md_state.proofs.Members.At.{member_read}
-use Rattle.md_array.proofs.Rebuilding.TargetEvent.{target_fails_happens}
+use Rattle.md_array.specs.Consistency.{IsConsistent}
+use Rattle.md_array.specs.Steps.Record.{IsReadable, MayRecord, Records, super_write, write_of}
+use Rattle.md_array.specs.Steps.RecordTarget.{LeavesUnrecorded, TargetFails}
+use Rattle.md_array.specs.declared.mirror.Mirror.TheInside.{Inside}
+use Rattle.md_array.proofs.Rebuilding.RecordTargetEvent.{target_fails_happens}
 use Rattle.md_array.proofs.General.Answered.{err_of, ok_of}
-use Rattle.md_array.proofs.Steps.OneWrite.{fits_now, fits_there, is_failed, is_written, within_devices, within_members}
-use Rattle.md_array.proofs.Steps.SuperRecorded.{record_happens, recorded_is_consistent, recorded_is_pending}
-use Rattle.md_array.proofs.Steps.TargetUnrecorded.{rebuilt_recorded, unrecorded_is_consistent, unrecorded_is_pending}
+use Rattle.md_array.proofs.StepLemmas.OneWrite.{fits_now, fits_there, is_failed, is_written, within_devices, within_members}
+use Rattle.md_array.proofs.StepLemmas.Record.{record_happens, recorded_is_consistent, recorded_is_pending}
+use Rattle.md_array.proofs.StepLemmas.RecordTarget.{rebuilt_recorded, unrecorded_is_consistent, unrecorded_is_pending}
 use Rattle.md_array.proofs.mirror.Mirror.record_target.Given as given
 use Rattle.md_array.proofs.mirror.Mirror.record_target.Goals as goal
 use Rattle.md_array.proofs.mirror.Mirror.record_target.Goals.{After-index_mut, After-store_superblock}

@@ -2,13 +2,13 @@ use Rattle.std.proofs.Common.{◌≡◌, ◌∙◌, ℕ, ◌<◌, List, get_or, 
 use Rattle.std.specs.List.{remove}
 use Rattle.std.proofs.lemmas.List.{length-map}
 use Rattle.std.proofs.lemmas.Option.{slice_get_read}
-use Rattle.md_state.specs.Removing.{Leaves, Removes}
+use Rattle.md_state.specs.Steps.Remove.{Leaves, Removes}
 use Rattle.md_state.specs.Requests.{IsPending}
 use Rattle.md_state.specs.View.{ArrayView, Disk, MirrorView, disk_of}
 use Rattle.md_array.specs.Consistency.{IsConsistent}
 use Rattle.md_array.proofs.General.Indices.{got_in_map}
 use Rattle.md_array.proofs.General.TakenOut.{mapped_left}
-use Rattle.md_array.proofs.Steps.MemberRemoved.{remove_happens, remove_is_consistent, remove_keeps_pending, remove_unchanged}
+use Rattle.md_array.proofs.StepLemmas.Remove.{remove_happens, remove_is_consistent, remove_keeps_pending, remove_unchanged}
 use Rattle.md_array.proofs.mirror.Mirror.remove.Goals as goal
 
 removes : {D : Type 0} (of : D → Disk) (devices left : List D) (k : ℕ) (d : D) (a b : ArrayView) → k < length devices → d ≡ get_or devices k d → left ≡ remove devices k → Leaves k a b

@@ -4,10 +4,10 @@ use Rattle.md_assembly.proofs.Indices.{got_within}
 use Rattle.md_kept_members.specs.View.{MemberView}
 use Rattle.md_state.specs.Members.{IsMember}
 use Rattle.md_state.specs.View.{MirrorView, disk_of}
-use Rattle.md_array.specs.Checkpoints.{MovesOffset}
+use Rattle.md_array.specs.Steps.Checkpoint.{MovesOffset}
 use Rattle.md_array.specs.Consistency.{IsConsistent}
 use Rattle.md_array.proofs.Rebuilding.OffsetMoved.{moved_is_consistent, moved_is_pending}
-use Rattle.md_array.proofs.Steps.OneWrite.{within_members}
+use Rattle.md_array.proofs.StepLemmas.OneWrite.{within_members}
 use Rattle.md_array.proofs.mirror.Mirror.set_offset.Goals as goal
 
 pub returns : goal.returns

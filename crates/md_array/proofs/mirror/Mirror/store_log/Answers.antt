@@ -2,14 +2,14 @@ use Rattle.std.proofs.Common.{◌≡◌, ◌∙◌, ◌<◌, false, ap, length, 
 use Rattle.md_kept_members.specs.Enrolling.{HasRoomFor}
 use Rattle.md_state.specs.Members.{IsInSync, IsMember}
 use Rattle.md_state.specs.View.{MirrorView, disk_of}
+use Rattle.md_state.proofs.Members.At.{member_read}
 use Rattle.md_array.specs.Consistency.{IsConsistent}
 use Rattle.md_array.specs.Fits.{FitsMember}
-use Rattle.md_array.specs.Listing.{RefusesStoreLog, StoresLog}
+use Rattle.md_array.specs.Steps.StoreLog.{RefusesStoreLog, StoresLog}
 use Rattle.md_array.specs.declared.mirror.Mirror.TheInside.{Inside}
-use Rattle.md_state.proofs.Members.At.{member_read}
 use Rattle.md_array.proofs.General.Answered.{err_of, ok_of}
-use Rattle.md_array.proofs.Rebuilding.LogStored.{are_written, is_unwritten, log_failed, log_happens, log_refused_happens, log_refused_is_consistent, log_refused_is_pending, logged_is_consistent, logged_is_pending}
-use Rattle.md_array.proofs.Steps.OneWrite.{fits_now, fits_there, within_devices, within_members}
+use Rattle.md_array.proofs.Rebuilding.StoreLog.{are_written, is_unwritten, log_failed, log_happens, log_refused_happens, log_refused_is_consistent, log_refused_is_pending, logged_is_consistent, logged_is_pending}
+use Rattle.md_array.proofs.StepLemmas.OneWrite.{fits_now, fits_there, within_devices, within_members}
 use Rattle.md_array.proofs.mirror.Mirror.store_log.Given as given
 use Rattle.md_array.proofs.mirror.Mirror.store_log.Goals as goal
 use Rattle.md_array.proofs.mirror.Mirror.store_log.Goals.{After-index_mut, After-store_log}

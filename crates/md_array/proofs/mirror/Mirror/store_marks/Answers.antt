@@ -4,17 +4,16 @@ use Rattle.md_members.specs.Areas.{bitmap_sectors}
 use Rattle.md_device_writes.specs.Writes.{Write}
 use Rattle.md_kept_members.specs.View.{MemberView}
 use Rattle.md_state.specs.View.{MirrorView, disk_of}
-use Rattle.md_state.specs.Checking.{IsServing}
+use Rattle.md_state.specs.Steps.StoreMarks.{IsServing, IsMarkWrite, MayStoreMarks, RefusesMarkSector, StoresMarkSector}
 use Rattle.md_state.specs.Members.{IsMember}
-use Rattle.md_state.specs.StoringMarks.{IsMarkWrite, MayStoreMarks, RefusesMarkSector, StoresMarkSector}
+use Rattle.md_state.proofs.Members.At.{member_read}
 use Rattle.md_array.specs.Consistency.{IsConsistent}
 use Rattle.md_array.specs.Fits.{FitsMember}
-use Rattle.md_state.proofs.Members.At.{member_read}
 use Rattle.md_array.proofs.General.Answered.{err_of, ok_of}
-use Rattle.md_array.proofs.Steps.OneWrite.{fits_now, fits_there, is_failed, is_written, within_devices, within_members}
-use Rattle.md_array.proofs.Steps.MarkSectors.{marks_stored_is_consistent, marks_stored_is_pending, store_marks_happens}
-use Rattle.md_array.proofs.Steps.StoresKeep.{marks_refused_happens, marks_refused_is_consistent, marks_refused_is_pending}
-use Rattle.md_array.proofs.Steps.Refused.{store_marks_failed, store_marks_refused}
+use Rattle.md_array.proofs.StepLemmas.OneWrite.{fits_now, fits_there, is_failed, is_written, within_devices, within_members}
+use Rattle.md_array.proofs.StepLemmas.StoreMarks.{marks_stored_is_consistent, marks_stored_is_pending, store_marks_happens}
+use Rattle.md_array.proofs.StepLemmas.StoresKeep.{marks_refused_happens, marks_refused_is_consistent, marks_refused_is_pending}
+use Rattle.md_array.proofs.StepLemmas.Refused.{store_marks_failed, store_marks_refused}
 use Rattle.md_array.proofs.mirror.Mirror.store_marks.Given as given
 use Rattle.md_array.proofs.mirror.Mirror.store_marks.Goals as goal
 use Rattle.md_array.proofs.mirror.Mirror.store_marks.Goals.{After-index_mut, After-store_block}

@@ -4,16 +4,16 @@ use Rattle.md_super.specs.declared.superblock.Superblock.{Superblock}
 use Rattle.md_kept_members.specs.Members.{made_due}
 use Rattle.md_kept_members.specs.TakingBack.{own_role}
 use Rattle.md_kept_members.specs.View.{MemberView}
-use Rattle.md_state.specs.Joining.{joined, joined_shared}
-use Rattle.md_state.specs.ReAdding.{MayReAdd}
+use Rattle.md_state.specs.Steps.NoteJoined.{joined, joined_shared}
+use Rattle.md_state.specs.Steps.ReAdd.{MayReAdd}
 use Rattle.md_state.specs.View.{ArrayView, MirrorView, disk_of}
 use Rattle.md_array.specs.Consistency.{IsConsistent}
 use Rattle.md_array.specs.declared.mirror.Mirror.TheInside.{Inside}
-use Rattle.md_array.specs.ReAdding.{RecordsLast}
+use Rattle.md_array.specs.Steps.ReAdd.{RecordsLast}
 use Rattle.md_array.proofs.General.Answered.{err_of, ok_gives, ok_of}
-use Rattle.md_array.proofs.Steps.MemberTakenBack.{has_marks_for, joined_is, not_recorded, recorded_last}
+use Rattle.md_array.proofs.StepLemmas.ReAdd.{has_marks_for, joined_is, not_recorded, recorded_last}
 use Rattle.md_array.proofs.mirror.Mirror.take_back.Goals as goal
-use Rattle.md_array.proofs.Steps.SpareAdded.{told_short}
+use Rattle.md_array.proofs.StepLemmas.Add.{told_short}
 
 pub offset_back-offset-requires-clause-chunks : goal.offset_back-offset-requires-clause-chunks
 offset_back-offset-requires-clause-chunks g c =

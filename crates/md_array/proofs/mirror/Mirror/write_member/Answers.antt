@@ -5,9 +5,9 @@ use Rattle.md_state.specs.View.{Disk, MirrorView, disk_of}
 use Rattle.md_state.specs.Requests.{IsPending}
 use Rattle.md_array.specs.Consistency.{IsConsistent}
 use Rattle.md_array.proofs.General.Answered.{err_of, ok_of}
-use Rattle.md_array.proofs.Steps.DataWritten.{write_member_happens, written_is_consistent, written_is_pending, written_keeps_pending}
-use Rattle.md_array.proofs.Steps.WriteKeeps.{refused_write_event, refused_write_pending, refused_write_sound, refused_write_still}
-use Rattle.md_array.proofs.Steps.WriteToMember.{fails_to_write, on_device, room_left, writes_to}
+use Rattle.md_array.proofs.StepLemmas.WriteMember.{write_member_happens, written_is_consistent, written_is_pending, written_keeps_pending}
+use Rattle.md_array.proofs.StepLemmas.WriteKeeps.{refused_write_event, refused_write_pending, refused_write_sound, refused_write_still}
+use Rattle.md_array.proofs.StepLemmas.WriteToMember.{fails_to_write, on_device, room_left, writes_to}
 use Rattle.md_array.proofs.mirror.Mirror.write_member.Goals as goal
 
 pub returns-in-Err : goal.returns-in-Err

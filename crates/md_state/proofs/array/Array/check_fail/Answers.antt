@@ -1,9 +1,9 @@
 use Rattle.std.proofs.Common.{◌≡◌, ◌∙◌, ℕ, ◌<◌, Bool, true, false, List, get_or, length, refl, sym, ap, subst}
 use Rattle.md_kept_members.specs.View.{MemberView}
-use Rattle.md_assembly.specs.States.{is_active}
 use Rattle.md_kept_members.specs.Members.{HasOtherInSync, IsLastInSync}
+use Rattle.md_assembly.specs.States.{is_active}
 use Rattle.md_state.specs.View.{ArrayView}
-use Rattle.md_state.specs.FailingMembers.{IsNotActive, IsRunningWith}
+use Rattle.md_state.specs.Steps.Fail.{IsNotActive, IsRunningWith}
 use Rattle.md_state.proofs.Members.At.{member_read}
 use Rattle.md_state.proofs.array.Array.check_fail.Goals as goal
 

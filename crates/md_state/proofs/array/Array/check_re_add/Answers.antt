@@ -1,5 +1,5 @@
 use Rattle.std.proofs.Common.{rules, ◌≡◌, ◌∙◌, ℕ, Bool, refl, sym, ap}
-use Rattle.md_state.specs.ReAdding.{is_taken}
+use Rattle.md_state.specs.Steps.ReAdd.{is_taken}
 use Rattle.md_state.specs.View.{ArrayView}
 use Rattle.md_state.proofs.array.Array.check_re_add.Goals as goal
 

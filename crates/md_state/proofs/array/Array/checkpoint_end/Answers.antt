@@ -1,6 +1,6 @@
 use Rattle.std.proofs.Common.{refl, ap, subst, inl, inr, arith}
 use Rattle.md_kept_members.proofs.Members.Indices.{cases_more}
-use Rattle.md_state.specs.Checkpoints.{EndsCheckpoint}
+use Rattle.md_state.specs.Steps.Checkpoint.{EndsCheckpoint}
 use Rattle.md_state.specs.View.{ArrayView}
 use Rattle.md_state.proofs.array.Array.checkpoint_end.Goals as goal
 

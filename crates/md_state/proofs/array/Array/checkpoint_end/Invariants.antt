@@ -1,6 +1,6 @@
 use Rattle.std.proofs.Common.{◌<◌, ℕ}
 use Rattle.md_kept_members.specs.View.{MemberView}
-use Rattle.md_state.specs.Checkpoints.{EndsCheckpoint}
+use Rattle.md_state.specs.Steps.Checkpoint.{EndsCheckpoint}
 use Rattle.md_state.specs.Members.{IsMember}
 use Rattle.md_state.proofs.array.Array.checkpoint_end.Given as goal
 

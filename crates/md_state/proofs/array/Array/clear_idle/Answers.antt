@@ -1,8 +1,8 @@
 use Rattle.std.proofs.Common.{refl}
 use Rattle.md_state.specs.View.{ArrayView}
-use Rattle.md_bitmap.specs.Marks.{Bitmap}
-use Rattle.md_state.specs.ClearingMarks.{Clears, IsWithout, MayClear}
+use Rattle.md_state.specs.Steps.ClearIdle.{Clears, IsWithout, MayClear}
 use Rattle.md_state.proofs.array.Array.clear_idle.Goals as goal
+use Rattle.md_bitmap.specs.Marks.{Bitmap}
 
 cleared : (a : ArrayView) (chunk : _) (marks : Bitmap) (disks : _) → MayClear chunk a → IsWithout chunk a.marks marks
     → Clears chunk (record { disks = disks; array = a }) (record { disks = disks; array = record a { marks = marks } })

@@ -3,7 +3,7 @@ use Rattle.std.proofs.lemmas.List.{length-map}
 use Rattle.md_kept_members.specs.Members.{made_due}
 use Rattle.md_state.specs.View.{ArrayView}
 use Rattle.md_state.specs.Members.{IsMember}
-use Rattle.md_state.specs.Rising.{without}
+use Rattle.md_state.specs.Steps.Rise.{without}
 use Rattle.md_state.proofs.Changes.Raised.{failed_so, still_member}
 use Rattle.md_state.proofs.array.Array.fail.Goals as goal
 

@@ -1,5 +1,5 @@
 use Rattle.std.proofs.Common.{[], refl}
-use Rattle.md_state.specs.FailingMembers.{MayBeFailed}
+use Rattle.md_state.specs.Steps.Fail.{MayBeFailed}
 use Rattle.md_state.proofs.array.Array.fail_member.Goals as goal
 
 pub fail-requires-clause-unspent : goal.fail-requires-clause-unspent

@@ -3,7 +3,7 @@ use Rattle.md_inflight.specs.Inflight.{InflightList, entries_without}
 use Rattle.md_requests.specs.Pending.{PendingView}
 use Rattle.md_requests.specs.declared.extent.Extent.{Extent}
 use Rattle.md_state.specs.View.{ArrayView}
-use Rattle.md_state.specs.Finishing.{Finishes, MayFinish}
+use Rattle.md_state.specs.Steps.Finish.{Finishes, MayFinish}
 use Rattle.md_state.proofs.array.Array.finish.Goals as goal
 
 finished : (a : ArrayView) (p : PendingView) (left : InflightList Extent) (disks : _) → MayFinish a p → left.name ≡ a.requests.name → left.entries ≡ entries_without a.requests.entries p.ticket.number → left.next ≡ a.requests.next

@@ -6,7 +6,7 @@ use Rattle.md_kept_members.specs.View.{MemberView}
 use Rattle.md_kept_members.proofs.Members.Indices.{cases_more}
 use Rattle.md_state.specs.View.{ArrayView}
 use Rattle.md_state.specs.Members.{IsFirstInSyncWithout, IsInSync, IsMember}
-use Rattle.md_state.specs.WritingMember.{HasMarksFrom}
+use Rattle.md_state.specs.Steps.WriteMember.{HasMarksFrom}
 use Rattle.md_state.proofs.array.Array.first_unmarked.Goals as goal
 use Rattle.md_state.proofs.array.Array.first_unmarked.Goals.{else-is_in_sync-via-then-is_in_sync+else-not-is_range_marked, else-is_in_sync-via-else-is_in_sync}
 

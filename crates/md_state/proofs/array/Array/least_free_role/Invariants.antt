@@ -1,5 +1,5 @@
 use Rattle.std.proofs.Common.{◌≡◌, ◌<◌, ℕ, true}
-use Rattle.md_state.specs.ReAdding.{is_taken}
+use Rattle.md_state.specs.Steps.ReAdd.{is_taken}
 use Rattle.md_state.proofs.array.Array.least_free_role.Given as goal
 
 abbrev pub invariant-loop-role : goal.invariant-loop-role

@@ -1,5 +1,5 @@
 use Rattle.std.proofs.Common.{◌≡◌, ℕ, ◌<◌, true}
-use Rattle.md_state.specs.Rising.{has_number}
+use Rattle.md_state.specs.Steps.Rise.{has_number}
 use Rattle.md_state.proofs.array.Array.least_unused.Given as goal
 
 abbrev pub invariant-loop-number : goal.invariant-loop-number

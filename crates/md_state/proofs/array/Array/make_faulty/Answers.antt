@@ -2,7 +2,7 @@ use Rattle.std.proofs.Common.{◌≡◌, ◌∙◌, ℕ, ◌<◌, ◌≤◌, con
 use Rattle.std.proofs.lemmas.Bool.{le-ltb, lt-ltb}
 use Rattle.md_kept_members.specs.View.{MemberView}
 use Rattle.md_state.specs.View.{ArrayView}
-use Rattle.md_state.specs.Rising.{roles_without}
+use Rattle.md_state.specs.Steps.Rise.{roles_without}
 use Rattle.md_state.proofs.Members.At.{read_member}
 use Rattle.md_state.proofs.Changes.Raised.{faulted}
 use Rattle.md_state.proofs.array.Array.make_faulty.Goals as goal

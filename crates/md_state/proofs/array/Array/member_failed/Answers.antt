@@ -1,4 +1,4 @@
-use Rattle.md_state.specs.Failing.{MayFail}
+use Rattle.md_state.specs.Steps.Fail.{MayFail}
 use Rattle.md_state.proofs.array.Array.member_failed.Goals as goal
 use Rattle.md_assembly.proofs.Indices.{got_within}
 

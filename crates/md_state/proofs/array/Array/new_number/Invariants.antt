@@ -1,5 +1,5 @@
 use Rattle.std.proofs.Common.{ℕ, ◌<◌}
-use Rattle.md_state.specs.Adding.{IsFree}
+use Rattle.md_state.specs.Steps.Add.{IsFree}
 use Rattle.md_state.proofs.array.Array.new_number.Given as goal
 
 abbrev pub invariant-loop-number : goal.invariant-loop-number

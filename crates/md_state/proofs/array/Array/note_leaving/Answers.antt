@@ -1,7 +1,7 @@
 use Rattle.std.proofs.Common.{◌≡◌, ◌∙◌, cond, sym, ap}
 use Rattle.md_kept_members.specs.View.{MemberView}
 use Rattle.md_assembly.specs.States.{is_spare}
-use Rattle.md_state.specs.Removing.{without_spare}
+use Rattle.md_state.specs.Steps.Remove.{without_spare}
 use Rattle.md_state.proofs.Members.At.{member_read, read_member}
 use Rattle.md_state.proofs.array.Array.note_leaving.Goals as goal
 

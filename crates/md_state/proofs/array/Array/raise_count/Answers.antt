@@ -2,7 +2,7 @@ use Rattle.std.proofs.Common.{◌≡◌, ◌∙◌, ap, sym, map, length, List, 
 use Rattle.std.proofs.lemmas.List.{length-map, with_items_is}
 use Rattle.md_kept_members.specs.View.{MemberView}
 use Rattle.md_kept_members.specs.Members.{made_due}
-use Rattle.md_state.specs.Rising.{risen}
+use Rattle.md_state.specs.Steps.Rise.{risen}
 use Rattle.md_state.proofs.Changes.Raised.{raised}
 use Rattle.md_state.proofs.array.Array.raise_count.Goals as goal
 

@@ -2,11 +2,11 @@ use Rattle.std.proofs.Common.{◌≡◌, ◌∙◌, ℕ, Bool, true, false, cond
 use Rattle.std.specs.List.{remove}
 use Rattle.std.proofs.lemmas.List.{length-map}
 use Rattle.md_kept_members.specs.View.{MemberView}
+use Rattle.md_kept_members.specs.Members.{made_due}
 use Rattle.md_assembly.specs.States.{is_spare}
 use Rattle.md_assembly.proofs.Indices.{got_within}
-use Rattle.md_kept_members.specs.Members.{made_due}
 use Rattle.md_state.specs.View.{ArrayView}
-use Rattle.md_state.specs.Removing.{before_leaving, taken_out, without_spare}
+use Rattle.md_state.specs.Steps.Remove.{before_leaving, taken_out, without_spare}
 use Rattle.md_state.proofs.array.Array.remove_member.Goals as goal
 
 as_many : (a : ArrayView) (m : MemberView) → length (before_leaving a m).members ≡ length a.members

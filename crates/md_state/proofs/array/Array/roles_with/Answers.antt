@@ -1,6 +1,6 @@
 use Rattle.std.proofs.Common.{arith, ◌∙◌, ap, sym, length}
 use Rattle.std.proofs.lemmas.List.FromFn.{map-range_with_len_more, length-map-range_with_len}
-use Rattle.md_state.specs.Joining.{role_after}
+use Rattle.md_state.specs.Steps.NoteJoined.{role_after}
 use Rattle.md_state.proofs.array.Array.roles_with.Goals as goal
 
 pub loop-d-preserved : goal.loop-d-preserved

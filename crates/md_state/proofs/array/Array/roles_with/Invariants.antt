@@ -1,7 +1,7 @@
 use Rattle.std.proofs.Common.{◌≡◌}
 use Rattle.std.specs.Prelude.{map}
 use Rattle.std.specs.List.{range_with_len}
-use Rattle.md_state.specs.Joining.{role_after}
+use Rattle.md_state.specs.Steps.NoteJoined.{role_after}
 use Rattle.md_state.proofs.array.Array.roles_with.Given as goal
 
 abbrev pub invariant-loop-d : goal.invariant-loop-d

@@ -1,0 +1,142 @@
+-- A member that was rebuilt comes into sync: its marks are stored, its log, and last its superblock (this project's own order).
+use Rattle.std.specs.Prelude.{◌≡◌, ◌≢◌, ◌⊎◌, ⊤, ℕ, ◌+◌, ◌*◌, ◌<◌, ◌≤◌, Bool, true, false, List, [], ◌∷◌, ◌++◌, if◌then◌else◌, length, slice_get, Some, None, Result, MatchResult}
+use Rattle.md_device.specs.Splice.{part}
+use Rattle.md_super.specs.declared.superblock.Superblock.{Superblock}
+use Rattle.md_super.specs.Log.{has_bad_block_log}
+use Rattle.md_super.specs.Merge.{merged}
+use Rattle.md_assembly.specs.States.{is_recovering}
+use Rattle.md_bitmap.specs.declared.header.BitmapHeader.{BitmapHeader}
+use Rattle.md_bitmap.specs.Chunks.{InChunk}
+use Rattle.md_bitmap.specs.Marks.{Bitmap, is_set}
+use Rattle.md_badblocks.specs.declared.run.Run.{Run}
+use Rattle.md_badblocks.specs.Log.{log_bytes}
+use Rattle.md_members.specs.Areas.{AreAreasPlaced, bitmap_sectors, has_bitmap}
+use Rattle.md_members.specs.Members.{sectors_of_device}
+use Rattle.md_members.specs.Reading.{BitmapStartsAt}
+use Rattle.md_model.specs.Content.{Content}
+use Rattle.md_model.specs.Sectors.{put}
+use Rattle.md_device_writes.specs.Bitmaps.{bitmap_writes}
+use Rattle.md_device_writes.specs.Writes.{DoesWrites, FailsInWrites, Write}
+use Rattle.md_kept_members.specs.Enrolling.{HasRoomFor, log_room}
+use Rattle.md_kept_members.specs.View.{MemberView}
+use Rattle.md_faults.specs.declared.enrol_fault.EnrolFault.{EnrolFault}
+use Rattle.md_faults.specs.declared.enrol_fault.EnrolFault.TheVariants.{Halted, EventsFull, LogFull, TargetFault, NoMemory}
+use Rattle.md_state.specs.DiskWrites.{AtDevice}
+use Rattle.md_state.specs.Steps.Enrol.{ComesWith, HasFullLog, MayTakeRole, RefusesRole, enrolled}
+use Rattle.md_state.specs.Headers.{IsHeaderFor}
+use Rattle.md_state.specs.Steps.MakeClean.{first_number}
+use Rattle.md_state.specs.Members.{IsInSync, IsMember}
+use Rattle.md_state.specs.Missing.{is_missing}
+use Rattle.md_state.specs.Trying.{Refuses}
+use Rattle.md_state.specs.View.{ArrayView, Disk, MirrorView, of_disks}
+use Rattle.md_array.specs.ReadAsKept.{AreReadAsKept}
+use Rattle.md_array.specs.Steps.Record.{IsReadable, write_of}
+use Rattle.md_array.specs.Worlds.{AreHonest, sector_from_super, is_listed}
+
+-- ---- its conditions
+-- Where the array's content is held: each member in sync holds it in each sector that its device does not list.
+pub record HoldsContent (disks : List Disk) (a : ArrayView) (content : Content) : Type 0 where
+  pub held : (k : ℕ) (d : Disk) (m : MemberView) → slice_get disks k ≡ Some d → IsInSync a k m
+      → (s : ℕ) → s < a.chunks.size → is_listed m.superblock d.content (m.superblock.data_offset + s) ≡ false → part d.content (512 * (m.superblock.data_offset + s)) 512 ≡ content s
+
+-- Of a copy: whatever content the members in sync hold, member k holds it in each copied chunk.
+abbrev pub HoldsCopied : List Disk → ArrayView → ℕ → Bitmap → Type 0
+HoldsCopied disks a k copied =
+    (content : Content) → HoldsContent disks a content
+    → (d : Disk) (m : MemberView) → slice_get disks k ≡ Some d → IsMember a k m
+    → (c s : ℕ) → c < copied.chunks → is_set copied.bytes c ≡ true → InChunk a.chunks.sectors a.chunks.size c s → part d.content (512 * (m.superblock.data_offset + s)) 512 ≡ content s
+
+-- Nothing is in flight, the array is resynced, and the member is recovering. Of its missing chunks some were copied, and the others
+-- are the orphans.
+pub record MayEnrol (k : ℕ) (copied orphans : Bitmap) (v : MirrorView) : Type 0 where
+  pub member : MemberView
+  pub at : IsMember v.array k member
+  pub recovering : is_recovering member.state ≡ true
+  pub resynced : v.array.resynced ≡ true
+  pub idle : first_number v.array ≡ None
+  pub copied_chunks : copied.chunks ≡ v.array.marks.chunks
+  pub orphan_chunks : orphans.chunks ≡ v.array.marks.chunks
+  pub disjoint : (c : ℕ) → c < v.array.marks.chunks → is_set copied.bytes c ≡ true → is_set orphans.bytes c ≡ false
+  pub cover : (c : ℕ) → c < v.array.marks.chunks → is_missing v.array member c ≡ true → (is_set copied.bytes c ≡ true) ⊎ (is_set orphans.bytes c ≡ true)
+  pub only : (c : ℕ) → c < v.array.marks.chunks → (is_set copied.bytes c ≡ true) ⊎ (is_set orphans.bytes c ≡ true) → is_missing v.array member c ≡ true
+  pub holds : AreHonest v.disks → HoldsCopied v.disks v.array k copied  -- what a device holds that isn't honest, no caller can know
+
+-- ---- what is written
+-- A member's parts lie on a device, and its log has room for its list: all of it but its data may be stored there.
+pub record IsStorable (n : MemberView) (content : List ℕ) : Type 0 where
+  pub long : 16 ≤ sectors_of_device content
+  pub has : has_bitmap n.superblock ≡ true
+  pub placed : AreAreasPlaced (sectors_of_device content) n.superblock (bitmap_sectors n.stored.chunks)
+  pub few_chunks : n.stored.chunks ≤ 1048576
+  pub room : HasRoomFor n.superblock n.bad
+
+-- a list is stored in the log that a superblock names, where it names one
+abbrev pub log_writes : Superblock → List Run → List Write
+log_writes own list =
+    if has_bad_block_log own then record { sector = sector_from_super own.bblog_offset; bytes = log_bytes list (log_room own) } ∷ [] else []
+
+-- what stores all of a member but its data: its marks with this header, from this sector on, the bitmap's first sector last; its log;
+-- and its superblock beside these fields of the array
+abbrev pub member_writes : ℕ → BitmapHeader → Superblock → MemberView → List Write
+member_writes start header shared n =
+    bitmap_writes start header n.stored (bitmap_sectors n.stored.chunks) ++ (log_writes n.superblock n.bad ++ write_of shared n ∷ [])
+
+-- The writes of a member as it is kept then, in an array as it is then: its marks are stored under the count and the events_cleared that
+-- are to come.
+pub record AreEnrolWrites (a : ArrayView) (n : MemberView) (writes : List Write) : Type 0 where
+  pub start : ℕ
+  pub starts : BitmapStartsAt n.superblock start
+  pub header : BitmapHeader
+  pub header_is : IsHeaderFor a n header
+  pub are : writes ≡ member_writes start header a.shared n
+
+-- data stays: at most the member's superblock, bitmap and log change
+abbrev pub KeepsData : MemberView → Disk → Disk → Type 0
+KeepsData m d e =
+    (at n : ℕ) → 512 * m.superblock.data_offset ≤ at → at + n ≤ 512 * (m.superblock.data_offset + m.superblock.data_size) → part e.content at n ≡ part d.content at n
+
+-- no other device is used
+pub record IsUsedAlone (k : ℕ) (before after : List Disk) (Change : Disk → Disk → Type 0) : Type 0 where
+  pub as_many : length after ≡ length before
+  pub others : (j : ℕ) → j ≢ k → slice_get after j ≡ slice_get before j
+  pub change : AtDevice k before after Change
+
+-- ---- what comes of it
+-- All was written. At each moment a crash leaves the first of the writes done, and the next one cut short (`DoesWrites.within`).
+pub record Enrols (k : ℕ) (copied orphans : Bitmap) (old new : MirrorView) : Type 0 where
+  pub role : ℕ
+  pub may : MayTakeRole k old.array role
+  pub member : MemberView  -- as it is then
+  pub comes : ComesWith k role copied orphans old.array member
+  pub array : new.array ≡ enrolled old.array k member role
+  pub readable : IsReadable (merged new.array.shared member.superblock)  -- no condition: so it is of every superblock that is kept
+  pub writes : List Write
+  pub are : AreEnrolWrites new.array member writes
+  pub disks : IsUsedAlone k old.disks new.disks (λ d e. DoesWrites of_disks writes d e × KeepsData member d e)
+
+-- A write of the enrolment failed, and none was made after it. In memory all is as before, and the superblock
+-- was not written but by the last of the writes.
+pub record FailsToEnrol (k : ℕ) (copied orphans : Bitmap) (old new : MirrorView) : Type 0 where
+  pub role : ℕ
+  pub may : MayTakeRole k old.array role
+  pub member : MemberView  -- as it would be
+  pub comes : ComesWith k role copied orphans old.array member
+  pub array : new.array ≡ old.array
+  pub readable : IsReadable (merged (enrolled old.array k member role).shared member.superblock)  -- no condition, as above
+  pub writes : List Write
+  pub are : AreEnrolWrites (enrolled old.array k member role) member writes
+  pub disks : IsUsedAlone k old.disks new.disks (λ d e. FailsInWrites of_disks writes d e × KeepsData member d e)
+
+abbrev pub RefusesEnrol : ℕ → Bitmap → Bitmap → MirrorView → MirrorView → EnrolFault → Type 0
+RefusesEnrol k copied orphans old new Halted = Refuses old new (RefusesRole old.array Halted)
+RefusesEnrol k copied orphans old new EventsFull = Refuses old new (RefusesRole old.array EventsFull)
+RefusesEnrol k copied orphans old new (LogFull j) = Refuses old new ((j ≡ k) × ((role : ℕ) × MayTakeRole k old.array role) × HasFullLog k copied orphans old.array)
+RefusesEnrol k copied orphans old new TargetFault = FailsToEnrol k copied orphans old new
+RefusesEnrol k copied orphans old new NoMemory = Refuses old new ((role : ℕ) × MayTakeRole k old.array role)
+
+-- An opening would read of the devices what is kept of the members, as before, once it is in sync; and it is not spoiled any more.
+abbrev pub EnrolReads : ℕ → MirrorView → MirrorView → {T E : Type 0} → Result T E → Type 0
+EnrolReads k old new result =
+    MatchResult result
+    (λ _. AreHonest old.disks → (failed_at : ℕ) (spoiled : ℕ → Bool) → AreReadAsKept old failed_at spoiled → AreReadAsKept new failed_at (put k false spoiled))
+    (λ _. ⊤)

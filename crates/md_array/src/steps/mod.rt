@@ -1,0 +1,22 @@
+// The steps that a mirror does, and the calls that lend its devices: a file for each, by its verb.
+mod add;
+mod admit;
+mod begin;
+mod checkpoint;
+mod clear_idle;
+mod copy_data;
+mod enrol;
+mod fail;
+mod finish;
+mod lend;
+mod make_clean;
+mod note_bad;
+mod note_resynced;
+mod re_add;
+mod read_data;
+mod record;
+mod record_target;
+mod remove;
+mod store_log;
+mod store_marks;
+mod write_member;

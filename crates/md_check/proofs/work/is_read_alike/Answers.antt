@@ -1,0 +1,35 @@
+use Rattle.std.proofs.Common.{◌≡◌, ◌∙◌, ◌+◌, ◌-◌, ◌/◌, ◌%◌, ◌≤◌, ℕ, Bool, true, if◌then◌else◌, List, length, drop, take, subst, arith}
+use Rattle.md_check.specs.Readings.{HasUnlisted}
+use Rattle.md_check.proofs.SectorsRead.{block_read}
+use Rattle.md_check.proofs.WindowsRead.{given_first, used_then}
+use Rattle.md_check.proofs.work.is_read_alike.Goals as goal
+
+pub loop-done-preserved : goal.loop-done-preserved
+loop-done-preserved g c =
+    let inv = c.loop-done.invariant in
+    let first = c.args.reader.now in
+    let old = c.loop-done.reader in
+    let new = c.is_block_alike.new.reader in
+    let done = c.loop-done.done in
+    let lead = c.args.lead.now in
+    let len = c.min-len.result in
+    let least = c.min-len.ensures in
+    let test = c.loop-done-test.true in
+    let all = c.requires.whole in
+    let whole = inv.whole in
+    let fits : done + len ≤ length lead = omega arith in
+    let blocks : len % 512 ≡ 0 = omega arith in
+    let at : ℕ = c.args.from + done / 512 in
+    let block : List ℕ = take (done + len - done) (drop done lead) in
+    let yes : c.in_ok-alike.alike ≡ true = (let no = c.if-not-alike.false in cc) in
+    record {
+      whole = omega arith;
+      few = fits;
+      used = used_then first old new inv.used c.is_block_alike.ensures.used;
+      unfailing = c.in_ok-alike.ensures.unfailing ∙ inv.unfailing;
+      gave = λ honest.
+          block_read (g.D.Device.content first.device) first.offset first.listed c.args.from done len lead whole blocks fits (inv.gave honest)
+          (given_first first old inv.used at (length block / 512) block
+          (λ is. subst (λ (b : Bool). HasUnlisted (g.D.Device.content old.device) old.offset old.listed at (length block / 512) (if b then block else new.bytes.items)) yes (c.in_ok-alike.ensures.gave is))
+          honest);
+    }

@@ -1,0 +1,46 @@
+use Rattle.std.proofs.Common.{◌≡◌, ◌∙◌, ◌+◌, ◌*◌, ◌<◌, ◌≤◌, length, take, ap, arith, subst, sym}
+use Rattle.std.proofs.lemmas.List.{length-take-le}
+use Rattle.md_device.specs.Device.{held}
+use Rattle.md_bitmap.specs.Chunks.{InChunk}
+use Rattle.md_badblocks.specs.Runs.{IsBad}
+use Rattle.md_check.proofs.ChunkSectors.{before_end, in_its_chunk}
+use Rattle.md_check.proofs.SectorsRead.{front_read}
+use Rattle.md_check.proofs.work.read_front.Goals as goal
+
+pub clear_run-run-requires : goal.clear_run-run-requires
+clear_run-run-requires g c =
+    let chunks = c.args.chunks in
+    let some = c.requires.some in
+    let inside = c.requires.inside in
+    let within : c.args.sector < chunks.size = omega arith in
+    let start = c.range-start.result in
+    let below : c.args.sector < start.0 + start.1 = before_end chunks.sectors chunks.size c.args.sector c.chunk_of-chunk.result (start.0 + start.1) chunks.chunking.some_sectors within c.chunk_of-chunk.ensures.is c.range-start.ensures.end in
+    record { some = omega (arith, below, c.min-most.ensures) }
+
+pub returns-in-Ok-clause-gave : goal.returns-in-Ok-clause-gave
+returns-in-Ok-clause-gave g c = λ honest.
+    let run = c.clear_run-run.result in
+    let xs = c.args.buf.now in
+    let ys = c.read_run-answer.new.buf in
+    let most = c.clear_run-run.ensures.most in
+    let few : 512 * run ≤ length xs = omega (arith, most, c.min-most.ensures) in
+    let long : length (take (512 * run) xs) ≡ 512 * run = length-take-le (512 * run) xs few in
+    front_read (g.D.Device.content c.args.device.now) c.args.offset c.args.listed.now c.args.sector run xs ys
+    (c.in-Ok.ensures.gave honest ∙ ap (held (g.D.Device.content c.args.device.now) (c.args.offset + c.args.sector)) long)
+    (c.read_run-answer.auto.buf ∙ long)
+
+pub returns-in-Err-clause-missed : goal.returns-in-Err-clause-missed
+returns-in-Err-clause-missed g c =
+    let chunks = c.args.chunks in
+    let sector = c.args.sector in
+    let some = c.requires.some in
+    let inside = c.requires.inside in
+    let within : sector < chunks.size = omega arith in
+    let first : sector + 0 ≡ sector = omega arith in
+    record {
+      sector = sector;
+      not_before = omega arith;
+      before = omega arith;
+      inside = subst (λ n. InChunk chunks.sectors chunks.size n sector) (sym c.chunk_of-chunk.ensures.is) (in_its_chunk chunks.sectors chunks.size sector chunks.chunking.some_sectors within);
+      unlisted = subst (λ n. IsBad c.args.listed.now n → ⊥) first (c.clear_run-run.ensures.clear 0 (let run = c.if-run-eq0.false in omega arith));
+    }

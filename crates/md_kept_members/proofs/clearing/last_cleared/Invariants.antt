@@ -1,5 +1,0 @@
-use Rattle.md_kept_members.specs.Remembering.{IsLastClearedIn}
-use Rattle.md_kept_members.proofs.clearing.last_cleared.Given as goal
-
-abbrev pub invariant-loop-member : goal.invariant-loop-member
-invariant-loop-member l = IsLastClearedIn l.members l.member-index l.last

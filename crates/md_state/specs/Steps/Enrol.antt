@@ -1,0 +1,76 @@
+-- A member that was rebuilt comes into sync (raid1_spare_active of the kernel's md driver; that the count rises at once, and what is
+-- stored of it before, are this project's own).
+use Rattle.std.specs.Prelude.{◌≡◌, ℕ, ◌+◌, ⊤, Bool, true, false, not, cond, List, map, set}
+use Rattle.md_bitmap.specs.Marks.{Bitmap}
+use Rattle.md_badblocks.specs.declared.run.Run.{Run}
+use Rattle.md_assembly.specs.declared.state.MemberState.TheVariants.{Recovering}
+use Rattle.md_kept_members.specs.Enrolling.{ComesIntoSync, HasRoomFor, IsListAfter}
+use Rattle.md_kept_members.specs.Members.{made_due}
+use Rattle.md_kept_members.specs.View.{MemberView}
+use Rattle.md_faults.specs.declared.enrol_fault.EnrolFault.{EnrolFault}
+use Rattle.md_faults.specs.declared.enrol_fault.EnrolFault.TheVariants.{Halted, EventsFull, LogFull, TargetFault, NoMemory}
+use Rattle.md_state.specs.Steps.NoteJoined.{joined_shared}
+use Rattle.md_state.specs.Members.{IsMember, is_degraded}
+use Rattle.md_state.specs.Steps.Rise.{HasSpentEvents}
+use Rattle.md_state.specs.View.{ArrayView}
+
+-- ---- whether it may come into sync
+-- Member k may come into sync in this role: it is recovering in it, the mirror runs, and the count can rise.
+pub record MayTakeRole (k : ℕ) (a : ArrayView) (role : ℕ) : Type 0 where
+  pub running : a.halted ≡ false
+  pub member : MemberView
+  pub at : IsMember a k member
+  pub recovering : member.state ≡ Recovering role
+  pub unspent : HasSpentEvents a → ⊥
+
+-- the count has to rise, and can't
+pub record CannotCountEnrol (a : ArrayView) : Type 0 where
+  pub running : a.halted ≡ false
+  pub spent : HasSpentEvents a
+
+-- why it may not, before its list is looked at
+abbrev pub RefusesRole : ArrayView → EnrolFault → Type 0
+RefusesRole a Halted = a.halted ≡ true
+RefusesRole a EventsFull = CannotCountEnrol a
+RefusesRole a (LogFull j) = ⊥
+RefusesRole a TargetFault = ⊥
+RefusesRole a NoMemory = ⊥
+
+-- ---- what is kept of it then
+pub record ComesWith (k role : ℕ) (copied orphans : Bitmap) (a : ArrayView) (n : MemberView) : Type 0 where
+  pub member : MemberView
+  pub at : IsMember a k member
+  pub list : List Run
+  pub list_is : IsListAfter a.chunks member copied orphans list
+  pub room : HasRoomFor member.superblock list
+  pub comes : ComesIntoSync role list a.marks member n
+
+-- Member k's log has no room for its list.
+pub record HasFullLog (k : ℕ) (copied orphans : Bitmap) (a : ArrayView) : Type 0 where
+  pub member : MemberView
+  pub at : IsMember a k member
+  pub list : List Run
+  pub list_is : IsListAfter a.chunks member copied orphans list
+  pub full : HasRoomFor member.superblock list → ⊥
+
+-- why there is no such member. That memory was short is not said.
+abbrev pub RefusesEnrolledMember : ℕ → Bitmap → Bitmap → ArrayView → EnrolFault → Type 0
+RefusesEnrolledMember k copied orphans a (LogFull j) = (j ≡ k) × HasFullLog k copied orphans a
+RefusesEnrolledMember k copied orphans a NoMemory = ⊤
+RefusesEnrolledMember k copied orphans a Halted = ⊥
+RefusesEnrolledMember k copied orphans a EventsFull = ⊥
+RefusesEnrolledMember k copied orphans a TargetFault = ⊥
+
+-- ---- the array with it
+-- each role has a member in sync, once this is member k
+abbrev pub is_full_with : ArrayView → ℕ → MemberView → Bool
+is_full_with a k n = not (is_degraded (record a { members = set a.members k n }))
+
+-- The count has risen, and each superblock but the new one is due. Its number has its role.
+abbrev pub enrolled : ArrayView → ℕ → MemberView → ℕ → ArrayView
+enrolled a k n role =
+    record a {
+      shared = joined_shared a n.superblock.dev_number role;
+      members = set (map made_due a.members) k n;
+      events_cleared = cond (is_full_with a k n) (a.shared.events + 1) a.events_cleared;
+    }

@@ -1,0 +1,149 @@
+// A new device may come in.
+ghost use Rattle.std.specs.Prelude.{◌≡◌, ◌+◌, ◌↔◌, ◌<◌, ◌≤◌, MatchResult, nat_le, IsTrue, false, ℕ, IfOk, length};
+ghost use Rattle.md_model.specs.Membership.{IsLeastNumber};
+ghost use Rattle.md_bitmap.specs.Sound.{IsSoundHeader};
+ghost use Rattle.md_kept_members.specs.View.{MemberView};
+ghost use Rattle.md_state.specs.Steps.Add.{MayAdd, RefusesToAdd, IsFree, IsNumber, role_at_rise, HasRoomForData, IsSpareHeader, IsSpareOf, spare_role};
+ghost use Rattle.md_state.specs.Steps.NoteJoined.{HasMostMembers, joined_shared};
+ghost use Rattle.md_state.specs.Steps.Rise.{has_number};
+ghost use Rattle.md_state.specs.Members.{IsMember};
+
+use crate::array::Array;
+use crate::steps::note_joined::MOST_MEMBERS;
+use crate::steps::store_marks::fitting;
+use md_bitmap::BitmapHeader;
+use md_create::{BITMAP_RESERVED, DATA_SECTOR, NewMember, new_spare};
+use md_faults::AddFault;
+use md_kept_members::freshest_header;
+use md_super::{FAULTY, MAX_ROLES, Superblock};
+use std::alloc::{AllocError, Global};
+
+impl Array {
+    /// The number that a new device of so many sectors gets, where it may come in. The fault is the first
+    /// in the order of `AddFault`.
+    pub fn check_add(&self, sectors: u64) -> Result<u32, AddFault>
+        ensures { MatchResult result (MayAdd self.now sectors) (RefusesToAdd self.now sectors) }
+    {
+        if self.halted {
+            return Err(AddFault::Halted);
+        }
+        if !is_long_enough(sectors, self.shared.size) {
+            return Err(AddFault::TooSmall);
+        }
+        if self.members.len() >= MOST_MEMBERS {
+            return Err(AddFault::Full);
+        }
+        if self.shared.events == u64::MAX {
+            return Err(AddFault::EventsFull);
+        }
+        Ok(self.new_number())
+    }
+}
+
+// Whether a device of so many sectors is long enough for an array of this size.
+fn is_long_enough(sectors: u64, size: u64) -> bool
+    ensures { result ≡ nat_le (2048 + size) sectors }
+{
+    match sectors.checked_sub(DATA_SECTOR) {
+        Some(room) => size <= room,
+        None => false,
+    }
+}
+
+// The number of a new device.
+impl Array {
+    /// The number that a new device gets.
+    pub(crate) fn new_number(&self) -> u32
+        requires { HasMostMembers self.now → ⊥ }
+        ensures { IsNumber self.now result }
+    {
+        for number in 0..MAX_ROLES {
+            if self.is_free(number) {
+                return number;
+            }
+        }
+        self.least_unused()
+    }
+
+    // Whether no member has the number, and it is not that of a failed device after a rise of the count.
+    fn is_free(&self, number: u32) -> bool
+        requires { number < 1920 }
+        ensures { IsTrue result ↔ IsFree self.now number }
+    {
+        !self.has_number(number) && self.role_at_rise(number) != FAULTY
+    }
+
+    /// The role of a number after a rise of the count.
+    pub(crate) fn role_at_rise(&self, number: u32) -> u16
+        ensures { result ≡ role_at_rise self.now number }
+    {
+        if self.is_absent(number) {
+            return FAULTY;
+        }
+        self.shared.role_of(number)
+    }
+
+    // The least number that no member has. Of one number more than there are members, one is.
+    fn least_unused(&self) -> u32
+        requires { HasMostMembers self.now → ⊥ }
+        ensures { IsLeastNumber (λ d. has_number self.now d ≡ false) result }
+    {
+        let members = self.members.len() as u32;
+        for number in 0..members {
+            if !self.has_number(number) {
+                return number;
+            }
+        }
+        members
+    }
+}
+
+// What a new device is laid out with.
+impl Array {
+    /// A new device of so many sectors that comes in as a spare with this number: `shared` has the
+    /// array's fields then, as `shared_with` gives them. Nothing is changed yet.
+    pub fn new_spare(
+        &self,
+        alloc: Global,
+        shared: &Superblock,
+        number: u32,
+        sectors: u64,
+    ) -> Result<NewMember, AllocError>
+        requires shared { shared.now ≡ joined_shared self.now number spare_role }
+        requires some { 0 < length self.now.members }
+        requires sound { (k : ℕ) (m : MemberView) → IsMember self.now k m → IsSoundHeader self.now.shared.size m.header.chunksize }
+        requires some_size { 0 < self.now.shared.size }
+        requires long { HasRoomForData self.now sectors }
+        ensures { IfOk result (IsSpareOf self.now number sectors) }
+    {
+        let settings = freshest_header(&self.members);
+        let header = self.spare_header(&settings, shared.events);
+        new_spare(alloc, shared, header, number, sectors)
+    }
+
+    // The header of its bitmap, once the count is this.
+    fn spare_header(&self, settings: &BitmapHeader, events: u64) -> BitmapHeader
+        requires sound { IsSoundHeader self.now.shared.size settings.now.chunksize }
+        requires risen { events ≡ self.now.shared.events + 1 }
+        ensures { IsSpareHeader self.now settings.now result }
+    {
+        let events_cleared = if self.is_degraded() {
+            self.events_cleared
+        } else {
+            events
+        };
+        fitting(BitmapHeader {
+            uuid: self.shared.set_uuid,
+            events,
+            events_cleared,
+            sync_size: self.shared.size,
+            state: 0,
+            chunksize: settings.chunksize,
+            daemon_sleep: settings.daemon_sleep,
+            write_behind: settings.write_behind,
+            sectors_reserved: BITMAP_RESERVED,
+            nodes: settings.nodes,
+            cluster_name: [0; 64],
+        })
+    }
+}

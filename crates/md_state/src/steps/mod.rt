@@ -1,0 +1,20 @@
+// What each step asks of memory and changes in it: a file for each, by its verb.
+mod add;
+mod admit;
+mod begin;
+mod checkpoint;
+mod clear_idle;
+mod enrol;
+mod fail;
+mod finish;
+mod make_clean;
+mod note_bad;
+mod note_joined;
+mod note_resynced;
+mod re_add;
+mod record;
+mod remove;
+mod rise;
+mod store_log;
+mod store_marks;
+mod write_member;

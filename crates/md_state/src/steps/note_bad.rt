@@ -1,0 +1,55 @@
+// A chunk that a member could not be read in is listed as bad, in memory alone.
+ghost use Rattle.std.specs.Prelude.{◌≡◌, ◌<◌, MatchResult, length, set};
+ghost use Rattle.std.specs.Int.{div_ceil};
+ghost use Rattle.md_kept_members.specs.View.{MemberView};
+ghost use Rattle.md_state.specs.Members.{IsMember};
+ghost use Rattle.md_state.specs.Steps.NoteBad.{MayNote, NotesBad, RefusesNote, WhyUnlisted};
+
+use crate::array::Array;
+use md_badblocks::BadSet;
+use md_faults::NoteFault;
+use md_kept_members::{list_with, log_room};
+use std::alloc::Global;
+
+impl Array {
+    /// Member k lists the chunk as bad. `store_log` stores that. The fault is the first in the order of
+    /// `NoteFault`, and nothing is changed then.
+    pub fn note_bad(&mut self, alloc: Global, k: usize, chunk: u32) -> Result<(), NoteFault>
+        requires within { k < length self.old.members }
+        requires chunk { chunk < div_ceil self.old.chunks.size self.old.chunks.sectors }
+        ensures { MatchResult result (λ _. NotesBad k chunk self.old self.new) (RefusesNote k chunk self.old self.new) }
+    {
+        let list = match self.list_noted(alloc, k, chunk) {
+            Ok(list) => list,
+            Err(fault) => return Err(fault),
+        };
+        self.set_list(k, list);
+        Ok(())
+    }
+
+    // The list of member k with the chunk, if its log has room for that.
+    fn list_noted(&self, alloc: Global, k: usize, chunk: u32) -> Result<BadSet, NoteFault>
+        requires within { k < length self.now.members }
+        requires chunk { chunk < div_ceil self.now.chunks.size self.now.chunks.sectors }
+        ensures { MatchResult result (MayNote k chunk self.now) (WhyUnlisted k chunk self.now) }
+    {
+        if self.halted {
+            return Err(NoteFault::Halted);
+        }
+        let member = &self.members[k];
+        let Ok(list) = list_with(alloc, member, self.chunks, chunk) else {
+            return Err(NoteFault::NoMemory);
+        };
+        if list.entries_needed() > log_room(&member.superblock) {
+            return Err(NoteFault::LogFull(k));
+        }
+        Ok(list)
+    }
+
+    fn set_list(&mut self, k: usize, list: BadSet)
+        requires { k < length self.old.members }
+        ensures { (m : MemberView) → IsMember self.old k m → self.new ≡ record self.old { members = set self.old.members k (record m { bad = list }) } }
+    {
+        self.members[k].bad = list;
+    }
+}

@@ -1,0 +1,82 @@
+// Removing a member.
+ghost use Rattle.std.specs.Prelude.{◌≡◌, ◌<◌, List, MatchResult, cond, length, nat_lt, set, true};
+ghost use Rattle.md_kept_members.specs.View.{MemberView};
+ghost use Rattle.md_assembly.specs.States.{is_spare};
+ghost use Rattle.md_state.specs.Members.{IsMember, faulty_role};
+ghost use Rattle.md_state.specs.Steps.Remove.{Leaves, MayLeave, RefusesRemove, before_leaving, without_spare};
+ghost use Rattle.md_state.specs.View.{Disk};
+ghost use Rattle.md_state.specs.Steps.Rise.{HasSpentEvents};
+
+use crate::array::Array;
+use md_faults::RemoveFault;
+use md_super::FAULTY;
+
+impl Array {
+    /// What `Mirror::remove` does in memory, whatever its devices are.
+    pub fn remove_member(&mut self, k: usize) -> Result<(), RemoveFault>
+        requires { k < length self.old.members }
+        ensures { (disks : List Disk) → MatchResult result (λ _. Leaves k self.old self.new)
+            (RefusesRemove k (record { disks = disks; array = self.old }) (record { disks = disks; array = self.new })) }
+    {
+        if let Err(fault) = self.check_remove(k) {
+            return Err(fault);
+        }
+        self.note_leaving(k);
+        self.members.remove(k);
+        Ok(())
+    }
+
+    // Whether member k may be removed.
+    fn check_remove(&self, k: usize) -> Result<(), RemoveFault>
+        requires { k < length self.now.members }
+        ensures { (disks : List Disk) → MatchResult result (λ _. (m : MemberView) → IsMember self.now k m → MayLeave k self.now m)
+            (RefusesRemove k (record { disks = disks; array = self.now }) (record { disks = disks; array = self.now })) }
+    {
+        if self.halted {
+            return Err(RemoveFault::Halted);
+        }
+        let state = self.members[k].state;
+        if state.is_active() {
+            return Err(RemoveFault::StillActive);
+        }
+        if state.is_spare() && self.shared.events == u64::MAX {
+            return Err(RemoveFault::EventsFull);
+        }
+        Ok(())
+    }
+
+    // Where member k is a spare, the count rises, and its entry is that of a failed device.
+    fn note_leaving(&mut self, k: usize)
+        requires within { k < length self.old.members }
+        requires unspent { (m : MemberView) → IsMember self.old k m → is_spare m.state ≡ true → HasSpentEvents self.old → ⊥ }
+        ensures { (m : MemberView) → IsMember self.old k m → self.new ≡ before_leaving self.old m }
+    {
+        if self.members[k].state.is_spare() {
+            self.drop_spare_entry(k);
+        }
+    }
+
+    // The count rises, and the entry of spare k is that of a failed device.
+    fn drop_spare_entry(&mut self, k: usize)
+        requires within { k < length self.old.members }
+        requires unspent { HasSpentEvents self.old → ⊥ }
+        ensures { (m : MemberView) → IsMember self.old k m → self.new ≡ without_spare self.old m }
+    {
+        self.rise();
+        let number = self.members[k].superblock.dev_number;
+        self.drop_entry(number);
+    }
+
+    // The entry of this number is that of a failed device, where it has one.
+    fn drop_entry(&mut self, number: u32)
+        ensures { self.new ≡ record self.old {
+          shared = record self.old.shared {
+            roles = cond (nat_lt number (length self.old.shared.roles)) (set self.old.shared.roles number faulty_role) self.old.shared.roles;
+          };
+        } }
+    {
+        if number < self.shared.roles.max_dev() {
+            self.shared.roles.set(number, FAULTY);
+        }
+    }
+}
