@@ -1,9 +1,9 @@
 // The members of a new array agree once it is resynchronised, whatever stood in their data.
 use crate::checks::{holds_at, same_at};
 use example_members::zeros;
+use md_crash_laws::fresh_agreement;
 use md_create::{CreateParams, NewMember, create, lay_out};
 use md_device::{Device, MemDevice};
-use md_crash_laws::fresh_agreement;
 use std::alloc::Global;
 use std::process::Abort;
 use std::test::Fail;

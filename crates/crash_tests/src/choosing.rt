@@ -152,7 +152,12 @@ fn assembly_of(alloc: Global, found: &mut Found, known: &mut Known) -> Result<As
 }
 
 // Draws which of these to open.
-fn draw_choice(found: &Found, states: &[MemberState], known: &mut Known, dice: &mut Dice) -> Choice {
+fn draw_choice(
+    found: &Found,
+    states: &[MemberState],
+    known: &mut Known,
+    dice: &mut Dice,
+) -> Choice {
     let mut choice = Choice {
         has: [false; NAMES],
         events: [0; NAMES],

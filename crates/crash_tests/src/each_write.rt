@@ -207,7 +207,13 @@ fn stop_list<R: Abort + Threads + Wait + Sync>(
     list: &List,
 ) -> Result<(), Fail> {
     let images = images_of(alloc, list.raid_disks)?;
-    let done = crash_at_each(rt, alloc, &images, list.calls, &Content::filled_with(FILLING));
+    let done = crash_at_each(
+        rt,
+        alloc,
+        &images,
+        list.calls,
+        &Content::filled_with(FILLING),
+    );
     drop(images);
     done
 }

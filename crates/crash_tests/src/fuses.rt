@@ -3,8 +3,8 @@ ghost use Rattle.std.specs.Prelude.{◌≡◌, IfOk, length};
 
 use crate::checks::{holds_at, same_at};
 use crate::run::Crashing;
+use md_crash_device::{CrashDevice, Fuse};
 use md_device::{Device, MemDevice};
-use md_crash_device::{Fuse, CrashDevice};
 use std::alloc::Global;
 use std::process::Abort;
 use std::test::Fail;

@@ -142,7 +142,12 @@ impl Life {
     }
 
     // After a resync the members agree, and where no role is empty no other value comes back.
-    fn take_resynced<R: Abort + Threads + Wait + Sync>(&mut self, rt: &R, alloc: Global, run: &mut Run) {
+    fn take_resynced<R: Abort + Threads + Wait + Sync>(
+        &mut self,
+        rt: &R,
+        alloc: Global,
+        run: &mut Run,
+    ) {
         let at = (self.seed, self.crashes);
         agrees(rt, alloc, &at, run, &self.content);
         let mut bytes = [0; 512 * SECTORS];

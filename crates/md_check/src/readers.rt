@@ -6,7 +6,11 @@ use crate::order::Order;
 use crate::reader::Reader;
 
 /// Each device goes into a reader, by its order. It takes no memory.
-pub(crate) fn readers_of<D>(devices: &mut Vec<D>, orders: &mut Vec<Order>, readers: &mut Vec<Reader<D>>)
+pub(crate) fn readers_of<D>(
+    devices: &mut Vec<D>,
+    orders: &mut Vec<Order>,
+    readers: &mut Vec<Reader<D>>,
+)
     requires room { (readers.old.items ≡ []) × (vec_len orders.old ≤ vec_capacity readers.old) }
     requires as_many { length devices.old.items ≡ length orders.old.items }
     ensures readers { (k : ℕ) (order device reader : _) → k < length orders.old.items

@@ -4,9 +4,9 @@ ghost use Rattle.std.specs.List.{All};
 ghost use Rattle.md_check.specs.Readings.{HasLed, HasTurned, IsLead};
 ghost use Rattle.md_check.specs.Readers.{HasDataOnDevice};
 
-use crate::work::{begin, work};
 use crate::reader::Reader;
 use crate::window::Window;
+use crate::work::{begin, work};
 use md_bitmap::Chunks;
 use md_device::Device;
 use md_workers::Gate;

@@ -47,7 +47,12 @@ pub(crate) fn work<D: Device, G: Gate>(
 }
 
 /// Reads the first window of so many sectors into the reader's own buffer.
-pub(crate) fn begin<D: Device, G: Gate>(gate: &G, chunks: Chunks, sectors: u64, reader: &mut Reader<D>)
+pub(crate) fn begin<D: Device, G: Gate>(
+    gate: &G,
+    chunks: Chunks,
+    sectors: u64,
+    reader: &mut Reader<D>,
+)
     requires inside { sectors ≤ chunks.size }
     requires room { 512 * sectors ≤ length reader.old.bytes.items }
     requires read_here { HasDataOnDevice D.Device chunks reader.old }
@@ -58,7 +63,13 @@ pub(crate) fn begin<D: Device, G: Gate>(gate: &G, chunks: Chunks, sectors: u64, 
 }
 
 // Reads so many sectors from this one on into the reader's buffer, if its member is in sync.
-fn fill<D: Device, G: Gate>(gate: &G, chunks: Chunks, from: u64, sectors: u64, reader: &mut Reader<D>)
+fn fill<D: Device, G: Gate>(
+    gate: &G,
+    chunks: Chunks,
+    from: u64,
+    sectors: u64,
+    reader: &mut Reader<D>,
+)
     requires inside { from + sectors ≤ chunks.size }
     requires room { 512 * sectors ≤ length reader.old.bytes.items }
     requires read_here { HasDataOnDevice D.Device chunks reader.old }
@@ -74,7 +85,13 @@ fn fill<D: Device, G: Gate>(gate: &G, chunks: Chunks, from: u64, sectors: u64, r
 }
 
 // Reads the window, of which these bytes were read of the first member, if the reader's member is in sync.
-fn follow<D: Device, G: Gate>(gate: &G, chunks: Chunks, from: u64, lead: &[u8], reader: &mut Reader<D>)
+fn follow<D: Device, G: Gate>(
+    gate: &G,
+    chunks: Chunks,
+    from: u64,
+    lead: &[u8],
+    reader: &mut Reader<D>,
+)
     requires whole { length lead.now % 512 ≡ 0 }
     requires inside { from + length lead.now / 512 ≤ chunks.size }
     requires room { length lead.now ≤ length reader.old.bytes.items }

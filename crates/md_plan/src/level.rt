@@ -5,10 +5,10 @@ ghost use Rattle.md_plan.specs.Cells.{AreAllowed};
 ghost use Rattle.md_plan.specs.Classes.{IsLevelled};
 
 use crate::cell::Cell;
+use crate::cells_by_source::{SourceCells, hand_on, list_by_source};
 use crate::direct::{light, move_directly};
 use crate::route::{Route, find_route, step_back};
 use crate::search::heavy;
-use crate::cells_by_source::{SourceCells, list_by_source, hand_on};
 use md_cert::{NoMemory, has_source};
 use std::alloc::Global;
 

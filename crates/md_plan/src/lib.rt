@@ -9,6 +9,7 @@
 mod balance;
 mod bound;
 mod cell;
+mod cells_by_source;
 mod certify;
 mod classes;
 mod direct;
@@ -22,7 +23,6 @@ mod ranking;
 mod reach;
 mod route;
 mod search;
-mod cells_by_source;
 mod shift;
 mod totals;
 

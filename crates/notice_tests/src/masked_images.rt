@@ -150,8 +150,18 @@ fn named_culprit<'a>(alloc: Global, words: &[&'a str]) -> Result<(&'a str, usize
 #[test]
 fn words_name_maps(rt: HostRuntime) -> Result<(), Fail> {
     let alloc = rt.alloc();
-    same_at(&rt, &"one", named_culprit(alloc, &["b.img=f=g"])?, ("f=g", 1));
-    same_at(&rt, &"two", named_culprit(alloc, &["b.img=f", "a.img="])?, ("", 0));
+    same_at(
+        &rt,
+        &"one",
+        named_culprit(alloc, &["b.img=f=g"])?,
+        ("f=g", 1),
+    );
+    same_at(
+        &rt,
+        &"two",
+        named_culprit(alloc, &["b.img=f", "a.img="])?,
+        ("", 0),
+    );
     same_at(&rt, &"none", named_culprit(alloc, &[])?, ("", 0));
     same_at(
         &rt,

@@ -116,8 +116,10 @@ impl Array {
     fn has_newcomer(&self, own: &Superblock) -> bool
         ensures { result ≡ has_newcomer self.now own.now }
     {
-        (0..self.shared.roles.max_dev())
-            .any(|number| came_since(self.shared.role_of(number), own.role_of(number)))
+        (0..self.shared.roles.max_dev()).any(|number| came_since(
+            self.shared.role_of(number),
+            own.role_of(number),
+        ))
     }
 
     // Whether each chunk that is marked in these is marked in memory.

@@ -1,7 +1,7 @@
 // Random tables: the planner and the plain one find the same number of rounds.
 use crate::checks::same;
-use crate::plans::plain_planner::fewest_rounds;
 use crate::plans::checked_plan::plan_masks;
+use crate::plans::plain_planner::fewest_rounds;
 use std::alloc::{AllocError, Global};
 use std::process::Abort;
 use std::test::Fail;
