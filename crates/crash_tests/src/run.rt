@@ -243,7 +243,7 @@ impl Run {
     }
 
     pub(crate) fn is_degraded(&self) -> bool {
-        self.mirror.is_degraded()
+        self.mirror.degraded()
     }
 
     // Drops the mirror: done here, that is proved once, and not at each exit of a test.

@@ -9,7 +9,7 @@ use Rattle.md_words.specs.Asks.{Ask, device_to_add, overwritten_by}
 use Rattle.md_words.specs.declared.overwritten.Overwritten.{Overwritten}
 use Rattle.md_cli.specs.declared.notices.Notices.{Notices}
 use Rattle.md_cli.specs.Noticed.{asks_first}
-use Rattle.md_cli.specs.Telling.{PutsTold, first_by, first_text, line_at, line_of_name}
+use Rattle.md_cli.specs.Telling.{PutsTold, first_by, first_text, line_at, line_of}
 
 pub told_or_failed : {E : Type 0} (e : Ghosts E) {a b : E} {text : List ℕ} (result : Result (Unit {0}) SinkFault) → PutsOrFails e.contents e.failed a b text result → PutsTold e a b text
 told_or_failed e (Ok v) h = inl h
@@ -26,5 +26,5 @@ module _ (line : Text → List ℕ) (which : List Bool) (names : List Text) (k :
   pub no_line_at : get_or which k false ≡ false → line_at line which names k ≡ []
   no_line_at e = rw e refl
 
-  pub its_line_at : (o : Option Text) → get_or which k false ≡ true → o ≡ slice_get names k → line_at line which names k ≡ line_of_name line o
-  its_line_at o e is = rw e (ap (line_of_name line) (sym is))
+  pub its_line_at : (o : Option Text) → get_or which k false ≡ true → o ≡ slice_get names k → line_at line which names k ≡ line_of line o
+  its_line_at o e is = rw e (ap (line_of line) (sym is))

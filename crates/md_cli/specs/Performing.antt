@@ -1,7 +1,7 @@
 -- What commands do with an opened array.
 use Rattle.std.specs.Prelude.{◌≡◌, ℕ, Bool, true, false, List, Some, Result, MatchResult}
 use Rattle.md_commands.specs.declared.source.Source.{Ghosts as SourceGhosts}
-use Rattle.md_commands.specs.Adding.{AddsDevice, KeepsDevice, RefusesAddedDevice}
+use Rattle.md_commands.specs.Adding.{AddsDevice, KeepsDevice, RefusesJoining}
 use Rattle.md_commands.specs.Checking.{ChecksMembers, ListsMismatches, RefusesToCheck, RefusesToList}
 use Rattle.md_commands.specs.Failing.{RefusesToFail}
 use Rattle.md_commands.specs.Filling.{ReadsFilled}
@@ -80,7 +80,7 @@ module _ {S : Type 0} (s : SinkGhosts S) where
     pub kept : KeepsDevice before.mirror.disks after.mirror.disks after.beside
     pub adds : MatchResult result
         (λ _. StopsArrayAfter s (AddsDevice device before.mirror) after.mirror old new)
-        (RefusesAddedDevice s device after.beside before.mirror after.mirror old new)
+        (RefusesJoining s device after.beside before.mirror after.mirror old new)
 
   -- it comes back, and gets what it lacks
   pub record PerformsReAdd (before after : OpenedView) (old new : S)

@@ -27,14 +27,14 @@ status_of (Ok _) = 0
 status_of (Err _) = 1
 
 -- nothing is done: no image is touched, nothing is read from the input, and nothing is written to the output
-abbrev pub IsAllUntouched : {I X : Type 0} → I → I → X → X → Type 0
-IsAllUntouched before after old new = (after ≡ before) × (new ≡ old)
+abbrev pub DoesNothing : {I X : Type 0} → I → I → X → X → Type 0
+DoesNothing before after old new = (after ≡ before) × (new ≡ old)
 
 module _ {I D S : Type 0} (i : ImagesGhosts I D) (g : DeviceGhosts D) (s : SinkGhosts S) where
   -- a report on one image
   pub record ExaminesImage (ask : Ask) (words : List Text) (before after : I) (old new : S)
       (result : Result (Unit {0}) CommandFault) : Type 0 where
-    pub count : length words ≢ 1 → (result ≡ Err fault.BadCount) × IsAllUntouched before after old new
+    pub count : length words ≢ 1 → (result ≡ Err fault.BadCount) × DoesNothing before after old new
     pub one : (name : Text) → words ≡ name ∷ []
         → ExaminesOne ask g s.contents s.failed (i.known before) (i.device_at before) (i.device_at after) name
         old new result
@@ -45,7 +45,7 @@ pub record RefusesOptions {I X : Type 0} (o : Options) (words : List Text) (befo
   pub first : OptionFault
   pub is_first : create_option_fault o (length words) ≡ Some first
   pub refused : result ≡ Err (fault.Options first)
-  pub idle : IsAllUntouched before after old new
+  pub idle : DoesNothing before after old new
 
 module _ {I D R S : Type 0} (i : ImagesGhosts I D) (g : DeviceGhosts D) (s : SinkGhosts S)
     (answered : Answers) where
@@ -74,19 +74,19 @@ module _ {I D R S : Type 0} (i : ImagesGhosts I D) (g : DeviceGhosts D) (r : Sou
         (access_of ask) (image_list false (names_with ask words)) before after old new result
 
   -- What each command does with the images that its words name. The input is read by `write` alone.
-  abbrev pub DoesAsked : Ask → List Text → I → I → Told R S → Told R S → Result (Unit {0}) CommandFault → Type 0
-  DoesAsked (examines form) words before after old new result =
+  abbrev pub Obeys : Ask → List Text → I → I → Told R S → Told R S → Result (Unit {0}) CommandFault → Type 0
+  Obeys (examines form) words before after old new result =
       (new.streams.input ≡ old.streams.input)
       × ExaminesImage i g s (examines form) words before after old.streams.output new.streams.output result
-  DoesAsked (examines_bitmap form) words before after old new result =
+  Obeys (examines_bitmap form) words before after old new result =
       (new.streams.input ≡ old.streams.input) × ExaminesImage i g s (examines_bitmap form) words before after
       old.streams.output new.streams.output result
-  DoesAsked (examines_badblocks form) words before after old new result =
+  Obeys (examines_badblocks form) words before after old new result =
       (new.streams.input ≡ old.streams.input) × ExaminesImage i g s (examines_badblocks form) words before
       after old.streams.output new.streams.output result
-  DoesAsked (creates o) words before after old new result =
+  Obeys (creates o) words before after old new result =
       MakesArray i g s answered o words before after old new result
-  DoesAsked ask words before after old new result = OpensArray ask words before after old new result
+  Obeys ask words before after old new result = OpensArray ask words before after old new result
 
   -- the command's own answer, whose status this is, and what it noticed, which is told beside it
   pub record DoesCommand (telling : Result (Unit {0}) CommandFault → Notices → Type 0) (ask : Ask)
@@ -94,6 +94,6 @@ module _ {I D R S : Type 0} (i : ImagesGhosts I D) (g : DeviceGhosts D) (r : Sou
     pub result : Result (Unit {0}) CommandFault
     pub status_is : status ≡ status_of result
     pub noticed : Notices
-    pub does : DoesAsked ask words before after (record { streams = old; notices = nothing })
+    pub does : Obeys ask words before after (record { streams = old; notices = nothing })
         (record { streams = new; notices = noticed }) result
     pub told : telling result noticed

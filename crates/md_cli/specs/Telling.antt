@@ -35,13 +35,13 @@ is_at_terminal WithAdvice = false
 is_at_terminal AtTerminal = true
 
 -- the line of a name that is there
-abbrev pub line_of_name : (Text → List ℕ) → Option Text → List ℕ
-line_of_name line None = []
-line_of_name line (Some name) = line name
+abbrev pub line_of : (Text → List ℕ) → Option Text → List ℕ
+line_of line None = []
+line_of line (Some name) = line name
 
 -- The line of the member in a place, where it gets one.
 abbrev pub line_at : (Text → List ℕ) → List Bool → List Text → ℕ → List ℕ
-line_at line which names k = if get_or which k false then line_of_name line (slice_get names k) else []
+line_at line which names k = if get_or which k false then line_of line (slice_get names k) else []
 
 -- the name of the member in a place, where there is one
 abbrev pub name_in : List Text → Option ℕ → Option Text
@@ -61,13 +61,13 @@ abbrev pub parted_line : Notices → List Text → Text → List ℕ
 parted_line n names = parted_from (name_in names n.source)
 
 -- The member in this place is the one that was asked of.
-abbrev pub is_asked_place : Option ℕ → ℕ → Bool
-is_asked_place None k = false
-is_asked_place (Some j) k = j == k
+abbrev pub is_at : Option ℕ → ℕ → Bool
+is_at None k = false
+is_at (Some j) k = j == k
 
 -- The line on a member that was used without those in sync, but for the one that was asked of before.
-abbrev pub parted_line_at : Option ℕ → Notices → List Text → ℕ → List ℕ
-parted_line_at before n names k = if is_asked_place before k then [] else line_at (parted_line n names) n.parted names k
+abbrev pub parted_at : Option ℕ → Notices → List Text → ℕ → List ℕ
+parted_at before n names k = if is_at before k then [] else line_at (parted_line n names) n.parted names k
 
 -- ---- devices that were not named
 abbrev pub unnamed_line : Option ℕ → ℕ → List ℕ
@@ -81,8 +81,8 @@ unnamed_at n role = unnamed_line (get_or n.unnamed role None) role
 abbrev pub dropped_line : Notices → Text → List ℕ
 dropped_line n name = dropped_text name n.in_sync n.raid_disks
 
-abbrev pub dropped_line_at : Notices → List Text → ℕ → List ℕ
-dropped_line_at n = line_at (dropped_line n) n.dropped
+abbrev pub dropped_at : Notices → List Text → ℕ → List ℕ
+dropped_at n = line_at (dropped_line n) n.dropped
 
 -- ---- what images hold
 abbrev pub held_line : Text → Held → List ℕ
@@ -120,9 +120,9 @@ each_lines each names = flat_map (each_at each names) (range_with_len 0 (length 
 unfoldable pub first_by : Overwritten → Option Text → List Text → Notices → List ℕ
 first_by overwritten.Nothing device names n = []
 first_by overwritten.Images device names n = each_lines (held_each n.each) names
-first_by overwritten.NewDevice device names n = line_of_name (new_line n) device
-first_by overwritten.ReturningDevice device names n = line_of_name (returning_line n names) device
-first_by (overwritten.Member k) device names n = line_of_name (parted_line n names) (slice_get names k)
+first_by overwritten.NewDevice device names n = line_of (new_line n) device
+first_by overwritten.ReturningDevice device names n = line_of (returning_line n names) device
+first_by (overwritten.Member k) device names n = line_of (parted_line n names) (slice_get names k)
 
 abbrev pub first_text : Ask → List Text → Notices → List ℕ
 first_text ask names n =
@@ -138,13 +138,13 @@ abbrev pub marked_lines : List Text → Notices → List ℕ
 marked_lines names n = flat_map (marked_at n names) (range_with_len 0 64)
 
 abbrev pub parted_lines : Option ℕ → List Text → Notices → List ℕ
-parted_lines before names n = flat_map (parted_line_at before n names) (range_with_len 0 64)
+parted_lines before names n = flat_map (parted_at before n names) (range_with_len 0 64)
 
 abbrev pub unnamed_lines : Notices → List ℕ
 unnamed_lines n = flat_map (unnamed_at n) (range_with_len 0 32)
 
 abbrev pub dropped_lines : List Text → Notices → List ℕ
-dropped_lines names n = flat_map (dropped_line_at n names) (range_with_len 0 64)
+dropped_lines names n = flat_map (dropped_at n names) (range_with_len 0 64)
 
 -- At a terminal what was said before is not said again.
 abbrev pub first_unless : Messages → Ask → List Text → Notices → List ℕ
@@ -159,7 +159,7 @@ noticed_text messages ask names n =
 
 -- a check that is done compared nothing, where one member is in sync alone
 abbrev pub uncompared_lines : Ask → List Text → Notices → List ℕ
-uncompared_lines (checks form readonly) names n = line_of_name uncompared_text (name_in names n.alone)
+uncompared_lines (checks form readonly) names n = line_of uncompared_text (name_in names n.alone)
 uncompared_lines ask names n = []
 
 -- what an image held that was added is lost

@@ -4,7 +4,7 @@ ghost use Rattle.clap.specs.Words.{FailsBy};
 ghost use Rattle.md_words.specs.Parsing.{asked, image_words, words_fault};
 ghost use Rattle.md_words.specs.Asks.{ask_of, options_of};
 ghost use Rattle.md_cli.specs.Arrays.{texts};
-ghost use Rattle.md_cli.specs.Running.{DoesAsked, DoesCommand, IsAllUntouched, MakesArray, status_of};
+ghost use Rattle.md_cli.specs.Running.{Obeys, DoesCommand, DoesNothing, MakesArray, status_of};
 ghost use Rattle.md_cli.specs.Telling.{TellsNoticed};
 ghost use Rattle.md_cli.specs.Streams.{streams_of, told_of};
 
@@ -30,7 +30,7 @@ use std::io::Write;
 use std::sync::Wait;
 use std::thread::Threads;
 
-/// DoesAsked what the words ask for, of which `parsed` is the parse; the first is the program's name. The status is 0 where it
+/// Obeys what the words ask for, of which `parsed` is the parse; the first is the program's name. The status is 0 where it
 /// is done, 1 where it is refused and 2 where the words are not taken, or ask for help.
 ///
 /// Out of memory in the parse is status 2 too. That it is answered only then is tested, since no
@@ -63,9 +63,9 @@ pub fn run<
     requires images { IfOk parsed (λ r. texts r.images.items ≡ image_words (texts words.now)) }
     requires fails { FailsBy (words_fault (texts words.now)) parsed }
     ensures refused { words_fault (texts words.entry.now) ≢ [] →
-        (result ≡ 2) × IsAllUntouched images.old images.new (streams_of session.old) (streams_of session.new) }
+        (result ≡ 2) × DoesNothing images.old images.new (streams_of session.old) (streams_of session.new) }
     ensures taken { words_fault (texts words.entry.now) ≡ [] →
-        ((result ≡ 2) × IsAllUntouched images.old images.new (streams_of session.old) (streams_of session.new))
+        ((result ≡ 2) × DoesNothing images.old images.new (streams_of session.old) (streams_of session.new))
         ⊎ DoesCommand I.Images I.Dev.Device R.Source S.Sink (W.Asker.answered session.old.watch.now)
         (TellsNoticed E.Sink messages (asked (texts words.entry.now)) (image_words (texts words.entry.now))
         err.old err.new)
@@ -95,7 +95,7 @@ pub fn run<
     )
 }
 
-// DoesAsked a command on the images that are named. `notices` gets what their array tells as it is opened.
+// Obeys a command on the images that are named. `notices` gets what their array tells as it is opened.
 fn act<
     I: Images,
     T: Threads + Wait + Sync,
@@ -109,7 +109,7 @@ fn act<
     names: &[&str],
     notices: &mut Notices,
 ) -> Result<(), CommandFault>
-    ensures gives { DoesAsked I.Images I.Dev.Device R.Source S.Sink (W.Asker.answered session.old.watch.now)
+    ensures gives { Obeys I.Images I.Dev.Device R.Source S.Sink (W.Asker.answered session.old.watch.now)
         (ask_of command.entry) (texts names.now)
         images.old images.new (told_of session.old notices.old) (told_of session.new notices.new) result }
     ensures flushed { IfOk result (λ _. S.is_flushed session.new.out) }

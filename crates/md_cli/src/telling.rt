@@ -5,7 +5,7 @@ ghost use Rattle.md_words.specs.Asks.{ask_of, overwritten_by};
 ghost use Rattle.md_cli.specs.Arrays.{texts};
 ghost use Rattle.md_cli.specs.Holding.{held_each};
 ghost use Rattle.md_cli.specs.Noticed.{asks_first};
-ghost use Rattle.md_cli.specs.Telling.{asked_member, dropped_line_at, dropped_line, dropped_lines, each_lines, first_by, first_text, first_unless, has_joined, held_line, held_line_of, is_asked_place, line_of_name, lost_lines, marked_at, marked_lines, name_in, new_line, noticed_text, parted_line_at, parted_line, parted_lines, refused_text, returning_line, told_text, uncompared_lines, unnamed_at, unnamed_lines};
+ghost use Rattle.md_cli.specs.Telling.{asked_member, dropped_at, dropped_line, dropped_lines, each_lines, first_by, first_text, first_unless, has_joined, held_line, held_line_of, is_at, line_of, lost_lines, marked_at, marked_lines, name_in, new_line, noticed_text, parted_at, parted_line, parted_lines, refused_text, returning_line, told_text, uncompared_lines, unnamed_at, unnamed_lines};
 
 use crate::messages::Messages;
 use crate::notices::Notices;
@@ -93,7 +93,7 @@ fn put_parted_of<S: Sink>(
     name: Option<&str>,
 ) -> Result<(), SinkFault>
     ensures { PutsOrFails S.contents S.failed out.old out.new
-        (line_of_name (parted_line notices.now (texts names.now)) (option_map (λ s. s.now) name.entry)) result }
+        (line_of (parted_line notices.now (texts names.now)) (option_map (λ s. s.now) name.entry)) result }
 {
     match name {
         Some(name) => put_parted(out, notices, names, name),
@@ -102,7 +102,7 @@ fn put_parted_of<S: Sink>(
 }
 
 fn is_place(place: Option<usize>, k: usize) -> bool
-    ensures { result ≡ is_asked_place place k }
+    ensures { result ≡ is_at place k }
 {
     match place {
         Some(j) => j == k,
@@ -119,7 +119,7 @@ fn put_parted_at<S: Sink>(
 ) -> Result<(), SinkFault>
     requires { k < 64 }
     ensures { PutsOrFails S.contents S.failed out.old out.new
-        (parted_line_at before notices.now (texts names.now) k) result }
+        (parted_at before notices.now (texts names.now) k) result }
 {
     if is_place(before, k) {
         return out.put(b"");
@@ -174,7 +174,7 @@ fn put_dropped<S: Sink>(
 ) -> Result<(), SinkFault>
     requires { k < 64 }
     ensures { PutsOrFails S.contents S.failed out.old out.new
-        (dropped_line_at notices.now (texts names.now) k) result }
+        (dropped_at notices.now (texts names.now) k) result }
 {
     if !notices.dropped[k] {
         return out.put(b"");
@@ -204,7 +204,7 @@ fn put_returning<S: Sink>(
     name: Option<&str>,
 ) -> Result<(), SinkFault>
     ensures { PutsOrFails S.contents S.failed out.old out.new
-        (line_of_name (returning_line notices.now (texts names.now)) (option_map (λ s. s.now) name.entry)) result }
+        (line_of (returning_line notices.now (texts names.now)) (option_map (λ s. s.now) name.entry)) result }
 {
     match name {
         Some(name) if notices.held.is_unseen() => unseen_line(out, name),
@@ -269,7 +269,7 @@ fn put_all_held<S: Sink>(out: &mut S, notices: &Notices, names: &[&str]) -> Resu
 // What the image holds that is to be added.
 fn put_new<S: Sink>(out: &mut S, notices: &Notices, name: Option<&str>) -> Result<(), SinkFault>
     ensures { PutsOrFails S.contents S.failed out.old out.new
-        (line_of_name (new_line notices.now) (option_map (λ s. s.now) name.entry)) result }
+        (line_of (new_line notices.now) (option_map (λ s. s.now) name.entry)) result }
 {
     match name {
         Some(name) if notices.own => forgotten_line(out, name),

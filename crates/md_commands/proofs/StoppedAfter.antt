@@ -6,7 +6,7 @@ use Rattle.md_state.specs.Steps.Fail.{FailsMember}
 use Rattle.md_state.specs.View.{Disk, MirrorView}
 use Rattle.md_commands.specs.declared.fault.CommandFault.{CommandFault}
 use Rattle.md_commands.specs.declared.fault.CommandFault.TheVariants.{Add, BadMember, Fail, Remove}
-use Rattle.md_commands.specs.Adding.{AddsDevice, RefusesAddedDevice}
+use Rattle.md_commands.specs.Adding.{AddsDevice, RefusesJoining}
 use Rattle.md_commands.specs.Failing.{RefusesFailing, RefusesToFail}
 use Rattle.md_commands.specs.Removing.{RefusesRemoving, RefusesToRemove, RemovesMember}
 use Rattle.md_commands.specs.Stopping.{RefusesToStop, StopsArray, StopsArrayAfter}
@@ -29,7 +29,7 @@ module _ {S : Type 0} (s : Ghosts S) (k : ℕ) (old mid new : MirrorView) (befor
 -- the device joined
 module _ {S : Type 0} (s : Ghosts S) (device : Disk) (given : Option Disk) (old mid new : MirrorView) (before after : S) where
   pub added_or_not : AddsDevice device old mid → (result : Result (Unit {0}) CommandFault) → MatchResult result (λ _. StopsArray s mid new before after) (RefusesToStop s mid new before after)
-      → MatchResult result (λ _. StopsArrayAfter s (AddsDevice device old) new before after) (RefusesAddedDevice s device given old new before after)
+      → MatchResult result (λ _. StopsArrayAfter s (AddsDevice device old) new before after) (RefusesJoining s device given old new before after)
   added_or_not joins (Ok x) h = record { mid = mid; through = joins; stops = h }
   added_or_not joins (Err (Add fault)) h = absurd h
   added_or_not joins (Err fault) h = record { mid = mid; through = joins; refused = h }

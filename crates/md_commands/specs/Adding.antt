@@ -26,8 +26,8 @@ KeepsDevice old new (Some d) = length new ≡ length old
 
 module _ {S : Type 0} (s : Ghosts S) where
   -- it does not join, and nothing is put out; or it does, and then the array is not stopped, or not shown
-  abbrev pub RefusesAddedDevice : Disk → Option Disk → MirrorView → MirrorView → S → S → CommandFault → Type 0
-  RefusesAddedDevice device given old new before after (Add fault) =
+  abbrev pub RefusesJoining : Disk → Option Disk → MirrorView → MirrorView → S → S → CommandFault → Type 0
+  RefusesJoining device given old new before after (Add fault) =
       HandsBackUnadded device given old new fault × (after ≡ before)
-  RefusesAddedDevice device given old new before after fault =
+  RefusesJoining device given old new before after fault =
       FailsToStopArray s (AddsDevice device old) new before after fault

@@ -25,7 +25,8 @@ pub record HoldsAsMuch (old new : MirrorView) : Type 0 where
 pub record LeavesSources (old new : MirrorView) : Type 0 where
   pub marked : (s from k : ℕ) (m n : MemberView) (d e : Disk) → s < old.array.chunks.size
       → IsSectorMarked old.array s → IsSource from s old.array
-      → IsMember old.array from m → slice_get old.disks from ≡ Some d → IsHonestMember new k n e → (Lists n s → ⊥)
+      → IsMember old.array from m → slice_get old.disks from ≡ Some d → IsHonestMember new k n e
+      → (Lists n s → ⊥)
       → sector_of n e s ≡ sector_of m d s
   pub unmarked : (s k : ℕ) (m n : MemberView) (d e : Disk) → s < old.array.chunks.size
       → IsUnmarkedAt old.array s

@@ -4,7 +4,7 @@ ghost use Rattle.md_requests.specs.Pending.{PendingView};
 ghost use Rattle.md_state.specs.Requests.{IsPending};
 ghost use Rattle.md_state.specs.View.{disk_of};
 ghost use Rattle.md_array.specs.Consistency.{IsConsistent};
-ghost use Rattle.md_commands.specs.Adding.{AddsDevice, KeepsDevice, RefusesAddedDevice};
+ghost use Rattle.md_commands.specs.Adding.{AddsDevice, KeepsDevice, RefusesJoining};
 ghost use Rattle.md_commands.specs.Stopping.{StopsArrayAfter};
 
 use crate::fault::CommandFault;
@@ -32,7 +32,7 @@ pub fn add_device<D: Device + Drop, S: Sink>(
     ensures gives { MatchResult result.1
         (λ _. StopsArrayAfter S.Sink (AddsDevice (disk_of D.Device device) mirror.old) mirror.new out.old
         out.new)
-        (RefusesAddedDevice S.Sink (disk_of D.Device device) (option_map (disk_of D.Device) result.0) mirror.old
+        (RefusesJoining S.Sink (disk_of D.Device device) (option_map (disk_of D.Device) result.0) mirror.old
         mirror.new out.old out.new) }
     ensures device { KeepsDevice mirror.old.disks mirror.new.disks (option_map (disk_of D.Device) result.0) }
     ensures sound { IsConsistent mirror.new }

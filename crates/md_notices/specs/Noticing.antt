@@ -17,8 +17,8 @@ so_of holds None = false
 so_of holds (Some m) = holds m
 
 -- the member in this place was used without those in sync
-abbrev pub parted_at : List MemberView → ℕ → Bool
-parted_at members k = so_of (is_parted members) (slice_get members k)
+abbrev pub is_parted_at : List MemberView → ℕ → Bool
+is_parted_at members k = so_of (is_parted members) (slice_get members k)
 
 -- the bitmap of the member in this place, which is in sync, did not tell of the array as it was opened: marks were stored on it
 pub record WasMarkedAtOpening (members : List MemberView) (k : ℕ) (marked : Bool) : Type 0 where
@@ -34,7 +34,7 @@ abbrev pub state_at : List MemberView → ℕ → Option MemberState
 state_at members k = option_map (λ (m : MemberView). m.state) (slice_get members k)
 
 abbrev pub all_parted : List MemberView → List Bool
-all_parted members = map (parted_at members) (range_with_len 0 64)
+all_parted members = map (is_parted_at members) (range_with_len 0 64)
 
 abbrev pub all_states : List MemberView → List (Option MemberState)
 all_states members = map (state_at members) (range_with_len 0 64)
@@ -60,12 +60,12 @@ dropped_from (Some before) (Some after) = dropped_out before after
 
 -- The member in this place before a command dropped out in it, and not because it was asked for. `was` has the states before it, and
 -- `members` are those after it.
-abbrev pub dropped_at : List (Option MemberState) → List MemberView → Asked → ℕ → Bool
-dropped_at was members asked k =
+abbrev pub is_dropped_at : List (Option MemberState) → List MemberView → Asked → ℕ → Bool
+is_dropped_at was members asked k =
     not (is_place asked.failed k) && dropped_from (get_or was k None) (state_there members (place_after asked.left k))
 
 abbrev pub all_dropped : List (Option MemberState) → List MemberView → Asked → List Bool
-all_dropped was members asked = map (dropped_at was members asked) (range_with_len 0 64)
+all_dropped was members asked = map (is_dropped_at was members asked) (range_with_len 0 64)
 
 -- how many members are in sync
 abbrev pub in_sync_count : List MemberView → ℕ

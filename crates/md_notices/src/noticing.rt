@@ -1,6 +1,6 @@
 // What is noticed of all members and roles of an array, by their places.
 ghost use Rattle.std.specs.Prelude.{◌≡◌, ◌<◌};
-ghost use Rattle.md_notices.specs.Noticing.{WereMarkedAtOpening, AreUnnamed, WasMarkedAtOpening, IsUnnamedAt, all_dropped, all_parted, all_states, dropped_at, dropped_from, in_sync_count, is_place, parted_at, place_after, state_at, state_there};
+ghost use Rattle.md_notices.specs.Noticing.{WereMarkedAtOpening, AreUnnamed, WasMarkedAtOpening, IsUnnamedAt, all_dropped, all_parted, all_states, is_dropped_at, dropped_from, in_sync_count, is_place, is_parted_at, place_after, state_at, state_there};
 
 use crate::dropping_out::dropped_out;
 use crate::parting::is_parted;
@@ -24,7 +24,7 @@ pub struct Asked {
 }
 
 fn is_parted_at<D: Device + Drop>(mirror: &Mirror<D>, k: usize) -> bool
-    ensures { result ≡ parted_at mirror.now.array.members k }
+    ensures { result ≡ is_parted_at mirror.now.array.members k }
 {
     if k >= mirror.members() {
         return false;
@@ -137,7 +137,7 @@ fn is_dropped_at<D: Device + Drop>(
     k: usize,
 ) -> bool
     requires { k < 64 }
-    ensures { result ≡ dropped_at was.now mirror.now.array.members asked k }
+    ensures { result ≡ is_dropped_at was.now mirror.now.array.members asked k }
 {
     if is_place(asked.failed, k) {
         return false;

@@ -113,7 +113,7 @@ impl<'a> Progress<'a> {
 
     fn milliseconds(&self) -> Option<u64> {
         let began = self.began?;
-        let elapsed = began.elapsed_time(self.rt).ok()?;
+        let elapsed = began.elapsed(self.rt).ok()?;
         Some(
             elapsed
                 .as_secs()

@@ -4,7 +4,7 @@ use Rattle.md_words.specs.Parsing.{asked, image_words, words_fault}
 use Rattle.md_words.specs.Asks.{Ask, ask_of}
 use Rattle.md_cli.specs.declared.notices.Notices.{Notices}
 use Rattle.md_cli.specs.Arrays.{texts}
-use Rattle.md_cli.specs.Running.{DoesAsked}
+use Rattle.md_cli.specs.Running.{Obeys}
 use Rattle.md_cli.specs.Noticed.{nothing}
 use Rattle.md_cli.specs.Streams.{streams_of, told_of}
 use Rattle.md_cli.specs.Telling.{TellsNoticed}
@@ -21,7 +21,7 @@ returns-clause-taken g c taken =
     let images : texts c.in-Ok.request.images.items ≡ image_words words = subst (λ parsed. IfOk parsed (λ r. texts r.images.items ≡ image_words words)) c.in-Ok.is c.requires.images in
     let names_are : texts c.as_slice-names.result.now ≡ image_words words = ap texts c.as_slice-names.ensures.value ∙ images in
     let Doing : Notices → Ask → List Text → Type 0 =
-    λ noticed ask names. DoesAsked g.I.Images g.I.Dev.Device g.R.Source g.S.Sink (g.W.Asker.answered c.args.session.now.watch.now) ask names c.args.images.now c.act-outcome.new.images (told_of c.args.session.now noticed) (told_of c.act-outcome.new.session c.act-outcome.new.notices) c.act-outcome.result in
+    λ noticed ask names. Obeys g.I.Images g.I.Dev.Device g.R.Source g.S.Sink (g.W.Asker.answered c.args.session.now.watch.now) ask names c.args.images.now c.act-outcome.new.images (told_of c.args.session.now noticed) (told_of c.act-outcome.new.session c.act-outcome.new.notices) c.act-outcome.result in
     let none : c.none-notices.result ≡ nothing = c.none-notices.ensures in
     let Telling : Ask → List Text → Type 0 =
     λ ask names. TellsNoticed g.E.Sink c.args.messages ask names c.args.err.now c.answer.new.err c.act-outcome.result c.act-outcome.new.notices in
