@@ -39,7 +39,7 @@ impl Array {
         ensures { (m : MemberView) → IsMember self.now k m → IsFirstEnd self.now m copied.now result }
     {
         for chunk in 0..self.marks.chunks() {
-            if self.crashes(k, copied, chunk) {
+            if self.ends_checkpoint(k, copied, chunk) {
                 return u64::from(chunk) * u64::from(self.chunks.sectors);
             }
         }
