@@ -39,9 +39,7 @@ fn store_member_marks<D: Device + Drop>(mirror: &mut Mirror<D>, k: usize) -> Res
     ensures in_sync { IfErr result (FailsInSync mirror.old.array) }
 {
     for block in 0..sectors_of_bitmap(mirror.marks().chunks()) {
-        if let Err(fault) = store_unlike(mirror, k, block) {
-            return Err(fault);
-        }
+        store_unlike(mirror, k, block)?;
     }
     Ok(())
 }
@@ -55,9 +53,7 @@ pub fn store_all_marks<D: Device + Drop>(mirror: &mut Mirror<D>) -> Result<(), P
     ensures in_sync { IfErr result (FailsInSync mirror.old.array) }
 {
     for k in 0..mirror.members() {
-        if let Err(fault) = store_member_marks(mirror, k) {
-            return Err(fault);
-        }
+        store_member_marks(mirror, k)?;
     }
     Ok(())
 }

@@ -25,12 +25,8 @@ pub fn store_list<D: Device + Drop>(mirror: &mut Mirror<D>, k: usize) -> Result<
     requires earlier { (j : ℕ) (m : MemberView) → j < k → IsInSync mirror.old.array j m → IsNotDue m }
     ensures { MatchResult result (λ _. StoresList k mirror.old mirror.new) (ListFails k mirror.old mirror.new) }
 {
-    if let Err(fault) = store_member_log(mirror, k) {
-        return Err(fault);
-    }
-    if let Err(fault) = store_sector(mirror, k, 0) {
-        return Err(fault);
-    }
+    store_member_log(mirror, k)?;
+    store_sector(mirror, k, 0)?;
     store_record(mirror, k)
 }
 

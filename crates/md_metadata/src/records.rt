@@ -42,9 +42,7 @@ fn store_due_record<D: Device + Drop>(mirror: &mut Mirror<D>, k: usize) -> Resul
     if !mirror.state(k).is_in_sync() || !mirror.due(k) {
         return Ok(());
     }
-    if let Err(fault) = store_sector(mirror, k, 0) {
-        return Err(fault);
-    }
+    store_sector(mirror, k, 0)?;
     store_record(mirror, k)
 }
 
@@ -72,9 +70,7 @@ pub fn store_records<D: Device + Drop>(mirror: &mut Mirror<D>) -> Result<(), Par
     ensures in_sync { IfErr result (FailsInSync mirror.old.array) }
 {
     for k in 0..mirror.members() {
-        if let Err(fault) = store_due_record(mirror, k) {
-            return Err(fault);
-        }
+        store_due_record(mirror, k)?;
     }
     Ok(())
 }
@@ -88,9 +84,7 @@ pub fn store_other_records<D: Device + Drop>(mirror: &mut Mirror<D>) -> Result<(
     ensures { MatchResult result (λ _. RecordsAll mirror.old mirror.new) (StoringFails IsRecording mirror.old mirror.new) }
 {
     for k in 0..mirror.members() {
-        if let Err(fault) = store_other_record(mirror, k) {
-            return Err(fault);
-        }
+        store_other_record(mirror, k)?;
     }
     Ok(())
 }

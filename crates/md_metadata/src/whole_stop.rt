@@ -27,9 +27,7 @@ pub fn stop<D: Device + Drop>(mirror: &mut Mirror<D>) -> Result<(), StopFault>
     ensures sound { IsConsistent mirror.new }
     ensures pending { (p : PendingView) → IsPending mirror.old.array p → IsPending mirror.new.array p }
 {
-    if let Err(fault) = check_stop(mirror) {
-        return Err(fault);
-    }
+    check_stop(mirror)?;
     let clears = clears_marks(mirror);
     clear_if_full(mirror);
     clean_if_active(mirror);
@@ -109,11 +107,7 @@ fn store_cleaned<D: Device + Drop>(mirror: &mut Mirror<D>, clears: bool) -> Resu
     requires running { mirror.old.array.halted ≡ false }
     ensures { MatchResult result (λ _. StoresCleaned clears mirror.old mirror.new) (StoringFails (IsStoringIf clears) mirror.old mirror.new) }
 {
-    if let Err(fault) = store_marks_if(mirror, clears) {
-        return Err(fault);
-    }
-    if let Err(fault) = store_records(mirror) {
-        return Err(fault);
-    }
+    store_marks_if(mirror, clears)?;
+    store_records(mirror)?;
     store_other_records(mirror)
 }

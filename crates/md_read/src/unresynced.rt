@@ -69,12 +69,9 @@ fn read_parts<D: Device + Drop>(
         let at = sector + done as u64 / 512;
         let few = most.min((buf.len() - done) / 512);
         let sectors = of_one_chunk(mirror, at, few as u64) as usize;
-        let given = match read_part(mirror, at, &mut buf[done..done + 512 * sectors]) {
-            Ok(given) => given as usize,
-            Err(fault) => return Err(fault),
-        };
-        done += 512 * given;
-        most = 2 * given;
+        let given = read_part(mirror, at, &mut buf[done..done + 512 * sectors])?;
+        done += 512 * given as usize;
+        most = 2 * given as usize;
     }
     Ok(())
 }

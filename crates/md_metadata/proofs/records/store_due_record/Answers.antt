@@ -1,4 +1,4 @@
-use Rattle.std.proofs.Common.{◌≡◌, true}
+use Rattle.std.proofs.Common.{◌≡◌, Err, rules, true}
 use Rattle.md_kept_members.specs.View.{MemberView}
 use Rattle.md_state.specs.Members.{IsMember}
 use Rattle.md_state.specs.Steps.WriteMember.{IsNotDue}
@@ -37,35 +37,38 @@ store_sector-requires-clause-due g c =
     header_due c.args.mirror.now.array c.args.k
     (λ m at. let due = told (λ x. x.due) c.args.mirror.now.array c.args.k m c.due.result c.due.ensures at in let yes = c.if-not-due.false in cc)
 
-pub returns-in-Err-clause-gives : goal.returns-in-Err-clause-gives
-returns-in-Err-clause-gives g c =
+pub returns-in_err-store_sector-clause-gives : goal.returns-in_err-store_sector-clause-gives
+returns-in_err-store_sector-clause-gives g c =
     let k = c.args.k in
     let old = c.args.mirror.now in
     let new = c.store_sector.new.mirror in
-    stops_as (IsSector k 0) IsRecording (first_records k) old new c.in-Err.fault (sector_stops k 0 old new c.in-Err.fault c.in-Err.ensures)
+    let is : c.from_residual.result ≡ Err c.in_err-store_sector.field-0.0 = search rules in
+    rw is (stops_as (IsSector k 0) IsRecording (first_records k) old new c.in_err-store_sector.field-0.0 (sector_stops k 0 old new c.in_err-store_sector.field-0.0 c.in_err-store_sector.ensures))
 
-pub returns-in-Err-clause-in_sync : goal.returns-in-Err-clause-in_sync
-returns-in-Err-clause-in_sync g c =
-    sector_in_sync c.args.k 0 c.args.mirror.now c.store_sector.new.mirror c.in-Err.fault
+pub returns-in_err-store_sector-clause-in_sync : goal.returns-in_err-store_sector-clause-in_sync
+returns-in_err-store_sector-clause-in_sync g c =
+    let is : c.from_residual.result ≡ Err c.in_err-store_sector.field-0.0 = search rules in
+    rw is
+    (sector_in_sync c.args.k 0 c.args.mirror.now c.store_sector.new.mirror c.in_err-store_sector.field-0.0
     (λ m at.
     let state = told (λ x. x.state) c.args.mirror.now.array c.args.k m c.state.result c.state.ensures at in
     let answer = c.is_in_sync.ensures in
     let yes = c.if-not-is_in_sync.false in
     cc)
-    c.in-Err.ensures
+    c.in_err-store_sector.ensures)
 
 pub store_record-requires-clause-active : goal.store_record-requires-clause-active
-store_record-requires-clause-active g c = still_recorded c.args.k c.args.mirror.now c.store_sector.new.mirror c.in_default.ensures
+store_record-requires-clause-active g c = still_recorded c.args.k c.args.mirror.now c.store_sector.new.mirror c.in_ok-store_sector.ensures
 
 pub returns-clause-gives : goal.returns-clause-gives
 returns-clause-gives g c =
     let k = c.args.k in
     let old = c.args.mirror.now in
     let mid = c.store_sector.new.mirror in
-    let s = c.in_default.ensures in
+    let s = c.in_ok-store_sector.ensures in
     let due : (m : MemberView) → IsMember old.array k m → m.due ≡ true =
     λ m at. let told_due = told (λ x. x.due) old.array k m c.due.result c.due.ensures at in let yes = c.if-not-due.false in cc in
     recorded_or_stops k old mid s c.store_record.new.mirror (header_due old.array k due) (in_sync_due k old mid s due c.requires.earlier) c.store_record.result c.store_record.ensures
 
 pub returns-clause-in_sync : goal.returns-clause-in_sync
-returns-clause-in_sync g c = record_in_sync c.args.k c.args.mirror.now c.store_sector.new.mirror c.store_record.new.mirror c.in_default.ensures c.store_record.result c.store_record.ensures
+returns-clause-in_sync g c = record_in_sync c.args.k c.args.mirror.now c.store_sector.new.mirror c.store_record.new.mirror c.in_ok-store_sector.ensures c.store_record.result c.store_record.ensures

@@ -1,4 +1,4 @@
-use Rattle.std.proofs.Common.{◌∙◌, arith, refl}
+use Rattle.std.proofs.Common.{◌∙◌, ◌≡◌, arith, Err, refl, rules}
 use Rattle.md_state.specs.Steps.WriteMember.{IsNotDue}
 use Rattle.md_metadata.specs.Storing.{IsRecording}
 use Rattle.md_metadata.proofs.Going.{stops_on}
@@ -25,11 +25,13 @@ pub store_other_record-requires-clause-recorded : goal.store_other_record-requir
 store_other_record-requires-clause-recorded g c =
     last_on IsRecording IsNotDue c.args.mirror.now c.args.mirror.now c.loop-k.mirror (records_last c.args.mirror.now.array.marks) refl c.requires.recorded c.loop-k.invariant.stores
 
-pub returns-in-Err : goal.returns-in-Err
-returns-in-Err g c = stops_on IsRecording c.args.mirror.now c.loop-k.mirror c.store_other_record.new.mirror c.in-Err.fault c.loop-k.invariant.stores c.in-Err.ensures
+pub returns-in_err-store_other_record : goal.returns-in_err-store_other_record
+returns-in_err-store_other_record g c =
+    let is : c.from_residual.result ≡ Err c.in_err-store_other_record.field-0.0 = search rules in
+    rw is (stops_on IsRecording c.args.mirror.now c.loop-k.mirror c.store_other_record.new.mirror c.in_err-store_other_record.field-0.0 c.loop-k.invariant.stores c.in_err-store_other_record.ensures)
 
 pub loop-k-preserved : goal.loop-k-preserved
-loop-k-preserved g c = recorded_more c.loop-k.k c.args.mirror.now c.loop-k.mirror c.store_other_record.new.mirror c.loop-k.invariant c.in_default.ensures
+loop-k-preserved g c = recorded_more c.loop-k.k c.args.mirror.now c.loop-k.mirror c.store_other_record.new.mirror c.loop-k.invariant c.in_ok-store_other_record.ensures
 
 pub returns : goal.returns
 returns g c =

@@ -10,7 +10,7 @@ returns-in-Ok-clause-gives g c =
     let b = c.clear_if_full.new.mirror in
     let d = c.clean_if_active.new.mirror in
     let e = c.store_cleaned.new.mirror in
-    stops old b d c.clear_if_full.ensures c.clean_if_active.ensures c.in_default.ensures e (subst (λ (x : Bool). StoresCleaned x d e) c.clears_marks-clears.ensures c.in-Ok.ensures)
+    stops old b d c.clear_if_full.ensures c.clean_if_active.ensures c.in_ok-check_stop.ensures e (subst (λ (x : Bool). StoresCleaned x d e) c.clears_marks-clears.ensures c.in-Ok.ensures)
 
 pub returns-in-Err-Halted-clause-gives : goal.returns-in-Err-Halted-clause-gives
 returns-in-Err-Halted-clause-gives g c =
@@ -20,7 +20,7 @@ returns-in-Err-Halted-clause-gives g c =
     let e = c.store_cleaned.new.mirror in
     let at = c.in-Err-Halted in
     let stopped = subst (StoringFails (IsStoringIf c.clears_marks-clears.result) d e) at.field-0-is at.ensures in
-    inr (stop_halts old b d c.clear_if_full.ensures c.clean_if_active.ensures c.in_default.ensures e
+    inr (stop_halts old b d c.clear_if_full.ensures c.clean_if_active.ensures c.in_ok-check_stop.ensures e
     (subst (λ (x : Bool). HaltsStoring (IsStoringIf x) d e) c.clears_marks-clears.ensures stopped).halts)
 
 pub returns-in-Err-MemberFailed-clause-gives : goal.returns-in-Err-MemberFailed-clause-gives
@@ -31,5 +31,5 @@ returns-in-Err-MemberFailed-clause-gives g c =
     let e = c.store_cleaned.new.mirror in
     let at = c.in-Err-MemberFailed in
     let stopped = subst (StoringFails (IsStoringIf c.clears_marks-clears.result) d e) at.field-0-is at.ensures in
-    stop_fails old b d c.clear_if_full.ensures c.clean_if_active.ensures c.in_default.ensures e at.k
+    stop_fails old b d c.clear_if_full.ensures c.clean_if_active.ensures c.in_ok-check_stop.ensures e at.k
     (subst (λ (x : Bool). LosesStoring (IsStoringIf x) at.k d e) c.clears_marks-clears.ensures stopped)

@@ -1,4 +1,4 @@
-use Rattle.std.proofs.Common.{◌≡◌, ◌∙◌, ◌+◌, ◌*◌, ◌-◌, ◌/◌, ◌%◌, ◌<◌, ◌≤◌, ℕ, List, length, drop, take, min, refl, sym, ap, subst, arith, length-drop}
+use Rattle.std.proofs.Common.{◌%◌, ◌*◌, ◌+◌, ◌-◌, ◌/◌, ◌<◌, ◌∙◌, ◌≡◌, ◌≤◌, ap, arith, drop, Err, length, length-drop, List, min, refl, rules, subst, sym, take, ℕ}
 use Rattle.std.proofs.lemmas.List.{length-take-le}
 use Rattle.std.proofs.lemmas.Slice.{take-put_mid_below}
 use borrow.Rule.Slice.PartMut.{put_mid}
@@ -31,8 +31,8 @@ as_tried buf done sectors within =
     let past = length-drop done buf in
     length-take-le (done + 512 * sectors - done) (drop done buf) (omega arith) ∙ omega arith
 
-pub returns-in-Err : goal.returns-in-Err
-returns-in-Err g c =
+pub returns-in_err-given : goal.returns-in_err-given
+returns-in_err-given g c =
     let old = c.args.mirror.now in
     let mid = c.loop-done.mirror in
     let new = c.read_part.new.mirror in
@@ -49,10 +49,12 @@ returns-in-Err g c =
     let as_long : length bytes ≡ 512 * sectors = c.read_part.auto.buf ∙ as_tried was done sectors tries.1 in
     let long = length-replaced done rest was bytes (omega arith) (omega arith) (omega arith) in
     let whole = so_far.whole in
-    let front : take (512 * (c.args.sector + done / 512 - c.args.sector)) (put_mid done rest was bytes) ≡ take done was =
+    let is : c.from_residual.result ≡ Err c.in_err-given.field-0.0 = search rules in
+    rw is
+    (let front : take (512 * (c.args.sector + done / 512 - c.args.sector)) (put_mid done rest was bytes) ≡ take done was =
     ap (λ (n : ℕ). take n (put_mid done rest was bytes)) (omega arith) ∙ take-put_mid_below done rest was bytes done (omega arith) (omega arith) in
-    ended c.args.sector (c.args.sector + done / 512) (put_mid done rest was bytes) old mid new c.in-Err.fault c.in-Err.ensures so_far.rests (omega arith) (omega arith)
-    (subst (λ (xs : List ℕ). GivesParts c.args.sector xs old mid) (sym front) so_far.given)
+    ended c.args.sector (c.args.sector + done / 512) (put_mid done rest was bytes) old mid new c.in_err-given.field-0.0 c.in_err-given.ensures so_far.rests (omega arith) (omega arith)
+    (subst (λ (xs : List ℕ). GivesParts c.args.sector xs old mid) (sym front) so_far.given))
 
 pub loop-done-preserved : goal.loop-done-preserved
 loop-done-preserved g c =
@@ -60,7 +62,7 @@ loop-done-preserved g c =
     let mid = c.loop-done.mirror in
     let new = c.read_part.new.mirror in
     let so_far = c.loop-done.invariant in
-    let front = c.in-Ok.ensures in
+    let front = c.in_ok-given.ensures in
     let done = c.loop-done.done in
     let was = c.loop-done.buf in
     let bytes = c.read_part.new.buf in
@@ -75,7 +77,7 @@ loop-done-preserved g c =
     let as_long : length bytes ≡ 512 * sectors = c.read_part.auto.buf ∙ taken in
     let few = front.few in
     let some = front.some in
-    let given : ℕ = c.in-Ok.given in
+    let given : ℕ = c.in_ok-given.given in
     let run = take (512 * given) bytes in
     let rests = part_rests (c.args.sector + done / 512) run mid new front.given in
     let so_long : length (take done was) ≡ done = length-take-le done was (omega arith) in
