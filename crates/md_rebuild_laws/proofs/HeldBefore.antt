@@ -169,5 +169,5 @@ pub rebuilds_resumed : RebuildsResumed
 rebuilds_resumed before m a start holds recovering es rest final last b life joins target told new h =
     let x = holds_there before m a start holds es rest final last b life target told new h in
     let begins = h.begins in
-    let out = rebuilt_out begins.member.state (target_rebuilt last.mirror.array begins.member begins.may.records_stored.has_target.target) in
+    let out = rebuilt_out begins.member.state (target_rebuilt last.mirror.array begins.member begins.may.resynced_target.has_target.target) in
     (x.0, x.1 (held_in_lives before m a start holds recovering es rest final last b life joins target begins.member begins.at out))

@@ -262,7 +262,7 @@ module _ (target : ℕ) where
       let may = subst (λ (x : Disk). MayBeLeft d x stop.content) is (left_at v w left within d e stop at_d at_e at_crash) in
       let content : stop.content ≡ d.content = elim may [
         | inl as_was ↦ as_was
-        | inr later ↦ absurd (none_new d.stops later.0 stop.content later.1)
+        | inr later ↦ absurd (none_new d.crashes later.0 stop.content later.1)
       ] in
       subst (λ (c : List ℕ). SaysOffset c m.superblock.recovery_offset) (sym content) (has m d at at_d honest)
 
@@ -278,7 +278,7 @@ crashes_copying_find target chunks copied old now new h p is m at f left within 
     let same = same_beside target now copied chunks so p is m at new f d.content in
     let block_left : block_on stop.content ≡ block_on d.content = elim (left_at target now new left within d e stop at_d at_e at_crash) [
       | inl as_was ↦ ap block_on as_was
-      | inr later ↦ block stop.content (same stop.content (new_has d.stops e.stops _ (on.stops honest) later.0 stop.content later.1))
+      | inr later ↦ block stop.content (same stop.content (new_has d.crashes e.crashes _ (on.crashes honest) later.0 stop.content later.1))
     ] in
     says_same d.content stop.content n.superblock.recovery_offset block_left (come_has target chunks copied old now h n d at_n at_d honest)
 

@@ -306,7 +306,7 @@ module _ (target : ℕ) (t : Moment) (at : IsSteadyAt t) where
     out_first m there =
         let s = why.stores.ready.each target m there in
         let was : s.before ≡ e.member = same_Some s.before e.member (sym s.member ∙ e.at) in
-        ap (λ (x : MemberView). is_in_sync x.state) s.same ∙ ap (λ (x : MemberView). is_in_sync x.state) was ∙ rebuilt_out e.member.state (target_rebuilt t.mirror.array e.member e.may.records_stored.has_target.target)
+        ap (λ (x : MemberView). is_in_sync x.state) s.same ∙ ap (λ (x : MemberView). is_in_sync x.state) was ∙ rebuilt_out e.member.state (target_rebuilt t.mirror.array e.member e.may.resynced_target.has_target.target)
 
     pub unrecorded_crash : (left : List Disk) → MayAllBeLeft why.mid.disks new.disks (contents_of left) → IsLeftWhole (Event.RecordTargetFails target) why.mid new left → IsCrashBefore target t left
     unrecorded_crash left may whole =
@@ -318,7 +318,7 @@ module _ (target : ℕ) (t : Moment) (at : IsSteadyAt t) where
 module _ (target : ℕ) (t : Moment) (at : IsSteadyAt t) (m : MemberView) (there : IsMember t.mirror.array target m) (may : MayBeginRebuild t.mirror.array m) (ready : MirrorView) where
   was_out : IsOut target t.mirror
   was_out n at_n =
-      ap (λ (x : MemberView). is_in_sync x.state) (same_Some n m (sym at_n ∙ there)) ∙ rebuilt_out m.state (target_rebuilt t.mirror.array m may.records_stored.has_target.target)
+      ap (λ (x : MemberView). is_in_sync x.state) (same_Some n m (sym at_n ∙ there)) ∙ rebuilt_out m.state (target_rebuilt t.mirror.array m may.resynced_target.has_target.target)
 
   pub before_crash : (new : MirrorView) (first : StoresFirst t.mirror new) (in_flight : AreInFlight t.mirror.array t.requests) (left : List Disk) → CrashesFirst t.mirror new first t.requests in_flight left → IsCrashBefore target t left
   before_crash new first in_flight left stop = first_stop target t at was_out new first in_flight left stop

@@ -133,7 +133,7 @@ module _ (target : ℕ) (copied orphans : Bitmap) (old last : MirrorView) (sound
 pub held_at_begin : {g : Geometry} {opened : Super} {b : Content} (t : Moment) → IsHeldAt g opened t b → (target : ℕ) {ready : MirrorView} {none : Bitmap} → BeginsRebuild target t.mirror ready none
     → HoldsContent t.mirror.disks t.mirror.array b
 held_at_begin {g} {opened} {b} t at target {ready} {none} begins =
-    has_content t at.sound begins.may.idle begins.may.records_stored.resynced b (subst (λ g. Holds g b (world_of t.mirror t.requests)) (sym at.geometry) at.held.holds)
+    has_content t at.sound begins.may.idle begins.may.resynced_target.resynced b (subst (λ g. Holds g b (world_of t.mirror t.requests)) (sym at.geometry) at.held.holds)
 
 module _ (before : List Disk) (m : MirrorView) (a : Content) (start : IsStart before m) (holds : Holds (geometry_of m.array) a (world_of m none_in_flight)) (es : List Event) (rest : List (List Event)) (final : MirrorView)
     (last : Moment) (b : Content) (life : MirrorLifeWith m a es rest final last b) (target : ℕ) (told : Rebuilt) (new : MirrorView) (h : Rebuilds target told last.mirror new) where

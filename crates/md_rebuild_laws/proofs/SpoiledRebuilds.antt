@@ -137,7 +137,7 @@ module _ (target : ℕ) (t : Moment) (at : IsSteadyAt t) where
   telling_anyhow new e left may =
       let why : FailsToRecordTarget target t.mirror new = e.why in
       let was : (m : MemberView) → IsMember t.mirror.array target m → is_rebuilt m.state ≡ true =
-      λ m there. ap (λ (x : MemberView). is_rebuilt x.state) (same_Some m e.member (sym there ∙ e.at)) ∙ target_rebuilt t.mirror.array e.member e.may.records_stored.has_target.target in
+      λ m there. ap (λ (x : MemberView). is_rebuilt x.state) (same_Some m e.member (sym there ∙ e.at)) ∙ target_rebuilt t.mirror.array e.member e.may.resynced_target.has_target.target in
       let m = why.fails.member in
       let rebuilt = rebuilt_still target t.mirror.array why.mid.array why.stores.ready was m why.fails.may.at in
       let c = first_done target t at new e in
