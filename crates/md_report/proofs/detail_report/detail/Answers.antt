@@ -6,4 +6,4 @@ pub returns : goal.returns
 unfolding detail_text
 returns g c =
     let all = puts_then g.S.Sink.contents g.S.Sink.failed (puts_then g.S.Sink.contents g.S.Sink.failed c.in_ok-shared_lines.ensures c.in_ok-condition.ensures) c.in_ok-member_lines.ensures in
-    rw (c.shared_lines.ensures) at all
+    rw (c.shared.ensures) at all
