@@ -8,6 +8,6 @@ use Rattle.md_json.proofs.array_objects.detail_json.Goals as goal
 pub returns : goal.returns
 returns g c =
     let its = c.in_ok-shared_fields.ensures in
-    let its = rw (c.shared_fields.ensures) at its in
+    let its = rw (c.shared.ensures) at its in
     puts_report g.S.Sink.contents g.S.Sink.failed (codes "detail") (shared_fields c.args.mirror.now.array.shared ∷ condition_fields c.args.mirror.now.array ∷ members_fields c.args.mirror.now.array (texts_of c.args.images.now) ∷ [])
     c.in_ok-open.ensures (puts_then g.S.Sink.contents g.S.Sink.failed its (puts_then g.S.Sink.contents g.S.Sink.failed c.in_ok-condition.ensures (puts_then g.S.Sink.contents g.S.Sink.failed c.in_ok-members.ensures c.in_ok-close.ensures)))
