@@ -30,7 +30,7 @@ use std::io::Write;
 use std::sync::Wait;
 use std::thread::Threads;
 
-/// Obeys what the words ask for, of which `parsed` is the parse; the first is the program's name. The status is 0 where it
+/// Does what the words ask for, of which `parsed` is the parse; the first is the program's name. The status is 0 where it
 /// is done, 1 where it is refused and 2 where the words are not taken, or ask for help.
 ///
 /// Out of memory in the parse is status 2 too. That it is answered only then is tested, since no
@@ -95,7 +95,7 @@ pub fn run<
     )
 }
 
-// Obeys a command on the images that are named. `notices` gets what their array tells as it is opened.
+// Does a command on the images that are named. `notices` gets what their array tells as it is opened.
 fn act<
     I: Images,
     T: Threads + Wait + Sync,
