@@ -13,7 +13,7 @@ _mdcli_options() {
     assemble) printf '%s\n' --json --readonly ;;
     detail) printf '%s\n' --json --readonly --map= ;;
     plan) printf '%s\n' --member= --json --readonly --map= ;;
-    read) printf '%s\n' --sector= --count= --fill --map-out= --readonly --map= ;;
+    read) printf '%s\n' --sector= --count= --fill --map-out= --output= --readonly --map= ;;
     write) printf '%s\n' --sector= ;;
     check) printf '%s\n' --list --json --readonly --map= ;;
     resync) printf '%s\n' --map= ;;

@@ -203,7 +203,17 @@ Write Behind    : 0
 Reserved        : 0 sectors
 Nodes           : 0
 Cluster Name    : 
+Bitmap          : 8 chunks, 1 marked
 """
+# A bitmap of three sectors, of which the last is past the end of the image.
+CUT_BITMAP = changed(
+    VAULT,
+    (SUPER + 96, "i", 2110 - 8),
+    (2110 * SECTOR, "256s", VAULT[BITMAP : BITMAP + 256]),
+    (2110 * SECTOR + 40, "Q", 65536),
+    (2110 * SECTOR + 256, "B", 3),
+    (2111 * SECTOR + 511, "B", 0x80),
+)
 
 BITMAP_REPORT = """\
 Magic           : 6d746962
@@ -486,6 +496,11 @@ CASES = [
         "examine-bitmap --all, a damaged header",
         {"a": BROKEN_BITMAP},
         [Step("examine-bitmap --all a", ["Fault           : Magic", "Fault           : Version", "Fault           : ChunkSize", "Magic           : 00000001"])],
+    ),
+    (
+        "examine-bitmap --all, a bitmap that goes past the end",
+        {"a": CUT_BITMAP},
+        [Step("examine-bitmap --all a", ["Sync Size       : 65536 sectors", "Bitmap          : 8192 chunks, 3 marked", "Unread          : 2048 chunks", "Unreadable At   : 2112 sectors"])],
     ),
     ("examine-bitmap --all, no bitmap", {"a": WITHOUT_BITMAP}, [Step("examine-bitmap --all a", fault="NoBitmap")]),
     (
@@ -1128,6 +1143,21 @@ AS_JSON = [
         "examine --json, refused",
         {"a": DAMAGED, "b": bytes(15 * SECTOR)},
         [SaysTheSame(words) for words in ("examine a", "examine b", "examine-bitmap a", "examine-badblocks b", "examine a b", "examine")],
+    ),
+    (
+        "examine --all --json",
+        {"a": DAMAGED, "b": RUINED, "c": TWICE, "d": ZEROS, "e": bytes(15 * SECTOR)},
+        [SaysTheSame("examine --all " + name) for name in "abcde"] + [SaysTheSame("examine --all a b")],
+    ),
+    (
+        "examine-bitmap --all --json",
+        {"a": UNSUMMED_LOGGED, "b": BROKEN_BITMAP, "c": WITHOUT_BITMAP, "d": CUT_BITMAP},
+        [SaysTheSame("examine-bitmap --all " + name) for name in "abcd"],
+    ),
+    (
+        "examine-badblocks --all --json",
+        {"a": UNSUMMED_LOGGED, "b": changed(VAULT, (SUPER + 186, "H", 0)), "c": changed(LISTED, (SUPER + 185, "B", 10))},
+        [SaysTheSame("examine-badblocks --all " + name) for name in "abc"],
     ),
     (
         "an array as JSON",

@@ -153,6 +153,78 @@ def check(lines):
     }
 
 
+# What stands on an image though it is refused: of these fields the text is the value, or the text is in hex.
+TEXTS = {"Magic", "Checksum", "Array UUID", "Device UUID", "Name", "Cluster Name"}
+IN_HEX = {"Feature Map", "Device Flags", "State"}
+NO_FIELDS = {"Fault", "Super Fault", "Computed", "Role", "Superblock At", "Unreadable At", "Unread", "Bitmap"}
+
+
+def labelled(lines):
+    """The labels and values of lines, in their order."""
+    return [(line[:15].rstrip(), line[18:]) for line in lines if line[15:18] == " : "]
+
+
+def standing(lines):
+    """The fields of what stands there, in their order."""
+    found = {}
+    for label, text in labelled(lines):
+        if label not in NO_FIELDS:
+            value = text if label in TEXTS else int(text, 16) if label in IN_HEX else number(text)
+            found[label.lower().replace(" ", "_")] = value
+    return found
+
+
+def faults(lines, label="Fault"):
+    return [text.split()[0] for said, text in labelled(lines) if said == label]
+
+
+def raw_superblock(lines):
+    features = [int(text.split()[1]) for said, text in labelled(lines) if said == "Fault" and text.startswith("Feature ")]
+    computed = fields_of(lines)["Computed"]
+    roles = [re.fullmatch(r"(\d+) of device (\d+)", text).groups() for said, text in labelled(lines) if said == "Role"]
+    places = [re.fullmatch(r"(\d+) sectors, of array (\S+)", text).groups() for said, text in labelled(lines) if said == "Superblock At"]
+    return {
+        "report": "examine --all",
+        "unreadable_at": None,
+        "faults": faults(lines),
+        "unsupported_features": sum(features),
+        **standing(lines),
+        "computed_checksum": None if computed == "unknown" else computed,
+        "roles": [{"device_number": int(device), "role": int(role)} for role, device in roles],
+        "elsewhere": [{"sector": int(sector), "array_uuid": array} for sector, array in places],
+    }
+
+
+def raw_bitmap(lines):
+    counts = re.fullmatch(r"(\d+) chunks, (\d+) marked", fields_of(lines).get("Bitmap", ""))
+    at = fields_of(lines).get("Unreadable At")
+    return {
+        "report": "examine-bitmap --all",
+        "unreadable_at": None,
+        "super_faults": faults(lines, "Super Fault"),
+        "bitmap_unreadable_at": number(at) if at else None,
+        "faults": faults(lines),
+        **standing(lines),
+        "chunks": int(counts[1]) if counts else None,
+        "marked_chunks": int(counts[2]) if counts else None,
+        "unread_chunks": number(fields_of(lines).get("Unread", "0")) if counts else None,
+    }
+
+
+def raw_log(lines):
+    entries = [re.fullmatch(r" *(\d+) for (\d+) units, entry (\d+)", line) for line in lines]
+    return {
+        "report": "examine-badblocks --all",
+        "unreadable_at": None,
+        "super_faults": faults(lines, "Super Fault"),
+        "faults": faults(lines),
+        **standing(lines),
+        "log_unreadable_at": None,
+        "entries": [{"entry": int(one[3]), "start": int(one[1]), "length": int(one[2])} for one in entries if one],
+    }
+
+
+RAW_IMAGE = {"examine": raw_superblock, "examine-bitmap": raw_bitmap, "examine-badblocks": raw_log}
 ONE_IMAGE = {"examine": superblock, "examine-bitmap": bitmap, "examine-badblocks": badblocks}
 ARRAY = {"assemble": summary, "detail": detail, "plan": plan, "check": check}
 
@@ -179,6 +251,8 @@ class SaysTheSame:
 
     def wanted(self, command, text, images, run):
         lines = text.splitlines()
+        if "--all" in self.words:
+            return RAW_IMAGE[command](lines)
         if command in ONE_IMAGE:
             return ONE_IMAGE[command](lines)
         wanted = ARRAY[command](lines)

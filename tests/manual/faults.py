@@ -12,6 +12,7 @@ CRATES = support.TOP / "crates"
 
 ADVICE = CRATES / "md_advice" / "src" / "advice.rt"
 MAPS = CRATES / "md_masked_images" / "src" / "advice.rt"
+OUTPUT_FILES = CRATES / "md_sparse" / "src" / "fault.rt"
 LIMITS = CRATES / "md_advice" / "src" / "geometry_advice.rt"
 
 TEXT = re.compile(r'const (\w+): &str =\s*"((?:[^"\\]|\\.)*)"')
@@ -55,7 +56,7 @@ OF_REQUESTS_IN_FLIGHT = {"InFlight #", "NumbersSpent", "Overlaps #"}
 def declared():
     """The names of all faults that a command may be refused for, each with the variants that it is made of."""
     names = names_of("CommandFault", enums())
-    for fault in ("MapsFault", "MapRefusal", "LineFault", "MapOutFault"):
+    for fault in ("MapsFault", "MapRefusal", "LineFault", "MapOutFault", "OutputFileFault"):
         names.update(names_of(fault, enums()))
     # Wherever memory runs out, the command answers `NoMemory' alone.
     found = {"NoMemory" if name.endswith(" NoMemory") else name: path for name, path in names.items()}
@@ -84,7 +85,7 @@ def limits_tabled():
 
 def advice():
     """What the program says to do, by variant."""
-    text = ADVICE.read_text() + MAPS.read_text()
+    text = ADVICE.read_text() + MAPS.read_text() + OUTPUT_FILES.read_text()
     named = constants()
     found = {}
     for pattern, words, constant in re.findall(r'([\w:()_,|\s]+?)=>\s*\{?\s*(?:"((?:[^"\\]|\\.)*)"|([A-Z_]+)\b)', text):

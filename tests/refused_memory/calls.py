@@ -25,6 +25,8 @@ WITHIN = {
     "md_masked_images::MaskedImages::add": "md_masked_images::mask_images",
     "md_masked_images::MaskedImages::lacking": "md_masked_images::mask_images",
     "md_members::read_super": "md_members::read_member",
+    "md_messages::ask_first": "md_cli::run",
+    "md_messages::Notices::note_held_on_each": "md_cli::run",
     "md_pass::copy_pass": "md_copy::rebuild",
     "md_resync::make_agree": "md_resync::resync",
     "md_state::Array::note_bad": "md_array::Mirror::note_bad",
@@ -110,14 +112,15 @@ ANSWERS = {
     "md_commands::stop_array": "stop",
     "md_commands::write_array": "write",
     "md_create::create": "create",
+    "md_examine_commands::examine_images": "examine-bitmap",
     "md_held::held_on_each": "create",
     "md_images::take_images": "assemble",
     "md_images::image_list": "assemble",
     "md_members::read_member": "examine-bitmap",
 }
 
-# These take no memory: they say so where a count is spent.
-TAKES_NONE = {"md_crash_device::Fuse::share"}
+# These take no memory: one says so where a count is spent, and one gives a list of faults, which may be that a decoding found none.
+TAKES_NONE = {"md_crash_device::Fuse::share", "md_examine::super_faults_of"}
 
 NOT_SHIPPED = re.compile(r"(.*_tests|example_members|bench_parts|mdcli)$")
 TYPE = re.compile(r"^pub (?:enum|struct) (\w+)[^;{]*\{(.*?)^\}", re.M | re.S)

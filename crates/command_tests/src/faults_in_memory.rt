@@ -1,12 +1,13 @@
-// What is refused over images in memory: a sector that can't be read, an image that may only be looked at, and an output
-// that is full. The images stay as they are.
+// What fails over images in memory: a sector that can't be read, an image that may only be looked at, and an output that is
+// full.
 use crate::checks::holds;
-use crate::commands::{Case, Command, DONE, play, runs};
-use crate::images::{HeldImages, Image, MEMBER, expect_kept_under, held_images};
+use crate::commands::{Case, Command, DONE, Shows, play, runs};
+use crate::images::{BLANK, HeldImages, Image, MEMBER, expect_kept_under, held_images};
 use crate::silent::Silent;
-use md_cli::{Messages, Session};
+use md_cli::Session;
 use md_commands::Input;
 use md_examine::Output;
+use md_messages::Messages;
 use std::alloc::Global;
 use std::process::Abort;
 use std::sync::Wait;
@@ -28,7 +29,13 @@ const CREATE: &[&str] = &[
     "b",
 ];
 
-const CASES: [Case; 2] = [
+// The sector with the magic number of btrfs.
+const UNREADABLE: Image = Image {
+    bad: &[128],
+    ..BLANK
+};
+
+const CASES: [Case; 3] = [
     // The superblock's first sector.
     Case {
         images: &[Image {
@@ -61,6 +68,19 @@ const CASES: [Case; 2] = [
             ..DONE
         }],
         kept: &["a", "b"],
+    },
+    // A sector in which a file system may begin can't be read: nobody knows what the image holds.
+    Case {
+        images: &[MEMBER, UNREADABLE],
+        commands: &[Command {
+            words: &["mdcli", "add", "--device", "b", "a"],
+            messages: Messages::Plain,
+            says: "mdcli: b: a read of it failed: it may hold data\n\
+                mdcli: device 1 in role 1 is not among the images\n",
+            shows: Shows::All("in sync 1 of 2, events 11, marked 1\n"),
+            ..DONE
+        }],
+        kept: &[],
     },
 ];
 

@@ -26,3 +26,5 @@ mod rebuilds;
 mod silent;
 #[cfg(test)]
 mod sources;
+#[cfg(test)]
+mod terminal;

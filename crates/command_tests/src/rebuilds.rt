@@ -2,7 +2,7 @@
 // since a log is full.
 use crate::commands::{Case, Command, DONE, Shows, play};
 use crate::images::{BLANK, Image, MEMBER};
-use md_cli::Messages;
+use md_messages::Messages;
 use std::test::Fail;
 
 const ADDED: Command = Command {

@@ -1,8 +1,8 @@
 // A rebuild or a check that nobody watches.
-ghost use Rattle.std.specs.Prelude.{⊤};
+ghost use Rattle.std.specs.Prelude.{⊤, false};
 
-use md_cli::Asker;
 use md_commands::{Gate, Watch};
+use md_messages::Asker;
 
 /// Is told of a rebuild or a check, and says nothing of it.
 pub(crate) struct Silent;
@@ -14,6 +14,8 @@ impl Gate for Silent {
 }
 
 impl Asker for Silent {
+    ghost shows = { λ _. false };
+
     ghost answered = { λ _ _ _. ⊤ };
 
     fn is_there(&self) -> bool {

@@ -1,5 +1,12 @@
 //! Whether the members in sync agree: each is read by a worker of its own, and the chunks in which two differ are
 //! found. Nothing is written.
+//!
+//! Start with `check_array`, which counts these chunks; `find_mismatches` says which they are. `window.rt` has what
+//! is read at once, and `compare.rt` what is compared.
+//!
+//! ```
+//! let mismatched = check_array(rt, alloc, &mut mirror, &gate)?;
+//! ```
 #![tactic(auto)]
 
 mod alike;

@@ -18,8 +18,9 @@ use Rattle.md_images.specs.Taking.{Text}
 use Rattle.md_words.specs.declared.form.CheckForm.TheVariants as check_form
 use Rattle.md_words.specs.Asks.{Ask, device_to_add, leaving_of, examines, examines_bitmap, examines_badblocks, creates, assembles, details, plans, reads, checks, writes, resyncs, stops, fails, removes, adds, re_adds, rebuilds}
 use Rattle.md_commands.specs.declared.fault.CommandFault.{CommandFault}
-use Rattle.md_cli.specs.declared.notices.Notices.{Notices}
-use Rattle.md_cli.specs.Asking.{PerformsOrDeclines, Question}
+use Rattle.md_messages.specs.Question.{Question}
+use Rattle.md_messages.specs.declared.notices.Notices.{Notices}
+use Rattle.md_cli.specs.Asking.{PerformsOrDeclines}
 use Rattle.md_cli.specs.Opened.{OpenedView, count, moves_device, beside_place, with_beside}
 use Rattle.md_cli.specs.Performing.{Performs}
 use Rattle.md_cli.specs.Streams.{Streams}

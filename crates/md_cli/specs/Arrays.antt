@@ -1,7 +1,6 @@
 -- What the commands that open a whole array give.
 use Rattle.md_device.specs.declared.device.Device.{Ghosts}
 use Rattle.std.specs.Prelude.{◌≡◌, ◌⊎◌, ◌<◌, ℕ, Bool, true, false, List, [], length, map, Option, is_some, Result, Err}
-use Rattle.std.specs.Borrow.{Bor}
 use Rattle.clap.specs.Words.{Text}
 use Rattle.md_state.specs.View.{Disk, MirrorView, disk_of}
 use Rattle.md_array.specs.Open.Opened.{IsOpenedFrom}
@@ -21,10 +20,11 @@ use Rattle.md_images.specs.declared.images.Images.{Ghosts as ImagesGhosts}
 use Rattle.md_images.specs.Images.{allows}
 use Rattle.md_images.specs.Taking.{ArePut, AreUnder, IsDistinct, IsThere, RefusesImages, Word, names_of}
 use Rattle.md_words.specs.Asks.{Ask, device_to_add, is_readonly}
-use Rattle.md_cli.specs.declared.notices.Notices.{Notices}
-use Rattle.md_cli.specs.Asking.{PerformsOrDeclines, Question}
-use Rattle.md_cli.specs.Holding.{NotesHeldOnJoining}
-use Rattle.md_cli.specs.Noticed.{NotesOpening, with_dropped, without_stored}
+use Rattle.md_messages.specs.Holding.{NotesHeldOnJoining}
+use Rattle.md_messages.specs.Noticed.{NotesOpening, with_dropped, without_stored}
+use Rattle.md_messages.specs.Question.{Question}
+use Rattle.md_messages.specs.declared.notices.Notices.{Notices}
+use Rattle.md_cli.specs.Asking.{PerformsOrDeclines}
 use Rattle.md_cli.specs.Opened.{OpenedView, moves_device, with_beside, with_last}
 use Rattle.md_cli.specs.Streams.{Told}
 
@@ -60,10 +60,6 @@ abbrev pub answer_of_overlays : Result (Unit {0}) CommandFault → Result (Unit 
 answer_of_overlays (Err (Open (MetadataFault k))) = Err NoMemory
 answer_of_overlays result = result
 
--- the texts of words
-abbrev pub texts : List (Bor Text) → List Text
-texts = map (λ s. s.now)
-
 module _ {R S : Type 0} (r : SourceGhosts R) (s : SinkGhosts S) (q : Question) (names : List Text)
     (ask : Ask) where
   -- The devices of the members are opened as a mirror, and the command is done with it, where the question allows it. All
@@ -78,7 +74,7 @@ module _ {R S : Type 0} (r : SourceGhosts R) (s : SinkGhosts S) (q : Question) (
     pub left : OpenedView
     pub performs : PerformsOrDeclines r s q names ask first (record { mirror = opened; beside = device }) left
         old.streams new.streams result
-    pub dropped : new.notices ≡ with_dropped ask left first
+    pub dropped : new.notices ≡ with_dropped ask left.mirror.array (is_some left.beside) first
     pub devices : after ≡ with_beside ask left.mirror.disks left.beside
 
   -- they are not opened so, and the device that was to join is as it was

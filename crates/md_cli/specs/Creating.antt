@@ -12,10 +12,11 @@ use Rattle.md_state.specs.View.{Disk, of_disks}
 use Rattle.md_examine.specs.declared.sink.Sink.{Ghosts}
 use Rattle.md_commands.specs.declared.fault.CommandFault.{CommandFault}
 use Rattle.md_commands.specs.declared.fault.CommandFault.TheVariants as fault
-use Rattle.md_cli.specs.declared.notices.Notices.{Notices}
+use Rattle.md_messages.specs.Holding.{NotesHeldOnEach}
+use Rattle.md_messages.specs.Question.{Question}
+use Rattle.md_messages.specs.declared.notices.Notices.{Notices}
 use Rattle.md_cli.specs.Arrays.{ShowsDevices}
-use Rattle.md_cli.specs.Holding.{NotesHeldOnEach}
-use Rattle.md_cli.specs.Asking.{Declines, Question}
+use Rattle.md_cli.specs.Asking.{Declines}
 use Rattle.md_cli.specs.Streams.{Told}
 use Rattle.md_images.specs.Taking.{Word, image_list, is_missing_word}
 

@@ -11,13 +11,13 @@ use Rattle.md_commands.specs.declared.option_fault.OptionFault.{OptionFault}
 use Rattle.md_words.specs.Asks.{Ask, Options, access_of, creates, examines, examines_badblocks, examines_bitmap, is_readonly}
 use Rattle.md_commands.specs.declared.source.Source.{Ghosts as SourceGhosts}
 use Rattle.md_examine.specs.declared.sink.Sink.{Ghosts as SinkGhosts}
-use Rattle.md_cli.specs.Asking.{Answers, question}
+use Rattle.md_examine_commands.specs.Examining.{ExaminesOne}
+use Rattle.md_messages.specs.Noticed.{nothing}
+use Rattle.md_messages.specs.Question.{AskerView, question}
+use Rattle.md_messages.specs.declared.notices.Notices.{Notices}
 use Rattle.md_cli.specs.Arrays.{KeepsImages, UsesImages, WorksOn, names_with}
 use Rattle.md_cli.specs.CreateOptions.{AreParamsOf, create_option_fault}
 use Rattle.md_cli.specs.Creating.{CreatesOn}
-use Rattle.md_cli.specs.Examining.{ExaminesOne}
-use Rattle.md_cli.specs.declared.notices.Notices.{Notices}
-use Rattle.md_cli.specs.Noticed.{nothing}
 use Rattle.md_cli.specs.Streams.{Streams, Told}
 use Rattle.md_images.specs.Taking.{image_list}
 
@@ -36,7 +36,7 @@ module _ {I D S : Type 0} (i : ImagesGhosts I D) (g : DeviceGhosts D) (s : SinkG
       (result : Result (Unit {0}) CommandFault) : Type 0 where
     pub count : length words ≢ 1 → (result ≡ Err fault.BadCount) × DoesNothing before after old new
     pub one : (name : Text) → words ≡ name ∷ []
-        → ExaminesOne ask g s.contents s.failed (i.known before) (i.device_at before) (i.device_at after) name
+        → ExaminesOne ask g s (i.known before) (i.device_at before) (i.device_at after) name
         old new result
 
 -- the options of `create` are refused
@@ -48,14 +48,14 @@ pub record RefusesOptions {I X : Type 0} (o : Options) (words : List Text) (befo
   pub idle : DoesNothing before after old new
 
 module _ {I D R S : Type 0} (i : ImagesGhosts I D) (g : DeviceGhosts D) (s : SinkGhosts S)
-    (answered : Answers) where
+    (asker : AskerView) where
   -- an array is made: the options are refused, or they say what it is made from
   pub record Creates (o : Options) (words : List Text) (before after : I) (old new : Told R S)
       (result : Result (Unit {0}) CommandFault) : Type 0 where
     pub sound : create_option_fault o (length words) ≡ None
     pub params : CreateParams
     pub params_are : AreParamsOf o params
-    pub done : UsesImages i g (CreatesOn s (question answered (creates o) words) params words) Change
+    pub done : UsesImages i g (CreatesOn s (question asker (creates o) words) params words) Change
         (image_list true words) before after old new result
 
   abbrev pub MakesArray : Options → List Text → I → I → Told R S → Told R S → Result (Unit {0}) CommandFault
@@ -64,13 +64,13 @@ module _ {I D R S : Type 0} (i : ImagesGhosts I D) (g : DeviceGhosts D) (s : Sin
       RefusesOptions o words before after old new result ⊎ Creates o words before after old new result
 
 module _ {I D R S : Type 0} (i : ImagesGhosts I D) (g : DeviceGhosts D) (r : SourceGhosts R)
-    (s : SinkGhosts S) (answered : Answers) where
+    (s : SinkGhosts S) (asker : AskerView) where
   -- A command with the array that the images make. Of one that may change none each of them stays as it is.
   pub record OpensArray (ask : Ask) (words : List Text) (before after : I) (old new : Told R S)
       (result : Result (Unit {0}) CommandFault) : Type 0 where
     pub kept : is_readonly ask ≡ true → KeepsImages i before after
     pub done : UsesImages i g
-        (WorksOn r s (question answered ask (names_with ask words)) (names_with ask words) ask)
+        (WorksOn r s (question asker ask (names_with ask words)) (names_with ask words) ask)
         (access_of ask) (image_list false (names_with ask words)) before after old new result
 
   -- What each command does with the images that its words name. The input is read by `write` alone.
@@ -85,7 +85,7 @@ module _ {I D R S : Type 0} (i : ImagesGhosts I D) (g : DeviceGhosts D) (r : Sou
       (new.streams.input ≡ old.streams.input) × ExaminesImage i g s (examines_badblocks form) words before
       after old.streams.output new.streams.output result
   Obeys (creates o) words before after old new result =
-      MakesArray i g s answered o words before after old new result
+      MakesArray i g s asker o words before after old new result
   Obeys ask words before after old new result = OpensArray ask words before after old new result
 
   -- the command's own answer, whose status this is, and what it noticed, which is told beside it

@@ -1,7 +1,10 @@
 -- The input and the output of a run, and what it noticed.
 use Rattle.std.specs.Prelude.{List, Option}
 use Rattle.md_badblocks.specs.declared.run.Run.{Run}
-use Rattle.md_cli.specs.declared.notices.Notices.{Notices}
+use Rattle.md_messages.specs.declared.asker.Asker.{Ghosts as AskerGhosts}
+use Rattle.md_messages.specs.declared.messages.Audience.{Audience}
+use Rattle.md_messages.specs.declared.messages.Messages.{Messages}
+use Rattle.md_messages.specs.declared.notices.Notices.{Notices}
 use Rattle.md_cli.specs.declared.session.Session.{Session}
 
 pub record Streams (R S : Type 0) : Type 0 where
@@ -19,3 +22,7 @@ pub record Told (R S : Type 0) : Type 0 where
 
 abbrev pub told_of : {T R S W : Type 0} → Session T R S W → Notices → Told R S
 told_of session notices = record { streams = streams_of session; notices = notices }
+
+-- who reads standard error, where so much is told: what a command is asked of was shown before, where the session's watch shows lines
+abbrev pub audience_of : {T R S W : Type 0} → AskerGhosts W → Session T R S W → Messages → Audience
+audience_of w session messages = record { messages = messages; was_shown = w.shows session.watch.now }

@@ -2,17 +2,17 @@
 ghost use Rattle.std.specs.Prelude.{◌≡◌, ◌<◌, ◌++◌, ◌∷◌, [], IfOk, false, is_some, length, true};
 ghost use Rattle.md_images.specs.Taking.{image_list};
 ghost use Rattle.md_words.specs.Asks.{access_of, ask_of, device_to_add, is_readonly, opens_array};
-ghost use Rattle.md_cli.specs.Arrays.{KeepsImages, UsesImages, WorksOn, names_with, texts};
+ghost use Rattle.md_messages.specs.Telling.{texts};
+ghost use Rattle.md_cli.specs.Arrays.{KeepsImages, UsesImages, WorksOn, names_with};
 ghost use Rattle.md_cli.specs.Asking.{question_of};
 ghost use Rattle.md_cli.specs.Streams.{told_of};
 
-use crate::asker::Asker;
 use crate::devices::with_devices;
-use crate::notices::Notices;
 use crate::session::Session;
 use md_commands::{CommandFault, Source, Watch};
 use md_examine::Sink;
 use md_images::{Images, image_list, put_back, take_images};
+use md_messages::{Asker, Notices};
 use md_words::Command;
 use std::alloc::{AllocError, Global};
 use std::sync::Wait;

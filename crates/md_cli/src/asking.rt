@@ -2,23 +2,19 @@
 ghost use Rattle.std.specs.Prelude.{◌≡◌, IfOk, is_some, true};
 ghost use Rattle.md_array.specs.Consistency.{IsConsistent};
 ghost use Rattle.md_words.specs.Asks.{ask_of, device_to_add, opens_array};
-ghost use Rattle.md_cli.specs.Arrays.{texts};
-ghost use Rattle.md_cli.specs.Asking.{PerformsOrDeclines, question, question_of};
+ghost use Rattle.md_messages.specs.Telling.{texts};
+ghost use Rattle.md_cli.specs.Asking.{PerformsOrDeclines, question_of};
 ghost use Rattle.md_cli.specs.Opened.{opened_view};
 ghost use Rattle.md_cli.specs.Streams.{streams_of};
-ghost use Rattle.md_cli.specs.Telling.{first_text};
 
-use crate::asker::Asker;
-use crate::notices::Notices;
 use crate::opened::Opened;
 use crate::performing::perform;
 use crate::session::Session;
-use crate::telling::put_first;
 use md_commands::{CommandFault, Source, Watch};
 use md_device::Device;
-use md_examine::{Output, Sink, SinkFault};
+use md_examine::Sink;
+use md_messages::{Asker, Notices, ask_first};
 use md_words::Command;
-use std::alloc::Global;
 use std::sync::Wait;
 use std::thread::Threads;
 
@@ -50,43 +46,4 @@ pub(crate) fn perform_asked<
         Ok(()) => perform(session, command, opened, names),
         Err(fault) => Err(fault),
     }
-}
-
-/// Asks whether a command goes on, where it would overwrite what perhaps should stay, by what was noticed. The names are
-/// those of all images. Without memory for the lines that are asked with it does not go on.
-pub(crate) fn ask_first<W: Asker>(
-    alloc: Global,
-    watch: &W,
-    command: Command<'_>,
-    notices: &Notices,
-    names: &[&str],
-) -> Result<(), CommandFault>
-    ensures { question (W.answered watch.now) (ask_of command.entry) (texts names.now) notices.now result }
-{
-    if !notices.asks_first(command) || !watch.is_there() {
-        return Ok(());
-    }
-    let Ok(lines) = lines_first(alloc, command, notices, names) else {
-        return Err(CommandFault::NoMemory);
-    };
-    if watch.goes_on(&lines) {
-        Ok(())
-    } else {
-        Err(CommandFault::Declined)
-    }
-}
-
-// The lines that are said before.
-fn lines_first(
-    alloc: Global,
-    command: Command<'_>,
-    notices: &Notices,
-    names: &[&str],
-) -> Result<Vec<u8>, SinkFault>
-    ensures { IfOk result (λ lines.
-        lines.items ≡ first_text (ask_of command.entry) (texts names.now) notices.now) }
-{
-    let mut out = Output::new(Vec::new(alloc));
-    put_first(notices, command, names, &mut out)?;
-    Ok(out.into_inner())
 }

@@ -2,16 +2,14 @@
 ghost use Rattle.std.specs.Prelude.{◌≡◌, ◌≢◌, ◌*◌, ◌≤◌, ℕ, Err, IfErr, IfOk, Some, length, map, slice_get, true};
 ghost use Rattle.md_words.specs.Asks.{ask_of};
 ghost use Rattle.md_state.specs.View.{Disk};
-ghost use Rattle.md_cli.specs.Arrays.{UsesImages, disks, texts};
+ghost use Rattle.md_messages.specs.Telling.{texts};
+ghost use Rattle.md_cli.specs.Arrays.{UsesImages, disks};
 ghost use Rattle.md_cli.specs.Asking.{question_of};
 ghost use Rattle.md_cli.specs.Creating.{AreNewMembers, CreatesOn, IsRefusal, LaysOutOn};
 ghost use Rattle.md_cli.specs.Streams.{told_of};
 ghost use Rattle.md_images.specs.Taking.{image_list, word_of};
 
-use crate::asker::Asker;
-use crate::asking::ask_first;
 use crate::lay_out_each::lay_out_each;
-use crate::notices::Notices;
 use crate::session::Session;
 use crate::show_devices::show_devices;
 use crate::sizing::sizes_of;
@@ -20,6 +18,7 @@ use md_create::{CreateParams, NewMember, create};
 use md_device::Device;
 use md_examine::Sink;
 use md_images::{Access, ImageWord, Images, image_list, put_back, take_images};
+use md_messages::{Asker, Notices, ask_first};
 use md_words::Command;
 use std::alloc::Global;
 

@@ -2,14 +2,13 @@
 ghost use Rattle.std.specs.Prelude.{◌≡◌, ◌+◌, ◌<◌, ◌≤◌, [], IfOk, is_some, length, option_map, true, vec_capacity};
 ghost use Rattle.md_state.specs.View.{disk_of};
 ghost use Rattle.md_words.specs.Asks.{ask_of, device_to_add, is_readonly, opens_array};
-ghost use Rattle.md_cli.specs.Arrays.{LooksAtDevices, OpensDevices, OpensMembers, WorksOn, answer_of_overlays, disks, texts};
+ghost use Rattle.md_messages.specs.Telling.{texts};
+ghost use Rattle.md_cli.specs.Arrays.{LooksAtDevices, OpensDevices, OpensMembers, WorksOn, answer_of_overlays, disks};
 ghost use Rattle.md_cli.specs.Asking.{question_of};
 ghost use Rattle.md_cli.specs.Opened.{count, moves_device};
 ghost use Rattle.md_cli.specs.Streams.{told_of};
 
-use crate::asker::Asker;
 use crate::asking::perform_asked;
-use crate::notices::Notices;
 use crate::opened::{Opened, all_back, room_for};
 use crate::session::Session;
 use md_array::{Mirror, OpenFault};
@@ -17,6 +16,7 @@ use md_commands::{CommandFault, Source, Watch};
 use md_device::Device;
 use md_examine::Sink;
 use md_images::{SharedRead, lay_over};
+use md_messages::{Asker, Notices};
 use md_words::Command;
 use std::sync::Wait;
 use std::thread::Threads;
@@ -182,7 +182,7 @@ fn open_members<
             notices.note(command, &mirror);
             let mut opened = Opened { mirror, beside };
             let done = perform_asked(session, command, &mut opened, notices, names);
-            notices.note_dropped(command, &opened);
+            notices.note_dropped(command, &opened.mirror, opened.beside.is_some());
             let members = opened.mirror.into_devices();
             (all_back(command, list, members, opened.beside), done)
         }

@@ -1,29 +1,23 @@
 //! The commands of the program, over images that are found by name.
+//!
+//! Start with `run` (`src/running.rt`), and what it gives, `Obeys` in `specs/Running.antt`. A command on an array goes one
+//! way: its images are taken (`src/arrays.rt`), their devices are opened as a mirror (`src/devices.rt`), and the command is
+//! done with it (`src/performing.rt`). `create` makes an array of images (`src/creating.rt`). The commands on one image are
+//! in `md_examine_commands`, what is told and asked in `md_messages`.
 #![tactic(auto)]
 
 mod arrays;
-mod asker;
 mod asking;
 mod create_options;
 mod creating;
 mod devices;
-mod examining;
-mod json_examining;
 mod lay_out_each;
-mod messages;
-mod missing;
-mod notices;
 mod opened;
-mod output;
 mod performing;
-mod raw_examining;
 mod running;
 mod session;
 mod show_devices;
 mod sizing;
-mod telling;
 
-pub use asker::Asker;
-pub use messages::Messages;
 pub use running::run;
 pub use session::Session;

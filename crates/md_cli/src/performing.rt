@@ -6,7 +6,7 @@ ghost use Rattle.md_commands.specs.Filling.{ReadsFilled};
 ghost use Rattle.md_commands.specs.Objects.{detail_shown, plan_shown, summary_shown};
 ghost use Rattle.md_commands.specs.Output.{ShowsText};
 ghost use Rattle.md_commands.specs.Planning.{RefusesToPlan, ShowsPlan};
-ghost use Rattle.md_cli.specs.Arrays.{texts};
+ghost use Rattle.md_messages.specs.Telling.{texts};
 ghost use Rattle.md_cli.specs.Opened.{opened_view};
 ghost use Rattle.md_cli.specs.Performing.{PerformsAdd, Performs, PerformsReAdd, PerformsRead, PerformsRemove, ShowsMismatches, ShowsSectors};
 ghost use Rattle.md_cli.specs.Streams.{streams_of};
@@ -241,7 +241,7 @@ fn check<D: Device + Drop + Send, T: Threads + Sync, W: Watch + Sync, S: Sink>(
     }
 }
 
-// Removes the member with this index. Its device stands beside the array then, if it left.
+// PerformsRemove the member with this index. Its device stands beside the array then, if it left.
 fn remove<D: Device + Drop, S: Sink>(
     opened: &mut Opened<D>,
     member: u32,
@@ -257,7 +257,7 @@ fn remove<D: Device + Drop, S: Sink>(
     Ok(removed?)
 }
 
-// Adds the device that stands beside the array. If it does not join, it stands there again.
+// PerformsAdd the device that stands beside the array. If it does not join, it stands there again.
 fn add<D: Device + Drop, S: Sink>(
     alloc: Global,
     opened: &mut Opened<D>,

@@ -1,36 +1,32 @@
 // One command.
-ghost use Rattle.std.specs.Prelude.{◌≡◌, ◌≢◌, ◌⊎◌, [], Err, IfOk};
+ghost use Rattle.std.specs.Prelude.{◌≡◌, ◌≢◌, ◌⊎◌, [], IfOk, false, true};
 ghost use Rattle.clap.specs.Words.{FailsBy};
 ghost use Rattle.md_words.specs.Parsing.{asked, image_words, words_fault};
 ghost use Rattle.md_words.specs.Asks.{ask_of, options_of};
-ghost use Rattle.md_cli.specs.Arrays.{texts};
+ghost use Rattle.md_messages.specs.Question.{asker_view};
+ghost use Rattle.md_messages.specs.Telling.{PutsTold, TellsNoticed, TellsRefusal, has_advice, refused_text, texts};
 ghost use Rattle.md_cli.specs.Running.{Obeys, DoesCommand, DoesNothing, MakesArray, status_of};
-ghost use Rattle.md_cli.specs.Telling.{TellsNoticed};
-ghost use Rattle.md_cli.specs.Streams.{streams_of, told_of};
+ghost use Rattle.md_cli.specs.Streams.{audience_of, streams_of, told_of};
 
 use crate::arrays::with_array;
-use crate::asker::Asker;
 use crate::create_options::params_of;
 use crate::creating::create_images;
-use crate::examining::examine_images;
-use crate::messages::Messages;
-use crate::missing::tell_missing;
-use crate::notices::Notices;
 use crate::session::Session;
-use crate::telling::{put_refused, put_told};
 use clap::Error;
 use md_advice::advise;
 use md_badblocks::BadSet;
 use md_commands::{CommandFault, Source, Watch};
 use md_examine::Sink;
+use md_examine_commands::examine_images;
 use md_images::Images;
+use md_messages::{Asker, Audience, Messages, Notices, put_missing_lines, put_refused, put_told};
 use md_words::{Command, CreateOptions, Request};
 use std::alloc::Global;
 use std::io::Write;
 use std::sync::Wait;
 use std::thread::Threads;
 
-/// Does what the words ask for, of which `parsed` is the parse; the first is the program's name. The status is 0 where it
+/// Obeys what the words ask for, of which `parsed` is the parse; the first is the program's name. The status is 0 where it
 /// is done, 1 where it is refused and 2 where the words are not taken, or ask for help.
 ///
 /// Out of memory in the parse is status 2 too. That it is answered only then is tested, since no
@@ -66,9 +62,9 @@ pub fn run<
         (result ≡ 2) × DoesNothing images.old images.new (streams_of session.old) (streams_of session.new) }
     ensures taken { words_fault (texts words.entry.now) ≡ [] →
         ((result ≡ 2) × DoesNothing images.old images.new (streams_of session.old) (streams_of session.new))
-        ⊎ DoesCommand I.Images I.Dev.Device R.Source S.Sink (W.Asker.answered session.old.watch.now)
-        (TellsNoticed E.Sink messages (asked (texts words.entry.now)) (image_words (texts words.entry.now))
-        err.old err.new)
+        ⊎ DoesCommand I.Images I.Dev.Device R.Source S.Sink (asker_view W.Asker session.old.watch.now)
+        (TellsNoticed E.Sink (audience_of W.Asker session.old messages) (asked (texts words.entry.now))
+        (image_words (texts words.entry.now)) (streams_of session.new).missing err.old err.new)
         (asked (texts words.entry.now)) (image_words (texts words.entry.now))
         images.old images.new (streams_of session.old) (streams_of session.new) result }
     ensures flushed { result ≡ 0 → S.is_flushed session.new.out }
@@ -82,6 +78,10 @@ pub fn run<
     };
     let names = request.images.as_slice();
     let mut notices = Notices::none();
+    let audience = Audience {
+        messages,
+        was_shown: session.watch.is_there(),
+    };
     let outcome = act(session, request.command, images, names, &mut notices);
     let missing = &session.missing;
     answer(
@@ -90,12 +90,12 @@ pub fn run<
         names,
         &notices,
         missing,
-        messages,
+        audience,
         err,
     )
 }
 
-// Does a command on the images that are named. `notices` gets what their array tells as it is opened.
+// Obeys a command on the images that are named. `notices` gets what their array tells as it is opened.
 fn act<
     I: Images,
     T: Threads + Wait + Sync,
@@ -109,7 +109,7 @@ fn act<
     names: &[&str],
     notices: &mut Notices,
 ) -> Result<(), CommandFault>
-    ensures gives { Obeys I.Images I.Dev.Device R.Source S.Sink (W.Asker.answered session.old.watch.now)
+    ensures gives { Obeys I.Images I.Dev.Device R.Source S.Sink (asker_view W.Asker session.old.watch.now)
         (ask_of command.entry) (texts names.now)
         images.old images.new (told_of session.old notices.old) (told_of session.new notices.new) result }
     ensures flushed { IfOk result (λ _. S.is_flushed session.new.out) }
@@ -144,7 +144,7 @@ fn create_array<I: Images, T, R: Source + Drop, S: Sink + Drop, W: Asker>(
     names: &[&str],
     notices: &mut Notices,
 ) -> Result<(), CommandFault>
-    ensures gives { MakesArray I.Images I.Dev.Device S.Sink (W.Asker.answered session.old.watch.now)
+    ensures gives { MakesArray I.Images I.Dev.Device S.Sink (asker_view W.Asker session.old.watch.now)
         (options_of options.entry) (texts names.now)
         images.old images.new (told_of session.old notices.old) (told_of session.new notices.new) result }
     ensures flushed { IfOk result (λ _. S.is_flushed session.new.out) }
@@ -165,20 +165,20 @@ fn answer<E: Write + Sink>(
     names: &[&str],
     notices: &Notices,
     missing: &Option<BadSet>,
-    messages: Messages,
+    audience: Audience,
     err: &mut E,
 ) -> u8
     ensures status { result ≡ status_of outcome }
-    ensures tells { TellsNoticed E.Sink messages (ask_of command.entry) (texts names.now)
+    ensures tells { TellsNoticed E.Sink audience (ask_of command.entry) (texts names.now) missing.now
         err.old err.new outcome notices.now }
 {
     match outcome {
         Ok(()) => {
-            let _ = put_told(err, notices, command, names, messages);
+            let _ = put_told(err, notices, command, names, audience);
             0
         }
         Err(fault) => {
-            tell_refusal(&fault, command, names, notices, missing, messages, err);
+            tell_refusal(&fault, command, names, notices, missing, audience, err);
             1
         }
     }
@@ -192,19 +192,34 @@ fn tell_refusal<E: Write + Sink>(
     names: &[&str],
     notices: &Notices,
     missing: &Option<BadSet>,
-    messages: Messages,
+    audience: Audience,
     err: &mut E,
 )
-    ensures { TellsNoticed E.Sink messages (ask_of command.entry) (texts names.now)
-        err.old err.new (Err fault.now) notices.now }
+    ensures { TellsRefusal E.Sink audience (ask_of command.entry) (texts names.now) missing.now
+        err.new fault.now notices.now }
 {
     let _ = writeln!(err, "mdcli: {fault}");
-    if command.fills() {
-        tell_missing(missing, err);
-    }
-    if !messages.has_advice() {
+    let _ = put_missing_lines(err, command, missing);
+    tell_more(fault, command, names, notices, audience, err);
+}
+
+// Where advice is asked for, what to do is said on `err`, and then what was noticed.
+fn tell_more<E: Write + Sink>(
+    fault: &CommandFault,
+    command: Command<'_>,
+    names: &[&str],
+    notices: &Notices,
+    audience: Audience,
+    err: &mut E,
+)
+    ensures plain { has_advice audience.messages ≡ false → err.new ≡ err.old }
+    ensures last { has_advice audience.messages ≡ true → (mid : E)
+        × PutsTold E.Sink mid err.new
+        (refused_text audience (ask_of command.entry) (texts names.now) notices.now fault.now) }
+{
+    if !audience.messages.has_advice() {
         return;
     }
     advise(fault, names, command, err);
-    let _ = put_refused(err, notices, command, names, messages, fault);
+    let _ = put_refused(err, notices, command, names, audience, fault);
 }

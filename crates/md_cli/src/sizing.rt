@@ -1,6 +1,7 @@
 // The sizes of the devices that an array is made of.
 ghost use Rattle.std.specs.Prelude.{◌≡◌, IfOk, drop};
-ghost use Rattle.md_cli.specs.Arrays.{disks, texts};
+ghost use Rattle.md_messages.specs.Telling.{texts};
+ghost use Rattle.md_cli.specs.Arrays.{disks};
 ghost use Rattle.md_cli.specs.Creating.{first_size, sizes_of};
 
 use md_device::Device;

@@ -367,7 +367,11 @@ module _ {S : Type 0} (s : SinkGhosts S) (readonly : Bool) (sector count : ℕ) 
     all_put h = h.puts.filled.fills.rests.disks.same.as_many ∙ made_ready readonly sector count old h.ready h.way h.readied
 
     not_filled : (fault : CommandFault) → RefusesToFill s readonly sector count missing old new before after fault → AsMany old new
-    not_filled NoPieceMemory h = some_filled h.way sector count missing h.ready new h.refused.some ∙ made_ready readonly sector count old h.ready h.way h.readied
+    not_filled NoPieceMemory h = ⊎_elim
+        (λ nothing. same h.ready new nothing.unread)
+        (λ until. some_filled h.way sector count missing h.ready new until.put.some)
+        h.refused
+        ∙ made_ready readonly sector count old h.ready h.way h.readied
     not_filled OutputFault h = some_filled h.way sector count missing h.ready new h.refused.0 ∙ made_ready readonly sector count old h.ready h.way h.readied
     not_filled (Read (unread.Unreadable x)) h = all_put h.0
     not_filled (Read unread.Halted) h = not_made_ready readonly sector count old new (Read unread.Halted) h.refused

@@ -33,7 +33,7 @@ use Rattle.md_commands.specs.declared.fault.CommandFault.{CommandFault}
 use Rattle.md_commands.specs.declared.fault.CommandFault.TheVariants.{Read, Resync}
 use Rattle.md_commands.specs.declared.way.Way.{Way}
 use Rattle.md_commands.specs.declared.way.Way.TheVariants.{Resynced, Unresynced}
-use Rattle.md_commands.specs.Filling.{FillsContent, FillsFront, FillsMore, FillsSomeMore, IsClear, IsFilled, IsGivenByRead, IsNotGiven, zeros}
+use Rattle.md_commands.specs.Filling.{FillsContent, FillsFront, FillsMore, FillsUntilUnnoted, IsClear, IsFilled, IsGivenByRead, IsNotGiven, IsUnnoted, NotesNone, zeros}
 use Rattle.md_commands.specs.Ways.{EndsReading, ReadsBy}
 use Rattle.md_commands.proofs.Ways.{reads_rests, reads_some}
 
@@ -372,6 +372,26 @@ module _ (old new : MirrorView) (sound : IsConsistent old) (sector s : ℕ) (pie
   ends_with Unresynced (Resync (ReadFault k c)) h = ends_unresynced (unresynced.ReadFault k s) h.1.0 h.1.1 (inr (k, h.1.1.ends.1))
   ends_with way reason h = absurd h
 
+  -- there is no memory to note it
+  pub not_noted : (way : Way) (reason : CommandFault) → EndsReading way sector s piece old new reason → (was missing : List Run) → missing ≡ was → IsClear was sector → NotesNone way sector (length piece / 512) was missing old new
+  not_noted way reason ends was missing same clear =
+      let there = ends_with way reason ends in
+      let from = there.from in
+      record {
+        same = same;
+        rests = rests_then old there.mid new there.before there.asked;
+        s = s;
+        from = from;
+        below = there.below;
+        is = record {
+          asked = there.mid;
+          before = there.before;
+          within = there.asked;
+          lost = there.none;
+          unnoted = λ bad. let early = clear s (subst (λ (m : List Run). IsBad m s) same bad) in absurd (omega arith);
+        };
+      }
+
   -- it is noted
   module _ (way : Way) (reason : CommandFault) (ends : EndsReading way sector s piece old new reason) (was missing : List Run) (clear : IsClear was sector)
       (noted : (t : ℕ) → IsBad missing t ↔ (IsBad was t ⊎ (t ≡ s))) where
@@ -421,6 +441,16 @@ front_given way sector bytes was old new whole reads clear sectors many =
           (read_fills way sector bytes was old new whole (reads_rests way sector bytes old new reads) (λ some. reads) clear);
     }
 
+-- a sector that is not noted, in a longer read
+pub unnoted_wider : (way : Way) (s : ℕ) (missing : List Run) (first old new : MirrorView) → Rests first old → IsUnnoted way s missing old new → IsUnnoted way s missing first new
+unnoted_wider way s missing first old new before h = record {
+  asked = h.asked;
+  before = rests_then first old h.asked before h.before;
+  within = h.within;
+  lost = h.lost;
+  unnoted = h.unnoted;
+}
+
 -- ---- a piece, filled from its front
 module _ (way : Way) (sector : ℕ) (piece : List ℕ) (done : ℕ) (inside : 512 * done ≤ length piece) (was now : List Run) (old mid : MirrorView)
     (first : FillsMore way sector (take (512 * done) piece) was now old mid) where
@@ -452,13 +482,23 @@ module _ (way : Way) (sector : ℕ) (piece : List ℕ) (done : ℕ) (inside : 51
   piece_filled long = subst (λ (b : List ℕ). FillsMore way sector b was now old mid) (take_all (512 * done) piece (omega arith)) first
 
   -- there is no memory for the next that is missing
-  pub some_filled : (missing : List Run) (new : MirrorView) (count : ℕ) → length piece ≡ 512 * count → (missing ≡ now) × Rests mid new → FillsSomeMore way sector count was missing old new
-  some_filled missing new count long stays = record {
-    bytes = take (512 * done) piece;
-    few = let some = so_long in omega arith;
-    more = subst (λ (m : List Run). FillsMore way sector (take (512 * done) piece) was m old new) (sym stays.0)
-        (fills_later way sector (take (512 * done) piece) was now old mid new first stays.1);
-  }
+  pub until_unnoted : (missing : List Run) (new : MirrorView) (count sectors : ℕ) → length piece ≡ 512 * count → done + sectors ≤ count → NotesNone way (sector + done) sectors now missing mid new → FillsUntilUnnoted way sector count was missing old new
+  until_unnoted missing new count sectors long within h =
+      let at = at_done in
+      let from = h.from in
+      let below = h.below in
+      record {
+        some = record {
+          bytes = take (512 * done) piece;
+          few = let some = so_long in omega arith;
+          more = subst (λ (m : List Run). FillsMore way sector (take (512 * done) piece) was m old new) (sym h.same)
+              (fills_later way sector (take (512 * done) piece) was now old mid new first h.rests);
+        };
+        s = h.s;
+        from = omega arith;
+        below = omega arith;
+        is = unnoted_wider way h.s missing old mid new first.fills.rests h.is;
+      }
 
 -- ---- what it tells of the content
 honest_later : (old mid : MirrorView) → Rests old mid → AreHonest old.disks → AreHonest mid.disks

@@ -1,5 +1,5 @@
 -- Filled pieces are put out, each once it is read.
-use Rattle.std.proofs.Common.{◌≡◌, ◌∙◌, ℕ, ◌+◌, ◌*◌, ◌/◌, ◌≤◌, true, List, [], ◌++◌, length, take, refl, sym, subst, arith, length-append, append-nil}
+use Rattle.std.proofs.Common.{◌≡◌, ◌∙◌, inl, inr, ℕ, ◌+◌, ◌*◌, ◌/◌, ◌≤◌, true, List, [], ◌++◌, length, take, refl, sym, subst, arith, length-append, append-nil}
 use Rattle.std.proofs.Math.Seq.{take-append_seam}
 use Rattle.md_badblocks.specs.declared.run.Run.{Run}
 use Rattle.md_examine.specs.declared.sink.Sink.{Ghosts}
@@ -10,8 +10,8 @@ use Rattle.md_state.specs.View.{MirrorView}
 use Rattle.md_commands.specs.declared.fault.CommandFault.{CommandFault}
 use Rattle.md_commands.specs.declared.fault.CommandFault.TheVariants.{NoPieceMemory, OutputFault}
 use Rattle.md_commands.specs.declared.way.Way.{Way}
-use Rattle.md_commands.specs.Filling.{FillsMore, FillsSome, FillsSomeMore, IsClear, IsFilled, PutsFilled, PutsFilledPiece, RefusesFilled, RefusesFilledPiece}
-use Rattle.md_commands.proofs.Filled.{clear_after, filled, fills_nothing, fills_then}
+use Rattle.md_commands.specs.Filling.{FillsMore, FillsSome, FillsSomeMore, FillsUntilUnnoted, IsClear, PutsFilled, PutsFilledPiece, RefusesFilled, RefusesFilledPiece}
+use Rattle.md_commands.proofs.Filled.{clear_after, filled, fills_nothing, fills_then, unnoted_wider}
 
 module _ {S : Type 0} (o : Ghosts S) (way : Way) (sector : ℕ) where
   -- so many sectors were filled and put out
@@ -31,15 +31,7 @@ module _ {S : Type 0} (o : Ghosts S) (way : Way) (sector : ℕ) where
 
   -- there is no memory for a piece
   pub no_piece : (count : ℕ) (missing : List Run) → missing ≡ [] → (v : MirrorView) (out : S) → RefusesFilled o way sector count missing v v out out NoPieceMemory
-  no_piece count missing none v out = record {
-    some = record {
-      bytes = [];
-      few = omega arith;
-      filled = subst (λ (m : List Run). IsFilled way sector [] m v v) (sym none) (filled way sector [] [] v v (fills_nothing way sector [] v v (rests_same v)));
-    };
-    taken = 0;
-    puts = puts_nothing o.contents o.failed out;
-  }
+  no_piece count missing none v out = inl (record { none = none; unread = refl; unwritten = refl })
 
   module _ (missing : List Run) (old new : MirrorView) (before after : S) where
     -- the end of the range
@@ -90,14 +82,29 @@ module _ {S : Type 0} (o : Ghosts S) (way : Way) (sector : ℕ) where
         abbrev fills_some : (some : FillsSomeMore way (sector + done) sectors was missing mid new) → FillsSome way sector count missing old new
         fills_some some = record { bytes = b ++ some.bytes; few = some_more some; filled = filled way sector (b ++ some.bytes) missing old new (then_more some.bytes some.more) }
 
+        until : FillsUntilUnnoted way (sector + done) sectors was missing mid new → after ≡ between → RefusesFilled o way sector count missing old new before after NoPieceMemory
+        until h same =
+            let some = h.some in
+            let from = h.from in
+            let below = h.below in
+            let many = so_far.many in
+            let long = length-append b some.bytes in
+            let whole = some.more.fills.whole in
+            inr (record {
+              put = record {
+                some = fills_some some;
+                taken = length b;
+                puts = subst (λ (x : S). Puts o.contents o.failed before x (take (length b) (b ++ some.bytes))) (sym same)
+                    (subst (λ (xs : List ℕ). Puts o.contents o.failed before between xs) (sym (take-append_seam b some.bytes)) so_far.puts);
+              };
+              s = h.s;
+              from = omega arith;
+              below = omega arith;
+              is = unnoted_wider way h.s missing old mid new so_far.more.fills.rests h.is;
+            })
+
         pub refuses_more : (n : ℕ) → n ≡ sectors → (fault : CommandFault) → RefusesFilledPiece o way (sector + done) n was missing mid new between after fault → RefusesFilled o way sector count missing old new before after fault
         refuses_more n same NoPieceMemory h =
-            let some = subst (λ (k : ℕ). FillsSomeMore way (sector + done) k was missing mid new) same h.0 in
-            record {
-              some = fills_some some;
-              taken = length b;
-              puts = subst (λ (x : S). Puts o.contents o.failed before x (take (length b) (b ++ some.bytes))) (sym h.1)
-                  (subst (λ (xs : List ℕ). Puts o.contents o.failed before between xs) (sym (take-append_seam b some.bytes)) so_far.puts);
-            }
+            until (subst (λ (k : ℕ). FillsUntilUnnoted way (sector + done) k was missing mid new) same h.0) h.1
         refuses_more n same OutputFault h = (fills_some (subst (λ (k : ℕ). FillsSomeMore way (sector + done) k was missing mid new) same h.0), h.1)
         refuses_more n same fault h = absurd h

@@ -4,6 +4,7 @@ pub mod DeviceCounts
 pub mod Filled
 pub mod FilledPut
 pub mod Listed
+pub mod Missing
 pub mod PiecesPut
 pub mod PiecesRead
 pub mod Planned

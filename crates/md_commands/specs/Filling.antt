@@ -1,5 +1,6 @@
 -- Sectors of the array are read and put out with zeros in the place of those that are not given: that nobody gives or, of an array that is
 -- not resynced, that the member from which a resync would copy them does not give.
+use Rattle.std.specs.List.{slice_get}
 use Rattle.std.specs.Prelude.{◌≡◌, ◌⊎◌, ◌↔◌, ℕ, ◌+◌, ◌*◌, ◌-◌, ◌/◌, ◌%◌, ◌<◌, ◌≤◌, Bool, true, List, [], length, replicate, take, Option, Some, None, Result, Ok, Err, MatchResult}
 use Rattle.md_badblocks.specs.declared.run.Run.{Run}
 use Rattle.md_badblocks.specs.Runs.{IsBad}
@@ -12,9 +13,13 @@ use Rattle.md_read.specs.declared.fault.UnreadFault.{UnreadFault}
 use Rattle.md_read.specs.declared.fault.UnreadFault.TheVariants.{Halted, NotResynced, OutOfRange, Unreadable}
 use Rattle.md_read.specs.Reading.{NoneGives}
 use Rattle.md_read.specs.Unresynced.{NoneGivesPart, SourceFails}
+use Rattle.md_kept_members.specs.View.{MemberView}
+use Rattle.md_state.specs.Steps.CopyData.{Lists}
+use Rattle.md_state.specs.DiskWrites.{AtDevice}
+use Rattle.md_state.specs.Members.{IsInSync}
 use Rattle.md_state.specs.Requests.{AreInFlight}
 use Rattle.md_state.specs.Rests.{Rests}
-use Rattle.md_state.specs.View.{MirrorView, geometry_of}
+use Rattle.md_state.specs.View.{Disk, MirrorView, geometry_of}
 use Rattle.md_array.specs.Worlds.{AreHonest, world_of}
 use Rattle.md_commands.specs.declared.fault.CommandFault.{CommandFault}
 use Rattle.md_commands.specs.declared.fault.CommandFault.TheVariants.{NoPieceMemory, OutputFault, Read, Resync}
@@ -91,6 +96,17 @@ FillsContent =
     → IsQuiet (world_of old requests) (sector + i)
     → held bytes i 512 ≡ a (sector + i)
 
+-- Which sectors are missing: where devices do what they answer, and none of member k's calls failed, its own list has each of them. So a
+-- sector is missing only where each member in sync lists it, or failed as it was asked for.
+abbrev pub MissesUnserved : Type 0
+MissesUnserved =
+    (sector : ℕ) (bytes : List ℕ) (missing : List Run) (old new : MirrorView)
+    → FillsSectors Resynced sector bytes missing old new → AreHonest old.disks
+    → (i : ℕ) → i < length bytes / 512 → IsBad missing (sector + i)
+    → (k : ℕ) (m : MemberView) → IsInSync old.array k m → (d : Disk) → slice_get old.disks k ≡ Some d
+    → AtDevice k old.disks new.disks (λ d e. e.failures ≡ d.failures)
+    → Lists m (sector + i)
+
 -- ---- a part of a longer range
 -- no sector from this one on is missing yet
 abbrev pub IsClear : List Run → ℕ → Type 0
@@ -116,6 +132,32 @@ module _ (way : Way) where
     pub few : length bytes ≤ 512 * count
     pub more : FillsMore sector bytes was missing old new
 
+  -- Sector s was not given either, and there was no memory to note it.
+  pub record IsUnnoted (s : ℕ) (missing : List Run) (old new : MirrorView) : Type 0 where
+    pub asked : MirrorView
+    pub before : Rests old asked
+    pub within : Rests asked new
+    pub lost : IsNotGiven way s asked new
+    pub unnoted : IsBad missing s → ⊥
+
+  -- so it is of one of so many sectors from this one on; no other is noted
+  pub record NotesNone (sector sectors : ℕ) (was missing : List Run) (old new : MirrorView) : Type 0 where
+    pub same : missing ≡ was
+    pub rests : Rests old new
+    pub s : ℕ
+    pub from : sector ≤ s
+    pub below : s < sector + sectors
+    pub is : IsUnnoted s missing old new
+
+  -- so it is of one after those that were filled
+  pub record FillsUntilUnnoted (sector count : ℕ) (was missing : List Run) (old new : MirrorView)
+      : Type 0 where
+    pub some : FillsSomeMore sector count was missing old new
+    pub s : ℕ
+    pub from : sector + length some.bytes / 512 ≤ s
+    pub below : s < sector + count
+    pub is : IsUnnoted s missing old new
+
 -- ---- what is put out
 module _ {S : Type 0} (o : Ghosts S) (way : Way) where
   pub record PutsFilled (sector count : ℕ) (missing : List Run) (old new : MirrorView)
@@ -132,10 +174,27 @@ module _ {S : Type 0} (o : Ghosts S) (way : Way) where
     pub taken : ℕ
     pub puts : Puts o.contents o.failed before after (take taken some.bytes)
 
-  -- There is no memory for a piece, or for what is missing, or the output failed. No sector that is not given ends it.
+  -- there is no memory for a piece
+  pub record ReadsNothing (missing : List Run) (old new : MirrorView) (before after : S) : Type 0 where
+    pub none : missing ≡ []
+    pub unread : new ≡ old
+    pub unwritten : after ≡ before
+
+  -- there is none to note that one sector more is missing
+  pub record PutsUntilUnnoted (sector count : ℕ) (missing : List Run) (old new : MirrorView)
+      (before after : S) : Type 0 where
+    pub put : PutsSome sector count missing old new before after
+    pub s : ℕ
+    pub from : sector + length put.some.bytes / 512 ≤ s
+    pub below : s < sector + count
+    pub is : IsUnnoted way s missing old new
+
+  -- There is no memory, which is taken for a piece and for what is missing alone, or the output failed. No sector that is not given
+  -- ends it.
   abbrev pub RefusesFilled : ℕ → ℕ → List Run → MirrorView → MirrorView → S → S → CommandFault → Type 0
   RefusesFilled sector count missing old new before after NoPieceMemory =
-      PutsSome sector count missing old new before after
+      ReadsNothing missing old new before after
+      ⊎ PutsUntilUnnoted sector count missing old new before after
   RefusesFilled sector count missing old new before after OutputFault =
       FillsSome way sector count missing old new × (o.failed after ≡ true)
   RefusesFilled sector count missing old new before after reason = ⊥
@@ -149,7 +208,7 @@ module _ {S : Type 0} (o : Ghosts S) (way : Way) where
   abbrev pub RefusesFilledPiece : ℕ → ℕ → List Run → List Run → MirrorView → MirrorView → S → S → CommandFault
       → Type 0
   RefusesFilledPiece sector count was missing old new before after NoPieceMemory =
-      FillsSomeMore way sector count was missing old new × (after ≡ before)
+      FillsUntilUnnoted way sector count was missing old new × (after ≡ before)
   RefusesFilledPiece sector count was missing old new before after OutputFault =
       FillsSomeMore way sector count was missing old new × (o.failed after ≡ true)
   RefusesFilledPiece sector count was missing old new before after reason = ⊥

@@ -2,9 +2,8 @@
 ghost use Rattle.std.specs.Prelude.{◌≡◌, ◌+◌, ◌*◌, ◌/◌, ◌%◌, ◌^◌, ◌<◌, ◌≤◌, [], IfOk, MatchResult, length, min};
 ghost use Rattle.md_requests.specs.Pending.{PendingView};
 ghost use Rattle.md_state.specs.Requests.{IsPending};
-ghost use Rattle.md_state.specs.Rests.{Rests};
 ghost use Rattle.md_array.specs.Consistency.{IsConsistent};
-ghost use Rattle.md_commands.specs.Filling.{FillsFront, FillsMore, FillsSomeMore, IsClear, PutsFilled, PutsFilledPiece, RefusesFilled, RefusesFilledPiece};
+ghost use Rattle.md_commands.specs.Filling.{FillsFront, FillsMore, FillsUntilUnnoted, IsClear, NotesNone, PutsFilled, PutsFilledPiece, RefusesFilled, RefusesFilledPiece};
 ghost use Rattle.md_commands.specs.Pieces.{piece_sectors};
 ghost use Rattle.md_commands.specs.Ways.{MayReadBy};
 
@@ -122,7 +121,7 @@ fn fill_piece<D: Device + Drop>(
     requires clear { IsClear missing.old sector }
     ensures gives { MatchResult result
         (λ _. FillsMore way sector piece.new missing.old missing.new mirror.old mirror.new)
-        (λ _. FillsSomeMore way sector (length piece.old / 512) missing.old missing.new
+        (λ _. FillsUntilUnnoted way sector (length piece.old / 512) missing.old missing.new
         mirror.old mirror.new) }
     ensures sound { IsConsistent mirror.new }
     ensures pending { (p : PendingView) → IsPending mirror.old.array p → IsPending mirror.new.array p }
@@ -162,7 +161,8 @@ fn fill_front<D: Device + Drop>(
     ensures gives { MatchResult result
         (λ filled. FillsFront way sector filled.sectors bytes.new missing.old missing.new
         mirror.old mirror.new)
-        (λ _. (missing.new ≡ missing.old) × Rests mirror.old mirror.new) }
+        (λ _. NotesNone way sector (length bytes.old / 512) missing.old missing.new
+        mirror.old mirror.new) }
     ensures next { IfOk result (λ filled. 0 < filled.most) }
     ensures sound { IsConsistent mirror.new }
     ensures pending { (p : PendingView) → IsPending mirror.old.array p → IsPending mirror.new.array p }

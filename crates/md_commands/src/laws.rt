@@ -1,6 +1,6 @@
 //! What holds of reads. The functions do nothing: their contracts are the theorems.
 ghost use Rattle.md_commands.specs.AsResynced.{ReadsAsResynced, ResyncsLeaveSources};
-ghost use Rattle.md_commands.specs.Filling.{FillsContent};
+ghost use Rattle.md_commands.specs.Filling.{FillsContent, MissesUnserved};
 
 /// What `read_unresynced` gives is what a resync and then a `read` give, where devices do what they answer: in each
 /// sector of a marked chunk, whatever the members hold there, and in each other in which the members in sync agree. For a
@@ -14,4 +14,10 @@ pub fn read_as_resynced()
 /// What is read of a resynced array with zeros in the place of missing sectors is its content in every other sector.
 pub fn filled_content()
     ensures { FillsContent }
+{}
+
+/// A sector is missing in what is read of a resynced array so only where each member in sync lists it as bad, or failed as it was
+/// asked for.
+pub fn missing_sectors()
+    ensures { MissesUnserved }
 {}

@@ -2,6 +2,14 @@
 //! resynchronise it, fail, remove, add, re-add or rebuild a member. Images and words are no matter of this crate: it has a
 //! mirror, an input and an output, and names of images only to put them out. And why a command is refused, whatever it is
 //! done with.
+//!
+//! Start with the function of a command, as `show_detail` or `read_array`; each has a file of its own.
+//! `CommandFault` has every reason for which a command is refused.
+//!
+//! ```
+//! show_detail(&mirror, &mut out)?;
+//! read_array(alloc, &mut mirror, 8, 16, &mut out)?;
+//! ```
 #![tactic(auto)]
 
 mod adding;

@@ -1,6 +1,6 @@
 -- The report of a bitmap's header as it stands, though it may be refused: every field of `struct bitmap_super_s` of
 -- md-bitmap.h but for the padding.
-use Rattle.std.specs.Prelude.{ℕ, ◌==◌, ◌&&◌, not, nat_le, if◌then◌else◌, Bool, List, [], ◌∷◌, ◌++◌, codes}
+use Rattle.std.specs.Prelude.{ℕ, ◌==◌, ◌&&◌, not, nat_le, if◌then◌else◌, Bool, List, [], ◌∷◌, ◌++◌, Option, Some, None, codes, decimal}
 use Rattle.std.specs.List.{flat_map}
 use Rattle.std.specs.Int.{is_power_of_two}
 use Rattle.md_format.specs.Fields.{number_at}
@@ -10,7 +10,12 @@ use Rattle.md_bitmap.specs.declared.fault.BitmapFault.{BitmapFault}
 use Rattle.md_bitmap.specs.declared.fault.BitmapFault.TheVariants as fault
 use Rattle.md_examine.specs.Lines.{column, line_text}
 use Rattle.md_examine.specs.Fields.{Row, row, row_text}
-use Rattle.md_examine.specs.SuperFaults as super
+use Rattle.md_examine.specs.SuperFaults.{faults_text}
+use Rattle.md_examine.specs.SuperFields.{unread_line_text, unreadable_line}
+use Rattle.md_examine.specs.declared.raw_bitmap.CountedMarks.{CountedMarks}
+use Rattle.md_examine.specs.declared.raw_bitmap.RawBitmap.{RawBitmap}
+use Rattle.md_examine.specs.declared.raw_bitmap.RawBitmap.TheVariants.{Unplaced, Unreadable, Read}
+use Rattle.md_examine.specs.declared.raw_bitmap.UnreadMarks.{UnreadMarks}
 use Rattle.md_examine.specs.declared.fields.Kind.TheVariants.{Word, Long, Hex, HexDigits, Id, Name}
 
 -- The fault stands, and can be told: chunks are counted by a size that they may have.
@@ -60,9 +65,34 @@ bitmap_fields =
     ∷ row (codes "Cluster Name") Name 72 []
     ∷ []
 
--- the whole report: the faults of the superblock and of the header, and the header's fields
-unfoldable pub bitmap_all_text : List ℕ → List ℕ → List ℕ
-bitmap_all_text superblock sector =
-    flat_map (super.super_fault_text (column (codes "Super Fault")) superblock) (super.faults_of superblock)
-    ++ flat_map (bitmap_fault_text sector) faults
-    ++ flat_map (row_text sector) bitmap_fields
+-- the marks from this sector on could not be read: they are of so many chunks
+unfoldable pub unread_marks_text : Option UnreadMarks → List ℕ
+unread_marks_text None = []
+unread_marks_text (Some u) =
+    line_text (column (codes "Unread")) (decimal u.chunks ++ codes " chunks") ++ unreadable_line u.sector
+
+-- how many chunks there are by the header, how many of them are marked as far as that was read, and of how many it was not
+unfoldable pub counted_text : Option CountedMarks → List ℕ
+counted_text None = []
+counted_text (Some m) =
+    line_text (column (codes "Bitmap")) (decimal m.chunks ++ codes " chunks, " ++ decimal m.marked ++ codes " marked")
+    ++ unread_marks_text m.unread
+
+-- the header in the first sector, its faults first
+unfoldable pub header_text : List ℕ → List ℕ
+header_text sector = flat_map (bitmap_fault_text sector) faults ++ flat_map (row_text sector) bitmap_fields
+
+-- the header, and the marks
+abbrev pub read_text : List ℕ → Option CountedMarks → List ℕ
+read_text sector marks = header_text sector ++ counted_text marks
+
+-- what could be read of the bitmap
+unfoldable pub part_text : RawBitmap → List ℕ
+part_text Unplaced = []
+part_text (Unreadable sector) = unreadable_line sector
+part_text (Read sector marks) = read_text sector marks
+
+-- the whole report: what of the superblock could not be read, its faults, and what could be read of the bitmap
+unfoldable pub bitmap_all_text : ℕ → List ℕ → RawBitmap → List ℕ
+bitmap_all_text read superblock bitmap =
+    unread_line_text read ++ faults_text (column (codes "Super Fault")) read superblock ++ part_text bitmap

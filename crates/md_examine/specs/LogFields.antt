@@ -1,10 +1,11 @@
 -- The report of a bad block log as it stands, though it may be refused: its entries by their places.
-use Rattle.std.specs.Prelude.{ℕ, ◌*◌, ◌-◌, ◌/◌, ◌%◌, ◌^◌, ◌==◌, nat_lt, if◌then◌else◌, List, [], ◌∷◌, ◌++◌, codes, decimal, length}
+use Rattle.std.specs.Prelude.{ℕ, ◌*◌, ◌-◌, ◌/◌, ◌%◌, ◌^◌, ◌==◌, nat_lt, if◌then◌else◌, List, [], ◌∷◌, ◌++◌, Option, Some, None, codes, decimal, length}
 use Rattle.std.specs.List.{flat_map, range_with_len}
 use Rattle.md_format.specs.Fields.{number_at}
 use Rattle.md_examine.specs.Lines.{column, line_text, right_aligned}
 use Rattle.md_examine.specs.Fields.{Row, row, row_text}
-use Rattle.md_examine.specs.SuperFaults.{super_fault_text, faults_of}
+use Rattle.md_examine.specs.SuperFaults.{faults_text}
+use Rattle.md_examine.specs.SuperFields.{unread_line_text, unreadable_line}
 use Rattle.md_examine.specs.declared.fields.Kind.TheVariants.{Byte, Half, Signed}
 
 -- the fields of a superblock that tell of the log
@@ -35,10 +36,21 @@ entry_text area place =
     if number_at 8 (8 * place) area == 2 ^ 64 - 1 then []
     else entry_line place (number_at 8 (8 * place) area / 1024) (number_at 8 (8 * place) area % 1024)
 
--- the whole report: the faults of the superblock and of the log, what the superblock says of the log, and its entries
-unfoldable pub log_all_text : List ℕ → List ℕ → List ℕ
-log_all_text superblock area =
-    flat_map (super_fault_text (column (codes "Super Fault")) superblock) (faults_of superblock)
-    ++ shift_fault superblock
-    ++ flat_map (row_text superblock) log_fields
+-- the fault of the log and what the superblock says of it, where so many of the superblock's sectors could be read
+unfoldable pub log_told_text : ℕ → List ℕ → List ℕ
+log_told_text read superblock = if read == 0 then [] else (shift_fault superblock ++ flat_map (row_text superblock) log_fields)
+
+-- the log's first sector, where the log could not be read
+abbrev pub lost_log_text : Option ℕ → List ℕ
+lost_log_text None = []
+lost_log_text (Some sector) = unreadable_line sector
+
+-- The whole report: what of the superblock could not be read, its faults and those of the log, what the superblock says of the log,
+-- that the log could not be read, and its entries.
+unfoldable pub log_all_text : ℕ → List ℕ → Option ℕ → List ℕ → List ℕ
+log_all_text read superblock lost area =
+    unread_line_text read
+    ++ faults_text (column (codes "Super Fault")) read superblock
+    ++ log_told_text read superblock
+    ++ lost_log_text lost
     ++ flat_map (entry_text area) (entries_there area)

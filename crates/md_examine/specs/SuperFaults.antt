@@ -1,5 +1,6 @@
 -- The faults of a superblock, each by itself: those that stand, whatever others do.
-use Rattle.std.specs.Prelude.{ℕ, ◌≤◌, ◌==◌, ◌&&◌, ◌||◌, not, nat_lt, nat_le, if◌then◌else◌, Bool, false, List, [], ◌∷◌, ◌++◌, codes, decimal}
+use Rattle.std.specs.Prelude.{ℕ, ◌*◌, ◌-◌, ◌≤◌, ◌==◌, ◌&&◌, ◌||◌, not, nat_lt, nat_le, if◌then◌else◌, Bool, true, false, List, [], ◌∷◌, ◌++◌, codes, decimal}
+use Rattle.std.specs.List.{flat_map}
 use Rattle.md_format.specs.Fields.{number_at}
 use Rattle.md_super.specs.Checksum.{checksum_of}
 use Rattle.md_super.specs.Faults.{SuperFaultStands}
@@ -48,6 +49,24 @@ abbrev pub fault_line : List ℕ → SuperFault → List ℕ
 fault_line label (Feature bits) = line_text label (codes "Feature " ++ decimal bits)
 fault_line label fault = line_text label (super_fault_name fault)
 
--- a line where it stands
-abbrev pub super_fault_text : List ℕ → List ℕ → SuperFault → List ℕ
-super_fault_text label bytes fault = if super_fault_stands bytes fault then fault_line label fault else []
+-- ---- where only the first so many sectors could be read
+-- the roles for which they have room
+abbrev pub roles_read_in : ℕ → ℕ
+roles_read_in read = 256 * read - 128
+
+-- whether it can be told by them: that of the checksum where they hold all that it covers
+abbrev pub is_told : ℕ → List ℕ → SuperFault → Bool
+is_told read bytes Checksum = nat_le (number_at 4 220 bytes) (roles_read_in read)
+is_told read bytes fault = true
+
+-- A fault can be told of what was read, and stands.
+abbrev pub is_seen : ℕ → List ℕ → SuperFault → Bool
+is_seen read bytes fault = is_told read bytes fault && super_fault_stands bytes fault
+
+-- a line then
+abbrev pub super_fault_text : List ℕ → ℕ → List ℕ → SuperFault → List ℕ
+super_fault_text label read bytes fault = if is_seen read bytes fault then fault_line label fault else []
+
+-- a line for each, where a sector could be read at all
+unfoldable pub faults_text : List ℕ → ℕ → List ℕ → List ℕ
+faults_text label read bytes = if read == 0 then [] else flat_map (super_fault_text label read bytes) (faults_of bytes)

@@ -13,7 +13,7 @@ const SECONDS: u64 = 1 << 40;
 
 /// What a field holds, by its width, and how it is shown.
 #[derive(Clone, Copy)]
-pub(crate) enum Kind {
+pub enum Kind {
     /// A number of one byte, of two, of four and of eight.
     Byte,
     Half,
@@ -34,13 +34,15 @@ pub(crate) enum Kind {
     Name,
 }
 
-/// A field: its label, what it holds, the byte at which it starts, and the unit of a number that is not in hex.
+/// A field: its label, its name in an object, what it holds, the byte at which it starts, and the unit of a number that is not in
+/// hex.
 #[derive(Clone, Copy)]
-pub(crate) struct Field<'a> {
-    pub(crate) label: &'a str,
-    pub(crate) kind: Kind,
-    pub(crate) at: u8,
-    pub(crate) unit: &'a str,
+pub struct Field<'a> {
+    pub label: &'a str,
+    pub name: &'a str,
+    pub kind: Kind,
+    pub at: u8,
+    pub unit: &'a str,
 }
 
 /// The fields as they stand in a sector or more.

@@ -2,13 +2,14 @@
 ghost use Rattle.std.specs.Prelude.{◌≤◌, ◌*◌, ◌+◌, length};
 ghost use Rattle.std.specs.List.{flat_map};
 ghost use Rattle.md_examine.specs.Sink.{PutsOrFails};
-ghost use Rattle.md_examine.specs.LogFields.{entries_there, entry_line, entry_text, log_all_text, shift_fault};
+ghost use Rattle.md_examine.specs.LogFields.{entries_there, entry_line, entry_text, log_all_text, lost_log_text, shift_fault, log_told_text};
 
 use crate::columns::{number_after, right_aligned_number};
 use crate::fields::{Field, Kind, field_lines};
 use crate::lines::line;
 use crate::sink::{Sink, SinkFault};
 use crate::super_faults::super_fault_lines;
+use crate::super_fields::{unread_line, unreadable_line};
 use md_format::{u8_at, u64_at};
 
 /// The most that a log's units may be shifted by.
@@ -21,43 +22,77 @@ const LEN_BITS: u32 = 10;
 const LEN_MASK: u64 = 0x3ff;
 
 /// The fields of a superblock that say where the log is, and what its entries count in.
-const LOG_FIELDS: [Field; 3] = [
+pub const LOG_FIELDS: [Field; 3] = [
     Field {
         label: "Log Shift      ",
+        name: "log_shift",
         kind: Kind::Byte,
         at: 185,
         unit: "",
     },
     Field {
         label: "Log Size       ",
+        name: "log_size",
         kind: Kind::Half,
         at: 186,
         unit: " sectors",
     },
     Field {
         label: "Log Offset     ",
+        name: "log_offset",
         kind: Kind::Signed,
         at: 188,
         unit: " sectors from superblock",
     },
 ];
 
-/// Writes the report of a bad block log as it stands, though it or the superblock that names its place may be refused: a line
-/// for each fault of either that stands, the fields of the superblock that tell of the log, and a line for each entry that
+/// Writes the report of a bad block log as it stands, though it or the superblock that names its place may be refused, and though
+/// only the first so many sectors of the superblock could be read, or none of the log, from this sector on: what could not be, a
+/// line for each fault of either that stands, the fields of the superblock that tell of the log, and a line for each entry that
 /// is not all ones, by its place: its first sector and its length, both in units of 2^shift sectors. It takes no memory,
 /// and fails only where the sink has failed.
 pub fn examine_badblocks_all<S: Sink>(
     out: &mut S,
+    read: u32,
     superblock: &[u8; 4096],
+    lost: Option<u64>,
     area: &[u8],
 ) -> Result<(), SinkFault>
-    ensures { PutsOrFails S.contents S.failed out.old out.new (log_all_text superblock.now area.now) result }
+    requires { read ≤ 8 }
+    ensures { PutsOrFails S.contents S.failed out.old out.new (log_all_text read superblock.now lost area.now) result }
 {
-    super_fault_lines(out, "Super Fault    ", superblock)?;
-    shift_line(out, superblock)?;
-    field_lines(out, superblock, &LOG_FIELDS)?;
+    unread_line(out, read)?;
+    super_fault_lines(out, "Super Fault    ", read, superblock)?;
+    superblock_part(out, read, superblock)?;
+    lost_line(out, lost)?;
     entry_lines(out, area)?;
     Ok(())
+}
+
+// What the superblock says of the log, where it could be read.
+#[tactic(auto, unfolding(crate::specs::LogFields::log_told_text), using(crate::proofs::Puts::puts_then))]
+fn superblock_part<S: Sink>(
+    out: &mut S,
+    read: u32,
+    superblock: &[u8; 4096],
+) -> Result<(), SinkFault>
+    ensures { PutsOrFails S.contents S.failed out.old out.new (log_told_text read superblock.now) result }
+{
+    if read == 0 {
+        return Ok(());
+    }
+    shift_line(out, superblock)?;
+    field_lines(out, superblock, &LOG_FIELDS)?;
+    Ok(())
+}
+
+fn lost_line<S: Sink>(out: &mut S, lost: Option<u64>) -> Result<(), SinkFault>
+    ensures { PutsOrFails S.contents S.failed out.old out.new (lost_log_text lost) result }
+{
+    match lost {
+        Some(sector) => unreadable_line(out, sector),
+        None => Ok(()),
+    }
 }
 
 fn shift_line<S: Sink>(out: &mut S, superblock: &[u8; 4096]) -> Result<(), SinkFault>

@@ -1,8 +1,10 @@
 // The faults of a superblock, each by itself.
-ghost use Rattle.std.specs.Prelude.{◌≡◌, ◌↔◌, true};
+ghost use Rattle.std.specs.Prelude.{◌≡◌, ◌<◌, ◌≤◌, ◌↔◌, true};
 ghost use Rattle.std.specs.List.{flat_map};
+ghost use Rattle.md_format.specs.Fields.{number_at};
+ghost use Rattle.md_super.specs.Profile.{unsupported_features};
 ghost use Rattle.md_examine.specs.Sink.{PutsOrFails};
-ghost use Rattle.md_examine.specs.SuperFaults.{IsSuperFaultSeen, fault_line, super_fault_name, super_fault_text, faults_of, super_fault_stands};
+ghost use Rattle.md_examine.specs.SuperFaults.{IsSuperFaultSeen, fault_line, super_fault_name, super_fault_text, faults_of, faults_text, is_seen, is_told, roles_read_in, super_fault_stands};
 
 use crate::lines::{line, two_part_line};
 use crate::sink::{Sink, SinkFault};
@@ -17,37 +19,53 @@ const UNSUPPORTED_FEATURES: u32 = !(FEATURE_BITMAP_OFFSET
     | FEATURE_RECOVERY_OFFSET
     | FEATURE_BAD_BLOCKS);
 
-/// A line for each fault that stands in the bytes, in the order in which a superblock is refused by them.
+/// A line for each fault that stands in the bytes, in the order in which a superblock is refused by them, as far as it can be told
+/// by the first so many sectors.
+#[tactic(auto, unfolding(crate::specs::SuperFaults::faults_text))]
 pub(crate) fn super_fault_lines<S: Sink>(
     out: &mut S,
     label: &str,
+    read: u32,
     bytes: &[u8; 4096],
 ) -> Result<(), SinkFault>
-    ensures { PutsOrFails S.contents S.failed out.old out.new (flat_map (super_fault_text label.now bytes.now) (faults_of bytes.now)) result }
+    requires { read ≤ 8 }
+    ensures { PutsOrFails S.contents S.failed out.old out.new (faults_text label.now read bytes.now) result }
 {
-    let faults = [
+    if read == 0 {
+        return Ok(());
+    }
+    lines_of(out, label, read, bytes, &super_faults_of(bytes))
+}
+
+/// The faults that may stand in the bytes of a superblock, in the order in which it is refused by them.
+pub fn super_faults_of(bytes: &[u8; 4096]) -> [SuperFault; 8]
+    ensures { result ≡ faults_of bytes.now }
+{
+    [
         SuperFault::Magic,
         SuperFault::Major,
         SuperFault::MaxDev,
         SuperFault::Checksum,
         SuperFault::SuperOffset,
-        SuperFault::Feature(u32_at(bytes, 8) & UNSUPPORTED_FEATURES),
+        SuperFault::Feature(unsupported_features(bytes)),
         SuperFault::Level,
         SuperFault::RaidDisks,
-    ];
-    lines_of(out, label, bytes, &faults)
+    ]
 }
 
 fn lines_of<S: Sink>(
     out: &mut S,
     label: &str,
+    read: u32,
     bytes: &[u8; 4096],
     faults: &[SuperFault],
 ) -> Result<(), SinkFault>
-    ensures { PutsOrFails S.contents S.failed out.old out.new (flat_map (super_fault_text label.now bytes.now) faults.now) result }
+    requires some { 0 < read }
+    requires few { read ≤ 8 }
+    ensures { PutsOrFails S.contents S.failed out.old out.new (flat_map (super_fault_text label.now read bytes.now) faults.now) result }
 {
     for fault in faults {
-        line_where_it_stands(out, label, bytes, *fault)?;
+        line_where_it_stands(out, label, read, bytes, *fault)?;
     }
     Ok(())
 }
@@ -55,16 +73,55 @@ fn lines_of<S: Sink>(
 fn line_where_it_stands<S: Sink>(
     out: &mut S,
     label: &str,
+    read: u32,
     bytes: &[u8; 4096],
     fault: SuperFault,
 ) -> Result<(), SinkFault>
-    ensures { PutsOrFails S.contents S.failed out.old out.new (super_fault_text label.now bytes.now fault) result }
+    requires some { 0 < read }
+    requires few { read ≤ 8 }
+    ensures { PutsOrFails S.contents S.failed out.old out.new (super_fault_text label.now read bytes.now fault) result }
 {
-    if super_fault_stands(bytes, fault) {
+    if super_fault_is_seen(read, bytes, fault) {
         fault_name_line(out, label, fault)
     } else {
         Ok(())
     }
+}
+
+/// The bits of the feature map that are no feature of this project.
+pub fn unsupported_features(bytes: &[u8; 4096]) -> u32
+    ensures { result ≡ unsupported_features (number_at 4 8 bytes.now) }
+{
+    u32_at(bytes, 8) & UNSUPPORTED_FEATURES
+}
+
+/// Whether a fault stands, and can be told by the first so many sectors.
+pub fn super_fault_is_seen(read: u32, bytes: &[u8; 4096], fault: SuperFault) -> bool
+    requires some { 0 < read }
+    requires few { read ≤ 8 }
+    ensures { result ≡ is_seen read bytes.now fault }
+{
+    is_told(read, bytes, fault) && super_fault_stands(bytes, fault)
+}
+
+fn is_told(read: u32, bytes: &[u8; 4096], fault: SuperFault) -> bool
+    requires some { 0 < read }
+    requires few { read ≤ 8 }
+    ensures { result ≡ is_told read bytes.now fault }
+{
+    match fault {
+        SuperFault::Checksum => u32_at(bytes, 220) <= roles_read_in(read),
+        _ => true,
+    }
+}
+
+/// How many roles the first so many sectors of a superblock have room for.
+pub fn roles_read_in(read: u32) -> u32
+    requires some { 0 < read }
+    requires few { read ≤ 8 }
+    ensures { result ≡ roles_read_in read }
+{
+    256 * read - 128
 }
 
 fn fault_name_line<S: Sink>(out: &mut S, label: &str, fault: SuperFault) -> Result<(), SinkFault>
@@ -76,11 +133,12 @@ fn fault_name_line<S: Sink>(out: &mut S, label: &str, fault: SuperFault) -> Resu
             let bits = buffer.format(bits).as_bytes();
             two_part_line(out, label, b"Feature ", bits)
         }
-        _ => line(out, label, name_of(fault).as_bytes()),
+        _ => line(out, label, super_fault_name(fault).as_bytes()),
     }
 }
 
-fn name_of(fault: SuperFault) -> &'static str
+/// What a fault of a superblock is called.
+pub fn super_fault_name(fault: SuperFault) -> &'static str
     ensures { result.now ≡ super_fault_name fault }
 {
     match fault {
@@ -111,9 +169,7 @@ pub fn super_fault_stands(bytes: &[u8; 4096], fault: SuperFault) -> bool
             max_dev <= MAX_ROLES && u32_at(bytes, 216) != checksum(bytes, max_dev)
         }
         SuperFault::SuperOffset => u64_at(bytes, 144) != SUPER_SECTOR,
-        SuperFault::Feature(bits) => {
-            bits == u32_at(bytes, 8) & UNSUPPORTED_FEATURES && bits != 0
-        }
+        SuperFault::Feature(bits) => { bits == unsupported_features(bytes) && bits != 0 }
         SuperFault::Level => u32_at(bytes, 72) != LEVEL,
         SuperFault::RaidDisks => {
             let raid_disks = u32_at(bytes, 92);

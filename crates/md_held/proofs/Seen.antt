@@ -1,5 +1,5 @@
 -- A device of which no superblock was read, and whose signatures are looked for then.
-use Rattle.std.proofs.Common.{◌≡◌, ◌≢◌, ◌∙◌, ◌<◌, ◌≤◌, ℕ, List, ◌∷◌, [], true, sym, ap, arith, subst}
+use Rattle.std.proofs.Common.{◌≡◌, ◌≢◌, ◌∙◌, ◌<◌, ◌≤◌, ℕ, Bool, List, ◌∷◌, [], true, false, inl, inr, sym, ap, arith, subst}
 use Rattle.std.specs.List.{filter}
 use Rattle.md_members.specs.declared.fault.MemberFault.{MemberFault}
 use Rattle.md_members.specs.declared.fault.MemberFault.TheVariants.{TooShort, ReadFault, Super, Region, Bitmap, Log, NoMemory}
@@ -10,8 +10,8 @@ use Rattle.md_signatures.specs.Finding.{signatures}
 use Rattle.md_signatures.specs.Reading.{IsOnlySearched}
 use Rattle.md_state.specs.View.{Disk, of_disks}
 use Rattle.md_held.specs.declared.held.Held.{Held}
-use Rattle.md_held.specs.declared.held.Held.TheVariants.{Nothing, Unseen, Member, Signed}
-use Rattle.md_held.specs.Holding.{BearsFirst, HasNoSuper, IsToldOfDevice, HoldsSigned, borne}
+use Rattle.md_held.specs.declared.held.Held.TheVariants.{Nothing, Unseen, Unread, Member, Signed}
+use Rattle.md_held.specs.Holding.{BearsFirst, HasNoSuper, IsToldOfDevice, HoldsSigned, LacksSuper, borne}
 
 -- a failure that was counted stays so
 refused_still : {F G : Type 0} (content : List ℕ) (honest : _) (fault : MemberFault) → (F → G) → RefusesSuper content honest F fault → RefusesSuper content honest G fault
@@ -37,11 +37,24 @@ module _ (a b c : Disk) (fault : MemberFault) (first : IsOnlySearched of_disks a
   as_borne : borne a ≡ borne b
   as_borne = ap (λ (content : List ℕ). filter (bears content) signatures) (sym first.kept)
 
-  pub seen_then : (held : Held) → HoldsSigned b c held → IsToldOfDevice a c held
-  seen_then Nothing h = (no_super, λ is same. as_borne ∙ h (first.honest ∙ is) (late same))
-  seen_then Unseen h = h
-  seen_then (Member v) h = absurd h
-  seen_then (Signed s) h = (
+  lacks : fault ≢ ReadFault → LacksSuper a c
+  unfolding no_super
+  lacks read = record { fault = fault; no_memory = other; read = read; refused = no_super.refused }
+
+  -- the read of the superblock failed
+  read_failed : (f : MemberFault) → f ≡ ReadFault → RefusesSuper a.content a.honest (a.failures < b.failures) f → a.honest ≡ true → a.failures < c.failures
+  read_failed f is h honest = let failed = by is h in let more = then.counted in omega (arith, failed, more)
+    where
+      by : f ≡ ReadFault → RefusesSuper a.content a.honest (a.failures < b.failures) f → a.failures < b.failures
+      by e r = (subst (λ x. RefusesSuper a.content a.honest (a.failures < b.failures) x) e r).1 honest
+
+  pub seen_then : (failed : Bool) → (failed ≡ true → fault ≡ ReadFault) → (failed ≡ false → fault ≢ ReadFault) → (held : Held) → HoldsSigned failed b c held → IsToldOfDevice a c held
+  seen_then failed told untold Nothing h = (lacks (untold h.0), λ is. as_borne ∙ h.1 (first.honest ∙ is))
+  seen_then failed told untold Unseen h = h
+  seen_then failed told untold Unread (inl e) = (no_super, λ is. read_failed fault (told e) refused is)
+  seen_then failed told untold Unread (inr more) = (no_super, λ is. let late_one = more (first.honest ∙ is) in let early = first.counted in omega (arith, late_one, early))
+  seen_then failed told untold (Member v) h = absurd h
+  seen_then failed told untold (Signed s) h = (
     no_super,
     record {
       bears_it = λ is. ap (λ (content : List ℕ). bears content s) (sym first.kept) ∙ h.bears_it (first.honest ∙ is);

@@ -1,10 +1,10 @@
 -- What a device holds, as far as it is told: of bytes that are usual signs of it, and of which this project's own is a superblock
 -- that it takes.
-use Rattle.std.specs.Prelude.{◌≡◌, ◌≢◌, ℕ, ◌<◌, Bool, true, false, List, [], ◌∷◌, length, Some, slice_get}
+use Rattle.std.specs.Prelude.{◌≡◌, ◌≢◌, ◌⊎◌, ℕ, ◌<◌, Bool, true, false, List, [], ◌∷◌, length, Some, slice_get}
 use Rattle.std.specs.List.{filter}
 use Rattle.md_super.specs.declared.superblock.Superblock.{Superblock}
 use Rattle.md_members.specs.declared.fault.MemberFault.{MemberFault}
-use Rattle.md_members.specs.declared.fault.MemberFault.TheVariants.{NoMemory}
+use Rattle.md_members.specs.declared.fault.MemberFault.TheVariants.{NoMemory, ReadFault}
 use Rattle.md_members.specs.Reading.{ReadsSuper, RefusesSuper}
 use Rattle.md_signatures.specs.declared.signature.Signature.{Signature}
 use Rattle.md_signatures.specs.Bearing.{bears}
@@ -12,20 +12,22 @@ use Rattle.md_signatures.specs.Finding.{signatures}
 use Rattle.md_signatures.specs.Reading.{IsOnlySearched}
 use Rattle.md_state.specs.View.{Disk, of_disks}
 use Rattle.md_held.specs.declared.held.Held.{Held}
-use Rattle.md_held.specs.declared.held.Held.TheVariants.{Nothing, Unseen, Member, Signed}
+use Rattle.md_held.specs.declared.held.Held.TheVariants.{Nothing, Unseen, Unread, Member, Signed}
 
 -- What a device holds is told before the device is overwritten. Of one that was not looked at nobody knows
 -- what it is, and that is told too: so what can't be told of it is no way to overwrite it untold.
 abbrev pub needs_telling : Held → Bool
 needs_telling Nothing = false
 needs_telling Unseen = true
+needs_telling Unread = true
 needs_telling (Member v) = true
 needs_telling (Signed s) = true
 
--- nobody looked at it
+-- nobody looked at it, or it could not be read
 abbrev pub is_unseen : Held → Bool
 is_unseen Nothing = false
 is_unseen Unseen = true
+is_unseen Unread = true
 is_unseen (Member v) = false
 is_unseen (Signed s) = false
 
@@ -44,20 +46,31 @@ pub record BearsFirst (d e : Disk) (s : Signature) : Type 0 where
   pub bears_it : d.honest ≡ true → bears d.content s ≡ true
   pub first : d.honest ≡ true → e.failures ≡ d.failures → (rest : List Signature) × (borne d ≡ s ∷ rest)
 
--- What is told of the signatures of a device is so, where it is honest: it is the first, or where no call failed, there is none.
-abbrev pub HoldsSigned : Disk → Disk → Held → Type 0
-HoldsSigned d e Nothing = d.honest ≡ true → e.failures ≡ d.failures → borne d ≡ []
-HoldsSigned d e Unseen = Unit {0}
-HoldsSigned d e (Member v) = ⊥
-HoldsSigned d e (Signed s) = BearsFirst d e s
+-- no superblock is taken on the device, and it was read
+pub record LacksSuper (d e : Disk) : Type 0 where
+  pub fault : MemberFault
+  pub no_memory : fault ≢ NoMemory
+  pub read : fault ≢ ReadFault
+  pub refused : RefusesSuper d.content d.honest (d.failures < e.failures) fault
 
--- What is told of a device, before a look at it and after that: its superblock, or where none can be read, its first signature. Of a
--- device that is not honest it is told of some bytes that were read.
+-- What is told of the signatures of a device is so, where it is honest: it is the first, or there is none. Where a read of it failed,
+-- also one before, it is not told that there is none.
+abbrev pub HoldsSigned : Bool → Disk → Disk → Held → Type 0
+HoldsSigned failed d e Nothing = (failed ≡ false) × (d.honest ≡ true → borne d ≡ [])
+HoldsSigned failed d e Unseen = Unit {0}
+HoldsSigned failed d e Unread = (failed ≡ true) ⊎ (d.honest ≡ true → d.failures < e.failures)
+HoldsSigned failed d e (Member v) = ⊥
+HoldsSigned failed d e (Signed s) = BearsFirst d e s
+
+-- What is told of a device, before a look at it and after that: its superblock, or where none can be read, its first signature. That it
+-- holds nothing which is known is told only where each read of it was done. Of a device that is not honest it is told of some bytes
+-- that were read.
 abbrev pub IsToldOfDevice : Disk → Disk → Held → Type 0
-IsToldOfDevice d e Nothing = HasNoSuper d e × HoldsSigned d e Nothing
+IsToldOfDevice d e Nothing = LacksSuper d e × (d.honest ≡ true → borne d ≡ [])
 IsToldOfDevice d e Unseen = Unit {0}
+IsToldOfDevice d e Unread = HasNoSuper d e × (d.honest ≡ true → d.failures < e.failures)
 IsToldOfDevice d e (Member v) = ReadsSuper d.content d.honest v
-IsToldOfDevice d e (Signed s) = HasNoSuper d e × HoldsSigned d e (Signed s)
+IsToldOfDevice d e (Signed s) = HasNoSuper d e × BearsFirst d e s
 
 -- a device was looked at: it was only read, and this is what it holds
 pub record LooksAtOne (d e : Disk) (held : Held) : Type 0 where
@@ -67,7 +80,8 @@ pub record LooksAtOne (d e : Disk) (held : Held) : Type 0 where
 -- the device in this place was looked at
 abbrev pub LooksAtPlace : List Disk → List Disk → List Held → ℕ → Type 0
 LooksAtPlace before after held k =
-    (d e : Disk) (h : Held) → slice_get before k ≡ Some d → slice_get after k ≡ Some e → slice_get held k ≡ Some h → LooksAtOne d e h
+    (d e : Disk) (h : Held) → slice_get before k ≡ Some d → slice_get after k ≡ Some e
+    → slice_get held k ≡ Some h → LooksAtOne d e h
 
 -- each of the devices was
 pub record LooksAtEach (before after : List Disk) (held : List Held) : Type 0 where

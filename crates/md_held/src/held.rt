@@ -13,10 +13,12 @@ use std::alloc::Global;
 /// What a device holds, as far as it is told.
 #[derive(Drop)]
 pub enum Held {
-    /// Nothing that is known. So it may be too where the device can't be read.
+    /// Nothing that is known.
     Nothing,
     /// Whatever it is: there was no memory to look.
     Unseen,
+    /// Nothing was found, but a read of the device failed.
+    Unread,
     /// It is a member of an array: its superblock.
     Member(Superblock),
     /// The first of what some of its bytes say.
@@ -30,16 +32,16 @@ impl Held {
     {
         match self {
             Held::Nothing => false,
-            Held::Unseen | Held::Member(_) | Held::Signed(_) => true,
+            Held::Unseen | Held::Unread | Held::Member(_) | Held::Signed(_) => true,
         }
     }
 
-    /// Whether nobody looked at it.
+    /// Whether nobody looked at it, or it could not be read.
     pub fn is_unseen(&self) -> bool
         ensures { result ≡ is_unseen self.now }
     {
         match self {
-            Held::Unseen => true,
+            Held::Unseen | Held::Unread => true,
             Held::Nothing | Held::Member(_) | Held::Signed(_) => false,
         }
     }
@@ -56,21 +58,24 @@ pub fn held_on<D: Device>(alloc: Global, device: &mut D) -> Held
             if fault == MemberFault::NoMemory {
                 return Held::Unseen;
             }
-            signature_on(alloc, device)
+            let has_failed = fault == MemberFault::ReadFault;
+            signature_on(alloc, device, has_failed)
         }
     }
 }
 
-// The first signature that a device bears of which no superblock was read.
-fn signature_on<D: Device>(alloc: Global, device: &mut D) -> Held
+// The first signature that a device bears of which no superblock was read, perhaps since that failed.
+fn signature_on<D: Device>(alloc: Global, device: &mut D, has_failed: bool) -> Held
     ensures only_read { IsOnlySearched of_disks (disk_of D.Device device.old) (disk_of D.Device device.new) }
-    ensures holds { HoldsSigned (disk_of D.Device device.old) (disk_of D.Device device.new) result }
+    ensures holds { HoldsSigned has_failed (disk_of D.Device device.old) (disk_of D.Device device.new)
+        result }
 {
-    let Ok(found) = find_signatures(alloc, device) else {
+    let Ok(look) = find_signatures(alloc, device) else {
         return Held::Unseen;
     };
-    match found.as_slice().first() {
+    match look.found.as_slice().first() {
         Some(signature) => Held::Signed(*signature),
+        None if has_failed || look.has_failed => Held::Unread,
         None => Held::Nothing,
     }
 }

@@ -1,3 +1,4 @@
 pub mod Members
 pub mod Ranges
 pub mod Texts
+pub mod Chosen

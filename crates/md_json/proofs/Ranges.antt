@@ -21,7 +21,7 @@ after_one later x xs =
     later_next later (length xs) ∙ ap (is_later later) (sym many)
 
 -- the text of one more element
-element_more : {X : Type 0} (f : X → Data) (later : Bool) (xs : List X) (x : X) → elements_text f later xs ++ (comma_if (is_later later (length xs)) ++ compact_text (f x)) ≡ elements_text f later (xs ++ x ∷ [])
+pub element_more : {X : Type 0} (f : X → Data) (later : Bool) (xs : List X) (x : X) → elements_text f later xs ++ (comma_if (is_later later (length xs)) ++ compact_text (f x)) ≡ elements_text f later (xs ++ x ∷ [])
 unfolding elements_text
 element_more f later [] x = sym (append-nil (comma_if later ++ compact_text (f x)))
 element_more f later (y ∷ ys) x =

@@ -1,5 +1,5 @@
 -- Lemmas on the map that is written.
-use Rattle.std.proofs.Common.{◌≡◌, ◌≢◌, ℕ, suc, zero, ◌+◌, ◌-◌, ◌*◌, ◌^◌, ◌<◌, ◌≤◌, ◌↔◌, ⊎_elim, inl, inr, Bool, true, false, cond, eqb, not, codes, min, List, [], ◌∷◌, ◌++◌, append_assoc, length, map, replicate, drop, nat_le, ◌&&◌, get_or, Some, refl, ap, sym, subst, ◌∙◌, arith, lit<, lit≤, length-append}
+use Rattle.std.proofs.Common.{◌≡◌, ◌≢◌, ◌⊎◌, nat_lt, ℕ, suc, zero, ◌+◌, ◌-◌, ◌*◌, ◌^◌, ◌<◌, ◌≤◌, ◌↔◌, ⊎_elim, inl, inr, Bool, true, false, cond, eqb, not, codes, min, List, [], ◌∷◌, ◌++◌, append_assoc, length, map, replicate, drop, nat_le, ◌&&◌, get_or, Some, refl, ap, sym, subst, ◌∙◌, arith, lit<, lit≤, length-append}
 use Rattle.std.specs.List.{filter, flat_map, All, list_all}
 use Rattle.std.specs.Char.{digit_value}
 use Rattle.std.specs.Str.Parse.{AllDigits, IsNumeral, digits_value}
@@ -19,7 +19,7 @@ use Rattle.md_maps.specs.Lines.{is_space, is_word, is_line_feed, is_no_comment, 
 use Rattle.md_maps.specs.Numbers.{numeral, number_of}
 use Rattle.md_maps.specs.Rows.{rescued_of, is_current_status, IsStatusRow, IsBlockRow}
 use Rattle.md_maps.specs.Map.{is_row, rows_of, AreBlocks, IsSaid, end_of_blocks, IsMissing, IsMapReadAs}
-use Rattle.md_maps.specs.Writing.{block, rescued_between, blocks_from, hexadecimal, status_text, block_line, ended, head_lines, map_text}
+use Rattle.md_maps.specs.Writing.{block, rescued_between, blocks_from, hexadecimal, status_text, block_line, ended, head_lines, lines_text, map_text, untried_before}
 use Rattle.md_maps.specs.declared.line.Block.{Block}
 use Rattle.md_maps.proofs.Words.{words, words-space, fields-first, fields_from_words}
 use Rattle.md_maps.proofs.Numerals.{reads}
@@ -111,10 +111,11 @@ fields_then w rest high some other =
 fields_blank : (rest : List ℕ) → fields_of (32 ∷ rest) ≡ fields_of rest
 fields_blank rest = fields_from_words (32 ∷ rest) rest (words-space 32 rest refl)
 
-fields_status : (r : Bool) → fields_of (status_text r) ≡ status_text r ∷ []
+fields_status : (r u : Bool) → fields_of (status_text r u) ≡ status_text r u ∷ []
 unfolding fields_of
-fields_status true = refl
-fields_status false = refl
+fields_status true u = refl
+fields_status false true = refl
+fields_status false false = refl
 
 hexadecimal_first : (n : ℕ) → get_or (hexadecimal n) 0 0 ≡ 48
 hexadecimal_first n = ap (λ (xs : List ℕ). get_or xs 0 0) (hexadecimal_is n)
@@ -126,33 +127,43 @@ hexadecimal_field : (n : ℕ) (rest : List ℕ) → n < 2 ^ 64 → fields_of (he
 hexadecimal_field n rest small =
     fields_then (hexadecimal n) rest (hexadecimal_high n small) (hexadecimal_some n) (λ e. absurd (omega (arith, e, hexadecimal_first n)))
 
-fields_block : (b : Block) → b.start < 2 ^ 64 → b.len < 2 ^ 64 → fields_of (block_line b) ≡ hexadecimal b.start ∷ hexadecimal b.len ∷ status_text b.rescued ∷ []
+fields_block : (tried : ℕ) (b : Block) → b.start < 2 ^ 64 → b.len < 2 ^ 64 → fields_of (block_line tried b) ≡ hexadecimal b.start ∷ hexadecimal b.len ∷ status_text b.rescued (nat_lt b.start tried) ∷ []
 unfolding block_line
-fields_block b start len =
-    hexadecimal_field b.start (32 ∷ (hexadecimal b.len ++ 32 ∷ 32 ∷ status_text b.rescued)) start
-    ∙ ap (λ (fs : List (List ℕ)). hexadecimal b.start ∷ fs) (fields_blank (hexadecimal b.len ++ 32 ∷ 32 ∷ status_text b.rescued) ∙ hexadecimal_field b.len (32 ∷ status_text b.rescued) len
-    ∙ ap (λ (fs : List (List ℕ)). hexadecimal b.len ∷ fs) (fields_blank (status_text b.rescued) ∙ fields_status b.rescued))
+fields_block tried b start len =
+    hexadecimal_field b.start (32 ∷ (hexadecimal b.len ++ 32 ∷ 32 ∷ status_text b.rescued (nat_lt b.start tried))) start
+    ∙ ap (λ (fs : List (List ℕ)). hexadecimal b.start ∷ fs) (fields_blank (hexadecimal b.len ++ 32 ∷ 32 ∷ status_text b.rescued (nat_lt b.start tried)) ∙ hexadecimal_field b.len (32 ∷ status_text b.rescued (nat_lt b.start tried)) len
+    ∙ ap (λ (fs : List (List ℕ)). hexadecimal b.len ∷ fs) (fields_blank (status_text b.rescued (nat_lt b.start tried)) ∙ fields_status b.rescued (nat_lt b.start tried)))
 
-status_back : (r : Bool) → rescued_of (status_text r) ≡ Some r
+status_back : (r u : Bool) → rescued_of (status_text r u) ≡ Some r
 unfolding rescued_of
-status_back true = refl
-status_back false = refl
+status_back true u = refl
+status_back false true = refl
+status_back false false = refl
 
-block_row : (b : Block) → b.start < 2 ^ 64 → b.len < 2 ^ 64 → IsBlockRow (fields_of (block_line b)) b
-block_row b start len =
-    (hexadecimal b.start, hexadecimal b.len, status_text b.rescued, fields_block b start len, number_back b.start start, number_back b.len len, status_back b.rescued)
+block_row : (tried : ℕ) (b : Block) → b.start < 2 ^ 64 → b.len < 2 ^ 64 → IsBlockRow (fields_of (block_line tried b)) b
+block_row tried b start len = (
+  hexadecimal b.start,
+  hexadecimal b.len,
+  status_text b.rescued (nat_lt b.start tried),
+  fields_block tried b start len,
+  number_back b.start start,
+  number_back b.len len,
+  status_back b.rescued (nat_lt b.start tried),
+)
 
-block_line_byte : (b : Block) → b.start < 2 ^ 64 → b.len < 2 ^ 64 → list_all is_line_byte (block_line b) ≡ true
+status_byte : (r u : Bool) → list_all is_line_byte (status_text r u) ≡ true
+status_byte true u = refl
+status_byte false true = refl
+status_byte false false = refl
+
+block_line_byte : (tried : ℕ) (b : Block) → b.start < 2 ^ 64 → b.len < 2 ^ 64 → list_all is_line_byte (block_line tried b) ≡ true
 unfolding block_line
-block_line_byte b start len =
-    list_all-append is_line_byte (hexadecimal b.start) (32 ∷ 32 ∷ (hexadecimal b.len ++ 32 ∷ 32 ∷ status_text b.rescued))
-    ∙ and_from (list_all is_line_byte (hexadecimal b.start)) (list_all is_line_byte (hexadecimal b.len ++ 32 ∷ 32 ∷ status_text b.rescued)) (high_line (hexadecimal b.start) (hexadecimal_high b.start start))
-    (list_all-append is_line_byte (hexadecimal b.len) (32 ∷ 32 ∷ status_text b.rescued)
-    ∙ and_from (list_all is_line_byte (hexadecimal b.len)) (list_all is_line_byte (status_text b.rescued)) (high_line (hexadecimal b.len) (hexadecimal_high b.len len)) (last b.rescued))
-  where
-    last : (r : Bool) → list_all is_line_byte (status_text r) ≡ true
-    last true = refl
-    last false = refl
+block_line_byte tried b start len =
+    let status : List ℕ = status_text b.rescued (nat_lt b.start tried) in
+    list_all-append is_line_byte (hexadecimal b.start) (32 ∷ 32 ∷ (hexadecimal b.len ++ 32 ∷ 32 ∷ status))
+    ∙ and_from (list_all is_line_byte (hexadecimal b.start)) (list_all is_line_byte (hexadecimal b.len ++ 32 ∷ 32 ∷ status)) (high_line (hexadecimal b.start) (hexadecimal_high b.start start))
+    (list_all-append is_line_byte (hexadecimal b.len) (32 ∷ 32 ∷ status)
+    ∙ and_from (list_all is_line_byte (hexadecimal b.len)) (list_all is_line_byte status) (high_line (hexadecimal b.len) (hexadecimal_high b.len len)) (status_byte b.rescued (nat_lt b.start tried)))
 
 -- ---- the lines of the text
 
@@ -173,20 +184,20 @@ abbrev IsChain : ℕ → ℕ → List Block → Type 0
 IsChain size from [] = Unit {0}
 IsChain size from (b ∷ bs) = (b.start ≡ from) × (from + b.len ≤ size) × IsChain size (from + b.len) bs
 
-chain_lines : (size from : ℕ) (bs : List Block) → size ≤ 2 ^ 63 → from ≤ size → IsChain size from bs → AreLines (map block_line bs)
-chain_lines size from [] small low chain = tt
-chain_lines size from (b ∷ bs) small low chain =
-    (block_line_byte b (omega (arith, chain.0)) (omega (arith, chain.1)), chain_lines size (from + b.len) bs small chain.1 chain.2)
+chain_lines : (size tried from : ℕ) (bs : List Block) → size ≤ 2 ^ 63 → from ≤ size → IsChain size from bs → AreLines (map (block_line tried) bs)
+chain_lines size tried from [] small low chain = tt
+chain_lines size tried from (b ∷ bs) small low chain =
+    (block_line_byte tried b (omega (arith, chain.0)) (omega (arith, chain.1)), chain_lines size tried (from + b.len) bs small chain.1 chain.2)
 
-chain_rows : (size from : ℕ) (bs : List Block) → size ≤ 2 ^ 63 → from ≤ size → IsChain size from bs → AreBlocks size from (rows_of (map block_line bs)) bs
+chain_rows : (size tried from : ℕ) (bs : List Block) → size ≤ 2 ^ 63 → from ≤ size → IsChain size from bs → AreBlocks size from (rows_of (map (block_line tried) bs)) bs
 unfolding rows_of
-chain_rows size from [] small low chain = tt
-chain_rows size from (b ∷ bs) small low chain =
+chain_rows size tried from [] small low chain = tt
+chain_rows size tried from (b ∷ bs) small low chain =
     let start : b.start < 2 ^ 64 = omega (arith, chain.0) in
     let len : b.len < 2 ^ 64 = omega (arith, chain.1) in
-    let some : is_row (fields_of (block_line b)) ≡ true = ap is_row (fields_block b start len) ∙ lt-ltb 0 (length (hexadecimal b.start ∷ hexadecimal b.len ∷ status_text b.rescued ∷ [])) (omega arith) in
-    subst (λ (c : Bool). AreBlocks size from (cond c (fields_of (block_line b) ∷ filter is_row (map fields_of (map block_line bs))) (filter is_row (map fields_of (map block_line bs)))) (b ∷ bs)) (sym some)
-    (block_row b start len, chain.0, chain.1, chain_rows size (from + b.len) bs small chain.1 chain.2)
+    let some : is_row (fields_of (block_line tried b)) ≡ true = ap is_row (fields_block tried b start len) ∙ lt-ltb 0 (length (hexadecimal b.start ∷ hexadecimal b.len ∷ status_text b.rescued (nat_lt b.start tried) ∷ [])) (omega arith) in
+    subst (λ (c : Bool). AreBlocks size from (cond c (fields_of (block_line tried b) ∷ filter is_row (map fields_of (map (block_line tried) bs))) (filter is_row (map fields_of (map (block_line tried) bs)))) (b ∷ bs)) (sym some)
+    (block_row tried b start len, chain.0, chain.1, chain_rows size tried (from + b.len) bs small chain.1 chain.2)
 
 gap_chain : (size from to : ℕ) (rest : List Block) → from ≤ to → to ≤ size → IsChain size to rest → IsChain size from (rescued_between from to ++ rest)
 gap_chain size from to rest low high chain =
@@ -210,6 +221,46 @@ gap_missing from to rest s =
     (λ some. subst (λ (c : Bool). IsMissing (cond c (block from (to - from) true ∷ []) [] ++ rest) s ↔ IsMissing rest s) (sym (lt-ltb from to some)) (λ h. ⊎_elim (λ lost. absurd (false≢true (sym lost.0))) (λ x. x) h, λ h. inr h))
     (λ none. subst (λ (c : Bool). IsMissing (cond c (block from (to - from) true ∷ []) [] ++ rest) s ↔ IsMissing rest s) (sym (le-ltb from to none)) (λ h. h, λ h. h))
     (cases_lt from to)
+
+-- ---- the bytes that were not tried
+untried_chain : (size to : ℕ) (rest : List Block) → to ≤ size → IsChain size to rest → IsChain size 0 (untried_before to ++ rest)
+untried_chain size to rest high chain =
+    ⊎_elim
+    (λ some. let same : 0 + to ≡ to = omega arith in
+    subst (λ (c : Bool). IsChain size 0 (cond c (block 0 to false ∷ []) [] ++ rest)) (sym (lt-ltb 0 to some)) (refl, omega (arith, high), subst (λ (n : ℕ). IsChain size n rest) (sym same) chain))
+    (λ none. let same : to ≡ 0 = omega (arith, none) in
+    subst (λ (c : Bool). IsChain size 0 (cond c (block 0 to false ∷ []) [] ++ rest)) (sym (le-ltb 0 to none)) (subst (λ (n : ℕ). IsChain size n rest) same chain))
+    (cases_lt 0 to)
+
+untried_end : (to : ℕ) (rest : List Block) → end_of_blocks (untried_before to ++ rest) ≡ to + end_of_blocks rest
+untried_end to rest =
+    ⊎_elim
+    (λ some. ap (λ (c : Bool). end_of_blocks (cond c (block 0 to false ∷ []) [] ++ rest)) (lt-ltb 0 to some) ∙ end-cons (block 0 to false) rest)
+    (λ none. ap (λ (c : Bool). end_of_blocks (cond c (block 0 to false ∷ []) [] ++ rest)) (le-ltb 0 to none) ∙ omega (arith, none))
+    (cases_lt 0 to)
+
+untried_missing : (first : ℕ) (rest : List Block) (s : ℕ) → IsMissing (untried_before (512 * first) ++ rest) s ↔ ((s < first) ⊎ IsMissing rest s)
+untried_missing first rest s =
+    ⊎_elim
+    (λ some. subst (λ (c : Bool). IsMissing (cond c (block 0 (512 * first) false ∷ []) [] ++ rest) s ↔ ((s < first) ⊎ IsMissing rest s)) (sym (lt-ltb 0 (512 * first) some)) (
+      λ h. ⊎_elim (λ lost. inl (omega (arith, lost.1.2, lost.1.3))) (λ later. inr later) h,
+      λ h. ⊎_elim (λ early. inl (refl, (512 * s, omega arith, omega (arith, early), omega arith))) (λ later. inr later) h,
+    ))
+    (λ none. subst (λ (c : Bool). IsMissing (cond c (block 0 (512 * first) false ∷ []) [] ++ rest) s ↔ ((s < first) ⊎ IsMissing rest s)) (sym (le-ltb 0 (512 * first) none)) (
+      λ h. inr h,
+      λ h. ⊎_elim (λ early. absurd (omega (arith, early, none))) (λ later. later) h,
+    ))
+    (cases_lt 0 (512 * first))
+
+-- no sector is lacking before the first that was tried
+abbrev pub AreTried : ℕ → List Run → Type 0
+AreTried first runs = (s : ℕ) → IsBad runs s → first ≤ s
+
+rises_tried : (first low : ℕ) (runs : List Run) → RisesFrom low runs → AreTried first runs → RisesFrom first runs
+rises_tried first low [] rises tried = tt
+rises_tried first low (run ∷ runs) rises tried =
+    let from : first ≤ run.start = tried run.start (inl (omega arith, omega (arith, rises.1))) in
+    (from, rises.1, rises.2, rises.3)
 
 -- the runs lie within the image
 abbrev pub AreWithin : ℕ → List Run → Type 0
@@ -268,56 +319,71 @@ head_status : IsStatusRow (codes "0x00000000" ∷ codes "+" ∷ codes "1" ∷ []
 unfolding number_of numeral is_current_status
 head_status = (codes "0x00000000", codes "+", codes "1", refl, refl, refl, refl)
 
-map_lines : (bs : List Block) → flat_map (λ b. ended (block_line b)) bs ≡ flat_map ended (map block_line bs)
-map_lines [] = refl
-map_lines (b ∷ bs) = ap (λ (xs : List ℕ). ended (block_line b) ++ xs) (map_lines bs)
+map_lines : (tried : ℕ) (bs : List Block) → lines_text tried bs ≡ flat_map ended (map (block_line tried) bs)
+map_lines tried [] = refl
+map_lines tried (b ∷ bs) = ap (λ (xs : List ℕ). ended (block_line tried b) ++ xs) (map_lines tried bs)
 
-text_lines : (size : ℕ) (runs : List Run) → map_text size runs ≡ flat_map ended (head_lines ++ map block_line (blocks_from size 0 runs))
+abbrev all_blocks : ℕ → ℕ → List Run → List Block
+all_blocks size tried runs = untried_before tried ++ blocks_from size tried runs
+
+text_lines : (size tried : ℕ) (runs : List Run) → map_text size tried runs ≡ flat_map ended (head_lines ++ map (block_line tried) (all_blocks size tried runs))
 unfolding map_text
-text_lines size runs = ap (λ (xs : List ℕ). flat_map ended head_lines ++ xs) (map_lines (blocks_from size 0 runs)) ∙ sym (flat_map-append ended head_lines (map block_line (blocks_from size 0 runs)))
+text_lines size tried runs =
+    ap (λ (xs : List ℕ). flat_map ended head_lines ++ xs) (map_lines tried (all_blocks size tried runs))
+    ∙ sym (flat_map-append ended head_lines (map (block_line tried) (all_blocks size tried runs)))
 
-pub read_back : (size : ℕ) (text : List ℕ) (runs : List Run) → size ≤ 2 ^ 63 → IsCanonical runs → AreWithin size runs → text ≡ map_text size runs → IsMapReadAs size text runs
-read_back size text runs small canonical within is =
-    let chain = chain_from size 0 0 runs canonical (omega arith) (omega arith) within in
-    let lines : List (List ℕ) = head_lines ++ map block_line (blocks_from size 0 runs) in
-    let are : AreLines (head_lines ++ map block_line (blocks_from size 0 runs)) = (refl, (refl, (refl, (refl, chain_lines size 0 (blocks_from size 0 runs) small (omega arith) chain.0)))) in
+pub read_back : (size first : ℕ) (text : List ℕ) (runs : List Run) → size ≤ 2 ^ 63 → 512 * first ≤ size → IsCanonical runs → AreTried first runs → AreWithin size runs → text ≡ map_text size (512 * first) runs
+    → (lacking : List Run) → ((s : ℕ) → IsBad lacking s ↔ ((s < first) ⊎ IsBad runs s)) → IsMapReadAs size text lacking
+read_back size first text runs small start canonical tried within is lacking all =
+    let from : ℕ = 512 * first in
+    let bs : List Block = all_blocks size (512 * first) runs in
+    let chain = chain_from size (512 * first) first runs (rises_tried first 0 runs canonical tried) (omega arith) start within in
+    let whole : IsChain size 0 (all_blocks size (512 * first) runs) = untried_chain size (512 * first) (blocks_from size (512 * first) runs) start chain.0 in
+    let lines : List (List ℕ) = map (block_line (512 * first)) (all_blocks size (512 * first) runs) in
+    let are : AreLines (head_lines ++ map (block_line (512 * first)) (all_blocks size (512 * first) runs)) = (refl, (refl, (refl, (refl, chain_lines size (512 * first) 0 (all_blocks size (512 * first) runs) small (omega arith) whole)))) in
     record {
-      blocks = blocks_from size 0 runs;
+      blocks = all_blocks size (512 * first) runs;
       map = record {
-        lines = head_lines ++ map block_line (blocks_from size 0 runs);
-        whole = ap lines_of (is ∙ text_lines size runs) ∙ lines_back (head_lines ++ map block_line (blocks_from size 0 runs)) are;
-        said = subst (λ (rows : List (List (List ℕ))). IsSaid size rows (Some (blocks_from size 0 runs))) (sym (head_rows (map block_line (blocks_from size 0 runs)))) (head_status, chain_rows size 0 (blocks_from size 0 runs) small (omega arith) chain.0);
-        full = omega (arith, chain.1);
+        lines = head_lines ++ map (block_line (512 * first)) (all_blocks size (512 * first) runs);
+        whole = ap lines_of (is ∙ text_lines size (512 * first) runs) ∙ lines_back (head_lines ++ map (block_line (512 * first)) (all_blocks size (512 * first) runs)) are;
+        said = subst (λ (rows : List (List (List ℕ))). IsSaid size rows (Some (all_blocks size (512 * first) runs))) (sym (head_rows (map (block_line (512 * first)) (all_blocks size (512 * first) runs)))) (head_status, chain_rows size (512 * first) 0 (all_blocks size (512 * first) runs) small (omega arith) whole);
+        full = untried_end (512 * first) (blocks_from size (512 * first) runs) ∙ chain.1;
       };
-      lacks = missing_from size 0 runs within;
+      lacks = λ s.
+          let some = untried_missing first (blocks_from size (512 * first) runs) s in
+          let later = missing_from size (512 * first) runs within s in (
+            λ bad. some.1 (⊎_elim (λ early. inl early) (λ bad. inr (later.0 bad)) ((all s).0 bad)),
+            λ missing. (all s).1 (⊎_elim (λ early. inl early) (λ m. inr (later.1 m)) (some.0 missing)),
+          );
     }
 
 -- ---- run by run
 
 -- the text up to a run: with the lines of what is left it is the whole
-pub record IsWrittenUpTo (size : ℕ) (runs : List Run) (i from : ℕ) (text : List ℕ) : Type 0 where
-  pub written : text ++ flat_map (λ b. ended (block_line b)) (blocks_from size from (drop i runs)) ≡ map_text size runs
+pub record IsWrittenUpTo (size tried : ℕ) (runs : List Run) (i from : ℕ) (text : List ℕ) : Type 0 where
+  pub written : text ++ lines_text tried (blocks_from size from (drop i runs)) ≡ map_text size tried runs
   pub low : ℕ
   pub rises : RisesFrom low (drop i runs)
   pub there : from ≤ 512 * low
   pub fits : from ≤ size
   pub within : AreWithin size (drop i runs)
 
-abbrev lines_text : List Block → List ℕ
-lines_text bs = flat_map (λ b. ended (block_line b)) bs
-
-pub write_start : (size : ℕ) (runs : List Run) (text : List ℕ) → text ≡ flat_map ended head_lines → IsCanonical runs → AreWithin size runs → IsWrittenUpTo size runs 0 0 text
+pub write_start : (size first : ℕ) (runs : List Run) (head text : List ℕ) → 512 * first ≤ size → head ≡ flat_map ended head_lines → text ≡ head ++ lines_text (512 * first) (untried_before (512 * first))
+    → IsCanonical runs → AreTried first runs → AreWithin size runs → IsWrittenUpTo size (512 * first) runs 0 (512 * first) text
 unfolding map_text
-write_start size runs text is canonical within = record {
-  written = ap (λ (xs : List ℕ). xs ++ lines_text (blocks_from size 0 runs)) is;
-  low = 0;
-  rises = canonical;
+write_start size first runs head text start is_head is canonical tried within = record {
+  written =
+      ap (λ (xs : List ℕ). xs ++ lines_text (512 * first) (blocks_from size (512 * first) runs)) (is ∙ ap (λ (xs : List ℕ). xs ++ lines_text (512 * first) (untried_before (512 * first))) is_head)
+      ∙ append_assoc (flat_map ended head_lines) (lines_text (512 * first) (untried_before (512 * first))) (lines_text (512 * first) (blocks_from size (512 * first) runs))
+      ∙ ap (λ (xs : List ℕ). flat_map ended head_lines ++ xs) (sym (flat_map-append (λ b. ended (block_line (512 * first) b)) (untried_before (512 * first)) (blocks_from size (512 * first) runs)));
+  low = first;
+  rises = rises_tried first 0 runs canonical tried;
   there = omega arith;
-  fits = omega arith;
+  fits = start;
   within = within;
 }
 
-module _ (size : ℕ) (runs : List Run) (i from : ℕ) (text : List ℕ) (up : IsWrittenUpTo size runs i from text) where
+module _ (size tried : ℕ) (runs : List Run) (i from : ℕ) (text : List ℕ) (up : IsWrittenUpTo size tried runs i from text) where
   module _ (run d : Run) (below : i < length runs) (is : run ≡ get_or runs i d) where
     rest_is : drop i runs ≡ run ∷ drop (i + 1) runs
     rest_is = let next : suc i ≡ i + 1 = omega arith in drop-cons runs i d below ∙ ap (λ (r : Run). r ∷ drop (suc i) runs) (sym is) ∙ ap (λ (n : ℕ). run ∷ drop n runs) next
@@ -334,20 +400,20 @@ module _ (size : ℕ) (runs : List Run) (i from : ℕ) (text : List ℕ) (up : I
         let r = run_at size from up.low run (drop (i + 1) runs) rises_here up.there within_here in
         (r.low, r.below, r.within, rises_here.2)
 
-    pub write_step : (mid new : List ℕ) (end : ℕ) → end ≡ run_end size run → mid ≡ text ++ lines_text (rescued_between from (512 * run.start))
-        → new ≡ mid ++ ended (block_line (block (512 * run.start) (end - 512 * run.start) false)) → IsWrittenUpTo size runs (i + 1) end new
+    pub write_step : (mid new : List ℕ) (end : ℕ) → end ≡ run_end size run → mid ≡ text ++ lines_text tried (rescued_between from (512 * run.start))
+        → new ≡ mid ++ ended (block_line tried (block (512 * run.start) (end - 512 * run.start) false)) → IsWrittenUpTo size tried runs (i + 1) end new
     write_step mid new end is_end is_mid is_new =
         let r = run_at size from up.low run (drop (i + 1) runs) rises_here up.there within_here in
         let gap : List Block = rescued_between from (512 * run.start) in
-        let lost : List ℕ = ended (block_line (block (512 * run.start) (end - 512 * run.start) false)) in
-        let more : List ℕ = lines_text (blocks_from size end (drop (i + 1) runs)) in
-        let all : lines_text (blocks_from size from (drop i runs)) ≡ lines_text (rescued_between from (512 * run.start)) ++ (ended (block_line (block (512 * run.start) (end - 512 * run.start) false)) ++ lines_text (blocks_from size end (drop (i + 1) runs))) =
-        ap (λ (rs : List Run). lines_text (blocks_from size from rs)) rest_is
-        ∙ ap (λ (e : ℕ). lines_text (rescued_between from (512 * run.start) ++ (block (512 * run.start) (e - 512 * run.start) false ∷ blocks_from size e (drop (i + 1) runs)))) (sym is_end)
-        ∙ flat_map-append (λ b. ended (block_line b)) (rescued_between from (512 * run.start)) (block (512 * run.start) (end - 512 * run.start) false ∷ blocks_from size end (drop (i + 1) runs)) in
+        let lost : List ℕ = ended (block_line tried (block (512 * run.start) (end - 512 * run.start) false)) in
+        let more : List ℕ = lines_text tried (blocks_from size end (drop (i + 1) runs)) in
+        let all : lines_text tried (blocks_from size from (drop i runs)) ≡ lines_text tried (rescued_between from (512 * run.start)) ++ (ended (block_line tried (block (512 * run.start) (end - 512 * run.start) false)) ++ lines_text tried (blocks_from size end (drop (i + 1) runs))) =
+        ap (λ (rs : List Run). lines_text tried (blocks_from size from rs)) rest_is
+        ∙ ap (λ (e : ℕ). lines_text tried (rescued_between from (512 * run.start) ++ (block (512 * run.start) (e - 512 * run.start) false ∷ blocks_from size e (drop (i + 1) runs)))) (sym is_end)
+        ∙ flat_map-append (λ b. ended (block_line tried b)) (rescued_between from (512 * run.start)) (block (512 * run.start) (end - 512 * run.start) false ∷ blocks_from size end (drop (i + 1) runs)) in
         record {
           written = ap (λ (xs : List ℕ). xs ++ more) (is_new ∙ ap (λ (xs : List ℕ). xs ++ lost) is_mid)
-              ∙ append_assoc (text ++ lines_text gap) lost more ∙ append_assoc text (lines_text gap) (lost ++ more) ∙ ap (λ (xs : List ℕ). text ++ xs) (sym all) ∙ up.written;
+              ∙ append_assoc (text ++ lines_text tried gap) lost more ∙ append_assoc text (lines_text tried gap) (lost ++ more) ∙ ap (λ (xs : List ℕ). text ++ xs) (sym all) ∙ up.written;
           low = run.start + run.len + 1;
           rises = rises_here.3;
           there = omega (arith, is_end, r.next);
@@ -355,7 +421,7 @@ module _ (size : ℕ) (runs : List Run) (i from : ℕ) (text : List ℕ) (up : I
           within = λ s bad. within_here s (inr bad);
         }
 
-  pub write_end : (new : List ℕ) → length runs ≤ i → new ≡ text ++ lines_text (rescued_between from size) → new ≡ map_text size runs
+  pub write_end : (new : List ℕ) → length runs ≤ i → new ≡ text ++ lines_text tried (rescued_between from size) → new ≡ map_text size tried runs
   write_end new past is =
       let none : drop i runs ≡ [] = drop_all i runs past in
-      is ∙ ap (λ (rs : List Run). text ++ lines_text (blocks_from size from rs)) (sym none) ∙ up.written
+      is ∙ ap (λ (rs : List Run). text ++ lines_text tried (blocks_from size from rs)) (sym none) ∙ up.written

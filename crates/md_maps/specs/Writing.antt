@@ -1,4 +1,4 @@
--- The map that is written for an image of which these sectors are lacking.
+-- The map that is written for an image of which these sectors are lacking, and of which those before a place were not tried.
 use Rattle.std.specs.Prelude.{ℕ, ◌+◌, ◌-◌, ◌*◌, ◌^◌, Bool, true, false, List, [], ◌∷◌, ◌++◌, min, nat_lt, codes, if◌then◌else◌}
 use Rattle.std.specs.List.{flat_map}
 use Rattle.std.specs.Fmt.{digits, padded_integral, format_spec}
@@ -22,13 +22,20 @@ blocks_from size from (run ∷ runs) = let start = 512 * run.start in let end = 
 unfoldable pub hexadecimal : ℕ → List ℕ
 hexadecimal n = 48 ∷ 120 ∷ padded_integral (format_spec 32 0 4 8 (2 ^ 64 - 1)) false [] (digits 16 true n)
 
-abbrev pub status_text : Bool → List ℕ
-status_text true = codes "+"
-status_text false = codes "-"
+-- the bytes before this place, which are not rescued
+abbrev pub untried_before : ℕ → List Block
+untried_before tried = if nat_lt 0 tried then block 0 tried false ∷ [] else []
 
--- the line of a block, without its line feed
-unfoldable pub block_line : Block → List ℕ
-block_line b = hexadecimal b.start ++ (codes "  " ++ (hexadecimal b.len ++ (codes "  " ++ status_text b.rescued)))
+-- the status of bytes: rescued, not tried, or bad
+abbrev pub status_text : Bool → Bool → List ℕ
+status_text true untried = codes "+"
+status_text false true = codes "?"
+status_text false false = codes "-"
+
+-- the line of a block, without its line feed; bytes were tried from this place on
+unfoldable pub block_line : ℕ → Block → List ℕ
+block_line tried b =
+    hexadecimal b.start ++ (codes "  " ++ (hexadecimal b.len ++ (codes "  " ++ status_text b.rescued (nat_lt b.start tried))))
 
 abbrev pub ended : List ℕ → List ℕ
 ended line = line ++ 10 ∷ []
@@ -42,6 +49,9 @@ head_lines =
     ∷ codes "#      pos        size  status"
     ∷ []
 
--- the text of the map of `size` bytes
-unfoldable pub map_text : ℕ → List Run → List ℕ
-map_text size runs = flat_map ended head_lines ++ flat_map (λ b. ended (block_line b)) (blocks_from size 0 runs)
+abbrev pub lines_text : ℕ → List Block → List ℕ
+lines_text tried bs = flat_map (λ b. ended (block_line tried b)) bs
+
+-- the text of the map of `size` bytes, of which those from this place on were tried
+unfoldable pub map_text : ℕ → ℕ → List Run → List ℕ
+map_text size tried runs = flat_map ended head_lines ++ lines_text tried (untried_before tried ++ blocks_from size tried runs)

@@ -1,4 +1,12 @@
 //! The map file of ddrescue: which parts of a disk its copy has, and which it lacks.
+//!
+//! Start with `read_map`, which gives the sectors that the copy lacks; `write_map` writes such a map.
+//!
+//! ```
+//! let missing = read_map(alloc, &text, size)?;
+//! let lacks_first = missing.meets(0, 1);
+//! let map = write_map(alloc, size, 0, &missing)?;
+//! ```
 #![tactic(auto)]
 
 mod fault;

@@ -1,9 +1,9 @@
 // The map of an image of which sectors are lacking.
-ghost use Rattle.std.specs.Prelude.{◌≡◌, ◌+◌, ◌*◌, ◌^◌, ◌<◌, ◌≤◌, ◌++◌, ℕ, true, IfOk, OnOk, string_bytes};
-ghost use Rattle.std.specs.List.{flat_map};
+ghost use Rattle.std.specs.Prelude.{◌≡◌, ◌⊎◌, ◌↔◌, ◌+◌, ◌*◌, ◌^◌, ◌<◌, ◌≤◌, ◌++◌, ℕ, true, List, IfOk, OnOk, string_bytes};
 ghost use Rattle.md_badblocks.specs.Runs.{IsBad};
+ghost use Rattle.md_badblocks.specs.declared.run.Run.{Run};
 ghost use Rattle.md_maps.specs.Map.{IsMapReadAs};
-ghost use Rattle.md_maps.specs.Writing.{ended, block_line, rescued_between, status_text, map_text};
+ghost use Rattle.md_maps.specs.Writing.{ended, block_line, lines_text, rescued_between, status_text, map_text, untried_before};
 
 use crate::line::Block;
 use crate::lines_read::SECTOR;
@@ -17,37 +17,64 @@ const HEAD: &str = "# Mapfile. Created by mdcli
 #      pos        size  status
 ";
 
-/// The text of ddrescue's map of an image of `size` bytes of which just these sectors are lacking.
-pub fn write_map(alloc: Global, size: u64, missing: &BadSet) -> Result<String, AllocError>
+/// The text of ddrescue's map of an image of `size` bytes of which the sectors from `first` on were tried, and of these just the
+/// missing ones are lacking.
+pub fn write_map(
+    alloc: Global,
+    size: u64,
+    first: u64,
+    missing: &BadSet,
+) -> Result<String, AllocError>
     requires limit { size ≤ 2 ^ 63 }
+    requires start { 512 * first ≤ size }
+    requires tried { (sector : ℕ) → IsBad missing.now sector → first ≤ sector }
     requires within { (sector : ℕ) → IsBad missing.now sector → 512 * sector < size }
-    ensures text { IfOk result (λ text. string_bytes text ≡ map_text size missing.now) }
+    ensures text { IfOk result (λ text. string_bytes text ≡ map_text size (512 * first) missing.now) }
 
-    // It is read as it was meant.
-    ensures read_back { IfOk result (λ text. IsMapReadAs size (string_bytes text) missing.now) }
+    // It is read as it was meant: what was not tried is lacking too.
+    ensures read_back { IfOk result (λ text. (lacking : List Run)
+        → ((sector : ℕ) → IsBad lacking sector ↔ ((sector < first) ⊎ IsBad missing.now sector))
+        → IsMapReadAs size (string_bytes text) lacking) }
 {
+    let tried = SECTOR * first;
     let mut text = String::new(alloc);
     text.push_str(HEAD)?;
-    let mut from = 0;
+    push_untried(&mut text, tried)?;
+    let mut from = tried;
     for run in missing.runs() {
         let start = SECTOR * run.start;
         let end = (SECTOR * (run.start + run.len)).min(size);
-        push_rescued(&mut text, from, start)?;
+        push_rescued(&mut text, tried, from, start)?;
         let lost = Block {
             start,
             len: end - start,
             rescued: false,
         };
-        push_block(&mut text, lost)?;
+        push_block(&mut text, tried, lost)?;
         from = end;
     }
-    push_rescued(&mut text, from, size)?;
+    push_rescued(&mut text, tried, from, size)?;
     Ok(text)
 }
 
+/// Adds the bytes before this place, where there are some.
+fn push_untried(text: &mut String, tried: u64) -> Result<(), AllocError>
+    ensures { OnOk result (string_bytes text.new ≡ string_bytes text.old ++ lines_text tried (untried_before tried)) }
+{
+    if tried > 0 {
+        let block = Block {
+            start: 0,
+            len: tried,
+            rescued: false,
+        };
+        push_block(text, tried, block)?;
+    }
+    Ok(())
+}
+
 /// Adds the bytes between two places as rescued ones, where there are some.
-fn push_rescued(text: &mut String, from: u64, to: u64) -> Result<(), AllocError>
-    ensures { OnOk result (string_bytes text.new ≡ string_bytes text.old ++ flat_map (λ b. ended (block_line b)) (rescued_between from to)) }
+fn push_rescued(text: &mut String, tried: u64, from: u64, to: u64) -> Result<(), AllocError>
+    ensures { OnOk result (string_bytes text.new ≡ string_bytes text.old ++ lines_text tried (rescued_between from to)) }
 {
     if from < to {
         let block = Block {
@@ -55,28 +82,34 @@ fn push_rescued(text: &mut String, from: u64, to: u64) -> Result<(), AllocError>
             len: to - from,
             rescued: true,
         };
-        push_block(text, block)?;
+        push_block(text, tried, block)?;
     }
     Ok(())
 }
 
 /// Adds the line of a block.
 #[tactic(auto, unfolding(crate::specs::Writing::block_line, crate::specs::Writing::hexadecimal))]
-fn push_block(text: &mut String, block: Block) -> Result<(), AllocError>
-    ensures { OnOk result (string_bytes text.new ≡ string_bytes text.old ++ ended (block_line block)) }
+fn push_block(text: &mut String, tried: u64, block: Block) -> Result<(), AllocError>
+    ensures { OnOk result (string_bytes text.new ≡ string_bytes text.old ++ ended (block_line tried block)) }
 {
     let Block {
         start,
         len,
         rescued,
     } = block;
-    let status = status_text(rescued);
+    let status = status_text(rescued, start < tried);
     write!(text, "0x{start:08X}  0x{len:08X}  {status}")?;
     text.push_str("\n")
 }
 
-fn status_text(rescued: bool) -> &'static str
-    ensures { result.now ≡ status_text rescued }
+fn status_text(rescued: bool, untried: bool) -> &'static str
+    ensures { result.now ≡ status_text rescued untried }
 {
-    if rescued { "+" } else { "-" }
+    if rescued {
+        "+"
+    } else if untried {
+        "?"
+    } else {
+        "-"
+    }
 }

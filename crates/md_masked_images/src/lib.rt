@@ -1,4 +1,11 @@
 //! Images that are copies of disks, by the maps of what each lacks: what a copy lacks is not read of it.
+//!
+//! Start with `mask_images`, which is given images, their names and the text of each map. `map_list` makes pairs of
+//! the words IMAGE=FILE.
+//!
+//! ```
+//! let images = mask_images(alloc, images, &["sda.img", "sdb.img"], &maps)?;
+//! ```
 #![tactic(auto)]
 
 mod advice;

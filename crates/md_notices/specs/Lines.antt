@@ -13,14 +13,18 @@ parted_text name other =
 
 unfoldable pub dropped_text : List ℕ → ℕ → ℕ → List ℕ
 dropped_text name in_sync raid_disks =
-    codes "mdcli: " ++ name ++ (codes ": a write failed; it is faulty now, and the array has " ++ decimal in_sync)
+    codes "mdcli: " ++ name
+    ++ (codes ": a write failed; it is faulty now, and the array has " ++ decimal in_sync)
     ++ (codes " of " ++ decimal raid_disks) ++ codes "\n"
 
 unfoldable pub unnamed_text : ℕ → ℕ → List ℕ
-unnamed_text number role = (codes "mdcli: device " ++ decimal number) ++ (codes " in role " ++ decimal role) ++ codes " is not among the images\n"
+unnamed_text number role =
+    (codes "mdcli: device " ++ decimal number) ++ (codes " in role " ++ decimal role)
+    ++ codes " is not among the images\n"
 
 unfoldable pub forgotten_text : List ℕ → List ℕ
-forgotten_text name = codes "mdcli: " ++ name ++ codes ": is in sync in this very array, and is not among the images\n"
+forgotten_text name =
+    codes "mdcli: " ++ name ++ codes ": is in sync in this very array, and is not among the images\n"
 
 unfoldable pub held_text : List ℕ → List ℕ → List ℕ
 held_text name what = codes "mdcli: " ++ name ++ codes ": holds " ++ what ++ codes "\n"
@@ -28,11 +32,17 @@ held_text name what = codes "mdcli: " ++ name ++ codes ": holds " ++ what ++ cod
 unfoldable pub unseen_text : List ℕ → List ℕ
 unseen_text name = codes "mdcli: " ++ name ++ codes ": there was no memory to look at it: it may hold data\n"
 
+unfoldable pub unread_text : List ℕ → List ℕ
+unread_text name = codes "mdcli: " ++ name ++ codes ": a read of it failed: it may hold data\n"
+
 unfoldable pub marked_line_text : List ℕ → List ℕ
-marked_line_text name = codes "mdcli: " ++ name ++ codes ": its bitmap did not tell of the array, so all chunks are marked in it now\n"
+marked_line_text name =
+    codes "mdcli: " ++ name
+    ++ codes ": its bitmap did not tell of the array, so all chunks are marked in it now\n"
 
 unfoldable pub uncompared_text : List ℕ → List ℕ
-uncompared_text name = codes "mdcli: " ++ name ++ codes ": no other member is in sync, so nothing was compared\n"
+uncompared_text name =
+    codes "mdcli: " ++ name ++ codes ": no other member is in sync, so nothing was compared\n"
 
 unfoldable pub lost_text : List ℕ → List ℕ
 lost_text name = codes "mdcli: " ++ name ++ codes ": what it held is lost: it is a spare of the array now\n"
@@ -56,5 +66,6 @@ there_text Faulty = codes ", faulty there\n"
 -- of which array the device is, and what it is there by its own superblock
 unfoldable pub identity_text : List ℕ → Superblock → List ℕ
 identity_text name own =
-    codes "mdcli: " ++ name ++ (codes ": is device " ++ decimal own.dev_number) ++ state_role_text (state_of own own)
+    codes "mdcli: " ++ name ++ (codes ": is device " ++ decimal own.dev_number)
+    ++ state_role_text (state_of own own)
     ++ codes " of array " ++ hyphenated_text lower own.set_uuid ++ there_text (state_of own own)

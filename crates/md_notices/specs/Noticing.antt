@@ -62,7 +62,8 @@ dropped_from (Some before) (Some after) = dropped_out before after
 -- `members` are those after it.
 abbrev pub is_dropped_at : List (Option MemberState) → List MemberView → Asked → ℕ → Bool
 is_dropped_at was members asked k =
-    not (is_place asked.failed k) && dropped_from (get_or was k None) (state_there members (place_after asked.left k))
+    not (is_place asked.failed k)
+    && dropped_from (get_or was k None) (state_there members (place_after asked.left k))
 
 abbrev pub all_dropped : List (Option MemberState) → List MemberView → Asked → List Bool
 all_dropped was members asked = map (is_dropped_at was members asked) (range_with_len 0 64)
@@ -74,7 +75,8 @@ in_sync_count members = count_by (λ m. is_in_sync m.state) members
 -- the first device in this role that is no member, where there is one
 pub record IsUnnamedAt (a : ArrayView) (joining : Option ℕ) (role : ℕ) (device : Option ℕ) : Type 0 where
   pub within : role < a.shared.raid_disks
-      → MatchOption device (NoneUnnamed a joining role (length a.shared.roles)) (IsFirstUnnamed a joining role)
+      → MatchOption device (NoneUnnamed a joining role (length a.shared.roles))
+      (IsFirstUnnamed a joining role)
   pub past : a.shared.raid_disks ≤ role → device ≡ None
 
 -- of all roles: an array has no more than 32

@@ -36,7 +36,8 @@ is_active_by_own v = nat_lt (role_in v v.dev_number) v.raid_disks
 -- By this superblock its own device is in a role, and no member that is in sync was in use any more: what was written since then was
 -- written to it, and not to them.
 abbrev pub is_apart : List MemberView → Superblock → Bool
-is_apart members v = is_active_by_own v && list_all (λ other. is_left_by v other.superblock.dev_number other.state) members
+is_apart members v =
+    is_active_by_own v && list_all (λ other. is_left_by v other.superblock.dev_number other.state) members
 
 -- The array has the device in no role any more. One that it has in a role, with fewer events, is an older copy of that device: what
 -- was written to it then is in the array.
@@ -59,7 +60,8 @@ pub record WasApart (a : ArrayView) (own : Superblock) : Type 0 where
 
 -- none of the first n members is in sync
 abbrev pub NoneInSync : List MemberView → ℕ → Type 0
-NoneInSync members n = (i : ℕ) (m : MemberView) → i < n → slice_get members i ≡ Some m → is_in_sync m.state ≡ false
+NoneInSync members n =
+    (i : ℕ) (m : MemberView) → i < n → slice_get members i ≡ Some m → is_in_sync m.state ≡ false
 
 -- member k is in sync, and none before it
 pub record IsFirstInSync (members : List MemberView) (k : ℕ) : Type 0 where

@@ -1,6 +1,16 @@
 //! What an array and its images are told by beside a report: which image was used without the others, which member
 //! dropped out, which device was not named, and what an image holds that is to be overwritten. No function takes
 //! memory, and none uses a device.
+//!
+//! Start with `members_parted` and `members_dropped` (`noticing.rt`), which tell of each member, and with the
+//! lines, which `lines.rt` has.
+//!
+//! ```
+//! let parted = members_parted(&mirror);
+//! if parted[1] {
+//!     parted_line(&mut err, "sdb.img", "sda.img")?;
+//! }
+//! ```
 #![tactic(auto)]
 
 mod belonging;
@@ -15,7 +25,7 @@ pub use belonging::{is_forgotten, standing};
 pub use dropping_out::dropped_out;
 pub use lines::{
     dropped_line, forgotten_line, held_line, lost_line, marked_line, parted_line, uncompared_line,
-    unnamed_line, unseen_line,
+    unnamed_line, unread_line, unseen_line,
 };
 pub use noticing::{
     Asked, MAX_MEMBERS, MAX_ROLES, in_sync_count, members_dropped, members_marked, members_parted,

@@ -1,7 +1,7 @@
 // The lines that say what was noticed.
 ghost use Rattle.std.specs.Prelude.{◌≡◌};
 ghost use Rattle.md_examine.specs.Sink.{PutsOrFails};
-ghost use Rattle.md_notices.specs.Lines.{dropped_text, forgotten_text, held_text, lost_text, marked_line_text, parted_text, uncompared_text, unnamed_text, unseen_text};
+ghost use Rattle.md_notices.specs.Lines.{dropped_text, forgotten_text, held_text, lost_text, marked_line_text, parted_text, uncompared_text, unnamed_text, unread_text, unseen_text};
 
 use md_examine::{Sink, SinkFault, number_after};
 
@@ -26,7 +26,8 @@ pub fn dropped_line<S: Sink>(
     in_sync: usize,
     raid_disks: u32,
 ) -> Result<(), SinkFault>
-    ensures { PutsOrFails S.contents S.failed out.old out.new (dropped_text name.now in_sync raid_disks) result }
+    ensures { PutsOrFails S.contents S.failed out.old out.new (dropped_text name.now in_sync raid_disks)
+        result }
 {
     out.put(b"mdcli: ")?;
     out.put(name.as_bytes())?;
@@ -82,6 +83,16 @@ pub fn unseen_line<S: Sink>(out: &mut S, name: &str) -> Result<(), SinkFault>
     out.put(b"mdcli: ")?;
     out.put(name.as_bytes())?;
     out.put(b": there was no memory to look at it: it may hold data\n")?;
+    Ok(())
+}
+
+/// Says that a read of an image failed which is to be overwritten.
+pub fn unread_line<S: Sink>(out: &mut S, name: &str) -> Result<(), SinkFault>
+    ensures { PutsOrFails S.contents S.failed out.old out.new (unread_text name.now) result }
+{
+    out.put(b"mdcli: ")?;
+    out.put(name.as_bytes())?;
+    out.put(b": a read of it failed: it may hold data\n")?;
     Ok(())
 }
 

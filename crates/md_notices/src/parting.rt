@@ -53,7 +53,8 @@ fn is_left_by(v: &Superblock, number: u32, state: MemberState) -> bool
 
 // Whether by the superblock no member in sync was in use any more.
 fn left_all<D: Device + Drop>(mirror: &Mirror<D>, v: &Superblock) -> bool
-    ensures { result ≡ list_all (λ m. is_left_by v.now m.superblock.dev_number m.state) mirror.now.array.members }
+    ensures { result ≡ list_all (λ m. is_left_by v.now m.superblock.dev_number m.state)
+        mirror.now.array.members }
 {
     for k in 0..mirror.members() {
         if !is_left_by(v, mirror.own(k).dev_number, mirror.state(k)) {
@@ -85,7 +86,8 @@ fn is_out(state: MemberState) -> bool
 /// any step, since a step may change its superblock. It takes no memory.
 pub fn is_parted<D: Device + Drop>(mirror: &Mirror<D>, k: usize) -> bool
     requires { k < length mirror.now.array.members }
-    ensures { (m : MemberView) → IsMember mirror.now.array k m → result ≡ is_parted mirror.now.array.members m }
+    ensures { (m : MemberView) → IsMember mirror.now.array k m
+        → result ≡ is_parted mirror.now.array.members m }
 {
     let state = mirror.state(k);
     if !is_out(state) {
@@ -106,7 +108,8 @@ pub fn was_apart<D: Device + Drop>(mirror: &Mirror<D>, own: &Superblock) -> bool
 
 /// The first member that is in sync, where there is one. It takes no memory.
 pub fn first_in_sync<D: Device + Drop>(mirror: &Mirror<D>) -> Option<usize>
-    ensures { MatchOption result (NoneInSync mirror.now.array.members (length mirror.now.array.members)) (IsFirstInSync mirror.now.array.members) }
+    ensures { MatchOption result (NoneInSync mirror.now.array.members (length mirror.now.array.members))
+        (IsFirstInSync mirror.now.array.members) }
 {
     for k in 0..mirror.members() {
         if mirror.state(k).is_in_sync() {

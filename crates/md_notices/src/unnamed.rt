@@ -36,7 +36,9 @@ pub fn unnamed_in<D: Device + Drop>(
     joining: Option<u32>,
     role: u16,
 ) -> Option<u32>
-    ensures { MatchOption result (NoneUnnamed mirror.now.array joining role (length mirror.now.array.shared.roles)) (IsFirstUnnamed mirror.now.array joining role) }
+    ensures { MatchOption result
+        (NoneUnnamed mirror.now.array joining role (length mirror.now.array.shared.roles))
+        (IsFirstUnnamed mirror.now.array joining role) }
 {
     for number in 0..mirror.shared().roles.max_dev() {
         if mirror.shared().role_of(number) == role

@@ -3,7 +3,8 @@ use Rattle.std.proofs.Common.{◌≡◌, ℕ, Bool, true, List, subst}
 use Rattle.md_device.specs.Device.{held}
 use Rattle.md_examine.specs.declared.super_fields.Found.{Found}
 use Rattle.md_examine.specs.declared.super_fields.Found.TheVariants.{Nothing, Unreadable, Superblock}
-use Rattle.md_raw_members.specs.Elsewhere.{FindsAt, FindsElsewhere, IsFoundInSector, IsOn}
+use Rattle.md_raw_members.specs.Elsewhere.{FindsAt, FindsElsewhere, IsFoundInSector}
+use Rattle.md_raw_members.specs.Raw.{IsOn}
 
 finds_more : (content : List ℕ) (honest : Bool) (F G : Type 0) (sector : ℕ) (found : Found) → (F → G) → FindsAt content honest F sector found → FindsAt content honest G sector found
 finds_more content honest F G sector Nothing via h = h

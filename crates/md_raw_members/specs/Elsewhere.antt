@@ -4,6 +4,7 @@ use Rattle.md_device.specs.Device.{held}
 use Rattle.md_format.specs.Fields.{number_at, bytes_at}
 use Rattle.md_examine.specs.declared.super_fields.Found.{Found}
 use Rattle.md_examine.specs.declared.super_fields.Found.TheVariants.{Nothing, Unreadable, Superblock}
+use Rattle.md_raw_members.specs.Raw.{IsOn}
 
 -- the bytes start a superblock of version 1
 abbrev pub StartsSuper : List ℕ → Type 0
@@ -14,10 +15,6 @@ abbrev pub IsFoundInSector : List ℕ → ℕ → Found → Type 0
 IsFoundInSector bytes sector Nothing = StartsSuper bytes → ⊥
 IsFoundInSector bytes sector (Unreadable at) = ⊥
 IsFoundInSector bytes sector (Superblock at id) = (at ≡ sector) × StartsSuper bytes × (id ≡ bytes_at 16 16 bytes)
-
--- the sector is on the device
-abbrev pub IsOn : List ℕ → ℕ → Type 0
-IsOn content sector = 512 * sector + 512 ≤ length content
 
 -- What is found in a sector of a device. Of one that is past the end nothing is: what is found, or can't be read, is on the device.
 -- `Failed` says that a call on it failed.

@@ -1,10 +1,19 @@
 -- The bytes of a member's parts, at the places that the bytes of its superblock give.
-use Rattle.std.specs.Prelude.{◌≡◌, ◌⊎◌, ℕ, ◌+◌, ◌*◌, ◌/◌, ◌<◌, ◌≤◌, ◌==◌, ◌&&◌, not, Bool, true, false, List, length, take, bit_and, ℤ, pos, ◌+ℤ◌}
+use Rattle.std.specs.Prelude.{◌≡◌, ◌⊎◌, ℕ, ◌+◌, ◌-◌, ◌*◌, ◌/◌, ◌<◌, ◌≤◌, ◌&&◌, nat_le, Bool, true, false, List, length, take, drop, min, bit_and, Option, Some, None, MatchOption, ℤ, pos, ◌+ℤ◌}
 use Rattle.std.specs.Int.{w32, cast_signed}
 use Rattle.md_format.specs.Fields.{number_at}
-use Rattle.md_members.specs.Reading.{HasSuperSectors, IsRead}
+use Rattle.md_bitmap.specs.Marks.{count_set}
+use Rattle.md_bitmap.specs.Sectors.{bitmap_sectors}
+use Rattle.md_bitmap.specs.Sound.{chunk_count}
+use Rattle.md_examine.specs.BitmapFields.{is_chunk_size}
+use Rattle.md_examine.specs.declared.raw_bitmap.CountedMarks.{CountedMarks}
+use Rattle.md_examine.specs.declared.raw_bitmap.RawBitmap.{RawBitmap}
+use Rattle.md_examine.specs.declared.raw_bitmap.RawBitmap.TheVariants.{Unplaced, Unreadable, Read}
+use Rattle.md_examine.specs.declared.raw_bitmap.UnreadMarks.{UnreadMarks}
+use Rattle.md_members.specs.Reading.{IsRead}
 use Rattle.md_raw_members.specs.declared.fault.RawFault.{RawFault}
-use Rattle.md_raw_members.specs.declared.fault.RawFault.TheVariants.{TooShort, NoBitmap, Region, ReadFault}
+use Rattle.md_raw_members.specs.declared.fault.RawFault.TheVariants.{TooShort, NoBitmap, Region}
+use Rattle.md_raw_members.specs.declared.read_parts.RawLog.{RawLog}
 
 -- the sector at this offset from the superblock
 abbrev pub StartsAt : ℤ → ℕ → Type 0
@@ -25,24 +34,92 @@ FitsAt content start sectors = start + sectors ≤ length content / 512
 abbrev pub HasNoPlace : List ℕ → ℤ → ℕ → Type 0
 HasNoPlace content offset sectors = (start : ℕ) → StartsAt offset start → FitsAt content start sectors → ⊥
 
--- why sectors 8 to 15 are not read, where `Failed` says that a call on the device failed
-abbrev pub RefusesRawSuper : List ℕ → Bool → Type 0 → RawFault → Type 0
-RefusesRawSuper content honest Failed TooShort = length content < 512 * 16
-RefusesRawSuper content honest Failed ReadFault = HasSuperSectors content × (honest ≡ true → Failed)
-RefusesRawSuper content honest Failed _ = ⊥
+-- the sector is on the device
+abbrev pub IsOn : List ℕ → ℕ → Type 0
+IsOn content sector = 512 * sector + 512 ≤ length content
 
--- the first sector of the bitmap, as it was read
-pub record IsBitmapSector (content : List ℕ) (honest : Bool) (superblock bytes : List ℕ) : Type 0 where
+-- ---- the superblock
+-- The bytes of so many of sectors 8 to 15, from the first on, as they were read. Where these are not all, a call on the device failed.
+pub record ReadsFront (content : List ℕ) (honest : Bool) (Failed : Type 0) (sectors : ℕ) (bytes : List ℕ) : Type 0 where
+  pub few : sectors ≤ 8
+  pub read : IsRead content honest 8 (512 * sectors) (take (512 * sectors) bytes)
+  pub failed : sectors < 8 → honest ≡ true → Failed
+
+-- why they are not read at all
+abbrev pub RefusesRawSuper : List ℕ → RawFault → Type 0
+RefusesRawSuper content TooShort = length content < 512 * 16
+RefusesRawSuper content fault = ⊥
+
+-- ---- the bitmap
+-- how many chunks its header says that there are
+abbrev pub header_chunks : List ℕ → ℕ
+header_chunks sector = chunk_count (number_at 8 40 sector) (number_at 4 52 sector)
+
+-- whether that can be: they have a size that chunks may have, and are not too many
+abbrev pub is_countable : List ℕ → Bool
+is_countable sector = is_chunk_size (number_at 4 52 sector) && nat_le (header_chunks sector) 1048576
+
+-- how many of these chunks have their marks in the first so many sectors, one or more, after a header of 256 bytes
+abbrev pub chunks_in : ℕ → ℕ → ℕ
+chunks_in sectors chunks = min chunks (4096 * sectors - 2048)
+
+-- how many chunks are marked in the first so many sectors of a bitmap that starts at this sector, of which the first has these bytes
+pub record AreCounted (content : List ℕ) (honest : Bool) (start : ℕ) (sector : List ℕ) (chunks sectors marked : ℕ) : Type 0 where
+  pub area : List ℕ
+  pub front : take 512 area ≡ sector
+  pub read : IsRead content honest start (512 * sectors) area
+  pub marked_is : marked ≡ count_set (drop 256 area) (chunks_in sectors chunks)
+
+-- the marks after them were not read: the sector is past the end, or a call on the device failed
+pub record AreUnread (content : List ℕ) (honest : Bool) (Failed : Type 0) (start chunks sectors : ℕ) (u : UnreadMarks) : Type 0 where
+  pub more : sectors < bitmap_sectors chunks
+  pub sector : u.sector ≡ start + sectors
+  pub chunks_are : u.chunks ≡ chunks - chunks_in sectors chunks
+  pub failed : IsOn content u.sector → honest ≡ true → Failed
+
+abbrev pub IsRest : List ℕ → Bool → Type 0 → ℕ → ℕ → ℕ → Option UnreadMarks → Type 0
+IsRest content honest Failed start chunks sectors None = sectors ≡ bitmap_sectors chunks
+IsRest content honest Failed start chunks sectors (Some u) = AreUnread content honest Failed start chunks sectors u
+
+-- the marks of so many chunks, as far as they were read
+pub record CountsMarks (content : List ℕ) (honest : Bool) (Failed : Type 0) (start : ℕ) (sector : List ℕ) (chunks : ℕ)
+    (m : CountedMarks) : Type 0 where
+  pub chunks_are : m.chunks ≡ chunks
+  pub sectors : ℕ
+  pub counted : AreCounted content honest start sector chunks sectors m.marked
+  pub rest : IsRest content honest Failed start chunks sectors m.unread
+
+abbrev pub HasCounts : List ℕ → Bool → Type 0 → ℕ → List ℕ → Option CountedMarks → Type 0
+HasCounts content honest Failed start sector None = is_countable sector ≡ false
+HasCounts content honest Failed start sector (Some m) =
+    (is_countable sector ≡ true) × CountsMarks content honest Failed start sector (header_chunks sector) m
+
+-- what was read of a bitmap that starts at this sector, which is on the device
+abbrev pub ReadsBitmapAt : List ℕ → Bool → Type 0 → ℕ → RawBitmap → Type 0
+ReadsBitmapAt content honest Failed start Unplaced = ⊥
+ReadsBitmapAt content honest Failed start (Unreadable sector) = (sector ≡ start) × IsOn content start × (honest ≡ true → Failed)
+ReadsBitmapAt content honest Failed start (Read sector marks) =
+    IsRead content honest start 512 sector × HasCounts content honest Failed start sector marks
+
+-- A bitmap that starts where the superblock says.
+pub record ReadsPlacedBitmap (content : List ℕ) (honest : Bool) (Failed : Type 0) (superblock : List ℕ) (bitmap : RawBitmap) : Type 0 where
   pub start : ℕ
   pub at : StartsAt (bitmap_offset superblock) start
-  pub read : IsRead content honest start 512 bytes
+  pub reads : ReadsBitmapAt content honest Failed start bitmap
 
-abbrev pub RefusesSector : List ℕ → Bool → Type 0 → List ℕ → RawFault → Type 0
-RefusesSector content honest Failed superblock NoBitmap = bit_and (number_at 4 8 superblock) 1 ≡ 0
-RefusesSector content honest Failed superblock Region = HasNoPlace content (bitmap_offset superblock) 1
-RefusesSector content honest Failed superblock ReadFault = honest ≡ true → Failed
-RefusesSector content honest Failed superblock TooShort = ⊥
+-- what was read of the bitmap of a superblock of which so many sectors were read: nothing where the first was not
+abbrev pub ReadsRawBitmap : List ℕ → Bool → Type 0 → ℕ → List ℕ → RawBitmap → Type 0
+ReadsRawBitmap content honest Failed sectors superblock Unplaced = sectors ≡ 0
+ReadsRawBitmap content honest Failed sectors superblock bitmap =
+    (0 < sectors) × ReadsPlacedBitmap content honest Failed superblock bitmap
 
+-- why it has no place
+abbrev pub RefusesSector : List ℕ → List ℕ → RawFault → Type 0
+RefusesSector content superblock NoBitmap = bit_and (number_at 4 8 superblock) 1 ≡ 0
+RefusesSector content superblock Region = HasNoPlace content (bitmap_offset superblock) 1
+RefusesSector content superblock TooShort = ⊥
+
+-- ---- the log
 -- how many sectors the superblock gives its log
 abbrev pub size_of_log : List ℕ → ℕ
 size_of_log superblock = number_at 2 186 superblock
@@ -51,29 +128,54 @@ size_of_log superblock = number_at 2 186 superblock
 abbrev pub HasNoLog : List ℕ → Type 0
 HasNoLog superblock = (size_of_log superblock ≡ 0) ⊎ (log_offset superblock ≡ pos 0)
 
--- the log, as it was read
-pub record IsLogArea (content : List ℕ) (honest : Bool) (superblock : List ℕ) (n : ℕ) (bytes : List ℕ) : Type 0 where
-  pub size : n ≡ 512 * size_of_log superblock
+-- the log that starts at this sector was read, or could not be
+abbrev pub ReadsLogAt : List ℕ → Bool → Type 0 → List ℕ → List ℕ → ℕ → RawLog → Type 0
+ReadsLogAt content honest Failed superblock bytes start log = MatchOption log.lost
+    ((log.len ≡ 512 * size_of_log superblock) × IsRead content honest start log.len (take log.len bytes))
+    (λ sector. (sector ≡ start) × (log.len ≡ 0) × FitsAt content start (size_of_log superblock) × (honest ≡ true → Failed))
+
+-- A log that starts where the superblock says.
+pub record ReadsPlacedLog (content : List ℕ) (honest : Bool) (Failed : Type 0) (superblock bytes : List ℕ) (log : RawLog) : Type 0 where
   pub start : ℕ
   pub at : StartsAt (log_offset superblock) start
-  pub read : IsRead content honest start n (take n bytes)
+  pub reads : ReadsLogAt content honest Failed superblock bytes start log
 
-abbrev pub IsArea : List ℕ → Bool → List ℕ → ℕ → List ℕ → Type 0
-IsArea content honest superblock n bytes = (HasNoLog superblock × (n ≡ 0)) ⊎ IsLogArea content honest superblock n bytes
+-- nothing was to be read
+abbrev pub IsEmptyLog : RawLog → Type 0
+IsEmptyLog log = (log.len ≡ 0) × (log.lost ≡ None)
 
-abbrev pub RefusesArea : List ℕ → Bool → Type 0 → List ℕ → RawFault → Type 0
-RefusesArea content honest Failed superblock NoBitmap = ⊥
-RefusesArea content honest Failed superblock Region = (8 < size_of_log superblock) ⊎ HasNoPlace content (log_offset superblock) (size_of_log superblock)
-RefusesArea content honest Failed superblock ReadFault = honest ≡ true → Failed
-RefusesArea content honest Failed superblock TooShort = ⊥
+-- what was read of the log that a superblock places, into the front of these bytes
+abbrev pub ReadsLogOf : List ℕ → Bool → Type 0 → List ℕ → List ℕ → RawLog → Type 0
+ReadsLogOf content honest Failed superblock bytes log =
+    (HasNoLog superblock × IsEmptyLog log) ⊎ ReadsPlacedLog content honest Failed superblock bytes log
+
+-- of a superblock of which so many sectors were read: nothing where the first was not
+abbrev pub ReadsRawLog : List ℕ → Bool → Type 0 → ℕ → List ℕ → List ℕ → RawLog → Type 0
+ReadsRawLog content honest Failed sectors superblock bytes log =
+    ((sectors ≡ 0) × IsEmptyLog log) ⊎ ((0 < sectors) × ReadsLogOf content honest Failed superblock bytes log)
+
+-- why it has no place
+abbrev pub RefusesArea : List ℕ → List ℕ → RawFault → Type 0
+RefusesArea content superblock NoBitmap = ⊥
+RefusesArea content superblock Region = (8 < size_of_log superblock) ⊎ HasNoPlace content (log_offset superblock) (size_of_log superblock)
+RefusesArea content superblock TooShort = ⊥
+
+-- ---- parts
+-- A refusal for what the superblock says, of which a sector was read.
+pub record RefusesPlace (Refuses : List ℕ → RawFault → Type 0) (content : List ℕ) (honest : Bool) (Failed : Type 0) (fault : RawFault) : Type 0 where
+  pub sectors : ℕ
+  pub superblock : List ℕ
+  pub some : 0 < sectors
+  pub front : ReadsFront content honest Failed sectors superblock
+  pub refused : Refuses superblock fault
 
 -- the part is not read: the superblock's bytes can't be, or this comes of what they say
 abbrev pub RefusesPart : (List ℕ → RawFault → Type 0) → List ℕ → Bool → Type 0 → RawFault → Type 0
 RefusesPart Refuses content honest Failed fault =
-    RefusesRawSuper content honest Failed fault ⊎ ((superblock : List ℕ) × IsRead content honest 8 4096 superblock × Refuses superblock fault)
+    RefusesRawSuper content fault ⊎ RefusesPlace Refuses content honest Failed fault
 
 abbrev pub RefusesRawBitmap : List ℕ → Bool → Type 0 → RawFault → Type 0
-RefusesRawBitmap content honest Failed fault = RefusesPart (RefusesSector content honest Failed) content honest Failed fault
+RefusesRawBitmap content honest Failed fault = RefusesPart (RefusesSector content) content honest Failed fault
 
 abbrev pub RefusesRawLog : List ℕ → Bool → Type 0 → RawFault → Type 0
-RefusesRawLog content honest Failed fault = RefusesPart (RefusesArea content honest Failed) content honest Failed fault
+RefusesRawLog content honest Failed fault = RefusesPart (RefusesArea content) content honest Failed fault

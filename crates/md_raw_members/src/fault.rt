@@ -1,7 +1,8 @@
 // Why a part of a member is not read.
 use thiserror::Error;
 
-/// Why the bytes of a part of a member are not read, in the order in which it is looked for.
+/// Why the bytes of a part of a member are not read, in the order in which it is looked for. That a read failed is none: what could
+/// not be read is said beside what could.
 #[derive(Clone, Copy, Debug, PartialEq, Eq, Error)]
 pub enum RawFault {
     /// The device has fewer than 16 sectors.
@@ -13,7 +14,4 @@ pub enum RawFault {
     /// The place that the superblock gives is not on the device, or the log is above 8 sectors.
     #[error("Region")]
     Region,
-    /// A read failed.
-    #[error("ReadFault")]
-    ReadFault,
 }

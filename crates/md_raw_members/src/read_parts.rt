@@ -1,50 +1,88 @@
 // The parts of a member whose place the superblock gives, though it may be damaged.
-ghost use Rattle.std.specs.Prelude.{◌≡◌, ◌<◌, ◌≤◌, ◌+◌, ◌*◌, ◌%◌, ◌^◌, ℕ, IfErr, IfOk, MatchOption, OnErr, OnOk, length, true};
-ghost use Rattle.md_members.specs.Reading.{IsRead};
-ghost use Rattle.md_raw_members.specs.Raw.{IsArea, IsBitmapSector, RefusesArea, RefusesRawSuper, RefusesSector, StartsAt};
+ghost use Rattle.std.specs.Prelude.{◌≡◌, ◌<◌, ◌≤◌, ◌+◌, ◌*◌, ◌%◌, ◌^◌, ℕ, IfErr, IfOk, MatchOption, OnErr, OnOk, length, take, true};
+ghost use Rattle.md_members.specs.Reading.{HasSuperSectors, IsRead};
+ghost use Rattle.md_raw_members.specs.Raw.{FitsAt, IsOn, ReadsBitmapAt, ReadsFront, ReadsLogAt, ReadsLogOf, ReadsPlacedBitmap, RefusesArea, RefusesRawSuper, RefusesSector, StartsAt, size_of_log};
 
+use crate::counting::count_marks;
 use crate::fault::RawFault;
 use md_device::{Device, ReadFault};
+use md_examine::RawBitmap;
 use md_format::{u16_at, u32_at};
 use md_super::{FEATURE_BITMAP_OFFSET, SUPER_SECTOR};
 
 // The sectors up to the superblock's end.
 const LEAST_SECTORS: u64 = 16;
 
+// The sectors of a superblock.
+const SUPER_SECTORS: u32 = 8;
+
 // The most sectors of a bad block log.
 const MAX_LOG_SECTORS: u16 = 8;
 
-/// Reads sectors 8 to 15, whatever stands there, once.
+/// What was read of a bad block log: so many bytes, or none from this sector on, where it could not be read.
+#[derive(Clone, Copy, Debug, PartialEq, Eq)]
+pub struct RawLog {
+    pub len: usize,
+    pub lost: Option<u64>,
+}
+
+/// Reads sectors 8 to 15 at once, whatever stands there, or where that fails the first of them alone. The answer is how many of
+/// them were read.
 pub(crate) fn read_super_bytes<D: Device>(
     device: &mut D,
     bytes: &mut [u8; 4096],
-) -> Result<(), RawFault>
+) -> Result<u32, RawFault>
     ensures kept { D.content device.new ≡ D.content device.old }
     ensures honest { D.honest device.new ≡ D.honest device.old }
     ensures counted { D.failures device.old ≤ D.failures device.new }
-    ensures ok { OnOk result (IsRead (D.content device.old) (D.honest device.old) 8 4096 bytes.new) }
-    ensures refused { IfErr result (λ fault. RefusesRawSuper (D.content device.old) (D.honest device.old) (D.failures device.old < D.failures device.new) fault) }
+    ensures ok { IfOk result (λ sectors. ReadsFront (D.content device.old) (D.honest device.old) (D.failures device.old < D.failures device.new) sectors bytes.new) }
+    ensures refused { IfErr result (λ fault. RefusesRawSuper (D.content device.old) fault) }
 {
     if device.sectors() < LEAST_SECTORS {
         return Err(RawFault::TooShort);
     }
-    match read_sectors(device, SUPER_SECTOR, bytes) {
-        Ok(()) => Ok(()),
-        Err(_) => Err(RawFault::ReadFault),
-    }
+    Ok(read_front(device, bytes))
 }
 
-/// Reads the first sector of the bitmap that the bytes of a superblock place, once.
-pub(crate) fn read_bitmap_sector<D: Device>(
-    device: &mut D,
-    superblock: &[u8; 4096],
-    bytes: &mut [u8; 512],
-) -> Result<(), RawFault>
+// Reads all of them, or the first alone.
+fn read_front<D: Device>(device: &mut D, bytes: &mut [u8; 4096]) -> u32
+    requires long { HasSuperSectors (D.content device.old) }
     ensures kept { D.content device.new ≡ D.content device.old }
     ensures honest { D.honest device.new ≡ D.honest device.old }
     ensures counted { D.failures device.old ≤ D.failures device.new }
-    ensures ok { OnOk result (IsBitmapSector (D.content device.old) (D.honest device.old) superblock.now bytes.new) }
-    ensures refused { IfErr result (λ fault. RefusesSector (D.content device.old) (D.honest device.old) (D.failures device.old < D.failures device.new) superblock.now fault) }
+    ensures front { ReadsFront (D.content device.old) (D.honest device.old) (D.failures device.old < D.failures device.new) result bytes.new }
+{
+    match read_sectors(device, SUPER_SECTOR, bytes) {
+        Ok(()) => SUPER_SECTORS,
+        Err(_) => read_first(device, bytes),
+    }
+}
+
+// Reads the first of them, if it can be.
+fn read_first<D: Device>(device: &mut D, bytes: &mut [u8; 4096]) -> u32
+    requires long { HasSuperSectors (D.content device.old) }
+    ensures kept { D.content device.new ≡ D.content device.old }
+    ensures honest { D.honest device.new ≡ D.honest device.old }
+    ensures counted { D.failures device.old ≤ D.failures device.new }
+    ensures few { result ≤ 1 }
+    ensures read { IsRead (D.content device.old) (D.honest device.old) 8 (512 * result) (take (512 * result) bytes.new) }
+{
+    match read_sectors(device, SUPER_SECTOR, &mut bytes[..512]) {
+        Ok(()) => 1,
+        Err(_) => 0,
+    }
+}
+
+/// Reads the bitmap that the bytes of a superblock place, as far as it can be read, each sector once.
+pub(crate) fn read_bitmap<D: Device>(
+    device: &mut D,
+    superblock: &[u8; 4096],
+) -> Result<RawBitmap, RawFault>
+    ensures kept { D.content device.new ≡ D.content device.old }
+    ensures honest { D.honest device.new ≡ D.honest device.old }
+    ensures counted { D.failures device.old ≤ D.failures device.new }
+    ensures ok { IfOk result (λ bitmap. ReadsPlacedBitmap (D.content device.old) (D.honest device.old) (D.failures device.old < D.failures device.new) superblock.now bitmap) }
+    ensures refused { IfErr result (λ fault. RefusesSector (D.content device.old) superblock.now fault) }
 {
     if u32_at(superblock, 8) & FEATURE_BITMAP_OFFSET == 0 {
         return Err(RawFault::NoBitmap);
@@ -53,29 +91,45 @@ pub(crate) fn read_bitmap_sector<D: Device>(
     let Some(start) = place_of(offset, 1, device.sectors()) else {
         return Err(RawFault::Region);
     };
-    match read_sectors(device, start, bytes) {
-        Ok(()) => Ok(()),
-        Err(_) => Err(RawFault::ReadFault),
+    Ok(read_bitmap_at(device, start))
+}
+
+// Its first sector, and then its marks.
+fn read_bitmap_at<D: Device>(device: &mut D, start: u64) -> RawBitmap
+    requires limit { start < 2 ^ 54 }
+    requires on { IsOn (D.content device.old) start }
+    ensures kept { D.content device.new ≡ D.content device.old }
+    ensures honest { D.honest device.new ≡ D.honest device.old }
+    ensures counted { D.failures device.old ≤ D.failures device.new }
+    ensures reads { ReadsBitmapAt (D.content device.old) (D.honest device.old) (D.failures device.old < D.failures device.new) start result }
+{
+    let mut sector = [0; 512];
+    match read_sectors(device, start, &mut sector) {
+        Ok(()) => {
+            let marks = count_marks(device, start, &sector);
+            RawBitmap::Read(sector, marks)
+        }
+        Err(_) => RawBitmap::Unreadable(start),
     }
 }
 
-/// Reads the bad block log that the bytes of a superblock place, once, into the front of `bytes`. The answer is how many
-/// bytes it has: none where the superblock has no log.
+/// Reads the bad block log that the bytes of a superblock place, once, into the front of `bytes`.
 pub(crate) fn read_log_area<D: Device>(
     device: &mut D,
     superblock: &[u8; 4096],
     bytes: &mut [u8; 4096],
-) -> Result<usize, RawFault>
+) -> Result<RawLog, RawFault>
     ensures kept { D.content device.new ≡ D.content device.old }
     ensures honest { D.honest device.new ≡ D.honest device.old }
     ensures counted { D.failures device.old ≤ D.failures device.new }
-    ensures ok { IfOk result (λ n. (n ≤ 4096) × IsArea (D.content device.old) (D.honest device.old) superblock.now n bytes.new) }
-    ensures refused { IfErr result (λ fault. RefusesArea (D.content device.old) (D.honest device.old) (D.failures device.old < D.failures device.new) superblock.now fault) }
+    ensures few { IfOk result (λ log. log.len ≤ 4096) }
+    ensures ok { IfOk result (λ log. ReadsLogOf (D.content device.old) (D.honest device.old) (D.failures device.old < D.failures device.new) superblock.now bytes.new log) }
+    ensures refused { IfErr result (λ fault. RefusesArea (D.content device.old) superblock.now fault) }
 {
     let sectors = u16_at(superblock, 186);
     let offset = u32_at(superblock, 188).cast_signed();
     if sectors == 0 || offset == 0 {
-        return Ok(0);
+        return Ok(RawLog { len: 0, lost: None });
     }
     if sectors > MAX_LOG_SECTORS {
         return Err(RawFault::Region);
@@ -83,10 +137,31 @@ pub(crate) fn read_log_area<D: Device>(
     let Some(start) = place_of(offset, u64::from(sectors), device.sectors()) else {
         return Err(RawFault::Region);
     };
-    let n = 512 * usize::from(sectors);
+    Ok(read_log_at(device, superblock, start, bytes))
+}
+
+// Of as many sectors as the superblock says, from this one on.
+fn read_log_at<D: Device>(
+    device: &mut D,
+    superblock: &[u8; 4096],
+    start: u64,
+    bytes: &mut [u8; 4096],
+) -> RawLog
+    requires few { size_of_log superblock.now ≤ 8 }
+    requires fits { FitsAt (D.content device.old) start (size_of_log superblock.now) }
+    ensures kept { D.content device.new ≡ D.content device.old }
+    ensures honest { D.honest device.new ≡ D.honest device.old }
+    ensures counted { D.failures device.old ≤ D.failures device.new }
+    ensures few { result.len ≤ 4096 }
+    ensures reads { ReadsLogAt (D.content device.old) (D.honest device.old) (D.failures device.old < D.failures device.new) superblock.now bytes.new start result }
+{
+    let n = 512 * usize::from(u16_at(superblock, 186));
     match read_sectors(device, start, &mut bytes[..n]) {
-        Ok(()) => Ok(n),
-        Err(_) => Err(RawFault::ReadFault),
+        Ok(()) => RawLog { len: n, lost: None },
+        Err(_) => RawLog {
+            len: 0,
+            lost: Some(start),
+        },
     }
 }
 

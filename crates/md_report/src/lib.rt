@@ -1,5 +1,12 @@
 //! The reports on a whole array, as text: a mirror in short and in detail, the plan of a rebuild, a rebuild
 //! that is done, and a check.
+//!
+//! Start with `summary` and `detail`, which are given an opened mirror.
+//!
+//! ```
+//! summary(&mut out, &mirror)?;
+//! detail(&mut out, &mirror)?;
+//! ```
 #![tactic(auto)]
 
 mod check_line;

@@ -3,7 +3,7 @@ use Rattle.std.proofs.Common.{◌≡◌, ℕ, ◌≤◌, ◌<◌, ◌*◌, ◌�
 use Rattle.md_device.specs.declared.device.Device.{Ghosts}
 use Rattle.md_device.specs.Crashes.{LeavesMore}
 use Rattle.md_device.proofs.Leaving.{leaves_none, leaves_then}
-use Rattle.md_signatures.specs.Reading.{IsOnlySearched, TellsWhetherThere}
+use Rattle.md_signatures.specs.Reading.{Heeds, IsOnlySearched, TellsWhetherThere}
 
 module _ {D : Type 0} {g : Ghosts D} where
   pub not_read : (d : D) → IsOnlySearched g d d
@@ -17,6 +17,30 @@ module _ {D : Type 0} {g : Ghosts D} where
     within = λ h. leaves_then (g.crashes a) (g.crashes b) (g.crashes c) (λ left. left ≡ g.content a) (first.within h)
         (subst (λ x. LeavesMore (g.crashes b) (g.crashes c) (λ left. left ≡ x)) first.kept (second.within (first.honest ∙ h)));
   }
+
+  -- what is noted of failures
+  pub heeds_none : (d : D) (noted : Bool) → Heeds g d d noted noted
+  heeds_none d noted = record { none = λ e. (e, refl); some = λ e. inl e }
+
+  pub heeds_then : {a b c : D} {x y z : Bool} → IsOnlySearched g a b → IsOnlySearched g b c → Heeds g a b x y → Heeds g b c y z → Heeds g a c x z
+  heeds_then {a = a} {b = b} {c = c} {x = x} {y = y} one two first second = record {
+    none = λ e. let later = second.none e in let early = first.none later.0 in (early.0, later.1 ∙ early.1);
+    some = λ e. by (second.some e);
+  }
+    where
+      m : g.failures a ≤ g.failures b
+      m = one.counted
+
+      n : g.failures b ≤ g.failures c
+      n = two.counted
+
+      at_first : (x ≡ true) ⊎ (g.honest a ≡ true → g.failures a < g.failures b) → (x ≡ true) ⊎ (g.honest a ≡ true → g.failures a < g.failures c)
+      at_first (inl e) = inl e
+      at_first (inr more) = inr (λ h. let failed = more h in omega (arith, failed, n))
+
+      by : (y ≡ true) ⊎ (g.honest b ≡ true → g.failures b < g.failures c) → (x ≡ true) ⊎ (g.honest a ≡ true → g.failures a < g.failures c)
+      by (inl e) = at_first (first.some e)
+      by (inr more) = inr (λ h. let failed = more (one.honest ∙ h) in omega (arith, failed, m))
 
   -- nothing was found, and nothing is there
   pub tells_none : (old new : D) (there : Bool) → (g.honest old ≡ true → g.failures new ≡ g.failures old → there ≡ false) → TellsWhetherThere g old new there false

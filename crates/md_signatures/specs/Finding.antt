@@ -9,10 +9,12 @@ use Rattle.md_signatures.specs.Bearing.{bears}
 -- all of them, in the order in which they are told
 abbrev pub signatures : List Signature
 signatures =
-    Md090 ∷ Md10 ∷ Md11 ∷ Md12 ∷ Luks ∷ Lvm2 ∷ Bcache ∷ Gpt ∷ Mbr ∷ Swap ∷ Ext ∷ Xfs ∷ Btrfs ∷ F2fs ∷ Jfs ∷ Reiserfs ∷ Ntfs ∷ Exfat
+    Md090 ∷ Md10 ∷ Md11 ∷ Md12 ∷ Luks ∷ Lvm2 ∷ Bcache ∷ Gpt ∷ Mbr ∷ Swap ∷ Ext ∷ Xfs ∷ Btrfs ∷ F2fs ∷ Jfs
+    ∷ Reiserfs ∷ Ntfs ∷ Exfat
     ∷ Fat ∷ Squashfs ∷ Iso9660 ∷ []
 
 -- an honest device bears all that was found; where no call failed, these are all that it bears, in their order
 pub record FindsSignatures {D : Type 0} (g : Ghosts D) (old new : D) (found : List Signature) : Type 0 where
   pub sound : g.honest old ≡ true → All (λ s. bears (g.content old) s ≡ true) found
-  pub whole : g.honest old ≡ true → g.failures new ≡ g.failures old → found ≡ filter (bears (g.content old)) signatures
+  pub whole : g.honest old ≡ true → g.failures new ≡ g.failures old
+      → found ≡ filter (bears (g.content old)) signatures

@@ -21,13 +21,18 @@ is_sound_entry bytes place = slice_index bytes place == 0 || slice_index bytes p
 
 -- the entry has a type, and not the one that protects a GUID partition table
 abbrev pub is_used_entry : List ℕ → ℕ → Bool
-is_used_entry bytes place = not (slice_index bytes (place + 4) == 0) && not (slice_index bytes (place + 4) == 0xee)
+is_used_entry bytes place =
+    not (slice_index bytes (place + 4) == 0) && not (slice_index bytes (place + 4) == 0xee)
 
 abbrev pub are_sound : List ℕ → Bool
-are_sound bytes = is_sound_entry bytes 446 && (is_sound_entry bytes 462 && (is_sound_entry bytes 478 && is_sound_entry bytes 494))
+are_sound bytes =
+    is_sound_entry bytes 446
+    && (is_sound_entry bytes 462 && (is_sound_entry bytes 478 && is_sound_entry bytes 494))
 
 abbrev pub is_one_used : List ℕ → Bool
-is_one_used bytes = is_used_entry bytes 446 || (is_used_entry bytes 462 || (is_used_entry bytes 478 || is_used_entry bytes 494))
+is_one_used bytes =
+    is_used_entry bytes 446
+    || (is_used_entry bytes 462 || (is_used_entry bytes 478 || is_used_entry bytes 494))
 
 -- the mark at the end
 unfoldable pub has_mark : List ℕ → Bool
@@ -35,4 +40,5 @@ has_mark bytes = has_sign bytes (sign 510 (0x55 ∷ 0xaa ∷ []))
 
 -- the mark stands, no file system begins here, all entries are sound, and one is used
 unfoldable pub is_partition_table : List ℕ → Bool
-is_partition_table bytes = has_mark bytes && (not (is_boot_sector bytes) && (are_sound bytes && is_one_used bytes))
+is_partition_table bytes =
+    has_mark bytes && (not (is_boot_sector bytes) && (are_sound bytes && is_one_used bytes))

@@ -16,8 +16,12 @@ magics Md10 = []
 magics Md11 = sign 0 md_magic ∷ []
 magics Md12 = sign 4096 md_magic ∷ []
 magics Luks = sign 0 (0x4c ∷ 0x55 ∷ 0x4b ∷ 0x53 ∷ 0xba ∷ 0xbe ∷ []) ∷ []
-magics Lvm2 = sign 24 (codes "LVM2 001") ∷ sign 536 (codes "LVM2 001") ∷ sign 1048 (codes "LVM2 001") ∷ sign 1560 (codes "LVM2 001") ∷ []
-magics Bcache = sign 4120 (0xc6 ∷ 0x85 ∷ 0x73 ∷ 0xf6 ∷ 0x4e ∷ 0x1a ∷ 0x45 ∷ 0xca ∷ 0x82 ∷ 0x65 ∷ 0xf5 ∷ 0x7f ∷ 0x48 ∷ 0xba ∷ 0x6d ∷ 0x81 ∷ []) ∷ []
+magics Lvm2 =
+    sign 24 (codes "LVM2 001") ∷ sign 536 (codes "LVM2 001") ∷ sign 1048 (codes "LVM2 001")
+    ∷ sign 1560 (codes "LVM2 001") ∷ []
+magics Bcache =
+    sign 4120 (0xc6 ∷ 0x85 ∷ 0x73 ∷ 0xf6 ∷ 0x4e ∷ 0x1a ∷ 0x45 ∷ 0xca ∷ 0x82 ∷ 0x65 ∷ 0xf5 ∷ 0x7f ∷ 0x48 ∷ 0xba
+    ∷ 0x6d ∷ 0x81 ∷ []) ∷ []
 magics Gpt = sign 512 (codes "EFI PART") ∷ sign 4096 (codes "EFI PART") ∷ []
 magics Mbr = []
 magics Swap =
@@ -37,7 +41,8 @@ magics Reiserfs =
 magics Ntfs = sign 3 (codes "NTFS    ") ∷ []
 magics Exfat = sign 3 (codes "EXFAT   ") ∷ []
 magics Fat =
-    sign 54 (codes "FAT12   ") ∷ sign 54 (codes "FAT16   ") ∷ sign 54 (codes "FAT     ") ∷ sign 54 (codes "MSDOS")
+    sign 54 (codes "FAT12   ") ∷ sign 54 (codes "FAT16   ") ∷ sign 54 (codes "FAT     ")
+    ∷ sign 54 (codes "MSDOS")
     ∷ sign 82 (codes "FAT32   ") ∷ sign 82 (codes "MSWIN") ∷ []
 magics Squashfs = sign 0 (codes "hsqs") ∷ sign 0 (codes "sqsh") ∷ []
 magics Iso9660 = sign 32769 (codes "CD001") ∷ []

@@ -1,7 +1,7 @@
 // Whether a device bears a signature.
 ghost use Rattle.std.specs.Prelude.{◌≡◌, ◌%◌, ◌≤◌, ◌^◌, IfSome};
 ghost use Rattle.md_signatures.specs.Bearing.{bears, has_superblock, md_10_place, md_090_place};
-ghost use Rattle.md_signatures.specs.Reading.{IsOnlySearched, TellsWhetherThere};
+ghost use Rattle.md_signatures.specs.Reading.{Heeds, IsOnlySearched, TellsWhetherThere};
 ghost use Rattle.md_signatures.specs.declared.signature.Signature.TheVariants.{Mbr};
 
 use crate::magic::{Magic, has_any, has_magic};
@@ -40,10 +40,13 @@ fn md_10_place(sectors: u64) -> Option<u64>
 }
 
 // Whether an md superblock stands at a place of the device, where it has one.
-fn has_superblock<D: Device>(device: &mut D, place: Option<u64>) -> bool
+fn has_superblock<D: Device>(device: &mut D, place: Option<u64>, has_failed: &mut bool) -> bool
     requires { IfSome place (λ p. p % 512 ≡ 0) }
     ensures only_read { IsOnlySearched D.Device device.old device.new }
-    ensures tells { TellsWhetherThere D.Device device.old device.new (has_superblock (D.content device.old) place) result }
+    ensures heeds { Heeds D.Device device.old device.new has_failed.old has_failed.new }
+    ensures tells { TellsWhetherThere D.Device device.old device.new
+        (has_superblock (D.content device.old) place)
+        result }
 {
     match place {
         Some(place) => has_any(
@@ -52,37 +55,43 @@ fn has_superblock<D: Device>(device: &mut D, place: Option<u64>) -> bool
                 place,
                 bytes: MD_MAGIC,
             }],
+            has_failed,
         ),
         None => false,
     }
 }
 
 // Whether the first sector has a partition table.
-fn has_partition_table<D: Device>(device: &mut D) -> bool
+fn has_partition_table<D: Device>(device: &mut D, has_failed: &mut bool) -> bool
     ensures only_read { IsOnlySearched D.Device device.old device.new }
-    ensures tells { TellsWhetherThere D.Device device.old device.new (bears (D.content device.old) Mbr) result }
+    ensures heeds { Heeds D.Device device.old device.new has_failed.old has_failed.new }
+    ensures tells { TellsWhetherThere D.Device device.old device.new (bears (D.content device.old) Mbr)
+        result }
 {
-    match read_sector(device, 0) {
+    match read_sector(device, 0, has_failed) {
         Some(sector) => is_partition_table(&sector),
         None => false,
     }
 }
 
-/// Whether the device bears the signature. A sector that it has not, or that it does not give, bears none.
-pub(crate) fn bears<D: Device>(device: &mut D, signature: Signature) -> bool
+/// Whether the device bears the signature. A sector that it has not, or that it does not give, bears none. Where a read
+/// failed it is noted.
+pub(crate) fn bears<D: Device>(device: &mut D, signature: Signature, has_failed: &mut bool) -> bool
     ensures only_read { IsOnlySearched D.Device device.old device.new }
-    ensures tells { TellsWhetherThere D.Device device.old device.new (bears (D.content device.old) signature) result }
+    ensures heeds { Heeds D.Device device.old device.new has_failed.old has_failed.new }
+    ensures tells { TellsWhetherThere D.Device device.old device.new (bears (D.content device.old) signature)
+        result }
 {
     match signature {
         Signature::Md090 => {
             let place = md_090_place(device.sectors());
-            has_superblock(device, place)
+            has_superblock(device, place, has_failed)
         }
         Signature::Md10 => {
             let place = md_10_place(device.sectors());
-            has_superblock(device, place)
+            has_superblock(device, place, has_failed)
         }
-        Signature::Mbr => has_partition_table(device),
-        _ => has_any(device, magics(signature)),
+        Signature::Mbr => has_partition_table(device, has_failed),
+        _ => has_any(device, magics(signature), has_failed),
     }
 }

@@ -1,5 +1,12 @@
 //! What a device holds now, as a few of its bytes tell: file systems, partition tables, volumes and md superblocks, by
 //! their magic numbers. A device is only read.
+//!
+//! Start with `find_signatures`; `table.rt` has the magic numbers, and where they stand.
+//!
+//! ```
+//! let look = find_signatures(alloc, &mut device)?;
+//! let name = look.found.first().map(|signature| signature.text());
+//! ```
 #![tactic(auto)]
 
 mod bearing;
@@ -10,5 +17,5 @@ mod read_sector;
 mod signature;
 mod table;
 
-pub use finding::find_signatures;
+pub use finding::{Look, find_signatures};
 pub use signature::{SIGNATURES, Signature};

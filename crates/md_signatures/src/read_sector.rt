@@ -1,13 +1,19 @@
 // A sector of a device.
 ghost use Rattle.std.specs.Prelude.{MatchOption};
-ghost use Rattle.md_signatures.specs.Reading.{GivesSector, IsOnlySearched, Misses};
+ghost use Rattle.md_signatures.specs.Reading.{GivesSector, Heeds, Misses, IsOnlySearched};
 
 use md_device::Device;
 
-/// Reads a sector, once, where the device has it.
-pub(crate) fn read_sector<D: Device>(device: &mut D, sector: u64) -> Option<[u8; 512]>
+/// Reads a sector, once, where the device has it, and notes where that failed.
+pub(crate) fn read_sector<D: Device>(
+    device: &mut D,
+    sector: u64,
+    has_failed: &mut bool,
+) -> Option<[u8; 512]>
     ensures only_read { IsOnlySearched D.Device device.old device.new }
-    ensures reads { MatchOption result (Misses D.Device device.old device.new sector) (GivesSector D.Device device.old device.new sector) }
+    ensures heeds { Heeds D.Device device.old device.new has_failed.old has_failed.new }
+    ensures reads { MatchOption result (Misses D.Device device.old device.new sector)
+        (GivesSector D.Device device.old device.new sector) }
 {
     if sector >= device.sectors() {
         return None;
@@ -15,6 +21,9 @@ pub(crate) fn read_sector<D: Device>(device: &mut D, sector: u64) -> Option<[u8;
     let mut bytes = [0; 512];
     match device.read(sector, &mut bytes) {
         Ok(()) => Some(bytes),
-        Err(_) => None,
+        Err(_) => {
+            *has_failed = true;
+            None
+        }
     }
 }

@@ -10,7 +10,7 @@ use Rattle.clap.specs.Values.{kind_of}
 use Rattle.clap.specs.Words.{HasKind, Row, Text}
 use Rattle.clap.specs.declared.error.Error.{Error}
 use Rattle.clap.specs.declared.error.kind.ErrorKind.TheVariants as kind
-use Rattle.md_words.specs.Parsing.{fits_bits, form_fault, map_out_fault, member_at, member_fault, names_map_alone, names_no_member, names_two_forms, number_or_zero, place_in}
+use Rattle.md_words.specs.Parsing.{fits_bits, map_out_fault, member_at, member_fault, names_map_alone, names_no_member, number_or_zero, place_in}
 use Rattle.md_words.proofs.Numbers.{is_no_number_refused, is_number_parsed, number_read}
 
 prefix_len-map : {X Y : Type 0} (p : Y → Bool) (f : X → Y) (xs : List X) → prefix_len p (map f xs) ≡ prefix_len (λ x. p (f x)) xs
@@ -53,13 +53,6 @@ unknown_fails o name rows e is unknown told =
     let among : HasKind (cond (names_no_member rows) (kind.ValueValidation ∷ []) []) e =
     subst (λ (b : Bool). HasKind (cond b (kind.ValueValidation ∷ []) []) e) (sym unknown) (inr (inl told)) in
     subst (λ (p : Option (Text × List Row)). HasKind (member_fault p) e) (sym is) among
-
--- two forms of a report are refused
-pub two_forms_fail : (o : Option (Text × List Row)) (name : Text) (rows : List Row) (e : Error) → o ≡ Some (name, rows) → names_two_forms rows ≡ true → kind_of e ≡ kind.ArgumentConflict → HasKind (form_fault o) e
-two_forms_fail o name rows e is two told =
-    let among : HasKind (cond (names_two_forms rows) (kind.ArgumentConflict ∷ []) []) e =
-    subst (λ (b : Bool). HasKind (cond b (kind.ArgumentConflict ∷ []) []) e) (sym two) (inr (inl told)) in
-    subst (λ (p : Option (Text × List Row)). HasKind (form_fault p) e) (sym is) among
 
 -- a map of a read that is not filled is refused
 pub map_alone_fails : (o : Option (Text × List Row)) (name : Text) (rows : List Row) (e : Error) → o ≡ Some (name, rows) → names_map_alone rows ≡ true → kind_of e ≡ kind.MissingRequiredArgument → HasKind (map_out_fault o) e

@@ -68,7 +68,8 @@ json_in rows = bytes_eq (text_in (codes "json") rows) (codes "true")
 -- how the report on an image is shown, and that of a check; the object of a check lists the chunks in any case
 abbrev pub image_form_in : List Row → ImageForm
 image_form_in rows =
-    if json_in rows then image_form.Json else if all_in rows then image_form.Raw else image_form.Text
+    if all_in rows then (if json_in rows then image_form.RawJson else image_form.Raw)
+    else if json_in rows then image_form.Json else image_form.Text
 
 abbrev pub check_form_in : List Row → CheckForm
 check_form_in rows =
@@ -97,6 +98,14 @@ map_out_in rows = first_of (codes "map-out") rows
 abbrev pub map_out_found : Option (Text × List Row) → Option Text
 map_out_found None = None
 map_out_found (Some p) = map_out_in p.1
+
+-- the file that gets what is put out
+abbrev pub output_in : List Row → Option Text
+output_in rows = first_of (codes "output") rows
+
+abbrev pub output_found : Option (Text × List Row) → Option Text
+output_found None = None
+output_found (Some p) = output_in p.1
 
 -- the place among images of the first of this name; 2^32 - 1 stands for all that are greater, at which no array has a member
 abbrev pub place_in : List Text → Text → Option ℕ
@@ -186,6 +195,10 @@ map_words words = maps_found (subcommand_of mdcli words)
 unfoldable pub map_out_word : List Text → Option Text
 map_out_word words = map_out_found (subcommand_of mdcli words)
 
+-- the file that gets what is put out
+unfoldable pub output_word : List Text → Option Text
+output_word words = output_found (subcommand_of mdcli words)
+
 -- whether the words ask that more is said of a refusal
 unfoldable pub is_verbose : List Text → Bool
 is_verbose words = verbose_found (subcommand_of mdcli words)
@@ -202,14 +215,6 @@ abbrev pub member_fault : Option (Text × List Row) → Kinds
 member_fault None = []
 member_fault (Some p) = if names_no_member p.1 then kind.ValueValidation ∷ [] else []
 
--- whether what stands in an image is asked for as a JSON object: there is none of it yet
-abbrev pub names_two_forms : List Row → Bool
-names_two_forms rows = json_in rows && all_in rows
-
-abbrev pub form_fault : Option (Text × List Row) → Kinds
-form_fault None = []
-form_fault (Some p) = if names_two_forms p.1 then kind.ArgumentConflict ∷ [] else []
-
 -- whether a map is to be made of a read that ends at what is not given
 abbrev pub names_map_alone : List Row → Bool
 names_map_alone rows = is_some (map_out_in rows) && not (fill_in rows)
@@ -218,13 +223,9 @@ abbrev pub map_out_fault : Option (Text × List Row) → Kinds
 map_out_fault None = []
 map_out_fault (Some p) = if names_map_alone p.1 then kind.MissingRequiredArgument ∷ [] else []
 
--- for two forms of a report, or else for such a map
-abbrev pub option_fault : Option (Text × List Row) → Kinds
-option_fault command = or_else (form_fault command) (map_out_fault command)
-
--- why the words of a command are not taken: for the member that they name, or else for its options
+-- why the words of a command are not taken: for the member that they name, or else for such a map
 abbrev pub command_fault : Option (Text × List Row) → Kinds
-command_fault command = or_else (member_fault command) (option_fault command)
+command_fault command = or_else (member_fault command) (map_out_fault command)
 
 -- why the words are not taken: for what the parser says, or else for what the command is given
 unfoldable pub words_fault : List Text → Kinds

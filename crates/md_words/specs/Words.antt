@@ -112,9 +112,11 @@ rebuild_app = completed (with_map (with_run (with_member (new_app (codes "rebuil
 abbrev pub with_sector : App → App
 with_sector a = with_rule a (required (u64_rule (codes "sector")))
 
--- options for sectors that nobody gives
+-- options for sectors that nobody gives, and for where the others go
 abbrev pub with_fill : App → App
-with_fill a = with_rule (with_rule a (flag_rule (codes "fill"))) (value_rule (codes "map-out"))
+with_fill a =
+    with_rule (with_rule (with_rule a (flag_rule (codes "fill"))) (value_rule (codes "map-out")))
+    (value_rule (codes "output"))
 
 abbrev pub read_app : App
 read_app =

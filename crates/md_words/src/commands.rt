@@ -122,6 +122,15 @@ const MAP_OUT: OptionWords = OptionWords {
     default: None,
 };
 
+const OUTPUT: OptionWords = OptionWords {
+    name: "output",
+    value: "FILE",
+    help: "Makes a new file of the sectors, and writes nothing to standard output; blocks of zeros are holes in it",
+    kind: Kind::Text,
+    required: false,
+    default: None,
+};
+
 const LEVEL: OptionWords = OptionWords {
     name: "level",
     value: "LEVEL",
@@ -288,7 +297,7 @@ pub(crate) const DATA_COMMANDS: [CommandWords; 5] = [
         name: "read",
         about: "Writes sectors of the array to standard output; may change images",
         after_help: help::READ,
-        options: &[SECTOR, COUNT, FILL, MAP_OUT, READONLY, MAP],
+        options: &[SECTOR, COUNT, FILL, MAP_OUT, OUTPUT, READONLY, MAP],
     },
     CommandWords {
         name: "write",

@@ -9,6 +9,8 @@ pub enum ImageForm {
     Raw,
     /// As a JSON object.
     Json,
+    /// What stands there, though it may be refused, as a JSON object.
+    RawJson,
 }
 
 /// How the report of a check is shown.

@@ -1,5 +1,12 @@
 //! The words of the command line: the commands and their options, as clap is told of them, and what
 //! words ask for.
+//!
+//! Start with `parse`, and `Command`, whose methods say what a command may do with its images.
+//!
+//! ```
+//! let request = parse(alloc, &["detail", "sda.img", "sdb.img"])?;
+//! let access = request.command.access();
+//! ```
 #![tactic(auto)]
 
 mod command;

@@ -3,7 +3,7 @@ ghost use Rattle.std.specs.Prelude.{◌≡◌, IfOk, [], codes, map, option_map,
 ghost use Rattle.std.specs.Str.{bytes_eq};
 ghost use Rattle.clap.specs.Words.{FailsBy, fault_of, first_of, found_of, matched_of, raw_values, rows_of, subcommand_of, subcommand_rows_of};
 ghost use Rattle.md_words.specs.Words.{mdcli};
-ghost use Rattle.md_words.specs.Parsing.{all_in, ask_found, ask_named, asked, check_form_in, command_fault, fill_in, form_fault, image_form_in, image_words, images_found, is_verbose, json_in, list_in, map_out_fault, map_out_found, map_out_in, map_out_word, map_words, maps_found, member_at, member_fault, member_in, member_named, names_map_alone, names_no_member, names_two_forms, number_in, number_or_zero, option_fault, options_in, place_in, readonly_in, run_found, run_in, runs, text_in, verbose_found, verbose_in, words_fault};
+ghost use Rattle.md_words.specs.Parsing.{all_in, ask_found, ask_named, asked, check_form_in, command_fault, fill_in, image_form_in, image_words, images_found, is_verbose, json_in, list_in, map_out_fault, map_out_found, map_out_in, map_out_word, map_words, maps_found, member_at, member_fault, member_in, member_named, names_map_alone, names_no_member, number_in, number_or_zero, options_in, output_found, output_in, output_word, place_in, readonly_in, run_found, run_in, runs, text_in, verbose_found, verbose_in, words_fault};
 ghost use Rattle.md_words.specs.Asks.{ask_of, options_of};
 
 use crate::command::Command;
@@ -105,10 +105,14 @@ fn is_json(found: &ArgMatches<'_>) -> bool
 fn image_form(found: &ArgMatches<'_>) -> ImageForm
     ensures { result ≡ image_form_in (rows_of (found_of found.now)) }
 {
-    if is_json(found) {
+    if is_all(found) {
+        if is_json(found) {
+            ImageForm::RawJson
+        } else {
+            ImageForm::Raw
+        }
+    } else if is_json(found) {
         ImageForm::Json
-    } else if is_all(found) {
-        ImageForm::Raw
     } else {
         ImageForm::Text
     }
@@ -137,6 +141,13 @@ fn map_out_of<'a>(found: &ArgMatches<'a>) -> Option<&'a str>
     ensures { option_map (λ s. s.now) result ≡ map_out_in (rows_of (found_of found.now)) }
 {
     found.get_str("map-out")
+}
+
+// The file that gets what is put out.
+fn output_of<'a>(found: &ArgMatches<'a>) -> Option<&'a str>
+    ensures { option_map (λ s. s.now) result ≡ output_in (rows_of (found_of found.now)) }
+{
+    found.get_str("output")
 }
 
 // Whether nothing is to be asked.
@@ -301,6 +312,8 @@ fn request_of<'a>(alloc: Global, matches: &ArgMatches<'a>) -> Result<Request<'a>
         (λ r. map (λ s. s.now) r.maps.items ≡ maps_found (subcommand_rows_of matches.now)) }
     ensures map_out { IfOk result
         (λ r. option_map (λ s. s.now) r.map_out ≡ map_out_found (subcommand_rows_of matches.now)) }
+    ensures output { IfOk result
+        (λ r. option_map (λ s. s.now) r.output ≡ output_found (subcommand_rows_of matches.now)) }
     ensures verbose { IfOk result (λ r. r.verbose ≡ verbose_found (subcommand_rows_of matches.now)) }
     ensures run { IfOk result (λ r. r.run ≡ run_found (subcommand_rows_of matches.now)) }
 {
@@ -312,6 +325,7 @@ fn request_of<'a>(alloc: Global, matches: &ArgMatches<'a>) -> Result<Request<'a>
             images: Vec::new(alloc),
             maps: Vec::new(alloc),
             map_out: None,
+            output: None,
             verbose: false,
             run: false,
         });
@@ -323,6 +337,7 @@ fn request_of<'a>(alloc: Global, matches: &ArgMatches<'a>) -> Result<Request<'a>
         images,
         maps,
         map_out: map_out_of(found),
+        output: output_of(found),
         verbose: is_verbose(found),
         run: is_run(found),
     })
@@ -358,28 +373,6 @@ fn check_member(alloc: Global, matches: &ArgMatches<'_>) -> Result<(), Error>
     Err(program.error(ErrorKind::ValueValidation, message)?)
 }
 
-// Whether two forms of a report are asked for.
-fn names_two_forms(found: &ArgMatches<'_>) -> bool
-    ensures { result ≡ names_two_forms (rows_of (found_of found.now)) }
-{
-    is_json(found) && is_all(found)
-}
-
-// Refuses what stands in an image as JSON, as the parser refuses options that exclude each other.
-fn check_forms(alloc: Global, matches: &ArgMatches<'_>) -> Result<(), Error>
-    ensures { FailsBy (form_fault (subcommand_rows_of matches.now)) result }
-{
-    let Some((_, found)) = matches.subcommand() else {
-        return Ok(());
-    };
-    if !names_two_forms(found) {
-        return Ok(());
-    }
-    let mut program = command_line(alloc)?;
-    let message = "the argument '--json' cannot be used with '--all'";
-    Err(program.error(ErrorKind::ArgumentConflict, message)?)
-}
-
 // Whether a map is to be made of a read that ends at what is not given.
 fn names_map_alone(found: &ArgMatches<'_>) -> bool
     ensures { result ≡ names_map_alone (rows_of (found_of found.now)) }
@@ -402,28 +395,18 @@ fn check_map_out(alloc: Global, matches: &ArgMatches<'_>) -> Result<(), Error>
     Err(program.error(ErrorKind::MissingRequiredArgument, message)?)
 }
 
-// Refuses options that the parser takes, and a command does not.
-fn check_options(alloc: Global, matches: &ArgMatches<'_>) -> Result<(), Error>
-    ensures { FailsBy (option_fault (subcommand_rows_of matches.now)) result }
-{
-    match check_forms(alloc, matches) {
-        Ok(()) => check_map_out(alloc, matches),
-        Err(error) => Err(error),
-    }
-}
-
 // Refuses what the parser takes, and a command does not.
 fn check_command(alloc: Global, matches: &ArgMatches<'_>) -> Result<(), Error>
     ensures { FailsBy (command_fault (subcommand_rows_of matches.now)) result }
 {
     match check_member(alloc, matches) {
-        Ok(()) => check_options(alloc, matches),
+        Ok(()) => check_map_out(alloc, matches),
         Err(error) => Err(error),
     }
 }
 
 /// What the words ask for, or why the words are not taken.
-#[tactic(auto, unfolding(crate::specs::Parsing::image_words, crate::specs::Parsing::map_words, crate::specs::Parsing::map_out_word, crate::specs::Parsing::asked, crate::specs::Parsing::is_verbose, crate::specs::Parsing::runs, crate::specs::Parsing::words_fault))]
+#[tactic(auto, unfolding(crate::specs::Parsing::image_words, crate::specs::Parsing::map_words, crate::specs::Parsing::map_out_word, crate::specs::Parsing::output_word, crate::specs::Parsing::asked, crate::specs::Parsing::is_verbose, crate::specs::Parsing::runs, crate::specs::Parsing::words_fault))]
 pub fn parse<'a>(alloc: Global, words: &'a [&'a str]) -> Result<Request<'a>, Error>
     ensures asks { IfOk result (λ r. ask_of r.command ≡ asked (map (λ s. s.now) words.entry.now)) }
     ensures images { IfOk result
@@ -432,6 +415,8 @@ pub fn parse<'a>(alloc: Global, words: &'a [&'a str]) -> Result<Request<'a>, Err
         (λ r. map (λ s. s.now) r.maps.items ≡ map_words (map (λ s. s.now) words.entry.now)) }
     ensures map_out { IfOk result
         (λ r. option_map (λ s. s.now) r.map_out ≡ map_out_word (map (λ s. s.now) words.entry.now)) }
+    ensures output { IfOk result
+        (λ r. option_map (λ s. s.now) r.output ≡ output_word (map (λ s. s.now) words.entry.now)) }
     ensures verbose { IfOk result (λ r. r.verbose ≡ is_verbose (map (λ s. s.now) words.entry.now)) }
     ensures run { IfOk result (λ r. r.run ≡ runs (map (λ s. s.now) words.entry.now)) }
     ensures fails { FailsBy (words_fault (map (λ s. s.now) words.entry.now)) result }

@@ -10,6 +10,8 @@ pub struct Request<'a> {
     pub maps: Vec<&'a str>,
     /// The file that is to be made, a map of what is read.
     pub map_out: Option<&'a str>,
+    /// The file that is to be made of what is put out.
+    pub output: Option<&'a str>,
     /// More is to be said of a refusal.
     pub verbose: bool,
     /// Nothing is to be asked.

@@ -4,24 +4,27 @@
 mod cleared;
 mod comparing;
 mod copying;
+mod destination;
 mod files;
 mod map_out;
 mod maps;
+mod new_file;
+mod output_file;
 mod pace;
 mod progress;
-mod questions;
 mod watched;
 
 use crate::cleared::Cleared;
 use crate::files::FileImages;
 use crate::map_out::{MapOut, is_map_begun, is_map_made};
 use crate::maps::{masked_images, tell_refusal};
+use crate::output_file::{destination_of, is_file_ended, output_of};
 use crate::progress::Progress;
-use crate::questions::Questions;
-use md_cli::{Messages, Session, run};
+use md_cli::{Session, run};
 use md_commands::Input;
-use md_examine::{Buffered, Output};
+use md_examine::Buffered;
 use md_masked_images::MaskedImages;
+use md_messages::{Messages, Questions};
 use md_words::parse;
 use std::alloc::{AllocError, Global};
 use std::fs::File;
@@ -59,31 +62,17 @@ fn main(rt: HostRuntime) -> ExitCode {
     let err = rt.stderr();
     let is_terminal = err.is_terminal();
     let task = if is_terminal { task } else { None };
-    let messages = if is_terminal {
-        Messages::AtTerminal
-    } else if is_verbose {
+    let messages = if is_terminal || is_verbose {
         Messages::WithAdvice
     } else {
         Messages::Plain
     };
-    let asks = is_terminal && rt.stdin().is_terminal() && !is_run;
-    let questions = Questions::new(messages, asks);
+    let questions = Questions::of(is_terminal, rt.stdin().is_terminal(), is_run);
     let progress = Progress::new(&rt, task, questions);
     // Output that goes elsewhere leaves the line as it is.
     let is_beside = rt.stdout().is_terminal();
-    let out = Cleared::new(io::writer(&rt), &progress, is_beside);
-    let mut session = Session {
-        rt: &rt,
-        alloc: rt.alloc(),
-        input: Input::new(rt.stdin()),
-        out: Buffered::new(rt.alloc(), Output::new(out)),
-        watch: &progress,
-        missing: None,
-    };
+    let standard = Cleared::new(io::writer(&rt), &progress, is_beside);
     let mut err = Cleared::new(err, &progress, true);
-    if !is_map_begun(&rt, map_out, messages, &mut err) {
-        return ExitCode::from(REFUSED);
-    }
     let files = FileImages::new(&rt, &progress);
     let masked = match &parsed {
         Ok(request) => masked_images(&rt, request, files),
@@ -98,9 +87,28 @@ fn main(rt: HostRuntime) -> ExitCode {
             return ExitCode::from(REFUSED);
         }
     };
+    let output = output_of(&parsed);
+    let Some(out) = destination_of(&rt, output, standard, messages, &mut err) else {
+        return ExitCode::from(REFUSED);
+    };
+    if !is_map_begun(&rt, map_out, messages, &mut err) {
+        let _ = is_file_ended(out, messages, &mut err);
+        return ExitCode::from(REFUSED);
+    }
+    let mut session = Session {
+        rt: &rt,
+        alloc: rt.alloc(),
+        input: Input::new(rt.stdin()),
+        out: Buffered::new(rt.alloc(), out),
+        watch: &progress,
+        missing: None,
+    };
     let status = run(&mut session, words, parsed, &mut images, &mut err, messages);
     progress.clear();
-    if !is_map_made(&rt, map_out, session.missing.take(), messages, &mut err) {
+    let Session { out, missing, .. } = session;
+    let is_ended = is_file_ended(out.into_inner(), messages, &mut err);
+    let is_map_made = is_map_made(&rt, map_out, missing, messages, &mut err);
+    if !is_ended || !is_map_made {
         return ExitCode::from(REFUSED);
     }
     ExitCode::from(status)

@@ -2,9 +2,9 @@
 ghost use Rattle.std.specs.Prelude.{◌*◌, ◌+◌, ◌<◌, ◌≤◌, ◌^◌};
 
 use md_badblocks::BadSet;
-use md_cli::Messages;
 use md_maps::write_map;
 use md_masked_images::{MapOutFault, map_out_advice};
+use md_messages::Messages;
 use md_words::{Command, Request};
 use std::alloc::{AllocError, Global};
 use std::fs::{self, File, OpenOptions};
@@ -43,7 +43,7 @@ impl<'a> MapOut<'a> {
         })
     }
 
-    // Makes the file, empty, before any image is opened. Nothing that is there is overwritten: it may be one of them.
+    // Makes the file, empty, before any image is opened to be changed. Nothing that is there is overwritten: it may be one of them.
     fn begin(&self, rt: &HostRuntime) -> Result<(), MapOutFault> {
         match File::create_new(rt, self.path) {
             Ok(_) => Ok(()),
@@ -77,7 +77,7 @@ impl<'a> MapOut<'a> {
     }
 }
 
-/// Makes the file of a map, where one is asked for, before any image is opened. Says on `err` why it can't.
+/// Makes the file of a map, where one is asked for, before any image is read or changed. Says on `err` why it can't.
 pub fn is_map_begun<E: Write>(
     rt: &HostRuntime,
     map: Option<MapOut<'_>>,
@@ -127,7 +127,7 @@ fn write_into(rt: &HostRuntime, path: &str, bytes: &[u8]) -> io::Result<()> {
     file.flush()
 }
 
-// The map of an array up to the last sector that was read. Those before the first lack, as those do that were not given.
+// The map of an array up to the last sector that was read. Those before the first were not tried.
 fn map_text(
     alloc: Global,
     sector: u64,
@@ -135,7 +135,8 @@ fn map_text(
     mut missing: BadSet,
 ) -> Result<String, AllocError> {
     let end = sector.saturating_add(count).min(MOST_SECTORS);
+    let first = sector.min(end);
     missing.remove(end, MOST_SECTORS - end)?;
-    missing.add(0, sector.min(end))?;
-    write_map(alloc, 512 * end, &missing)
+    missing.remove(0, first)?;
+    write_map(alloc, 512 * end, first, &missing)
 }

@@ -1,11 +1,11 @@
 // Images under the maps that words name.
 use crate::files::FileImages;
 use md_advice::advise;
-use md_cli::Messages;
 use md_commands::CommandFault;
 use md_masked_images::{
     MapRefusal, MapText, MapWord, MapsFault, MaskedImages, map_advice, map_list, mask_images,
 };
+use md_messages::Messages;
 use md_words::Request;
 use std::alloc::{AllocError, Global};
 use std::fs::File;

@@ -1,11 +1,12 @@
 // What a command that takes long shows of its progress.
-ghost use Rattle.std.specs.Prelude.{⊤};
+ghost use Rattle.std.specs.Prelude.{◌≡◌, false, true};
+ghost use Rattle.md_messages.specs.Terminal.{are_asked, are_shown};
 
 use crate::comparing::Comparing;
 use crate::copying::Copying;
-use crate::questions::Questions;
-use md_cli::Asker;
-use md_commands::{Gate, Watch};
+use md_commands::{Gate, Input, Watch};
+use md_examine::Output;
+use md_messages::{Asker, Questions};
 use md_words::LongTask;
 use std::alloc::AllocError;
 use std::io::Write;
@@ -173,7 +174,10 @@ impl<'a> Gate for Progress<'a> {
 }
 
 impl<'a> Asker for Progress<'a> {
-    ghost answered = { λ _ _ _. ⊤ };
+    ghost shows = { λ p. are_shown p.questions };
+
+    // No contract says what a terminal gives; but where nobody is asked, the answer is yes.
+    ghost answered = { λ p _ yes. are_asked p.questions ≡ false → yes ≡ true };
 
     fn is_there(&self) -> bool {
         self.questions.are_shown()
@@ -181,7 +185,9 @@ impl<'a> Asker for Progress<'a> {
 
     fn goes_on(&self, lines: &[u8]) -> bool {
         self.clear();
-        self.questions.goes_on(self.rt, lines)
+        let mut err = Output::new(self.rt.stderr());
+        let mut input = Input::new(self.rt.stdin());
+        self.questions.go_on(lines, &mut err, &mut input)
     }
 }
 

@@ -13,4 +13,6 @@ mod masked_images;
 #[cfg(test)]
 mod objects;
 #[cfg(test)]
+mod raw_parts;
+#[cfg(test)]
 mod signatures;

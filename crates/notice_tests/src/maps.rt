@@ -1,5 +1,5 @@
 // Maps of ddrescue: two that it wrote, the forms that its manual allows, and each fault once.
-ghost use Rattle.std.specs.Prelude.{ℕ, ◌*◌, ◌<◌, IfOk};
+ghost use Rattle.std.specs.Prelude.{ℕ, ◌*◌, ◌<◌, ◌≤◌, IfOk};
 ghost use Rattle.md_badblocks.specs.Runs.{IsBad};
 
 use crate::checks::same_at;
@@ -109,8 +109,16 @@ const BLOCKS: &str = "0x00000000  0x00002600  +
 0x0000C800  0x00003800  +
 ";
 
+// The lines where the sectors before 19 were not tried.
+const FROM_19: &str = "0x00000000  0x00002600  ?
+0x00002600  0x00000400  -
+0x00002A00  0x00009C00  +
+0x0000C600  0x00000200  -
+0x0000C800  0x00003800  +
+";
+
 fn two_places(alloc: Global) -> Result<BadSet, AllocError>
-    ensures { IfOk result (λ missing. (sector : ℕ) → IsBad missing sector → 512 * sector < 65536) }
+    ensures { IfOk result (λ missing. (sector : ℕ) → IsBad missing sector → (19 ≤ sector) × (512 * sector < 65536)) }
 {
     let mut missing = BadSet::new(alloc);
     missing.add(19, 2)?;
@@ -121,9 +129,12 @@ fn two_places(alloc: Global) -> Result<BadSet, AllocError>
 #[test]
 fn a_map_is_written(rt: HostRuntime) -> Result<(), Fail> {
     let missing = two_places(rt.alloc())?;
-    let text = write_map(rt.alloc(), 65536, &missing)?;
-    drop(missing);
+    let text = write_map(rt.alloc(), 65536, 0, &missing)?;
     same_at(&rt, &text.as_str(), text.as_str().ends_with(BLOCKS), true);
+    drop(text);
+    let text = write_map(rt.alloc(), 65536, 19, &missing)?;
+    drop(missing);
+    same_at(&rt, &text.as_str(), text.as_str().ends_with(FROM_19), true);
     drop(text);
     Ok(())
 }

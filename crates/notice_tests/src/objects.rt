@@ -15,10 +15,10 @@ use std::process::Abort;
 use std::test::Fail;
 
 // What an object has at a path, as JSON.
-type Row = (&'static str, &'static str);
+pub(crate) type Row = (&'static str, &'static str);
 
 // One line, and in it these values.
-fn holds(rt: &impl Abort, alloc: Global, text: Vec<u8>, rows: &[Row]) -> Result<(), Fail> {
+pub(crate) fn holds(rt: &impl Abort, alloc: Global, text: Vec<u8>, rows: &[Row]) -> Result<(), Fail> {
     let text = String::from_utf8(text)?;
     same_at(rt, &text.as_str(), text.as_str().lines().count(), 1);
     same_at(rt, &text.as_str(), text.as_str().ends_with('\n'), true);

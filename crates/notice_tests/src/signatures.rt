@@ -408,9 +408,9 @@ fn finds<D: Device>(
     device: &mut D,
     wanted: &[Signature],
 ) -> Result<(), Fail> {
-    let found = find_signatures(alloc, device)?;
-    same_at(rt, at, found.as_slice() == wanted, true);
-    drop(found);
+    let look = find_signatures(alloc, device)?;
+    same_at(rt, at, look.found.as_slice() == wanted, true);
+    drop(look);
     Ok(())
 }
 

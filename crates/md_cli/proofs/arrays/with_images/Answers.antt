@@ -8,7 +8,8 @@ use Rattle.md_images.specs.Images.{asks}
 use Rattle.md_images.specs.Taking.{ArePut, RefusesImages, Text, Word, image_list, names_of, word_of}
 use Rattle.md_images.proofs.Taken.{restored}
 use Rattle.md_words.specs.Asks.{ask_of}
-use Rattle.md_cli.specs.Arrays.{UsesImages, WorksOn, may, texts}
+use Rattle.md_messages.specs.Telling.{texts}
+use Rattle.md_cli.specs.Arrays.{UsesImages, WorksOn, may}
 use Rattle.md_cli.specs.Asking.{question_of}
 use Rattle.md_cli.specs.Streams.{told_of}
 use Rattle.md_cli.proofs.Joined.{all_named}

@@ -2,7 +2,8 @@ use Rattle.std.proofs.Common.{◌≡◌, ◌∙◌, true, List, Err, map, ap, su
 use Rattle.md_images.specs.declared.access.Access.TheVariants.{Change}
 use Rattle.md_commands.specs.Faults.{of_images}
 use Rattle.md_images.specs.Taking.{RefusesImages, Word, image_list, word_of}
-use Rattle.md_cli.specs.Arrays.{may, texts}
+use Rattle.md_messages.specs.Telling.{texts}
+use Rattle.md_cli.specs.Arrays.{may}
 use Rattle.md_cli.proofs.creating.create_images.Goals as goal
 
 pub returns-in_err-devices-clause-gives : goal.returns-in_err-devices-clause-gives

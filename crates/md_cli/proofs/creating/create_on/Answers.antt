@@ -1,9 +1,9 @@
 use Rattle.std.proofs.Common.{◌≡◌, ◌∙◌, length, map, ap, sym, subst, refl, inl, inr}
 use Rattle.std.proofs.lemmas.List.{length-map}
 use Rattle.md_state.specs.View.{disk_of}
-use Rattle.md_cli.specs.Arrays.{texts}
+use Rattle.md_messages.specs.Holding.{NotesHeldOnEach, held_each}
+use Rattle.md_messages.specs.Telling.{texts}
 use Rattle.md_cli.specs.Creating.{AreNewMembers, LaysOutOn}
-use Rattle.md_cli.specs.Holding.{NotesHeldOnEach, held_each}
 use Rattle.md_images.specs.Taking.{word_of}
 use Rattle.md_cli.proofs.Created.{room, seen_room, when_ok}
 use Rattle.md_cli.proofs.creating.create_on.Goals as goal

@@ -1,7 +1,7 @@
 use Rattle.std.proofs.Common.{◌∙◌, map}
 use Rattle.std.proofs.lemmas.List.{length-map}
 use Rattle.md_state.specs.View.{disk_of}
-use Rattle.md_cli.specs.Arrays.{texts}
+use Rattle.md_messages.specs.Telling.{texts}
 use Rattle.md_cli.proofs.Created.{made}
 use Rattle.md_cli.proofs.creating.members_of.Goals as goal
 

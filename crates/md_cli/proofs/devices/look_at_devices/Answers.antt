@@ -1,7 +1,8 @@
 use Rattle.std.proofs.Common.{◌≡◌, ◌∙◌, List, map, ap, subst, inl}
 use Rattle.md_state.specs.View.{Disk, disk_of}
 use Rattle.md_words.specs.Asks.{ask_of}
-use Rattle.md_cli.specs.Arrays.{OpensDevices, disks, overlaid, texts}
+use Rattle.md_messages.specs.Telling.{texts}
+use Rattle.md_cli.specs.Arrays.{OpensDevices, disks, overlaid}
 use Rattle.md_cli.specs.Asking.{question_of}
 use Rattle.md_cli.specs.Streams.{told_of}
 use Rattle.md_cli.proofs.Overlaid.{overlay_ghosts, shown_over}

@@ -1,8 +1,9 @@
-use Rattle.std.proofs.Common.{◌∙◌, inl, inr, map, option_map, refl}
+use Rattle.std.proofs.Common.{◌∙◌, Bool, ap, inl, inr, map, option_map, refl, sym}
 use Rattle.std.proofs.lemmas.List.{length-map}
 use Rattle.md_state.specs.View.{disk_of}
 use Rattle.md_words.specs.Asks.{ask_of}
-use Rattle.md_cli.specs.Arrays.{texts}
+use Rattle.md_messages.specs.Noticed.{with_dropped}
+use Rattle.md_messages.specs.Telling.{texts}
 use Rattle.md_cli.specs.Asking.{question_of}
 use Rattle.md_cli.specs.Opened.{opened_view}
 use Rattle.md_cli.specs.Streams.{streams_of}
@@ -51,7 +52,7 @@ returns-in-Ok-clause-gives g c =
       performs = c.perform_asked-done.ensures.answers;
       first = c.note.new.self;
       noted = c.note.ensures;
-      dropped = c.note_dropped.ensures;
+      dropped = c.note_dropped.ensures ∙ ap (λ (left : Bool). with_dropped ask new.mirror.array left c.note.new.self) (c.is_some.ensures ∙ sym (there_same (disk_of d) new.beside));
       devices = shown_back d ask c.args.members.items c.into_devices-members.result.items c.args.beside new.beside c.in-Ok.mirror.disks new.mirror.disks many c.into_devices-members.ensures back c.all_back.result.items c.all_back.ensures;
     })
 

@@ -1,6 +1,7 @@
 use Rattle.std.proofs.Common.{◌≡◌, ◌∙◌, Bool, refl, rules, subst, sym}
 use Rattle.md_words.specs.Asks.{ask_of}
-use Rattle.md_cli.specs.Arrays.{LooksAtDevices, WorksBy, disks, texts}
+use Rattle.md_messages.specs.Telling.{texts}
+use Rattle.md_cli.specs.Arrays.{LooksAtDevices, WorksBy, disks}
 use Rattle.md_cli.specs.Asking.{question_of}
 use Rattle.md_cli.specs.Streams.{told_of}
 use Rattle.md_cli.proofs.devices.with_devices.Goals as goal

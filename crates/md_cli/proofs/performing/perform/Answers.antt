@@ -1,7 +1,7 @@
 use Rattle.std.proofs.Common.{refl, subst, sym}
 use Rattle.md_words.specs.Asks.{ask_of}
 use Rattle.md_words.specs.declared.command.Command.{Command}
-use Rattle.md_cli.specs.Arrays.{texts}
+use Rattle.md_messages.specs.Telling.{texts}
 use Rattle.md_cli.specs.Opened.{opened_view}
 use Rattle.md_cli.specs.Performing.{Performs}
 use Rattle.md_cli.specs.Streams.{streams_of}

@@ -1,5 +1,6 @@
-use Rattle.std.proofs.Common.{rules, Err, ◌≡◌, ◌∙◌, ◌⊎◌, ◌↔◌, ◌+◌, ◌*◌, ◌-◌, ◌/◌, ◌%◌, ◌<◌, ◌≤◌, ◌^◌, ℕ, arith}
-use Rattle.md_commands.proofs.Filled.{front_given, front_lost, noted_one, size_fits, zeros_are}
+use Rattle.std.proofs.Common.{rules, Err, ◌≡◌, ◌∙◌, ◌⊎◌, ◌↔◌, ◌+◌, ◌*◌, ◌-◌, ◌/◌, ◌%◌, ◌<◌, ◌≤◌, ◌^◌, ℕ, length, subst, arith}
+use Rattle.md_commands.specs.Filling.{NotesNone}
+use Rattle.md_commands.proofs.Filled.{front_given, front_lost, not_noted, noted_one, size_fits, zeros_are}
 use Rattle.md_commands.proofs.Ways.{ends_there}
 use Rattle.md_commands.proofs.filling.fill_front.Goals as goal
 
@@ -13,10 +14,12 @@ pub returns-in_err-add-in-Err-clause-gives : goal.returns-in_err-add-in-Err-clau
 returns-in_err-add-in-Err-clause-gives g c =
     let fault = c.in_err-add-in-Err.field-0.0 in
     let passed : c.from_residual.result ≡ Err fault = search rules in
-    rw passed (
-      c.in_err-add-in-Err.ensures.err,
-      (ends_there c.args.mirror.now c.read_by.new.mirror c.requires.sound c.args.sector c.in-Err.unread.sector c.read_by.new.piece c.args.way c.in-Err.unread.fault c.in-Err.ensures.gives).rests,
-    )
+    let same = c.read_by.auto.piece in
+    let many : length c.read_by.new.piece / 512 ≡ length c.args.bytes.now / 512 = omega arith in
+    rw passed
+    (subst (λ (n : ℕ). NotesNone c.args.way c.args.sector n c.args.missing.now c.add.new.self c.args.mirror.now c.read_by.new.mirror) many
+    (not_noted c.args.mirror.now c.read_by.new.mirror c.requires.sound c.args.sector c.in-Err.unread.sector c.read_by.new.piece c.args.way c.in-Err.unread.fault c.in-Err.ensures.gives
+    c.args.missing.now c.add.new.self c.in_err-add-in-Err.ensures.err c.requires.clear))
 
 pub returns-in_ok-add-in-Err-clause-gives : goal.returns-in_ok-add-in-Err-clause-gives
 returns-in_ok-add-in-Err-clause-gives g c =

@@ -3,7 +3,7 @@ use Rattle.std.proofs.lemmas.List.{length-take-le}
 use Rattle.md_laws.proofs.Runs.Rests.{rests_same}
 use Rattle.md_read.proofs.SectorsGiven.{length-replaced}
 use Rattle.md_commands.specs.Ways.{MayReadBy}
-use Rattle.md_commands.proofs.Filled.{clear_there, fills_nothing, front_more, piece_filled, size_fits, some_filled}
+use Rattle.md_commands.proofs.Filled.{clear_there, fills_nothing, front_more, piece_filled, size_fits, until_unnoted}
 use Rattle.md_commands.proofs.Ways.{may_read_part}
 use Rattle.md_commands.proofs.filling.fill_piece.Goals as goal
 
@@ -97,14 +97,22 @@ loop-done-preserved g c =
 pub returns-in_err-filled-clause-gives : goal.returns-in_err-filled-clause-gives
 returns-in_err-filled-clause-gives g c =
     let so_far = c.loop-done.invariant in
+    let before = c.loop-done-test.true in
     let same = so_far.long in
     let few = so_far.few in
     let all = c.requires.whole in
+    let piece = c.loop-done.piece in
+    let done = c.loop-done.done in
+    let end : ℕ = done + c.min.result in
+    let is = asked piece done c.loop-done.most end (omega arith) (so_far.some (omega arith)) (let least = c.min.ensures in omega arith) in
+    let long = as_asked piece done end is.0 is.1 in
+    let within = is.1 in
+    let some = is.0 in
     let fault = c.in_err-filled.field-0.0 in
     let passed : c.from_residual.result ≡ Err fault = search rules in
     rw passed
-    (some_filled c.args.way c.args.sector c.loop-done.piece c.loop-done.done (omega arith) c.args.missing.now c.loop-done.missing c.args.mirror.now c.loop-done.mirror so_far.more c.fill_front.new.missing c.fill_front.new.mirror
-    (length c.args.piece.now / 512) (omega arith) c.in_err-filled.ensures.gives)
+    (until_unnoted c.args.way c.args.sector piece done (omega arith) c.args.missing.now c.loop-done.missing c.args.mirror.now c.loop-done.mirror so_far.more c.fill_front.new.missing c.fill_front.new.mirror
+    (length c.args.piece.now / 512) (length (take (512 * end - 512 * done) (drop (512 * done) piece)) / 512) (omega arith) (omega arith) c.in_err-filled.ensures.gives)
 
 pub returns-clause-gives : goal.returns-clause-gives
 returns-clause-gives g c =

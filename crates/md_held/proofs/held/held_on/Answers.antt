@@ -1,5 +1,5 @@
-use Rattle.std.proofs.Common.{◌≡◌, ◌≢◌, true, rules}
-use Rattle.md_members.specs.declared.fault.MemberFault.TheVariants.{NoMemory}
+use Rattle.std.proofs.Common.{◌≡◌, ◌≢◌, true, false, rules}
+use Rattle.md_members.specs.declared.fault.MemberFault.TheVariants.{NoMemory, ReadFault}
 use Rattle.md_signatures.specs.Reading.{IsOnlySearched}
 use Rattle.md_state.specs.View.{disk_of, of_disks}
 use Rattle.md_held.proofs.Seen.{seen_then}
@@ -11,4 +11,6 @@ returns-else-eq-clause-holds g c =
     let read = c.in-Err.ensures in
     let first : IsOnlySearched of_disks (disk c.args.device.now) (disk c.read_super.new.device) = record { kept = read.kept; honest = read.honest; counted = read.counted; within = read.within } in
     let other : c.in-Err.fault ≢ NoMemory = search rules in
-    seen_then (disk c.args.device.now) (disk c.read_super.new.device) (disk c.signature_on.new.device) c.in-Err.fault first c.signature_on.ensures.only_read other read.reads c.signature_on.result c.signature_on.ensures.holds
+    let yes : c.eq-has_failed.result ≡ true → c.in-Err.fault ≡ ReadFault = search rules in
+    let no : c.eq-has_failed.result ≡ false → c.in-Err.fault ≢ ReadFault = search rules in
+    seen_then (disk c.args.device.now) (disk c.read_super.new.device) (disk c.signature_on.new.device) c.in-Err.fault first c.signature_on.ensures.only_read other read.reads c.eq-has_failed.result yes no c.signature_on.result c.signature_on.ensures.holds

@@ -3,4 +3,4 @@ use Rattle.md_maps.proofs.Written.{IsWrittenUpTo}
 use Rattle.md_maps.proofs.map_text.write_map.Given as goal
 
 abbrev pub invariant-loop-run : goal.invariant-loop-run
-invariant-loop-run l = IsWrittenUpTo l.size l.run-items l.run-index l.from (string_bytes l.text)
+invariant-loop-run l = IsWrittenUpTo l.size l.tried l.run-items l.run-index l.from (string_bytes l.text)

@@ -26,5 +26,6 @@ returns-in-Md10-clause-tells g c =
 pub returns-in_default : goal.returns-in_default
 returns-in_default g c = record {
   only_read = c.has_any.ensures.only_read;
+  heeds = c.has_any.ensures.heeds;
   tells = tells_as (told_by_magics (g.D.Device.content c.args.device.now) c.args.signature c.in_default.not-Md090 c.in_default.not-Md10 c.in_default.not-Mbr c.magics.result.now c.magics.ensures.table) c.has_any.ensures.tells;
 }

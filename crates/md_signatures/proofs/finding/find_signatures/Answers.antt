@@ -5,7 +5,7 @@ use Rattle.md_signatures.specs.declared.signature.Signature.{Signature}
 use Rattle.md_signatures.specs.declared.signature.Signature.TheVariants.{Md090}
 use Rattle.md_signatures.specs.Bearing.{bears}
 use Rattle.md_signatures.specs.Finding.{signatures}
-use Rattle.md_signatures.proofs.Devices.{read_then}
+use Rattle.md_signatures.proofs.Devices.{heeds_then, read_then}
 use Rattle.md_signatures.proofs.Founds.{found_no_more, found_one, found_sound}
 use Rattle.md_signatures.proofs.finding.find_signatures.Goals as goal
 use Rattle.md_signatures.proofs.finding.find_signatures.Goals.{then-bears+in_ok-push, else-bears}
@@ -25,6 +25,7 @@ loop-signature-preserved g c =
           let e = more ∙ w.in_ok-push.ensures.items in
           record {
             only_read = read_then inv.only_read c.bears.ensures.only_read;
+            heeds = heeds_then inv.only_read c.bears.ensures.only_read inv.heeds c.bears.ensures.heeds;
             sound = λ h. subst P (sym e) (found_sound s c.bears.result found inv.only_read c.bears.ensures.tells w.if-bears.true inv.sound h);
             whole = λ h same. e ∙ found_one s c.bears.result found i inside here inv.only_read c.bears.ensures.only_read c.bears.ensures.tells w.if-bears.true inv.whole h same;
           }
@@ -32,6 +33,7 @@ loop-signature-preserved g c =
           let e : c.if-bears.found.items ≡ found = ap (λ (v : Vec Signature Global). v.items) w.found-is in
           record {
             only_read = read_then inv.only_read c.bears.ensures.only_read;
+            heeds = heeds_then inv.only_read c.bears.ensures.only_read inv.heeds c.bears.ensures.heeds;
             sound = λ h. subst P (sym e) (inv.sound h);
             whole = λ h same. e ∙ found_no_more s c.bears.result found i inside here inv.only_read c.bears.ensures.only_read c.bears.ensures.tells w.if-bears.false inv.whole h same;
           }

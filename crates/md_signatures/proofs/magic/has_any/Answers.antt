@@ -4,7 +4,7 @@ use Rattle.std.proofs.lemmas.List.{take_all}
 use Rattle.md_signatures.specs.declared.magic.Magic.{Magic}
 use Rattle.md_signatures.specs.Magics.{has_sign, is_in_one_sector, sign_of}
 use Rattle.md_signatures.proofs.Anys.{any_there, none_more}
-use Rattle.md_signatures.proofs.Devices.{read_then, tells_none}
+use Rattle.md_signatures.proofs.Devices.{heeds_then, read_then, tells_none}
 use Rattle.md_signatures.proofs.Lists.{at_all}
 use Rattle.md_signatures.proofs.magic.has_any.Goals as goal
 
@@ -18,6 +18,7 @@ loop-magic-preserved g c =
     let inside : i < length c.args.magics.now = omega arith in
     record {
       only_read = read_then inv.only_read c.has_magic.ensures.only_read;
+      heeds = heeds_then inv.only_read c.has_magic.ensures.only_read inv.heeds c.has_magic.ensures.heeds;
       none = none_more c.args.magics.now i no_magic c.has_magic.result inside inv.only_read c.has_magic.ensures.only_read c.has_magic.ensures.tells c.if-has_magic.false inv.none;
     }
 
@@ -32,6 +33,7 @@ returns-then-has_magic g c =
     let inside : c.loop-magic.magic-index < length c.args.magics.now = omega arith in
     record {
       only_read = read_then inv.only_read c.has_magic.ensures.only_read;
+      heeds = heeds_then inv.only_read c.has_magic.ensures.only_read inv.heeds c.has_magic.ensures.heeds;
       tells = any_there c.args.magics.now c.loop-magic.magic-index no_magic c.has_magic.result inside inv.only_read c.has_magic.ensures.tells c.if-has_magic.true;
     }
 
@@ -41,5 +43,6 @@ returns g c =
     let ended : length c.args.magics.now ≤ c.loop-magic.magic-index = omega arith in
     record {
       only_read = inv.only_read;
+      heeds = inv.heeds;
       tells = tells_none _ _ _ (λ h same. ap (list_any (λ (m : Magic). has_sign (g.D.Device.content c.args.device.now) (sign_of m))) (sym (take_all c.loop-magic.magic-index c.args.magics.now ended)) ∙ inv.none h same);
     }

@@ -1,0 +1,5 @@
+use Rattle.md_messages.proofs.Told.{told_or_failed}
+use Rattle.md_cli.proofs.running.tell_more.Goals as goal
+
+pub returns-clause-last : goal.returns-clause-last
+returns-clause-last g c = λ there. (c.advise.new.err, told_or_failed g.E.Sink c.put_refused.result c.put_refused.ensures)

@@ -1,9 +1,0 @@
-use Rattle.md_cli.specs.Telling.{refused_text}
-use Rattle.md_examine.proofs.Puts.{puts_then}
-use Rattle.md_cli.proofs.telling.put_refused.Goals as goal
-
-pub returns : goal.returns
-unfolding refused_text
-returns g c =
-    let all = puts_then g.S.Sink.contents g.S.Sink.failed c.in_ok-put_noticed.ensures c.in_ok-put_lost_if.ensures in
-    rw (c.has_joined.ensures) at all

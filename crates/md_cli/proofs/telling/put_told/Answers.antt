@@ -1,8 +1,0 @@
-use Rattle.md_cli.specs.Telling.{told_text}
-use Rattle.md_examine.proofs.Puts.{puts_then}
-use Rattle.md_cli.proofs.telling.put_told.Goals as goal
-
-pub returns : goal.returns
-unfolding told_text
-returns g c =
-    puts_then g.S.Sink.contents g.S.Sink.failed (puts_then g.S.Sink.contents g.S.Sink.failed c.in_ok-put_noticed.ensures c.in_ok-put_uncompared.ensures) c.in_ok-put_lost.ensures

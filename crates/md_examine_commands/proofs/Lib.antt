@@ -1,0 +1,2 @@
+-- A report that was put out, an output that failed under it, and a part that was not read.
+mod Reported

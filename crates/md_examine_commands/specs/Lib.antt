@@ -1,0 +1,2 @@
+-- What the commands that show one image give.
+pub mod Examining

@@ -1,0 +1,13 @@
+//! The commands that show one image: `examine`, `examine-bitmap` and `examine-badblocks`. The image is only looked at.
+//!
+//! Start with `examine_images` (`src/examining.rt`). Each command has a report, as text or as JSON, of what is read and
+//! taken, and with `--all` one of what stands there though it may be refused (`src/raw_examining.rt`). By which text an
+//! image is shown is `ShownBy` in `specs/Examining.antt`, and why it is not `RefusedBy`. The texts are those of
+//! `md_examine` and `md_json`.
+#![tactic(auto)]
+
+mod examining;
+mod raw_examining;
+mod reports;
+
+pub use examining::examine_images;

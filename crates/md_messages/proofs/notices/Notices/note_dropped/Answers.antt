@@ -1,0 +1,17 @@
+use Rattle.std.proofs.Common.{◌≡◌, ◌∙◌, ℕ, Bool, List, ap}
+use Rattle.md_notices.specs.Noticing.{all_dropped, in_sync_count}
+use Rattle.md_super.specs.declared.superblock.Superblock.{Superblock}
+use Rattle.md_words.specs.Asks.{ask_of}
+use Rattle.md_messages.specs.Noticed.{asked_of}
+use Rattle.md_messages.proofs.notices.Notices.note_dropped.Goals as goal
+
+pub returns : goal.returns
+returns g c =
+    let n = c.args.self.now in
+    let members = c.args.mirror.now.array.members in
+    let asked = asked_of (ask_of c.args.command) c.args.has_left in
+    let all = all_dropped n.states members asked in
+    let dropped : c.members_dropped-self.result ≡ all = c.members_dropped-self.ensures ∙ ap (all_dropped n.states members) c.asked_of-asked.ensures in
+    ap (λ (xs : List Bool). record n { dropped = xs; in_sync = c.in_sync_count-self.result; raid_disks = c.shared.result.now.raid_disks }) dropped
+    ∙ ap (λ (count : ℕ). record n { dropped = all; in_sync = count; raid_disks = c.shared.result.now.raid_disks }) c.in_sync_count-self.ensures
+    ∙ ap (λ (v : Superblock). record n { dropped = all; in_sync = in_sync_count members; raid_disks = v.raid_disks }) c.shared.ensures

@@ -1,0 +1,8 @@
+use Rattle.md_messages.specs.Telling.{told_text}
+use Rattle.md_examine.proofs.Puts.{puts_then}
+use Rattle.md_messages.proofs.telling.put_told.Goals as goal
+
+pub returns : goal.returns
+unfolding told_text
+returns g c =
+    puts_then g.S.Sink.contents g.S.Sink.failed (puts_then g.S.Sink.contents g.S.Sink.failed c.in_ok-put_noticed.ensures c.in_ok-put_uncompared.ensures) c.in_ok-put_lost.ensures

@@ -1,0 +1,17 @@
+use Rattle.std.proofs.Common.{refl, subst, sym, true}
+use Rattle.md_messages.specs.Terminal.{IsAsked}
+use Rattle.md_messages.specs.declared.terminal.Questions.{Questions}
+use Rattle.md_messages.proofs.Told.{told_or_failed}
+use Rattle.md_messages.proofs.terminal.Questions.go_on.Goals as goal
+
+pub returns-in-Shown-clause-asked : goal.returns-in-Shown-clause-asked
+returns-in-Shown-clause-asked g c =
+    let input = c.args.input.now in
+    subst (λ (q : Questions). IsAsked g.E.Sink g.R.Source c.args.lines.now q c.args.err.now c.put.new.self input input true) (sym c.in-Shown.is)
+    (refl, told_or_failed g.E.Sink c.put.result c.put.ensures, refl)
+
+pub returns-in-Asked-clause-asked : goal.returns-in-Asked-clause-asked
+returns-in-Asked-clause-asked g c =
+    let answer = c.is_answered_yes in
+    subst (λ (q : Questions). IsAsked g.E.Sink g.R.Source c.args.lines.now q c.args.err.now c.put_question.new.err c.args.input.now answer.new.input answer.result) (sym c.in-Asked.is)
+    (told_or_failed g.E.Sink c.put_question.result c.put_question.ensures, answer.ensures)

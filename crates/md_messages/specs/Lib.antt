@@ -1,0 +1,12 @@
+-- What a device holds that is to join an array.
+pub mod Holding
+-- What is noticed of an array beside what a command gives.
+pub mod Noticed
+-- The question before a command is done.
+pub mod Question
+-- What standard error is told of what was noticed.
+pub mod Telling
+-- What a terminal is shown and asked.
+pub mod Terminal
+-- What is said of sectors for which zeros were put out.
+pub mod Missing

@@ -1,0 +1,209 @@
+-- What standard error is told of what was noticed: which lines, in which order. The names are those of the members' images, in their
+-- order, and a line of a member has its image's name. The lines themselves are those of `md_notices`.
+use Rattle.std.specs.Prelude.{◌≡◌, ◌⊎◌, ℕ, ◌==◌, not, Bool, true, false, List, [], ◌++◌, length, map, take, Option, Some, None, Result, Ok, Err, slice_get, get_or, count_by, if◌then◌else◌}
+use Rattle.std.specs.List.{flat_map, range_with_len}
+use Rattle.std.specs.Borrow.{Bor}
+use Rattle.clap.specs.Words.{Text}
+use Rattle.md_badblocks.specs.declared.run.Run.{Run}
+use Rattle.md_commands.specs.declared.fault.CommandFault.{CommandFault}
+use Rattle.md_commands.specs.declared.fault.CommandFault.TheVariants as fault
+use Rattle.md_examine.specs.Sink.{Puts}
+use Rattle.md_examine.specs.declared.sink.Sink.{Ghosts}
+use Rattle.md_held.specs.declared.held.Held.{Held}
+use Rattle.md_held.specs.declared.held.Held.TheVariants.{Nothing, Unseen, Unread, Member, Signed}
+use Rattle.md_held.specs.Holding.{is_unseen}
+use Rattle.md_images.specs.Taking.{is_missing_word}
+use Rattle.md_notices.specs.Lines.{dropped_text, forgotten_text, held_text, lost_text, marked_line_text, parted_text, identity_text, uncompared_text, unnamed_text, unread_text, unseen_text}
+use Rattle.md_signatures.specs.Texts.{text_of}
+use Rattle.md_words.specs.Asks.{Ask, adds, checks, device_to_add, overwritten_by}
+use Rattle.md_words.specs.declared.overwritten.Overwritten.{Overwritten}
+use Rattle.md_words.specs.declared.overwritten.Overwritten.TheVariants as overwritten
+use Rattle.md_messages.specs.declared.messages.Audience.{Audience}
+use Rattle.md_messages.specs.declared.messages.Messages.{Messages}
+use Rattle.md_messages.specs.declared.messages.Messages.TheVariants.{Plain, WithAdvice}
+use Rattle.md_messages.specs.declared.notices.Notices.{Notices}
+use Rattle.md_messages.specs.Holding.{held_each}
+use Rattle.md_messages.specs.Missing.{missing_lines}
+use Rattle.md_messages.specs.Noticed.{asks_first}
+
+-- the texts of words
+abbrev pub texts : List (Bor Text) → List Text
+texts = map (λ s. s.now)
+
+-- more is told of a fault than its line
+abbrev pub has_advice : Messages → Bool
+has_advice Plain = false
+has_advice WithAdvice = true
+
+-- the line of a name that is there
+abbrev pub line_of : (Text → List ℕ) → Option Text → List ℕ
+line_of line None = []
+line_of line (Some name) = line name
+
+-- The line of the member in a place, where it gets one.
+abbrev pub line_at : (Text → List ℕ) → List Bool → List Text → ℕ → List ℕ
+line_at line which names k = if get_or which k false then line_of line (slice_get names k) else []
+
+-- the name of the member in a place, where there is one
+abbrev pub name_in : List Text → Option ℕ → Option Text
+name_in names None = None
+name_in names (Some k) = slice_get names k
+
+-- ---- marks that were stored
+abbrev pub marked_at : Notices → List Text → ℕ → List ℕ
+marked_at n = line_at marked_line_text n.marked
+
+-- ---- members that were used without those in sync, of which one is named
+abbrev pub parted_from : Option Text → Text → List ℕ
+parted_from None name = []
+parted_from (Some source) name = parted_text name source
+
+abbrev pub parted_line : Notices → List Text → Text → List ℕ
+parted_line n names = parted_from (name_in names n.source)
+
+-- The member in this place is the one that was asked of.
+abbrev pub is_at : Option ℕ → ℕ → Bool
+is_at None k = false
+is_at (Some j) k = j == k
+
+-- The line on a member that was used without those in sync, but for the one that was asked of before.
+abbrev pub parted_at : Option ℕ → Notices → List Text → ℕ → List ℕ
+parted_at before n names k = if is_at before k then [] else line_at (parted_line n names) n.parted names k
+
+-- ---- devices that were not named
+abbrev pub unnamed_line : Option ℕ → ℕ → List ℕ
+unnamed_line None role = []
+unnamed_line (Some number) role = unnamed_text number role
+
+abbrev pub unnamed_at : Notices → ℕ → List ℕ
+unnamed_at n role = unnamed_line (get_or n.unnamed role None) role
+
+-- ---- members that dropped out
+abbrev pub dropped_line : Notices → Text → List ℕ
+dropped_line n name = dropped_text name n.in_sync n.raid_disks
+
+abbrev pub dropped_at : Notices → List Text → ℕ → List ℕ
+dropped_at n = line_at (dropped_line n) n.dropped
+
+-- ---- what images hold
+abbrev pub held_line : Text → Held → List ℕ
+held_line name Nothing = []
+held_line name Unseen = unseen_text name
+held_line name Unread = unread_text name
+held_line name (Member v) = identity_text name v
+held_line name (Signed s) = held_text name (text_of s)
+
+abbrev pub held_line_of : Text → Option Held → List ℕ
+held_line_of name None = []
+held_line_of name (Some held) = held_line name held
+
+-- the image that is to be added
+abbrev pub new_line : Notices → Text → List ℕ
+new_line n name = if n.own then forgotten_text name else held_line name n.held
+
+-- the one that comes back
+abbrev pub returning_line : Notices → List Text → Text → List ℕ
+returning_line n names name = if is_unseen n.held then held_line name n.held else parted_line n names name
+
+-- Of the images of which an array is made. Words that stand for a missing member have none: this is the place among the images of
+-- the one that the word names in this place.
+abbrev pub place_among : List Text → ℕ → ℕ
+place_among names k = count_by (λ name. not (is_missing_word true name)) (take k names)
+
+abbrev pub each_at : List Held → List Text → ℕ → List ℕ
+each_at each names k =
+    if is_missing_word true (get_or names k []) then []
+    else held_line_of (get_or names k []) (slice_get each (place_among names k))
+
+abbrev pub each_lines : List Held → List Text → List ℕ
+each_lines each names = flat_map (each_at each names) (range_with_len 0 (length names))
+
+-- ---- What is said before a command is done, where it is asked of.
+unfoldable pub first_by : Overwritten → Option Text → List Text → Notices → List ℕ
+first_by overwritten.Nothing device names n = []
+first_by overwritten.Images device names n = each_lines (held_each n.each) names
+first_by overwritten.NewDevice device names n = line_of (new_line n) device
+first_by overwritten.ReturningDevice device names n = line_of (returning_line n names) device
+first_by (overwritten.Member k) device names n = line_of (parted_line n names) (slice_get names k)
+
+abbrev pub first_text : Ask → List Text → Notices → List ℕ
+first_text ask names n =
+    if asks_first ask n then first_by (overwritten_by ask) (device_to_add ask) names n else []
+
+-- the member that was asked of
+abbrev pub asked_member : Overwritten → Bool → Option ℕ
+asked_member (overwritten.Member k) asked = if asked then Some k else None
+asked_member _ asked = None
+
+-- ---- What is said after it.
+abbrev pub marked_lines : List Text → Notices → List ℕ
+marked_lines names n = flat_map (marked_at n names) (range_with_len 0 64)
+
+abbrev pub parted_lines : Option ℕ → List Text → Notices → List ℕ
+parted_lines before names n = flat_map (parted_at before n names) (range_with_len 0 64)
+
+abbrev pub unnamed_lines : Notices → List ℕ
+unnamed_lines n = flat_map (unnamed_at n) (range_with_len 0 32)
+
+abbrev pub dropped_lines : List Text → Notices → List ℕ
+dropped_lines names n = flat_map (dropped_at n names) (range_with_len 0 64)
+
+-- What was shown before is not said again.
+abbrev pub first_unless : Audience → Ask → List Text → Notices → List ℕ
+first_unless audience ask names n = if audience.was_shown then [] else first_text ask names n
+
+-- What was noticed, also of a command that is refused.
+unfoldable pub noticed_text : Audience → Ask → List Text → Notices → List ℕ
+noticed_text audience ask names n =
+    marked_lines names n ++ first_unless audience ask names n
+    ++ parted_lines (asked_member (overwritten_by ask) (asks_first ask n)) names n ++ unnamed_lines n ++
+    dropped_lines names n
+
+-- a check that is done compared nothing, where one member is in sync alone
+abbrev pub uncompared_lines : Ask → List Text → Notices → List ℕ
+uncompared_lines (checks form readonly) names n = line_of uncompared_text (name_in names n.alone)
+uncompared_lines ask names n = []
+
+-- what an image held that was added is lost
+abbrev pub lost_lines : Audience → Ask → List ℕ
+lost_lines audience (adds name) = if has_advice audience.messages then lost_text name else []
+lost_lines audience ask = []
+
+-- All that standard error is told of a command that is done.
+unfoldable pub told_text : Audience → Ask → List Text → Notices → List ℕ
+told_text audience ask names n =
+    noticed_text audience ask names n ++ uncompared_lines ask names n ++ lost_lines audience ask
+
+-- Of a command that is refused it is told too, after the fault and what to do. The image that was to be added has joined where the stop
+-- is refused, or the report fails: they come after it.
+abbrev pub has_joined : CommandFault → Bool
+has_joined (fault.Stop why) = true
+has_joined fault.OutputFault = true
+has_joined why = false
+
+unfoldable pub refused_text : Audience → Ask → List Text → Notices → CommandFault → List ℕ
+refused_text audience ask names n why =
+    noticed_text audience ask names n ++ (if has_joined why then lost_lines audience ask else [])
+
+-- The text was put out, or standard error has failed.
+abbrev pub PutsTold : {E : Type 0} → Ghosts E → E → E → List ℕ → Type 0
+PutsTold e old new text = Puts e.contents e.failed old new text ⊎ (e.failed new ≡ true)
+
+-- What standard error is told of a command that is refused, after the fault: for which sectors zeros were put out, and last what was
+-- noticed, where more is told of a fault than its line.
+pub record TellsRefusal {E : Type 0} (e : Ghosts E) (audience : Audience) (ask : Ask) (names : List Text)
+    (missing : Option (List Run)) (new : E) (why : CommandFault) (n : Notices) : Type 0 where
+  pub told : E
+  pub next : E
+  pub lines : PutsTold e told next (missing_lines ask missing)
+  pub plain : has_advice audience.messages ≡ false → new ≡ next
+  pub last : has_advice audience.messages ≡ true
+      → (mid : E) × PutsTold e mid new (refused_text audience ask names n why)
+
+-- What it is told of what was noticed. Nothing is said here of the fault's line and of what to do.
+abbrev pub TellsNoticed : {E : Type 0} → Ghosts E → Audience → Ask → List Text → Option (List Run) → E → E
+    → Result (Unit {0}) CommandFault → Notices → Type 0
+TellsNoticed e audience ask names missing old new (Ok _) n =
+    PutsTold e old new (told_text audience ask names n)
+TellsNoticed e audience ask names missing old new (Err why) n =
+    TellsRefusal e audience ask names missing new why n

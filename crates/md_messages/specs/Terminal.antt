@@ -1,0 +1,56 @@
+-- What a terminal is shown and asked, and what counts as a yes.
+use Rattle.std.specs.Prelude.{◌≡◌, ◌⊎◌, ℕ, ◌||◌, Bool, true, false, List, ◌++◌, codes}
+use Rattle.std.specs.Str.{bytes_eq}
+use Rattle.md_commands.specs.Source.{Gives}
+use Rattle.md_commands.specs.declared.source.Source.{Ghosts as SourceGhosts}
+use Rattle.md_examine.specs.declared.sink.Sink.{Ghosts as SinkGhosts}
+use Rattle.md_messages.specs.declared.terminal.Questions.{Questions}
+use Rattle.md_messages.specs.declared.terminal.Questions.TheVariants.{Silent, Shown, Asked}
+use Rattle.md_messages.specs.Telling.{PutsTold}
+
+-- What is done where standard error is a terminal or not, where standard input is one or not, and where it was said that nothing is
+-- to be asked (`--run`), or not.
+abbrev pub questions_of : Bool → Bool → Bool → Questions
+questions_of true true false = Asked
+questions_of true is_answered is_run = Shown
+questions_of false is_answered is_run = Silent
+
+abbrev pub are_shown : Questions → Bool
+are_shown Silent = false
+are_shown Shown = true
+are_shown Asked = true
+
+abbrev pub are_asked : Questions → Bool
+are_asked Silent = false
+are_asked Shown = false
+are_asked Asked = true
+
+-- a line that is a yes
+abbrev pub is_yes : List ℕ → Bool
+is_yes line = bytes_eq line (codes "yes\n") || bytes_eq line (codes "y\n")
+
+abbrev pub question_text : List ℕ
+question_text = codes "mdcli: go on? (yes or no) "
+
+module _ {R : Type 0} (r : SourceGhosts R) (old new : R) (yes : Bool) where
+  -- what was read of the input
+  pub record IsAnswer : Type 0 where
+    pub line : List ℕ
+    pub gives : Gives r.remaining r.failed old new line
+    pub is : yes ≡ is_yes line
+
+  -- an input that can't be read is no yes
+  pub record HasNoAnswer : Type 0 where
+    pub failed : r.failed new ≡ true
+    pub is : yes ≡ false
+
+  abbrev pub Answers : Type 0
+  Answers = IsAnswer ⊎ HasNoAnswer
+
+module _ {E R : Type 0} (e : SinkGhosts E) (r : SourceGhosts R) (lines : List ℕ) where
+  -- Whether to go on, of these lines: they are shown, and it is asked, as far as it is to be.
+  abbrev pub IsAsked : Questions → E → E → R → R → Bool → Type 0
+  IsAsked Silent err after input left yes = (yes ≡ true) × (after ≡ err) × (left ≡ input)
+  IsAsked Shown err after input left yes = (yes ≡ true) × PutsTold e err after lines × (left ≡ input)
+  IsAsked Asked err after input left yes =
+      PutsTold e err after (lines ++ question_text) × Answers r input left yes

@@ -1,0 +1,20 @@
+// Who is asked before a command goes on.
+ghost use Rattle.std.specs.Prelude.{◌≡◌, ℕ, Bool, List};
+
+/// Who is asked before a command overwrites what perhaps should stay.
+pub trait Asker {
+    /// Whether lines are shown to anybody.
+    ghost shows: { Self → Bool };
+
+    /// What was answered where these lines were shown: whether the command goes on. Only `goes_on` says it, so that a call
+    /// of which a contract says what was answered has asked.
+    ghost answered: { Self → List ℕ → Bool → Type 0 };
+
+    /// Whether lines are shown to anybody. Where not, whatever they are, the command goes on.
+    fn is_there(&self) -> bool
+        ensures { result ≡ shows self.now };
+
+    /// Shows these lines, and asks whether to go on. Where nobody can be asked, or is to be, the answer is yes.
+    fn goes_on(&self, lines: &[u8]) -> bool
+        ensures { answered self.now lines.now result };
+}

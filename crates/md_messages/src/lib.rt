@@ -1,0 +1,25 @@
+//! What a person is told of a command beside its report, and what is asked before it overwrites what perhaps should stay.
+//!
+//! Start with `Notices` (`src/notices.rt`): what is noticed of an array as it is opened, and as a command leaves it.
+//! `put_told` and `put_refused` (`src/telling.rt`) put its lines out after a command, and `ask_first` (`src/question.rt`)
+//! asks with some of them before it. `specs/Telling.antt` says which lines there are, in which order, and
+//! `specs/Question.antt` what an answer allows. What is shown and asked at a terminal, and that only a yes is a yes, is
+//! `Questions` (`src/terminal.rt`). The rules by which a member gets a line, and the text of each line, are those of
+//! `md_notices`.
+#![tactic(auto)]
+
+mod asker;
+mod messages;
+mod missing;
+mod notices;
+mod question;
+mod telling;
+mod terminal;
+
+pub use asker::Asker;
+pub use messages::{Audience, Messages};
+pub use missing::put_missing_lines;
+pub use notices::Notices;
+pub use question::ask_first;
+pub use telling::{put_refused, put_told};
+pub use terminal::{Questions, is_yes};

@@ -1,0 +1,53 @@
+// The question before a command is done.
+ghost use Rattle.std.specs.Prelude.{◌≡◌, IfOk};
+ghost use Rattle.md_words.specs.Asks.{ask_of};
+ghost use Rattle.md_messages.specs.Question.{asker_view, question};
+ghost use Rattle.md_messages.specs.Telling.{first_text, texts};
+
+use crate::asker::Asker;
+use crate::notices::Notices;
+use crate::telling::put_first;
+use md_commands::CommandFault;
+use md_examine::{Output, SinkFault};
+use md_words::Command;
+use std::alloc::Global;
+
+/// Asks whether a command goes on, where it would overwrite what perhaps should stay, by what was noticed. The names are
+/// those of all images. Without memory for the lines that are asked with it does not go on.
+pub fn ask_first<W: Asker>(
+    alloc: Global,
+    watch: &W,
+    command: Command<'_>,
+    notices: &Notices,
+    names: &[&str],
+) -> Result<(), CommandFault>
+    ensures { question (asker_view W.Asker watch.now) (ask_of command.entry) (texts names.now)
+        notices.now result }
+{
+    if !notices.asks_first(command) || !watch.is_there() {
+        return Ok(());
+    }
+    let Ok(lines) = lines_first(alloc, command, notices, names) else {
+        return Err(CommandFault::NoMemory);
+    };
+    if watch.goes_on(&lines) {
+        Ok(())
+    } else {
+        Err(CommandFault::Declined)
+    }
+}
+
+// The lines that are said before.
+fn lines_first(
+    alloc: Global,
+    command: Command<'_>,
+    notices: &Notices,
+    names: &[&str],
+) -> Result<Vec<u8>, SinkFault>
+    ensures { IfOk result (λ lines.
+        lines.items ≡ first_text (ask_of command.entry) (texts names.now) notices.now) }
+{
+    let mut out = Output::new(Vec::new(alloc));
+    put_first(notices, command, names, &mut out)?;
+    Ok(out.into_inner())
+}

@@ -1,0 +1,454 @@
+// What standard error is told of what was noticed. No line takes memory.
+ghost use Rattle.std.specs.Prelude.{◌≡◌, ◌<◌, [], option_map, slice_get, if◌then◌else◌};
+ghost use Rattle.md_examine.specs.Sink.{PutsOrFails};
+ghost use Rattle.md_words.specs.Asks.{ask_of, overwritten_by};
+ghost use Rattle.md_messages.specs.Telling.{asked_member, dropped_at, dropped_line, dropped_lines, each_lines, first_by, first_text, first_unless, has_joined, held_line, held_line_of, is_at, line_of, lost_lines, marked_at, marked_lines, name_in, new_line, noticed_text, parted_at, parted_line, parted_lines, refused_text, returning_line, texts, told_text, uncompared_lines, unnamed_at, unnamed_lines};
+ghost use Rattle.md_messages.specs.Holding.{held_each};
+ghost use Rattle.md_messages.specs.Noticed.{asks_first};
+
+use crate::messages::Audience;
+use crate::notices::Notices;
+use md_commands::CommandFault;
+use md_examine::{Sink, SinkFault};
+use md_held::Held;
+use md_images::is_missing;
+use md_notices::{
+    MAX_MEMBERS, MAX_ROLES, dropped_line, forgotten_line, held_line, lost_line, marked_line,
+    parted_line, standing_line, uncompared_line, unnamed_line, unread_line, unseen_line,
+};
+use md_words::{Command, Overwritten};
+
+// The name in a place, where there is one.
+fn name_at<'a>(names: &[&'a str], k: usize) -> Option<&'a str>
+    ensures { option_map (λ s. s.now) result ≡ slice_get (texts names.now) k }
+{
+    if k < names.len() {
+        Some(names[k])
+    } else {
+        None
+    }
+}
+
+fn name_in<'a>(names: &[&'a str], place: Option<usize>) -> Option<&'a str>
+    ensures { option_map (λ s. s.now) result ≡ name_in (texts names.now) place }
+{
+    match place {
+        Some(k) => name_at(names, k),
+        None => None,
+    }
+}
+
+fn put_marked<S: Sink>(
+    out: &mut S,
+    notices: &Notices,
+    names: &[&str],
+    k: usize,
+) -> Result<(), SinkFault>
+    requires { k < 64 }
+    ensures { PutsOrFails S.contents S.failed out.old out.new
+        (marked_at notices.now (texts names.now) k) result }
+{
+    if !notices.marked[k] {
+        return out.put(b"");
+    }
+    match name_at(names, k) {
+        Some(name) => marked_line(out, name),
+        None => out.put(b""),
+    }
+}
+
+// On which images marks were stored.
+fn put_all_marked<S: Sink>(out: &mut S, notices: &Notices, names: &[&str]) -> Result<(), SinkFault>
+    ensures { PutsOrFails S.contents S.failed out.old out.new
+        (marked_lines (texts names.now) notices.now) result }
+{
+    for k in 0..MAX_MEMBERS {
+        put_marked(out, notices, names, k)?;
+    }
+    Ok(())
+}
+
+// One member in sync is named for all of them.
+fn put_parted<S: Sink>(
+    out: &mut S,
+    notices: &Notices,
+    names: &[&str],
+    name: &str,
+) -> Result<(), SinkFault>
+    ensures { PutsOrFails S.contents S.failed out.old out.new
+        (parted_line notices.now (texts names.now) name.now) result }
+{
+    match name_in(names, notices.source) {
+        Some(source) => parted_line(out, name, source),
+        None => out.put(b""),
+    }
+}
+
+// Puts out the line on the image that is overwritten, where it has a name.
+fn put_parted_of<S: Sink>(
+    out: &mut S,
+    notices: &Notices,
+    names: &[&str],
+    name: Option<&str>,
+) -> Result<(), SinkFault>
+    ensures { PutsOrFails S.contents S.failed out.old out.new
+        (line_of (parted_line notices.now (texts names.now)) (option_map (λ s. s.now) name.entry)) result }
+{
+    match name {
+        Some(name) => put_parted(out, notices, names, name),
+        None => out.put(b""),
+    }
+}
+
+fn is_place(place: Option<usize>, k: usize) -> bool
+    ensures { result ≡ is_at place k }
+{
+    match place {
+        Some(j) => j == k,
+        None => false,
+    }
+}
+
+fn put_parted_at<S: Sink>(
+    out: &mut S,
+    notices: &Notices,
+    names: &[&str],
+    before: Option<usize>,
+    k: usize,
+) -> Result<(), SinkFault>
+    requires { k < 64 }
+    ensures { PutsOrFails S.contents S.failed out.old out.new
+        (parted_at before notices.now (texts names.now) k) result }
+{
+    if is_place(before, k) {
+        return out.put(b"");
+    }
+    if !notices.parted[k] {
+        return out.put(b"");
+    }
+    put_parted_of(out, notices, names, name_at(names, k))
+}
+
+// Which members were used without those in sync, but for the one that was asked of before.
+fn put_all_parted<S: Sink>(
+    out: &mut S,
+    notices: &Notices,
+    names: &[&str],
+    before: Option<usize>,
+) -> Result<(), SinkFault>
+    ensures { PutsOrFails S.contents S.failed out.old out.new
+        (parted_lines before (texts names.now) notices.now) result }
+{
+    for k in 0..MAX_MEMBERS {
+        put_parted_at(out, notices, names, before, k)?;
+    }
+    Ok(())
+}
+
+fn put_unnamed<S: Sink>(out: &mut S, notices: &Notices, role: usize) -> Result<(), SinkFault>
+    requires { role < 32 }
+    ensures { PutsOrFails S.contents S.failed out.old out.new (unnamed_at notices.now role) result }
+{
+    match notices.unnamed[role] {
+        Some(number) => unnamed_line(out, number, role as u16),
+        None => out.put(b""),
+    }
+}
+
+// Which devices of the array were not named.
+fn put_all_unnamed<S: Sink>(out: &mut S, notices: &Notices) -> Result<(), SinkFault>
+    ensures { PutsOrFails S.contents S.failed out.old out.new (unnamed_lines notices.now) result }
+{
+    for role in 0..MAX_ROLES {
+        put_unnamed(out, notices, role)?;
+    }
+    Ok(())
+}
+
+fn put_dropped<S: Sink>(
+    out: &mut S,
+    notices: &Notices,
+    names: &[&str],
+    k: usize,
+) -> Result<(), SinkFault>
+    requires { k < 64 }
+    ensures { PutsOrFails S.contents S.failed out.old out.new
+        (dropped_at notices.now (texts names.now) k) result }
+{
+    if !notices.dropped[k] {
+        return out.put(b"");
+    }
+    match name_at(names, k) {
+        Some(name) => dropped_line(out, name, notices.in_sync, notices.raid_disks),
+        None => out.put(b""),
+    }
+}
+
+// Which members dropped out.
+fn put_all_dropped<S: Sink>(out: &mut S, notices: &Notices, names: &[&str]) -> Result<(), SinkFault>
+    ensures { PutsOrFails S.contents S.failed out.old out.new
+        (dropped_lines (texts names.now) notices.now) result }
+{
+    for k in 0..MAX_MEMBERS {
+        put_dropped(out, notices, names, k)?;
+    }
+    Ok(())
+}
+
+// Of the image that comes back that it was used without those in sync, or that nobody looked at it or could read it.
+fn put_returning<S: Sink>(
+    out: &mut S,
+    notices: &Notices,
+    names: &[&str],
+    name: Option<&str>,
+) -> Result<(), SinkFault>
+    ensures { PutsOrFails S.contents S.failed out.old out.new
+        (line_of (returning_line notices.now (texts names.now)) (option_map (λ s. s.now) name.entry)) result }
+{
+    match name {
+        Some(name) if notices.held.is_unseen() => put_held(out, name, &notices.held),
+        Some(name) => put_parted(out, notices, names, name),
+        None => out.put(b""),
+    }
+}
+
+// What an image holds that is to be overwritten.
+fn put_held<S: Sink>(out: &mut S, name: &str, held: &Held) -> Result<(), SinkFault>
+    ensures { PutsOrFails S.contents S.failed out.old out.new (held_line name.now held.now) result }
+{
+    match held {
+        Held::Nothing => out.put(b""),
+        Held::Unseen => unseen_line(out, name),
+        Held::Unread => unread_line(out, name),
+        Held::Member(own) => standing_line(out, name, own),
+        Held::Signed(signature) => held_line(out, name, signature.text()),
+    }
+}
+
+fn put_held_at<S: Sink>(
+    out: &mut S,
+    name: &str,
+    each: &[Held],
+    place: usize,
+) -> Result<(), SinkFault>
+    ensures { PutsOrFails S.contents S.failed out.old out.new
+        (held_line_of name.now (slice_get each.now place)) result }
+{
+    if place < each.len() {
+        put_held(out, name, &each[place])
+    } else {
+        out.put(b"")
+    }
+}
+
+// What each image holds of which an array is made.
+fn put_each<S: Sink>(out: &mut S, each: &[Held], names: &[&str]) -> Result<(), SinkFault>
+    ensures { PutsOrFails S.contents S.failed out.old out.new (each_lines each.now (texts names.now)) result }
+{
+    let mut next = 0;
+    for place in 0..names.len() {
+        if is_missing(true, names[place]) {
+            continue;
+        }
+        put_held_at(out, names[place], each, next)?;
+        next += 1;
+    }
+    Ok(())
+}
+
+fn put_all_held<S: Sink>(out: &mut S, notices: &Notices, names: &[&str]) -> Result<(), SinkFault>
+    ensures { PutsOrFails S.contents S.failed out.old out.new
+        (each_lines (held_each notices.now.each) (texts names.now)) result }
+{
+    match &notices.each {
+        Some(each) => put_each(out, each.as_slice(), names),
+        None => put_each(out, &[], names),
+    }
+}
+
+// What the image holds that is to be added.
+fn put_new<S: Sink>(out: &mut S, notices: &Notices, name: Option<&str>) -> Result<(), SinkFault>
+    ensures { PutsOrFails S.contents S.failed out.old out.new
+        (line_of (new_line notices.now) (option_map (λ s. s.now) name.entry)) result }
+{
+    match name {
+        Some(name) if notices.own => forgotten_line(out, name),
+        Some(name) => put_held(out, name, &notices.held),
+        None => out.put(b""),
+    }
+}
+
+// What is said of what a command would overwrite.
+#[tactic(auto, unfolding(crate::specs::Telling::first_by))]
+fn put_overwritten<S: Sink>(
+    out: &mut S,
+    notices: &Notices,
+    overwritten: Overwritten,
+    device: Option<&str>,
+    names: &[&str],
+) -> Result<(), SinkFault>
+    ensures { PutsOrFails S.contents S.failed out.old out.new
+        (first_by overwritten (option_map (λ s. s.now) device.entry) (texts names.now) notices.now) result }
+{
+    match overwritten {
+        Overwritten::Nothing => out.put(b""),
+        Overwritten::Images => put_all_held(out, notices, names),
+        Overwritten::NewDevice => put_new(out, notices, device),
+        Overwritten::ReturningDevice => put_returning(out, notices, names, device),
+        Overwritten::Member(member) => {
+            put_parted_of(out, notices, names, name_at(names, member as usize))
+        }
+    }
+}
+
+/// What is said before a command is done, where there is a terminal: what it is asked of. It fails only where the output
+/// has failed, as all here does.
+pub(crate) fn put_first<S: Sink>(
+    notices: &Notices,
+    command: Command<'_>,
+    names: &[&str],
+    out: &mut S,
+) -> Result<(), SinkFault>
+    ensures { PutsOrFails S.contents S.failed out.old out.new
+        (first_text (ask_of command.entry) (texts names.now) notices.now) result }
+{
+    if !notices.asks_first(command) {
+        return out.put(b"");
+    }
+    put_overwritten(out, notices, command.overwrites(), command.device(), names)
+}
+
+// The member that was asked of before.
+fn asked_member(notices: &Notices, command: Command<'_>) -> Option<usize>
+    ensures { result ≡ asked_member (overwritten_by (ask_of command.entry))
+        (asks_first (ask_of command.entry) notices.now) }
+{
+    match command.overwrites() {
+        Overwritten::Member(member) if notices.asks_first(command) => Some(member as usize),
+        _ => None,
+    }
+}
+
+// What was noticed, in a line for each image and for each device that was not named. Some of it may have been shown before
+// the command was done.
+fn put_noticed<S: Sink>(
+    out: &mut S,
+    notices: &Notices,
+    command: Command<'_>,
+    names: &[&str],
+    audience: Audience,
+) -> Result<(), SinkFault>
+    ensures { PutsOrFails S.contents S.failed out.old out.new
+        (noticed_text audience (ask_of command.entry) (texts names.now) notices.now) result }
+{
+    put_all_marked(out, notices, names)?;
+    put_first_unless(out, notices, command, names, audience)?;
+    put_all_parted(out, notices, names, asked_member(notices, command))?;
+    put_all_unnamed(out, notices)?;
+    put_all_dropped(out, notices, names)?;
+    Ok(())
+}
+
+fn put_first_unless<S: Sink>(
+    out: &mut S,
+    notices: &Notices,
+    command: Command<'_>,
+    names: &[&str],
+    audience: Audience,
+) -> Result<(), SinkFault>
+    ensures { PutsOrFails S.contents S.failed out.old out.new
+        (first_unless audience (ask_of command.entry) (texts names.now) notices.now) result }
+{
+    if audience.was_shown {
+        return out.put(b"");
+    }
+    put_first(notices, command, names, out)
+}
+
+// That a check compared nothing.
+fn put_uncompared<S: Sink>(
+    out: &mut S,
+    notices: &Notices,
+    command: Command<'_>,
+    names: &[&str],
+) -> Result<(), SinkFault>
+    ensures { PutsOrFails S.contents S.failed out.old out.new
+        (uncompared_lines (ask_of command.entry) (texts names.now) notices.now) result }
+{
+    let Command::Check { .. } = command else {
+        return out.put(b"");
+    };
+    match name_in(names, notices.alone) {
+        Some(name) => uncompared_line(out, name),
+        None => out.put(b""),
+    }
+}
+
+// That what an image held is lost, which was added.
+fn put_lost<S: Sink>(out: &mut S, command: Command<'_>, audience: Audience) -> Result<(), SinkFault>
+    ensures { PutsOrFails S.contents S.failed out.old out.new
+        (lost_lines audience (ask_of command.entry)) result }
+{
+    match command {
+        Command::Add { device } if audience.messages.has_advice() => lost_line(out, device),
+        _ => out.put(b""),
+    }
+}
+
+/// All that is said of a command that is done.
+pub fn put_told<S: Sink>(
+    out: &mut S,
+    notices: &Notices,
+    command: Command<'_>,
+    names: &[&str],
+    audience: Audience,
+) -> Result<(), SinkFault>
+    ensures { PutsOrFails S.contents S.failed out.old out.new
+        (told_text audience (ask_of command.entry) (texts names.now) notices.now) result }
+{
+    put_noticed(out, notices, command, names, audience)?;
+    put_uncompared(out, notices, command, names)?;
+    put_lost(out, command, audience)?;
+    Ok(())
+}
+
+// Whether a command that adds a device came as far as that, though it is refused: the stop and the report come after it.
+fn has_joined(fault: &CommandFault) -> bool
+    ensures { result ≡ has_joined fault.now }
+{
+    matches!(fault, CommandFault::Stop(_) | CommandFault::OutputFault)
+}
+
+// That what an image held is lost, where a refused command has added it.
+fn put_lost_if<S: Sink>(
+    out: &mut S,
+    command: Command<'_>,
+    audience: Audience,
+    has_joined: bool,
+) -> Result<(), SinkFault>
+    ensures { PutsOrFails S.contents S.failed out.old out.new
+        (if has_joined then lost_lines audience (ask_of command.entry) else []) result }
+{
+    if has_joined {
+        put_lost(out, command, audience)
+    } else {
+        out.put(b"")
+    }
+}
+
+/// All that is said of what was noticed by a command that is refused, after the fault and what to do.
+pub fn put_refused<S: Sink>(
+    out: &mut S,
+    notices: &Notices,
+    command: Command<'_>,
+    names: &[&str],
+    audience: Audience,
+    fault: &CommandFault,
+) -> Result<(), SinkFault>
+    ensures { PutsOrFails S.contents S.failed out.old out.new
+        (refused_text audience (ask_of command.entry) (texts names.now) notices.now fault.now) result }
+{
+    put_noticed(out, notices, command, names, audience)?;
+    put_lost_if(out, command, audience, has_joined(fault))?;
+    Ok(())
+}

@@ -1,0 +1,21 @@
+use Rattle.std.proofs.Common.{◌<◌, ℕ, Bool, List, arith, subst}
+use Rattle.md_raw_members.specs.Raw.{ReadsPlacedBitmap}
+use Rattle.md_raw_members.proofs.Later.{bitmap_later, placed_bitmap}
+use Rattle.md_raw_members.proofs.parts.read_raw_bitmap.Goals as goal
+
+pub returns-clause-bitmap : goal.returns-clause-bitmap
+returns-clause-bitmap g c =
+    let d = g.D.Device in
+    let old = c.args.device.now in
+    let mid = c.read_super_bytes.new.device in
+    let new = c.read_bitmap.new.device in
+    let superblock = c.read_super_bytes.new.bytes in
+    let bitmap = c.in_ok-bitmap.bitmap in
+    let counted = c.read_super_bytes.ensures.counted in
+    let later = d.failures mid < d.failures new in
+    let all = d.failures old < d.failures new in
+    let some = c.if-read-eq0.false in
+    placed_bitmap (d.content old) (d.honest old) all c.in_ok-read.read superblock bitmap (omega (arith, some))
+    (bitmap_later (d.content old) (d.honest old) later all (λ failed. omega (arith, counted, failed)) superblock bitmap
+    (subst (λ (b : List ℕ). ReadsPlacedBitmap b (d.honest old) later superblock bitmap) c.read_super_bytes.ensures.kept
+    (subst (λ (h : Bool). ReadsPlacedBitmap (d.content mid) h later superblock bitmap) c.read_super_bytes.ensures.honest c.in_ok-bitmap.ensures.ok)))

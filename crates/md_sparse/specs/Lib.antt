@@ -1,0 +1,2 @@
+-- What callers see of a sink into a file with holes.
+pub mod Sparse

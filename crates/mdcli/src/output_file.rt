@@ -1,0 +1,69 @@
+// The file that a read makes of what it puts out.
+use crate::cleared::Cleared;
+use crate::destination::Destination;
+use crate::new_file::NewFile;
+use md_messages::Messages;
+use md_sparse::{OutputFileFault, output_file_advice};
+use md_words::Request;
+use std::io::Write;
+
+/// The file that words which were parsed ask for, if they do.
+pub fn output_of<'a, E>(parsed: &Result<Request<'a>, E>) -> Option<&'a str> {
+    match parsed {
+        Ok(request) => request.output,
+        Err(_) => None,
+    }
+}
+
+/// Where a command puts out: to this writer, or to a new file where one is asked for, which is made before anything is read.
+/// Says on `err` why it can't be.
+pub fn destination_of<'a, W: Write + Drop, E: Write>(
+    rt: &'a HostRuntime,
+    path: Option<&'a str>,
+    standard: Cleared<'a, W>,
+    messages: Messages,
+    err: &mut E,
+) -> Option<Destination<'a, W>> {
+    let Some(path) = path else {
+        return Some(Destination::standard(standard));
+    };
+    match NewFile::make(rt, path) {
+        Ok(file) => Some(Destination::file(file)),
+        Err(fault) => {
+            tell(fault, path, messages, err);
+            None
+        }
+    }
+}
+
+/// Ends the file, where there is one. Says on `err` why it can't.
+pub fn is_file_ended<'a, W: Write + Drop, E: Write>(
+    destination: Destination<'a, W>,
+    messages: Messages,
+    err: &mut E,
+) -> bool {
+    let Some(file) = destination.into_file() else {
+        return true;
+    };
+    let path = file.path();
+    match file.end() {
+        Ok(()) => true,
+        Err(fault) => {
+            tell(fault, path, messages, err);
+            false
+        }
+    }
+}
+
+// Says why there is no file, as `run` says why a command is refused.
+fn tell<E: Write>(fault: OutputFileFault, path: &str, messages: Messages, err: &mut E) {
+    let _ = writeln!(err, "mdcli: {fault}");
+    if !messages.has_advice() {
+        return;
+    }
+    let what_to_do = output_file_advice(&fault);
+    let _ = match fault {
+        OutputFileFault::Unwritten(error) => writeln!(err, "{path}: {error}; {what_to_do}"),
+        OutputFileFault::Exists => writeln!(err, "{path}: {what_to_do}"),
+    };
+}
