@@ -1,6 +1,6 @@
 -- The images of which an array is made, by the words that name them.
-use Rattle.std.proofs.Common.{◌≡◌, ◌∙◌, ◌+◌, ◌<◌, ◌++◌, [], ℕ, Bool, List, Option, true, false, not, take, length, get_or, sym, ap, subst, append-nil}
-use Rattle.std.specs.Prelude.{count_by, slice_get, if◌then◌else◌}
+use Rattle.std.proofs.Common.{◌≡◌, ◌∙◌, ◌+◌, ◌<◌, ◌++◌, [], ℕ, Bool, List, Option, true, false, not, length, get_or, sym, ap, subst, append-nil}
+use Rattle.std.specs.Prelude.{slice_get, if◌then◌else◌}
 use Rattle.std.specs.List.{flat_map, range_with_len}
 use Rattle.std.proofs.lemmas.List.Sums.{count_by_more_no, count_by_more_yes}
 use Rattle.clap.specs.Words.{Text}

@@ -1,5 +1,5 @@
 -- What standard error is told: the lines of names that are there.
-use Rattle.std.proofs.Common.{◌≡◌, ◌∙◌, ℕ, Bool, true, false, List, [], Option, Some, None, Result, Ok, Err, get_or, ap, inl, inr, refl, sym}
+use Rattle.std.proofs.Common.{◌≡◌, ◌∙◌, ℕ, Bool, true, false, List, [], Option, Result, Ok, Err, get_or, ap, inl, inr, refl, sym}
 use Rattle.std.specs.Prelude.{slice_get, if◌then◌else◌}
 use Rattle.clap.specs.Words.{Text}
 use Rattle.md_examine.specs.Sink.{PutsOrFails}

@@ -1,5 +1,5 @@
 -- The question before a command is done: what is asked, and what the answer allows.
-use Rattle.std.specs.Prelude.{◌≡◌, ℕ, Bool, true, false, List, Result, Err, MatchResult}
+use Rattle.std.specs.Prelude.{◌≡◌, ℕ, Bool, true, false, List, Result, MatchResult}
 use Rattle.clap.specs.Words.{Text}
 use Rattle.md_words.specs.Asks.{Ask}
 use Rattle.md_commands.specs.declared.fault.CommandFault.{CommandFault}

@@ -32,17 +32,17 @@ is_yes line = bytes_eq line (codes "yes\n") || bytes_eq line (codes "y\n")
 abbrev pub question_text : List ℕ
 question_text = codes "mdcli: go on? (yes or no) "
 
-module _ {R : Type 0} (r : SourceGhosts R) (old new : R) (yes : Bool) where
+module _ {R : Type 0} (r : SourceGhosts R) (old new : R) (is_agreed : Bool) where
   -- what was read of the input
   pub record IsAnswer : Type 0 where
     pub line : List ℕ
     pub gives : Gives r.remaining r.failed old new line
-    pub is : yes ≡ is_yes line
+    pub is : is_agreed ≡ is_yes line
 
   -- an input that can't be read is no yes
   pub record HasNoAnswer : Type 0 where
     pub failed : r.failed new ≡ true
-    pub is : yes ≡ false
+    pub is : is_agreed ≡ false
 
   abbrev pub Answers : Type 0
   Answers = IsAnswer ⊎ HasNoAnswer
@@ -50,7 +50,7 @@ module _ {R : Type 0} (r : SourceGhosts R) (old new : R) (yes : Bool) where
 module _ {E R : Type 0} (e : SinkGhosts E) (r : SourceGhosts R) (lines : List ℕ) where
   -- Whether to go on, of these lines: they are shown, and it is asked, as far as it is to be.
   abbrev pub IsAsked : Questions → E → E → R → R → Bool → Type 0
-  IsAsked Silent err after input left yes = (yes ≡ true) × (after ≡ err) × (left ≡ input)
-  IsAsked Shown err after input left yes = (yes ≡ true) × PutsTold e err after lines × (left ≡ input)
-  IsAsked Asked err after input left yes =
-      PutsTold e err after (lines ++ question_text) × Answers r input left yes
+  IsAsked Silent err after input left is_agreed = (is_agreed ≡ true) × (after ≡ err) × (left ≡ input)
+  IsAsked Shown err after input left is_agreed = (is_agreed ≡ true) × PutsTold e err after lines × (left ≡ input)
+  IsAsked Asked err after input left is_agreed =
+      PutsTold e err after (lines ++ question_text) × Answers r input left is_agreed

@@ -49,9 +49,9 @@ impl Questions {
 
     /// Shows the lines, and asks, as far as it is to be. Whether to go on: where it is asked, only a yes says so.
     pub fn go_on<E: Sink, R: Source>(self, lines: &[u8], err: &mut E, input: &mut R) -> bool
-        ensures asked { IsAsked E.Sink R.Source lines.now self.entry
+        ensures asked { IsAsked E.Sink R.Source lines.now self
             err.old err.new input.old input.new result }
-        ensures unasked { are_asked self.entry ≡ false → result ≡ true }
+        ensures unasked { are_asked self ≡ false → result ≡ true }
     {
         match self {
             Questions::Silent => true,

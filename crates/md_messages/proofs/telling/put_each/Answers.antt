@@ -1,4 +1,4 @@
-use Rattle.std.proofs.Common.{◌≡◌, ◌∙◌, ◌<◌, ◌+◌, ℕ, [], true, false, length, map, get_or, ap, refl, subst, sym, arith}
+use Rattle.std.proofs.Common.{◌≡◌, ◌∙◌, ◌<◌, ◌+◌, ℕ, [], true, false, length, get_or, ap, refl, subst, sym, arith}
 use Rattle.std.specs.List.{flat_map, range_with_len}
 use Rattle.std.proofs.lemmas.List.{length-map}
 use Rattle.md_examine.specs.Sink.{Puts}
