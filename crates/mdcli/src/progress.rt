@@ -177,7 +177,7 @@ impl<'a> Asker for Progress<'a> {
     ghost shows = { λ p. are_shown p.questions };
 
     // No contract says what a terminal gives; but where nobody is asked, the answer is yes.
-    ghost answered = { λ p _ yes. are_asked p.questions ≡ false → yes ≡ true };
+    ghost answered = { λ p _ goes_on. are_asked p.questions ≡ false → goes_on ≡ true };
 
     fn is_there(&self) -> bool {
         self.questions.are_shown()
