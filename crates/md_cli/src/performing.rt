@@ -241,7 +241,7 @@ fn check<D: Device + Drop + Send, T: Threads + Sync, W: Watch + Sync, S: Sink>(
     }
 }
 
-// PerformsRemove the member with this index. Its device stands beside the array then, if it left.
+// Removes the member with this index. Its device stands beside the array then, if it left.
 fn remove<D: Device + Drop, S: Sink>(
     opened: &mut Opened<D>,
     member: u32,
@@ -257,7 +257,7 @@ fn remove<D: Device + Drop, S: Sink>(
     Ok(removed?)
 }
 
-// PerformsAdd the device that stands beside the array. If it does not join, it stands there again.
+// Adds the device that stands beside the array. If it does not join, it stands there again.
 fn add<D: Device + Drop, S: Sink>(
     alloc: Global,
     opened: &mut Opened<D>,

@@ -32,10 +32,11 @@ use std::thread::Threads;
 /// Out of memory in the parse is status 2 too. That it is answered only then is tested, since no
 /// clause can tell whether memory was there.
 ///
-/// The session's input is read by `write` alone. A refusal's line goes to `err`, as `mdcli: BadImage 0`, and with advice
-/// further lines, and the parser's text. Of a command that is done it is told what was noticed (`specs/Noticed.antt`), in
-/// lines whose text and order are in `specs/Telling.antt`. Where one can't be written, nothing else changes. Of a refused
-/// one it is told last, where there is advice; no clause speaks of the fault's own text.
+/// The session's input is read by `write` alone. A refusal's line goes to `err`, as `mdcli: BadImage 0`, then for which
+/// sectors zeros were put out, and with advice further lines; so does the parser's text. Of a command that is done it is
+/// told what was noticed (`Noticed.antt` in the specs of `md_messages`), in lines whose text and order are in `Telling.antt`
+/// beside it. Where one can't be written, nothing else changes. Of a refused one it is told last, where there is advice; no
+/// clause speaks of the fault's own text.
 ///
 /// The session's watch is told of a rebuild, by `rebuild` and `re-add`, and of a check, whose workers its `rt` starts. It is
 /// asked before a command overwrites what perhaps should stay; where the answer is not yes the command is refused.

@@ -33,7 +33,7 @@ module _ (content : List ℕ) (honest : Bool) (F G : Type 0) (via : F → G) whe
   at_later start (Read sector marks) r = (r.0, marks_later start sector marks r.1)
 
   pub bitmap_later : (superblock : List ℕ) (b : RawBitmap) → ReadsPlacedBitmap content honest F superblock b → ReadsPlacedBitmap content honest G superblock b
-  bitmap_later superblock b r = record { start = r.start; at = r.at; reads = at_later r.start b r.reads }
+  bitmap_later superblock b r = record { told = r.told; start = r.start; at = r.at; reads = at_later r.start b r.reads }
 
 -- a bitmap that has a place
 pub placed_bitmap : (content : List ℕ) (honest : Bool) (F : Type 0) (sectors : ℕ) (superblock : List ℕ) (b : RawBitmap) → 0 < sectors → ReadsPlacedBitmap content honest F superblock b → ReadsRawBitmap content honest F sectors superblock b

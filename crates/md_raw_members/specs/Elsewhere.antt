@@ -1,5 +1,5 @@
 -- Other places of a device where a superblock of its set may stand.
-use Rattle.std.specs.Prelude.{◌≡◌, ℕ, ◌+◌, ◌-◌, ◌*◌, ◌/◌, ◌<◌, ◌≤◌, Bool, true, List, [], ◌∷◌, length}
+use Rattle.std.specs.Prelude.{◌≡◌, ℕ, ◌-◌, ◌*◌, ◌/◌, Bool, true, List, [], ◌∷◌, length}
 use Rattle.md_device.specs.Device.{held}
 use Rattle.md_format.specs.Fields.{number_at, bytes_at}
 use Rattle.md_examine.specs.declared.super_fields.Found.{Found}

@@ -10,7 +10,7 @@ use Rattle.md_examine.specs.declared.raw_bitmap.CountedMarks.{CountedMarks}
 use Rattle.md_examine.specs.declared.raw_bitmap.RawBitmap.{RawBitmap}
 use Rattle.md_examine.specs.declared.raw_bitmap.RawBitmap.TheVariants.{Unplaced, Unreadable, Read}
 use Rattle.md_examine.specs.declared.raw_bitmap.UnreadMarks.{UnreadMarks}
-use Rattle.md_members.specs.Reading.{IsRead}
+use Rattle.md_members.specs.Reading.{HasSuperSectors, IsRead}
 use Rattle.md_raw_members.specs.declared.fault.RawFault.{RawFault}
 use Rattle.md_raw_members.specs.declared.fault.RawFault.TheVariants.{TooShort, NoBitmap, Region}
 use Rattle.md_raw_members.specs.declared.read_parts.RawLog.{RawLog}
@@ -41,6 +41,7 @@ IsOn content sector = 512 * sector + 512 ≤ length content
 -- ---- the superblock
 -- The bytes of so many of sectors 8 to 15, from the first on, as they were read. Where these are not all, a call on the device failed.
 pub record ReadsFront (content : List ℕ) (honest : Bool) (Failed : Type 0) (sectors : ℕ) (bytes : List ℕ) : Type 0 where
+  pub long : HasSuperSectors content
   pub few : sectors ≤ 8
   pub read : IsRead content honest 8 (512 * sectors) (take (512 * sectors) bytes)
   pub failed : sectors < 8 → honest ≡ true → Failed
@@ -101,8 +102,13 @@ ReadsBitmapAt content honest Failed start (Unreadable sector) = (sector ≡ star
 ReadsBitmapAt content honest Failed start (Read sector marks) =
     IsRead content honest start 512 sector × HasCounts content honest Failed start sector marks
 
+-- The superblock tells of no bitmap.
+abbrev pub HasNoBitmap : List ℕ → Type 0
+HasNoBitmap superblock = bit_and (number_at 4 8 superblock) 1 ≡ 0
+
 -- A bitmap that starts where the superblock says.
 pub record ReadsPlacedBitmap (content : List ℕ) (honest : Bool) (Failed : Type 0) (superblock : List ℕ) (bitmap : RawBitmap) : Type 0 where
+  pub told : HasNoBitmap superblock → ⊥
   pub start : ℕ
   pub at : StartsAt (bitmap_offset superblock) start
   pub reads : ReadsBitmapAt content honest Failed start bitmap
@@ -115,8 +121,9 @@ ReadsRawBitmap content honest Failed sectors superblock bitmap =
 
 -- why it has no place
 abbrev pub RefusesSector : List ℕ → List ℕ → RawFault → Type 0
-RefusesSector content superblock NoBitmap = bit_and (number_at 4 8 superblock) 1 ≡ 0
-RefusesSector content superblock Region = HasNoPlace content (bitmap_offset superblock) 1
+RefusesSector content superblock NoBitmap = HasNoBitmap superblock
+RefusesSector content superblock Region =
+    (HasNoBitmap superblock → ⊥) × HasNoPlace content (bitmap_offset superblock) 1
 RefusesSector content superblock TooShort = ⊥
 
 -- ---- the log
@@ -134,8 +141,10 @@ ReadsLogAt content honest Failed superblock bytes start log = MatchOption log.lo
     ((log.len ≡ 512 * size_of_log superblock) × IsRead content honest start log.len (take log.len bytes))
     (λ sector. (sector ≡ start) × (log.len ≡ 0) × FitsAt content start (size_of_log superblock) × (honest ≡ true → Failed))
 
--- A log that starts where the superblock says.
+-- A log of 8 sectors at most that starts where the superblock says.
 pub record ReadsPlacedLog (content : List ℕ) (honest : Bool) (Failed : Type 0) (superblock bytes : List ℕ) (log : RawLog) : Type 0 where
+  pub told : HasNoLog superblock → ⊥
+  pub few : size_of_log superblock ≤ 8
   pub start : ℕ
   pub at : StartsAt (log_offset superblock) start
   pub reads : ReadsLogAt content honest Failed superblock bytes start log
@@ -157,7 +166,9 @@ ReadsRawLog content honest Failed sectors superblock bytes log =
 -- why it has no place
 abbrev pub RefusesArea : List ℕ → List ℕ → RawFault → Type 0
 RefusesArea content superblock NoBitmap = ⊥
-RefusesArea content superblock Region = (8 < size_of_log superblock) ⊎ HasNoPlace content (log_offset superblock) (size_of_log superblock)
+RefusesArea content superblock Region =
+    (HasNoLog superblock → ⊥)
+    × ((8 < size_of_log superblock) ⊎ HasNoPlace content (log_offset superblock) (size_of_log superblock))
 RefusesArea content superblock TooShort = ⊥
 
 -- ---- parts

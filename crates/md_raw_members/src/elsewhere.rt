@@ -1,5 +1,5 @@
 // Other places of a device where a superblock of its set may stand.
-ghost use Rattle.std.specs.Prelude.{◌≡◌, ◌<◌, ◌≤◌, ◌*◌, length};
+ghost use Rattle.std.specs.Prelude.{◌≡◌, ◌<◌, ◌≤◌, ◌*◌};
 ghost use Rattle.md_raw_members.specs.Elsewhere.{FindsAt, FindsElsewhere, IsFoundInSector};
 
 use crate::read_parts::read_sectors;

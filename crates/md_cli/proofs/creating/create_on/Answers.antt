@@ -1,4 +1,4 @@
-use Rattle.std.proofs.Common.{◌≡◌, ◌∙◌, length, map, ap, sym, subst, refl, inl, inr}
+use Rattle.std.proofs.Common.{◌∙◌, length, map, ap, sym, subst, refl, inl, inr}
 use Rattle.std.proofs.lemmas.List.{length-map}
 use Rattle.md_state.specs.View.{disk_of}
 use Rattle.md_messages.specs.Holding.{NotesHeldOnEach, held_each}

@@ -66,3 +66,24 @@ returns-in-Json-form-2-clause-gives g c =
     let was = c.args.device.now in
     let call = c.show_badblocks-in-Json-form-2 in
     as_asked g.S.Sink (d.content was) (d.honest was) (d.failures was < d.failures call.new.device) c.args.out.now call.new.out call.result (ap ask_of c.in-ExamineBadblocks.is ∙ ap (λ (f : ImageForm). examines_badblocks f) c.in-Json-form-2.is) call.ensures.gives
+
+pub returns-in-RawJson-clause-gives : goal.returns-in-RawJson-clause-gives
+returns-in-RawJson-clause-gives g c =
+    let d = g.D.Device in
+    let was = c.args.device.now in
+    let call = c.show_raw_superblock-in-RawJson in
+    as_asked g.S.Sink (d.content was) (d.honest was) (d.failures was < d.failures call.new.device) c.args.out.now call.new.out call.result (ap ask_of c.in-Examine.is ∙ ap (λ (f : ImageForm). examines f) c.in-RawJson.is) call.ensures.gives
+
+pub returns-in-RawJson-form-clause-gives : goal.returns-in-RawJson-form-clause-gives
+returns-in-RawJson-form-clause-gives g c =
+    let d = g.D.Device in
+    let was = c.args.device.now in
+    let call = c.show_raw_bitmap-in-RawJson-form in
+    as_asked g.S.Sink (d.content was) (d.honest was) (d.failures was < d.failures call.new.device) c.args.out.now call.new.out call.result (ap ask_of c.in-ExamineBitmap.is ∙ ap (λ (f : ImageForm). examines_bitmap f) c.in-RawJson-form.is) call.ensures.gives
+
+pub returns-in-RawJson-form-2-clause-gives : goal.returns-in-RawJson-form-2-clause-gives
+returns-in-RawJson-form-2-clause-gives g c =
+    let d = g.D.Device in
+    let was = c.args.device.now in
+    let call = c.show_raw_badblocks-in-RawJson-form-2 in
+    as_asked g.S.Sink (d.content was) (d.honest was) (d.failures was < d.failures call.new.device) c.args.out.now call.new.out call.result (ap ask_of c.in-ExamineBadblocks.is ∙ ap (λ (f : ImageForm). examines_badblocks f) c.in-RawJson-form-2.is) call.ensures.gives

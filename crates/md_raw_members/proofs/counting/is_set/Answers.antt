@@ -1,4 +1,4 @@
-use Rattle.std.proofs.Common.{◌/◌, ◌%◌, ◌<◌, ℕ, List, length, slice_index, refl, arith}
+use Rattle.std.proofs.Common.{◌/◌, ◌%◌, slice_index, refl}
 use Rattle.std.proofs.lemmas.Nat.Bits.{shr_and_one}
 use Rattle.md_bitmap.specs.Marks.{is_set}
 use Rattle.md_raw_members.proofs.counting.is_set.Goals as goal

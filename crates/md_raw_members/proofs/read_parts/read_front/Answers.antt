@@ -11,6 +11,7 @@ returns-in-Ok-clause-front g c =
     let whole = c.told-bytes in
     let same = c.in-Ok.ensures.len in
     record {
+      long = c.requires.long;
       few = omega arith;
       read = subst (λ (b : List ℕ). IsRead (d.content old) (d.honest old) 8 4096 b) (sym (take_all 4096 buf (omega (arith, same, whole))))
           (subst (λ (n : ℕ). IsRead (d.content old) (d.honest old) 8 n buf) whole c.in-Ok.ensures.ok);
