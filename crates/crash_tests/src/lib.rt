@@ -1,4 +1,4 @@
-//! Tests of what a crash leaves: whole calls on a mirror whose devices stop at each write in turn, or at some
+//! Tests of what a crash leaves: whole calls on a mirror whose devices crash at each write in turn, or at some
 //! write of a list of calls that is drawn. What is left is opened again.
 #![tactic(auto)]
 

@@ -1,4 +1,4 @@
--- What a rebuild leaves as it was before a pass, and once it has stopped.
+-- What a rebuild leaves as it was before a pass, and once it has ended.
 use Rattle.std.proofs.Common.{◌≡◌, ◌≢◌, ◌∙◌, ◌⊎◌, ◌↔◌, ℕ, ◌+◌, ◌*◌, ◌<◌, ◌≤◌, ◌||◌, leb, max, true, false, List, [], length, length-set, count_by, get_or, slice_get, Some, None, refl, sym, ap, subst, arith, inl, inr}
 use Rattle.std.proofs.lemmas.Bool.{both_ways, cases_eq}
 use Rattle.std.proofs.lemmas.Option.{same_Some, slice_get-get_or, slice_get_within}
@@ -363,7 +363,7 @@ pub checkpointed_many : (target : ℕ) (copied : Bitmap) (v w : MirrorView) → 
 checkpointed_many target copied v w r =
     ap (λ (a : ArrayView). length a.members) r.array ∙ length-set v.array.members target (record (with_recovery_offset r.offset r.may.member) { due = false })
 
--- ---- once it has stopped
+-- ---- once it has ended
 pub halted_left : (target : ℕ) (copied : Bitmap) (v w : MirrorView) → v.array.halted ≡ true → RecordsAtEnd target copied v w → w ≡ v
 halted_left target copied v w halted (inl same) = same.1
 halted_left target copied v w halted (inr (inl r)) = absurd (both_ways v.array.halted r.may.idle.running halted)

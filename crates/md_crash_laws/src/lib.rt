@@ -1,4 +1,4 @@
-//! What looks back on stops and on resyncs, beyond the laws of `md_laws`: members in sync that agree, and writes that halted a mirror.
+//! What looks back on crashes and on resyncs, beyond the laws of `md_laws`: members in sync that agree, and writes that halted a mirror.
 #![tactic(auto)]
 
 mod fresh_array;
