@@ -1,7 +1,6 @@
 -- The header that was read.
-use Rattle.std.proofs.Common.{◌≡◌, ◌∙◌, ℕ, ◌*◌, ◌/◌, Bool, List, length, Result, Ok, Err, ap, subst, sym, arith, true≢false}
-use Rattle.std.specs.Prelude.{IfOk, MatchResult, OnOk, is_ok}
-use Rattle.std.specs.Result.{result_unwrap_or}
+use Rattle.std.proofs.Common.{◌≡◌, ℕ, ◌*◌, ◌/◌, Bool, List, length, Result, Ok, subst, sym, arith}
+use Rattle.std.specs.Prelude.{IfOk, OnOk}
 use Rattle.md_super.specs.declared.superblock.Superblock.{Superblock}
 use Rattle.md_format.specs.FirstFault.{IsFirst}
 use Rattle.md_bitmap.specs.declared.header.BitmapHeader.{BitmapHeader}
@@ -11,12 +10,6 @@ use Rattle.md_bitmap.specs.Faults.{BitmapFaultStands, bitmap_fault_place, NoneSt
 use Rattle.md_bitmap.specs.Marks.{Bitmap}
 use Rattle.md_members.specs.Areas.{AreAreasPlaced}
 use Rattle.md_members.specs.Reading.{BitmapStartsAt, IsMarks, IsRead, ReadsHeader, ReadsHeaderFault, front_of}
-
--- What a call answered whose fault was made a variant of another one by `map_err`, where that of `map_err` is known.
-module _ {T E F : Type 0} (R : E → Type 0) where
-  pub own_is : (own : Result T E) (s : Result T F) (x : T) → MatchResult own (λ y. s ≡ Ok y) R → is_ok s ≡ is_ok own → s ≡ Ok x → own ≡ Ok x
-  own_is (Ok y) s x cases variant is = ap (λ (t : Result T F). Ok (result_unwrap_or t y)) (sym cases ∙ is)
-  own_is (Err e) s x cases variant is = absurd (true≢false (sym (ap (λ (t : Result T F). is_ok t) is) ∙ variant))
 
 pub header_read : (content : List ℕ) (honest : Bool) (v : Superblock) (h : BitmapHeader) (start : ℕ) (sector front : List ℕ) (own : Result BitmapHeader BitmapFault) → own ≡ Ok h
     → BitmapStartsAt v start → IsRead content honest start 512 sector → front ≡ front_of sector → IfOk own (λ x. IsHeader front x) → OnOk own (NoneStands front) → ReadsHeader content honest v h

@@ -2,10 +2,10 @@ use Rattle.std.proofs.Common.{List, map, refl, subst}
 use Rattle.std.specs.Prelude.{OnOk}
 use Rattle.std.proofs.lemmas.Result.{IfOk-at_ok}
 use Rattle.md_members.specs.declared.info.MemberInfo.{MemberInfo}
+use Rattle.md_members.proofs.Wrapped.{own_is}
 use Rattle.md_assembly.specs.Assembled.{IsAssembled}
 use Rattle.md_assembly.specs.Faults.{NoAssembleFault}
 use Rattle.md_state.specs.View.{disk_of}
-use Rattle.md_array.proofs.General.Answered.{own_is}
 use Rattle.md_array.proofs.Openings.Whole.{are_whole}
 use Rattle.md_array.proofs.open.array_of.Given as given
 use Rattle.md_array.proofs.open.array_of.Goals as goal

@@ -3,9 +3,10 @@ use Rattle.std.proofs.lemmas.Bool.{leb-true, leb-false}
 use Rattle.std.proofs.lemmas.Result.{err_from_is_err_and}
 use Rattle.md_members.specs.Areas.{bitmap_sectors}
 use Rattle.md_members.specs.Reading.{IsRead, chunks_of}
-use Rattle.md_members.proofs.Headers.{header_read, marks_as, own_is, placed_by, placed_of}
+use Rattle.md_members.proofs.Headers.{header_read, marks_as, placed_by, placed_of}
 use Rattle.md_members.proofs.Refusals.{bitmap_by_marks}
 use Rattle.md_members.proofs.Untouched.{leaves_same}
+use Rattle.md_members.proofs.Wrapped.{own_is}
 use Rattle.md_members.proofs.bitmap.read_bitmap.Goals as goal
 
 pub returns-then-not-has_few_chunks-clause-reads :
