@@ -17,7 +17,7 @@ SECONDS = 60
 
 # The crates, and which of their tests are not swept: those that play every order of steps, which make the calls of the others thousands of
 # times, those that plan large tables or many, which take long, the one that enters 10,000 requests, each with a call of its own, and those
-# that stop an array at each write, or many times.
+# that crash an array at each write, or many times.
 SUITES = {
     "part_tests": r"plans::(large|random)_tables::|requests::ten_thousand_in_reverse",
     "step_tests": r"\w+::every_order::",

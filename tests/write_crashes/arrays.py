@@ -1,4 +1,4 @@
-"""The arrays on which commands are stopped, and what each command has to say where nothing stops it."""
+"""The arrays on which commands are killed, and what each command has to say where nothing kills it."""
 
 import uuid
 
@@ -32,7 +32,7 @@ class Case:
         self.words = [command] + (["--sector", first] if command == "write" else [])
         self.contents = contents
         self.summary = summary
-        # What standard error gets where nothing stops it.
+        # What standard error gets where nothing kills it.
         self.notices = notices
         self.images = list(range(len(contents))) if images is None else images
         # The number of the image that is added, which is the last.
@@ -66,7 +66,7 @@ def write_case(name, contents, summary, first=WRITE_AT, given=WRITTEN, **others)
 
 
 def cut_short(scratch, contents, wanted):
-    """The images of an array whose write was stopped at the first call that leaves what is wanted."""
+    """The images of an array whose write was killed at the first call that leaves what is wanted."""
     for number in range(1, MOST_CALLS):
         scratch.put(contents)
         images = list(range(len(contents)))
@@ -76,7 +76,7 @@ def cut_short(scratch, contents, wanted):
             return left
         if answer.status == 0:
             break
-    raise ValueError("no stop within a write leaves what is wanted")
+    raise ValueError("no crash within a write leaves what is wanted")
 
 
 def differ_where_marked(found):

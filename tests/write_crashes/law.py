@@ -1,4 +1,4 @@
-"""What images may hold once a command was stopped within a write, or a write of it failed."""
+"""What images may hold once a command was killed within a write, or a write of it failed."""
 
 import members
 from members import SECTOR

@@ -2,12 +2,20 @@
 //!
 //! - `marks PASSES`, for bench/marks: passes over the marks of the largest bitmap.
 //! - `badset ROUNDS`, for bench/badset: adds of scattered runs to a set of bad sectors.
-//! - `requests COUNT ROUNDS`, for bench/requests: requests entered into the list of those in flight, and removed.
-//! - `plan CHUNKS PASSES [TABLE]`, for bench/plan: the planner and the checker on made tables. With 0 passes it
-//!   prints the masks of the tables.
+//! - `requests COUNT ROUNDS`, for bench/requests: requests entered into the list of those in flight, and
+//!   removed.
+//! - `plan CHUNKS PASSES [TABLE]`, for bench/plan: the planner and the checker on made tables. With 0 passes
+//!   it prints the masks of the tables.
 //!
 //! What was found goes to standard output, and the times to standard error. With no argument each part runs
 //! once.
+//!
+//! Start with `main`: each part has a file of its name, and in it the function that times it.
+//!
+//! ```
+//! marks::time(&rt, 1)?;
+//! plan::time_all(&rt, 1000, 1, None)?;
+//! ```
 #![tactic(auto)]
 
 mod badset;

@@ -1,5 +1,16 @@
-//! Tests of whole calls on a mirror, which read, write, resync, stop, check and rebuild it: what they answer, what the
-//! mirror shows then, and what they leave on the devices. Most are rows of calls and answers, which one function plays.
+//! Tests of whole calls on a mirror, which read, write, resync, stop, check and rebuild it: what they answer,
+//! what the mirror shows then, and what they leave on the devices. Most are rows of calls and answers, which
+//! one function plays.
+//!
+//! Start with `Row` and `play` (`play.rt`), and with `Call` and `Answer` (`call.rt`).
+//!
+//! ```
+//! const READ_BACK: Row = Row {
+//!     members: &[FIRST, SECOND],
+//!     calls: &[(Call::Write(8, 1), Answer::Done), (Call::Stop, Answer::Done)],
+//!     ..ROW
+//! };
+//! ```
 #![tactic(auto)]
 
 #[cfg(test)]

@@ -1,5 +1,16 @@
-//! Tests of commands on images in memory: the life of a mirror, a rebuild and a check, images that fail or are protected; inputs that
-//! fail; and the report of a plan.
+//! Tests of commands on images in memory: the life of a mirror, a rebuild and a check, images that fail or
+//! are protected; inputs that fail; and the report of a plan.
+//!
+//! Start with `Command`, `Case` and `play` (`commands.rt`): a case is images, and commands on them one after
+//! another.
+//!
+//! ```
+//! const CHECKED: Command = Command {
+//!     words: &["mdcli", "check", "a", "b"],
+//!     shows: Shows::All("mismatched chunks: 0\n"),
+//!     ..DONE
+//! };
+//! ```
 #![tactic(auto)]
 
 #[cfg(test)]

@@ -14,7 +14,7 @@ use std::sync::Wait;
 use std::test::Fail;
 use std::thread::Threads;
 
-// Makes the calls up to the first that is refused, which has found the devices stopped. Answers whether they have.
+// Makes the calls up to the first that is refused, which has found the devices crashed. Answers whether they have.
 fn follow<R: Abort + Threads + Wait + Sync>(
     rt: &R,
     alloc: Global,
@@ -38,7 +38,7 @@ fn follow<R: Abort + Threads + Wait + Sync>(
     run.has_crashed(alloc)
 }
 
-// What is left of the images once the devices stop after so many writes, and whether they do.
+// What is left of the images once the devices crash after so many writes, and whether they do.
 fn crash_within<R: Abort + Threads + Wait + Sync>(
     rt: &R,
     alloc: Global,
@@ -83,7 +83,7 @@ fn copies_of(alloc: Global, images: &[MemDevice]) -> Result<Vec<MemDevice>, Fail
 // More than the writes of any list.
 const MOST: u64 = 1000;
 
-// The calls are stopped at each write in turn, until they come to their end. What is left is judged each time.
+// The calls crash at each write in turn, until they come to their end. What is left is judged each time.
 fn crash_at_each<R: Abort + Threads + Wait + Sync>(
     rt: &R,
     alloc: Global,
@@ -103,7 +103,7 @@ fn crash_at_each<R: Abort + Threads + Wait + Sync>(
     Err(Fail::new("there is no end of writes"))
 }
 
-// The calls are stopped at each write in turn, and other calls on what is left each time are, too.
+// The calls crash at each write in turn, and so do other calls on what is left each time.
 fn crash_twice<R: Abort + Threads + Wait + Sync>(
     rt: &R,
     alloc: Global,

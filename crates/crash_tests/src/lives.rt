@@ -1,5 +1,5 @@
-// Lives of an array of three: calls that a seed draws, stopped at a write that it draws, and opened again from images that
-// it draws, among them one of those in sync whose superblock is the freshest.
+// Lives of an array of three: calls that a seed draws, a crash at a write that it draws, and then an opening of images that it
+// draws, among them one of those in sync whose superblock is the freshest.
 use crate::calls::{Answer, Call};
 use crate::checks::{holds_at, same_at};
 use crate::choosing::{Choice, Known, NAMES, choose};
@@ -156,7 +156,7 @@ impl Life {
         }
     }
 
-    // Makes calls until the devices stop, or a few of them.
+    // Makes calls until the devices crash, or a few of them.
     fn live<R: Abort + Threads + Wait + Sync>(
         &mut self,
         rt: &R,
@@ -184,7 +184,7 @@ impl Life {
         Ok(())
     }
 
-    // The images that are chosen are opened and live on until the devices stop.
+    // The images that are chosen are opened and live on until the devices crash.
     fn go_on<R: Abort + Threads + Wait + Sync>(
         &mut self,
         rt: &R,

@@ -135,7 +135,7 @@ fn take_in(
 }
 
 impl Run {
-    // A mirror of these images, whose devices stop after so many writes, beside others.
+    // A mirror of these images, whose devices crash after so many writes, beside others.
     pub(crate) fn open(
         alloc: Global,
         images: Vec<MemDevice>,
@@ -172,7 +172,7 @@ impl Run {
         Ok(outside)
     }
 
-    // Whether the devices have stopped: whether one more that shares their fuse does.
+    // Whether the devices have crashed: whether one more that shares their fuse does.
     pub(crate) fn has_crashed(&self, alloc: Global) -> Result<bool, Fail> {
         let sector = MemDevice::new(alloc, 1)?;
         let mut device = CrashDevice::new(sector, self.fuse.share()?, 0);

@@ -89,7 +89,7 @@ pub record HasWriteFailed (k : ℕ) (w : Write) (before after : List Disk) : Typ
 
 -- The devices before and after an event: one is written at most, and once, but for a new one, and for one that is filled or prepared. The
 -- sectors of one write of a resync are an event each. Of the write by which a member comes into sync, and of one that spoils a member, no
--- stop is told here: those of an enrolment are told with the writes before it.
+-- crash is told here: those of an enrolment are told with the writes before it.
 abbrev pub WritesOnce : Event → List Disk → List Disk → Type 0
 WritesOnce (Event.Record k) before after = (w : Write) × IsWritten k w before after
 WritesOnce (Event.StoreMarks k b) before after = (w : Write) × (length w.bytes ≡ 512) × IsWritten k w before after
@@ -139,7 +139,7 @@ KeepsLists e w w' = ⊤
 -- By the event the mirror goes from its world with these requests in flight to that with those. A content that the members in
 -- sync held before it, they hold after it, changed as the event says; and who was written of a request in flight has its bytes.
 -- An opening reads what is kept, if it did before. The devices do what they answer still, and one is written at most: what a
--- stop within that leaves is of its write (`crashes_at_steps`).
+-- crash within that leaves is of its write (`crashes_at_steps`).
 pub record Does (old : MirrorView) (before : ℕ → Option Request) (e : Event) (new : MirrorView) (after : ℕ → Option Request) : Type 0 where
   pub honest : AreHonest new.disks
   pub writes : WritesOnce e old.disks new.disks

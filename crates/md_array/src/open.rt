@@ -45,14 +45,9 @@ fn open_array<D: Device>(alloc: Global, devices: &mut [D]) -> Result<Array, Open
     ensures err { IfErr result (RefusesOpen (map (disk_of D.Device) devices.old) (map (disk_of D.Device) devices.new)) }
     ensures len { length devices.new ≡ length devices.old }
 {
-    let array = match array_of(alloc, devices) {
-        Ok(array) => array,
-        Err(fault) => return Err(fault),
-    };
-    match store_needed_marks(devices, &array) {
-        Ok(()) => Ok(array),
-        Err(fault) => Err(fault),
-    }
+    let array = array_of(alloc, devices)?;
+    store_needed_marks(devices, &array)?;
+    Ok(array)
 }
 
 // The array that the devices make, as it is kept.
@@ -61,18 +56,9 @@ fn array_of<D: Device>(alloc: Global, devices: &mut [D]) -> Result<Array, OpenFa
     ensures ok { IfOk result (IsArrayOf (map (disk_of D.Device) devices.old)) }
     ensures err { IfErr result (RefusesArray (map (disk_of D.Device) devices.old) (map (disk_of D.Device) devices.new)) }
 {
-    let infos = match read_members(alloc, devices) {
-        Ok(infos) => infos,
-        Err(fault) => return Err(fault),
-    };
-    let assembly = match assemble(alloc, &infos) {
-        Ok(assembly) => assembly,
-        Err(fault) => return Err(assembly_refusal(fault)),
-    };
-    match Array::remember(alloc, infos, assembly) {
-        Ok(array) => Ok(array),
-        Err(_) => Err(OpenFault::NoMemory),
-    }
+    let infos = read_members(alloc, devices)?;
+    let assembly = assemble(alloc, &infos).map_err(assembly_refusal)?;
+    Ok(Array::remember(alloc, infos, assembly)?)
 }
 
 // The fault of opening, where the members make no array.

@@ -21,7 +21,7 @@ use md_workers::Gate;
 use std::alloc::Global;
 use std::thread::Threads;
 
-/// FindsMismatches the chunks in which two members in sync differ in a sector that neither lists as bad. Listed sectors are not read,
+/// Finds the chunks in which two members in sync differ in a sector that neither lists as bad. Listed sectors are not read,
 /// nor is any device where fewer than two members are in sync.
 ///
 /// Each member in sync is read by a worker of its own, in windows of 1 MiB and each chunk by itself; the

@@ -29,7 +29,7 @@ use Rattle.md_cli.specs.Opened.{OpenedView, moves_device, with_beside, with_last
 use Rattle.md_cli.specs.Streams.{Told}
 
 -- a device that is only looked at, and over which what is written is kept in memory: no call on it has failed yet, and no
--- stop leaves any of what is written
+-- crash leaves any of what is written
 abbrev pub overlaid : Disk → Disk
 overlaid d = record d { failures = 0; crashes = [] }
 

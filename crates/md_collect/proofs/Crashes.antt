@@ -1,4 +1,4 @@
--- What stops leave within a call.
+-- What crashes leave within a call.
 use Rattle.std.proofs.Common.{ℕ, ◌*◌, List, length, Result, Ok, Err}
 use Rattle.md_device.specs.Splice.{SameOutside}
 use Rattle.md_device.specs.Crashes.{LeavesMore, WithinWrite, IsMixed}

@@ -1,4 +1,13 @@
 //! What is reported of a rebuild's reads, and the collector that writes it to the target.
+//!
+//! Start with `Collector`: it takes each chunk of a plan once, from the source that the plan names, and
+//! refuses all else. `read_chunk` makes the report of one read.
+//!
+//! ```
+//! let mut collector = Collector::new(alloc, &plan, chunks, offset)?;
+//! let report = read_chunk(alloc, &mut source, role, source_offset, chunks, 1)?;
+//! collector.take(&mut target, report)?;
+//! ```
 #![tactic(auto)]
 
 mod chunk_read;

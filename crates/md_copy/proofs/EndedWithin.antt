@@ -1,4 +1,4 @@
--- Where a rebuild stopped, its target is a member still.
+-- Where a rebuild ended, its target is a member still.
 use Rattle.std.proofs.Common.{◌≡◌, ◌∙◌, ℕ, ◌<◌, List, length, slice_get, ap, arith, inl, inr}
 use Rattle.std.proofs.lemmas.Option.{slice_get_within}
 use Rattle.md_bitmap.specs.Marks.{Bitmap}

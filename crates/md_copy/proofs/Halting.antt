@@ -1,16 +1,16 @@
 -- A write failed that was to store marks or a superblock, and halted the mirror: what is kept is as before, and so are the data.
-use Rattle.std.proofs.Common.{◌≡◌, ◌≢◌, ◌∙◌, ◌⊎◌, ℕ, ◌+◌, ◌*◌, ◌<◌, ◌≤◌, true, false, None, List, length, slice_get, Some, refl, sym, ap, subst, arith, inl, inr}
+use Rattle.std.proofs.Common.{◌≡◌, ◌≢◌, ◌∙◌, ℕ, ◌+◌, ◌*◌, ◌<◌, true, None, length, slice_get, sym, ap, subst, arith, inl, inr}
 use Rattle.std.proofs.lemmas.Bool.{both_ways, cases_eq}
 use Rattle.std.proofs.lemmas.Option.{same_Some, slice_get_within}
 use Rattle.md_assembly.proofs.Indices.{got_within}
 use Rattle.md_bitmap.proofs.Blocks.{length-bitmap_sector}
-use Rattle.md_device.specs.Splice.{SameOutside, part}
+use Rattle.md_device.specs.Splice.{SameOutside}
 use Rattle.md_device.proofs.Splices.{part_after, part_before}
 use Rattle.md_kept_members.specs.View.{MemberView}
 use Rattle.md_model.specs.Events.{Event, MemberPart}
 use Rattle.md_device_writes.specs.Writes.{Write}
 use Rattle.md_state.specs.DiskWrites.{AtDevice, IsTried}
-use Rattle.md_state.specs.Members.{IsInSync, IsMember}
+use Rattle.md_state.specs.Members.{IsMember}
 use Rattle.md_state.specs.Steps.StoreMarks.{IsMarkWrite}
 use Rattle.md_state.specs.View.{ArrayView, Disk, MirrorView}
 use Rattle.md_array.specs.Consistency.{IsConsistent}
@@ -19,9 +19,8 @@ use Rattle.md_array.specs.InTurn.{HaltsAt}
 use Rattle.md_array.specs.Steps.Record.{super_write}
 use Rattle.md_array.proofs.StepLemmas.FailedParts.{halted_then}
 use Rattle.md_metadata.specs.Storing.{IsFailureOf, IsStoring}
-use Rattle.md_copy.specs.declared.fault.RebuildFault.{RebuildFault}
 use Rattle.md_copy.specs.declared.fault.RebuildFault.TheVariants.{MetadataFault}
-use Rattle.md_copy.specs.Refused.{IsFromMarks, KeepsDataBeside, KeepsDataBut}
+use Rattle.md_copy.specs.Refused.{KeepsDataBut}
 use Rattle.md_copy.proofs.Refused.{Lasts}
 use Rattle.md_copy.proofs.StoringKeeps.{beside_super_of, places_of}
 

@@ -35,8 +35,6 @@ use Rattle.md_array.specs.Consistency.{IsConsistent}
 use Rattle.md_array.specs.Steps.Enrol.{HoldsContent, KeepsData}
 use Rattle.md_array.specs.Worlds.{AreHonest, is_listed}
 use Rattle.md_array.proofs.General.Indices.{at_set_same, got_in_map, got_other}
-use Rattle.md_metadata.specs.Going.{GoesOn, only_others}
-use Rattle.md_metadata.specs.Storing.{IsStoring}
 use Rattle.md_copy.specs.declared.rebuilt.Rebuilt.{Rebuilt}
 use Rattle.md_copy.specs.Held.{AreHeld}
 use Rattle.md_copy.specs.Preparing.{is_in, uncopied_chunks}

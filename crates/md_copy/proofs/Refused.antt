@@ -1,10 +1,10 @@
 -- What the steps of a rebuild leave as it was, until the target comes into sync.
-use Rattle.std.proofs.Common.{◌≡◌, ◌≢◌, ◌∙◌, ◌⊎◌, ◌↔◌, ℕ, ◌+◌, ◌*◌, ◌<◌, ◌≤◌, true, false, List, ◌++◌, length, count_by, get_or, slice_get, Some, refl, sym, ap, subst, arith, inl, inr}
+use Rattle.std.proofs.Common.{◌≡◌, ◌≢◌, ◌∙◌, ◌⊎◌, ◌↔◌, ℕ, ◌*◌, ◌<◌, ◌≤◌, true, false, List, ◌++◌, length, get_or, slice_get, Some, refl, sym, ap, subst, arith, inl, inr}
 use Rattle.std.proofs.lemmas.Bool.{cases_eq}
 use Rattle.std.proofs.lemmas.Option.{same_Some, slice_get-get_or, slice_get_within}
 use Rattle.md_assembly.specs.declared.state.MemberState.TheVariants.{Faulty}
 use Rattle.md_assembly.proofs.Indices.{got_within}
-use Rattle.md_assembly.specs.States.{is_in_sync_as, is_recovering, is_spare}
+use Rattle.md_assembly.specs.States.{is_recovering, is_spare}
 use Rattle.md_badblocks.specs.declared.run.Run.{Run}
 use Rattle.md_badblocks.specs.Runs.{IsBad}
 use Rattle.md_bitmap.specs.declared.chunks.Chunks.{Chunks}
@@ -13,7 +13,6 @@ use Rattle.md_cert.specs.declared.slots.Slot.{Slot}
 use Rattle.md_collect.specs.Reading.{CountsFailure}
 use Rattle.md_device.specs.Splice.{SameOutside, part}
 use Rattle.md_kept_members.specs.View.{MemberView}
-use Rattle.md_pass.specs.Readings.{is_of}
 use Rattle.md_passes.specs.Listed.{IsOfFailed}
 use Rattle.md_state.specs.DiskWrites.{AtDevice, IsTried}
 use Rattle.md_state.specs.Members.{IsMember}
@@ -22,7 +21,7 @@ use Rattle.md_state.specs.View.{ArrayView, Disk, MirrorView, of_disks}
 use Rattle.md_super.specs.declared.superblock.Superblock.{Superblock}
 use Rattle.md_array.specs.Consistency.{IsConsistent}
 use Rattle.md_array.specs.Steps.Enrol.{KeepsData}
-use Rattle.md_array.specs.Steps.Lend.{IsBesideChunk, IsBesideMissing}
+use Rattle.md_array.specs.Steps.Lend.{IsBesideChunk}
 use Rattle.md_array.specs.Steps.Record.{super_write}
 use Rattle.md_copy.specs.Filling.{CountsFailed}
 use Rattle.md_copy.specs.declared.fault.RebuildFault.{RebuildFault}
@@ -30,7 +29,7 @@ use Rattle.md_copy.specs.declared.fault.RebuildFault.TheVariants.{MetadataFault}
 use Rattle.md_copy.specs.Rebuilt.{KeepStates, ListsGrow, OthersKeepData, failed_of}
 use Rattle.md_copy.specs.Refused.{Ending, EndsSo, HasEnded, HasMade, IsBesideLacking, StatesStay}
 use Rattle.md_copy.proofs.StartedAs.{StartsAs}
-use Rattle.md_copy.proofs.StoringKeeps.{HasPlace, HavePlaces, KeepsAll, beside_super_of, device_before, device_then, member_then, places_of}
+use Rattle.md_copy.proofs.StoringKeeps.{HavePlaces, KeepsAll, beside_super_of, device_before, device_then, member_then, places_of}
 
 -- ---- the target
 pub record StaysTarget (m n : MemberView) : Type 0 where

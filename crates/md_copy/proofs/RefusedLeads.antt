@@ -176,7 +176,7 @@ module _ (target : ℕ) where
     tells = named;
   }
 
-  -- ---- where a rebuild stopped, and how far it came is recorded
+  -- ---- where a rebuild ended, and how far it came is recorded
   -- Events led there, and the target is recovering if the mirror runs.
   record ComesTo (old stopped : MirrorView) : Type 0 where
     events : List Event
@@ -254,7 +254,7 @@ module _ (target : ℕ) where
   either_way k old stopped (inl c) = inl c.0
   either_way k old stopped (inr e) = inr e.0
 
-  -- as it stopped it is told
+  -- as it ended it is told
   stops_there : (k : ℕ) (old new : MirrorView) → StopsSo k old new → LeadsMember k old new
   stops_there k old new (inl (c, last)) =
       leads_member k c.events [] old new last (inl refl) (subst (λ (es : List Event). LeadsIn (Before target) es old new) (sym (append-nil c.events)) c.leads)

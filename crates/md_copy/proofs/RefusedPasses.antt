@@ -1,5 +1,5 @@
 -- What a rebuild that is refused leaves as it was.
-use Rattle.std.proofs.Common.{◌≡◌, ◌≢◌, ◌∙◌, ◌⊎◌, ℕ, suc, zero, ◌+◌, ◌==◌, ◌<◌, ◌≤◌, ◌&&◌, Bool, true, false, List, [], ◌∷◌, ◌++◌, append-nil, append_assoc, All, cond, filter, length, not, length-append, slice_get, Some, refl, sym, ap, subst, arith, inl, inr}
+use Rattle.std.proofs.Common.{◌≡◌, ◌≢◌, ◌∙◌, ◌⊎◌, ℕ, suc, zero, ◌==◌, ◌<◌, ◌≤◌, ◌&&◌, Bool, true, false, List, [], ◌∷◌, ◌++◌, append-nil, append_assoc, All, cond, filter, length, not, length-append, slice_get, Some, refl, sym, ap, subst, arith, inl, inr}
 use Rattle.std.proofs.lemmas.Bool.{both_ways, cases_Bool, cases_eq, eqb-true}
 use Rattle.std.specs.List.{Any}
 use Rattle.std.proofs.lemmas.List.Folds.{Any-from_list_any}
@@ -13,7 +13,6 @@ use Rattle.md_array.specs.Consistency.{IsConsistent}
 use Rattle.md_array.specs.Steps.Enrol.{KeepsData}
 use Rattle.md_array.specs.Steps.Lend.{IsBesideMissing}
 use Rattle.md_badblocks.specs.declared.run.Run.{Run}
-use Rattle.md_badblocks.specs.Runs.{IsBad}
 use Rattle.md_bitmap.specs.Marks.{Bitmap, is_set}
 use Rattle.md_bitmap.specs.declared.chunks.Chunks.{Chunks}
 use Rattle.md_cert.specs.declared.slots.Slot.{Slot}
@@ -27,7 +26,7 @@ use Rattle.md_pass.specs.Beside.{has_chunk}
 use Rattle.md_pass.specs.Copied.{AreJoined}
 use Rattle.md_passes.proofs.ArrayPasses.{copies_add, passes_go_on}
 use Rattle.md_passes.proofs.Listing.{lists_add}
-use Rattle.md_passes.specs.Listed.{AreCopiedBy, IsArrayPass, IsOfFailed, ListsFailed, MayServe, ServesAs, most_failures}
+use Rattle.md_passes.specs.Listed.{AreCopiedBy, IsArrayPass, ListsFailed, MayServe, ServesAs, most_failures}
 use Rattle.md_passes.specs.Passes.{PassCopies, PassView, ServesAtMost, failed_chunks, slots_of_pass}
 use Rattle.md_state.specs.DiskWrites.{AtDevice}
 use Rattle.md_state.specs.Steps.Enrol.{HasFullLog}
@@ -40,7 +39,7 @@ use Rattle.md_copy.specs.declared.fault.RebuildFault.TheVariants.{Halted, NotSpa
 use Rattle.md_copy.specs.Filling.{IsFilling}
 use Rattle.md_copy.specs.Leaving.{HasNone, RecordsAtEnd}
 use Rattle.md_copy.specs.Listing.{HasFailedSlot, ListsAll, NotesLists, EndsAtList}
-use Rattle.md_copy.specs.Preparing.{IsSubset, is_in, uncopied_chunks}
+use Rattle.md_copy.specs.Preparing.{IsSubset, is_in}
 use Rattle.md_copy.specs.Passing.{AreListedPasses, BreaksOffPass, CopiesAll, EndsBetween, FailsListing, RecordsPass}
 use Rattle.md_copy.specs.Enrolled.{LacksOwnRoom}
 use Rattle.md_copy.specs.Rebuilding.{BeginsRebuild, EndsFilled, LacksMemoryToRebuild, LacksRoom, LosesTarget, RefusesAtOnce, RefusesRebuild}

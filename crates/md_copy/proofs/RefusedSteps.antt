@@ -1,10 +1,10 @@
--- What a rebuild leaves as it was before a pass, and once it has stopped.
-use Rattle.std.proofs.Common.{◌≡◌, ◌≢◌, ◌∙◌, ◌⊎◌, ◌↔◌, ℕ, ◌+◌, ◌*◌, ◌<◌, ◌≤◌, ◌||◌, leb, max, true, false, List, [], length, length-set, count_by, get_or, slice_get, Some, None, refl, sym, ap, subst, arith, inl, inr}
+-- What a rebuild leaves as it was before a pass, and once it has ended.
+use Rattle.std.proofs.Common.{◌≡◌, ◌≢◌, ◌∙◌, ◌⊎◌, ◌↔◌, ℕ, ◌+◌, ◌*◌, ◌≤◌, ◌||◌, leb, true, false, List, [], length, length-set, get_or, slice_get, None, refl, sym, ap, subst, arith, inl, inr}
 use Rattle.std.proofs.lemmas.Bool.{both_ways, cases_eq}
 use Rattle.std.proofs.lemmas.Option.{same_Some, slice_get-get_or, slice_get_within}
 use Rattle.std.proofs.Math.Nat.{le-max_left}
 use Rattle.md_assembly.proofs.Indices.{got_within}
-use Rattle.md_assembly.specs.States.{is_in_sync, is_in_sync_as, is_recorded, is_recovering, is_spare}
+use Rattle.md_assembly.specs.States.{is_in_sync, is_recorded, is_recovering, is_spare}
 use Rattle.md_badblocks.specs.declared.run.Run.{Run}
 use Rattle.md_badblocks.specs.Runs.{IsBad}
 use Rattle.md_bitmap.specs.Marks.{Bitmap, is_set}
@@ -14,7 +14,6 @@ use Rattle.md_device.specs.Splice.{part}
 use Rattle.md_kept_members.specs.Enrolling.{IsOfChunk}
 use Rattle.md_kept_members.specs.TakingBack.{admitted_member, with_recovery_offset}
 use Rattle.md_kept_members.specs.View.{MemberView}
-use Rattle.md_pass.specs.Readings.{is_of}
 use Rattle.md_passes.specs.Listed.{IsOfFailed}
 use Rattle.md_model.specs.Rebuilding.{lacks}
 use Rattle.md_state.specs.Steps.Admit.{admitted}
@@ -40,7 +39,7 @@ use Rattle.md_copy.specs.Storing.{FailsToRecordTarget, EndsAtOther}
 use Rattle.md_copy.proofs.Halting.{HaltsOn, halts_on, lasts_halted}
 use Rattle.md_copy.proofs.HeldRecorded.{chunks_is, data_kept, lacked, marks_is, other_is, out_of_sync, target_same as checkpointed_is}
 use Rattle.md_copy.proofs.PassesKeep.{PassesKeep}
-use Rattle.md_copy.proofs.Readied.{after_so, ready_of, recovering_admitted, spare_is, spare_twice, stored_so}
+use Rattle.md_copy.proofs.Readied.{ready_of, recovering_admitted, spare_is, spare_twice, stored_so}
 use Rattle.md_copy.proofs.ReadyStill.{storing_states}
 use Rattle.md_copy.proofs.Refused.{GrowsSo, IsSameOrLost, KeepsRest, Lasts, Preserves, StaysTarget, lasts_none, preserves_rest, preserves_started, rest_alone, rest_none, rest_on, rest_stored, rest_super, target_same}
 use Rattle.md_copy.proofs.StartedAs.{IsAs, StartsAs, starts_on}
@@ -363,7 +362,7 @@ pub checkpointed_many : (target : ℕ) (copied : Bitmap) (v w : MirrorView) → 
 checkpointed_many target copied v w r =
     ap (λ (a : ArrayView). length a.members) r.array ∙ length-set v.array.members target (record (with_recovery_offset r.offset r.may.member) { due = false })
 
--- ---- once it has stopped
+-- ---- once it has ended
 pub halted_left : (target : ℕ) (copied : Bitmap) (v w : MirrorView) → v.array.halted ≡ true → RecordsAtEnd target copied v w → w ≡ v
 halted_left target copied v w halted (inl same) = same.1
 halted_left target copied v w halted (inr (inl r)) = absurd (both_ways v.array.halted r.may.idle.running halted)

@@ -1,15 +1,14 @@
 -- What was listed of passes that were stored stands on the devices, whatever comes after them.
-use Rattle.std.proofs.Common.{◌≡◌, ◌≢◌, ◌∙◌, ◌⊎◌, ◌↔◌, ℕ, ◌<◌, true, false, List, [], ◌∷◌, ◌++◌, append-nil, length, get_or, slice_get, Some, refl, sym, ap, subst, arith, inl, inr}
+use Rattle.std.proofs.Common.{◌≡◌, ◌≢◌, ◌∙◌, ◌↔◌, ℕ, true, false, List, [], ◌++◌, length, slice_get, Some, refl, sym, ap, subst, arith, inl, inr}
 use Rattle.std.proofs.lemmas.Bool.{both_ways, cases_eq}
 use Rattle.std.proofs.lemmas.List.Elements.{Contains-append_left}
-use Rattle.std.proofs.lemmas.Option.{same_Some, slice_get-get_or, slice_get_within}
+use Rattle.std.proofs.lemmas.Option.{same_Some, slice_get_within}
 use Rattle.md_assembly.specs.States.{is_in_sync}
 use Rattle.md_assembly.proofs.Indices.{got_within}
 use Rattle.md_badblocks.specs.Runs.{IsBad}
 use Rattle.md_bitmap.specs.Marks.{Bitmap}
 use Rattle.md_bitmap.specs.declared.chunks.Chunks.{Chunks}
 use Rattle.md_cert.specs.declared.slots.Slot.{Slot}
-use Rattle.md_cert.specs.Plans.{SlotsRise}
 use Rattle.md_kept_members.specs.View.{MemberView}
 use Rattle.md_passes.specs.Listed.{IsOfFailed}
 use Rattle.md_state.specs.Members.{IsMember}
@@ -24,7 +23,6 @@ use Rattle.md_copy.specs.Leaving.{RecordsAtEnd}
 use Rattle.md_copy.specs.Listing.{HasFailedSlot, HasListOn, NotesLists, EndsAtList}
 use Rattle.md_copy.specs.Refused.{HasListWithin, HasListed, IsListedOrFailed, ListsStand, ListsStandWithin}
 use Rattle.md_copy.proofs.HeldRecorded.{other_is}
-use Rattle.md_copy.proofs.PassesKeep.{disk_then}
 
 -- ---- nothing was listed
 pub stand_none : (target : ℕ) (old : ArrayView) (v : MirrorView) → ListsStand target [] old v

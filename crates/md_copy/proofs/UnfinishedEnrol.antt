@@ -196,7 +196,7 @@ module _ (k : ℕ) (copied orphans : Bitmap) (old new : MirrorView) (c : IsConsi
     first_aside : AreAside m (length d.content) first
     first_aside = both_aside m (length d.content) (bitmap_writes r.are.start r.are.header n.stored width) (log_writes n.superblock n.bad) bitmap_aside log_aside
 
-    -- what stands on the device then, and what a stop left
+    -- what stands on the device then, and what a crash left
     module _ (e : Disk) (is : slice_get new.disks k ≡ Some e) (more : (r.disks.change d e was is).0.rest ≢ []) where
       abbrev fails : FailsInWrites of_disks r.writes d e
       fails = (r.disks.change d e was is).0

@@ -19,7 +19,7 @@ use Rattle.md_copy.specs.declared.fault.RebuildFault.TheVariants.{NoMemory, Targ
 use Rattle.md_copy.specs.RebuildSources.{ServesChunk}
 
 -- Whatever became of the pass: in memory all is as before, the devices are in their places, all but the target's were only read, and
--- the target's changed in chunks of the plan alone, also at a stop.
+-- the target's changed in chunks of the plan alone, also at a crash.
 pub record IsFilling (target : ℕ) (m : MemberView) (slots : List Slot) (old new : MirrorView) : Type 0 where
   pub array : new.array ≡ old.array
   pub as_many : length new.disks ≡ length old.disks

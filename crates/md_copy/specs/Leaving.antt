@@ -15,7 +15,7 @@ abbrev pub RecordsAtEnd : ℕ → Bitmap → MirrorView → MirrorView → Type 
 RecordsAtEnd target copied stopped new =
     ((stopped.array.halted ≡ true) × (new ≡ stopped)) ⊎ (Checkpoints target copied stopped new ⊎ FailsToCheckpoint target copied stopped new)
 
--- So, after it stopped for this reason, with these chunks copied.
+-- So, after it ended for this reason, with these chunks copied.
 pub record LeavesAfter (target : ℕ) (Why : Bitmap → MirrorView → Type 0) (new : MirrorView) : Type 0 where
   pub copied : Bitmap
   pub stopped : MirrorView

@@ -2,28 +2,24 @@
 use Rattle.std.specs.Prelude.{◌≡◌, ◌≢◌, ◌⊎◌, ◌↔◌, ℕ, ◌+◌, ◌*◌, ◌<◌, ◌≤◌, true, false, List, [], ◌∷◌, ◌++◌, length, count_by, slice_get, Some}
 use Rattle.std.proofs.Common.{inl, inr}
 use Rattle.md_assembly.specs.declared.state.MemberState.TheVariants.{Faulty}
-use Rattle.md_assembly.specs.States.{is_in_sync, is_in_sync_as, is_recovering, is_spare}
-use Rattle.md_badblocks.specs.declared.run.Run.{Run}
+use Rattle.md_assembly.specs.States.{is_in_sync, is_in_sync_as}
 use Rattle.md_badblocks.specs.Runs.{IsBad}
 use Rattle.md_bitmap.specs.Chunks.{InChunk}
 use Rattle.md_bitmap.specs.Marks.{Bitmap, is_set}
 use Rattle.md_cert.specs.declared.slots.Slot.{Slot}
-use Rattle.md_cert.specs.Plans.{SlotsRise}
 use Rattle.md_collect.specs.Reading.{CountsFailure}
 use Rattle.md_device.specs.Splice.{part}
 use Rattle.md_kept_members.specs.Enrolling.{IsListAfter}
 use Rattle.md_kept_members.specs.View.{MemberView}
 use Rattle.md_model.specs.Content.{Content}
 use Rattle.md_model.specs.Events.{Event}
-use Rattle.md_super.specs.declared.superblock.Superblock.{Superblock}
 use Rattle.md_state.specs.DiskWrites.{AtDevice}
 use Rattle.md_state.specs.Members.{IsInSync, IsMember}
 use Rattle.md_state.specs.Missing.{is_missing}
 use Rattle.md_state.specs.View.{ArrayView, Disk, MirrorView, of_disks}
 use Rattle.md_array.specs.Steps.Enrol.{HoldsContent, KeepsData}
-use Rattle.md_array.specs.Steps.Lend.{IsBesideChunk, IsBesideMissing}
-use Rattle.md_array.specs.ReadAsKept.{IsSuperOn}
-use Rattle.md_array.specs.Worlds.{AreHonest, is_listed}
+use Rattle.md_array.specs.Steps.Lend.{IsBesideChunk}
+use Rattle.md_array.specs.Worlds.{AreHonest}
 use Rattle.md_array.specs.InTurn.{HaltsAt, Requests}
 use Rattle.md_metadata.specs.Storing.{IsFailureOf, IsRecording}
 use Rattle.md_pass.specs.Readings.{is_of}

@@ -46,9 +46,7 @@ pub(crate) fn enrol_copied<D: Device + Drop>(
         Err(_) => return Err(RebuildFault::NoMemory),
     };
     keep_missing(mirror, target, copied);
-    if let Err(fault) = enrol_filled(alloc, mirror, target, copied, &orphans) {
-        return Err(fault);
-    }
+    enrol_filled(alloc, mirror, target, copied, &orphans)?;
     Ok(Rebuilt {
         passes: plans.len() as u32,
         plans,

@@ -1,4 +1,12 @@
 //! What is copied to a member that lacks data, and from where.
+//!
+//! Start with `rebuild`, the whole call (`whole_rebuild.rt`), and `passes.rt`, its loop. `table` says what a
+//! rebuild would copy. What holds of a rebuild that is done is `HasRebuilt` in `specs/Rebuilt.antt`.
+//!
+//! ```
+//! let missing = table(alloc, &mirror, 1)?;
+//! let rebuilt = rebuild(rt, alloc, &mut mirror, 1, &gate)?;
+//! ```
 #![tactic(auto)]
 
 mod check_rebuild;

@@ -42,9 +42,7 @@ pub(crate) fn list_failed<D: Device + Drop>(
 {
     let slots = plan.slots.as_slice();
     for slot in slots {
-        if let Err(fault) = note_if_failed(alloc, mirror, copied, slot) {
-            return Err(fault);
-        }
+        note_if_failed(alloc, mirror, copied, slot)?;
     }
     Ok(())
 }
@@ -97,9 +95,7 @@ pub(crate) fn store_lists<D: Device + Drop>(
 {
     let slots = plan.slots.as_slice();
     for k in 0..mirror.members() {
-        if let Err(fault) = store_if_failed(mirror, slots, copied, k) {
-            return Err(fault);
-        }
+        store_if_failed(mirror, slots, copied, k)?;
     }
     Ok(())
 }

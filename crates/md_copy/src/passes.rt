@@ -64,28 +64,19 @@ pub(crate) fn copy_passes<D: Device + Drop + Send, G: Gate + Sync, R: Threads + 
     ensures sound { IsConsistent mirror.new }
 {
     let mut plans = Vec::new(alloc);
-    let mut rows = match table(alloc, mirror, target) {
-        Ok(rows) => rows,
-        Err(fault) => return Err(fault),
-    };
+    let mut rows = table(alloc, mirror, target)?;
     // Each pass but the last takes a chunk from what a member may give: there is at most one more of them than
     // chunks, counted for each member in sync.
     for _pass in 0..u64::MAX {
         if plans.reserve(1).is_err() {
             return Err(RebuildFault::NoMemory);
         }
-        let passed = match make_pass(rt, alloc, mirror, target, gate, &rows, copied) {
-            Ok(passed) => passed,
-            Err(fault) => return Err(fault),
-        };
+        let passed = make_pass(rt, alloc, mirror, target, gate, &rows, copied)?;
         if passed.failed == 0 {
             plans.push_reserved(passed.planned);
             return Ok(plans);
         }
-        rows = match list_and_go_on(alloc, mirror, target, &passed.planned.plan, copied) {
-            Ok(rows) => rows,
-            Err(fault) => return Err(fault),
-        };
+        rows = list_and_go_on(alloc, mirror, target, &passed.planned.plan, copied)?;
         plans.push_reserved(passed.planned);
     }
     unreachable!()
@@ -110,11 +101,8 @@ fn make_pass<D: Device + Drop + Send, G: Gate + Sync, R: Threads + Wait + Sync>(
         (FailsOne target rows.now copied.old copied.new mirror.old mirror.new) }
     ensures sound { IsConsistent mirror.new }
 {
-    let Prepared { planned, sources } = match prepare(alloc, mirror, target, rows) {
-        Ok(prepared) => prepared,
-        Err(fault) => return Err(fault),
-    };
-    let failed = match fill(
+    let Prepared { planned, sources } = prepare(alloc, mirror, target, rows)?;
+    let failed = fill(
         rt,
         alloc,
         mirror,
@@ -123,10 +111,7 @@ fn make_pass<D: Device + Drop + Send, G: Gate + Sync, R: Threads + Wait + Sync>(
         &planned.plan,
         sources.as_slice(),
         copied,
-    ) {
-        Ok(failed) => failed,
-        Err(fault) => return Err(fault),
-    };
+    )?;
     match mirror.checkpoint(target, copied) {
         Ok(()) => Ok(Passed { planned, failed }),
         Err(TargetFault::TargetFault) => Err(RebuildFault::TargetFault),
@@ -182,11 +167,7 @@ fn list_and_go_on<D: Device + Drop>(
     ensures gives { MatchResult result (GoesOnWith (failed_slots plan.now.slots copied.now) mirror.old mirror.new)
         (FailsBetween (failed_slots plan.now.slots copied.now) mirror.old mirror.new) }
 {
-    if let Err(fault) = list_failed(alloc, mirror, plan, copied) {
-        return Err(fault);
-    }
-    if let Err(fault) = store_lists(mirror, plan, copied) {
-        return Err(fault);
-    }
+    list_failed(alloc, mirror, plan, copied)?;
+    store_lists(mirror, plan, copied)?;
     table_of_failed(alloc, mirror, plan, copied)
 }

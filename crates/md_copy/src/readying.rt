@@ -31,18 +31,12 @@ pub(crate) fn make_ready<D: Device + Drop>(
         → MatchResult result (λ _. Readies target m mirror.old mirror.new) (RefusesToReady target mirror.old mirror.new) }
     ensures sound { IsConsistent mirror.new }
 {
-    if let Err(fault) = store_first(mirror, target) {
-        return Err(fault);
-    }
+    store_first(mirror, target)?;
     if !mirror.state(target).is_spare() {
         return Ok(());
     }
-    if let Err(fault) = admit_spare(alloc, mirror, target) {
-        return Err(fault);
-    }
-    if let Err(fault) = store_first(mirror, target) {
-        return Err(fault);
-    }
+    admit_spare(alloc, mirror, target)?;
+    store_first(mirror, target)?;
     Ok(())
 }
 

@@ -51,9 +51,7 @@ fn store_out_of_sync<D: Device + Drop>(
     ensures { MatchResult result (λ _. RecordsAll mirror.old mirror.new) (StoringEnds target mirror.old mirror.new) }
 {
     for k in 0..mirror.members() {
-        if let Err(fault) = store_if_due(mirror, target, k) {
-            return Err(fault);
-        }
+        store_if_due(mirror, target, k)?;
     }
     Ok(())
 }

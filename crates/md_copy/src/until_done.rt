@@ -31,8 +31,6 @@ fn store_due<D: Device + Drop>(mirror: &mut Mirror<D>) -> Result<(), PartFault>
     requires running { mirror.old.array.halted ≡ false }
     ensures { MatchResult result (λ _. RecordsAll mirror.old mirror.new) (StoringFails IsRecording mirror.old mirror.new) }
 {
-    if let Err(fault) = store_records(mirror) {
-        return Err(fault);
-    }
+    store_records(mirror)?;
     store_other_records(mirror)
 }

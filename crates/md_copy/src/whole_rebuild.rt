@@ -62,16 +62,12 @@ fn rebuild_by_steps<D: Device + Drop + Send, G: Gate + Sync, R: Threads + Wait +
     ensures gives { MatchResult result (λ told. Rebuilds target told mirror.old mirror.new) (RefusesRebuild target mirror.old mirror.new) }
     ensures sound { IsConsistent mirror.new }
 {
-    if let Err(fault) = check_rebuild(mirror, target) {
-        return Err(fault);
-    }
+    check_rebuild(mirror, target)?;
     let mut copied = match Marks::none(alloc, mirror.chunks().count()) {
         Ok(copied) => copied,
         Err(_) => return Err(RebuildFault::NoMemory),
     };
-    if let Err(fault) = make_ready(alloc, mirror, target) {
-        return Err(fault);
-    }
+    make_ready(alloc, mirror, target)?;
     match rebuild_readied(rt, alloc, mirror, target, gate, &mut copied) {
         Ok(told) => Ok(told),
         Err(fault) => {
@@ -99,14 +95,8 @@ fn rebuild_readied<D: Device + Drop + Send, G: Gate + Sync, R: Threads + Wait + 
     ensures leaves { IfErr result (MayRecordAtEnd target copied.new mirror.new) }
     ensures sound { IsConsistent mirror.new }
 {
-    let plans = match copy_passes(rt, alloc, mirror, target, gate, copied) {
-        Ok(plans) => plans,
-        Err(fault) => return Err(fault),
-    };
-    let told = match enrol_copied(alloc, mirror, target, plans, copied) {
-        Ok(told) => told,
-        Err(fault) => return Err(fault),
-    };
+    let plans = copy_passes(rt, alloc, mirror, target, gate, copied)?;
+    let told = enrol_copied(alloc, mirror, target, plans, copied)?;
     store_until_done(mirror);
     Ok(told)
 }

@@ -1,2 +1,2 @@
--- A device that stops with others, for tests.
+-- A device that crashes with others, for tests.
 pub mod Crashing

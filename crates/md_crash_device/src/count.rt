@@ -22,9 +22,9 @@ impl Model for Fuse {
 #[derive(Clone, Copy)]
 pub(crate) enum Passage {
     Passes,
-    /// It is the one at which the devices stop.
+    /// It is the one at which the devices crash.
     Stops,
-    /// They have stopped before.
+    /// They have crashed before.
     Fails,
 }
 
@@ -35,7 +35,7 @@ impl Fuse {
         Ok(Fuse { seen, writes })
     }
 
-    /// Shares the count with one more holder, as a device that stops with the others. `AllocError` comes only
+    /// Shares the count with one more holder, as a device that crashes with the others. `AllocError` comes only
     /// where the count has as many holders as a `usize` counts.
     pub fn share(&self) -> Result<Fuse, AllocError> {
         let seen = Arc::try_clone(&self.seen)?;

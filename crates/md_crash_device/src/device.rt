@@ -1,4 +1,4 @@
-// A device that stops with others, for tests.
+// A device that crashes with others, for tests.
 ghost use Rattle.std.specs.Prelude.{◌≡◌, ◌+◌, ◌*◌, ◌%◌, ◌<◌, ◌≤◌, length, true, OnOk, OnErr};
 ghost use Rattle.md_device.specs.Splice.{SameOutside};
 ghost use Rattle.md_device.specs.Device.{held, written};
@@ -9,7 +9,7 @@ use crate::count::{Fuse, Passage};
 use md_device::{Device, ReadFault, WriteFault};
 use std::marker::Model;
 
-/// A device over another one that stops when its fuse has let so many writes pass, of all devices that share it. Contracts
+/// A device over another one that crashes when its fuse has let so many writes pass, of all devices that share it. Contracts
 /// see it as the device below, from which sector on a write is torn, and a count.
 ///
 /// The next write fails. Where it begins at sector `torn_from` or later, the first half of its sectors, rounded down, is

@@ -1,5 +1,5 @@
 -- What stands on the devices after a write that failed, a crash within a write that failed might have left: so what is said of that holds of a
--- stop after it.
+-- crash after it.
 use Rattle.std.proofs.Common.{◌≡◌, ◌∙◌, inl, inr, ℕ, zero, suc, ◌*◌, ◌<◌, true, List, [], ◌∷◌, ◌++◌, drop, length, set, slice_get, Some, refl, sym, ap, subst, arith, length-set}
 use Rattle.std.specs.List.{All}
 use Rattle.std.proofs.Math.Seq.{drop-append_seam}

@@ -9,8 +9,8 @@ use Rattle.md_laws.specs.Left.{contents_of}
 use Rattle.md_laws.specs.Lives.{AreAllLeft, AreFoundAgain, IsAsLeft}
 use Rattle.md_laws.specs.Runs.{IsStart, opened_as}
 
--- The opening would have given this mirror, from devices whose stored marks covered what they differ in. It was stopped, or a write of it failed.
--- What it left of each device is as the whole opening leaves it, but for the marks of a bitmap that was not accepted.
+-- The opening would have given this mirror, from devices whose stored marks covered what they differ in. A crash came within it, or a write
+-- of it failed. What it left of each device is as the whole opening leaves it, but for the marks of a bitmap that was not accepted.
 abbrev pub LeavesAsOpened : Type 0
 LeavesAsOpened =
     (before : List Disk) (m : MirrorView) → IsStart before m → (left : List (List ℕ)) → IsHalfOpened m.array before left

@@ -1,4 +1,4 @@
-//! What holds of stops and of resyncs in the life of a mirror. The functions do nothing: their contracts are the theorems.
+//! What holds of crashes and of resyncs in the life of a mirror. The functions do nothing: their contracts are the theorems.
 
 ghost use Rattle.md_laws.specs.Lives.{AtEachMoment};
 ghost use Rattle.md_crash_laws.specs.Agreement.{AgreesAtRest, ResyncsAgree};
@@ -68,7 +68,7 @@ pub fn departed_devices()
     ensures starts { StartsSince }
 {}
 
-/// A first opening, of any devices whose stored marks cover what they differ in, that was stopped before its end, or of which a
+/// A first opening, of any devices whose stored marks cover what they differ in, within which a crash came, or of which a
 /// write failed that left the header of the bitmap. What it left of each is as the whole opening leaves it, but for the marks of a
 /// bitmap that is not accepted. So it may be opened as after a crash right after that opening, and what is said of lives is said
 /// of it.

@@ -1,4 +1,13 @@
-//! What looks back on stops and on resyncs, beyond the laws of `md_laws`: members in sync that agree, and writes that halted a mirror.
+//! What looks back on crashes and on resyncs, beyond the laws of `md_laws`: members in sync that agree, and
+//! writes that halted a mirror. But for `fresh_agreement` nothing runs: the functions of `laws` have empty
+//! bodies, and their contracts are the theorems.
+//!
+//! Start with `laws::members_agree`, and `AgreesAtRest` in `specs/Agreement.antt`, which it says of each
+//! moment of each life. That what the laws ask can be met is shown by a resync that runs, of a new array:
+//!
+//! ```
+//! let mirror = fresh_agreement(alloc, devices).ok_or("it was refused")?;
+//! ```
 #![tactic(auto)]
 
 mod fresh_array;

@@ -1,4 +1,13 @@
 //! New members of an array: what they say, and how they are laid out on their devices.
+//!
+//! Start with `create`, which makes the members of a new array, and `lay_out`, which writes one to its
+//! device. A spare for an array that is there is `new_spare`.
+//!
+//! ```
+//! let members = create(alloc, &params, &[Some(4096), Some(4096)])?;
+//! lay_out(&mut devices[0], &members[0])?;
+//! lay_out(&mut devices[1], &members[1])?;
+//! ```
 #![tactic(auto)]
 
 mod fault;

@@ -1,4 +1,4 @@
--- What stops leave over several calls, and within a write.
+-- What crashes leave over several calls, and within a write.
 use Rattle.std.proofs.Common.{◌≡◌, ℕ, ◌*◌, ◌+◌, ⊎_elim, ◌⊎◌, inr, List, [], ◌++◌, append_assoc, length, subst, take, drop, drop-drop, refl, sym, ap, ◌∙◌, inl, arith, Result, Ok, Err}
 use Rattle.std.proofs.lemmas.List.{append-nil, take_all, take-append-drop}
 use Rattle.std.proofs.lemmas.List.Elements.{All-append}

@@ -33,8 +33,8 @@ pub trait Device {
     /// How many calls have failed. On an honest device a call fails only where the count rises.
     ghost failures: { Self → ℕ };
 
-    /// What stops so far might have left, within calls and between two, in their order. Only what can't
-    /// be left is promised: a device that never stops has none.
+    /// What crashes so far might have left, within calls and between two, in their order. Only what can't
+    /// be left is promised: a device that never crashes has none.
     ghost crashes: { Self → List (List ℕ) };
 
     /// The number of sectors.
@@ -61,7 +61,7 @@ pub trait Device {
     /// Writes `bytes` from `sector` on. `Ok` means that they are on stable storage.
     ///
     /// A failed write leaves any bytes in its range, and no others changed. So does a crash within it; a
-    /// stop within one that answers `Ok` leaves each of its sectors as it was or as written.
+    /// crash within one that answers `Ok` leaves each of its sectors as it was or as written.
     fn write(&mut self, sector: u64, bytes: &[u8]) -> Result<(), WriteFault>
         requires whole { length bytes.now % 512 ≡ 0 }
         requires within { 512 * sector + length bytes.now ≤ length (content self.old) }

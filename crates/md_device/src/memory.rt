@@ -56,7 +56,7 @@ impl Device for MemDevice {
 
     ghost failures = { λ _. 0 };
 
-    // This device never stops, so nothing is kept. What contracts say of stops is of every device.
+    // This device never crashes, so nothing is kept. What contracts say of crashes is of every device.
     ghost crashes = { λ _. [] };
 
     fn sectors(&self) -> u64 {

@@ -1,4 +1,12 @@
 //! Writes to a device in their order: what stands on it then, and where one of them fails.
+//!
+//! Start with `put`, one write, and `store_bitmap`, several of them. `MakesWrites` in `specs/Writes.antt`
+//! says it of a list of writes.
+//!
+//! ```
+//! store_bitmap(device, 16, &member.header, &member.marks)?;
+//! put(device, SUPER_SECTOR, &block)?;
+//! ```
 #![tactic(auto)]
 
 mod bitmap;

@@ -1,4 +1,15 @@
-//! Why a step or a call of a mirror is refused, or fails: an enum for each, in the order in which its faults are looked for.
+//! Why a step or a call of a mirror is refused, or fails: an enum for each, in the order in which its faults
+//! are looked for.
+//!
+//! Start with the enum of the step in question, as `RemoveFault` of `Mirror::remove`. When each fault comes
+//! is a definition of `md_state` or `md_array` (`RefusesRemove`).
+//!
+//! ```
+//! let removed = mirror.remove(1);
+//! if let Err(RemoveFault::StillActive) = removed {
+//!     mirror.fail(1)?;
+//! }
+//! ```
 #![tactic(auto)]
 
 mod add_fault;

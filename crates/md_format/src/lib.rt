@@ -1,5 +1,13 @@
-//! What every on-disk layout of the array shares: little-endian fields, named by their place in a
-//! block of bytes, and refusals that come in a stated order.
+//! What every on-disk layout of the array shares: little-endian fields, named by their place in a block of
+//! bytes, and refusals that come in a stated order.
+//!
+//! Start with `u32_at` and `put_u32`: the others are the same of another width.
+//!
+//! ```
+//! let mut block = [0; 4096];
+//! put_u32(&mut block, 0, 0xa92b_4efc);
+//! let magic = u32_at(&block, 0);
+//! ```
 #![tactic(auto)]
 
 mod fields_at;

@@ -1,5 +1,14 @@
-//! Images by name: devices that are taken out under names and put back, images in memory, and
-//! overlays laid over devices that are only looked at.
+//! Images by name: devices that are taken out under names and put back, images in memory, and overlays laid
+//! over devices that are only looked at.
+//!
+//! Start with the trait `Images`, and with `take_images` and `put_back`: a command has all its images, or
+//! none.
+//!
+//! ```
+//! let words = image_list(alloc, &["sda.img", "sdb.img"], false)?;
+//! let devices = take_images(alloc, Access::Look, &mut images, &words)?;
+//! put_back(&mut images, &words, devices);
+//! ```
 #![tactic(auto)]
 
 mod access;

@@ -41,7 +41,7 @@ impl<'a, D: SharedRead> Device for Seen<'a, D> {
 
     ghost failures = { λ s. s.failed };
 
-    // What is only looked at is left as it is, so nothing more is promised of a stop.
+    // What is only looked at is left as it is, so nothing more is promised of a crash.
     ghost crashes = { λ _. [] };
 
     fn sectors(&self) -> u64 {

@@ -1,5 +1,15 @@
-//! The requests in flight: a list of items that each hold a span of sectors, in order of entry. Each
-//! has a number of its own, and whoever entered it a ticket by which it is found and taken out.
+//! The requests in flight: a list of items that each hold a span of sectors, in order of entry. Each has a
+//! number of its own, and whoever entered it a ticket by which it is found and taken out.
+//!
+//! Start with `Inflight`. It is a linked list over raw pointers, which contracts see as a list of numbers and
+//! items.
+//!
+//! ```
+//! let mut list = Inflight::new(alloc);
+//! let ticket = list.push_back('a')?;
+//! *list.get_mut(&ticket) = 'b';
+//! let item = list.remove(ticket);
+//! ```
 #![tactic(auto)]
 
 mod book;

@@ -1,4 +1,15 @@
-//! What a mirror keeps in memory of each member, without its device, and what is found by going through a list of members.
+//! What a mirror keeps in memory of each member, without its device, and what is found by going through a
+//! list of members.
+//!
+//! Start with `Member`, and `members_of`, which makes members of what was read. The other functions each
+//! answer one question on a list of them.
+//!
+//! ```
+//! let members = members_of(alloc, infos, &assembly.states, events)?;
+//! let marks = united_marks(alloc, &members, chunks.count())?;
+//! let resynced = is_resynced(&members, &marks);
+//! let roles = permitted_roles(&members, chunks, chunk);
+//! ```
 #![tactic(auto)]
 
 mod agreement;

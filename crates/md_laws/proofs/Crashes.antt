@@ -30,7 +30,7 @@ pub mod CopyCrashes
 pub mod CallCrashes
 -- A member that `re_add` has taken back, and what a crash within that call leaves of it.
 pub mod TakenBack
--- What a device tells of stops after a call that is a list of events, it tells of one of them.
+-- What a device tells of crashes after a call that is a list of events, it tells of one of them.
 pub mod ToldCrashes
 -- What a crash within `add` leaves.
 pub mod WithinAdd

@@ -42,7 +42,7 @@ abbrev pub IsBesideEvent : Event → MirrorView → MirrorView → List Disk →
 IsBesideEvent e old new left = (contents_of left ≡ contents_of old.disks) ⊎ (LeftWhole old e new × (contents_of left ≡ contents_of new.disks))
 
 -- What is asked of what a crash left within one of these events. Of a superblock what `crashes_at_steps` asks; of a log that is stored, that it
--- changes in its first sector alone. Of the steps of a write, a crash and a resync nothing else is asked, whether they are done or fail. But the
+-- changes in its first sector alone. Of the steps of a write, a `stop` and a resync nothing else is asked, whether they are done or fail. But the
 -- sectors of a copy are an event each: within one the crash is told by the write that copies them all (`CopyCrashes`). Where a device comes,
 -- comes back or leaves, and where a member that is rebuilt tells of it, the crash is told by the call (`crashes_at_steps`, `Left`): here only
 -- before it and after it.
@@ -141,7 +141,7 @@ CrashesAtHalts =
     → (left : List Disk) → MayAllBeLeft mid.disks new.disks (contents_of left) → IsLeftHalting failing mid left → IsCrashOf es t left))
 
 -- ---- each crash of which a device tells
--- The devices stand where they stood, and each tells of the stops, at the steps of a write, of a crash and of
+-- The devices stand where they stood, and each tells of the crashes, at the steps of a write, of a `stop` and of
 -- a resync. Of a copy the write of a run of sectors tells.
 abbrev pub IsToldOf : Event → Type 0
 IsToldOf (Event.Copy from k s) = ⊥

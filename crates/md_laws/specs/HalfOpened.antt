@@ -1,4 +1,4 @@
--- What an interrupted open leaves: it was stopped, or one of its writes failed. Its own contract says what that may be.
+-- What an interrupted open leaves: a crash came within it, or one of its writes failed. Its own contract says what that may be.
 use Rattle.std.specs.Prelude.{◌≡◌, ◌⊎◌, ℕ, List, map, slice_get, Some}
 use Rattle.md_kept_members.specs.View.{MemberView}
 use Rattle.md_state.specs.View.{Disk, ArrayView}

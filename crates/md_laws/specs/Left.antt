@@ -51,7 +51,7 @@ pub record IsLeftWriting (t : Moment) (left : List Disk) : Type 0 where
   pub within : IsLeftWithin t next left
 
 -- What is left within `record` or `record_target`, whatever comes of the write, where it left the old
--- superblock, the new one or none: a premise on such stops.
+-- superblock, the new one or none: a premise on such crashes.
 pub record IsLeftRecording (t : Moment) (left : List Disk) : Type 0 where
   pub on : ℕ
   pub next : MirrorView

@@ -52,7 +52,7 @@ failed_then t k f = then_as t f.event f.mirror f.requests
 -- A member that was in sync fails at any moment of a mirror's life. As long as some role stays empty after
 -- that, its device, as the failure left it, differs from the content only in chunks that are marked, in
 -- memory and on each member in sync. That is said of sectors that its log does not list. Meanwhile other
--- members may fail, leave and come, it may leave itself, and the mirror may be stopped and opened again, from
+-- members may fail, leave and come, it may leave itself, and the mirror may crash and be opened again, from
 -- some of its devices.
 abbrev pub LiesBehind : Type 0
 LiesBehind =
@@ -112,7 +112,7 @@ MissingLiesBehind =
     → IsBehind (geometry_of m.array) d (stored_of t.mirror.array r.member r.device.content) (world_of last.mirror last.requests)
 
 -- ---- it is taken back
--- A device is still as it was left, but for its bitmap, which openings that were stopped may have written.
+-- A device is still as it was left, but for its bitmap, which openings within which a crash came may have written.
 abbrev pub IsStill : MemberView → List ℕ → List ℕ → Type 0
 IsStill m left now = SameOutside (512 * sector_from_super m.superblock.bitmap_offset) (512 * bitmap_sectors m.stored.chunks) left now
 

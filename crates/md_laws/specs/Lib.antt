@@ -1,4 +1,4 @@
--- What an interrupted open leaves: it was stopped, or one of its writes failed. Its own contract says what that may be.
+-- What an interrupted open leaves: a crash came within it, or one of its writes failed. Its own contract says what that may be.
 pub mod HalfOpened
 -- Lists of events of a mirror, from its opening on: each is done by a call, as the calls' contracts say (`Does`). Between them
 -- devices may be read, and reads may fail: that is no event, and the world stays.

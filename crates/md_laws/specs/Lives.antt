@@ -22,7 +22,7 @@ use Rattle.md_laws.specs.HalfOpened.{IsHalfOpened}
 use Rattle.md_laws.specs.Left.{IsLeftByCrash, IsLeftWriting}
 use Rattle.md_laws.specs.Runs.{IsStart, MirrorRun, MirrorRunTellsEnrolments, MirrorRunWith, Moment, history_of, opened_as}
 
--- A device is as it was left; but openings that were themselves stopped may have written its bitmap. Then no chunk lost its
+-- A device is as it was left; but openings within which a crash came may have written its bitmap. Then no chunk lost its
 -- mark, and the header has the chunk size that it had.
 pub record IsAsLeft (a : ArrayView) (m : MemberView) (left now : List ℕ) : Type 0 where
   pub outside : SameOutside (512 * sector_from_super m.superblock.bitmap_offset) (512 * bitmap_sectors m.stored.chunks) left now

@@ -47,7 +47,7 @@ pub fn opening()
 
 /// What looks back, at each moment of a mirror's life. It was opened from devices that do what they
 /// answer, whose stored marks covered what they differ in. Calls did events, any of them in any order. It
-/// was stopped between two calls or within one, and opened again from some of the devices that were left;
+/// crashed between two calls or within one, and was opened again from some of the devices that were left;
 /// and so on.
 ///
 /// An event is what a call's contract says of it (`Does`): a step that answered Ok, or a write that failed
@@ -69,7 +69,7 @@ pub fn opening()
 /// them in sync, which is asked only of those that nothing shuts out (`finds_out`). Its superblock is fit, which leaves
 /// out a crash while a failure awaits its record. The bitmap's header of a member that was rebuilt may be any: where that
 /// member's device is the one that has recorded the last failure, a member that was in sync is there too, or this header
-/// tells of chunks as wide (`IsAsWide`). Openings that were themselves stopped may have written bitmaps
+/// tells of chunks as wide (`IsAsWide`). Openings within which a crash came may have written bitmaps
 /// between, if no chunk lost its mark and the header kept its chunk size (`half_opening`). Nothing is said of a mirror
 /// once it is halted.
 pub fn every_run()
@@ -136,7 +136,7 @@ pub fn returning_devices()
 /// What a member that was in sync and failed, by a call or by a write, has of the array's content from then on, as
 /// long as some role has no member in sync: all but the marked chunks. So where it is taken back as the failure left it,
 /// the chunks that `missing` names suffice; that each device that `re_add` takes back is such a one is not said. It
-/// may leave by `remove`, and the mirror may be stopped, at any moment of any of its calls, and opened again: so it is
+/// may leave by `remove`, and a crash may come at any moment of any of its calls, and then the next opening: so it is
 /// over each life that goes on from there. It is so too of a member that was in sync at a crash, as the crash left it, whatever the
 /// next opening finds of it: it may be missing there, as one whose cable was pulled. The log of one whose log could not be stored may
 /// be any: of it that is said in sectors that it did not list before, and that what counts of it does not list.
@@ -170,7 +170,7 @@ pub fn recovering_members()
 {}
 
 /// An interrupted open of a mirror's devices, at any moment of its life, leaves each as it was left, so that
-/// the next open may find it. It was stopped, or one of its writes failed: what that leaves of a device is what
+/// the next open may find it. A crash came within it, or one of its writes failed: what that leaves of a device is what
 /// the contract of `open` gives. A failed write of a bitmap's first sector has to have left the header. The
 /// superblock that the open went by has to have recorded the last failure. An open that makes no array leaves
 /// every device untouched, by its contract.

@@ -85,7 +85,7 @@ pub fn call_crashes()
     ensures steps { CrashesAtSteps }
     ensures halts { CrashesAtHalts }
 
-    // What the devices tell of stops after such a call, they tell of one of its steps.
+    // What the devices tell of crashes after such a call, they tell of one of its steps.
     ensures told { CrashesAreTold }
 {}
 

@@ -88,7 +88,7 @@ impl<D: Device> Device for MaskedDevice<D> {
 
     ghost failures = { λ d. d.refused + D.failures d.inner };
 
-    // The mask goes with the device, so nothing is promised of a stop.
+    // The mask goes with the device, so nothing is promised of a crash.
     ghost crashes = { λ _. [] };
 
     fn sectors(&self) -> u64 {

@@ -75,14 +75,8 @@ impl<I: Images> MaskedImages<I> {
         ensures masks { self.new.masks ≡ self.old.masks }
         ensures images { KeepsAll I.Images self.old.images self.new.images }
     {
-        let size = match size_of(&mut self.images, name) {
-            Ok(size) => size,
-            Err(fault) => return Err(LackingFault::Image(fault)),
-        };
-        match read_map(self.alloc, map, size) {
-            Ok(missing) => Ok(missing),
-            Err(fault) => Err(LackingFault::Map(fault)),
-        }
+        let size = size_of(&mut self.images, name).map_err(LackingFault::Image)?;
+        read_map(self.alloc, map, size).map_err(LackingFault::Map)
     }
 }
 

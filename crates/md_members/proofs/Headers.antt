@@ -1,5 +1,6 @@
 -- The header that was read.
-use Rattle.std.proofs.Common.{◌≡◌, ℕ, ◌*◌, ◌/◌, Bool, List, length, subst, sym, arith}
+use Rattle.std.proofs.Common.{◌≡◌, ℕ, ◌*◌, ◌/◌, Bool, List, length, Result, Ok, subst, sym, arith}
+use Rattle.std.specs.Prelude.{IfOk, OnOk}
 use Rattle.md_super.specs.declared.superblock.Superblock.{Superblock}
 use Rattle.md_format.specs.FirstFault.{IsFirst}
 use Rattle.md_bitmap.specs.declared.header.BitmapHeader.{BitmapHeader}
@@ -10,14 +11,15 @@ use Rattle.md_bitmap.specs.Marks.{Bitmap}
 use Rattle.md_members.specs.Areas.{AreAreasPlaced}
 use Rattle.md_members.specs.Reading.{BitmapStartsAt, IsMarks, IsRead, ReadsHeader, ReadsHeaderFault, front_of}
 
-pub header_read : (content : List ℕ) (honest : Bool) (v : Superblock) (h : BitmapHeader) (start : ℕ) (sector front : List ℕ) → BitmapStartsAt v start → IsRead content honest start 512 sector → front ≡ front_of sector → IsHeader front h → NoneStands front → ReadsHeader content honest v h
-header_read content honest v h start sector front at read e fields sound = record {
+pub header_read : (content : List ℕ) (honest : Bool) (v : Superblock) (h : BitmapHeader) (start : ℕ) (sector front : List ℕ) (own : Result BitmapHeader BitmapFault) → own ≡ Ok h
+    → BitmapStartsAt v start → IsRead content honest start 512 sector → front ≡ front_of sector → IfOk own (λ x. IsHeader front x) → OnOk own (NoneStands front) → ReadsHeader content honest v h
+header_read content honest v h start sector front own is at read e fields sound = record {
   start = start;
   at = at;
   sector = sector;
   read = read;
-  fields = subst (λ (bytes : List ℕ). IsHeader bytes h) e fields;
-  sound = subst (λ (bytes : List ℕ). NoneStands bytes) e sound;
+  fields = subst (λ (bytes : List ℕ). IsHeader bytes h) e (subst (λ (r : Result BitmapHeader BitmapFault). IfOk r (λ x. IsHeader front x)) is fields);
+  sound = subst (λ (bytes : List ℕ). NoneStands bytes) e (subst (λ (r : Result BitmapHeader BitmapFault). OnOk r (NoneStands front)) is sound);
 }
 
 pub header_refused : (content : List ℕ) (honest : Bool) (v : Superblock) (f : BitmapFault) (start : ℕ) (sector front : List ℕ) → BitmapStartsAt v start → IsRead content honest start 512 sector → front ≡ front_of sector → IsFirst (BitmapFaultStands front) bitmap_fault_place f → ReadsHeaderFault content honest v f

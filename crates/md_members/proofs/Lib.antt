@@ -1,3 +1,4 @@
 pub mod Headers
 pub mod Refusals
 pub mod Untouched
+pub mod Wrapped

@@ -1,4 +1,4 @@
--- Stops over several calls that only read.
+-- Crashes over several calls that only read.
 use Rattle.std.proofs.Common.{◌≡◌, Bool, true, List, ℕ, ◌∙◌}
 use Rattle.md_device.specs.Crashes.{LeavesMore}
 use Rattle.md_device.proofs.Leaving.{leaves_less, leaves_then}

@@ -31,13 +31,8 @@ pub(crate) fn read_bitmap<D: Device>(
     let device_sectors = device.sectors();
     let start = start_of_bitmap(v, device_sectors);
     let mut sector = [0; 512];
-    if let Err(fault) = read_sectors(device, start, &mut sector) {
-        return Err(fault);
-    }
-    let header = match BitmapHeader::decode(&array_at(&sector, 0)) {
-        Ok(header) => header,
-        Err(fault) => return Err(MemberFault::Bitmap(fault)),
-    };
+    read_sectors(device, start, &mut sector)?;
+    let header = BitmapHeader::decode(&array_at(&sector, 0)).map_err(MemberFault::Bitmap)?;
     if !has_few_chunks(v.size, header.chunksize) {
         return Err(MemberFault::Bitmap(BitmapFault::TooManyChunks));
     }
@@ -82,9 +77,7 @@ fn read_marks<D: Device>(
     let Ok(mut area) = zeros(alloc, 512 * sectors as usize) else {
         return Err(MemberFault::NoMemory);
     };
-    if let Err(fault) = read_sectors(device, start, &mut area) {
-        return Err(fault);
-    }
+    read_sectors(device, start, &mut area)?;
     match Marks::from_bytes(alloc, chunks, &area[256..]) {
         Ok(marks) => Ok(marks),
         Err(_) => Err(MemberFault::NoMemory),

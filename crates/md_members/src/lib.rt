@@ -1,4 +1,13 @@
 //! The members of an array, read from their devices.
+//!
+//! Start with `read_member`, which reads a superblock, its bitmap and its bad block log; `read_super` reads
+//! the first alone. Whether the bitmap tells of the array is `accepted`.
+//!
+//! ```
+//! let info = read_member(alloc, &mut device)?;
+//! let events = info.superblock.events;
+//! let lists = info.bad.meets(info.superblock.data_offset, 8);
+//! ```
 #![tactic(auto)]
 
 mod area;

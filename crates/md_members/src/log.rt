@@ -33,9 +33,7 @@ pub(crate) fn read_log<D: Device>(
     let start = start_of_log(v, device.sectors());
     let mut buffer = [0; MOST_BYTES];
     let area = &mut buffer[..512 * v.bblog_size as usize];
-    if let Err(fault) = read_sectors(device, start, area) {
-        return Err(fault);
-    }
+    read_sectors(device, start, area)?;
     match BadSet::from_log(alloc, area, v.bblog_shift) {
         Ok(bad) => Ok(bad),
         Err(LogFault::Shift) => Err(MemberFault::Log(LogFault::Shift)),

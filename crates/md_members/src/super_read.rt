@@ -24,9 +24,7 @@ pub fn read_super<D: Device>(alloc: Global, device: &mut D) -> Result<Superblock
         return Err(MemberFault::TooShort);
     }
     let mut block = [0; 4096];
-    if let Err(fault) = read_sectors(device, SUPER_SECTOR, &mut block) {
-        return Err(fault);
-    }
+    read_sectors(device, SUPER_SECTOR, &mut block)?;
     match decode(alloc, &block) {
         Ok(v) => Ok(v),
         Err(fault) => match fault {

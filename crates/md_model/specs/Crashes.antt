@@ -24,7 +24,7 @@ pub record IsTorn (g : Geometry) (w : World) (cut : ℕ → Stored) : Type 0 whe
 abbrev pub MayStandAtCrash : Geometry → World → (ℕ → Stored) → Type 0
 MayStandAtCrash g w cut = (cut ≡ w.stored) ⊎ IsTorn g w cut
 
--- Openings that were themselves stopped may have stored all marks on it, or some sectors of them under a bitmap that is not accepted.
+-- Openings within which a crash came may have stored all marks on it, or some sectors of them under a bitmap that is not accepted.
 pub record IsHalfOpened (g : Geometry) (cut left : Stored) : Type 0 where
   pub super : left.super ≡ cut.super
   pub content : left.content ≡ cut.content

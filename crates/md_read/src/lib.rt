@@ -1,4 +1,11 @@
 //! Reading an array: one that is resynced, and one that is not, as a resync would leave it.
+//!
+//! Start with `read`. `read_unresynced` gives what `read` would give if the array were resynced before.
+//!
+//! ```
+//! let mut sector = [0; 512];
+//! read(&mut mirror, 8, &mut sector)?;
+//! ```
 #![tactic(auto)]
 
 mod fault;

@@ -1,5 +1,5 @@
 -- A rebuild that ends with a fault once passes may be made: up to where it is recorded a last time how far its target is rebuilt it is a run, and a
--- stop while that is recorded is one of a run, too.
+-- crash while that is recorded is one of a run, too.
 use Rattle.std.specs.Prelude.{◌≡◌, ◌⊎◌, ℕ, true, List, None}
 use Rattle.std.proofs.Common.{inl, inr}
 use Rattle.md_assembly.specs.States.{is_recovering}

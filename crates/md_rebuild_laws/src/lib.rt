@@ -1,4 +1,12 @@
-//! What looks back on rebuilds: a rebuild in the life of a mirror.
+//! What looks back on rebuilds: a rebuild in the life of a mirror. Nothing here runs: the functions of `laws`
+//! have empty bodies, and their contracts are the theorems.
+//!
+//! Start with `laws::rebuilt_in_life`, and `RebuildsContent` in `specs/RebuiltInLife.antt`: what the member
+//! holds after this call, wherever the life of the mirror had come to.
+//!
+//! ```
+//! let rebuilt = rebuild(rt, alloc, &mut mirror, 1, &gate)?;
+//! ```
 #![tactic(auto)]
 
 pub mod laws;

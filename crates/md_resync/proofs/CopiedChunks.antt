@@ -20,7 +20,7 @@ use Rattle.md_resync.specs.Copying.{AgreesTo, CopiesOnly, CopiesChunk, CopiesIfM
 use Rattle.md_resync.specs.Sources.{NoneFree}
 use Rattle.md_resync.proofs.CopiedRuns.{all_given_agree, copies_as, copies_none, copies_read, copies_then, halts_then, loses_then, read_agrees}
 
--- ---- where it stops after some copies
+-- ---- where it ends after some copies
 pub giving_fails : (Of : ℕ → Type 0) (old mid new : MirrorView) (fault : ResyncFault) → CopiesOnly Of old mid → GivingFails mid new fault → GivingFails old new fault
 giving_fails Of old mid new Halted g h = halts_then Of old mid new g h
 giving_fails Of old mid new (InFlight n) g h = h

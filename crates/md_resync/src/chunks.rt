@@ -38,10 +38,8 @@ fn copy_run<D: Device + Drop>(
     if mirror.read_data(from, sector, bytes).is_err() {
         return Err(ResyncFault::ReadFault(from, chunk));
     }
-    match copy_to_members(mirror, from, sector, bytes, held, unread) {
-        Ok(()) => Ok(next),
-        Err(fault) => Err(fault),
-    }
+    copy_to_members(mirror, from, sector, bytes, held, unread)?;
+    Ok(next)
 }
 
 // Copies a chunk.
@@ -63,10 +61,7 @@ fn copy_chunk<D: Device + Drop>(
     let end = start + sectors;
     let mut sector = start;
     while sector < end {
-        sector = match copy_run(mirror, chunk, sector, end, buffer, held, unread) {
-            Ok(next) => next,
-            Err(fault) => return Err(fault),
-        };
+        sector = copy_run(mirror, chunk, sector, end, buffer, held, unread)?;
     }
     Ok(())
 }
@@ -89,10 +84,7 @@ fn copy_if_marked<D: Device + Drop>(
     if !mirror.marks().is_marked(chunk) {
         return Ok(());
     }
-    match copy_chunk(mirror, chunk, buffer, held, unread) {
-        Ok(()) => Ok(()),
-        Err(fault) => Err(fault),
-    }
+    copy_chunk(mirror, chunk, buffer, held, unread)
 }
 
 /// Copies each chunk that is marked. Takes no memory.
@@ -109,9 +101,7 @@ pub(crate) fn copy_marked<D: Device + Drop>(
 {
     let mut unread = 0;
     for chunk in 0..mirror.chunks().count() {
-        if let Err(fault) = copy_if_marked(mirror, chunk, buffer, held, &mut unread) {
-            return Err(fault);
-        }
+        copy_if_marked(mirror, chunk, buffer, held, &mut unread)?;
     }
     Ok(())
 }

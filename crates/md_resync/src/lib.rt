@@ -1,7 +1,13 @@
-//! A resync: the members in sync are made to agree in the chunks that are marked, and the marks are cleared, by the
-//! steps alone.
+//! A resync: the members in sync are made to agree in the chunks that are marked, and the marks are cleared,
+//! by the steps alone.
 //!
-//! `resync` is the whole call. `make_agree` is its copying, for a caller that stores the marks itself.
+//! Start with `resync`, the whole call (`whole.rt`). `make_agree` is its copying, for a caller that stores
+//! the marks itself. That its steps are runs of the mirror is `steps::every_step`.
+//!
+//! ```
+//! resync(alloc, &mut mirror)?;
+//! let resynced = mirror.resynced();
+//! ```
 #![tactic(auto)]
 
 mod buffer;

@@ -27,10 +27,7 @@ pub fn make_agree<D: Device + Drop>(
     if !has_two_in_sync(mirror) {
         return Ok(());
     }
-    match copy_marked(mirror, buffer, held) {
-        Ok(()) => Ok(()),
-        Err(fault) => Err(fault),
-    }
+    copy_marked(mirror, buffer, held)
 }
 
 // Whether more than one member is in sync: where one is alone, it is not read.

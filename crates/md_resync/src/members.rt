@@ -24,9 +24,7 @@ pub(crate) fn copy_to_members<D: Device + Drop>(
     ensures { MatchResult result (λ _. GivesAll sector bytes.now mirror.old mirror.new) (GivingFails mirror.old mirror.new) }
 {
     for k in 0..mirror.members() {
-        if let Err(fault) = copy_to(mirror, from, k, sector, bytes, held, unread) {
-            return Err(fault);
-        }
+        copy_to(mirror, from, k, sector, bytes, held, unread)?;
     }
     Ok(())
 }

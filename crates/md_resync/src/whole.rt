@@ -70,12 +70,8 @@ fn resync_through<D: Device + Drop>(
     ensures gives { MatchResult result (λ _. Resyncs mirror.old mirror.new) (IdleFails mirror.old mirror.new) }
     ensures sound { IsConsistent mirror.new }
 {
-    if let Err(fault) = store_memory_marks(mirror) {
-        return Err(fault);
-    }
-    if let Err(fault) = make_agree(mirror, buffer, held) {
-        return Err(fault);
-    }
+    store_memory_marks(mirror)?;
+    make_agree(mirror, buffer, held)?;
     mirror.note_resynced();
     clear_stored(mirror)
 }

@@ -1,4 +1,12 @@
 //! A sink into a new file in which blocks of zeros become holes, and why such a file is not made.
+//!
+//! Start with `Sparse`, which is given any `HoleFile`.
+//!
+//! ```
+//! let mut out = Sparse::new(file);
+//! out.put(&block)?;
+//! out.flush()?;
+//! ```
 #![tactic(auto)]
 
 mod fault;

@@ -19,7 +19,7 @@ pub mod Enrol
 pub mod Fail
 -- A request that each member in sync has is no longer in flight.
 pub mod Finish
--- An active array becomes clean, as at a crash.
+-- An active array becomes clean, as at a `stop`.
 pub mod MakeClean
 -- A chunk in which a member could not be read is listed as bad, in memory alone (rdev_set_badblocks of the kernel's md driver; that
 -- its log is stored apart is this project's own).

@@ -1,4 +1,12 @@
 //! The version 1.2 superblock of an md RAID-1 array.
+//!
+//! Start with `decode`, which refuses what it must in a stated order, and `Superblock`, what it gives.
+//!
+//! ```
+//! let superblock = decode(alloc, &block)?;
+//! let role = superblock.role_of(superblock.dev_number);
+//! superblock.encode(&mut block);
+//! ```
 #![tactic(auto)]
 
 mod decoding;

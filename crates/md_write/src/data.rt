@@ -52,9 +52,7 @@ pub(crate) fn write_to_members<D: Device + Drop>(
     ensures { MatchResult result (λ _. WritesToAll pending.old pending.new mirror.old mirror.new) (WritingFails Part.Bytes pending.old pending.new mirror.old mirror.new) }
 {
     for k in 0..mirror.members() {
-        if let Err(fault) = write_to(mirror, pending, k) {
-            return Err(fault);
-        }
+        write_to(mirror, pending, k)?;
     }
     Ok(())
 }

@@ -1,4 +1,10 @@
 //! Writing to an array, by the steps of a request alone.
+//!
+//! Start with `write`, the whole call. What a crash leaves within it is a law, `laws::within_write`.
+//!
+//! ```
+//! write(&mut mirror, 8, &[0xa5; 512])?;
+//! ```
 #![tactic(auto)]
 
 mod chunks;

@@ -51,9 +51,7 @@ fn store_member_marks<D: Device + Drop>(
     ensures { MatchResult result (λ _. StoresAt (IsMarkingOf first end) k (HasMarksFrom first end) mirror.old mirror.new) (StoringFails (IsMarkingOf first end) mirror.old mirror.new) }
 {
     for block in block_of(first)..block_of(end - 1) + 1 {
-        if let Err(fault) = store_lacking(mirror, k, block, first, end) {
-            return Err(fault);
-        }
+        store_lacking(mirror, k, block, first, end)?;
     }
     Ok(())
 }
@@ -70,9 +68,7 @@ pub(crate) fn store_marks_of_chunks<D: Device + Drop>(
     ensures { MatchResult result (λ _. StoresAll (IsMarkingOf first end) (HasMarksFrom first end) mirror.old mirror.new) (StoringFails (IsMarkingOf first end) mirror.old mirror.new) }
 {
     for k in 0..mirror.members() {
-        if let Err(fault) = store_member_marks(mirror, k, first, end) {
-            return Err(fault);
-        }
+        store_member_marks(mirror, k, first, end)?;
     }
     Ok(())
 }

@@ -25,15 +25,9 @@ fn write_once<D: Device + Drop>(
     requires chunks { AreChunksOf mirror.old.array pending.old first end }
     ensures { MatchResult result (λ _. IsReadyToFinish pending.old pending.new mirror.old mirror.new) (WritingFails Part.Marks pending.old pending.new mirror.old mirror.new) }
 {
-    if let Err(fault) = store_marks_of_chunks(mirror, first, end) {
-        return Err(fault);
-    }
-    if let Err(fault) = store_records(mirror) {
-        return Err(fault);
-    }
-    if let Err(fault) = store_other_records(mirror) {
-        return Err(fault);
-    }
+    store_marks_of_chunks(mirror, first, end)?;
+    store_records(mirror)?;
+    store_other_records(mirror)?;
     write_to_members(mirror, pending)
 }
 
@@ -75,15 +69,10 @@ pub fn write<D: Device + Drop>(
     ensures sound { IsConsistent mirror.new }
     ensures pending { (other : PendingView) → IsPending mirror.old.array other → IsPending mirror.new.array other }
 {
-    let mut pending = match mirror.begin(sector, bytes) {
-        Ok(pending) => pending,
-        Err(fault) => return Err(fault),
-    };
+    let mut pending = mirror.begin(sector, bytes)?;
     let sectors = pending.sectors();
     let (first, end) = mirror.chunks().chunks_of(sector, sectors);
-    if let Err(fault) = write_all(mirror, &mut pending, first, end) {
-        return Err(fault);
-    }
+    write_all(mirror, &mut pending, first, end)?;
     match mirror.finish(pending) {
         Ok(()) => Ok(()),
         Err(_) => unreachable!(),

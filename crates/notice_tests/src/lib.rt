@@ -1,5 +1,12 @@
-//! Tests of what is noticed of images: what a device holds by its magic numbers, and which sectors a copy lacks; and of
-//! reports as JSON.
+//! Tests of what is noticed of images: what a device holds by its magic numbers, and which sectors a copy
+//! lacks; and of reports as JSON.
+//!
+//! Start with the file of what is tested, as `maps.rt`. A comparison is a call of `checks.rt`.
+//!
+//! ```
+//! let missing = read_map(alloc, WRITTEN, 128)?;
+//! same_at(rt, &"the runs", missing.runs().len(), 2);
+//! ```
 #![tactic(auto)]
 
 #[cfg(test)]

@@ -1,5 +1,12 @@
-//! Tests of what stands below the mirror: superblocks, bitmaps, bad block logs, requests in flight, plans and their checker, what
-//! a collector takes, and image files.
+//! Tests of what stands below the mirror: superblocks, bitmaps, bad block logs, requests in flight, plans and
+//! their checker, what a collector takes, and image files.
+//!
+//! Start with the file of what is tested, as `bad_block_logs.rt`. A comparison is a call of `checks.rt`.
+//!
+//! ```
+//! let set = BadSet::from_log(rt.alloc(), &SHIFTED, 1)?;
+//! holds(&rt, "it lists a sector", set.meets(2000, 1));
+//! ```
 #![tactic(auto)]
 
 #[cfg(test)]

@@ -15,7 +15,7 @@ impl<D: Device + Drop> Mirror<D> {
     /// superblocks of the others later. The fault is the first in the order of `FailFault`. It takes no
     /// memory.
     ///
-    /// That the member has failed stands in the superblocks of the others alone. Where the machine stops
+    /// That the member has failed stands in the superblocks of the others alone. Where the machine crashes
     /// before one of them is stored, the next opening may find it in sync.
     pub fn fail(&mut self, k: usize) -> Result<(), FailFault>
         requires within { k < length self.old.array.members }

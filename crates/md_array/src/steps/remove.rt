@@ -23,9 +23,7 @@ impl<D: Device + Drop> Mirror<D> {
         ensures sound { IsConsistent self.new }
         ensures pending { (p : PendingView) → IsPending self.old.array p → IsPending self.new.array p }
     {
-        if let Err(fault) = self.array.remove_member(k) {
-            return Err(fault);
-        }
+        self.array.remove_member(k)?;
         Ok(self.devices.remove(k))
     }
 }

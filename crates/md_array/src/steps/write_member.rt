@@ -31,9 +31,7 @@ impl<D: Device + Drop> Mirror<D> {
         ensures still { IsPending self.new.array pending.new }
         ensures pending { (other : PendingView) → IsPending self.old.array other → IsPending self.new.array other }
     {
-        if let Err(fault) = self.array.check_write(pending, k) {
-            return Err(fault);
-        }
+        self.array.check_write(pending, k)?;
         let own = self.own(k);
         let number = own.dev_number;
         let start = own.data_offset;

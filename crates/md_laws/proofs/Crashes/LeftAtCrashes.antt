@@ -785,7 +785,7 @@ module _ (Beside : ℕ → Type 0) (t : Moment) (at : IsSoundAt t) where
   sorted_beside left (inr (inr (inr (inr (inr (inr (inr (inr (inr (inr (inl l))))))))))) none = targeting left l
   sorted_beside left (inr (inr (inr (inr (inr (inr (inr (inr (inr (inr (inr l))))))))))) none = targeted left l
 
--- whatever stop it is
+-- whatever crash it is
 pub sorted : (t : Moment) → IsSoundAt t → (left : List Disk) → IsLeftByCrash t left → IsSorted t left
 sorted t at left is = sorted_beside (λ _. ⊥) t at left is (λ _ _ no. no)
 

@@ -1,4 +1,4 @@
--- What a device tells of stops after a call that is a list of events, it tells of one of them.
+-- What a device tells of crashes after a call that is a list of events, it tells of one of them.
 use Rattle.std.proofs.Common.{◌≡◌, ◌∙◌, ◌⊎◌, inl, inr, ℕ, zero, suc, true, List, [], ◌∷◌, ◌++◌, drop, length, slice_get, Option, Some, refl, sym, ap, subst, arith}
 use Rattle.std.proofs.lemmas.List.{append-nil, append_assoc, drop_at}
 use Rattle.std.proofs.lemmas.Option.{slice_get_within}
@@ -16,7 +16,7 @@ use Rattle.md_laws.specs.CallCrashes.{IsLeftInOne, IsToldOf, CrashesAreTold}
 use Rattle.md_laws.specs.CrashesWithin.{MayBeLeft}
 use Rattle.md_laws.proofs.Crashes.AtSteps.{none_new}
 
--- device k is there still, and has told of more stops, or of none
+-- device k is there still, and has told of more crashes, or of none
 record GrowsAt (k : ℕ) (after : List Disk) (d : Disk) : Type 0 where
   now : Disk
   at : slice_get after k ≡ Some now

@@ -163,7 +163,7 @@ list_step g w u t (Event.Checkpoint k offset listed) w' h l =
 list_step g w u t (Event.NoteBad k c) w' h l = subst (ListsAreIn u) (sym h.1) (when_noted g u w t k c h.0.in_sync)
 list_step g w u t (Event.StoreLog k listed) w' h l = subst (ListsAreIn u) (sym h.2) (when_in_sync u w t k (record (w.stored k) { listed = listed }) h.0)
 
--- ---- over runs, and at stops
+-- ---- over runs, and at crashes
 pub lists_run : (es : List Event) (t last : Moment) → MirrorRun t es last → ListsAreIn t.log_unknown (world_of t.mirror t.requests) → ListsAreIn last.log_unknown (world_of last.mirror last.requests)
 lists_run [] t last r kept =
     subst (λ (x : Moment). ListsAreIn x.log_unknown (world_of last.mirror last.requests)) (sym r.is)

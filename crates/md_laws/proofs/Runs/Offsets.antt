@@ -126,7 +126,7 @@ offset_step g w s t (Event.Checkpoint k offset listed) w' h = subst (OffsetsIn (
 offset_step g w s t (Event.NoteBad k c) w' h = subst (OffsetsIn s) (sym h.1) t
 offset_step g w s t (Event.StoreLog k listed) w' h = subst (OffsetsIn s) (sym h.2) (still s w t k (record (w.stored k) { listed = listed }) refl)
 
--- ---- over runs, and at stops
+-- ---- over runs, and at crashes
 pub offsets_run : (es : List Event) (t last : Moment) → MirrorRun t es last → OffsetsIn t.spoiled (world_of t.mirror t.requests) → OffsetsIn last.spoiled (world_of last.mirror last.requests)
 offsets_run [] t last r kept = subst (λ h. OffsetsIn h.spoiled h.now) (sym (history_rests t last r)) kept
 offsets_run (e ∷ es) t last r kept =

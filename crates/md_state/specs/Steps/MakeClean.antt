@@ -1,4 +1,4 @@
--- An active array becomes clean, as at a crash.
+-- An active array becomes clean, as at a `stop`.
 use Rattle.std.specs.Prelude.{◌≡◌, ◌≢◌, ℕ, true, false, not, option_map, slice_get, Option, Some, None}
 use Rattle.md_faults.specs.declared.step_fault.CleanFault.{CleanFault}
 use Rattle.md_faults.specs.declared.step_fault.CleanFault.TheVariants.{Halted, InFlight, NotResynced, AlreadyClean, EventsFull}

@@ -20,13 +20,8 @@ impl Array {
             (RefusesBegin sector (length bytes.now / 512) (record { disks = disks; array = self.old }) (record { disks = disks; array = self.new })) }
     {
         let sectors = bytes.len() as u64 / 512;
-        if let Err(fault) = self.check_begin(sector, sectors) {
-            return Err(fault);
-        }
-        let ticket = match self.enter(sector, sectors) {
-            Ok(ticket) => ticket,
-            Err(fault) => return Err(fault),
-        };
+        self.check_begin(sector, sectors)?;
+        let ticket = self.enter(sector, sectors)?;
         self.count_request();
         self.become_active();
         self.mark_sectors(sector, sectors);

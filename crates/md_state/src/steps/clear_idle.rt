@@ -15,9 +15,7 @@ impl Array {
         ensures { (disks : List Disk) → MatchResult result (λ _. Clears chunk (record { disks = disks; array = self.old }) (record { disks = disks; array = self.new }))
             (RefusesClear chunk (record { disks = disks; array = self.old }) (record { disks = disks; array = self.new })) }
     {
-        if let Err(fault) = self.check_clear(chunk) {
-            return Err(fault);
-        }
+        self.check_clear(chunk)?;
         self.marks.unmark(chunk);
         Ok(())
     }

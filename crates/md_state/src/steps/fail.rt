@@ -114,9 +114,7 @@ impl Array {
         ensures { (disks : List Disk) → MatchResult result (λ _. FailsMember k (record { disks = disks; array = self.old }) (record { disks = disks; array = self.new }))
             (RefusesFail k (record { disks = disks; array = self.old }) (record { disks = disks; array = self.new })) }
     {
-        if let Err(fault) = self.check_fail(k) {
-            return Err(fault);
-        }
+        self.check_fail(k)?;
         self.fail(k);
         Ok(())
     }

@@ -13,9 +13,7 @@ impl Array {
         ensures { (disks : List Disk) → MatchResult result (λ _. MakesClean (record { disks = disks; array = self.old }) (record { disks = disks; array = self.new }))
             (RefusesClean (record { disks = disks; array = self.old }) (record { disks = disks; array = self.new })) }
     {
-        if let Err(fault) = self.check_clean() {
-            return Err(fault);
-        }
+        self.check_clean()?;
         self.rise();
         self.shared.resync_offset = CLEAN_OFFSET;
         Ok(())

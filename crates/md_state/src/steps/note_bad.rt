@@ -19,10 +19,7 @@ impl Array {
         requires chunk { chunk < div_ceil self.old.chunks.size self.old.chunks.sectors }
         ensures { MatchResult result (λ _. NotesBad k chunk self.old self.new) (RefusesNote k chunk self.old self.new) }
     {
-        let list = match self.list_noted(alloc, k, chunk) {
-            Ok(list) => list,
-            Err(fault) => return Err(fault),
-        };
+        let list = self.list_noted(alloc, k, chunk)?;
         self.set_list(k, list);
         Ok(())
     }

@@ -18,9 +18,7 @@ impl Array {
         ensures { (disks : List Disk) → MatchResult result (λ _. Leaves k self.old self.new)
             (RefusesRemove k (record { disks = disks; array = self.old }) (record { disks = disks; array = self.new })) }
     {
-        if let Err(fault) = self.check_remove(k) {
-            return Err(fault);
-        }
+        self.check_remove(k)?;
         self.note_leaving(k);
         self.members.remove(k);
         Ok(())

@@ -1,4 +1,5 @@
 use Rattle.std.proofs.Common.{◌≡◌, ◌∙◌, ◌<◌, All, refl, sym, ap, subst, arith}
+use Rattle.std.proofs.lemmas.Result.{err_from_is_err_and}
 use Rattle.md_assembly.proofs.Indices.{got_within}
 use Rattle.md_copy.specs.Preparing.{is_in}
 use Rattle.md_copy.proofs.EnrolSets.{enrols_copied, fails_copied, leaves_copied, may, uncopied_low}
@@ -22,25 +23,27 @@ enrol_filled-requires-clause-may g c =
     may c.args.target v c.requires.ready c.requires.within copied c.requires.held it.0 it.1 c.keep_missing.new.copied c.in-Ok-marks_of.orphans c.keep_missing.ensures.chunks
     (c.keep_missing.ensures.bits it.0 it.1) (c.in-Ok-marks_of.ensures.count ∙ c.chunks.ensures ∙ c.requires.held.chunks) (λ i. c.in-Ok-marks_of.ensures.bits i ∙ ap (λ xs. is_in xs i) is)
 
-pub returns-in-Err-enrol_filled-clause-gives : goal.returns-in-Err-enrol_filled-clause-gives
-returns-in-Err-enrol_filled-clause-gives g c =
+pub returns-in_err-enrol_filled-clause-gives : goal.returns-in_err-enrol_filled-clause-gives
+returns-in_err-enrol_filled-clause-gives g c =
+    let p = err_from_is_err_and c.from_residual.result c.from_residual.ensures.1 in
     let v = c.args.mirror.now in
     let copied = c.args.copied.now in
     let it = got_within v.array.members c.args.target c.requires.within in
     let is = c.as_slice.ensures.value ∙ c.in-Ok.ensures it.0 it.1 in
-    fails_copied c.args.target v c.requires.ready c.requires.within copied c.requires.held it.0 it.1 c.keep_missing.new.copied c.in-Ok-marks_of.orphans c.keep_missing.ensures.chunks
+    rw (p.1, p.2) (fails_copied c.args.target v c.requires.ready c.requires.within copied c.requires.held it.0 it.1 c.keep_missing.new.copied c.in-Ok-marks_of.orphans c.keep_missing.ensures.chunks
     (c.keep_missing.ensures.bits it.0 it.1) (c.in-Ok-marks_of.ensures.count ∙ c.chunks.ensures ∙ c.requires.held.chunks) (λ i. c.in-Ok-marks_of.ensures.bits i ∙ ap (λ xs. is_in xs i) is)
-    c.enrol_filled.new.mirror c.in-Err-enrol_filled.fault c.in-Err-enrol_filled.ensures.gives
+    c.enrol_filled.new.mirror c.in_err-enrol_filled.field-0.0 c.in_err-enrol_filled.ensures.gives)
 
-pub returns-in-Err-enrol_filled-clause-leaves : goal.returns-in-Err-enrol_filled-clause-leaves
-returns-in-Err-enrol_filled-clause-leaves g c =
+pub returns-in_err-enrol_filled-clause-leaves : goal.returns-in_err-enrol_filled-clause-leaves
+returns-in_err-enrol_filled-clause-leaves g c =
+    let p = err_from_is_err_and c.from_residual.result c.from_residual.ensures.1 in
     let v = c.args.mirror.now in
     let copied = c.args.copied.now in
     let it = got_within v.array.members c.args.target c.requires.within in
     let is = c.as_slice.ensures.value ∙ c.in-Ok.ensures it.0 it.1 in
-    leaves_copied c.args.target v c.requires.ready c.requires.within copied c.requires.held it.0 it.1 c.keep_missing.new.copied c.in-Ok-marks_of.orphans c.keep_missing.ensures.chunks
+    rw (p.1, p.2) (leaves_copied c.args.target v c.requires.ready c.requires.within copied c.requires.held it.0 it.1 c.keep_missing.new.copied c.in-Ok-marks_of.orphans c.keep_missing.ensures.chunks
     (c.keep_missing.ensures.bits it.0 it.1) (c.in-Ok-marks_of.ensures.count ∙ c.chunks.ensures ∙ c.requires.held.chunks) (λ i. c.in-Ok-marks_of.ensures.bits i ∙ ap (λ xs. is_in xs i) is)
-    c.enrol_filled.new.mirror c.in-Err-enrol_filled.fault c.in-Err-enrol_filled.ensures.gives
+    c.enrol_filled.new.mirror c.in_err-enrol_filled.field-0.0 c.in_err-enrol_filled.ensures.gives)
 
 pub returns-clause-gives : goal.returns-clause-gives
 returns-clause-gives g c =
@@ -50,5 +53,5 @@ returns-clause-gives g c =
     let is = c.as_slice.ensures.value ∙ c.in-Ok.ensures it.0 it.1 in
     enrols_copied c.args.target v c.requires.ready c.requires.within copied c.requires.held it.0 it.1 c.keep_missing.new.copied c.in-Ok-marks_of.orphans c.keep_missing.ensures.chunks
     (c.keep_missing.ensures.bits it.0 it.1) (c.in-Ok-marks_of.ensures.count ∙ c.chunks.ensures ∙ c.requires.held.chunks) (λ i. c.in-Ok-marks_of.ensures.bits i ∙ ap (λ xs. is_in xs i) is)
-    c.enrol_filled.new.mirror (record { passes = c.len.result; plans = c.args.plans; orphans = c.in-Ok.chunks }) c.args.plans.items c.in_default.ensures.gives (c.in-Ok.ensures it.0 it.1)
+    c.enrol_filled.new.mirror (record { passes = c.len.result; plans = c.args.plans; orphans = c.in-Ok.chunks }) c.args.plans.items c.in_ok-enrol_filled.ensures.gives (c.in-Ok.ensures it.0 it.1)
     (omega (arith, c.len.ensures, c.args.plans.ok.0)) refl

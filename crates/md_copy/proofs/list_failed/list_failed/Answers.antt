@@ -1,4 +1,5 @@
 use Rattle.std.proofs.Common.{◌∙◌, ◌<◌, List, All, get_or, sym, ap, subst, arith}
+use Rattle.std.proofs.lemmas.Result.{err_from_is_err_and}
 use Rattle.std.specs.Int.{div_ceil}
 use Rattle.std.proofs.lemmas.List.Elements.{All-get_or}
 use Rattle.md_assembly.specs.States.{is_in_sync_as}
@@ -43,16 +44,17 @@ note_if_failed-requires-clause-source g c =
     let n = c.loop-slot.invariant.lists.after by.0 by.1 by.2 in
     (by.0, n.0, n.1, ap (is_in_sync_as (get_or c.as_slice-slots.result.now c.loop-slot.slot-index none).source) n.2.state ∙ by.3)
 
-pub returns-in-Err : goal.returns-in-Err
-returns-in-Err g c =
-    subst (λ (xs : List Slot). EndsNoting (failed_slots xs c.args.copied.now) c.args.mirror.now c.note_if_failed.new.mirror c.in-Err.fault) c.as_slice-slots.ensures
-    (notes_stop c.as_slice-slots.result.now c.args.copied.now c.loop-slot.slot-index none c.loop-slot-test.true c.args.mirror.now c.loop-slot.mirror c.note_if_failed.new.mirror c.in-Err.fault
-    c.loop-slot.invariant c.in-Err.ensures.failed c.in-Err.ensures.gives)
+pub returns-in_err-note_if_failed : goal.returns-in_err-note_if_failed
+returns-in_err-note_if_failed g c =
+    let p = err_from_is_err_and c.from_residual.result c.from_residual.ensures.1 in
+    rw (p.1, p.2) (subst (λ (xs : List Slot). EndsNoting (failed_slots xs c.args.copied.now) c.args.mirror.now c.note_if_failed.new.mirror c.in_err-note_if_failed.field-0.0) c.as_slice-slots.ensures
+    (notes_stop c.as_slice-slots.result.now c.args.copied.now c.loop-slot.slot-index none c.loop-slot-test.true c.args.mirror.now c.loop-slot.mirror c.note_if_failed.new.mirror c.in_err-note_if_failed.field-0.0
+    c.loop-slot.invariant c.in_err-note_if_failed.ensures.failed c.in_err-note_if_failed.ensures.gives))
 
 pub loop-slot-preserved : goal.loop-slot-preserved
 loop-slot-preserved g c =
     next_noted c.as_slice-slots.result.now c.args.copied.now c.loop-slot.slot-index none c.loop-slot-test.true c.args.mirror.now c.loop-slot.mirror c.note_if_failed.new.mirror
-    c.loop-slot.invariant c.in_default.ensures.gives
+    c.loop-slot.invariant c.in_ok-note_if_failed.ensures.gives
 
 pub returns : goal.returns
 returns g c =

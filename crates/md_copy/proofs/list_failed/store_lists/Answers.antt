@@ -1,4 +1,5 @@
 use Rattle.std.proofs.Common.{◌∙◌, List, sym, subst, arith}
+use Rattle.std.proofs.lemmas.Result.{err_from_is_err_and}
 use Rattle.md_cert.specs.declared.slots.Slot.{Slot}
 use Rattle.md_copy.specs.Listing.{HaveRoom, EndsStoringLists, StoresLists}
 use Rattle.md_copy.proofs.ListsStored.{below_all, below_more, below_none, lists_stop, room_below, unspent_below}
@@ -32,16 +33,17 @@ store_if_failed-requires-clause-room g c =
     room_below (failed_slots c.as_slice-slots.result.now c.args.copied.now) c.loop-k.k c.args.mirror.now c.loop-k.mirror c.loop-k.invariant
     (subst (λ (xs : List Slot). HaveRoom (failed_slots xs c.args.copied.now) c.args.mirror.now.array) (sym c.as_slice-slots.ensures) c.requires.room)
 
-pub returns-in-Err : goal.returns-in-Err
-returns-in-Err g c =
-    subst (λ (xs : List Slot). EndsStoringLists (failed_slots xs c.args.copied.now) c.args.mirror.now c.store_if_failed.new.mirror c.in-Err.fault) c.as_slice-slots.ensures
+pub returns-in_err-store_if_failed : goal.returns-in_err-store_if_failed
+returns-in_err-store_if_failed g c =
+    let p = err_from_is_err_and c.from_residual.result c.from_residual.ensures.1 in
+    rw (p.1, p.2) (subst (λ (xs : List Slot). EndsStoringLists (failed_slots xs c.args.copied.now) c.args.mirror.now c.store_if_failed.new.mirror c.in_err-store_if_failed.field-0.0) c.as_slice-slots.ensures
     (lists_stop (failed_slots c.as_slice-slots.result.now c.args.copied.now) c.loop-k.k c.args.mirror.now c.loop-k.mirror c.loop-k.invariant c.requires.sound
     (subst (λ (xs : List Slot). HaveRoom (failed_slots xs c.args.copied.now) c.args.mirror.now.array) (sym c.as_slice-slots.ensures) c.requires.room)
-    c.store_if_failed.new.mirror c.in-Err.fault c.in-Err.ensures)
+    c.store_if_failed.new.mirror c.in_err-store_if_failed.field-0.0 c.in_err-store_if_failed.ensures))
 
 pub loop-k-preserved : goal.loop-k-preserved
 loop-k-preserved g c =
-    below_more (failed_slots c.as_slice-slots.result.now c.args.copied.now) c.loop-k.k c.args.mirror.now c.loop-k.mirror c.loop-k.invariant c.store_if_failed.new.mirror c.in_default.ensures
+    below_more (failed_slots c.as_slice-slots.result.now c.args.copied.now) c.loop-k.k c.args.mirror.now c.loop-k.mirror c.loop-k.invariant c.store_if_failed.new.mirror c.in_ok-store_if_failed.ensures
 
 pub returns : goal.returns
 returns g c =

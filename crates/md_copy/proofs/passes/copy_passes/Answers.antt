@@ -1,4 +1,5 @@
 use Rattle.std.proofs.Common.{◌∙◌, ◌+◌, [], ◌∷◌, ◌++◌, List, sym, ap, subst, arith}
+use Rattle.std.proofs.lemmas.Result.{err_from_is_err_and}
 use Rattle.md_assembly.proofs.Indices.{got_within}
 use Rattle.md_array.proofs.General.Answered.{ok_gives}
 use Rattle.md_plan.specs.declared.planner.Planned.{Planned}
@@ -6,14 +7,15 @@ use Rattle.md_copy.specs.Passing.{PassesAll}
 use Rattle.md_copy.proofs.PassesGo.{GoesSoFar, begins_so, ends_before, fails_one, goes_on, lacks_room, leaves_now, leaves_one, listing_fails, listing_leaves, listing_sound, mid_ready, mid_within, passes_all, rising, served_mid, table_stops}
 use Rattle.md_copy.proofs.passes.copy_passes.Goals as goal
 
-pub returns-in-Err-clause-gives : goal.returns-in-Err-clause-gives
-returns-in-Err-clause-gives g c m at =
-    table_stops c.args.target m c.args.copied.now c.args.mirror.now c.requires.ready c.requires.none at c.in-Err.fault (c.in-Err.ensures.refused m at)
+pub returns-in_err-rows-clause-gives : goal.returns-in_err-rows-clause-gives
+returns-in_err-rows-clause-gives g c m at =
+    let p = err_from_is_err_and c.from_residual.result c.from_residual.ensures.1 in
+    rw (p.1, p.2) (table_stops c.args.target m c.args.copied.now c.args.mirror.now c.requires.ready c.requires.none at c.in_err-rows.field-0.0 (c.in_err-rows.ensures.refused m at))
 
 pub loop-pass-init : goal.loop-pass-init
 loop-pass-init g c m at =
-    subst (λ (xs : List Planned). GoesSoFar c.args.target m c.args.copied.now c.args.mirror.now c.args.mirror.now c.args.copied.now c.in-Ok.rows xs 0) (sym c.new-plans.ensures.items)
-    (begins_so c.args.target m c.args.copied.now c.args.mirror.now c.in-Ok.rows c.requires.ready c.requires.none at (λ n there. c.in-Ok.ensures.ok n there) c.in-Ok.ensures.few)
+    subst (λ (xs : List Planned). GoesSoFar c.args.target m c.args.copied.now c.args.mirror.now c.args.mirror.now c.args.copied.now c.in_ok-rows.rows xs 0) (sym c.new-plans.ensures.items)
+    (begins_so c.args.target m c.args.copied.now c.args.mirror.now c.in_ok-rows.rows c.requires.ready c.requires.none at (λ n there. c.in_ok-rows.ensures.ok n there) c.in_ok-rows.ensures.few)
 
 pub returns-then-is_err-clause-gives : goal.returns-then-is_err-clause-gives
 returns-then-is_err-clause-gives g c m at =
@@ -49,79 +51,83 @@ pub make_pass-requires-clause-few : goal.make_pass-requires-clause-few
 make_pass-requires-clause-few g c κs within =
     (let it = got_within c.args.mirror.now.array.members c.args.target c.requires.within in (c.loop-pass.invariant it.0 it.1).few)
 
-pub returns-in-Err-make_pass-clause-gives : goal.returns-in-Err-make_pass-clause-gives
-returns-in-Err-make_pass-clause-gives g c m at =
-    fails_one c.args.target m c.args.copied.now c.args.mirror.now c.loop-pass.mirror c.loop-pass.copied c.loop-pass.rows c.loop-pass.plans.items c.loop-pass._pass (c.loop-pass.invariant m at)
-    c.make_pass.new.copied c.make_pass.new.mirror c.in-Err-make_pass.fault c.in-Err-make_pass.ensures.gives
+pub returns-in_err-passed-clause-gives : goal.returns-in_err-passed-clause-gives
+returns-in_err-passed-clause-gives g c m at =
+    let p = err_from_is_err_and c.from_residual-in_err-passed.result c.from_residual-in_err-passed.ensures.1 in
+    rw (p.1, p.2) (fails_one c.args.target m c.args.copied.now c.args.mirror.now c.loop-pass.mirror c.loop-pass.copied c.loop-pass.rows c.loop-pass.plans.items c.loop-pass._pass (c.loop-pass.invariant m at)
+    c.make_pass.new.copied c.make_pass.new.mirror c.in_err-passed.field-0.0 c.in_err-passed.ensures.gives)
 
-pub returns-in-Err-make_pass-clause-leaves : goal.returns-in-Err-make_pass-clause-leaves
-returns-in-Err-make_pass-clause-leaves g c =
+pub returns-in_err-passed-clause-leaves : goal.returns-in_err-passed-clause-leaves
+returns-in_err-passed-clause-leaves g c =
+    let p = err_from_is_err_and c.from_residual-in_err-passed.result c.from_residual-in_err-passed.ensures.1 in
     let it = got_within c.args.mirror.now.array.members c.args.target c.requires.within in
-    leaves_one c.args.target it.0 c.args.copied.now c.args.mirror.now c.loop-pass.mirror c.loop-pass.copied c.loop-pass.rows c.loop-pass.plans.items c.loop-pass._pass (c.loop-pass.invariant it.0 it.1)
-    c.make_pass.new.copied c.make_pass.new.mirror c.in-Err-make_pass.fault c.in-Err-make_pass.ensures.gives
+    rw (p.1, p.2) (leaves_one c.args.target it.0 c.args.copied.now c.args.mirror.now c.loop-pass.mirror c.loop-pass.copied c.loop-pass.rows c.loop-pass.plans.items c.loop-pass._pass (c.loop-pass.invariant it.0 it.1)
+    c.make_pass.new.copied c.make_pass.new.mirror c.in_err-passed.field-0.0 c.in_err-passed.ensures.gives)
 
 pub push_reserved-requires : goal.push_reserved-requires
 push_reserved-requires g c = let room = ok_gives c.reserve.result _ c.if-is_err.ensures.value c.reserve.ensures.ok in omega arith
 
 pub returns-then-passed-eq0-clause-gives : goal.returns-then-passed-eq0-clause-gives
 returns-then-passed-eq0-clause-gives g c m at =
-    let told = c.in-Ok-make_pass.passed in
+    let told = c.in_ok-passed.passed in
     subst (PassesAll c.args.target m c.args.copied.now c.make_pass.new.copied c.args.mirror.now c.make_pass.new.mirror)
     (sym (c.push_reserved.ensures.items ∙ ap (λ (xs : List Planned). xs ++ told.planned ∷ []) c.reserve.ensures.items))
     (passes_all c.args.target m c.args.copied.now c.args.mirror.now c.loop-pass.mirror c.loop-pass.copied c.loop-pass.rows c.loop-pass.plans.items c.loop-pass._pass (c.loop-pass.invariant m at)
-    c.make_pass.new.copied c.make_pass.new.mirror told c.in-Ok-make_pass.ensures.gives c.if-passed-eq0.true)
+    c.make_pass.new.copied c.make_pass.new.mirror told c.in_ok-passed.ensures.gives c.if-passed-eq0.true)
 
 pub list_and_go_on-requires-clause-within : goal.list_and_go_on-requires-clause-within
 list_and_go_on-requires-clause-within g c =
     let it = got_within c.args.mirror.now.array.members c.args.target c.requires.within in
     mid_within c.args.target it.0 c.args.copied.now c.args.mirror.now c.loop-pass.mirror c.loop-pass.copied c.loop-pass.rows c.loop-pass.plans.items c.loop-pass._pass (c.loop-pass.invariant it.0 it.1)
-    c.make_pass.new.copied c.make_pass.new.mirror c.in-Ok-make_pass.passed c.in-Ok-make_pass.ensures.gives
+    c.make_pass.new.copied c.make_pass.new.mirror c.in_ok-passed.passed c.in_ok-passed.ensures.gives
 
 pub list_and_go_on-requires-clause-ready : goal.list_and_go_on-requires-clause-ready
 list_and_go_on-requires-clause-ready g c =
     let it = got_within c.args.mirror.now.array.members c.args.target c.requires.within in
     mid_ready c.args.target it.0 c.args.copied.now c.args.mirror.now c.loop-pass.mirror c.loop-pass.copied c.loop-pass.rows c.loop-pass.plans.items c.loop-pass._pass (c.loop-pass.invariant it.0 it.1)
-    c.make_pass.new.copied c.make_pass.new.mirror c.in-Ok-make_pass.passed c.in-Ok-make_pass.ensures.gives
+    c.make_pass.new.copied c.make_pass.new.mirror c.in_ok-passed.passed c.in_ok-passed.ensures.gives
 
 pub list_and_go_on-requires-clause-served : goal.list_and_go_on-requires-clause-served
 list_and_go_on-requires-clause-served g c =
     let it = got_within c.args.mirror.now.array.members c.args.target c.requires.within in
     served_mid c.args.target it.0 c.args.copied.now c.args.mirror.now c.loop-pass.mirror c.loop-pass.copied c.loop-pass.rows c.loop-pass.plans.items c.loop-pass._pass (c.loop-pass.invariant it.0 it.1)
-    c.make_pass.new.copied c.make_pass.new.mirror c.in-Ok-make_pass.passed c.in-Ok-make_pass.ensures.gives
+    c.make_pass.new.copied c.make_pass.new.mirror c.in_ok-passed.passed c.in_ok-passed.ensures.gives
 
 pub list_and_go_on-requires-clause-rising : goal.list_and_go_on-requires-clause-rising
 list_and_go_on-requires-clause-rising g c =
     let it = got_within c.args.mirror.now.array.members c.args.target c.requires.within in
     rising c.args.target it.0 c.args.copied.now c.args.mirror.now c.loop-pass.mirror c.loop-pass.copied c.loop-pass.rows c.loop-pass.plans.items c.loop-pass._pass (c.loop-pass.invariant it.0 it.1)
-    c.make_pass.new.copied c.make_pass.new.mirror c.in-Ok-make_pass.passed c.in-Ok-make_pass.ensures.gives
+    c.make_pass.new.copied c.make_pass.new.mirror c.in_ok-passed.passed c.in_ok-passed.ensures.gives
 
-pub returns-in-Err-list_and_go_on-clause-gives : goal.returns-in-Err-list_and_go_on-clause-gives
-returns-in-Err-list_and_go_on-clause-gives g c m at =
-    listing_fails c.args.target m c.args.copied.now c.args.mirror.now c.loop-pass.mirror c.loop-pass.copied c.loop-pass.rows c.loop-pass.plans.items c.loop-pass._pass (c.loop-pass.invariant m at)
-    c.make_pass.new.copied c.make_pass.new.mirror c.in-Ok-make_pass.passed c.in-Ok-make_pass.ensures.gives c.list_and_go_on.new.mirror c.in-Err-list_and_go_on.fault c.if-passed-eq0.false c.in-Err-list_and_go_on.ensures.gives
+pub returns-in_err-rows-2-clause-gives : goal.returns-in_err-rows-2-clause-gives
+returns-in_err-rows-2-clause-gives g c m at =
+    let p = err_from_is_err_and c.from_residual-in_err-rows-2.result c.from_residual-in_err-rows-2.ensures.1 in
+    rw (p.1, p.2) (listing_fails c.args.target m c.args.copied.now c.args.mirror.now c.loop-pass.mirror c.loop-pass.copied c.loop-pass.rows c.loop-pass.plans.items c.loop-pass._pass (c.loop-pass.invariant m at)
+    c.make_pass.new.copied c.make_pass.new.mirror c.in_ok-passed.passed c.in_ok-passed.ensures.gives c.list_and_go_on.new.mirror c.in_err-rows-2.field-0.0 c.if-passed-eq0.false c.in_err-rows-2.ensures.gives)
 
-pub returns-in-Err-list_and_go_on-clause-leaves : goal.returns-in-Err-list_and_go_on-clause-leaves
-returns-in-Err-list_and_go_on-clause-leaves g c =
+pub returns-in_err-rows-2-clause-leaves : goal.returns-in_err-rows-2-clause-leaves
+returns-in_err-rows-2-clause-leaves g c =
+    let p = err_from_is_err_and c.from_residual-in_err-rows-2.result c.from_residual-in_err-rows-2.ensures.1 in
     let it = got_within c.args.mirror.now.array.members c.args.target c.requires.within in
-    listing_leaves c.args.target it.0 c.args.copied.now c.args.mirror.now c.loop-pass.mirror c.loop-pass.copied c.loop-pass.rows c.loop-pass.plans.items c.loop-pass._pass (c.loop-pass.invariant it.0 it.1)
-    c.make_pass.new.copied c.make_pass.new.mirror c.in-Ok-make_pass.passed c.in-Ok-make_pass.ensures.gives c.list_and_go_on.new.mirror c.in-Err-list_and_go_on.fault c.in-Err-list_and_go_on.ensures.gives
+    rw (p.1, p.2) (listing_leaves c.args.target it.0 c.args.copied.now c.args.mirror.now c.loop-pass.mirror c.loop-pass.copied c.loop-pass.rows c.loop-pass.plans.items c.loop-pass._pass (c.loop-pass.invariant it.0 it.1)
+    c.make_pass.new.copied c.make_pass.new.mirror c.in_ok-passed.passed c.in_ok-passed.ensures.gives c.list_and_go_on.new.mirror c.in_err-rows-2.field-0.0 c.in_err-rows-2.ensures.gives)
 
-pub returns-in-Err-list_and_go_on-clause-sound : goal.returns-in-Err-list_and_go_on-clause-sound
-returns-in-Err-list_and_go_on-clause-sound g c =
+pub returns-in_err-rows-2-clause-sound : goal.returns-in_err-rows-2-clause-sound
+returns-in_err-rows-2-clause-sound g c =
     let it = got_within c.args.mirror.now.array.members c.args.target c.requires.within in
     listing_sound c.args.target it.0 c.args.copied.now c.args.mirror.now c.loop-pass.mirror c.loop-pass.copied c.loop-pass.rows c.loop-pass.plans.items c.loop-pass._pass (c.loop-pass.invariant it.0 it.1)
-    c.make_pass.new.copied c.make_pass.new.mirror c.in-Ok-make_pass.passed c.in-Ok-make_pass.ensures.gives c.list_and_go_on.new.mirror c.in-Err-list_and_go_on.fault c.in-Err-list_and_go_on.ensures.gives
+    c.make_pass.new.copied c.make_pass.new.mirror c.in_ok-passed.passed c.in_ok-passed.ensures.gives c.list_and_go_on.new.mirror c.in_err-rows-2.field-0.0 c.in_err-rows-2.ensures.gives
 
 pub push_reserved-requires-in-loop-pass : goal.push_reserved-requires-in-loop-pass
 push_reserved-requires-in-loop-pass g c = let room = ok_gives c.reserve.result _ c.if-is_err.ensures.value c.reserve.ensures.ok in omega arith
 
 pub loop-pass-preserved : goal.loop-pass-preserved
 loop-pass-preserved g c m at =
-    let told = c.in-Ok-make_pass.passed in
-    subst (λ (xs : List Planned). GoesSoFar c.args.target m c.args.copied.now c.args.mirror.now c.list_and_go_on.new.mirror c.make_pass.new.copied c.in-Ok-list_and_go_on.rows xs (c.loop-pass._pass + 1))
+    let told = c.in_ok-passed.passed in
+    subst (λ (xs : List Planned). GoesSoFar c.args.target m c.args.copied.now c.args.mirror.now c.list_and_go_on.new.mirror c.make_pass.new.copied c.in_ok-rows-2.rows xs (c.loop-pass._pass + 1))
     (sym (c.push_reserved-in-loop-pass.ensures.items ∙ ap (λ (xs : List Planned). xs ++ told.planned ∷ []) c.reserve.ensures.items))
     (goes_on c.args.target m c.args.copied.now c.args.mirror.now c.loop-pass.mirror c.loop-pass.copied c.loop-pass.rows c.loop-pass.plans.items c.loop-pass._pass (c.loop-pass.invariant m at)
-    c.make_pass.new.copied c.make_pass.new.mirror told c.in-Ok-make_pass.ensures.gives c.list_and_go_on.new.mirror c.in-Ok-list_and_go_on.rows c.if-passed-eq0.false c.in-Ok-list_and_go_on.ensures.gives)
+    c.make_pass.new.copied c.make_pass.new.mirror told c.in_ok-passed.ensures.gives c.list_and_go_on.new.mirror c.in_ok-rows-2.rows c.if-passed-eq0.false c.in_ok-rows-2.ensures.gives)
 
 pub unreachable-requires : goal.unreachable-requires
 unreachable-requires g c =

@@ -1,4 +1,5 @@
 use Rattle.std.proofs.Common.{◌∙◌, arith, refl}
+use Rattle.std.proofs.lemmas.Result.{err_from_is_err_and}
 use Rattle.md_state.specs.Steps.WriteMember.{IsNotDue}
 use Rattle.md_metadata.specs.Storing.{IsRecording, IsStoring}
 use Rattle.md_metadata.proofs.Going.{recording_stores, stores_as}
@@ -32,12 +33,13 @@ pub store_if_due-requires-clause-recorded : goal.store_if_due-requires-clause-re
 store_if_due-requires-clause-recorded g c =
     last_on IsRecording IsNotDue c.args.mirror.now c.args.mirror.now c.loop-k.mirror (records_last c.args.mirror.now.array.marks) refl c.requires.recorded c.loop-k.invariant.stores
 
-pub returns-in-Err : goal.returns-in-Err
-returns-in-Err g c =
-    stops_then c.args.target c.args.mirror.now c.loop-k.mirror c.store_if_due.new.mirror (stores_as IsRecording IsStoring recording_stores c.args.mirror.now c.loop-k.mirror c.loop-k.invariant.stores) c.in-Err.fault c.in-Err.ensures
+pub returns-in_err-store_if_due : goal.returns-in_err-store_if_due
+returns-in_err-store_if_due g c =
+    let p = err_from_is_err_and c.from_residual.result c.from_residual.ensures.1 in
+    rw (p.1, p.2) (stops_then c.args.target c.args.mirror.now c.loop-k.mirror c.store_if_due.new.mirror (stores_as IsRecording IsStoring recording_stores c.args.mirror.now c.loop-k.mirror c.loop-k.invariant.stores) c.in_err-store_if_due.field-0.0 c.in_err-store_if_due.ensures)
 
 pub loop-k-preserved : goal.loop-k-preserved
-loop-k-preserved g c = recorded_more c.loop-k.k c.args.mirror.now c.loop-k.mirror c.store_if_due.new.mirror c.loop-k.invariant c.in_default.ensures
+loop-k-preserved g c = recorded_more c.loop-k.k c.args.mirror.now c.loop-k.mirror c.store_if_due.new.mirror c.loop-k.invariant c.in_ok-store_if_due.ensures
 
 pub returns : goal.returns
 returns g c =

@@ -1,4 +1,5 @@
 use Rattle.std.proofs.Common.{◌∙◌, sym, ap}
+use Rattle.std.proofs.lemmas.Result.{err_from_is_err_and}
 use Rattle.std.specs.Int.{div_ceil}
 use Rattle.md_assembly.proofs.Indices.{got_within}
 use Rattle.md_bitmap.specs.declared.chunks.Chunks.{Chunks}
@@ -7,51 +8,53 @@ use Rattle.md_copy.proofs.Begun.{begins, ready_then, set_ready, within_ready}
 use Rattle.md_copy.proofs.EndedWithin.{stopped_within}
 use Rattle.md_copy.proofs.whole_rebuild.rebuild_by_steps.Goals as goal
 
+pub returns-in_err-check_rebuild-clause-gives : goal.returns-in_err-check_rebuild-clause-gives
+returns-in_err-check_rebuild-clause-gives g c =
+    let p = err_from_is_err_and c.from_residual.result c.from_residual.ensures.1 in
+    let v = c.args.mirror.now in
+    let it = got_within v.array.members c.args.target c.requires.within in
+    rw (p.1, p.2) (refused_at_once c.args.target v it.0 it.1 c.in_err-check_rebuild.field-0.0 (c.in_err-check_rebuild.ensures it.0 it.1))
+
 pub returns-in-Err-clause-gives : goal.returns-in-Err-clause-gives
 returns-in-Err-clause-gives g c =
     let v = c.args.mirror.now in
     let it = got_within v.array.members c.args.target c.requires.within in
-    refused_at_once c.args.target v it.0 it.1 c.in-Err.fault (c.in-Err.ensures it.0 it.1)
+    refused_set c.args.target v it.0 it.1 (c.in_ok-check_rebuild.ensures it.0 it.1)
 
-pub returns-in-Err-none-clause-gives : goal.returns-in-Err-none-clause-gives
-returns-in-Err-none-clause-gives g c =
+pub returns-in_err-make_ready-clause-gives : goal.returns-in_err-make_ready-clause-gives
+returns-in_err-make_ready-clause-gives g c =
+    let p = err_from_is_err_and c.from_residual-in_err-make_ready.result c.from_residual-in_err-make_ready.ensures.1 in
     let v = c.args.mirror.now in
     let it = got_within v.array.members c.args.target c.requires.within in
-    refused_set c.args.target v it.0 it.1 (c.in_default.ensures it.0 it.1)
-
-pub returns-in-Err-make_ready-clause-gives : goal.returns-in-Err-make_ready-clause-gives
-returns-in-Err-make_ready-clause-gives g c =
-    let v = c.args.mirror.now in
-    let it = got_within v.array.members c.args.target c.requires.within in
-    refused_ready c.args.target v c.make_ready.new.mirror it.0 it.1 (c.in_default.ensures it.0 it.1) c.in-Err-make_ready.fault (c.in-Err-make_ready.ensures.gives it.0 it.1)
+    rw (p.1, p.2) (refused_ready c.args.target v c.make_ready.new.mirror it.0 it.1 (c.in_ok-check_rebuild.ensures it.0 it.1) c.in_err-make_ready.field-0.0 (c.in_err-make_ready.ensures.gives it.0 it.1))
 
 pub rebuild_readied-requires-clause-within : goal.rebuild_readied-requires-clause-within
 rebuild_readied-requires-clause-within g c κs within =
     let v = c.args.mirror.now in
     let it = got_within v.array.members c.args.target c.requires.within in
     let many = c.in-Ok.ensures.chunks ∙ c.count.ensures.count ∙ ap (λ (q : Chunks). div_ceil q.size q.sectors) c.chunks.ensures ∙ sym c.requires.sound.chunks.count in
-    within_ready c.args.target v c.make_ready.new.mirror c.requires.sound it.0 it.1 (c.in_default.ensures it.0 it.1) (c.in_default-make_ready.ensures.gives it.0 it.1) c.in-Ok.copied many c.in-Ok.ensures.bits
+    within_ready c.args.target v c.make_ready.new.mirror c.requires.sound it.0 it.1 (c.in_ok-check_rebuild.ensures it.0 it.1) (c.in_ok-make_ready.ensures.gives it.0 it.1) c.in-Ok.copied many c.in-Ok.ensures.bits
 
 pub rebuild_readied-requires-clause-ready : goal.rebuild_readied-requires-clause-ready
 rebuild_readied-requires-clause-ready g c κs within =
     let v = c.args.mirror.now in
     let it = got_within v.array.members c.args.target c.requires.within in
     let many = c.in-Ok.ensures.chunks ∙ c.count.ensures.count ∙ ap (λ (q : Chunks). div_ceil q.size q.sectors) c.chunks.ensures ∙ sym c.requires.sound.chunks.count in
-    ready_then c.args.target v c.make_ready.new.mirror c.requires.sound it.0 it.1 (c.in_default.ensures it.0 it.1) (c.in_default-make_ready.ensures.gives it.0 it.1) c.in-Ok.copied many c.in-Ok.ensures.bits
+    ready_then c.args.target v c.make_ready.new.mirror c.requires.sound it.0 it.1 (c.in_ok-check_rebuild.ensures it.0 it.1) (c.in_ok-make_ready.ensures.gives it.0 it.1) c.in-Ok.copied many c.in-Ok.ensures.bits
 
 pub rebuild_readied-requires-clause-none : goal.rebuild_readied-requires-clause-none
 rebuild_readied-requires-clause-none g c κs within =
     let v = c.args.mirror.now in
     let it = got_within v.array.members c.args.target c.requires.within in
     let many = c.in-Ok.ensures.chunks ∙ c.count.ensures.count ∙ ap (λ (q : Chunks). div_ceil q.size q.sectors) c.chunks.ensures ∙ sym c.requires.sound.chunks.count in
-    set_ready c.args.target v c.make_ready.new.mirror c.requires.sound it.0 it.1 (c.in_default.ensures it.0 it.1) (c.in_default-make_ready.ensures.gives it.0 it.1) c.in-Ok.copied many c.in-Ok.ensures.bits
+    set_ready c.args.target v c.make_ready.new.mirror c.requires.sound it.0 it.1 (c.in_ok-check_rebuild.ensures it.0 it.1) (c.in_ok-make_ready.ensures.gives it.0 it.1) c.in-Ok.copied many c.in-Ok.ensures.bits
 
 pub returns-in-Ok-rebuild_readied-clause-gives : goal.returns-in-Ok-rebuild_readied-clause-gives
 returns-in-Ok-rebuild_readied-clause-gives g c =
     let v = c.args.mirror.now in
     let it = got_within v.array.members c.args.target c.requires.within in
     let many = c.in-Ok.ensures.chunks ∙ c.count.ensures.count ∙ ap (λ (q : Chunks). div_ceil q.size q.sectors) c.chunks.ensures ∙ sym c.requires.sound.chunks.count in
-    let b = begins c.args.target v c.make_ready.new.mirror c.requires.sound it.0 it.1 (c.in_default.ensures it.0 it.1) (c.in_default-make_ready.ensures.gives it.0 it.1) c.in-Ok.copied many c.in-Ok.ensures.bits in
+    let b = begins c.args.target v c.make_ready.new.mirror c.requires.sound it.0 it.1 (c.in_ok-check_rebuild.ensures it.0 it.1) (c.in_ok-make_ready.ensures.gives it.0 it.1) c.in-Ok.copied many c.in-Ok.ensures.bits in
     rebuilds c.args.target v c.make_ready.new.mirror c.in-Ok.copied b c.rebuild_readied.new.mirror c.in-Ok-rebuild_readied.told (c.in-Ok-rebuild_readied.ensures.gives b.now b.there)
 
 pub leave-requires-clause-within : goal.leave-requires-clause-within
@@ -59,7 +62,7 @@ leave-requires-clause-within g c =
     let v = c.args.mirror.now in
     let it = got_within v.array.members c.args.target c.requires.within in
     let many = c.in-Ok.ensures.chunks ∙ c.count.ensures.count ∙ ap (λ (q : Chunks). div_ceil q.size q.sectors) c.chunks.ensures ∙ sym c.requires.sound.chunks.count in
-    let b = begins c.args.target v c.make_ready.new.mirror c.requires.sound it.0 it.1 (c.in_default.ensures it.0 it.1) (c.in_default-make_ready.ensures.gives it.0 it.1) c.in-Ok.copied many c.in-Ok.ensures.bits in
+    let b = begins c.args.target v c.make_ready.new.mirror c.requires.sound it.0 it.1 (c.in_ok-check_rebuild.ensures it.0 it.1) (c.in_ok-make_ready.ensures.gives it.0 it.1) c.in-Ok.copied many c.in-Ok.ensures.bits in
     stopped_within c.args.target b.now c.in-Ok.copied c.make_ready.new.mirror b.there c.rebuild_readied.new.copied c.rebuild_readied.new.mirror c.in-Err-rebuild_readied.fault
     (c.in-Err-rebuild_readied.ensures.gives b.now b.there) c.rebuild_readied.ensures.sound
 
@@ -68,6 +71,6 @@ returns-clause-gives g c =
     let v = c.args.mirror.now in
     let it = got_within v.array.members c.args.target c.requires.within in
     let many = c.in-Ok.ensures.chunks ∙ c.count.ensures.count ∙ ap (λ (q : Chunks). div_ceil q.size q.sectors) c.chunks.ensures ∙ sym c.requires.sound.chunks.count in
-    let b = begins c.args.target v c.make_ready.new.mirror c.requires.sound it.0 it.1 (c.in_default.ensures it.0 it.1) (c.in_default-make_ready.ensures.gives it.0 it.1) c.in-Ok.copied many c.in-Ok.ensures.bits in
+    let b = begins c.args.target v c.make_ready.new.mirror c.requires.sound it.0 it.1 (c.in_ok-check_rebuild.ensures it.0 it.1) (c.in_ok-make_ready.ensures.gives it.0 it.1) c.in-Ok.copied many c.in-Ok.ensures.bits in
     refused_readied c.args.target v c.make_ready.new.mirror c.in-Ok.copied b c.rebuild_readied.new.copied c.rebuild_readied.new.mirror c.leave.new.mirror c.in-Err-rebuild_readied.fault
     (c.in-Err-rebuild_readied.ensures.gives b.now b.there) c.leave.ensures.leaves

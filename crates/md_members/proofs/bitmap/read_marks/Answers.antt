@@ -12,7 +12,7 @@ returns-in-Ok-from_bytes-clause-reads g c =
     let area : c.deref.result.now ≡ bytes = c.deref.ensures.value ∙ take_at bytes _ c.in-Ok.area.len size in
     record {
       area = bytes;
-      read = subst (λ (n : ℕ). IsRead (g.D.Device.content old) (g.D.Device.honest old) c.args.start n bytes) long c.in_default-read_sectors.ensures.ok;
+      read = subst (λ (n : ℕ). IsRead (g.D.Device.content old) (g.D.Device.honest old) c.args.start n bytes) long c.in_ok-read_sectors.ensures.ok;
       chunks_are = c.in-Ok-from_bytes.ensures.chunks;
       bits = c.in-Ok-from_bytes.ensures.bytes
           ∙ take_all (length c.deref.result.now - 256) (drop 256 c.deref.result.now) (omega (arith, length-drop 256 c.deref.result.now))

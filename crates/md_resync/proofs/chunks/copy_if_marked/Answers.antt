@@ -1,4 +1,5 @@
 use Rattle.std.proofs.Common.{◌≡◌, true, arith}
+use Rattle.std.proofs.lemmas.Result.{MatchResult-weaker}
 use Rattle.md_bitmap.specs.Marks.{is_set}
 use Rattle.md_resync.proofs.CopiedChunks.{if_copied, if_unmarked, may_copy_chunk}
 use Rattle.md_resync.proofs.chunks.copy_if_marked.Goals as goal
@@ -17,5 +18,6 @@ copy_chunk-requires-clause-may g c =
     let count = c.requires.sound.chunks.count in
     may_copy_chunk c.args.chunk c.args.mirror.now c.requires.sound c.requires.may (let low = c.requires.within in omega arith) marked
 
-pub returns-in-Ok : goal.returns-in-Ok
-returns-in-Ok g c = if_copied c.args.chunk c.args.mirror.now c.copy_chunk.new.mirror c.in-Ok.ensures
+pub returns : goal.returns
+returns g c =
+    MatchResult-weaker c.copy_chunk.result c.copy_chunk.ensures (λ _. if_copied c.args.chunk c.args.mirror.now c.copy_chunk.new.mirror) (λ _ fails. fails)

@@ -1,4 +1,5 @@
 use Rattle.std.proofs.Common.{◌∙◌, ◌<◌, ◌/◌, ℕ, refl, sym, subst, arith}
+use Rattle.std.proofs.lemmas.Result.{err_from_is_err_and}
 use Rattle.std.specs.Int.{div_ceil}
 use Rattle.md_bitmap.specs.declared.chunks.Chunks.{Chunks}
 use Rattle.md_state.specs.View.{ArrayView}
@@ -28,13 +29,14 @@ copy_if_marked-requires-clause-sound g c = c.loop-chunk.invariant.below.copies.g
 pub copy_if_marked-requires-clause-may : goal.copy_if_marked-requires-clause-may
 copy_if_marked-requires-clause-may g c = subst MayCopyMarked (sym c.loop-chunk.invariant.below.copies.array) c.requires.may
 
-pub returns-in-Err : goal.returns-in-Err
-returns-in-Err g c =
-    chunks_fail c.loop-chunk.chunk c.args.mirror.now c.loop-chunk.mirror c.copy_if_marked.new.mirror c.requires.sound c.loop-chunk.invariant.below c.in-Err.fault c.in-Err.ensures
+pub returns-in_err-copy_if_marked : goal.returns-in_err-copy_if_marked
+returns-in_err-copy_if_marked g c =
+    let p = err_from_is_err_and c.from_residual.result c.from_residual.ensures.1 in
+    rw (p.1, p.2) (chunks_fail c.loop-chunk.chunk c.args.mirror.now c.loop-chunk.mirror c.copy_if_marked.new.mirror c.requires.sound c.loop-chunk.invariant.below c.in_err-copy_if_marked.field-0.0 c.in_err-copy_if_marked.ensures)
 
 pub loop-chunk-preserved : goal.loop-chunk-preserved
 loop-chunk-preserved g c = record {
-  below = chunks_more c.loop-chunk.chunk c.args.mirror.now c.loop-chunk.mirror c.copy_if_marked.new.mirror c.loop-chunk.invariant.below c.in_default.ensures;
+  below = chunks_more c.loop-chunk.chunk c.args.mirror.now c.loop-chunk.mirror c.copy_if_marked.new.mirror c.loop-chunk.invariant.below c.in_ok-copy_if_marked.ensures;
   long = c.copy_if_marked.auto.buffer ∙ c.loop-chunk.invariant.long;
   held_long = c.copy_if_marked.auto.held ∙ c.loop-chunk.invariant.held_long;
 }

@@ -1,4 +1,5 @@
 use Rattle.std.proofs.Common.{◌∙◌, ℕ, length, ◌-◌, ◌*◌, ◌/◌, ◌≤◌, arith, sym}
+use Rattle.std.proofs.lemmas.Result.{err_from_is_err_and}
 use Rattle.std.proofs.lemmas.List.{length-take-le}
 use Rattle.md_state.specs.Steps.ReadData.{FailsToRead, ReadsData}
 use Rattle.md_array.proofs.General.Answered.{err_of, ok_of}
@@ -50,8 +51,8 @@ copy_to_members-requires-clause-run g c =
     let reads = ok_of c.read_data.result (ReadsData from c.args.sector c.read_data.new.buf old new) (FailsToRead from old new) (sym c.if-is_err.false ∙ c.is_err.ensures.value) c.read_data.ensures.gives in
     run_read c.args.chunk c.args.sector c.args.end next from old c.requires.sound c.requires.part run.from within run.source c.read_data.new.buf (c.read_data.auto.buf ∙ long) new reads
 
-pub returns-in-Ok : goal.returns-in-Ok
-returns-in-Ok g c =
+pub returns : goal.returns
+returns g c =
     let old = c.args.mirror.now in
     let new = c.read_data.new.self in
     let next = c.end_of_run-next.result in
@@ -64,15 +65,16 @@ returns-in-Ok g c =
     let from = c.in-Some.from in
     let reads = ok_of c.read_data.result (ReadsData from c.args.sector c.read_data.new.buf old new) (FailsToRead from old new) (sym c.if-is_err.false ∙ c.is_err.ensures.value) c.read_data.ensures.gives in
     copies_run c.args.chunk c.args.sector c.args.end next from old c.requires.sound c.requires.part run.from within run.source c.read_data.new.buf (c.read_data.auto.buf ∙ long) new reads
-    c.copy_to_members.new.mirror c.in-Ok.ensures
+    c.copy_to_members.new.mirror c.in_ok-copy_to_members.ensures
 
-pub returns-in-Err : goal.returns-in-Err
-returns-in-Err g c =
+pub returns-in_err-copy_to_members : goal.returns-in_err-copy_to_members
+returns-in_err-copy_to_members g c =
+    let p = err_from_is_err_and c.from_residual.result c.from_residual.ensures.1 in
     let old = c.args.mirror.now in
     let new = c.read_data.new.self in
     let from = c.in-Some.from in
     let reads = ok_of c.read_data.result (ReadsData from c.args.sector c.read_data.new.buf old new) (FailsToRead from old new) (sym c.if-is_err.false ∙ c.is_err.ensures.value) c.read_data.ensures.gives in
     let none : ℕ → Type 0 = λ s. ⊥ in
     let end = c.copy_to_members.new.mirror in
-    given_in_vain (IsBetween c.args.sector c.args.end) old end c.in-Err.fault
-    (giving_fails none old new end c.in-Err.fault (copies_read none old new reads.rests c.requires.sound) c.in-Err.ensures)
+    rw (p.1, p.2) (given_in_vain (IsBetween c.args.sector c.args.end) old end c.in_err-copy_to_members.field-0.0
+    (giving_fails none old new end c.in_err-copy_to_members.field-0.0 (copies_read none old new reads.rests c.requires.sound) c.in_err-copy_to_members.ensures))

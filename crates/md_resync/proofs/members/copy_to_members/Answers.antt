@@ -1,4 +1,5 @@
 use Rattle.std.proofs.Common.{◌∙◌, arith, length, ap, refl}
+use Rattle.std.proofs.lemmas.Result.{err_from_is_err_and}
 use Rattle.md_state.specs.View.{ArrayView}
 use Rattle.md_resync.specs.Copying.{IsAmong}
 use Rattle.md_resync.proofs.CopiedChunks.{below_all, below_more, below_none, giving_fails, run_later}
@@ -24,13 +25,14 @@ copy_to-requires-clause-run g c =
     let so_far = c.loop-k.invariant.below in
     run_later c.args.from c.args.sector c.args.bytes.now c.args.mirror.now c.loop-k.mirror c.requires.run so_far.copies.array (so_far.kept c.args.from c.requires.run.holds)
 
-pub returns-in-Err : goal.returns-in-Err
-returns-in-Err g c =
-    giving_fails (IsAmong c.args.sector c.args.bytes.now) c.args.mirror.now c.loop-k.mirror c.copy_to.new.mirror c.in-Err.fault c.loop-k.invariant.below.copies c.in-Err.ensures
+pub returns-in_err-copy_to : goal.returns-in_err-copy_to
+returns-in_err-copy_to g c =
+    let p = err_from_is_err_and c.from_residual.result c.from_residual.ensures.1 in
+    rw (p.1, p.2) (giving_fails (IsAmong c.args.sector c.args.bytes.now) c.args.mirror.now c.loop-k.mirror c.copy_to.new.mirror c.in_err-copy_to.field-0.0 c.loop-k.invariant.below.copies c.in_err-copy_to.ensures)
 
 pub loop-k-preserved : goal.loop-k-preserved
 loop-k-preserved g c = record {
-  below = below_more c.loop-k.k c.args.sector c.args.bytes.now c.args.mirror.now c.loop-k.mirror c.copy_to.new.mirror c.loop-k.invariant.below c.in_default.ensures;
+  below = below_more c.loop-k.k c.args.sector c.args.bytes.now c.args.mirror.now c.loop-k.mirror c.copy_to.new.mirror c.loop-k.invariant.below c.in_ok-copy_to.ensures;
   held_long = c.copy_to.auto.held ∙ c.loop-k.invariant.held_long;
 }
 

@@ -1,4 +1,5 @@
 use Rattle.std.proofs.Common.{ap, arith}
+use Rattle.std.proofs.lemmas.Result.{err_from_is_err_and}
 use Rattle.md_state.specs.View.{ArrayView}
 use Rattle.md_write.specs.Progress.{Part}
 use Rattle.md_write.proofs.Advancing.{stops_later}
@@ -29,15 +30,16 @@ write_to-requires-clause-marked g c = marked_on c.args.pending.now c.loop-k.pend
 pub write_to-requires-clause-recorded : goal.write_to-requires-clause-recorded
 write_to-requires-clause-recorded g c = recorded_on c.args.pending.now c.loop-k.pending c.args.mirror.now c.loop-k.mirror c.loop-k.invariant.writes c.requires.recorded
 
-pub returns-in-Err : goal.returns-in-Err
-returns-in-Err g c =
+pub returns-in_err-write_to : goal.returns-in_err-write_to
+returns-in_err-write_to g c =
+    let p = err_from_is_err_and c.from_residual.result c.from_residual.ensures.1 in
     let so_far = c.loop-k.invariant.writes in
-    stops_later c.args.pending.now c.loop-k.pending c.write_to.new.pending c.args.mirror.now c.loop-k.mirror c.write_to.new.mirror Part.Bytes Part.Bytes
-    so_far.advances c.in-Err.fault (ap (λ (x : ArrayView). x.halted) so_far.array) c.in-Err.ensures
+    rw (p.1, p.2) (stops_later c.args.pending.now c.loop-k.pending c.write_to.new.pending c.args.mirror.now c.loop-k.mirror c.write_to.new.mirror Part.Bytes Part.Bytes
+    so_far.advances c.in_err-write_to.field-0.0 (ap (λ (x : ArrayView). x.halted) so_far.array) c.in_err-write_to.ensures)
 
 pub loop-k-preserved : goal.loop-k-preserved
 loop-k-preserved g c =
-    written_more c.loop-k.k c.args.pending.now c.loop-k.pending c.write_to.new.pending c.args.mirror.now c.loop-k.mirror c.write_to.new.mirror c.loop-k.invariant c.in_default.ensures
+    written_more c.loop-k.k c.args.pending.now c.loop-k.pending c.write_to.new.pending c.args.mirror.now c.loop-k.mirror c.write_to.new.mirror c.loop-k.invariant c.in_ok-write_to.ensures
 
 pub returns : goal.returns
 returns g c =

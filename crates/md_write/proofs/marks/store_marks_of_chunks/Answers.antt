@@ -1,4 +1,5 @@
 use Rattle.std.proofs.Common.{◌∙◌, arith}
+use Rattle.std.proofs.lemmas.Result.{err_from_is_err_and}
 use Rattle.md_state.specs.Steps.WriteMember.{HasMarksFrom}
 use Rattle.md_write.specs.Progress.{IsMarkingOf}
 use Rattle.md_write.proofs.StoredMarks.{marked_still, marks_last}
@@ -24,13 +25,15 @@ store_member_marks-requires-clause-running g c = c.loop-k.invariant.stores.ready
 pub store_member_marks-requires-clause-marked : goal.store_member_marks-requires-clause-marked
 store_member_marks-requires-clause-marked g c = marked_still c.args.mirror.now.array c.loop-k.mirror.array c.args.first c.args.end c.loop-k.invariant.stores.goes.array c.requires.marked
 
-pub returns-in-Err : goal.returns-in-Err
-returns-in-Err g c = stops_on (IsMarkingOf c.args.first c.args.end) c.args.mirror.now c.loop-k.mirror c.store_member_marks.new.mirror c.in-Err.fault c.loop-k.invariant.stores c.in-Err.ensures
+pub returns-in_err-store_member_marks : goal.returns-in_err-store_member_marks
+returns-in_err-store_member_marks g c =
+    let p = err_from_is_err_and c.from_residual.result c.from_residual.ensures.1 in
+    rw (p.1, p.2) (stops_on (IsMarkingOf c.args.first c.args.end) c.args.mirror.now c.loop-k.mirror c.store_member_marks.new.mirror c.in_err-store_member_marks.field-0.0 c.loop-k.invariant.stores c.in_err-store_member_marks.ensures)
 
 pub loop-k-preserved : goal.loop-k-preserved
 loop-k-preserved g c =
     below_more (IsMarkingOf c.args.first c.args.end) (HasMarksFrom c.args.first c.args.end) c.loop-k.k c.args.mirror.now c.loop-k.mirror c.store_member_marks.new.mirror
-    (marks_last c.args.mirror.now.array c.args.first c.args.end c.requires.marked) c.loop-k.invariant c.in_default.ensures
+    (marks_last c.args.mirror.now.array c.args.first c.args.end c.requires.marked) c.loop-k.invariant c.in_ok-store_member_marks.ensures
 
 pub returns : goal.returns
 returns g c =

@@ -1,4 +1,5 @@
 use Rattle.std.proofs.Common.{ℕ, ◌∙◌, subst, sym, arith}
+use Rattle.std.proofs.lemmas.Result.{err_from_is_err_and}
 use Rattle.md_write.specs.Progress.{IsMarkingOf}
 use Rattle.md_metadata.proofs.Going.{stops_on}
 use Rattle.md_write.proofs.StoredMarks.{StoresUpTo, marked_still, up_all, up_more, up_none}
@@ -24,12 +25,14 @@ store_lacking-requires-clause-running g c = c.loop-block.invariant.stores.ready.
 pub store_lacking-requires-clause-marked : goal.store_lacking-requires-clause-marked
 store_lacking-requires-clause-marked g c = marked_still c.args.mirror.now.array c.loop-block.mirror.array c.args.first c.args.end c.loop-block.invariant.stores.goes.array c.requires.marked
 
-pub returns-in-Err : goal.returns-in-Err
-returns-in-Err g c = stops_on (IsMarkingOf c.args.first c.args.end) c.args.mirror.now c.loop-block.mirror c.store_lacking.new.mirror c.in-Err.fault c.loop-block.invariant.stores c.in-Err.ensures
+pub returns-in_err-store_lacking : goal.returns-in_err-store_lacking
+returns-in_err-store_lacking g c =
+    let p = err_from_is_err_and c.from_residual.result c.from_residual.ensures.1 in
+    rw (p.1, p.2) (stops_on (IsMarkingOf c.args.first c.args.end) c.args.mirror.now c.loop-block.mirror c.store_lacking.new.mirror c.in_err-store_lacking.field-0.0 c.loop-block.invariant.stores c.in_err-store_lacking.ensures)
 
 pub loop-block-preserved : goal.loop-block-preserved
 loop-block-preserved g c =
-    up_more c.args.k c.args.first c.args.end c.loop-block.block c.args.mirror.now c.loop-block.mirror c.store_lacking.new.mirror c.requires.marked c.loop-block.invariant c.in_default.ensures
+    up_more c.args.k c.args.first c.args.end c.loop-block.block c.args.mirror.now c.loop-block.mirror c.store_lacking.new.mirror c.requires.marked c.loop-block.invariant c.in_ok-store_lacking.ensures
 
 pub returns : goal.returns
 returns g c = up_all c.args.k c.args.first c.args.end c.loop-block.block c.args.mirror.now c.loop-block.mirror (let past = c.loop-block-test.false in omega arith) c.loop-block.invariant

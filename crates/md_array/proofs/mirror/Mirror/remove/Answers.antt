@@ -1,4 +1,5 @@
 use Rattle.std.proofs.Common.{◌≡◌, ◌∙◌, ℕ, ◌<◌, List, get_or, length, map, refl, sym, ap, subst, arith}
+use Rattle.std.proofs.lemmas.Result.{err_from_is_err_and}
 use Rattle.std.specs.List.{remove}
 use Rattle.std.proofs.lemmas.List.{length-map}
 use Rattle.std.proofs.lemmas.Option.{slice_get_read}
@@ -19,20 +20,21 @@ removes of devices left k d a b within read is leaves = record {
   array = leaves;
 }
 
-pub returns-in-Err : goal.returns-in-Err
-returns-in-Err g c =
+pub returns-in_err-remove_member : goal.returns-in_err-remove_member
+returns-in_err-remove_member g c =
+    let p = err_from_is_err_and c.from_residual.result c.from_residual.ensures.1 in
     let disks = map (disk_of g.D.Device) c.self.inside.devices.items in
     let old : MirrorView = record { disks = disks; array = c.self.inside.array } in
     let new : MirrorView = record { disks = disks; array = c.remove_member.new.self } in
     let sound = subst IsConsistent (sym c.self.view_is) c.requires.sound in
-    let gives = c.in-Err.ensures disks in
-    let same : new ≡ old = remove_unchanged c.args.k old new c.in-Err.fault gives in
-    rw (← c.self.view_is) (record {
+    let gives = c.in_err-remove_member.ensures disks in
+    let same : new ≡ old = remove_unchanged c.args.k old new c.in_err-remove_member.field-0.0 gives in
+    rw (p.1, p.2) (rw (← c.self.view_is) (record {
       gives = gives;
       event = tt;
       sound = subst IsConsistent (sym same) sound;
       pending = λ p. subst (λ (v : MirrorView). IsPending v.array p) (sym same);
-    })
+    }))
 
 pub returns : goal.returns
 returns g c =
@@ -45,7 +47,7 @@ returns g c =
     let mapped = length-map devices of in
     let inside : c.args.k < length c.self.inside.array.members = subst (λ (v : MirrorView). c.args.k < length v.array.members) (sym c.self.view_is) c.requires.within in
     let within : c.args.k < length devices = omega arith in
-    let gives = removes of devices _ c.args.k c.remove.result c.self.inside.array c.remove_member.new.self within c.remove.ensures.value c.remove.ensures.items (c.in_default.ensures (map of devices)) in
+    let gives = removes of devices _ c.args.k c.remove.result c.self.inside.array c.remove_member.new.self within c.remove.ensures.value c.remove.ensures.items (c.in_ok-remove_member.ensures (map of devices)) in
     rw (← c.self.view_is) (record {
       gives = gives;
       event = remove_happens c.args.k (of c.remove.result) old new sound gives;

@@ -1,23 +1,31 @@
 use Rattle.std.proofs.Common.{◌/◌, [], length, refl}
+use Rattle.std.proofs.lemmas.Result.{err_from_is_err_and}
 use Rattle.md_state.proofs.Changes.RequestEntered.{refused, still_in_range, still_marked, still_rises, with_request_is}
 use Rattle.md_state.proofs.array.Array.begin.Goals as goal
 
-pub returns-in-Err-enter : goal.returns-in-Err-enter
-returns-in-Err-enter c disks =
-    refused c.args.self.now c.enter.new.self c.args.sector (length c.args.bytes.now / 512) c.in-Err-enter.fault disks c.in-Err-enter.ensures.err (c.in_default.ensures disks) c.in-Err-enter.ensures.why
+pub returns-in_err-check_begin : goal.returns-in_err-check_begin
+returns-in_err-check_begin c disks =
+    let p = err_from_is_err_and c.from_residual.result c.from_residual.ensures.1 in
+    rw (p.1, p.2) (c.in_err-check_begin.ensures disks)
+
+pub returns-in_err-ticket : goal.returns-in_err-ticket
+returns-in_err-ticket c disks =
+    let p = err_from_is_err_and c.from_residual-in_err-ticket.result c.from_residual-in_err-ticket.ensures.1 in
+    let fault = c.in_err-ticket.field-0.0 in
+    rw (p.1, p.2) (refused c.args.self.now c.enter.new.self c.args.sector (length c.args.bytes.now / 512) fault disks c.in_err-ticket.ensures.err (c.in_ok-check_begin.ensures disks) c.in_err-ticket.ensures.why)
 
 pub count_request-requires : goal.count_request-requires
 count_request-requires c rises spent =
     let a = c.args.self.now in
     let n = length c.args.bytes.now / 512 in
-    let may = c.in_default.ensures [] in
-    may.rises (still_rises a c.enter.new.self c.args.sector n c.in-Ok.ensures.entered rises) (rw c.in-Ok.ensures.entered at spent)
+    let may = c.in_ok-check_begin.ensures [] in
+    may.rises (still_rises a c.enter.new.self c.args.sector n c.in_ok-ticket.ensures.entered rises) (rw c.in_ok-ticket.ensures.entered at spent)
 
 pub mark_sectors-requires-clause-range : goal.mark_sectors-requires-clause-range
 mark_sectors-requires-clause-range c =
     let n = length c.args.bytes.now / 512 in
-    let may = c.in_default.ensures [] in
-    still_in_range c.args.self.now c.enter.new.self c.args.sector n c.in-Ok.ensures.entered c.count_request.new.self c.become_active.new.self c.count_request.ensures c.become_active.ensures may.range
+    let may = c.in_ok-check_begin.ensures [] in
+    still_in_range c.args.self.now c.enter.new.self c.args.sector n c.in_ok-ticket.ensures.entered c.count_request.new.self c.become_active.new.self c.count_request.ensures c.become_active.ensures may.range
 
 pub returns : goal.returns
 returns c disks =
@@ -26,10 +34,10 @@ returns c disks =
     let n = length c.args.bytes.now / 512 in
     let marks = c.mark_sectors.new.self.marks in
     record {
-      may = c.in_default.ensures disks;
-      fresh = c.in-Ok.ensures.fresh;
+      may = c.in_ok-check_begin.ensures disks;
+      fresh = c.in_ok-ticket.ensures.fresh;
       disks = refl;
-      marked = still_marked a e c.args.sector n c.in-Ok.ensures.entered c.count_request.new.self c.become_active.new.self c.count_request.ensures c.become_active.ensures marks c.mark_sectors.ensures.marked;
-      array = with_request_is a e c.args.sector n c.in-Ok.ensures.entered c.count_request.new.self c.become_active.new.self c.count_request.ensures c.become_active.ensures c.mark_sectors.new.self marks c.mark_sectors.ensures.others;
-      pending = rw (c.pending_of.ensures, c.in-Ok.ensures.ticket) refl;
+      marked = still_marked a e c.args.sector n c.in_ok-ticket.ensures.entered c.count_request.new.self c.become_active.new.self c.count_request.ensures c.become_active.ensures marks c.mark_sectors.ensures.marked;
+      array = with_request_is a e c.args.sector n c.in_ok-ticket.ensures.entered c.count_request.new.self c.become_active.new.self c.count_request.ensures c.become_active.ensures c.mark_sectors.new.self marks c.mark_sectors.ensures.others;
+      pending = rw (c.pending_of.ensures, c.in_ok-ticket.ensures.ticket) refl;
     }
