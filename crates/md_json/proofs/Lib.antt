@@ -1,5 +1,4 @@
 pub mod Members
 pub mod Elements
 pub mod Chosen
-pub mod ChosenNumbers
 pub mod Texts
