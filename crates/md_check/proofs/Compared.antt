@@ -1,11 +1,8 @@
 -- A comparison, as more sectors are looked at.
-use Rattle.std.proofs.Common.{◌≡◌, ◌≢◌, ◌⊎◌, inl, inr, ℕ, zero, suc, ◌+◌, ◌<◌, ◌≤◌, List, [], ◌∷◌, length, get_or, map, refl, ap, sym, ◌∙◌, subst, arith}
-use Rattle.std.specs.Int.{div_ceil}
-use Rattle.std.specs.List.{All}
+use Rattle.std.proofs.Common.{◌≡◌, ◌≢◌, ◌⊎◌, inl, inr, ℕ, zero, suc, ◌<◌, ◌≤◌, List, [], ◌∷◌, length, get_or, refl, ap, sym, ◌∙◌, subst, arith}
 use Rattle.std.proofs.lemmas.Bool.{cases_lt}
 use Rattle.std.proofs.Math.Nat.{eq-or-lt_of_le}
 use Rattle.md_bitmap.specs.declared.chunks.Chunks.{Chunks}
-use Rattle.md_bitmap.specs.Marks.{Bitmap}
 use Rattle.md_check.specs.declared.found.Comparison.{Comparison}
 use Rattle.md_check.specs.declared.found.Pair.{Pair}
 use Rattle.md_check.specs.Differences.{AddsCompared, AddsDifferent, AddsToPair, AddsToPairs, AreCompared, AreDifferent, DifferBetween, DifferIn, IsEmpty, IsSamePair, IsSized, KeepsPairs}

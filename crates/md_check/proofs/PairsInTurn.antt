@@ -1,16 +1,13 @@
 -- Pairs of members, one after another.
-use Rattle.std.proofs.Common.{◌≡◌, ℕ, ◌+◌, Bool, true, false, ◌&&◌, List, [], ◌∷◌, ◌++◌, Option, Some, None, option_map, map, refl, ap, sym, ◌∙◌, append_assoc, append-nil, if◌then◌else◌}
-use Rattle.std.specs.List.{flat_map, range_with_len, slice_get}
+use Rattle.std.proofs.Common.{◌≡◌, ℕ, ◌+◌, List, [], ◌∷◌, ◌++◌, Option, Some, None, option_map, ap, ◌∙◌, append-nil}
+use Rattle.std.specs.List.{flat_map, range_with_len}
 use Rattle.std.proofs.lemmas.List.Concat.{flat_map-append}
-use Rattle.std.proofs.lemmas.List.{map_push}
 use Rattle.std.proofs.lemmas.Option.{same_Some}
 use Rattle.md_assembly.specs.declared.state.MemberState.{MemberState}
 use Rattle.md_assembly.specs.States.{is_in_sync}
 use Rattle.md_bitmap.proofs.Numbers.{range_more}
 use Rattle.md_kept_members.specs.View.{MemberView}
-use Rattle.md_state.specs.View.{ArrayView}
-use Rattle.md_check.specs.declared.found.Pair.{Pair}
-use Rattle.md_check.specs.Pairs.{is_one_in_sync, pair_names, pair_of}
+use Rattle.md_check.specs.Pairs.{is_one_in_sync}
 
 -- one number more
 pub flat_map_next : {X : Type 0} (f : ℕ → List X) (k : ℕ) → flat_map f (range_with_len 0 (k + 1)) ≡ flat_map f (range_with_len 0 k) ++ f k

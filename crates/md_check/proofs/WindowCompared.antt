@@ -1,8 +1,7 @@
 -- What was read of a sector is compared with the first that shows it.
-use Rattle.std.proofs.Common.{◌≡◌, ℕ, ◌+◌, ◌-◌, ◌<◌, ◌≤◌, Bool, true, false, not, is_some, List, get_or, Some, refl, sym, ◌∙◌, ap, arith, inl, inr, subst, length}
+use Rattle.std.proofs.Common.{◌≡◌, ℕ, ◌+◌, ◌-◌, ◌<◌, ◌≤◌, Bool, true, false, not, is_some, List, Some, refl, sym, ◌∙◌, ap, arith, inl, inr, subst, length}
 use Rattle.std.specs.List.{All, slice_get}
 use Rattle.std.proofs.Math.Nat.{eq-or-lt_of_le}
-use Rattle.std.proofs.lemmas.Bool.{cases_lt}
 use Rattle.std.proofs.lemmas.Option.{get_or_from_slice_get, slice_get_within}
 use Rattle.md_device.specs.Device.{held}
 use Rattle.md_assembly.proofs.Indices.{got_same}

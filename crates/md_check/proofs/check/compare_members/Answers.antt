@@ -5,13 +5,13 @@ use Rattle.md_check.proofs.MemberReaders.{compares}
 use Rattle.md_check.proofs.check.compare_members.Goals as goal
 
 pub compare-requires-clause-sized : goal.compare-requires-clause-sized
-compare-requires-clause-sized g c = record {
+compare-requires-clause-sized g c κs within = record {
   sized = c.in_ok-chunks.ensures.chunks ∙ c.count.ensures.count ∙ ap (λ (x : Chunks). div_ceil x.size x.sectors) c.chunks.ensures;
   pairs_sized = c.in_ok-pairs.ensures.sized;
 }
 
 pub compare-requires-clause-none : goal.compare-requires-clause-none
-compare-requires-clause-none g c = record { none = c.in_ok-chunks.ensures.bits; pairs_none = c.in_ok-pairs.ensures.empty }
+compare-requires-clause-none g c κs within = record { none = c.in_ok-chunks.ensures.bits; pairs_none = c.in_ok-pairs.ensures.empty }
 
 pub returns-clause-gives : goal.returns-clause-gives
 returns-clause-gives g c =

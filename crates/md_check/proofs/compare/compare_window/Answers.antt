@@ -1,8 +1,8 @@
-use Rattle.std.proofs.Common.{◌≡◌, ◌+◌, ◌<◌, ◌≤◌, ℕ, sym, subst, arith}
+use Rattle.std.proofs.Common.{◌≡◌, ◌+◌, ℕ, sym, subst, arith}
 use Rattle.md_check.specs.declared.found.Comparison.{Comparison}
-use Rattle.md_check.specs.Differences.{AddsCompared, DifferIn, IsSized}
+use Rattle.md_check.specs.Differences.{AddsCompared, DifferIn}
 use Rattle.md_check.specs.Readers.{ReaderShows, in_window}
-use Rattle.md_check.proofs.Compared.{compared_as_was, compared_keeps, compared_then, still_sized}
+use Rattle.md_check.proofs.Compared.{compared_as_was, compared_then}
 use Rattle.md_check.proofs.Differing.{adds_here}
 use Rattle.md_check.proofs.WindowCompared.{none_differ_alike}
 use Rattle.md_check.proofs.compare.compare_window.Goals as goal

@@ -1,4 +1,4 @@
-use Rattle.std.proofs.Common.{◌≡◌, true, refl}
+use Rattle.std.proofs.Common.{◌≡◌, true}
 use Rattle.md_check.proofs.WindowCompared.{not_so}
 use Rattle.md_check.proofs.compare.do_differ.Goals as goal
 

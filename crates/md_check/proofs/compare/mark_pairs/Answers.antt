@@ -1,4 +1,4 @@
-use Rattle.std.proofs.Common.{◌≡◌, ◌∙◌, ◌+◌, ◌<◌, ◌≤◌, length, get_or, subst, sym, inl, inr, arith, length-set}
+use Rattle.std.proofs.Common.{◌≡◌, ◌∙◌, ◌+◌, ◌<◌, length, get_or, subst, sym, inl, inr, arith, length-set}
 use Rattle.std.proofs.lemmas.List.{get_or_default, get_or-set_other, get_or-set_same}
 use Rattle.md_check.specs.declared.found.Pair.{Pair}
 use Rattle.md_check.specs.Differences.{AddsToPair, IsPairSized}

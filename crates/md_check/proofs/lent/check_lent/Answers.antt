@@ -1,4 +1,4 @@
-use Rattle.std.proofs.Common.{◌≡◌, ◌∙◌, ◌+◌, ◌*◌, ◌/◌, ◌<◌, ◌≤◌, ◌++◌, ℕ, List, length, take, drop, get_or, min, None, Some, refl, ap, sym, subst, arith, vec_len}
+use Rattle.std.proofs.Common.{◌≡◌, ◌∙◌, ◌+◌, ◌*◌, ◌/◌, ◌<◌, ◌≤◌, ℕ, List, length, take, get_or, min, None, Some, ap, sym, subst, arith, vec_len}
 use Rattle.std.proofs.lemmas.List.{length-take-le}
 use Rattle.std.specs.List.{All}
 use Rattle.md_check.specs.declared.reader.Reader.{Reader}
@@ -148,8 +148,8 @@ loop-from-preserved g c =
           (ap (λ (s : Reader _). s.device) h.0) (ap (λ (s : Reader _). s.role) h.0) (ap (λ (s : Reader _). s.offset) h.0) (ap (λ (s : Reader _). s.listed) h.0));
       kept = pairs_stay_then c.args.found.now c.loop-from.found c.compare_window.new.found inv.kept (compared_keeps (ReaderShows (in_window bytes from) mids) c.args.chunks from (from + sectors) c.loop-from.found c.compare_window.new.found adds);
       compared = λ honest. compared_after (ReaderShows (on_device g.D.Device) firsts) (ReaderShows (in_window bytes from) mids) c.args.chunks from (from + sectors) c.loop-from.found c.compare_window.new.found (omega arith) (inv.compared honest) adds
-          (λ s up below k bytes. from_device bytes from (length bytes / 512) firsts olds mids inv.read len turned none honest s up (omega arith) k bytes)
-          (λ s up below k bytes. from_window bytes from (length bytes / 512) firsts olds mids inv.read len turned none honest s up (omega arith) k bytes);
+          (λ s up below k shown. from_device bytes from (length bytes / 512) firsts olds mids inv.read len turned none honest s up (omega arith) k shown)
+          (λ s up below k shown. from_window bytes from (length bytes / 512) firsts olds mids inv.read len turned none honest s up (omega arith) k shown);
     }
 
 pub returns : goal.returns

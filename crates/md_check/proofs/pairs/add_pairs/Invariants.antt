@@ -1,4 +1,4 @@
-use Rattle.std.proofs.Common.{◌≡◌, ◌++◌, ℕ}
+use Rattle.std.proofs.Common.{◌≡◌, ◌++◌}
 use Rattle.std.specs.List.{All, flat_map, range_with_len}
 use Rattle.md_check.specs.Differences.{IsEmptySet, IsPairSized}
 use Rattle.md_check.specs.Pairs.{pair_names, pair_of}

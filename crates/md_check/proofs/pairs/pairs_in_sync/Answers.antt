@@ -1,5 +1,5 @@
-use Rattle.std.proofs.Common.{◌≡◌, ◌∙◌, ◌++◌, ℕ, List, ap, length, sym}
-use Rattle.md_check.specs.Pairs.{pair_names, pairs_with}
+use Rattle.std.proofs.Common.{◌∙◌, ◌++◌, ℕ, List, ap, length, sym}
+use Rattle.md_check.specs.Pairs.{pairs_with}
 use Rattle.md_check.proofs.PairsInTurn.{flat_map_next}
 use Rattle.md_check.proofs.pairs.pairs_in_sync.Goals as goal
 
