@@ -62,7 +62,6 @@ fn chunk_where_set<S: Sink>(
     chunk_line(out, start, start + sectors, found.pairs.as_slice(), c)
 }
 
-#[tactic(auto, unfolding(crate::specs::CheckReport::chunk_line), using(md_examine::proofs::Puts::puts_then))]
 fn chunk_line<S: Sink>(
     out: &mut S,
     start: u64,
