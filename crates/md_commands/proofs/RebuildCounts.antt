@@ -59,7 +59,7 @@ stopped_at k j old new s =
     ⊎_elim (λ lost. gone_on old new lost.loses.goes) (λ at. halts at.failing at.mid new nothing (at.halts nothing) ∙ gone_on old at.mid at.stores.goes) s.ends
 
 stopped_admitted : (k j : ℕ) (old new : MirrorView) → EndsAdmitted k j old new → AsMany old new
-stopped_admitted k j old new s = stopped_at k j s.admitted new s.stops ∙ admitted k old s.admitted s.after
+stopped_admitted k j old new s = stopped_at k j s.admitted new s.ends ∙ admitted k old s.admitted s.after
 
 -- ---- passes
 recorded : (k : ℕ) (chunks : List ℕ) (p : PassView) (before after : Bitmap) (old new : MirrorView) → RecordsPass k chunks p before after old new → AsMany old new

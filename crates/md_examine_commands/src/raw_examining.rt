@@ -35,7 +35,10 @@ pub(crate) fn show_raw_superblock<D: Device, S: Sink>(
 {
     let mut bytes = [0; 4096];
     match read_raw_super(device, &mut bytes) {
-        Ok((read, found)) => put_raw_superblock(out, json, read, &bytes, &found),
+        Ok(parts) => {
+            let found = parts.1;
+            put_raw_superblock(out, json, parts.0, &bytes, &found)
+        }
         Err(fault) => Err(refusal(fault)),
     }
 }

@@ -1,5 +1,6 @@
 -- Runs of sectors, one after another.
 use Rattle.std.proofs.Common.{◌≡◌, ℕ, zero, suc, ◌+◌, ◌<◌, ◌≤◌, ◌^◌, List, [], ◌∷◌, length, take, get_or, arith}
+use Rattle.std.proofs.lemmas.List.Sums.{sum_by-cons}
 use Rattle.md_badblocks.specs.declared.run.Run.{Run}
 use Rattle.md_badblocks.specs.Runs.{IsCanonical, RisesFrom}
 use Rattle.md_messages.specs.Missing.{missing_count}
@@ -18,7 +19,8 @@ rises_few low runs zero rises fits = omega (arith, fits)
 rises_few low [] (suc n) rises fits = omega (arith, fits)
 rises_few low (run ∷ runs) (suc n) rises fits =
     let rest = rises_few (run.start + run.len + 1) runs n rises.3 (omega (arith, rises.2)) in
-    omega (arith, rest, rises.0)
+    let all : missing_count (take (suc n) (run ∷ runs)) ≡ run.len + missing_count (take n runs) = sum_by-cons (λ (r : Run). r.len) run (take n runs) in
+    omega (arith, rest, rises.0, all)
 
 pub sectors_few : (runs : List Run) (n : ℕ) → IsCanonical runs → missing_count (take n runs) ≤ 2 ^ 54 + 1
 sectors_few runs n canonical = let few = rises_few 0 runs n canonical (omega arith) in omega (arith, few)

@@ -7,7 +7,7 @@ use Rattle.md_words.specs.Asks.{Ask, fills}
 -- one sector
 abbrev pub single_text : ℕ → List ℕ
 single_text first =
-    codes "mdcli: sector " ++ decimal first ++ codes " of the array is missing: zeros stand in its place\n"
+    (codes "mdcli: sector " ++ decimal first) ++ codes " of the array is missing: zeros stand in its place\n"
 
 -- those from one to another
 abbrev pub between_text : ℕ → ℕ → List ℕ

@@ -72,7 +72,6 @@ fn run_line<S: Sink>(out: &mut S, run: &Run) -> Result<(), SinkFault>
     }
 }
 
-#[tactic(auto, using(md_examine::proofs::Puts::puts_then))]
 fn sector_line<S: Sink>(out: &mut S, sector: u64) -> Result<(), SinkFault>
     ensures { PutsOrFails S.contents S.failed out.old out.new (single_text sector) result }
 {

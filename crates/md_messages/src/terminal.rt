@@ -91,5 +91,5 @@ fn is_answered_yes<R: Source>(input: &mut R) -> bool
 pub fn is_yes(line: &[u8]) -> bool
     ensures { result ≡ is_yes line.now }
 {
-    line == b"yes\n" || line == b"y\n"
+    line == b"yes\n".as_slice() || line == b"y\n".as_slice()
 }

@@ -20,7 +20,7 @@ pub struct Destination<'a, W> {
     failed: bool,
 }
 
-impl<'a, W: Write> Destination<'a, W> {
+impl<'a, W: Write + Drop> Destination<'a, W> {
     /// Standard output.
     pub fn standard(writer: Cleared<'a, W>) -> Destination<'a, W> {
         Destination {

@@ -17,7 +17,7 @@ pub fn output_of<'a, E>(parsed: &Result<Request<'a>, E>) -> Option<&'a str> {
 
 /// Where a command puts out: to this writer, or to a new file where one is asked for, which is made before anything is read.
 /// Says on `err` why it can't be.
-pub fn destination_of<'a, W: Write, E: Write>(
+pub fn destination_of<'a, W: Write + Drop, E: Write>(
     rt: &'a HostRuntime,
     path: Option<&'a str>,
     standard: Cleared<'a, W>,
@@ -37,7 +37,7 @@ pub fn destination_of<'a, W: Write, E: Write>(
 }
 
 /// Ends the file, where there is one. Says on `err` why it can't.
-pub fn is_file_ended<'a, W: Write, E: Write>(
+pub fn is_file_ended<'a, W: Write + Drop, E: Write>(
     destination: Destination<'a, W>,
     messages: Messages,
     err: &mut E,

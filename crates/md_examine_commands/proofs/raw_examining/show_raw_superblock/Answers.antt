@@ -11,8 +11,8 @@ returns-in-Ok-clause-gives g c =
     let call = c.put_raw_superblock in
     let read = c.read_raw_super.new in
     let Failed = d.failures was < d.failures read.device in
-    reported g.S.Sink (ShowsSuper (d.content was) (d.honest was) Failed c.args.json) (IsRaw (RefusesRawSuper (d.content was))) c.args.out.now call.new.out (raw_superblock_shown c.args.json c.in-Ok.read read.bytes c.in-Ok.found) call.result
-    (record { sectors = c.in-Ok.read; bytes = read.bytes; found = c.in-Ok.found; read = c.in-Ok.ensures.ok; elsewhere = c.in-Ok.ensures.finds; is = refl }) call.ensures
+    reported g.S.Sink (ShowsSuper (d.content was) (d.honest was) Failed c.args.json) (IsRaw (RefusesRawSuper (d.content was))) c.args.out.now call.new.out (raw_superblock_shown c.args.json c.in-Ok.parts.0 read.bytes c.in-Ok.parts.1) call.result
+    (record { sectors = c.in-Ok.parts.0; bytes = read.bytes; found = c.in-Ok.parts.1; read = c.in-Ok.ensures.ok; elsewhere = c.in-Ok.ensures.finds; is = refl }) call.ensures
 
 pub returns-in-Err-clause-gives : goal.returns-in-Err-clause-gives
 returns-in-Err-clause-gives g c =

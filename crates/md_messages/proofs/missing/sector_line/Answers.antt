@@ -1,0 +1,5 @@
+use Rattle.md_examine.proofs.Puts.{puts_then}
+use Rattle.md_messages.proofs.missing.sector_line.Goals as goal
+
+pub returns : goal.returns
+returns g c = puts_then g.S.Sink.contents g.S.Sink.failed c.in_ok-number_after.ensures c.in_ok-put.ensures
