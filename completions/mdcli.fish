@@ -46,7 +46,7 @@ complete -c mdcli -n '__fish_seen_subcommand_from read' -l count -x -d "The numb
 complete -c mdcli -n '__fish_seen_subcommand_from read' -l fill -d "Goes on past sectors that are not given, and writes zeros in their place"
 complete -c mdcli -n '__fish_seen_subcommand_from read' -l map-out -x -d "With --fill: makes a new file, ddrescue's map of the array as far as it is read"
 complete -c mdcli -n '__fish_seen_subcommand_from read' -l output -x -d "Makes a new file of the sectors, and writes nothing to standard output; blocks of zeros are holes in it"
-complete -c mdcli -n '__fish_seen_subcommand_from check' -l list -d "Shows where members differ too: a line for each such chunk"
+complete -c mdcli -n '__fish_seen_subcommand_from check' -l list -d "Shows where members differ too, and which: a line for each such chunk"
 complete -c mdcli -n '__fish_seen_subcommand_from add re-add' -l device -r -F -d "The image that joins the array: a file or a block device, none of those listed"
 complete -c mdcli -n '__fish_seen_subcommand_from examine examine-bitmap examine-badblocks create assemble detail plan read write check resync stop fail remove add re-add rebuild' -s v -l verbose -d "Says more of a refusal: the image that it is about, and what to do"
 

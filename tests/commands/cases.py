@@ -467,7 +467,12 @@ OBJECTS_OF_TWO = ",".join(
     for k, name in enumerate("ab")
 )
 SHORT_OBJECT = '{"report":"assemble","in_sync":2,"raid_devices":2,"events":1,"marked_chunks":0,"members":[%s]}\n' % OBJECTS_OF_TWO
-CHECKED = '{"report":"check","mismatched_chunks":1,"mismatches":[{"sector":8,"sectors":8}],"members":[%s]}\n' % OBJECTS_OF_TWO
+CHECKED = '{"report":"check","mismatched_chunks":1,"mismatches":[{"sector":8,"sectors":8,"pairs":[[0,1]]}],"members":[%s]}\n' % OBJECTS_OF_TWO
+
+# Three members of which some differ in two chunks.
+THREE_DIFFER = (
+    "           8 for 8 sectors, members %s\n          16 for 8 sectors, members 0!=1 0!=2 1!=2\nmismatched chunks: 2\n"
+)
 
 # Two members of three that agree, and a spare.
 WITH_A_SPARE = [
@@ -719,7 +724,7 @@ CASES = [
             Made("b", "b", lambda image: members.with_data(image, 8, DATA[:SECTOR])),
             Step("check a b", DIFFER),
             Step("check --readonly b a", DIFFER),
-            Step("check --list a b", "           8 for 8 sectors\n" + DIFFER),
+            Step("check --list a b", "           8 for 8 sectors, members 0!=1\n" + DIFFER),
             Step("check --json a b", CHECKED),
             Step("assemble --json --readonly a b", SHORT_OBJECT),
             Step("detail --json --readonly a b", ('{"report":"detail","array_uuid":"', '}]}\n')),
@@ -730,6 +735,31 @@ CASES = [
             Step("check a b", AGREE),
             Step("check --list --readonly a b", AGREE),
             Step("check b", AGREE, told=UNNAMED % (0, 0) + UNCOMPARED % "b"),
+        ],
+    ),
+    (
+        "which of three members differ",
+        THREE,
+        [
+            create("raid1", 3, 4, "--assume-clean a b c", output="in sync 3 of 3, events 1, marked 0\n", changes="a b c"),
+            Step("check --list a b c", AGREE),
+            Made("c", "c", lambda image: members.with_data(image, 8, DATA[:SECTOR])),
+            Step("check --list a b c", "           8 for 8 sectors, members 0!=2 1!=2\n" + DIFFER),
+            # Members are named by their places among the images.
+            Step("check --list --readonly c a b", "           8 for 8 sectors, members 0!=1 0!=2\n" + DIFFER),
+            # In another chunk two of them are each other than the rest in a sector of its own.
+            Made("b", "b", lambda image: members.with_data(image, 16, DATA[:SECTOR])),
+            Made("c", "c", lambda image: members.with_data(image, 23, DATA[SECTOR:])),
+            Step("check --list a b c", THREE_DIFFER % "0!=2 1!=2"),
+            SaysTheSame("check a b c"),
+            SaysTheSame("check b c a"),
+            # What a member lists as bad is compared with nothing.
+            Made("a", "a", lambda image: members.with_bad_blocks(image, [(2048 + 8, 1)])),
+            Step("check --list a b c", THREE_DIFFER % "1!=2"),
+            Step("check a b c", "mismatched chunks: 2\n"),
+            # One that is not in sync is no member of a pair.
+            Step("fail --member 2 a b c", "in sync 2 of 3, events 3, marked 0\n", changes="a b"),
+            Step("check --list --readonly a b c", "          16 for 8 sectors, members 0!=1\n" + DIFFER),
         ],
     ),
     (

@@ -145,11 +145,25 @@ def plan(lines):
     }
 
 
+def mismatches(lines):
+    """The chunks that lines say, with the members that differ there, as `8 for 8 sectors, members 0!=1 0!=2`."""
+    found = [re.fullmatch(r" *(\d+) for (\d+) sectors, members((?: \d+!=\d+)+)", line) for line in lines]
+    return [
+        {
+            "sector": int(one[1]),
+            "sectors": int(one[2]),
+            "pairs": [[int(index) for index in pair.split("!=")] for pair in one[3].split()],
+        }
+        for one in found
+        if one
+    ]
+
+
 def check(lines):
     return {
         "report": "check",
         "mismatched_chunks": int(re.fullmatch(r"mismatched chunks: (\d+)", lines[-1])[1]),
-        "mismatches": runs(lines),
+        "mismatches": mismatches(lines),
     }
 
 

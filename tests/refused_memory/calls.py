@@ -13,7 +13,7 @@ import support
 WITHIN = {
     "md_array::Mirror::enrol": "md_copy::rebuild",
     "md_assembly::assemble": "md_array::Mirror::open",
-    "md_check::find_mismatches": "md_check::check_array",
+    "md_check::compare_members": "md_commands::list_mismatches",
     "md_create::new_spare": "md_array::Mirror::add",
     "md_images::lay_over": "md_cli::run",
     "md_kept_members::united_marks": "md_array::Mirror::open",

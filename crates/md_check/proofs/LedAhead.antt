@@ -1,13 +1,12 @@
 -- The first member is read a window ahead, and its bytes change places with those of the window before.
-use Rattle.std.proofs.Common.{◌≡◌, ℕ, ◌+◌, ◌*◌, ◌/◌, ◌<◌, ◌≤◌, true, None, List, [], ◌∷◌, length, take, get_or, is_some, inl, inr, refl, ap, sym, ◌∙◌, subst, arith}
+use Rattle.std.proofs.Common.{◌≡◌, ℕ, ◌*◌, ◌/◌, ◌<◌, ◌≤◌, true, None, List, [], ◌∷◌, length, take, get_or, is_some, inl, inr, refl, ap, sym, ◌∙◌, subst, arith}
 use Rattle.std.proofs.lemmas.Bool.{cases_lt}
 use Rattle.std.proofs.lemmas.List.{length-take-le}
 use Rattle.std.proofs.Math.Nat.{eq-or-lt_of_le}
 use Rattle.md_device.specs.declared.device.Device.{Ghosts}
-use Rattle.md_bitmap.specs.declared.chunks.Chunks.{Chunks}
 use Rattle.md_badblocks.specs.declared.run.Run.{Run}
 use Rattle.md_check.specs.declared.reader.Reader.{Reader}
-use Rattle.md_check.specs.Readings.{HasLed, HasTurned, HasUnlisted, IsLead}
+use Rattle.md_check.specs.Readings.{HasLed, HasUnlisted, IsLead}
 use Rattle.md_check.specs.Readers.{AreReadersRead, HaveNotFailed, OnlyReaderRead}
 use Rattle.md_check.proofs.SectorsRead.{taken_is_read}
 

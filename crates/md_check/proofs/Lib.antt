@@ -4,6 +4,8 @@ mod SectorsRead
 mod ChunkSectors
 -- Sets of chunks in which members differ, as more sectors are looked at.
 mod Differing
+-- A comparison, as more sectors are looked at.
+mod Compared
 -- Lists that lose their first element, one after another.
 mod TakenInTurn
 -- Sets of runs that are built run by run.
@@ -14,6 +16,8 @@ mod WindowsRead
 mod MemberReaders
 -- What was read of a sector is compared with the first that shows it.
 mod WindowCompared
+-- Pairs of members, one after another.
+mod PairsInTurn
 -- A list that was lent as a slice comes back as the slice was left.
 mod LentSlices
 -- The first member is read a window ahead, and its bytes change places with those of the window before.

@@ -1,6 +1,5 @@
 -- Readers stand for the members of a mirror.
 use Rattle.std.proofs.Common.{◌≡◌, ℕ, ◌+◌, ◌<◌, ◌≤◌, ◌↔◌, Bool, true, false, List, length, map, get_or, is_some, Some, refl, ap, sym, ◌∙◌, subst, arith, slice_get, option_map}
-use Rattle.std.specs.Int.{div_ceil}
 use Rattle.std.specs.List.{All}
 use Rattle.std.proofs.lemmas.List.{length-map}
 use Rattle.std.proofs.lemmas.Option.{get_or_from_slice_get, slice_get-get_or, slice_get-map, slice_get_within}
@@ -28,24 +27,28 @@ use Rattle.md_array.specs.Worlds as worlds
 use Rattle.md_check.specs.declared.lent.Missed.{Missed}
 use Rattle.md_check.specs.declared.order.Order.{Order}
 use Rattle.md_check.specs.declared.reader.Reader.{Reader}
-use Rattle.md_check.specs.Checking.{Checks, FailsChecking, FindsMismatches, MarksMembers, UsesInSync}
-use Rattle.md_check.specs.Differences.{AreDifferent}
-use Rattle.md_check.specs.Mismatches.{Mismatches, Shows}
+use Rattle.md_check.specs.declared.found.Comparison.{Comparison}
+use Rattle.md_check.specs.declared.found.Pair.{Pair}
+use Rattle.md_check.specs.Checking.{AreBetween, Checks, ComparesMembers, FailsChecking, FindsMismatches, FindsOfPairs, UsesInSync}
+use Rattle.md_check.specs.Differences.{AreCompared, AreDifferent, DifferIn, IsEmpty, IsSized}
+use Rattle.md_check.specs.Mismatches.{Mismatches, MismatchesBetween, Shows}
+use Rattle.md_check.specs.Pairs.{pair_names, pairs_in_sync}
 use Rattle.md_check.specs.Plans.{AreOrders, IsReaderOf}
 use Rattle.md_check.specs.Readings.{MissesChunk, MissesIn}
 use Rattle.md_check.specs.Readers.{AreReadersHonest, AreReadersRead, HaveNotFailed, HasDataOnDevice, OnlyReaderRead, ReaderShows, on_device}
-use Rattle.md_check.proofs.Differing.{differ_as}
+use Rattle.md_check.proofs.Compared.{names_stay, pairs_stay, still_sized}
+use Rattle.md_check.proofs.Differing.{between_as, differ_as}
 
 -- where at most one member is in sync no two differ
 pub alone_same : (disks : List Disk) (a : ArrayView) (c : ℕ) → IsAlone a → Mismatches disks a c → ⊥
 alone_same disks a c alone m =
     let d = m.differ in
-    let one = d.shows in
-    let other = d.shows_other in
+    let one = d.between.shows in
+    let other = d.between.shows_other in
     let same : d.one ≡ d.other = alone d.one d.other one.member other.member one.in_sync other.in_sync in
     let member : one.member ≡ other.member = got_same a.members d.other one.member other.member (subst (λ k. slice_get a.members k ≡ Some one.member) same one.in_sync.member) other.in_sync.member in
     let disk : one.disk ≡ other.disk = got_same disks d.other one.disk other.disk (subst (λ k. slice_get disks k ≡ Some one.disk) same one.there) other.there in
-    d.differ
+    d.between.differ
     (sym one.is ∙ ap (λ (x : Disk). held x.content (one.member.superblock.data_offset + m.sector) 512) disk
     ∙ ap (λ (x : MemberView). held other.disk.content (x.superblock.data_offset + m.sector) 512) member ∙ other.is)
 
@@ -74,26 +77,43 @@ rests_alone v = record {
 no_mark : (b : Bool) → b ≡ true → b ≡ false → ⊥
 no_mark b t f = cc
 
--- with one member in sync the set is empty
-pub marks_alone : (v : MirrorView) (marks : Bitmap) → IsAlone v.array → ((c : ℕ) → is_set marks.bytes c ≡ false) → MarksMembers marks marks v v
-marks_alone v marks alone none = record {
-  chunks = refl;
+some_two : (disks : List Disk) (a : ArrayView) (one other c : ℕ) → MismatchesBetween disks a one other c → Mismatches disks a c
+some_two disks a one other c m = record { sector = m.sector; inside = m.inside; differ = record { one = one; other = other; between = m.differ } }
+
+-- with one member in sync each set is empty
+pub finds_alone : (v : MirrorView) (found : Comparison) → IsAlone v.array → IsEmpty found → FindsOfPairs found found v v
+finds_alone v found alone empty = record {
+  kept = pairs_stay found;
   rests = rests_alone v;
   uses = record { others = λ k m at away. refl; alone = λ _. refl };
   unfailing = λ k d e at there. ap (λ (x : Disk). x.failures) (got_same v.disks k e d there at);
-  bits = λ honest c. (λ e. absurd (no_mark (is_set marks.bytes c) e (none c)), λ m. absurd (alone_same v.disks v.array c alone m));
+  bits = λ honest c. (λ e. absurd (no_mark (is_set found.chunks.bytes c) e (empty.none c)), λ m. absurd (alone_same v.disks v.array c alone m));
+  between = λ honest p d below c.
+      let pair = get_or found.pairs.items p d in (
+        λ e. absurd (no_mark (is_set pair.chunks.bytes c) e (empty.pairs_none p d below c)),
+        λ m. absurd (alone_same v.disks v.array c alone (some_two v.disks v.array pair.one pair.other c m)),
+      );
 }
 
--- the marks, of which there were none, are the set
-pub finds : (old new : MirrorView) (before after : Bitmap) → IsConsistent old → IsIdle old.array → before.chunks ≡ div_ceil old.array.chunks.size old.array.chunks.sectors → MarksMembers before after old new
-    → FindsMismatches old new after
-finds old new before after sound idle many marks = record {
+-- the chunks that were found, where there were none, are the set
+pub finds : (old new : MirrorView) (before after : Comparison) → IsConsistent old → IsIdle old.array → IsSized old.array.chunks before → FindsOfPairs before after old new → FindsMismatches old new after.chunks
+finds old new before after sound idle sized found = record {
   idle = idle;
-  rests = marks.rests;
-  uses = marks.uses;
-  unfailing = marks.unfailing;
-  chunks = marks.chunks ∙ many ∙ sym sound.chunks.count;
-  bits = marks.bits;
+  rests = found.rests;
+  uses = found.uses;
+  unfailing = found.unfailing;
+  chunks = found.kept.chunks ∙ sized.sized ∙ sym sound.chunks.count;
+  bits = found.bits;
+}
+
+-- so are they of each two members in sync, where each two were a pair before
+pub compares : (old new : MirrorView) (before after : Comparison) → IsConsistent old → IsIdle old.array → IsSized old.array.chunks before → pair_names before.pairs.items ≡ pairs_in_sync old.array → FindsOfPairs before after old new
+    → ComparesMembers old new after
+compares old new before after sound idle sized all found = record {
+  finds = finds old new before after sound idle sized found;
+  pairs = names_stay before after found.kept ∙ all;
+  sized = λ p d below. (still_sized old.array.chunks before after found.kept sized).pairs_sized p d below ∙ sym sound.chunks.count;
+  between = found.between;
 }
 
 -- the set's number is the count
@@ -214,8 +234,24 @@ module _ {D : Type 0} (g : Ghosts D) (old : MirrorView) (sound : IsConsistent ol
       let is = (stands k (get_or readers k d) disk.0 m.0 (reader_at k d within) disk.1 m.1).room_is in
       omega (arith, is)
 
+  -- a pair's chunks, seen from the mirror
+  pub mismatches_between : (found : Comparison) → AreCompared (ReaderShows (on_device g) readers) old.array.chunks old.array.chunks.size found → All (λ (pair : Pair). AreBetween old.disks old.array pair) found.pairs.items
+  mismatches_between found compared p d below c =
+      let pair = get_or found.pairs.items p d in
+      let its = (compared.each p d below).bits c in (
+        λ e. let d = its.0 e in
+            record { sector = d.sector; inside = d.inside; differ = between_as (ReaderShows (on_device g) readers) (Shows old.disks old.array) pair.one pair.other d.sector (λ k bytes. from_reader k d.sector bytes) d.differ },
+        λ m. its.1 (record {
+          sector = m.sector;
+          inside = m.inside;
+          not_before = omega arith;
+          before = m.inside.within;
+          differ = between_as (Shows old.disks old.array) (ReaderShows (on_device g) readers) pair.one pair.other m.sector (λ k bytes. from_member k m.sector bytes) m.differ;
+        }),
+      )
+
   -- the set of chunks, seen from the mirror
-  pub mismatches : (marks : Bitmap) → AreDifferent (ReaderShows (on_device g) readers) old.array.chunks old.array.chunks.size marks → (c : ℕ) → (is_set marks.bytes c ≡ true) ↔ Mismatches old.disks old.array c
+  pub mismatches : (marks : Bitmap) → AreDifferent (DifferIn (ReaderShows (on_device g) readers)) old.array.chunks old.array.chunks.size marks → (c : ℕ) → (is_set marks.bytes c ≡ true) ↔ Mismatches old.disks old.array c
   mismatches marks different c = (
     λ e. let d = (different.bits c).0 e in record { sector = d.sector; inside = d.inside; differ = differ_as (ReaderShows (on_device g) readers) (Shows old.disks old.array) d.sector (λ k bytes. from_reader k d.sector bytes) d.differ },
     λ m. (different.bits c).1 (record {

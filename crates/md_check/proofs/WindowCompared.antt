@@ -1,31 +1,37 @@
 -- What was read of a sector is compared with the first that shows it.
-use Rattle.std.proofs.Common.{◌≡◌, ℕ, ◌+◌, ◌-◌, ◌<◌, ◌≤◌, true, false, is_some, List, get_or, Some, refl, sym, ◌∙◌, ap, arith, inl, inr, subst, length}
+use Rattle.std.proofs.Common.{◌≡◌, ℕ, ◌+◌, ◌-◌, ◌<◌, ◌≤◌, Bool, true, false, not, is_some, List, Some, refl, sym, ◌∙◌, ap, arith, inl, inr, subst, length}
 use Rattle.std.specs.List.{All, slice_get}
 use Rattle.std.proofs.Math.Nat.{eq-or-lt_of_le}
-use Rattle.std.proofs.lemmas.Bool.{cases_lt}
 use Rattle.std.proofs.lemmas.Option.{get_or_from_slice_get, slice_get_within}
 use Rattle.md_device.specs.Device.{held}
 use Rattle.md_assembly.proofs.Indices.{got_same}
 use Rattle.md_badblocks.specs.Runs.{IsBad}
 use Rattle.md_check.specs.declared.reader.Reader.{Reader}
-use Rattle.md_check.specs.Differences.{DifferIn}
+use Rattle.md_check.specs.Differences.{DifferBetween, DifferIn}
 use Rattle.md_check.specs.Readers.{ReaderShows, in_window, shown_of}
+use Rattle.md_check.specs.Showing.{IsShowing}
 
--- it is in sync and does not list the sector
-abbrev pub IsShowing : {D : Type 0} → Reader D → ℕ → Type 0
-IsShowing reader s = (is_some reader.role ≡ true) × (IsBad reader.listed s → ⊥)
+pub not_so : (b : Bool) → (b ≡ true → ⊥) → not b ≡ true
+not_so true never = absurd (never refl)
+not_so false never = refl
 
 module _ {D : Type 0} (readers : List (Reader D)) (lead : List ℕ) (from s : ℕ) where
-  pub differ_at : (i j : ℕ) (x y : Reader D) → slice_get readers i ≡ Some x → slice_get readers j ≡ Some y → IsShowing x s → IsShowing y s → (in_window lead from x s ≡ in_window lead from y s → ⊥)
-      → DifferIn (ReaderShows (in_window lead from) readers) s
-  differ_at i j x y at there one other apart = record {
-    one = i;
-    other = j;
+  pub between_at : (i j : ℕ) (x y : Reader D) → slice_get readers i ≡ Some x → slice_get readers j ≡ Some y → IsShowing x s → IsShowing y s → (in_window lead from x s ≡ in_window lead from y s → ⊥)
+      → DifferBetween (ReaderShows (in_window lead from) readers) i j s
+  between_at i j x y at there one other apart = record {
     bytes = in_window lead from x s;
     other_bytes = in_window lead from y s;
     shows = record { reader = x; there = at; reads = one.0; unlisted = one.1; is = refl };
     shows_other = record { reader = y; there = there; reads = other.0; unlisted = other.1; is = refl };
     differ = apart;
+  }
+
+  pub differ_at : (i j : ℕ) (x y : Reader D) → slice_get readers i ≡ Some x → slice_get readers j ≡ Some y → IsShowing x s → IsShowing y s → (in_window lead from x s ≡ in_window lead from y s → ⊥)
+      → DifferIn (ReaderShows (in_window lead from) readers) s
+  differ_at i j x y at there one other apart = record {
+    one = i;
+    other = j;
+    between = between_at i j x y at there one other apart;
   }
 
   -- the readers below a place show what the first one shows
@@ -45,11 +51,11 @@ module _ {D : Type 0} (readers : List (Reader D)) (lead : List ℕ) (from s : �
 
   pub none_differ : (first : ℕ) (one : Reader D) (k : ℕ) → length readers ≤ k → slice_get readers first ≡ Some one → AgreeBelow first k → DifferIn (ReaderShows (in_window lead from) readers) s → ⊥
   none_differ first one k past at agree d =
-      let a = d.shows in
-      let b = d.shows_other in
+      let a = d.between.shows in
+      let b = d.between.shows_other in
       let below_a = slice_get_within readers d.one a.reader a.there in
       let below_b = slice_get_within readers d.other b.reader b.there in
-      d.differ
+      d.between.differ
       (sym a.is ∙ sym (agree d.one a.reader one (omega arith) a.there at a.reads a.unlisted) ∙ agree d.other b.reader one (omega arith) b.there at b.reads b.unlisted ∙ b.is)
 
 -- where all that was read is the same, no sector of it differs
@@ -58,9 +64,9 @@ shown_lead lead reader alike = rw alike refl
 
 pub none_differ_alike : {D : Type 0} (readers : List (Reader D)) (lead : List ℕ) (from s : ℕ) → All (λ (reader : Reader D). reader.alike ≡ true) readers → DifferIn (ReaderShows (in_window lead from) readers) s → ⊥
 none_differ_alike readers lead from s alike d =
-    let a = d.shows in
-    let b = d.shows_other in
+    let a = d.between.shows in
+    let b = d.between.shows_other in
     let its : (k : ℕ) (reader : Reader _) → slice_get readers k ≡ Some reader → in_window lead from reader s ≡ held lead (s - from) 512
     = λ k reader there. ap (λ (bytes : List ℕ). held bytes (s - from) 512)
     (shown_lead lead reader (subst (λ (x : Reader _). x.alike ≡ true) (get_or_from_slice_get readers k reader reader there) (alike k reader (slice_get_within readers k reader there)))) in
-    d.differ (sym a.is ∙ its d.one a.reader a.there ∙ sym (its d.other b.reader b.there) ∙ b.is)
+    d.between.differ (sym a.is ∙ its d.one a.reader a.there ∙ sym (its d.other b.reader b.there) ∙ b.is)

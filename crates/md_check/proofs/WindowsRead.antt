@@ -12,10 +12,8 @@ use Rattle.md_collect.specs.Reading.{CountsFailure}
 use Rattle.md_workers.proofs.OnlyReads.{not_read, read_then}
 use Rattle.md_check.specs.declared.reader.Reader.{Reader}
 use Rattle.md_check.specs.declared.lent.Missed.{Missed}
-use Rattle.md_check.specs.Differences.{DifferIn}
 use Rattle.md_check.specs.Readings.{HasReadSectors, HasTurned, HasUnlisted, IsLead, IsToRead, MissesIn}
 use Rattle.md_check.specs.Readers.{AreReadersHonest, AreReadersRead, HaveNotFailed, HasDataOnDevice, IsUsed, OnlyReaderRead, ReaderShows, in_window, on_device, shown_of}
-use Rattle.md_check.proofs.Differing.{differ_as}
 
 -- a chunk that is to be read in a window is to be read in the array
 read_at_all : {chunks : Chunks} {from n c : ℕ} (old first : List Run) → old ≡ first → IsToRead chunks old from n c → IsToRead chunks first 0 chunks.size c
@@ -124,7 +122,7 @@ module _ {D : Type 0} {g : Ghosts D} where
           listed_kept (get_or olds k d) (get_or news k d) turned.read ∙ listed_kept (get_or firsts k d) (get_or olds k d) one,
         )
 
-    from_device : (k : ℕ) (bytes : List ℕ) → ReaderShows (on_device g) firsts k s bytes → ReaderShows (in_window lead from) news k s bytes
+    pub from_device : (k : ℕ) (bytes : List ℕ) → ReaderShows (on_device g) firsts k s bytes → ReaderShows (in_window lead from) news k s bytes
     from_device k bytes shows =
         let first = shows.reader in
         let many = so_far.as_many in
@@ -143,7 +141,7 @@ module _ {D : Type 0} {g : Ghosts D} where
           is = same_bytes k first within reads unlisted ∙ ap (λ (x : Reader D). on_device g x s) at ∙ shows.is;
         }
 
-    from_window : (k : ℕ) (bytes : List ℕ) → ReaderShows (in_window lead from) news k s bytes → ReaderShows (on_device g) firsts k s bytes
+    pub from_window : (k : ℕ) (bytes : List ℕ) → ReaderShows (in_window lead from) news k s bytes → ReaderShows (on_device g) firsts k s bytes
     from_window k bytes shows =
         let new = shows.reader in
         let many = so_far.as_many in
@@ -162,12 +160,6 @@ module _ {D : Type 0} {g : Ghosts D} where
           unlisted = λ bad. shows.unlisted (subst (λ (runs : List Run). IsBad runs s) listed bad);
           is = sym (same_bytes k new within reads unlisted) ∙ ap (λ (x : Reader D). in_window lead from x s) at ∙ shows.is;
         }
-
-    pub differ_in_window : DifferIn (ReaderShows (on_device g) firsts) s → DifferIn (ReaderShows (in_window lead from) news) s
-    differ_in_window = differ_as (ReaderShows (on_device g) firsts) (ReaderShows (in_window lead from) news) s from_device
-
-    pub differ_on_devices : DifferIn (ReaderShows (in_window lead from) news) s → DifferIn (ReaderShows (on_device g) firsts) s
-    differ_on_devices = differ_as (ReaderShows (in_window lead from) news) (ReaderShows (on_device g) firsts) s from_window
 
 module _ {D : Type 0} where
   unlike : (lead : List ℕ) (new : Reader D) → new.alike ≡ false → shown_of lead new ≡ new.bytes.items

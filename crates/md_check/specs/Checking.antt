@@ -1,5 +1,6 @@
 -- The members of a mirror are compared: what comes of it, and why it is refused.
-use Rattle.std.specs.Prelude.{◌≡◌, ℕ, ◌+◌, ◌<◌, ◌↔◌, true, false, slice_get}
+use Rattle.std.specs.Prelude.{◌≡◌, ℕ, ◌+◌, ◌<◌, ◌↔◌, true, false, List, slice_get}
+use Rattle.std.specs.List.{All}
 use Rattle.md_bitmap.specs.Marks.{Bitmap, is_set}
 use Rattle.md_bitmap.specs.Chunks.{InChunk}
 use Rattle.md_badblocks.specs.Runs.{IsBad}
@@ -11,11 +12,15 @@ use Rattle.md_state.specs.Steps.MakeClean.{HasInFlight, IsIdle}
 use Rattle.md_state.specs.Members.{IsAlone, IsInSync, IsMember}
 use Rattle.md_state.specs.Rests.{Rests}
 use Rattle.md_state.specs.Trying.{Refuses, RefusesHalted}
-use Rattle.md_state.specs.View.{MirrorView}
+use Rattle.md_state.specs.View.{ArrayView, Disk, MirrorView}
 use Rattle.md_array.specs.Worlds.{AreHonest}
 use Rattle.md_check.specs.declared.fault.CheckFault.{CheckFault}
 use Rattle.md_check.specs.declared.fault.CheckFault.TheVariants.{Halted, InFlight, NoMemory, ReadFault}
-use Rattle.md_check.specs.Mismatches.{CountsMismatches, Mismatches}
+use Rattle.md_check.specs.declared.found.Comparison.{Comparison}
+use Rattle.md_check.specs.declared.found.Pair.{Pair}
+use Rattle.md_check.specs.Differences.{KeepsPairs}
+use Rattle.md_check.specs.Mismatches.{CountsMismatches, Mismatches, MismatchesBetween}
+use Rattle.md_check.specs.Pairs.{pair_names, pairs_in_sync}
 
 -- Of members that are not in sync no device was used, and none at all where one member is in sync.
 pub record UsesInSync (old new : MirrorView) : Type 0 where
@@ -32,6 +37,11 @@ pub record FindsMismatches (old new : MirrorView) (set : Bitmap) : Type 0 where
   pub chunks : set.chunks ≡ old.array.marks.chunks
   pub bits : AreHonest old.disks → (c : ℕ) → (is_set set.bytes c ≡ true) ↔ Mismatches old.disks old.array c
 
+-- the pair's chunks are those in which its two members differ
+abbrev pub AreBetween : List Disk → ArrayView → Pair → Type 0
+AreBetween disks a pair =
+    (c : ℕ) → (is_set pair.chunks.bytes c ≡ true) ↔ MismatchesBetween disks a pair.one pair.other c
+
 -- The count is that of the mirror before. Nothing was written, nothing was in flight, and no read failed.
 pub record Checks (old new : MirrorView) (count : ℕ) : Type 0 where
   pub idle : IsIdle old.array
@@ -40,13 +50,23 @@ pub record Checks (old new : MirrorView) (count : ℕ) : Type 0 where
   pub unfailing : EachPair (λ _ d e. e.failures ≡ d.failures) old.disks new.disks
   pub counts : AreHonest old.disks → CountsMismatches old.disks old.array count
 
--- the marks, of which there were none, are the chunks in which members in sync differ
-pub record MarksMembers (before after : Bitmap) (old new : MirrorView) : Type 0 where
-  pub chunks : after.chunks ≡ before.chunks
+-- The chunks in which some two members differ are found, and each two members in sync, rising, with the chunks in
+-- which these two do: by what the mirror had before.
+pub record ComparesMembers (old new : MirrorView) (found : Comparison) : Type 0 where
+  pub finds : FindsMismatches old new found.chunks
+  pub pairs : pair_names found.pairs.items ≡ pairs_in_sync old.array
+  pub sized : All (λ pair. pair.chunks.chunks ≡ old.array.marks.chunks) found.pairs.items
+  pub between : AreHonest old.disks → All (λ pair. AreBetween old.disks old.array pair) found.pairs.items
+
+-- of the same pairs, the chunks in which members differ, of which none were found before
+pub record FindsOfPairs (before after : Comparison) (old new : MirrorView) : Type 0 where
+  pub kept : KeepsPairs before after
   pub rests : Rests old new
   pub uses : UsesInSync old new
   pub unfailing : EachPair (λ _ d e. e.failures ≡ d.failures) old.disks new.disks
-  pub bits : AreHonest old.disks → (c : ℕ) → (is_set after.bytes c ≡ true) ↔ Mismatches old.disks old.array c
+  pub bits : AreHonest old.disks
+      → (c : ℕ) → (is_set after.chunks.bytes c ≡ true) ↔ Mismatches old.disks old.array c
+  pub between : AreHonest old.disks → All (λ pair. AreBetween old.disks old.array pair) after.pairs.items
 
 -- Member j is in sync, and the first whose device counts one failure more or several: it could not be read in a chunk of which it
 -- does not list each sector.

@@ -1,7 +1,11 @@
--- What members show in the sectors of an array, and the chunks in which two of them differ.
+-- Each two members in sync of an array.
+pub mod Pairs
+-- What members show in the sectors of an array, and the chunks in which some two of them differ or each pair.
 pub mod Differences
 -- Readers: a member's device each, with what is read of it in a window.
 pub mod Readers
+-- What two members show in a sector of a window.
+pub mod Showing
 -- What a worker reads of its reader's member.
 pub mod Readings
 -- What a member's worker has to know of it, made before its device is lent.

@@ -8,7 +8,7 @@ use Rattle.md_badblocks.specs.Runs.{IsBad}
 use Rattle.md_kept_members.specs.View.{MemberView}
 use Rattle.md_state.specs.View.{ArrayView, Disk}
 use Rattle.md_state.specs.Members.{IsInSync}
-use Rattle.md_check.specs.Differences.{DifferIn}
+use Rattle.md_check.specs.Differences.{DifferBetween, DifferIn}
 
 -- member k is in sync and does not list sector s of the array, and these bytes stand there
 pub record Shows (disks : List Disk) (a : ArrayView) (k s : ℕ) (bytes : List ℕ) : Type 0 where
@@ -19,13 +19,19 @@ pub record Shows (disks : List Disk) (a : ArrayView) (k s : ℕ) (bytes : List �
   pub unlisted : IsBad member.bad (member.superblock.data_offset + s) → ⊥
   pub is : held disk.content (member.superblock.data_offset + s) 512 ≡ bytes
 
--- two of them show different bytes in a sector of the chunk
+-- some two of them show different bytes in a sector of the chunk
 pub record Mismatches (disks : List Disk) (a : ArrayView) (c : ℕ) : Type 0 where
   pub sector : ℕ
   pub inside : InChunk a.chunks.sectors a.chunks.size c sector
   pub differ : DifferIn (Shows disks a) sector
 
--- how many chunks do: the set of them, and its number
+-- these two show different bytes in a sector of the chunk
+pub record MismatchesBetween (disks : List Disk) (a : ArrayView) (one other c : ℕ) : Type 0 where
+  pub sector : ℕ
+  pub inside : InChunk a.chunks.sectors a.chunks.size c sector
+  pub differ : DifferBetween (Shows disks a) one other sector
+
+-- in how many chunks some two do: the set of them, and its number
 pub record CountsMismatches (disks : List Disk) (a : ArrayView) (count : ℕ) : Type 0 where
   pub set : Bitmap
   pub chunks : set.chunks ≡ a.marks.chunks

@@ -1,18 +1,16 @@
 // The members of a mirror are compared.
-ghost use Rattle.std.specs.Prelude.{◌≡◌, ◌↔◌, ℕ, IfOk, MatchResult, OnOk, true, false};
-ghost use Rattle.std.specs.Int.{div_ceil};
-ghost use Rattle.md_bitmap.specs.Marks.{is_set};
-ghost use Rattle.md_kept_members.specs.View.{MemberView};
+ghost use Rattle.std.specs.Prelude.{◌≡◌, MatchResult, true, false};
 ghost use Rattle.md_state.specs.Steps.MakeClean.{IsIdle};
 ghost use Rattle.md_state.specs.Members.{IsAlone};
-ghost use Rattle.md_state.specs.Rests.{Rests};
 ghost use Rattle.md_array.specs.Consistency.{IsConsistent};
-ghost use Rattle.md_array.specs.Worlds.{AreHonest};
-ghost use Rattle.md_check.specs.Checking.{Checks, FindsMismatches, MarksMembers, RefusesCheck};
+ghost use Rattle.md_check.specs.Checking.{Checks, ComparesMembers, FindsOfPairs, RefusesCheck};
+ghost use Rattle.md_check.specs.Differences.{IsEmpty, IsSized};
 
 use crate::fault::CheckFault;
+use crate::found::Comparison;
 use crate::lent::{WINDOW, check_lent};
 use crate::order::orders_for;
+use crate::pairs::pairs_in_sync;
 use crate::readers::{leave_readers, readers_of};
 use md_array::Mirror;
 use md_bitmap::Marks;
@@ -21,8 +19,9 @@ use md_workers::Gate;
 use std::alloc::Global;
 use std::thread::Threads;
 
-/// Finds the chunks in which two members in sync differ in a sector that neither lists as bad. Listed sectors are not read,
-/// nor is any device where fewer than two members are in sync.
+/// Finds the chunks in which two members in sync differ in a sector that neither lists as bad, and of each two
+/// members in sync the chunks in which these two do. Listed sectors are not read, nor is any device where fewer
+/// than two members are in sync.
 ///
 /// Each member in sync is read by a worker of its own, in windows of 1 MiB and each chunk by itself; the
 /// gate is called round each read, `source` being the member's role. From the second window on the first
@@ -30,30 +29,26 @@ use std::thread::Threads;
 /// in which not all is the same is read of that member again. All memory is taken before a device is used.
 /// Nothing is written. The first turn in which a read fails ends the check: the error names the first
 /// member that could not be read in it, and the chunk.
-pub fn find_mismatches<D: Device + Drop + Send, G: Gate + Sync, R: Threads + Sync>(
+pub fn compare_members<D: Device + Drop + Send, G: Gate + Sync, R: Threads + Sync>(
     rt: &R,
     alloc: Global,
     mirror: &mut Mirror<D>,
     gate: &G,
-) -> Result<Marks, CheckFault>
+) -> Result<Comparison, CheckFault>
     requires sound { IsConsistent mirror.old }
-    ensures gives { MatchResult result (FindsMismatches mirror.old mirror.new) (RefusesCheck mirror.old mirror.new) }
+    ensures gives { MatchResult result
+        (ComparesMembers mirror.old mirror.new) (RefusesCheck mirror.old mirror.new) }
     ensures sound { IsConsistent mirror.new }
 {
-    if mirror.halted() {
-        return Err(CheckFault::Halted);
-    }
-    if let Some(number) = mirror.in_flight() {
-        return Err(CheckFault::InFlight(number));
-    }
-    let mut marks = Marks::none(alloc, mirror.chunks().count())?;
-    if has_two_in_sync(mirror) {
-        mark_mismatches(rt, alloc, mirror, gate, &mut marks)?;
-    }
-    Ok(marks)
+    check_idle(mirror)?;
+    let chunks = Marks::none(alloc, mirror.chunks().count())?;
+    let pairs = pairs_in_sync(alloc, mirror)?;
+    let mut found = Comparison { chunks, pairs };
+    compare(rt, alloc, mirror, gate, &mut found)?;
+    Ok(found)
 }
 
-/// Counts these chunks.
+/// Counts these chunks. No pair is looked at.
 pub fn check_array<D: Device + Drop + Send, G: Gate + Sync, R: Threads + Sync>(
     rt: &R,
     alloc: Global,
@@ -64,8 +59,47 @@ pub fn check_array<D: Device + Drop + Send, G: Gate + Sync, R: Threads + Sync>(
     ensures gives { MatchResult result (Checks mirror.old mirror.new) (RefusesCheck mirror.old mirror.new) }
     ensures sound { IsConsistent mirror.new }
 {
-    let marks = find_mismatches(rt, alloc, mirror, gate)?;
-    Ok(marks.count())
+    check_idle(mirror)?;
+    let chunks = Marks::none(alloc, mirror.chunks().count())?;
+    let pairs = Vec::new(alloc);
+    let mut found = Comparison { chunks, pairs };
+    compare(rt, alloc, mirror, gate, &mut found)?;
+    Ok(found.chunks.count())
+}
+
+// Refuses a mirror that is halted, or has a request in flight.
+fn check_idle<D: Device + Drop>(mirror: &Mirror<D>) -> Result<(), CheckFault>
+    ensures { MatchResult result (λ _. IsIdle mirror.now.array) (RefusesCheck mirror.now mirror.now) }
+{
+    if mirror.halted() {
+        return Err(CheckFault::Halted);
+    }
+    if let Some(number) = mirror.in_flight() {
+        return Err(CheckFault::InFlight(number));
+    }
+    Ok(())
+}
+
+// Finds the chunks in which members in sync differ, and those of each pair.
+fn compare<D: Device + Drop + Send, G: Gate + Sync, R: Threads + Sync>(
+    rt: &R,
+    alloc: Global,
+    mirror: &mut Mirror<D>,
+    gate: &G,
+    found: &mut Comparison,
+) -> Result<(), CheckFault>
+    requires sound { IsConsistent mirror.old }
+    requires idle { IsIdle mirror.old.array }
+    requires sized { IsSized mirror.old.array.chunks found.old }
+    requires none { IsEmpty found.old }
+    ensures gives { MatchResult result (λ _. FindsOfPairs found.old found.new mirror.old mirror.new)
+        (RefusesCheck mirror.old mirror.new) }
+    ensures sound { IsConsistent mirror.new }
+{
+    if has_two_in_sync(mirror) {
+        lend_and_compare(rt, alloc, mirror, gate, found)?;
+    }
+    Ok(())
 }
 
 // Whether two members are in sync.
@@ -85,20 +119,21 @@ fn has_two_in_sync<D: Device + Drop>(mirror: &Mirror<D>) -> bool
     false
 }
 
-// Marks the chunks in which members in sync differ. The devices are lent, and given back.
-fn mark_mismatches<D: Device + Drop + Send, G: Gate + Sync, R: Threads + Sync>(
+// Compares them where two members are in sync. The devices are lent, and given back.
+fn lend_and_compare<D: Device + Drop + Send, G: Gate + Sync, R: Threads + Sync>(
     rt: &R,
     alloc: Global,
     mirror: &mut Mirror<D>,
     gate: &G,
-    marks: &mut Marks,
+    found: &mut Comparison,
 ) -> Result<(), CheckFault>
     requires sound { IsConsistent mirror.old }
     requires idle { IsIdle mirror.old.array }
     requires two { IsAlone mirror.old.array → ⊥ }
-    requires marks { marks.old.chunks ≡ div_ceil mirror.old.array.chunks.size mirror.old.array.chunks.sectors }
-    requires none { (c : ℕ) → is_set marks.old.bytes c ≡ false }
-    ensures gives { MatchResult result (λ _. MarksMembers marks.old marks.new mirror.old mirror.new) (RefusesCheck mirror.old mirror.new) }
+    requires sized { IsSized mirror.old.array.chunks found.old }
+    requires none { IsEmpty found.old }
+    ensures gives { MatchResult result (λ _. FindsOfPairs found.old found.new mirror.old mirror.new)
+        (RefusesCheck mirror.old mirror.new) }
     ensures sound { IsConsistent mirror.new }
 {
     let chunks = mirror.chunks();
@@ -108,7 +143,7 @@ fn mark_mismatches<D: Device + Drop + Send, G: Gate + Sync, R: Threads + Sync>(
     let mut lead = vec![in alloc; 0u8; room]?;
     let mut devices = mirror.lend(alloc);
     readers_of(&mut devices, &mut orders, &mut readers);
-    let answer = check_lent(rt, gate, chunks, &mut lead, &mut readers, marks);
+    let answer = check_lent(rt, gate, chunks, &mut lead, &mut readers, found);
     leave_readers(&mut readers, &mut devices);
     mirror.give_back(devices);
     match answer {

@@ -1,18 +1,17 @@
 // The check of devices that are out of their mirror.
-ghost use Rattle.std.specs.Prelude.{◌≡◌, ◌*◌, ◌<◌, ◌≤◌, MatchOption, IfErr, OnOk, ℕ, false, length, min, None, slice_index_or, Some};
-ghost use Rattle.std.specs.Int.{div_ceil};
+ghost use Rattle.std.specs.Prelude.{◌≡◌, ◌*◌, ◌<◌, ◌≤◌, MatchOption, IfErr, OnOk, ℕ, length, min, None, slice_index_or, Some};
 ghost use Rattle.std.specs.List.{All};
-ghost use Rattle.md_bitmap.specs.Marks.{is_set};
-ghost use Rattle.md_check.specs.Differences.{AreDifferent};
+ghost use Rattle.md_check.specs.Differences.{AreCompared, IsEmpty, IsSized, KeepsPairs};
 ghost use Rattle.md_check.specs.Readings.{MissesIn};
 ghost use Rattle.md_check.specs.Readers.{AreReadersHonest, AreReadersRead, HaveNotFailed, HasDataOnDevice, ReaderShows, on_device};
 
 use crate::alike::first_read;
-use crate::compare::mark_window;
+use crate::compare::compare_window;
+use crate::found::Comparison;
 use crate::reader::Reader;
 use crate::turn::{first_turn, turn};
 use crate::window::Window;
-use md_bitmap::{Chunks, Marks};
+use md_bitmap::Chunks;
 use md_device::Device;
 use md_workers::Gate;
 use std::mem;
@@ -28,32 +27,33 @@ pub(crate) struct Missed {
     pub(crate) chunk: u32,
 }
 
-/// Marks each chunk in which two members in sync differ in a sector that neither lists, window by window:
-/// it is read and compared, and one in which not all is the same is then looked through. From the second window
-/// on the first member is read a window ahead of the others, into `lead`. It takes no memory.
+/// Finds each chunk in which two members in sync differ in a sector that neither lists, and of each pair those in
+/// which these two do, window by window: it is read and compared, and one in which not all is the same is then
+/// looked through. From the second window on the first member is read a window ahead of the others, into `lead`.
+/// It takes no memory.
 pub(crate) fn check_lent<D: Device + Send, G: Gate + Sync, R: Threads + Sync>(
     rt: &R,
     gate: &G,
     chunks: Chunks,
     lead: &mut Vec<u8>,
     readers: &mut Vec<Reader<D>>,
-    marks: &mut Marks,
+    found: &mut Comparison,
 ) -> Result<(), Missed>
     requires read_here { All (λ reader. HasDataOnDevice D.Device chunks reader) readers.old.items }
     requires room { All (λ reader. 512 * min 2048 chunks.size ≤ length reader.bytes.items) readers.old.items }
     requires lead { 512 * min 2048 chunks.size ≤ length lead.old.items }
-    requires marks { marks.old.chunks ≡ div_ceil chunks.size chunks.sectors }
-    requires none { (c : ℕ) → is_set marks.old.bytes c ≡ false }
-    ensures chunks { marks.new.chunks ≡ marks.old.chunks }
-    ensures different { OnOk result (AreReadersHonest D.Device readers.old.items
-        → AreDifferent (ReaderShows (on_device D.Device) readers.old.items) chunks chunks.size marks.new) }
+    requires sized { IsSized chunks found.old }
+    requires none { IsEmpty found.old }
+    ensures kept { KeepsPairs found.old found.new }
+    ensures compared { OnOk result (AreReadersHonest D.Device readers.old.items
+        → AreCompared (ReaderShows (on_device D.Device) readers.old.items) chunks chunks.size found.new) }
     ensures unfailing { OnOk result (HaveNotFailed D.Device (length readers.old.items) readers.old.items readers.new.items) }
     ensures missed { IfErr result (λ missed. MissesIn D.Device chunks readers.old.items readers.new.items missed) }
     ensures read { AreReadersRead D.Device readers.old.items readers.new.items }
 {
     let first = first_read(readers.as_slice()).unwrap_or(0);
     let mut from = WINDOW.min(chunks.size);
-    check_first(rt, gate, chunks, from, readers, marks)?;
+    check_first(rt, gate, chunks, from, readers, found)?;
     let mut sectors = 0;
     while from < chunks.size {
         let ahead = WINDOW.min(chunks.size - from - sectors);
@@ -63,7 +63,7 @@ pub(crate) fn check_lent<D: Device + Send, G: Gate + Sync, R: Threads + Sync>(
         if let Some(missed) = first_missed(readers.as_slice()) {
             return Err(missed);
         }
-        mark_window(readers.as_slice(), bytes, chunks, from, sectors, marks);
+        compare_window(readers.as_slice(), bytes, chunks, from, sectors, found);
         exchange(readers.as_mut_slice(), first, lead);
         from += sectors;
         sectors = ahead;
@@ -78,16 +78,16 @@ fn check_first<D: Device + Send, G: Gate + Sync, R: Threads + Sync>(
     chunks: Chunks,
     sectors: u64,
     readers: &mut Vec<Reader<D>>,
-    marks: &mut Marks,
+    found: &mut Comparison,
 ) -> Result<(), Missed>
     requires inside { sectors ≤ chunks.size }
     requires read_here { All (λ reader. HasDataOnDevice D.Device chunks reader) readers.old.items }
     requires room { All (λ reader. 512 * sectors ≤ length reader.bytes.items) readers.old.items }
-    requires marks { marks.old.chunks ≡ div_ceil chunks.size chunks.sectors }
-    requires none { (c : ℕ) → is_set marks.old.bytes c ≡ false }
-    ensures chunks { marks.new.chunks ≡ marks.old.chunks }
-    ensures different { OnOk result (AreReadersHonest D.Device readers.old.items
-        → AreDifferent (ReaderShows (on_device D.Device) readers.old.items) chunks sectors marks.new) }
+    requires sized { IsSized chunks found.old }
+    requires none { IsEmpty found.old }
+    ensures kept { KeepsPairs found.old found.new }
+    ensures compared { OnOk result (AreReadersHonest D.Device readers.old.items
+        → AreCompared (ReaderShows (on_device D.Device) readers.old.items) chunks sectors found.new) }
     ensures unfailing { OnOk result (HaveNotFailed D.Device (length readers.old.items) readers.old.items readers.new.items) }
     ensures missed { IfErr result (λ missed. MissesIn D.Device chunks readers.old.items readers.new.items missed) }
     ensures read { AreReadersRead D.Device readers.old.items readers.new.items }
@@ -98,7 +98,7 @@ fn check_first<D: Device + Send, G: Gate + Sync, R: Threads + Sync>(
     if let Some(missed) = first_missed(readers.as_slice()) {
         return Err(missed);
     }
-    mark_window(readers.as_slice(), &[], chunks, 0, sectors, marks);
+    compare_window(readers.as_slice(), &[], chunks, 0, sectors, found);
     Ok(())
 }
 

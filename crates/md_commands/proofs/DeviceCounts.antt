@@ -5,7 +5,6 @@ use Rattle.std.proofs.lemmas.List.Edits.{length-remove}
 use Rattle.std.proofs.lemmas.Option.{none-some, slice_get_within}
 use Rattle.md_badblocks.specs.declared.run.Run.{Run}
 use Rattle.md_bitmap.specs.declared.chunks.Chunks.{Chunks}
-use Rattle.md_bitmap.specs.Marks.{Bitmap}
 use Rattle.md_model.specs.Devices.{Stored, Super}
 use Rattle.md_model.specs.Events.{Event}
 use Rattle.md_requests.specs.Pending.{PendingView}
@@ -37,6 +36,7 @@ use Rattle.md_metadata.specs.Stopping.{IsStopping, RefusesStop, StopsMirror}
 use Rattle.md_check.specs.declared.fault.CheckFault.{CheckFault}
 use Rattle.md_check.specs.declared.fault.CheckFault.TheVariants as check
 use Rattle.md_check.specs.Checking.{RefusesCheck}
+use Rattle.md_check.specs.declared.found.Comparison.{Comparison}
 use Rattle.md_read.specs.declared.fault.UnreadFault.TheVariants as unread
 use Rattle.md_resync.specs.declared.fault.ResyncFault.{ResyncFault}
 use Rattle.md_resync.specs.declared.fault.ResyncFault.TheVariants as resync
@@ -323,12 +323,12 @@ module _ {S : Type 0} (s : SinkGhosts S) (old new : MirrorView) (before after : 
   checks_as_many OutputFault h = h.checks.rests.disks.same.as_many
   checks_as_many fault h = absurd h
 
-  pub done_list : (text_of : Bitmap → List ℕ) → ListsMismatches s text_of old new before after → AsMany old new
-  done_list text_of h = h.finds.rests.disks.same.as_many
+  pub done_list : (text_of : Comparison → List ℕ) → ListsMismatches s text_of old new before after → AsMany old new
+  done_list text_of h = h.compares.finds.rests.disks.same.as_many
 
   pub lists_as_many : (fault : CommandFault) → RefusesToList s old new before after fault → AsMany old new
   lists_as_many (Check fault) h = not_checked fault old new h.0
-  lists_as_many OutputFault h = h.finds.rests.disks.same.as_many
+  lists_as_many OutputFault h = h.compares.finds.rests.disks.same.as_many
   lists_as_many fault h = absurd h
 
   module _ {I : Type 0} (i : SourceGhosts I) (sector : ℕ) (input rest : I) where

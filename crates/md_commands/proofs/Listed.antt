@@ -1,8 +1,10 @@
--- What the command that compares answers: the set of chunks, and then the output.
-use Rattle.std.proofs.Common.{ℕ, List, Result, Ok, Err, sym, subst}
+-- What the command that compares answers: what was found, and then the output.
+use Rattle.std.proofs.Common.{◌∙◌, ℕ, List, Result, Ok, Err, sym, subst}
 use Rattle.std.specs.Prelude.{MatchResult}
-use Rattle.md_bitmap.specs.Marks.{Bitmap}
-use Rattle.md_check.specs.Checking.{FindsMismatches}
+use Rattle.md_array.specs.Consistency.{IsConsistent}
+use Rattle.md_check.specs.Checking.{ComparesMembers}
+use Rattle.md_check.specs.Differences.{IsSized}
+use Rattle.md_check.specs.declared.found.Comparison.{Comparison}
 use Rattle.md_examine.specs.declared.sink.Sink.{Ghosts}
 use Rattle.md_state.specs.View.{MirrorView}
 use Rattle.md_commands.specs.declared.fault.CommandFault.{CommandFault}
@@ -10,9 +12,16 @@ use Rattle.md_commands.specs.Checking.{ListsMismatches, RefusesToList}
 use Rattle.md_commands.specs.Output.{FailsOutput, PutsOut}
 
 module _ {S : Type 0} (s : Ghosts S) (old new : MirrorView) (before after : S) where
-  pub listed_or_not : (text_of : Bitmap → List ℕ) (set : Bitmap) → FindsMismatches old new set → (result : Result (Unit {0}) CommandFault)
-      → MatchResult result (λ _. PutsOut s before after (text_of set)) (FailsOutput s after)
+  pub listed_or_not : (text_of : Comparison → List ℕ) (found : Comparison) → ComparesMembers old new found → (result : Result (Unit {0}) CommandFault)
+      → MatchResult result (λ _. PutsOut s before after (text_of found)) (FailsOutput s after)
       → MatchResult result (λ _. ListsMismatches s text_of old new before after) (RefusesToList s old new before after)
-  listed_or_not text_of set finds (Ok x) shown = record { set = set; finds = finds; shown = shown }
-  listed_or_not text_of set finds (Err fault) fails =
-      subst (λ (f : CommandFault). RefusesToList s old new before after f) (sym fails.is) (record { set = set; finds = finds; failed = fails.failed })
+  listed_or_not text_of found compares (Ok x) shown = record { found = found; compares = compares; shown = shown }
+  listed_or_not text_of found compares (Err fault) fails =
+      subst (λ (f : CommandFault). RefusesToList s old new before after f) (sym fails.is) (record { found = found; compares = compares; failed = fails.failed })
+
+-- each set is one of the array's chunks
+pub found_sized : (old new : MirrorView) (found : Comparison) → IsConsistent old → ComparesMembers old new found → IsSized old.array.chunks found
+found_sized old new found sound compares = record {
+  sized = compares.finds.chunks ∙ sound.chunks.count;
+  pairs_sized = λ p d below. compares.sized p d below ∙ sound.chunks.count;
+}

@@ -1,7 +1,7 @@
 -- The command that compares the members in sync.
 use Rattle.std.specs.Prelude.{◌≡◌, ℕ, true, List}
-use Rattle.md_bitmap.specs.Marks.{Bitmap}
-use Rattle.md_check.specs.Checking.{Checks, FindsMismatches, RefusesCheck}
+use Rattle.md_check.specs.Checking.{Checks, ComparesMembers, RefusesCheck}
+use Rattle.md_check.specs.declared.found.Comparison.{Comparison}
 use Rattle.md_examine.specs.declared.sink.Sink.{Ghosts}
 use Rattle.md_report.specs.CheckReport.{check_text}
 use Rattle.md_state.specs.View.{MirrorView}
@@ -28,17 +28,18 @@ module _ {S : Type 0} (s : Ghosts S) where
   RefusesToCheck old new before after OutputFault = ChecksInVain old new after
   RefusesToCheck old new before after fault = ⊥
 
-  -- they are compared, and the chunks in which two of them differ are shown, in a text that is made of their set
-  pub record ListsMismatches (text_of : Bitmap → List ℕ) (old new : MirrorView)
+  -- They are compared, and the chunks in which two of them differ are shown with the pairs that do, in a text that is
+  -- made of what was found.
+  pub record ListsMismatches (text_of : Comparison → List ℕ) (old new : MirrorView)
       (before after : S) : Type 0 where
-    pub set : Bitmap
-    pub finds : FindsMismatches old new set
-    pub shown : PutsOut s before after (text_of set)
+    pub found : Comparison
+    pub compares : ComparesMembers old new found
+    pub shown : PutsOut s before after (text_of found)
 
   -- they are compared, and the output failed
   pub record ListsInVain (old new : MirrorView) (after : S) : Type 0 where
-    pub set : Bitmap
-    pub finds : FindsMismatches old new set
+    pub found : Comparison
+    pub compares : ComparesMembers old new found
     pub failed : s.failed after ≡ true
 
   abbrev pub RefusesToList : MirrorView → MirrorView → S → S → CommandFault → Type 0

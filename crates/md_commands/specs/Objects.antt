@@ -1,6 +1,6 @@
 -- What a command puts out as a JSON object, with the images of the members.
 use Rattle.std.specs.Prelude.{ℕ, Bool, true, false, List}
-use Rattle.md_bitmap.specs.Marks.{Bitmap}
+use Rattle.md_check.specs.declared.found.Comparison.{Comparison}
 use Rattle.md_json.specs.ArrayObjects.{detail_object, summary_object}
 use Rattle.md_json.specs.CheckObject.{check_object}
 use Rattle.md_json.specs.Objects.{object_line}
@@ -16,9 +16,9 @@ abbrev pub planned_line : ArrayView → List (List ℕ) → Planned → List ℕ
 planned_line a images planned =
     object_line (plan_object planned.plan planned.certificate planned.orphans a images)
 
--- a check, of which this is the set of chunks in which members in sync differ
-abbrev pub checked_line : ArrayView → List (List ℕ) → Bitmap → List ℕ
-checked_line a images set = object_line (check_object set a images)
+-- a check, which found this
+abbrev pub checked_line : ArrayView → List (List ℕ) → Comparison → List ℕ
+checked_line a images found = object_line (check_object found a images)
 
 -- ---- as a JSON object, or as text
 

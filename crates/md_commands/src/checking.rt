@@ -13,7 +13,7 @@ use crate::objects::put_check_json;
 use crate::output::{put_checked, put_listed};
 use crate::watch::Watch;
 use md_array::Mirror;
-use md_check::{check_array, find_mismatches};
+use md_check::{check_array, compare_members};
 use md_device::Device;
 use md_examine::Sink;
 use std::alloc::Global;
@@ -44,7 +44,7 @@ pub fn check_members<D: Device + Drop + Send, W: Watch + Sync, S: Sink, T: Threa
     put_checked(mismatched, out)
 }
 
-/// Puts out the same, and before it a line for each of these chunks.
+/// Puts out the same after a line for each of these chunks, with the pairs of members that differ in it.
 pub fn list_mismatches<D: Device + Drop + Send, W: Watch + Sync, S: Sink, T: Threads + Sync>(
     rt: &T,
     alloc: Global,
@@ -62,8 +62,8 @@ pub fn list_mismatches<D: Device + Drop + Send, W: Watch + Sync, S: Sink, T: Thr
 {
     watch.begins_check(sectors_to_read(mirror));
     let chunks = mirror.chunks();
-    let set = find_mismatches(rt, alloc, mirror, watch).map_err(CommandFault::Check)?;
-    put_listed(chunks, &set, out)
+    let found = compare_members(rt, alloc, mirror, watch).map_err(CommandFault::Check)?;
+    put_listed(chunks, &found, out)
 }
 
 /// Puts out the same as a JSON object, of whose members these are the images.
@@ -84,8 +84,8 @@ pub fn check_members_json<D: Device + Drop + Send, W: Watch + Sync, S: Sink, T: 
     ensures pending { (p : PendingView) → IsPending mirror.old.array p → IsPending mirror.new.array p }
 {
     watch.begins_check(sectors_to_read(mirror));
-    let set = find_mismatches(rt, alloc, mirror, watch).map_err(CommandFault::Check)?;
-    put_check_json(&set, mirror, images, out)
+    let found = compare_members(rt, alloc, mirror, watch).map_err(CommandFault::Check)?;
+    put_check_json(&found, mirror, images, out)
 }
 
 // How many sectors a check reads where none is listed as bad: those of the array, on each member in sync.

@@ -1,6 +1,6 @@
 // What a command puts out as a JSON object.
-ghost use Rattle.std.specs.Prelude.{◌≡◌, MatchResult};
-ghost use Rattle.std.specs.Int.{div_ceil};
+ghost use Rattle.std.specs.Prelude.{MatchResult};
+ghost use Rattle.md_check.specs.Differences.{IsSized};
 ghost use Rattle.md_json.specs.ArrayObjects.{detail_object, summary_object};
 ghost use Rattle.md_json.specs.MemberObjects.{texts_of};
 ghost use Rattle.md_json.specs.Objects.{object_line};
@@ -9,7 +9,7 @@ ghost use Rattle.md_commands.specs.Output.{FailsOutput, PutsOut};
 
 use crate::fault::CommandFault;
 use md_array::Mirror;
-use md_bitmap::Marks;
+use md_check::Comparison;
 use md_device::Device;
 use md_examine::Sink;
 use md_json::{check_json, detail_json, plan_json, summary_json};
@@ -72,20 +72,20 @@ pub(crate) fn put_plan_json<D: Device + Drop, S: Sink>(
     Ok(())
 }
 
-/// Puts out in which chunks members in sync differ.
+/// Puts out in which chunks members in sync differ, and which.
 pub(crate) fn put_check_json<D: Device + Drop, S: Sink>(
-    set: &Marks,
+    found: &Comparison,
     mirror: &Mirror<D>,
     images: &[&str],
     out: &mut S,
 ) -> Result<(), CommandFault>
-    requires { set.now.chunks ≡ div_ceil mirror.now.array.chunks.size mirror.now.array.chunks.sectors }
+    requires { IsSized mirror.now.array.chunks found.now }
     ensures { MatchResult result
         (λ _. PutsOut S.Sink out.old out.new
-        (checked_line mirror.now.array (texts_of images.now) set.now))
+        (checked_line mirror.now.array (texts_of images.now) found.now))
         (FailsOutput S.Sink out.new) }
 {
-    check_json(out, set, mirror, images)?;
+    check_json(out, found, mirror, images)?;
     out.flush()?;
     Ok(())
 }

@@ -1,6 +1,6 @@
 // What a command puts out.
-ghost use Rattle.std.specs.Prelude.{◌≡◌, MatchResult, length};
-ghost use Rattle.std.specs.Int.{div_ceil};
+ghost use Rattle.std.specs.Prelude.{MatchResult, length};
+ghost use Rattle.md_check.specs.Differences.{IsSized};
 ghost use Rattle.md_report.specs.CheckReport.{check_text, list_text};
 ghost use Rattle.md_report.specs.DetailReport.{detail_text};
 ghost use Rattle.md_report.specs.RebuiltReport.{planned_text, rebuilt_text};
@@ -9,7 +9,8 @@ ghost use Rattle.md_commands.specs.Output.{FailsOutput, PutsOut};
 
 use crate::fault::CommandFault;
 use md_array::Mirror;
-use md_bitmap::{Chunks, Marks};
+use md_bitmap::Chunks;
+use md_check::Comparison;
 use md_copy::Rebuilt;
 use md_device::Device;
 use md_examine::Sink;
@@ -96,18 +97,18 @@ pub(crate) fn put_checked<S: Sink>(mismatched: u32, out: &mut S) -> Result<(), C
     Ok(())
 }
 
-/// Puts out in which chunks members in sync differ.
+/// Puts out in which chunks members in sync differ, and which.
 pub(crate) fn put_listed<S: Sink>(
     chunks: Chunks,
-    set: &Marks,
+    found: &Comparison,
     out: &mut S,
 ) -> Result<(), CommandFault>
-    requires { set.now.chunks ≡ div_ceil chunks.size chunks.sectors }
+    requires { IsSized chunks found.now }
     ensures { MatchResult result
-        (λ _. PutsOut S.Sink out.old out.new (list_text chunks set.now))
+        (λ _. PutsOut S.Sink out.old out.new (list_text chunks found.now))
         (FailsOutput S.Sink out.new) }
 {
-    check_list_report(out, chunks, set)?;
+    check_list_report(out, chunks, found)?;
     out.flush()?;
     Ok(())
 }

@@ -9,7 +9,7 @@ use Rattle.serde_json.specs.Written.{comma_if, compact_text}
 use Rattle.md_examine.specs.Sink.{Puts}
 use Rattle.md_examine.proofs.Puts.{puts_then}
 use Rattle.md_json.specs.Objects.{Field, elements_text, later_text}
-use Rattle.md_json.proofs.Ranges.{element_more}
+use Rattle.md_json.proofs.Elements.{element_more}
 use Rattle.md_json.proofs.Texts.{is_later, later_more, later_next}
 
 -- the texts of two groups of fields

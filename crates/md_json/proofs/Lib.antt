@@ -1,4 +1,4 @@
 pub mod Members
-pub mod Ranges
-pub mod Texts
+pub mod Elements
 pub mod Chosen
+pub mod Texts

@@ -44,9 +44,9 @@ fn run_elements<S: Sink>(out: &mut S, runs: &[Run]) -> Result<(), SinkFault>
     Ok(())
 }
 
-/// A run, after a comma where it is not the first.
+// A run, after a comma where it is not the first.
 #[tactic(auto, using(md_examine::proofs::Puts::puts_then))]
-pub(crate) fn run_element<S: Sink>(out: &mut S, later: bool, run: &Run) -> Result<(), SinkFault>
+fn run_element<S: Sink>(out: &mut S, later: bool, run: &Run) -> Result<(), SinkFault>
     ensures { PutsOrFails S.contents S.failed out.old out.new
         (comma_if later ++ compact_text (run_object run.now)) result }
 {

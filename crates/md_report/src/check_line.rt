@@ -1,11 +1,12 @@
 // The report of a check.
 ghost use Rattle.std.specs.Prelude.{◌≡◌, ◌<◌, ◌≤◌};
-ghost use Rattle.std.specs.Int.{div_ceil};
-ghost use Rattle.std.specs.List.{flat_map, range_with_len};
+ghost use Rattle.std.specs.List.{All, flat_map, range_with_len};
+ghost use Rattle.md_check.specs.Differences.{IsSized};
 ghost use Rattle.md_examine.specs.Sink.{PutsOrFails};
-ghost use Rattle.md_report.specs.CheckReport.{check_text, chunk_line, chunk_text, list_text};
+ghost use Rattle.md_report.specs.CheckReport.{check_text, chunk_line, chunk_text, list_text, pair_in, pair_text};
 
-use md_bitmap::{Chunks, Marks};
+use md_bitmap::Chunks;
+use md_check::{Comparison, Pair};
 use md_examine::{Sink, SinkFault, number_after, right_aligned_number};
 
 /// Writes one line: in how many chunks members in sync differ. It takes no memory, and fails only where the
@@ -18,24 +19,28 @@ pub fn check_report<S: Sink>(out: &mut S, mismatched: u32) -> Result<(), SinkFau
     Ok(())
 }
 
-/// Writes a line for each chunk of a set, rising, and then in how many chunks members in sync differ. It takes no memory, and
-/// fails only where the sink has failed.
-pub fn check_list_report<S: Sink>(out: &mut S, chunks: Chunks, set: &Marks) -> Result<(), SinkFault>
-    requires { set.now.chunks ≡ div_ceil chunks.size chunks.sectors }
-    ensures { PutsOrFails S.contents S.failed out.old out.new (list_text chunks set.now) result }
+/// Writes a line for each chunk in which members in sync differ, rising, with the pairs of members that do, and then in
+/// how many chunks they differ. It takes no memory, and fails only where the sink has failed.
+pub fn check_list_report<S: Sink>(
+    out: &mut S,
+    chunks: Chunks,
+    found: &Comparison,
+) -> Result<(), SinkFault>
+    requires { IsSized chunks found.now }
+    ensures { PutsOrFails S.contents S.failed out.old out.new (list_text chunks found.now) result }
 {
-    chunk_lines(out, chunks, set)?;
-    check_report(out, set.count())?;
+    chunk_lines(out, chunks, found)?;
+    check_report(out, found.chunks.count())?;
     Ok(())
 }
 
-fn chunk_lines<S: Sink>(out: &mut S, chunks: Chunks, set: &Marks) -> Result<(), SinkFault>
-    requires { set.now.chunks ≡ div_ceil chunks.size chunks.sectors }
+fn chunk_lines<S: Sink>(out: &mut S, chunks: Chunks, found: &Comparison) -> Result<(), SinkFault>
+    requires { IsSized chunks found.now }
     ensures { PutsOrFails S.contents S.failed out.old out.new
-        (flat_map (chunk_text chunks set.now) (range_with_len 0 set.now.chunks)) result }
+        (flat_map (chunk_text chunks found.now) (range_with_len 0 found.now.chunks.chunks)) result }
 {
-    for c in 0..set.chunks() {
-        chunk_where_set(out, chunks, set, c)?;
+    for c in 0..found.chunks.chunks() {
+        chunk_where_set(out, chunks, found, c)?;
     }
     Ok(())
 }
@@ -43,27 +48,65 @@ fn chunk_lines<S: Sink>(out: &mut S, chunks: Chunks, set: &Marks) -> Result<(), 
 fn chunk_where_set<S: Sink>(
     out: &mut S,
     chunks: Chunks,
-    set: &Marks,
+    found: &Comparison,
     c: u32,
 ) -> Result<(), SinkFault>
-    requires all { set.now.chunks ≡ div_ceil chunks.size chunks.sectors }
-    requires within { c < set.now.chunks }
-    ensures { PutsOrFails S.contents S.failed out.old out.new (chunk_text chunks set.now c) result }
+    requires all { IsSized chunks found.now }
+    requires within { c < found.now.chunks.chunks }
+    ensures { PutsOrFails S.contents S.failed out.old out.new (chunk_text chunks found.now c) result }
 {
-    if !set.is_marked(c) {
+    if !found.chunks.is_marked(c) {
         return Ok(());
     }
     let (start, sectors) = chunks.range(c);
-    chunk_line(out, start, start + sectors)
+    chunk_line(out, start, start + sectors, found.pairs.as_slice(), c)
 }
 
-#[tactic(auto, unfolding(crate::specs::CheckReport::chunk_line), using(md_examine::proofs::Puts::puts_then))]
-fn chunk_line<S: Sink>(out: &mut S, start: u64, end: u64) -> Result<(), SinkFault>
-    requires { start ≤ end }
-    ensures { PutsOrFails S.contents S.failed out.old out.new (chunk_line start end) result }
+fn chunk_line<S: Sink>(
+    out: &mut S,
+    start: u64,
+    end: u64,
+    pairs: &[Pair],
+    c: u32,
+) -> Result<(), SinkFault>
+    requires some { start ≤ end }
+    requires within { All (λ pair. c < pair.chunks.chunks) pairs.now }
+    ensures { PutsOrFails S.contents S.failed out.old out.new (chunk_line start end pairs.now c) result }
 {
     right_aligned_number(out, 12, start)?;
     number_after(out, b" for ", end - start)?;
-    out.put(b" sectors\n")?;
+    out.put(b" sectors, members")?;
+    pairs_where_set(out, pairs, c)?;
+    out.put(b"\n")?;
+    Ok(())
+}
+
+fn pairs_where_set<S: Sink>(out: &mut S, pairs: &[Pair], c: u32) -> Result<(), SinkFault>
+    requires { All (λ pair. c < pair.chunks.chunks) pairs.now }
+    ensures { PutsOrFails S.contents S.failed out.old out.new (flat_map (pair_in c) pairs.now) result }
+{
+    for pair in pairs {
+        pair_where_set(out, pair, c)?;
+    }
+    Ok(())
+}
+
+fn pair_where_set<S: Sink>(out: &mut S, pair: &Pair, c: u32) -> Result<(), SinkFault>
+    requires { c < pair.now.chunks.chunks }
+    ensures { PutsOrFails S.contents S.failed out.old out.new (pair_in c pair.now) result }
+{
+    if !pair.chunks.is_marked(c) {
+        return Ok(());
+    }
+    members(out, pair.one, pair.other)
+}
+
+// Two members that differ.
+#[tactic(auto, unfolding(crate::specs::CheckReport::pair_text), using(md_examine::proofs::Puts::puts_then))]
+fn members<S: Sink>(out: &mut S, one: usize, other: usize) -> Result<(), SinkFault>
+    ensures { PutsOrFails S.contents S.failed out.old out.new (pair_text one other) result }
+{
+    number_after(out, b" ", one)?;
+    number_after(out, b"!=", other)?;
     Ok(())
 }

@@ -53,7 +53,7 @@ const ALL: OptionWords = OptionWords {
 const LIST: OptionWords = OptionWords {
     name: "list",
     value: "",
-    help: "Shows where members differ too: a line for each such chunk",
+    help: "Shows where members differ too, and which: a line for each such chunk",
     kind: Kind::Flag,
     required: false,
     default: None,

@@ -5,6 +5,7 @@ use md_array::Mirror;
 use md_badblocks::BadSet;
 use md_bitmap::Marks;
 use md_cert::{Certificate, ChunkList, Plan, Slot, Slots};
+use md_check::{Comparison, Pair};
 use md_device::MemDevice;
 use md_examine::Output;
 use md_json::{badblocks_json, check_json, detail_json, plan_json, summary_json, superblock_json};
@@ -206,10 +207,24 @@ const IN_SHORT: [Row; 6] = [
 const OF_A_CHECK: [Row; 5] = [
     ("/report", "\"check\""),
     ("/mismatched_chunks", "8"),
-    ("/mismatches/0", "{\"sector\":0,\"sectors\":8}"),
+    (
+        "/mismatches/0",
+        "{\"pairs\":[[0,1],[1,31]],\"sector\":0,\"sectors\":8}",
+    ),
     ("/mismatches/7/sector", "56"),
     ("/members/1/index", "1"),
 ];
+
+fn pair(alloc: Global, one: usize, other: usize, chunks: u32) -> Result<Pair, Fail> {
+    let chunks = Marks::all(alloc, chunks)?;
+    Ok(Pair { one, other, chunks })
+}
+
+fn all_differ(alloc: Global, chunks: u32) -> Result<Comparison, Fail> {
+    let pairs = vec![in alloc; pair(alloc, 0, 1, chunks)?, pair(alloc, 1, 31, chunks)?]?;
+    let chunks = Marks::all(alloc, chunks)?;
+    Ok(Comparison { chunks, pairs })
+}
 
 #[test]
 fn an_array_in_short_reads_back(rt: HostRuntime) -> Result<(), Fail> {
@@ -217,10 +232,10 @@ fn an_array_in_short_reads_back(rt: HostRuntime) -> Result<(), Fail> {
     let mut out = Output::new(vec![in rt.alloc()]?);
     summary_json(&mut out, &mirror, &["only"])?;
     holds(&rt, rt.alloc(), out.into_inner(), &IN_SHORT)?;
-    let set = Marks::all(rt.alloc(), mirror.chunks().count())?;
+    let found = all_differ(rt.alloc(), mirror.chunks().count())?;
     let mut out = Output::new(vec![in rt.alloc()]?);
-    check_json(&mut out, &set, &mirror, &IMAGES)?;
-    drop(set);
+    check_json(&mut out, &found, &mirror, &IMAGES)?;
+    drop(found);
     drop(mirror);
     holds(&rt, rt.alloc(), out.into_inner(), &OF_A_CHECK)
 }

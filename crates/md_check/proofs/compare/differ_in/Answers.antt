@@ -3,7 +3,8 @@ use Rattle.std.proofs.lemmas.Option.{slice_get_read, slice_get_within}
 use Rattle.md_assembly.proofs.Indices.{got_same}
 use Rattle.md_check.specs.declared.reader.Reader.{Reader}
 use Rattle.md_check.specs.Readers.{in_window}
-use Rattle.md_check.proofs.WindowCompared.{IsShowing, agree_next, differ_at, none_differ}
+use Rattle.md_check.specs.Showing.{IsShowing}
+use Rattle.md_check.proofs.WindowCompared.{agree_next, differ_at, none_differ}
 use Rattle.md_check.proofs.compare.differ_in.Goals as goal
 use Rattle.md_check.proofs.compare.differ_in.Goals.{else-shows-via-then-shows+else-not-is_same, else-shows-via-else-shows}
 

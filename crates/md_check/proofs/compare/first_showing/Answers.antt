@@ -4,7 +4,7 @@ use Rattle.std.proofs.lemmas.Option.{slice_get_read, slice_get_within}
 use Rattle.std.proofs.Math.Nat.{eq-or-lt_of_le}
 use Rattle.md_assembly.proofs.Indices.{got_same}
 use Rattle.md_check.specs.declared.reader.Reader.{Reader}
-use Rattle.md_check.proofs.WindowCompared.{IsShowing}
+use Rattle.md_check.specs.Showing.{IsShowing}
 use Rattle.md_check.proofs.compare.first_showing.Goals as goal
 
 pub returns-then-shows : goal.returns-then-shows

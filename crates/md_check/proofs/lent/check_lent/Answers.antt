@@ -1,14 +1,14 @@
-use Rattle.std.proofs.Common.{◌≡◌, ◌∙◌, ◌+◌, ◌*◌, ◌/◌, ◌<◌, ◌≤◌, ◌++◌, ℕ, List, length, take, drop, get_or, min, None, Some, refl, ap, sym, subst, arith, vec_len}
+use Rattle.std.proofs.Common.{◌≡◌, ◌∙◌, ◌+◌, ◌*◌, ◌/◌, ◌<◌, ◌≤◌, ℕ, List, length, take, get_or, min, None, Some, ap, sym, subst, arith, vec_len}
 use Rattle.std.proofs.lemmas.List.{length-take-le}
 use Rattle.std.specs.List.{All}
 use Rattle.md_check.specs.declared.reader.Reader.{Reader}
-use Rattle.md_check.specs.Differences.{AddsDifferent, AreDifferent}
-use Rattle.md_check.specs.Readings.{HasLed, IsLead}
+use Rattle.md_check.specs.Differences.{AddsCompared, AreCompared}
+use Rattle.md_check.specs.Readings.{HasLed, HasTurned, IsLead}
 use Rattle.md_check.specs.Readers.{AreReadersRead, HaveNotFailed, ReaderShows, in_window, on_device}
-use Rattle.md_check.proofs.Differing.{different_after}
+use Rattle.md_check.proofs.Compared.{compared_after, compared_keeps, pairs_stay_then, still_sized}
 use Rattle.md_check.proofs.LedAhead.{lead_room_after, next_lead, read_exchanged, rooms_exchanged, same_but_bytes, unfailing_exchanged}
 use Rattle.md_check.proofs.LentSlices.{comes_back}
-use Rattle.md_check.proofs.WindowsRead.{differ_in_window, differ_on_devices, misses_in, read_here_still, turn_read, turn_unfailing}
+use Rattle.md_check.proofs.WindowsRead.{from_device, from_window, misses_in, read_here_still, turn_read, turn_unfailing}
 use Rattle.md_check.proofs.lent.check_lent.Goals as goal
 
 pub loop-from-init : goal.loop-from-init
@@ -24,8 +24,8 @@ loop-from-init g c =
       room = λ k d below. let long = c.check_first.ensures.long k d (omega arith) in let r = c.requires.room k d (omega arith) in omega arith;
       lead_room = c.requires.lead;
       lead = λ k d below same reads honest i low unlisted. absurd (let none : length (take (512 * 0) c.args.lead.now.items) ≡ 512 * 0 = length-take-le (512 * 0) c.args.lead.now.items (omega arith) in omega arith);
-      count = c.check_first.ensures.chunks;
-      different = c.in_ok-check_first.ensures.different;
+      kept = c.check_first.ensures.kept;
+      compared = c.in_ok-check_first.ensures.compared;
     }
 
 pub turn-requires-clause-lead : goal.turn-requires-clause-lead
@@ -36,8 +36,28 @@ turn-requires-clause-lead g c κs within = λ k d below same.
 pub turn-requires-clause-read_here : goal.turn-requires-clause-read_here
 turn-requires-clause-read_here g c κs within = read_here_still c.args.chunks c.args.readers.now.items c.loop-from.readers.items c.loop-from.invariant.read c.requires.read_here
 
-pub mark_window-requires-clause-size : goal.mark_window-requires-clause-size
-mark_window-requires-clause-size g c =
+pub turn-requires-clause-room : goal.turn-requires-clause-room
+turn-requires-clause-room g c κs within = λ k d below.
+    let inv = c.loop-from.invariant in
+    let few = inv.few in
+    let short = inv.short in
+    let lead_room = inv.lead_room in
+    let sectors = c.loop-from.sectors in
+    let whole = c.as_slice-in-loop-from.result.now in
+    let same = ap length c.as_slice-in-loop-from.ensures.value in
+    let many : length (take (512 * sectors) whole) ≡ 512 * sectors = length-take-le (512 * sectors) whole (omega arith) in
+    let room = inv.room k d below in
+    omega arith
+
+pub turn-requires-clause-ahead : goal.turn-requires-clause-ahead
+turn-requires-clause-ahead g c κs within = λ k d below.
+    let room = c.loop-from.invariant.room k d below in
+    let few = c.loop-from.invariant.few in
+    let least = c.min-ahead.ensures in
+    omega arith
+
+pub compare_window-requires-clause-size : goal.compare_window-requires-clause-size
+compare_window-requires-clause-size g c =
     let inv = c.loop-from.invariant in
     let few = inv.few in
     let short = inv.short in
@@ -49,8 +69,8 @@ mark_window-requires-clause-size g c =
     let many : length bytes ≡ 512 * sectors = length-take-le (512 * sectors) whole (omega arith) in
     rw c.as_slice-in-loop-from-3.ensures.value (λ k d below. let size = (c.turn.ensures.turned k d (let len = c.turn.ensures.len in omega arith)).size in omega arith)
 
-pub mark_window-requires-clause-marks : goal.mark_window-requires-clause-marks
-mark_window-requires-clause-marks g c = c.loop-from.invariant.count ∙ c.requires.marks
+pub compare_window-requires-clause-sized : goal.compare_window-requires-clause-sized
+compare_window-requires-clause-sized g c = still_sized c.args.chunks c.args.found.now c.loop-from.found c.loop-from.invariant.kept c.requires.sized
 
 pub returns-in-Some : goal.returns-in-Some
 returns-in-Some g c =
@@ -61,8 +81,8 @@ returns-in-Some g c =
     let missed = c.in-Some.missed in
     let noted = subst (λ (xs : List (Reader _)). (missed.member < length xs) × ((d : Reader _) → (get_or xs missed.member d).missed ≡ Some missed.chunk) × ((k : ℕ) (d : Reader _) → k < missed.member → (get_or xs k d).missed ≡ None)) c.as_slice-in-loop-from-2.ensures.value c.in-Some.ensures in
     record {
-      chunks = inv.count;
-      different = tt;
+      kept = inv.kept;
+      compared = tt;
       unfailing = tt;
       missed = misses_in firsts olds news missed inv.read inv.unfailing c.turn.ensures.len c.turn.ensures.turned noted.0 noted.1 noted.2;
       read = turn_read firsts olds news inv.read c.turn.ensures.len c.turn.ensures.turned;
@@ -91,7 +111,7 @@ loop-from-preserved g c =
     let n : length bytes / 512 ≡ sectors = omega arith in
     let lent = c.as_mut_slice.ensures in
     let len = c.turn.ensures.len in
-    let turned = c.turn.ensures.turned in
+    let turned : (k : ℕ) (d : Reader _) → k < length olds → HasTurned g.D.Device c.args.chunks from (length bytes / 512) (length bytes / 512 + ahead) bytes (get_or olds k d) (get_or mids k d) = c.turn.ensures.turned in
     let as_many = inv.read.as_many in
     let news_len : length news ≡ length mids = c.exchange.ensures.len ∙ ap length lent.value in
     let back = comes_back (vec_len c.turn.new.readers) mids news (sym lent.len ∙ ap length lent.value) news_len in
@@ -101,8 +121,8 @@ loop-from-preserved g c =
     let others = subst (λ (xs : List (Reader _)). (k : ℕ) (d : Reader _) → k < length xs → (k ≡ first → ⊥) → get_or news k d ≡ get_or xs k d) lent.value c.exchange.ensures.others in
     let same = same_but_bytes mids news first (λ k d below is. let e = (here k d below is).0 in e ∙ ap (λ (s : Reader _). record (get_or mids k d) { bytes = s.bytes }) (sym e)) others in
     let read = turn_read firsts olds mids inv.read len turned in
-    let adds : AddsDifferent (ReaderShows (in_window bytes from) mids) c.args.chunks from (from + sectors) c.loop-from.marks c.mark_window.new.marks
-    = subst (λ (xs : List (Reader _)). AddsDifferent (ReaderShows (in_window bytes from) xs) c.args.chunks from (from + sectors) c.loop-from.marks c.mark_window.new.marks) c.as_slice-in-loop-from-3.ensures.value c.mark_window.ensures in
+    let adds : AddsCompared (ReaderShows (in_window bytes from) mids) c.args.chunks from (from + sectors) c.loop-from.found c.compare_window.new.found
+    = subst (λ (xs : List (Reader _)). AddsCompared (ReaderShows (in_window bytes from) xs) c.args.chunks from (from + sectors) c.loop-from.found c.compare_window.new.found) c.as_slice-in-loop-from-3.ensures.value c.compare_window.ensures in
     let rooms : (k : ℕ) (d : Reader _) → k < length mids → 512 * min 2048 c.args.chunks.size ≤ length (get_or mids k d).bytes.items
     = λ k d below. let long = (turned k d (omega arith)).long in let r = inv.room k d (omega arith) in omega arith in
     record {
@@ -126,10 +146,10 @@ loop-from-preserved g c =
           (subst (λ m. HasLed g.D.Device (from + m) ahead (get_or olds k d) (get_or mids k d)) n (c.turn.ensures.led k d at is))
           (none k d low) c.exchange.new.lead.items (ap (λ v. v.items) h.1) (let e = ap (λ v. length v.items) h.1 in omega arith)
           (ap (λ (s : Reader _). s.device) h.0) (ap (λ (s : Reader _). s.role) h.0) (ap (λ (s : Reader _). s.offset) h.0) (ap (λ (s : Reader _). s.listed) h.0));
-      count = adds.chunks_kept ∙ inv.count;
-      different = λ honest. different_after (ReaderShows (on_device g.D.Device) firsts) (ReaderShows (in_window bytes from) mids) c.args.chunks from (from + sectors) c.loop-from.marks c.mark_window.new.marks (omega arith) (inv.different honest) adds
-          (λ s up below. differ_in_window bytes from (length bytes / 512) firsts olds mids inv.read len turned none honest s up (omega arith))
-          (λ s up below. differ_on_devices bytes from (length bytes / 512) firsts olds mids inv.read len turned none honest s up (omega arith));
+      kept = pairs_stay_then c.args.found.now c.loop-from.found c.compare_window.new.found inv.kept (compared_keeps (ReaderShows (in_window bytes from) mids) c.args.chunks from (from + sectors) c.loop-from.found c.compare_window.new.found adds);
+      compared = λ honest. compared_after (ReaderShows (on_device g.D.Device) firsts) (ReaderShows (in_window bytes from) mids) c.args.chunks from (from + sectors) c.loop-from.found c.compare_window.new.found (omega arith) (inv.compared honest) adds
+          (λ s up below k shown. from_device bytes from (length bytes / 512) firsts olds mids inv.read len turned none honest s up (omega arith) k shown)
+          (λ s up below k shown. from_window bytes from (length bytes / 512) firsts olds mids inv.read len turned none honest s up (omega arith) k shown);
     }
 
 pub returns : goal.returns
@@ -139,8 +159,8 @@ returns g c =
     let past = c.loop-from-test.false in
     let end : c.loop-from.from ≡ c.args.chunks.size = omega arith in
     record {
-      chunks = inv.count;
-      different = λ honest. subst (λ n. AreDifferent (ReaderShows (on_device g.D.Device) c.args.readers.now.items) c.args.chunks n c.loop-from.marks) end (inv.different honest);
+      kept = inv.kept;
+      compared = λ honest. subst (λ n. AreCompared (ReaderShows (on_device g.D.Device) c.args.readers.now.items) c.args.chunks n c.loop-from.found) end (inv.compared honest);
       unfailing = inv.unfailing;
       missed = tt;
       read = inv.read;

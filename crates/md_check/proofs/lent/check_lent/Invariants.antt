@@ -1,6 +1,6 @@
 use Rattle.std.proofs.Common.{◌≡◌, ◌+◌, ◌-◌, ◌*◌, ◌<◌, ◌≤◌, ℕ, length, min, slice_index_or, take}
 use Rattle.std.specs.List.{All}
-use Rattle.md_check.specs.Differences.{AreDifferent}
+use Rattle.md_check.specs.Differences.{AreCompared, KeepsPairs}
 use Rattle.md_check.specs.Readings.{IsLead}
 use Rattle.md_check.specs.Readers.{AreReadersHonest, AreReadersRead, HaveNotFailed, ReaderShows, on_device}
 use Rattle.md_check.proofs.lent.check_lent.Given as goal
@@ -17,6 +17,6 @@ invariant-loop-from g l = record {
   room : All (λ reader. 512 * min 2048 l.chunks.size ≤ length reader.bytes.items) l.readers.items;
   lead_room : 512 * min 2048 l.chunks.size ≤ length l.lead.items;
   lead : (k : ℕ) (d : _) → k < length l.readers.items → k ≡ l.first → IsLead g.D.Device l.from (take (512 * l.sectors) l.lead.items) (slice_index_or l.readers.items k d);
-  count : l.marks.chunks ≡ l.fn.marks.chunks;
-  different : AreReadersHonest g.D.Device l.fn.readers.items → AreDifferent (ReaderShows (on_device g.D.Device) l.fn.readers.items) l.chunks l.from l.marks;
+  kept : KeepsPairs l.fn.found l.found;
+  compared : AreReadersHonest g.D.Device l.fn.readers.items → AreCompared (ReaderShows (on_device g.D.Device) l.fn.readers.items) l.chunks l.from l.found;
 }

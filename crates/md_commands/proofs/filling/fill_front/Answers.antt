@@ -1,4 +1,4 @@
-use Rattle.std.proofs.Common.{rules, Err, ◌≡◌, ◌∙◌, ◌⊎◌, ◌↔◌, ◌+◌, ◌*◌, ◌-◌, ◌/◌, ◌%◌, ◌<◌, ◌≤◌, ◌^◌, ℕ, length, subst, arith}
+use Rattle.std.proofs.Common.{rules, Err, ◌≡◌, ◌∙◌, ◌/◌, ℕ, length, subst, arith}
 use Rattle.md_commands.specs.Filling.{NotesNone}
 use Rattle.md_commands.proofs.Filled.{front_given, front_lost, not_noted, noted_one, size_fits, zeros_are}
 use Rattle.md_commands.proofs.Ways.{ends_there}

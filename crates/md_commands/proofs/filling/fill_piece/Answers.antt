@@ -1,4 +1,4 @@
-use Rattle.std.proofs.Common.{rules, Err, ◌≡◌, ◌∙◌, ◌+◌, ◌*◌, ◌-◌, ◌/◌, ◌%◌, ◌<◌, ◌≤◌, ◌^◌, ℕ, List, length, drop, take, min, refl, subst, arith, length-drop}
+use Rattle.std.proofs.Common.{rules, Err, ◌≡◌, ◌∙◌, ◌+◌, ◌*◌, ◌-◌, ◌/◌, ◌<◌, ◌≤◌, ℕ, List, length, drop, take, min, refl, subst, arith, length-drop}
 use Rattle.std.proofs.lemmas.List.{length-take-le}
 use Rattle.md_laws.proofs.Runs.Rests.{rests_same}
 use Rattle.md_read.proofs.SectorsGiven.{length-replaced}

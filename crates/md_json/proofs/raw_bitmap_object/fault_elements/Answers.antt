@@ -1,4 +1,4 @@
-use Rattle.std.proofs.Common.{◌∙◌, ℕ, ◌+◌, false, List, ap, refl, sym, length, take, subst, arith, rules}
+use Rattle.std.proofs.Common.{◌∙◌, ℕ, false, List, ap, refl, sym, length, take, subst, arith, rules}
 use Rattle.std.specs.List.{filter}
 use Rattle.std.proofs.lemmas.List.{take_all, take_more}
 use Rattle.md_examine.specs.Sink.{Puts}

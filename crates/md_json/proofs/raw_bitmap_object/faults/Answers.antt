@@ -2,7 +2,7 @@ use Rattle.std.proofs.Common.{codes}
 use Rattle.std.specs.List.{filter}
 use Rattle.md_json.specs.RawBitmap.{header_fault_value}
 use Rattle.md_examine.specs.BitmapFields.{faults, bitmap_fault_stands}
-use Rattle.md_json.proofs.Texts.{puts_last, puts_list}
+use Rattle.md_json.proofs.Texts.{puts_list}
 use Rattle.md_json.proofs.raw_bitmap_object.faults.Goals as goal
 
 pub returns : goal.returns

@@ -1,7 +1,6 @@
-use Rattle.std.proofs.Common.{ℕ, List, ap, map, subst, take, arith, rules}
+use Rattle.std.proofs.Common.{ℕ, List, ap, map, subst, arith, rules}
 use Rattle.std.proofs.lemmas.List.{take_all}
 use Rattle.md_examine.specs.Sink.{Puts}
-use Rattle.md_examine.specs.declared.fields.Field.{Field as TableField}
 use Rattle.md_examine.proofs.Puts.{puts_then, puts_nothing}
 use Rattle.md_json.specs.Objects.{later_text}
 use Rattle.md_json.specs.RawFields.{table_field}

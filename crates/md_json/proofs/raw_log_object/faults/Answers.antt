@@ -1,6 +1,5 @@
 use Rattle.md_json.specs.Objects.{later_text}
 use Rattle.md_json.specs.RawLog.{shift_fields}
-use Rattle.md_examine.proofs.Puts.{puts_then}
 use Rattle.md_json.proofs.Texts.{puts_last}
 use Rattle.md_json.proofs.raw_log_object.faults.Goals as goal
 

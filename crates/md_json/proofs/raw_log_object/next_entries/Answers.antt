@@ -2,7 +2,7 @@ use Rattle.std.proofs.Common.{codes}
 use Rattle.std.specs.List.{filter}
 use Rattle.md_json.specs.RawLog.{entry_object, is_entry}
 use Rattle.md_examine.specs.LogFields.{entries_there}
-use Rattle.md_json.proofs.Texts.{puts_last, puts_list}
+use Rattle.md_json.proofs.Texts.{puts_list}
 use Rattle.md_json.proofs.raw_log_object.next_entries.Goals as goal
 
 pub returns : goal.returns

@@ -1,4 +1,4 @@
-use Rattle.std.proofs.Common.{◌++◌, map}
+use Rattle.std.proofs.Common.{map}
 use Rattle.md_json.specs.RawLog.{log_rows, shift_fields}
 use Rattle.md_json.specs.RawFields.{row_field}
 use Rattle.md_json.proofs.Chosen.{puts_joined}

@@ -1,8 +1,7 @@
-use Rattle.std.proofs.Common.{codes}
 use Rattle.std.specs.List.{filter}
 use Rattle.md_json.specs.RawSuper.{super_fault_value}
 use Rattle.md_examine.specs.SuperFaults.{faults_of, is_seen}
-use Rattle.md_json.proofs.Texts.{puts_last, puts_list}
+use Rattle.md_json.proofs.Texts.{puts_list}
 use Rattle.md_json.proofs.raw_super_object.next_faults.Goals as goal
 
 pub returns : goal.returns

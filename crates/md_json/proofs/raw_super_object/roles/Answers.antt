@@ -4,7 +4,7 @@ use Rattle.md_json.specs.RawSuper.{has_role, role_object}
 use Rattle.md_format.specs.Fields.{number_at}
 use Rattle.md_examine.specs.SuperFaults.{roles_read_in}
 use Rattle.md_examine.specs.SuperFields.{roles_there}
-use Rattle.md_json.proofs.Texts.{puts_last, puts_list}
+use Rattle.md_json.proofs.Texts.{puts_list}
 use Rattle.md_json.proofs.raw_super_object.roles.Goals as goal
 
 pub returns : goal.returns

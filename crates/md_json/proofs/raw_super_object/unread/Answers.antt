@@ -1,6 +1,5 @@
 use Rattle.md_json.specs.Objects.{later_text}
 use Rattle.md_json.specs.RawSuper.{unread_fields}
-use Rattle.md_examine.proofs.Puts.{puts_then}
 use Rattle.md_json.proofs.Texts.{puts_last}
 use Rattle.md_json.proofs.raw_super_object.unread.Goals as goal
 

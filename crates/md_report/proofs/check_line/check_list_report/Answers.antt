@@ -8,6 +8,6 @@ use Rattle.md_report.proofs.check_line.check_list_report.Goals as goal
 pub returns : goal.returns
 unfolding list_text
 returns g c =
-    let lines = flat_map (chunk_text c.args.chunks c.args.set.now) (range_with_len 0 c.args.set.now.chunks) in
+    let lines = flat_map (chunk_text c.args.chunks c.args.found.now) (range_with_len 0 c.args.found.now.chunks.chunks) in
     subst (λ (n : ℕ). Puts g.S.Sink.contents g.S.Sink.failed c.args.out.now c.check_report.new.out (lines ++ check_text n)) c.count.ensures
     (puts_then g.S.Sink.contents g.S.Sink.failed c.in_ok-chunk_lines.ensures c.in_ok-check_report.ensures)

@@ -10,5 +10,5 @@ loop-c-init g c = puts_nothing g.S.Sink.contents g.S.Sink.failed c.args.out.now
 pub loop-c-preserved : goal.loop-c-preserved
 loop-c-preserved g c =
     let P : List ℕ → Type 0 = λ t. Puts g.S.Sink.contents g.S.Sink.failed c.args.out.now c.chunk_where_set.new.out t in
-    subst P (flat_map_next (chunk_text c.args.chunks c.args.set.now) c.loop-c.c)
+    subst P (flat_map_next (chunk_text c.args.chunks c.args.found.now) c.loop-c.c)
     (puts_then g.S.Sink.contents g.S.Sink.failed c.loop-c.invariant c.in_ok-chunk_where_set.ensures)

@@ -2,12 +2,13 @@ use Rattle.std.proofs.Common.{◌≡◌, ◌∙◌, ◌*◌, map, ap, sym, subst
 use Rattle.std.specs.List.{All}
 use Rattle.md_bitmap.specs.declared.chunks.Chunks.{Chunks}
 use Rattle.md_state.specs.View.{MirrorView, disk_of}
+use Rattle.md_array.specs.Worlds as worlds
 use Rattle.md_check.specs.declared.reader.Reader.{Reader}
-use Rattle.md_check.specs.Differences.{AreDifferent}
+use Rattle.md_check.specs.Differences.{AreCompared, IsSized}
 use Rattle.md_check.specs.Readings.{MissesIn}
 use Rattle.md_check.specs.Readers.{HasDataOnDevice, ReaderShows, on_device}
-use Rattle.md_check.proofs.MemberReaders.{all_read_here, come_back, fails_checking, honest_readers, mismatches, none_failed, rests_with, rooms, uses_in_sync}
-use Rattle.md_check.proofs.check.mark_mismatches.Goals as goal
+use Rattle.md_check.proofs.MemberReaders.{all_read_here, come_back, fails_checking, honest_readers, mismatches, mismatches_between, none_failed, rests_with, rooms, uses_in_sync}
+use Rattle.md_check.proofs.check.lend_and_compare.Goals as goal
 
 pub check_lent-answer-requires-clause-read_here : goal.check_lent-answer-requires-clause-read_here
 check_lent-answer-requires-clause-read_here g c κs within =
@@ -20,6 +21,9 @@ check_lent-answer-requires-clause-room g c κs within = λ k d below.
     let readers = c.readers_of.new.readers.items in
     let room = rooms g.D.Device c.args.mirror.now c.requires.sound (512 * c.min.result) c.lend-devices.result.items c.in_ok-orders.orders.items readers c.lend-devices.ensures.devices c.in_ok-orders.ensures c.readers_of.ensures.len c.readers_of.ensures.readers k d below in
     omega (arith, room, c.min.ensures)
+
+pub check_lent-answer-requires-clause-sized : goal.check_lent-answer-requires-clause-sized
+check_lent-answer-requires-clause-sized g c κs within = subst (λ (chunks : Chunks). IsSized chunks c.args.found.now) (sym c.chunks-chunks.ensures) c.requires.sized
 
 pub give_back-requires-clause-back : goal.give_back-requires-clause-back
 give_back-requires-clause-back g c =
@@ -40,18 +44,23 @@ returns-in-Ok-clause-gives g c =
     c.give_back.ensures.in_place ∙ ap (λ (v : MirrorView). record v { disks = map (disk_of g.D.Device) c.leave_readers.new.devices.items }) c.lend-devices.ensures.out
     ∙ ap (λ xs. record old { disks = map (disk_of g.D.Device) xs }) c.leave_readers.ensures in
     let none = none_failed g.D.Device old c.requires.sound (512 * c.min.result) c.lend-devices.result.items c.in_ok-orders.orders.items readers c.lend-devices.ensures.devices c.in_ok-orders.ensures c.readers_of.ensures.len c.readers_of.ensures.readers news c.in-Ok.ensures.read c.in-Ok.ensures.unfailing in
+    let compared : worlds.AreHonest old.disks → AreCompared (ReaderShows (on_device g.D.Device) readers) old.array.chunks old.array.chunks.size c.check_lent-answer.new.found
+    = λ honest. subst (λ (chunks : Chunks). AreCompared (ReaderShows (on_device g.D.Device) readers) chunks chunks.size c.check_lent-answer.new.found) c.chunks-chunks.ensures
+    (c.in-Ok.ensures.compared
+    (honest_readers g.D.Device old c.requires.sound (512 * c.min.result) c.lend-devices.result.items c.in_ok-orders.orders.items readers c.lend-devices.ensures.devices c.in_ok-orders.ensures c.readers_of.ensures.len c.readers_of.ensures.readers honest)) in
     record {
-      chunks = c.in-Ok.ensures.chunks;
+      kept = c.check_lent-answer.ensures.kept;
       rests = rests_with g.D.Device old c.requires.sound (512 * c.min.result) c.lend-devices.result.items c.in_ok-orders.orders.items readers c.lend-devices.ensures.devices c.in_ok-orders.ensures c.readers_of.ensures.len c.readers_of.ensures.readers news c.in-Ok.ensures.read
           c.give_back.new.self is;
       uses = uses_in_sync g.D.Device old c.requires.sound (512 * c.min.result) c.lend-devices.result.items c.in_ok-orders.orders.items readers c.lend-devices.ensures.devices c.in_ok-orders.ensures c.readers_of.ensures.len c.readers_of.ensures.readers news c.in-Ok.ensures.read
           c.give_back.new.self c.requires.two is;
       unfailing = rw is none;
       bits = λ honest.
-          mismatches g.D.Device old c.requires.sound (512 * c.min.result) c.lend-devices.result.items c.in_ok-orders.orders.items readers c.lend-devices.ensures.devices c.in_ok-orders.ensures c.readers_of.ensures.len c.readers_of.ensures.readers c.check_lent-answer.new.marks
-          (subst (λ (chunks : Chunks). AreDifferent (ReaderShows (on_device g.D.Device) readers) chunks chunks.size c.check_lent-answer.new.marks) c.chunks-chunks.ensures
-          (c.in-Ok.ensures.different
-          (honest_readers g.D.Device old c.requires.sound (512 * c.min.result) c.lend-devices.result.items c.in_ok-orders.orders.items readers c.lend-devices.ensures.devices c.in_ok-orders.ensures c.readers_of.ensures.len c.readers_of.ensures.readers honest)));
+          mismatches g.D.Device old c.requires.sound (512 * c.min.result) c.lend-devices.result.items c.in_ok-orders.orders.items readers c.lend-devices.ensures.devices c.in_ok-orders.ensures c.readers_of.ensures.len c.readers_of.ensures.readers c.check_lent-answer.new.found.chunks
+          (compared honest).some;
+      between = λ honest.
+          mismatches_between g.D.Device old c.requires.sound (512 * c.min.result) c.lend-devices.result.items c.in_ok-orders.orders.items readers c.lend-devices.ensures.devices c.in_ok-orders.ensures c.readers_of.ensures.len c.readers_of.ensures.readers c.check_lent-answer.new.found
+          (compared honest);
     }
 
 pub returns-clause-gives : goal.returns-clause-gives

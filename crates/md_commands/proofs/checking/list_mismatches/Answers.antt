@@ -1,0 +1,22 @@
+use Rattle.std.proofs.Common.{MatchResult, refl, subst, sym}
+use Rattle.md_bitmap.specs.declared.chunks.Chunks.{Chunks}
+use Rattle.md_check.specs.Differences.{IsSized}
+use Rattle.md_report.specs.CheckReport.{list_text}
+use Rattle.md_commands.specs.Output.{FailsOutput, PutsOut}
+use Rattle.md_commands.proofs.Listed.{found_sized, listed_or_not}
+use Rattle.md_commands.proofs.Wrapped.{own_ok}
+use Rattle.md_commands.proofs.checking.list_mismatches.Goals as goal
+
+pub put_listed-requires : goal.put_listed-requires
+put_listed-requires g c =
+    let compares = own_ok _ _ _ c.compare_members.result _ _ c.compare_members.ensures.gives c.in_ok-found.ensures.cases c.in_ok-found.ensures.variant refl in
+    subst (λ (chunks : Chunks). IsSized chunks c.in_ok-found.found) (sym c.chunks-chunks.ensures)
+    (found_sized c.args.mirror.now c.compare_members.new.mirror c.in_ok-found.found c.requires.sound compares)
+
+pub returns-clause-gives : goal.returns-clause-gives
+returns-clause-gives g c =
+    let put = c.put_listed in
+    let compares = own_ok _ _ _ c.compare_members.result _ _ c.compare_members.ensures.gives c.in_ok-found.ensures.cases c.in_ok-found.ensures.variant refl in
+    let old = c.args.mirror.now in
+    let shown = subst (λ (chunks : Chunks). MatchResult put.result (λ _. PutsOut g.S.Sink c.args.out.now put.new.out (list_text chunks c.in_ok-found.found)) (FailsOutput g.S.Sink put.new.out)) c.chunks-chunks.ensures put.ensures in
+    listed_or_not g.S.Sink old c.compare_members.new.mirror c.args.out.now put.new.out (list_text old.array.chunks) c.in_ok-found.found compares put.result shown
