@@ -51,6 +51,7 @@ module _ {E R : Type 0} (e : SinkGhosts E) (r : SourceGhosts R) (lines : List �
   -- Whether to go on, of these lines: they are shown, and it is asked, as far as it is to be.
   abbrev pub IsAsked : Questions → E → E → R → R → Bool → Type 0
   IsAsked Silent err after input left is_agreed = (is_agreed ≡ true) × (after ≡ err) × (left ≡ input)
-  IsAsked Shown err after input left is_agreed = (is_agreed ≡ true) × PutsTold e err after lines × (left ≡ input)
+  IsAsked Shown err after input left is_agreed =
+      (is_agreed ≡ true) × PutsTold e err after lines × (left ≡ input)
   IsAsked Asked err after input left is_agreed =
       PutsTold e err after (lines ++ question_text) × Answers r input left is_agreed
