@@ -92,7 +92,7 @@ fn main(rt: HostRuntime) -> ExitCode {
         return ExitCode::from(REFUSED);
     };
     if !is_map_begun(&rt, map_out, messages, &mut err) {
-        let _ = is_file_ended(out, messages, &mut err);
+        let _ = is_file_ended(out, output, messages, &mut err);
         return ExitCode::from(REFUSED);
     }
     let mut session = Session {
@@ -106,7 +106,7 @@ fn main(rt: HostRuntime) -> ExitCode {
     let status = run(&mut session, words, parsed, &mut images, &mut err, messages);
     progress.clear();
     let Session { out, missing, .. } = session;
-    let is_ended = is_file_ended(out.into_inner(), messages, &mut err);
+    let is_ended = is_file_ended(out.into_inner(), output, messages, &mut err);
     let is_map_made = is_map_made(&rt, map_out, missing, messages, &mut err);
     if !is_ended || !is_map_made {
         return ExitCode::from(REFUSED);

@@ -11,7 +11,6 @@ use std::os::unix::fs::FileExt;
 #[derive(Drop)]
 pub struct NewFile<'a> {
     rt: &'a HostRuntime,
-    path: &'a str,
     file: File,
     // How far it is written.
     at: u64,
@@ -20,11 +19,10 @@ pub struct NewFile<'a> {
 
 impl<'a> NewFile<'a> {
     /// Makes the file, empty. Nothing that is there is overwritten: it may be an image.
-    pub fn make(rt: &'a HostRuntime, path: &'a str) -> Result<NewFile<'a>, OutputFileFault> {
+    pub fn make(rt: &'a HostRuntime, path: &str) -> Result<NewFile<'a>, OutputFileFault> {
         match File::create_new(rt, path) {
             Ok(file) => Ok(NewFile {
                 rt,
-                path,
                 file,
                 at: 0,
                 failed: false,
@@ -34,15 +32,11 @@ impl<'a> NewFile<'a> {
         }
     }
 
-    /// Its name.
-    pub fn path(&self) -> &'a str {
-        self.path
-    }
-
-    /// Ends it: where nothing was written it is taken away, and else it is as long as what was written.
-    pub fn end(self) -> Result<(), OutputFileFault> {
+    /// Ends the file, which has this name: where nothing was written it is taken away, and else it is as long as what was
+    /// written.
+    pub fn end(self, path: &str) -> Result<(), OutputFileFault> {
         if self.at == 0 {
-            let _ = fs::remove_file(self.rt, self.path);
+            let _ = fs::remove_file(self.rt, path);
             return Ok(());
         }
         match self.file.set_len(self.at) {

@@ -19,7 +19,7 @@ pub fn output_of<'a, E>(parsed: &Result<Request<'a>, E>) -> Option<&'a str> {
 /// Says on `err` why it can't be.
 pub fn destination_of<'a, W: Write + Drop, E: Write>(
     rt: &'a HostRuntime,
-    path: Option<&'a str>,
+    path: Option<&str>,
     standard: Cleared<'a, W>,
     messages: Messages,
     err: &mut E,
@@ -36,17 +36,20 @@ pub fn destination_of<'a, W: Write + Drop, E: Write>(
     }
 }
 
-/// Ends the file, where there is one. Says on `err` why it can't.
+/// Ends the file that was asked for, if one was. Says on `err` why it can't.
 pub fn is_file_ended<'a, W: Write + Drop, E: Write>(
     destination: Destination<'a, W>,
+    path: Option<&str>,
     messages: Messages,
     err: &mut E,
 ) -> bool {
     let Some(file) = destination.into_file() else {
         return true;
     };
-    let path = file.path();
-    match file.end() {
+    let Some(path) = path else {
+        return true;
+    };
+    match file.end(path) {
         Ok(()) => true,
         Err(fault) => {
             tell(fault, path, messages, err);
