@@ -44,7 +44,7 @@ const SUPERBLOCKS: [Case; 3] = [
             ("/faults", "[]"),
             ("/events", "10"),
             ("/computed_checksum", "\"8ab7c54f\""),
-            ("/elsewhere", "[{\"sector\":71,\"array_uuid\":null}]"),
+            ("/elsewhere", "[{\"array_uuid\":null,\"sector\":71}]"),
         ],
     ),
     (
@@ -93,7 +93,7 @@ const LOGS: [Case; 3] = [
             ("/log_size", "8"),
             ("/log_offset", "2024"),
             ("/log_unreadable_at", "null"),
-            ("/entries/0", "{\"entry\":0,\"start\":0,\"length\":0}"),
+            ("/entries/0", "{\"entry\":0,\"length\":0,\"start\":0}"),
         ],
     ),
     (
