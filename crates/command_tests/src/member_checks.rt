@@ -12,7 +12,8 @@ const AGREE: Command = Command {
 const UNREAD: Command = Command {
     status: 1,
     says: "mdcli: ReadFault 1 1\n\
-        b: copy the disk with a tool that goes past bad sectors, and use the copy; or leave the image out\n",
+        b: copy the disk by ddrescue, and use the copy with its map (`--map`), without which zeros would count as \
+        data; or leave the image out\n",
     shows: Shows::All(""),
     ..AGREE
 };

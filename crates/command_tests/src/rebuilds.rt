@@ -43,7 +43,8 @@ const LISTED: Command = Command {
 
 const FULL: &str = "mdcli: LogFull 0\n\
     a: it can't be read in more places than its bad block log has room for: leave the image out, if another \
-    member is in sync; or copy the disk with a tool that goes past bad sectors, and use the copy\n";
+    member is in sync; or copy the disk by ddrescue, which may get more of it, and use the copy with its map \
+    (`--map`), without which zeros would count as data\n";
 
 // The second sector of the array's second chunk can't be read.
 const UNREADABLE: Image = Image {

@@ -82,11 +82,11 @@ const BEGIN_ANEW: &str =
     "see why the device can't be written (`dmesg`, free space, write protection); run the command again, which begins anew";
 
 const COPY_DISK: &str =
-    "copy the disk with a tool that goes past bad sectors, and use the copy; or leave the image out";
+    "copy the disk by ddrescue, and use the copy with its map (`--map`), without which zeros would count as data; or leave the image out";
 
 /// What to do about a source of a rebuild whose log is full.
 pub(crate) const LEAVE_SOURCE_OUT: &str =
-    "it can't be read in more places than its bad block log has room for: leave the image out, if another member is in sync; or copy the disk with a tool that goes past bad sectors, and use the copy";
+    "it can't be read in more places than its bad block log has room for: leave the image out, if another member is in sync; or copy the disk by ddrescue, which may get more of it, and use the copy with its map (`--map`), without which zeros would count as data";
 
 const NEW_LOG: &str =
     "its bad block log has no room for the chunks that no member could give: `fail` and `remove` it, and `add` it again, which gives it a new log";
@@ -242,7 +242,7 @@ fn member_advice(fault: MemberFault) -> &'static str {
     match fault {
         MemberFault::TooShort => "it is not a member, or a copy that was cut: copy it again",
         MemberFault::ReadFault => {
-            "copy the disk with a tool that goes past bad sectors, and use the copy"
+            "copy the disk by ddrescue, and use the copy with its map (`--map`), without which zeros would count as data"
         }
         MemberFault::Super(fault) => superblock_advice(fault),
         MemberFault::Region => {

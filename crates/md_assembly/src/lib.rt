@@ -1,4 +1,4 @@
-//! What array the members are that were read from their devices, and in which state each is.
+//! Which array the members make that were read from their devices, and in which state each is.
 //!
 //! Start with `assemble`. `state_of` has the rule by which a member gets its state: the freshest superblock
 //! decides.

@@ -4,6 +4,12 @@
 //! way: its images are taken (`src/arrays.rt`), their devices are opened as a mirror (`src/devices.rt`), and the command is
 //! done with it (`src/performing.rt`). `create` makes an array of images (`src/creating.rt`). The commands on one image are
 //! in `md_examine_commands`, what is told and asked in `md_messages`.
+//!
+//! ```
+//! let words = ["mdcli", "detail", "sda.img", "sdb.img"];
+//! let parsed = parse(alloc, &words);
+//! let status = run(&mut session, &words, parsed, &mut images, &mut err, Messages::Plain);
+//! ```
 #![tactic(auto)]
 
 mod arrays;

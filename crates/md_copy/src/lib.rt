@@ -1,4 +1,4 @@
-//! What is copied to a member that lacks data, and from where.
+//! The rebuild of a member: what is copied to it, and from where.
 //!
 //! Start with `rebuild`, the whole call (`whole_rebuild.rt`), and `passes.rt`, its loop. `table` says what a
 //! rebuild would copy. What holds of a rebuild that is done is `HasRebuilt` in `specs/Rebuilt.antt`.

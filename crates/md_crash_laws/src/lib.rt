@@ -1,5 +1,5 @@
-//! What looks back on crashes and on resyncs, beyond the laws of `md_laws`: members in sync that agree, and
-//! writes that halted a mirror. But for `fresh_agreement` nothing runs: the functions of `laws` have empty
+//! Theorems about crashes and resyncs, beyond those of `md_laws`: members in sync that agree, and writes that
+//! halted a mirror. But for `fresh_agreement` there is no program code: the functions of `laws` have empty
 //! bodies, and their contracts are the theorems.
 //!
 //! Start with `laws::members_agree`, and `AgreesAtRest` in `specs/Agreement.antt`, which it says of each

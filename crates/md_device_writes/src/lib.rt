@@ -1,4 +1,5 @@
-//! Writes to a device in their order: what stands on it then, and where one of them fails.
+//! Writes to a device in their order, as of a bitmap and a superblock: what stands on it then, where one of them fails,
+//! and where a crash cuts them short.
 //!
 //! Start with `put`, one write, and `store_bitmap`, several of them. `MakesWrites` in `specs/Writes.antt`
 //! says it of a list of writes.

@@ -4,6 +4,11 @@
 //! taken, and with `--all` one of what stands there though it may be refused (`src/raw_examining.rt`). By which text an
 //! image is shown is `ShownBy` in `specs/Examining.antt`, and why it is not `RefusedBy`. The texts are those of
 //! `md_examine` and `md_json`.
+//!
+//! ```
+//! let command = Command::ExamineBadblocks { form };
+//! examine_images(alloc, command, &mut images, &["sda.img"], &mut out)?;
+//! ```
 #![tactic(auto)]
 
 mod examining;

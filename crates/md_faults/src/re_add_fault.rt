@@ -2,8 +2,8 @@
 use md_members::MemberFault;
 use thiserror::Error;
 
-/// Why a device that left is not taken back, in the order in which it is looked for, but that memory is taken before
-/// the write.
+/// Why a device that left is not taken back, in the order in which it is looked for. Not so `NoMemory`: memory is taken
+/// as the device is read and before the write, so that it comes before `WriteFault`.
 #[derive(Clone, Copy, Debug, PartialEq, Eq, Error)]
 pub enum ReAddFault {
     /// The mirror is halted.
@@ -15,8 +15,9 @@ pub enum ReAddFault {
     /// There are 64 members.
     #[error("Full")]
     Full,
-    /// It is of another array, its number is in use, it has no bitmap or was being rebuilt, its events are
-    /// below those at which marks were last cleared or above the array's, or it had no role.
+    /// It is of another array, or of another size, number of raid disks or chunk size; its number is in use; it has
+    /// no bitmap or was being rebuilt; its events are below those at which marks were last cleared or above the
+    /// array's; or it had no role.
     #[error("NotReAddable")]
     NotReAddable,
     /// Another member has its role.

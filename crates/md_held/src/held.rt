@@ -21,7 +21,7 @@ pub enum Held {
     Unread,
     /// It is a member of an array: its superblock.
     Member(Superblock),
-    /// The first of what some of its bytes say.
+    /// The first signature that is found on it.
     Signed(Signature),
 }
 

@@ -1,5 +1,5 @@
-//! What a device holds now: a member of an array by its superblock, or else the first of what some of its bytes say.
-//! Devices are only read.
+//! What a device holds before `create` or `add` overwrites it, for the warning: the superblock of a member, or else the
+//! first signature that is found, as that of a file system. Devices are only read.
 //!
 //! Start with `held_on`.
 //!

@@ -1,6 +1,6 @@
-//! What looks back: the laws over every life of a mirror, and a life that is sure to be one. But for
-//! `small_life` nothing runs: the functions of `laws` and `whole_calls` have empty bodies, and their
-//! contracts are the theorems.
+//! Theorems about the lives of a mirror: the laws over each of them, and a life that is sure to be one. But for
+//! `small_life` there is no program code: the functions of `laws` and `whole_calls` have empty bodies, and
+//! their contracts are the theorems.
 //!
 //! Start with `laws::every_run`. The lists of events of which it speaks are in `specs/Runs.antt`, crashes and
 //! openings between them in `specs/Lives.antt`. That such lives exist is shown by one that runs, of a lone

@@ -6,6 +6,13 @@
 //! `specs/Question.antt` what an answer allows. What is shown and asked at a terminal, and that only a yes is a yes, is
 //! `Questions` (`src/terminal.rt`). The rules by which a member gets a line, and the text of each line, are those of
 //! `md_notices`.
+//!
+//! ```
+//! let mut notices = Notices::none();
+//! notices.note_held(alloc, &mut device);
+//! ask_first(alloc, &watch, command, &notices, &names)?;
+//! let told = put_told(&mut err, &notices, command, &names, audience);
+//! ```
 #![tactic(auto)]
 
 mod asker;

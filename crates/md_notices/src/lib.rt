@@ -1,6 +1,6 @@
-//! What an array and its images are told by beside a report: which image was used without the others, which member
-//! dropped out, which device was not named, and what an image holds that is to be overwritten. No function takes
-//! memory, and none uses a device.
+//! What is noticed of an array and its images, and the lines that say it: which image was used without the others,
+//! which member dropped out, which device was not named, and what an image holds that is to be overwritten. No
+//! function takes memory, and none uses a device.
 //!
 //! Start with `members_parted` and `members_dropped` (`noticing.rt`), which tell of each member, and with the
 //! lines, which `lines.rt` has.

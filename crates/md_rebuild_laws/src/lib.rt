@@ -1,4 +1,4 @@
-//! What looks back on rebuilds: a rebuild in the life of a mirror. Nothing here runs: the functions of `laws`
+//! Theorems about rebuilds: a rebuild in the life of a mirror. There is no program code: the functions of `laws`
 //! have empty bodies, and their contracts are the theorems.
 //!
 //! Start with `laws::rebuilt_in_life`, and `RebuildsContent` in `specs/RebuiltInLife.antt`: what the member

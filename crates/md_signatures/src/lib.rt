@@ -1,5 +1,5 @@
-//! What a device holds now, as a few of its bytes tell: file systems, partition tables, volumes and md superblocks, by
-//! their magic numbers. A device is only read.
+//! Signatures on a device: the magic numbers of file systems, partition tables, volumes and md superblocks. A device is
+//! only read.
 //!
 //! Start with `find_signatures`; `table.rt` has the magic numbers, and where they stand.
 //!

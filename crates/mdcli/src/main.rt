@@ -1,4 +1,12 @@
 //! The program: commands over images in files.
+//!
+//! Start with `main`. It has the words parsed (`md_words`), lays the maps of `--map` over the files (`maps.rt`,
+//! `files.rt`), makes the files of `--output` and `--map-out` (`output_file.rt`, `map_out.rt`), and leaves the rest to
+//! `run` of `md_cli`.
+//!
+//! ```
+//! mdcli detail --readonly --map sda.img=sda.map sda.img sdb.img
+//! ```
 #![tactic(auto)]
 
 mod cleared;
