@@ -4,7 +4,7 @@
 //! Start with the file of what is tested, as `maps.rt`. A comparison is a call of `checks.rt`.
 //!
 //! ```
-//! let missing = read_map(alloc, WRITTEN, 128)?;
+//! let missing = read_map(alloc, WRITTEN, 65536)?;
 //! same_at(rt, &"the runs", missing.runs().len(), 2);
 //! ```
 #![tactic(auto)]
