@@ -201,7 +201,7 @@ const LISTS: [List; 5] = [
     },
 ];
 
-fn stop_list<R: Abort + Threads + Wait + Sync>(
+fn crash_list<R: Abort + Threads + Wait + Sync>(
     rt: &R,
     alloc: Global,
     list: &List,
@@ -221,7 +221,7 @@ fn stop_list<R: Abort + Threads + Wait + Sync>(
 #[test]
 fn each_write(rt: HostRuntime) -> Result<(), Fail> {
     for list in &LISTS {
-        stop_list(&rt, rt.alloc(), list)?;
+        crash_list(&rt, rt.alloc(), list)?;
     }
     Ok(())
 }

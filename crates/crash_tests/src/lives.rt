@@ -240,7 +240,7 @@ fn live_through<R: Abort + Threads + Wait + Sync>(
     Ok(())
 }
 
-const STOPS: usize = 24;
+const CRASHES: usize = 24;
 
 // The number in a variable of the environment, or the usual one.
 fn number<R: Env + Alloc>(rt: &R, name: &str, usual: u64) -> Result<u64, Fail> {
@@ -257,7 +257,7 @@ fn lives(rt: HostRuntime) -> Result<(), Fail> {
     let first = number(&rt, "FIRST_LIFE", 1)?;
     let count = number(&rt, "LIVES", 16)?;
     for k in 0..count {
-        live_through(&rt, rt.alloc(), first.wrapping_add(k), STOPS)?;
+        live_through(&rt, rt.alloc(), first.wrapping_add(k), CRASHES)?;
     }
     Ok(())
 }

@@ -23,7 +23,7 @@ impl Model for Fuse {
 pub(crate) enum Passage {
     Passes,
     /// It is the one at which the devices crash.
-    Stops,
+    Crashes,
     /// They have crashed before.
     Fails,
 }
@@ -51,7 +51,7 @@ impl Fuse {
         if before < self.writes {
             Passage::Passes
         } else if before == self.writes {
-            Passage::Stops
+            Passage::Crashes
         } else {
             Passage::Fails
         }

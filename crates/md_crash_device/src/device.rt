@@ -78,7 +78,7 @@ impl<D: Device> Device for CrashDevice<D> {
             return self.inner.write(sector, bytes);
         }
         self.failed += 1;
-        if sector >= self.torn_from && matches!(passage, Passage::Stops) {
+        if sector >= self.torn_from && matches!(passage, Passage::Crashes) {
             write_half(&mut self.inner, sector, bytes);
         }
         Err(WriteFault)
