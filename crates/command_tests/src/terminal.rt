@@ -89,8 +89,24 @@ fn only_a_yes_goes_on(rt: HostRuntime) -> Result<(), Fail> {
 
 #[test]
 fn a_question_takes_two_terminals(rt: HostRuntime) {
-    holds(&rt, "at a terminal", Questions::of(true, true, false) == Questions::Asked);
-    holds(&rt, "with --run", Questions::of(true, true, true) == Questions::Shown);
-    holds(&rt, "with no one to answer", Questions::of(true, false, false) == Questions::Shown);
-    holds(&rt, "without one", Questions::of(false, true, false) == Questions::Silent);
+    holds(
+        &rt,
+        "at a terminal",
+        Questions::of(true, true, false) == Questions::Asked,
+    );
+    holds(
+        &rt,
+        "with --run",
+        Questions::of(true, true, true) == Questions::Shown,
+    );
+    holds(
+        &rt,
+        "with no one to answer",
+        Questions::of(true, false, false) == Questions::Shown,
+    );
+    holds(
+        &rt,
+        "without one",
+        Questions::of(false, true, false) == Questions::Silent,
+    );
 }

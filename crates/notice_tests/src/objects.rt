@@ -19,7 +19,12 @@ use std::test::Fail;
 pub(crate) type Row = (&'static str, &'static str);
 
 // One line, and in it these values.
-pub(crate) fn holds(rt: &impl Abort, alloc: Global, text: Vec<u8>, rows: &[Row]) -> Result<(), Fail> {
+pub(crate) fn holds(
+    rt: &impl Abort,
+    alloc: Global,
+    text: Vec<u8>,
+    rows: &[Row],
+) -> Result<(), Fail> {
     let text = String::from_utf8(text)?;
     same_at(rt, &text.as_str(), text.as_str().lines().count(), 1);
     same_at(rt, &text.as_str(), text.as_str().ends_with('\n'), true);

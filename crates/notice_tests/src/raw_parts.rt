@@ -33,7 +33,10 @@ const SUPERBLOCKS: [Case; 3] = [
             ("/array_uuid", "\"00112233-4455-6677-8899-aabbccddeeff\""),
             ("/resync_offset", "18446744073709551615"),
             ("/computed_checksum", "\"8ab7c54f\""),
-            ("/roles", "[{\"device_number\":0,\"role\":0},{\"device_number\":1,\"role\":1}]"),
+            (
+                "/roles",
+                "[{\"device_number\":0,\"role\":0},{\"device_number\":1,\"role\":1}]",
+            ),
             ("/elsewhere", "[]"),
         ],
     ),
@@ -47,10 +50,7 @@ const SUPERBLOCKS: [Case; 3] = [
             ("/elsewhere", "[{\"array_uuid\":null,\"sector\":71}]"),
         ],
     ),
-    (
-        &[8],
-        &[("/unreadable_at", "8"), ("/elsewhere", "[]")],
-    ),
+    (&[8], &[("/unreadable_at", "8"), ("/elsewhere", "[]")]),
 ];
 
 const BITMAPS: [Case; 4] = [
@@ -98,11 +98,19 @@ const LOGS: [Case; 3] = [
     ),
     (
         &[2035],
-        &[("/faults", "[]"), ("/log_unreadable_at", "2032"), ("/entries", "[]")],
+        &[
+            ("/faults", "[]"),
+            ("/log_unreadable_at", "2032"),
+            ("/entries", "[]"),
+        ],
     ),
     (
         &[8],
-        &[("/unreadable_at", "8"), ("/log_unreadable_at", "null"), ("/entries", "[]")],
+        &[
+            ("/unreadable_at", "8"),
+            ("/log_unreadable_at", "null"),
+            ("/entries", "[]"),
+        ],
     ),
 ];
 
