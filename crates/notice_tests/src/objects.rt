@@ -1,4 +1,7 @@
 // Objects of JSON: what serde_json reads of them is what the reports say.
+ghost use Rattle.std.specs.List.{All};
+ghost use Rattle.std.specs.Prelude.{◌≡◌, IfOk};
+
 use crate::checks::same_at;
 use example_members::{put, seal, small_image, small_metadata, vault};
 use md_array::Mirror;
@@ -220,12 +223,17 @@ const OF_A_CHECK: [Row; 5] = [
     ("/members/1/index", "1"),
 ];
 
-fn pair(alloc: Global, one: usize, other: usize, chunks: u32) -> Result<Pair, Fail> {
+fn pair(alloc: Global, one: usize, other: usize, chunks: u32) -> Result<Pair, Fail>
+    ensures { IfOk result (λ pair. pair.chunks.chunks ≡ chunks) }
+{
     let chunks = Marks::all(alloc, chunks)?;
     Ok(Pair { one, other, chunks })
 }
 
-fn all_differ(alloc: Global, chunks: u32) -> Result<Comparison, Fail> {
+fn all_differ(alloc: Global, chunks: u32) -> Result<Comparison, Fail>
+    ensures set { IfOk result (λ found. found.chunks.chunks ≡ chunks) }
+    ensures pairs { IfOk result (λ found. All (λ pair. pair.chunks.chunks ≡ chunks) found.pairs.items) }
+{
     let pairs = vec![in alloc; pair(alloc, 0, 1, chunks)?, pair(alloc, 1, 31, chunks)?]?;
     let chunks = Marks::all(alloc, chunks)?;
     Ok(Comparison { chunks, pairs })
