@@ -758,7 +758,7 @@ CASES = [
             Step("check --list a b c", THREE_DIFFER % "1!=2"),
             Step("check a b c", "mismatched chunks: 2\n"),
             # One that is not in sync is no member of a pair.
-            Step("fail --member 2 a b c", "in sync 2 of 3, events 3, marked 0\n", changes="a b"),
+            Step("fail --member 2 a b c", "in sync 2 of 3, events 2, marked 0\n", changes="a b"),
             Step("check --list --readonly a b c", "          16 for 8 sectors, members 0!=1\n" + DIFFER),
         ],
     ),
