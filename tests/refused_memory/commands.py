@@ -27,7 +27,7 @@ class Program:
         self.folder, self.settings = folder, settings
         self.answer = None
 
-    def __call__(self, words, given):
+    def __call__(self, words, given=b""):
         try:
             done = subprocess.run(
                 [str(support.PROGRAM)] + words,
