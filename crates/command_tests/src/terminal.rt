@@ -110,3 +110,15 @@ fn a_question_takes_two_terminals(rt: HostRuntime) {
         Questions::of(false, true, false) == Questions::Silent,
     );
 }
+
+// A yes that waits to be read agrees to nothing where the question could not be shown.
+#[test]
+fn an_unseen_question_is_a_no(rt: HostRuntime) {
+    let mut room = [0u8; 20];
+    let mut err = Output::new(room.as_mut_slice());
+    let mut input = Input::new(YES.gives);
+    let goes_on = Questions::Asked.go_on(LINES, &mut err, &mut input);
+    holds(&rt, "whether it goes on", !goes_on);
+    let left: &[u8] = input.into_inner();
+    holds(&rt, "what is left to read", left == YES.gives);
+}

@@ -117,7 +117,7 @@ module _ {R S : Type 0} (s : Ghosts S) (q : Question) (params : CreateParams) (w
     pub made : AreNewMembers params words before members
     pub seen : List Disk
     pub looks : NotesHeldOnEach before seen old.notices new.notices
-    pub input : new.streams.input ≡ old.streams.input
+    pub rest : new.streams ≡ record old.streams { output = new.streams.output }
     pub done : LaysOutAgreed s q new.notices (image_list true words) members seen after old.streams.output
         new.streams.output result
         ⊎ Declines q new.notices seen after old.streams.output new.streams.output result

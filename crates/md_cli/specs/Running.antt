@@ -18,7 +18,7 @@ use Rattle.md_messages.specs.declared.notices.Notices.{Notices}
 use Rattle.md_cli.specs.Arrays.{KeepsImages, UsesImages, WorksOn, names_with}
 use Rattle.md_cli.specs.CreateOptions.{AreParamsOf, create_option_fault}
 use Rattle.md_cli.specs.Creating.{CreatesOn}
-use Rattle.md_cli.specs.Streams.{Streams, Told}
+use Rattle.md_cli.specs.Streams.{OnlyPutsOut, Streams, Told}
 use Rattle.md_images.specs.Taking.{image_list}
 
 -- the status of a command: done, or refused
@@ -31,13 +31,14 @@ abbrev pub DoesNothing : {I X : Type 0} → I → I → X → X → Type 0
 DoesNothing before after old new = (after ≡ before) × (new ≡ old)
 
 module _ {I D S : Type 0} (i : ImagesGhosts I D) (g : DeviceGhosts D) (s : SinkGhosts S) where
-  -- a report on one image
+  -- A report on one image. Where it is known which devices there are, no image was had so that it might have been changed.
   pub record ExaminesImage (ask : Ask) (words : List Text) (before after : I) (old new : S)
       (result : Result (Unit {0}) CommandFault) : Type 0 where
     pub count : length words ≢ 1 → (result ≡ Err fault.BadCount) × DoesNothing before after old new
     pub one : (name : Text) → words ≡ name ∷ []
         → ExaminesOne ask g s (i.known before) (i.device_at before) (i.device_at after) name
         old new result
+    pub looked : i.known before ≡ true → (name : Text) → i.asked after name ≡ i.asked before name
 
 -- the options of `create` are refused
 pub record RefusesOptions {I X : Type 0} (o : Options) (words : List Text) (before after : I) (old new : X)
@@ -76,13 +77,13 @@ module _ {I D R S : Type 0} (i : ImagesGhosts I D) (g : DeviceGhosts D) (r : Sou
   -- What each command does with the images that its words name. The input is read by `write` alone.
   abbrev pub Obeys : Ask → List Text → I → I → Told R S → Told R S → Result (Unit {0}) CommandFault → Type 0
   Obeys (examines form) words before after old new result =
-      (new.streams.input ≡ old.streams.input)
+      OnlyPutsOut old new
       × ExaminesImage i g s (examines form) words before after old.streams.output new.streams.output result
   Obeys (examines_bitmap form) words before after old new result =
-      (new.streams.input ≡ old.streams.input) × ExaminesImage i g s (examines_bitmap form) words before after
+      OnlyPutsOut old new × ExaminesImage i g s (examines_bitmap form) words before after
       old.streams.output new.streams.output result
   Obeys (examines_badblocks form) words before after old new result =
-      (new.streams.input ≡ old.streams.input) × ExaminesImage i g s (examines_badblocks form) words before
+      OnlyPutsOut old new × ExaminesImage i g s (examines_badblocks form) words before
       after old.streams.output new.streams.output result
   Obeys (creates o) words before after old new result =
       MakesArray i g s asker o words before after old new result

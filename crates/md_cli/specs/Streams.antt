@@ -1,5 +1,5 @@
 -- The input and the output of a run, and what it noticed.
-use Rattle.std.specs.Prelude.{List, Option}
+use Rattle.std.specs.Prelude.{◌≡◌, List, Option}
 use Rattle.md_badblocks.specs.declared.run.Run.{Run}
 use Rattle.md_messages.specs.declared.asker.Asker.{Ghosts as AskerGhosts}
 use Rattle.md_messages.specs.declared.messages.Audience.{Audience}
@@ -22,6 +22,10 @@ pub record Told (R S : Type 0) : Type 0 where
 
 abbrev pub told_of : {T R S W : Type 0} → Session T R S W → Notices → Told R S
 told_of session notices = record { streams = streams_of session; notices = notices }
+
+-- Nothing but the output is another: nothing was read from the input, and nothing was noticed.
+abbrev pub OnlyPutsOut : {R S : Type 0} → Told R S → Told R S → Type 0
+OnlyPutsOut old new = new ≡ record old { streams = record old.streams { output = new.streams.output } }
 
 -- who reads standard error, where so much is told: what a command is asked of was shown before, where the session's watch shows lines
 abbrev pub audience_of : {T R S W : Type 0} → AskerGhosts W → Session T R S W → Messages → Audience

@@ -1,5 +1,5 @@
 // One command.
-ghost use Rattle.std.specs.Prelude.{◌≡◌, ◌≢◌, ◌⊎◌, [], IfOk, false, true};
+ghost use Rattle.std.specs.Prelude.{◌≡◌, ◌≢◌, ◌⊎◌, [], IfOk, false, is_err, true};
 ghost use Rattle.clap.specs.Words.{FailsBy};
 ghost use Rattle.md_words.specs.Parsing.{asked, image_words, words_fault};
 ghost use Rattle.md_words.specs.Asks.{ask_of, options_of};
@@ -26,11 +26,11 @@ use std::io::Write;
 use std::sync::Wait;
 use std::thread::Threads;
 
-/// Obeys what the words ask for, of which `parsed` is the parse; the first is the program's name. The status is 0 where it
+/// Does what the words ask for, of which `parsed` is the parse; the first is the program's name. The status is 0 where it
 /// is done, 1 where it is refused and 2 where the words are not taken, or ask for help.
 ///
-/// Out of memory in the parse is status 2 too. That it is answered only then is tested, since no
-/// clause can tell whether memory was there.
+/// Out of memory in the parse is status 2 too, and no other cause is one where the words are taken. That a parse of such words
+/// fails only then is tested, since no clause can tell whether memory was there.
 ///
 /// The session's input is read by `write` alone. A refusal's line goes to `err`, as `mdcli: BadImage 0`, then for which
 /// sectors zeros were put out, and with advice further lines; so does the parser's text. Of a command that is done it is
@@ -62,7 +62,8 @@ pub fn run<
     ensures refused { words_fault (texts words.entry.now) ≢ [] →
         (result ≡ 2) × DoesNothing images.old images.new (streams_of session.old) (streams_of session.new) }
     ensures taken { words_fault (texts words.entry.now) ≡ [] →
-        ((result ≡ 2) × DoesNothing images.old images.new (streams_of session.old) (streams_of session.new))
+        ((is_err parsed.entry ≡ true) × (result ≡ 2)
+        × DoesNothing images.old images.new (streams_of session.old) (streams_of session.new))
         ⊎ DoesCommand I.Images I.Dev.Device R.Source S.Sink (asker_view W.Asker session.old.watch.now)
         (TellsNoticed E.Sink (audience_of W.Asker session.old messages) (asked (texts words.entry.now))
         (image_words (texts words.entry.now)) (streams_of session.new).missing err.old err.new)
@@ -96,7 +97,7 @@ pub fn run<
     )
 }
 
-// Obeys a command on the images that are named. `notices` gets what their array tells as it is opened.
+// Does a command on the images that are named. `notices` gets what their array tells as it is opened.
 fn act<
     I: Images,
     T: Threads + Wait + Sync,

@@ -119,6 +119,8 @@ pub fn examine_images<I: Images, S: Sink>(
     ensures one { (name : List ℕ) → map (λ s. s.now) names.now ≡ name ∷ [] →
         ExaminesOne (ask_of command.entry) I.Dev.Device S.Sink (I.known images.old)
         (I.device_at images.old) (I.device_at images.new) name out.old out.new result }
+    ensures looked { I.known images.old ≡ true →
+        (n : List ℕ) → I.asked images.new n ≡ I.asked images.old n }
     ensures flushed { IfOk result (λ _. S.is_flushed out.new) }
 {
     if names.len() != 1 {

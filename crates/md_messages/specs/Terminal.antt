@@ -1,8 +1,9 @@
 -- What a terminal is shown and asked, and what counts as a yes.
-use Rattle.std.specs.Prelude.{◌≡◌, ◌⊎◌, ℕ, ◌||◌, Bool, true, false, List, ◌++◌, codes}
+use Rattle.std.specs.Prelude.{◌≡◌, ◌⊎◌, ℕ, ◌||◌, Bool, true, false, List, ◌++◌, codes, length, take}
 use Rattle.std.specs.Str.{bytes_eq}
-use Rattle.md_commands.specs.Source.{Gives}
+use Rattle.md_commands.specs.Source.{GivesToBuffer}
 use Rattle.md_commands.specs.declared.source.Source.{Ghosts as SourceGhosts}
+use Rattle.md_examine.specs.Sink.{Puts}
 use Rattle.md_examine.specs.declared.sink.Sink.{Ghosts as SinkGhosts}
 use Rattle.md_messages.specs.declared.terminal.Questions.{Questions}
 use Rattle.md_messages.specs.declared.terminal.Questions.TheVariants.{Silent, Shown, Asked}
@@ -33,11 +34,13 @@ abbrev pub question_text : List ℕ
 question_text = codes "mdcli: go on? (yes or no) "
 
 module _ {R : Type 0} (r : SourceGhosts R) (old new : R) (is_agreed : Bool) where
-  -- what was read of the input
+  -- what one read of the input gave, of so many bytes at most
   pub record IsAnswer : Type 0 where
-    pub line : List ℕ
-    pub gives : Gives r.remaining r.failed old new line
-    pub is : is_agreed ≡ is_yes line
+    pub buf : List ℕ
+    pub count : ℕ
+    pub room : length buf ≡ 16
+    pub gives : GivesToBuffer r.remaining r.failed old new buf count
+    pub is : is_agreed ≡ is_yes (take count buf)
 
   -- an input that can't be read is no yes
   pub record HasNoAnswer : Type 0 where
@@ -48,10 +51,12 @@ module _ {R : Type 0} (r : SourceGhosts R) (old new : R) (is_agreed : Bool) wher
   Answers = IsAnswer ⊎ HasNoAnswer
 
 module _ {E R : Type 0} (e : SinkGhosts E) (r : SourceGhosts R) (lines : List ℕ) where
-  -- Whether to go on, of these lines: they are shown, and it is asked, as far as it is to be.
+  -- Whether to go on, of these lines: they are shown, and it is asked, as far as it is to be. Where standard error fails under the
+  -- question, which nobody sees then, nothing is read, and the answer is no.
   abbrev pub IsAsked : Questions → E → E → R → R → Bool → Type 0
   IsAsked Silent err after input left is_agreed = (is_agreed ≡ true) × (after ≡ err) × (left ≡ input)
   IsAsked Shown err after input left is_agreed =
       (is_agreed ≡ true) × PutsTold e err after lines × (left ≡ input)
   IsAsked Asked err after input left is_agreed =
-      PutsTold e err after (lines ++ question_text) × Answers r input left is_agreed
+      (Puts e.contents e.failed err after (lines ++ question_text) × Answers r input left is_agreed)
+      ⊎ ((e.failed after ≡ true) × (is_agreed ≡ false) × (left ≡ input))

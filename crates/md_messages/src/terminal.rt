@@ -47,7 +47,8 @@ impl Questions {
         }
     }
 
-    /// Shows the lines, and asks, as far as it is to be. Whether to go on: where it is asked, only a yes says so.
+    /// Shows the lines, and asks, as far as it is to be. Whether to go on: where it is asked, only a yes says so. To a question
+    /// that can't be shown the answer is no, and nothing is read.
     pub fn go_on<E: Sink, R: Source>(self, lines: &[u8], err: &mut E, input: &mut R) -> bool
         ensures asked { IsAsked E.Sink R.Source lines.now self
             err.old err.new input.old input.new result }
@@ -59,10 +60,13 @@ impl Questions {
                 let _ = err.put(lines);
                 true
             }
-            Questions::Asked => {
-                let _ = put_question(err, lines);
-                is_answered_yes(input)
-            }
+            Questions::Asked => match put_question(err, lines) {
+                Ok(()) => is_answered_yes(input),
+                Err(_) => {
+                    // Nobody saw what would be agreed to.
+                    false
+                }
+            },
         }
     }
 }

@@ -1,4 +1,4 @@
-use Rattle.std.proofs.Common.{◌≡◌, ap, ◌∙◌, Bool, inr, IfOk, List, subst}
+use Rattle.std.proofs.Common.{◌≡◌, ap, ◌∙◌, Bool, inl, inr, IfOk, is_err, List, refl, subst}
 use Rattle.clap.specs.Words.{FailsBy, Text}
 use Rattle.md_words.specs.Parsing.{asked, image_words, words_fault}
 use Rattle.md_words.specs.Asks.{Ask, ask_of}
@@ -13,6 +13,10 @@ use Rattle.md_cli.proofs.running.run.Goals as goal
 
 pub returns-clause-refused : goal.returns-clause-refused
 returns-clause-refused g c = λ other. absurd (other (subst (λ parsed. FailsBy (words_fault (texts c.args.words.now)) parsed) c.in-Ok.is c.requires.fails))
+
+-- the words are not parsed
+pub returns-in-Err-clause-taken : goal.returns-in-Err-clause-taken
+returns-in-Err-clause-taken g c = λ taken. inl (ap is_err c.in-Err.is, refl, (refl, refl))
 
 pub returns-clause-taken : goal.returns-clause-taken
 returns-clause-taken g c taken =

@@ -1,4 +1,4 @@
-use Rattle.std.proofs.Common.{◌≡◌, ◌∙◌, ◌<◌, List, [], ◌∷◌, ℕ, map, subst, inl}
+use Rattle.std.proofs.Common.{◌≡◌, ◌∙◌, ◌<◌, List, [], ◌∷◌, ℕ, map, refl, subst, inl}
 use Rattle.std.specs.Borrow.{Bor}
 use Rattle.std.specs.Prelude.{slice_index_or}
 use Rattle.md_words.specs.Asks.{ask_of}
@@ -37,3 +37,6 @@ returns-clause-flushed g c =
     let call = c.show-result in
     let Failed = d.failures was < d.failures call.new.device in
     flushed g.S.Sink (ShownBy ask (d.content was) (d.honest was) Failed) (RefusedBy ask (d.content was) (d.honest was) Failed) c.args.out.now call.new.out call.result call.ensures.gives
+
+pub returns-clause-looked : goal.returns-clause-looked
+returns-clause-looked g c = λ k n. c.put.ensures.asked (c.get.ensures.known ∙ k) n ∙ c.get.ensures.looks k refl n

@@ -1,4 +1,4 @@
-use Rattle.std.proofs.Common.{refl, subst, sym, true}
+use Rattle.std.proofs.Common.{false, inl, inr, refl, subst, sym, true}
 use Rattle.md_messages.specs.Terminal.{IsAsked}
 use Rattle.md_messages.specs.declared.terminal.Questions.{Questions}
 use Rattle.md_messages.proofs.Told.{told_or_failed}
@@ -10,8 +10,14 @@ returns-in-Shown-clause-asked g c =
     subst (λ (q : Questions). IsAsked g.E.Sink g.R.Source c.args.lines.now q c.args.err.now c.put.new.self input input true) (sym c.in-Shown.is)
     (refl, told_or_failed g.E.Sink c.put.result c.put.ensures, refl)
 
-pub returns-in-Asked-clause-asked : goal.returns-in-Asked-clause-asked
-returns-in-Asked-clause-asked g c =
+pub returns-in-Ok-clause-asked : goal.returns-in-Ok-clause-asked
+returns-in-Ok-clause-asked g c =
     let answer = c.is_answered_yes in
     subst (λ (q : Questions). IsAsked g.E.Sink g.R.Source c.args.lines.now q c.args.err.now c.put_question.new.err c.args.input.now answer.new.input answer.result) (sym c.in-Asked.is)
-    (told_or_failed g.E.Sink c.put_question.result c.put_question.ensures, answer.ensures)
+    (inl (c.in-Ok.ensures, answer.ensures))
+
+pub returns-in-Err-clause-asked : goal.returns-in-Err-clause-asked
+returns-in-Err-clause-asked g c =
+    let input = c.args.input.now in
+    subst (λ (q : Questions). IsAsked g.E.Sink g.R.Source c.args.lines.now q c.args.err.now c.put_question.new.err input input false) (sym c.in-Asked.is)
+    (inr (c.in-Err.ensures, refl, refl))
