@@ -124,7 +124,7 @@ pub fn is_map_made<E: Write>(
 fn write_into(rt: &HostRuntime, path: &str, bytes: &[u8]) -> io::Result<()> {
     let mut file = OpenOptions::new().write(true).open(rt, path)?;
     file.write_all(bytes)?;
-    file.flush()
+    file.sync_data()
 }
 
 // The map of an array up to the last sector that was read. Those before the first were not tried.
