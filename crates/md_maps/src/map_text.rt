@@ -68,7 +68,7 @@ pub fn write_map_of_read(
     count: u64,
     mut missing: BadSet,
 ) -> Result<String, AllocError>
-    ensures text { IfOk result (λ text. IsMapOfRead sector count missing (string_bytes text)) }
+    ensures { IfOk result (λ text. IsMapOfRead sector count missing (string_bytes text)) }
 {
     let end = sector.saturating_add(count).min(MOST_SECTORS);
     let first = sector.min(end);

@@ -64,10 +64,11 @@ module _ {D : Type 0} {g : Ghosts D} where
   pub missed_more : {first mid last : D} (s : Signature) (answer : Bool) (found after : List Signature) (i : ℕ) → i < length signatures → get_or signatures i s ≡ s → IsOnlySearched g first mid → IsOnlySearched g mid last → TellsWhetherThere g mid last (bears (g.content mid) s) answer → length after ≡ length found + cond answer 1 0
       → (g.honest first ≡ true → length (filter (bears (g.content first)) (take i signatures)) + g.failures first ≤ length found + g.failures mid)
       → g.honest first ≡ true → length (filter (bears (g.content first)) (take (i + 1) signatures)) + g.failures first ≤ length after + g.failures last
-  missed_more {first = first} {mid = mid} {last = last} s answer found after i lt here only more tells many so_far h =
+  missed_more {first = first} {mid = mid} {last = last} s answer found after i lt here only more tells many before h =
       let p : Signature → Bool = bears (g.content first) in
       let grown = length-filter_more p signatures i s lt in
-      let one : cond (p (get_or signatures i s)) 1 0 ≡ cond (p s) 1 0 = ap (λ (t : Signature). cond (p t) 1 0) here in
+      let count : Signature → ℕ = λ t. cond (p t) 1 0 in
+      let one = ap count here in
       let cost = paid (p s) answer (g.failures mid) (g.failures last) more.counted (λ same. tells.whole (only.honest ∙ h) same ∙ sym (bears_same s only)) in
-      let before = so_far h in
-      omega (arith, grown, one, cost, before, many)
+      let early = before h in
+      omega (arith, grown, one, cost, early, many)

@@ -30,8 +30,8 @@ is_read sector end first s is low (inl none) last = absurd (omega (arith, none))
 is_read sector end first s is low (inr from) (inl before) = (omega (arith, is, from, before), before)
 is_read sector end first s is low (inr from) (inr past) = absurd (omega (arith, low, past))
 
-pub returns-clause-text : goal.returns-clause-text
-returns-clause-text c =
+pub returns : goal.returns
+returns c =
     let end = c.min-end.result in
     let first = c.min-first.result in
     let lost = c.remove-2.new.self in
@@ -46,7 +46,8 @@ returns-clause-text c =
         let after = (c.in_ok-remove-2.ensures.ok s).0 bad in
         let before = (c.in_ok-remove.ensures.ok s).0 after.0 in
         let low = bad_below 0 c.remove.new.self s c.in_ok-remove.ensures.canonical after.0 in
-        (before.0, is_read c.args.sector end first s c.min-first.ensures low after.1 before.1),
+        let within = is_read c.args.sector end first s c.min-first.ensures low after.1 before.1 in
+        (before.0, within.0, within.1),
         λ has.
         let from : 0 + first ≤ s = let at = c.min-first.ensures in let reached = has.1 in omega (arith, at, reached) in
         (c.in_ok-remove-2.ensures.ok s).1 ((c.in_ok-remove.ensures.ok s).1 (has.0, inl has.2), inr from),

@@ -1,4 +1,4 @@
-use Rattle.std.proofs.Common.{◌≡◌, ◌<◌, ◌∙◌, ◌+◌, Bool, List, ◌∷◌, ◌++◌, [], true, cond, length, length-append, get_or, ap, sym, subst, arith, Vec, Global}
+use Rattle.std.proofs.Common.{◌≡◌, ◌<◌, ◌∙◌, ◌+◌, ℕ, Bool, List, ◌∷◌, ◌++◌, [], true, cond, length, length-append, get_or, ap, sym, subst, arith, Vec, Global}
 use Rattle.std.proofs.lemmas.List.{get_or_default}
 use Rattle.std.specs.List.{All}
 use Rattle.md_signatures.specs.declared.signature.Signature.{Signature}
@@ -18,6 +18,7 @@ loop-signature-preserved g c =
     let inside : i < length signatures = c.loop-signature-test.true in
     let s = get_or signatures i Md090 in
     let here = get_or_default signatures i s Md090 inside in
+    let count : Bool → ℕ = λ b. cond b 1 0 in
     let P : List Signature → Type 0 = λ xs. All (λ x. bears (g.D.Device.content c.args.device.now) x ≡ true) xs in
     elim c.if-bears.branch [
       | then-bears+in_ok-push w ↦
@@ -25,7 +26,7 @@ loop-signature-preserved g c =
           let e = more ∙ w.in_ok-push.ensures.items in
           let longer : length (found ++ s ∷ []) ≡ length found + 1 = length-append found (s ∷ []) in
           let as_long : length c.if-bears.found.items ≡ length (found ++ s ∷ []) = ap (λ (xs : List Signature). length xs) e in
-          let one : cond c.bears.result 1 0 ≡ 1 = ap (λ (b : Bool). cond b 1 0) w.if-bears.true in
+          let one = ap count w.if-bears.true in
           let many : length c.if-bears.found.items ≡ length found + cond c.bears.result 1 0 = omega (arith, longer, as_long, one) in
           record {
             only_read = read_then inv.only_read c.bears.ensures.only_read;
@@ -37,7 +38,7 @@ loop-signature-preserved g c =
       | else-bears w ↦
           let e : c.if-bears.found.items ≡ found = ap (λ (v : Vec Signature Global). v.items) w.found-is in
           let as_long : length c.if-bears.found.items ≡ length found = ap (λ (xs : List Signature). length xs) e in
-          let none : cond c.bears.result 1 0 ≡ 0 = ap (λ (b : Bool). cond b 1 0) w.if-bears.false in
+          let none = ap count w.if-bears.false in
           let many : length c.if-bears.found.items ≡ length found + cond c.bears.result 1 0 = omega (arith, as_long, none) in
           record {
             only_read = read_then inv.only_read c.bears.ensures.only_read;
