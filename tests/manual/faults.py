@@ -65,11 +65,11 @@ def declared():
 
 def constants():
     """The texts of what to do that have a name."""
-    return dict(TEXT.findall(ADVICE.read_text()) + TEXT.findall(LIMITS.read_text()))
+    return dict(found for file in (ADVICE, LIMITS, OUTPUT_FILES) for found in TEXT.findall(file.read_text()))
 
 
-# Of these faults it depends on the image or the command which text is said: this one comes second.
-SECOND = {"LogFull #": "LEAVE_SOURCE_OUT", "NoMemory": "WRITE_IN_PARTS"}
+# Of these faults it depends on the image, the command or what failed which text is said: this one comes second.
+SECOND = {"LogFull #": "LEAVE_SOURCE_OUT", "NoMemory": "WRITE_IN_PARTS", "OutputFileFault": "READ_ON"}
 
 
 def limits():

@@ -65,7 +65,7 @@ pub(crate) const WRITE_IN_PARTS: &str =
     "try again with more memory, or write in parts, each from a `--sector` of its own on: all of the input is held in memory";
 
 const ANOTHER_OUTPUT: &str =
-    "give it an output that takes the whole report, and drop what came so far";
+    "give it an output that takes all of it: what came so far is cut short";
 
 const WITHIN_ARRAY: &str =
     "`detail` shows the size of the array; a sector has 512 bytes, and an empty input has none";

@@ -19,19 +19,14 @@ pub missing_unserved : MissesUnserved
 missing_unserved sector bytes missing old new fills honest i low bad k m in_sync d at well =
     let before = fills.begins i low in
     let within = fills.within i low in
-    let after = fills.ends i low in
     let there : IsInSync (fills.asked i).array k m = subst (λ (a : ArrayView). IsInSync a k m) (sym before.array) in_sync in
     let first = device_later old (fills.asked i) before k d at in
     let last = device_later (fills.asked i) (fills.over i) within k first.0 first.1 in
-    let end = device_later (fills.over i) new after k last.0 last.1 in
     let one = before.disks.same.honest k d first.0 at first.1 in
-    let two = after.disks.same.honest k last.0 end.0 last.1 end.1 in
-    let same = well d end.0 at end.1 in
+    let same = well first.0 last.0 first.1 last.1 in
     ⊎_elim
     (λ listed. listed)
     (λ failed.
     let rose : first.0.failures < last.0.failures = failed first.0 last.0 first.1 last.1 (one.honest ∙ honest k d at) in
-    let low = one.counted in
-    let high = two.counted in
-    absurd (omega (arith, rose, low, high, same)))
+    absurd (omega (arith, rose, same)))
     ((fills.lost i low bad).1 k m there)

@@ -96,15 +96,16 @@ FillsContent =
     → IsQuiet (world_of old requests) (sector + i)
     → held bytes i 512 ≡ a (sector + i)
 
--- Which sectors are missing: where devices do what they answer, and none of member k's calls failed, its own list has each of them. So a
--- sector is missing only where each member in sync lists it, or failed as it was asked for.
+-- Which sectors are missing: where devices do what they answer, and none of member k's calls failed while one
+-- of them was asked for, its own list has it. So a sector is missing only where each member in sync lists it,
+-- or failed as it was asked for.
 abbrev pub MissesUnserved : Type 0
 MissesUnserved =
     (sector : ℕ) (bytes : List ℕ) (missing : List Run) (old new : MirrorView)
-    → FillsSectors Resynced sector bytes missing old new → AreHonest old.disks
+    → (fills : FillsSectors Resynced sector bytes missing old new) → AreHonest old.disks
     → (i : ℕ) → i < length bytes / 512 → IsBad missing (sector + i)
     → (k : ℕ) (m : MemberView) → IsInSync old.array k m → (d : Disk) → slice_get old.disks k ≡ Some d
-    → AtDevice k old.disks new.disks (λ d e. e.failures ≡ d.failures)
+    → AtDevice k (fills.asked i).disks (fills.over i).disks (λ d e. e.failures ≡ d.failures)
     → Lists m (sector + i)
 
 -- ---- a part of a longer range

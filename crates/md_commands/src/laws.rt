@@ -17,7 +17,7 @@ pub fn filled_content()
 {}
 
 /// A sector is missing in what is read of a resynced array so only where each member in sync lists it as bad, or failed as it was
-/// asked for.
+/// asked for. Of an array that is not resynced nothing is said.
 pub fn missing_sectors()
     ensures { MissesUnserved }
 {}

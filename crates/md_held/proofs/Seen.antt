@@ -1,5 +1,5 @@
 -- A device of which no superblock was read, and whose signatures are looked for then.
-use Rattle.std.proofs.Common.{◌≡◌, ◌≢◌, ◌∙◌, ◌<◌, ◌≤◌, ℕ, Bool, List, ◌∷◌, [], true, false, inl, inr, sym, ap, arith, subst}
+use Rattle.std.proofs.Common.{◌≡◌, ◌≢◌, ◌⊎◌, ◌∙◌, ◌<◌, ◌≤◌, ℕ, Bool, List, ◌∷◌, [], length, true, false, inl, inr, sym, ap, arith, subst}
 use Rattle.std.specs.List.{filter}
 use Rattle.md_members.specs.declared.fault.MemberFault.{MemberFault}
 use Rattle.md_members.specs.declared.fault.MemberFault.TheVariants.{TooShort, ReadFault, Super, Region, Bitmap, Log, NoMemory}
@@ -11,7 +11,7 @@ use Rattle.md_signatures.specs.Reading.{IsOnlySearched}
 use Rattle.md_state.specs.View.{Disk, of_disks}
 use Rattle.md_held.specs.declared.held.Held.{Held}
 use Rattle.md_held.specs.declared.held.Held.TheVariants.{Nothing, Unseen, Unread, Member, Signed}
-use Rattle.md_held.specs.Holding.{BearsFirst, HasNoSuper, IsToldOfDevice, HoldsSigned, LacksSuper, borne}
+use Rattle.md_held.specs.Holding.{BearsFirst, HasNoSuper, IsToldOfDevice, HoldsSigned, LacksSuper, MissesEach, borne}
 
 -- a failure that was counted stays so
 refused_still : {F G : Type 0} (content : List ℕ) (honest : _) (fault : MemberFault) → (F → G) → RefusesSuper content honest F fault → RefusesSuper content honest G fault
@@ -48,11 +48,22 @@ module _ (a b c : Disk) (fault : MemberFault) (first : IsOnlySearched of_disks a
       by : f ≡ ReadFault → RefusesSuper a.content a.honest (a.failures < b.failures) f → a.failures < b.failures
       by e r = (subst (λ x. RefusesSuper a.content a.honest (a.failures < b.failures) x) e r).1 honest
 
+  -- a read failed, before the look at the signatures or in it
+  unread : (failed : Bool) → (failed ≡ true → fault ≡ ReadFault) → (failed ≡ true) ⊎ (b.honest ≡ true → b.failures < c.failures) → a.honest ≡ true → a.failures < c.failures
+  unread failed told (inl e) is = read_failed fault (told e) refused is
+  unread failed told (inr more) is = let late_one = more (first.honest ∙ is) in let early = first.counted in omega (arith, late_one, early)
+
+  missed : MissesEach b c → MissesEach a c
+  missed each is =
+      let later = each (first.honest ∙ is) in
+      let early = first.counted in
+      let as_many = ap (λ (found : List Signature). length found) as_borne in
+      omega (arith, later, early, as_many)
+
   pub seen_then : (failed : Bool) → (failed ≡ true → fault ≡ ReadFault) → (failed ≡ false → fault ≢ ReadFault) → (held : Held) → HoldsSigned failed b c held → IsToldOfDevice a c held
   seen_then failed told untold Nothing h = (lacks (untold h.0), λ is. as_borne ∙ h.1 (first.honest ∙ is))
   seen_then failed told untold Unseen h = h
-  seen_then failed told untold Unread (inl e) = (no_super, λ is. read_failed fault (told e) refused is)
-  seen_then failed told untold Unread (inr more) = (no_super, λ is. let late_one = more (first.honest ∙ is) in let early = first.counted in omega (arith, late_one, early))
+  seen_then failed told untold Unread h = (no_super, unread failed told h.0, missed h.1)
   seen_then failed told untold (Member v) h = absurd h
   seen_then failed told untold (Signed s) h = (
     no_super,

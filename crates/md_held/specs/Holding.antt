@@ -1,6 +1,6 @@
 -- What a device holds, as far as it is told: of bytes that are usual signs of it, and of which this project's own is a superblock
 -- that it takes.
-use Rattle.std.specs.Prelude.{◌≡◌, ◌≢◌, ◌⊎◌, ℕ, ◌<◌, Bool, true, false, List, [], ◌∷◌, length, Some, slice_get}
+use Rattle.std.specs.Prelude.{◌≡◌, ◌≢◌, ◌⊎◌, ℕ, ◌+◌, ◌<◌, ◌≤◌, Bool, true, false, List, [], ◌∷◌, length, Some, slice_get}
 use Rattle.std.specs.List.{filter}
 use Rattle.md_super.specs.declared.superblock.Superblock.{Superblock}
 use Rattle.md_members.specs.declared.fault.MemberFault.{MemberFault}
@@ -46,6 +46,10 @@ pub record BearsFirst (d e : Disk) (s : Signature) : Type 0 where
   pub bears_it : d.honest ≡ true → bears d.content s ≡ true
   pub first : d.honest ≡ true → e.failures ≡ d.failures → (rest : List Signature) × (borne d ≡ s ∷ rest)
 
+-- No signature is found: each that the device bears is missed, and costs a failed call of its own.
+abbrev pub MissesEach : Disk → Disk → Type 0
+MissesEach d e = d.honest ≡ true → length (borne d) + d.failures ≤ e.failures
+
 -- no superblock is taken on the device, and it was read
 pub record LacksSuper (d e : Disk) : Type 0 where
   pub fault : MemberFault
@@ -58,17 +62,19 @@ pub record LacksSuper (d e : Disk) : Type 0 where
 abbrev pub HoldsSigned : Bool → Disk → Disk → Held → Type 0
 HoldsSigned failed d e Nothing = (failed ≡ false) × (d.honest ≡ true → borne d ≡ [])
 HoldsSigned failed d e Unseen = Unit {0}
-HoldsSigned failed d e Unread = (failed ≡ true) ⊎ (d.honest ≡ true → d.failures < e.failures)
+HoldsSigned failed d e Unread =
+    ((failed ≡ true) ⊎ (d.honest ≡ true → d.failures < e.failures)) × MissesEach d e
 HoldsSigned failed d e (Member v) = ⊥
 HoldsSigned failed d e (Signed s) = BearsFirst d e s
 
--- What is told of a device, before a look at it and after that: its superblock, or where none can be read, its first signature. That it
--- holds nothing which is known is told only where each read of it was done. Of a device that is not honest it is told of some bytes
--- that were read.
+-- What is told of a device, before a look at it and after that: its superblock, or where none can be read,
+-- its first signature. That it holds nothing which is known is told only where each read of it was done; that
+-- it could not be read, only where no signature is found. Of a device that is not honest it is told of some
+-- bytes that were read.
 abbrev pub IsToldOfDevice : Disk → Disk → Held → Type 0
 IsToldOfDevice d e Nothing = LacksSuper d e × (d.honest ≡ true → borne d ≡ [])
 IsToldOfDevice d e Unseen = Unit {0}
-IsToldOfDevice d e Unread = HasNoSuper d e × (d.honest ≡ true → d.failures < e.failures)
+IsToldOfDevice d e Unread = HasNoSuper d e × (d.honest ≡ true → d.failures < e.failures) × MissesEach d e
 IsToldOfDevice d e (Member v) = ReadsSuper d.content d.honest v
 IsToldOfDevice d e (Signed s) = HasNoSuper d e × BearsFirst d e s
 

@@ -1,7 +1,8 @@
 -- The map that is written for an image of which these sectors are lacking, and of which those before a place were not tried.
-use Rattle.std.specs.Prelude.{ℕ, ◌+◌, ◌-◌, ◌*◌, ◌^◌, Bool, true, false, List, [], ◌∷◌, ◌++◌, min, nat_lt, codes, if◌then◌else◌}
+use Rattle.std.specs.Prelude.{◌≡◌, ◌↔◌, ◌<◌, ◌≤◌, ℕ, ◌+◌, ◌-◌, ◌*◌, ◌^◌, Bool, true, false, List, [], ◌∷◌, ◌++◌, min, nat_lt, codes, if◌then◌else◌}
 use Rattle.std.specs.List.{flat_map}
 use Rattle.std.specs.Fmt.{digits, padded_integral, format_spec}
+use Rattle.md_badblocks.specs.Runs.{IsBad, IsCanonical}
 use Rattle.md_badblocks.specs.declared.run.Run.{Run}
 use Rattle.md_maps.specs.declared.line.Block.{Block}
 
@@ -55,3 +56,13 @@ lines_text tried bs = flat_map (λ b. ended (block_line tried b)) bs
 -- the text of the map of `size` bytes, of which those from this place on were tried
 unfoldable pub map_text : ℕ → ℕ → List Run → List ℕ
 map_text size tried runs = flat_map ended head_lines ++ lines_text tried (untried_before tried ++ blocks_from size tried runs)
+
+-- The text is the map of an array up to the last of so many sectors from this one on, and of no more than a
+-- device has. Of these just the missing ones are lacking, and those before were not tried.
+pub record IsMapOfRead (sector count : ℕ) (missing : List Run) (text : List ℕ) : Type 0 where
+  pub end : ℕ
+  pub lost : List Run
+  pub ends : end ≡ min (sector + count) (2 ^ 54)
+  pub runs : IsCanonical lost
+  pub among : (s : ℕ) → IsBad lost s ↔ (IsBad missing s × (sector ≤ s) × (s < end))
+  pub text_is : text ≡ map_text (512 * end) (512 * min sector end) lost

@@ -1,6 +1,7 @@
 //! The map file of ddrescue: which parts of a disk its copy has, and which it lacks.
 //!
-//! Start with `read_map`, which gives the sectors that the copy lacks; `write_map` writes such a map.
+//! Start with `read_map`, which gives the sectors that the copy lacks; `write_map` writes such a map, and `write_map_of_read`
+//! that of an array which was read.
 //!
 //! ```
 //! let missing = read_map(alloc, &text, size)?;
@@ -20,4 +21,4 @@ mod numbers;
 pub use fault::{LineFault, MapFault};
 pub use line::Block;
 pub use map::read_map;
-pub use map_text::write_map;
+pub use map_text::{write_map, write_map_of_read};

@@ -3,12 +3,15 @@ ghost use Rattle.std.specs.Prelude.{◌≡◌, ◌⊎◌, ◌↔◌, ◌+◌, �
 ghost use Rattle.md_badblocks.specs.Runs.{IsBad};
 ghost use Rattle.md_badblocks.specs.declared.run.Run.{Run};
 ghost use Rattle.md_maps.specs.Map.{IsMapReadAs};
-ghost use Rattle.md_maps.specs.Writing.{ended, block_line, lines_text, rescued_between, status_text, map_text, untried_before};
+ghost use Rattle.md_maps.specs.Writing.{IsMapOfRead, ended, block_line, lines_text, rescued_between, status_text, map_text, untried_before};
 
 use crate::line::Block;
 use crate::lines_read::SECTOR;
 use md_badblocks::BadSet;
 use std::alloc::{AllocError, Global};
+
+/// How many sectors a device has at most.
+const MOST_SECTORS: u64 = 1 << 54;
 
 /// The lines before those of the blocks.
 const HEAD: &str = "# Mapfile. Created by mdcli
@@ -55,6 +58,23 @@ pub fn write_map(
     }
     push_rescued(&mut text, tried, from, size)?;
     Ok(text)
+}
+
+/// The text of ddrescue's map of an array of which `count` sectors from this one on were read, and of these just the missing ones
+/// were not given. It goes up to the last of them, and those before the first were not tried.
+pub fn write_map_of_read(
+    alloc: Global,
+    sector: u64,
+    count: u64,
+    mut missing: BadSet,
+) -> Result<String, AllocError>
+    ensures { IfOk result (λ text. IsMapOfRead sector count missing (string_bytes text)) }
+{
+    let end = sector.saturating_add(count).min(MOST_SECTORS);
+    let first = sector.min(end);
+    missing.remove(end, MOST_SECTORS - end)?;
+    missing.remove(0, first)?;
+    write_map(alloc, SECTOR * end, first, &missing)
 }
 
 /// Adds the bytes before this place, where there are some.

@@ -7,7 +7,7 @@ use Rattle.md_examine.specs.declared.raw_bitmap.CountedMarks.{CountedMarks}
 use Rattle.md_examine.specs.declared.raw_bitmap.RawBitmap.{RawBitmap}
 use Rattle.md_examine.specs.declared.raw_bitmap.RawBitmap.TheVariants.{Unplaced, Unreadable, Read}
 use Rattle.md_examine.specs.declared.raw_bitmap.UnreadMarks.{UnreadMarks}
-use Rattle.md_raw_members.specs.Raw.{CountsMarks, HasCounts, IsRest, ReadsBitmapAt, ReadsPlacedBitmap, ReadsRawBitmap}
+use Rattle.md_raw_members.specs.Raw.{CountsMarks, HasCounts, IsRest, ReadsBitmapAt, ReadsPlacedBitmap, ReadsRawBitmap, TriesFront}
 
 module _ (content : List ℕ) (honest : Bool) (F G : Type 0) (via : F → G) where
   rest_later : (start chunks sectors : ℕ) (u : Option UnreadMarks) → IsRest content honest F start chunks sectors u → IsRest content honest G start chunks sectors u
@@ -40,6 +40,11 @@ pub placed_bitmap : (content : List ℕ) (honest : Bool) (F : Type 0) (sectors :
 placed_bitmap content honest F sectors superblock Unplaced some r = absurd r.reads
 placed_bitmap content honest F sectors superblock (Unreadable sector) some r = (some, r)
 placed_bitmap content honest F sectors superblock (Read sector marks) some r = (some, r)
+
+-- what was tried was tried before more calls
+pub tried_later : (honest : Bool) (before mid after sectors : ℕ) → mid ≤ after → TriesFront honest before mid sectors → TriesFront honest before after sectors
+tried_later honest before mid after sectors more t =
+    record { counts = t.counts; twice = λ none is. let two = t.twice none is in omega (arith, two, more) }
 
 -- nothing was read
 pub read_nothing : (content : List ℕ) (honest : Bool) (sector : ℕ) → 512 * sector ≤ length content → IsRead content honest sector 0 []

@@ -46,6 +46,12 @@ pub record ReadsFront (content : List ℕ) (honest : Bool) (Failed : Type 0) (se
   pub read : IsRead content honest 8 (512 * sectors) (take (512 * sectors) bytes)
   pub failed : sectors < 8 → honest ≡ true → Failed
 
+-- which of them were tried, and how often a call on the device failed before and after that: all at once, and
+-- where that failed the first alone
+pub record TriesFront (honest : Bool) (before after sectors : ℕ) : Type 0 where
+  pub counts : (sectors ≡ 8) ⊎ (sectors ≤ 1)
+  pub twice : sectors ≡ 0 → honest ≡ true → before + 2 ≤ after
+
 -- why they are not read at all
 abbrev pub RefusesRawSuper : List ℕ → RawFault → Type 0
 RefusesRawSuper content TooShort = length content < 512 * 16

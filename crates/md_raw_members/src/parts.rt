@@ -1,7 +1,7 @@
 // The parts of a member, each with the superblock that places it.
 ghost use Rattle.std.specs.Prelude.{◌≡◌, ◌<◌, ◌≤◌, IfErr, IfOk};
 ghost use Rattle.md_raw_members.specs.Elsewhere.{FindsElsewhere};
-ghost use Rattle.md_raw_members.specs.Raw.{ReadsRawBitmap, ReadsFront, ReadsRawLog, RefusesRawBitmap, RefusesRawSuper, RefusesRawLog};
+ghost use Rattle.md_raw_members.specs.Raw.{ReadsRawBitmap, ReadsFront, ReadsRawLog, RefusesRawBitmap, RefusesRawSuper, RefusesRawLog, TriesFront};
 
 use crate::elsewhere::find_elsewhere;
 use crate::fault::RawFault;
@@ -20,6 +20,8 @@ pub fn read_raw_super<D: Device>(
     ensures honest { D.honest device.new ≡ D.honest device.old }
     ensures ok { IfOk result (λ it. ReadsFront (D.content device.old) (D.honest device.old)
         (D.failures device.old < D.failures device.new) it.0 bytes.new) }
+    ensures tried { IfOk result (λ it.
+        TriesFront (D.honest device.old) (D.failures device.old) (D.failures device.new) it.0) }
     ensures finds { IfOk result (λ it. FindsElsewhere (D.content device.old) (D.honest device.old)
         (D.failures device.old < D.failures device.new) it.1) }
     ensures refused { IfErr result (λ fault. RefusesRawSuper (D.content device.old) fault) }
@@ -38,6 +40,8 @@ pub fn read_raw_bitmap<D: Device>(
     ensures honest { D.honest device.new ≡ D.honest device.old }
     ensures ok { IfOk result (λ it. ReadsFront (D.content device.old) (D.honest device.old)
         (D.failures device.old < D.failures device.new) it.0 superblock.new) }
+    ensures tried { IfOk result (λ it.
+        TriesFront (D.honest device.old) (D.failures device.old) (D.failures device.new) it.0) }
     ensures bitmap { IfOk result (λ it. ReadsRawBitmap (D.content device.old) (D.honest device.old)
         (D.failures device.old < D.failures device.new) it.0 superblock.new it.1) }
     ensures refused { IfErr result (λ fault. RefusesRawBitmap (D.content device.old) (D.honest device.old)
@@ -62,6 +66,8 @@ pub fn read_raw_log<D: Device>(
     ensures honest { D.honest device.new ≡ D.honest device.old }
     ensures ok { IfOk result (λ it. ReadsFront (D.content device.old) (D.honest device.old)
         (D.failures device.old < D.failures device.new) it.0 superblock.new) }
+    ensures tried { IfOk result (λ it.
+        TriesFront (D.honest device.old) (D.failures device.old) (D.failures device.new) it.0) }
     ensures few { IfOk result (λ it. it.1.len ≤ 4096) }
     ensures log { IfOk result (λ it. ReadsRawLog (D.content device.old) (D.honest device.old)
         (D.failures device.old < D.failures device.new) it.0 superblock.new bytes.new it.1) }

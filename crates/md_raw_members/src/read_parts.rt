@@ -1,7 +1,7 @@
 // The parts of a member whose place the superblock gives, though it may be damaged.
 ghost use Rattle.std.specs.Prelude.{◌≡◌, ◌<◌, ◌≤◌, ◌+◌, ◌*◌, ◌%◌, ◌^◌, ℕ, IfErr, IfOk, MatchOption, OnErr, OnOk, length, take, true};
 ghost use Rattle.md_members.specs.Reading.{HasSuperSectors, IsRead};
-ghost use Rattle.md_raw_members.specs.Raw.{FitsAt, IsOn, ReadsBitmapAt, ReadsFront, ReadsLogAt, ReadsLogOf, ReadsPlacedBitmap, RefusesArea, RefusesRawSuper, RefusesSector, StartsAt, size_of_log};
+ghost use Rattle.md_raw_members.specs.Raw.{FitsAt, IsOn, ReadsBitmapAt, ReadsFront, ReadsLogAt, ReadsLogOf, ReadsPlacedBitmap, RefusesArea, RefusesRawSuper, RefusesSector, StartsAt, TriesFront, size_of_log};
 
 use crate::counting::count_marks;
 use crate::fault::RawFault;
@@ -36,6 +36,8 @@ pub(crate) fn read_super_bytes<D: Device>(
     ensures honest { D.honest device.new ≡ D.honest device.old }
     ensures counted { D.failures device.old ≤ D.failures device.new }
     ensures ok { IfOk result (λ sectors. ReadsFront (D.content device.old) (D.honest device.old) (D.failures device.old < D.failures device.new) sectors bytes.new) }
+    ensures tried { IfOk result (λ sectors.
+        TriesFront (D.honest device.old) (D.failures device.old) (D.failures device.new) sectors) }
     ensures refused { IfErr result (λ fault. RefusesRawSuper (D.content device.old) fault) }
 {
     if device.sectors() < LEAST_SECTORS {
@@ -51,6 +53,7 @@ fn read_front<D: Device>(device: &mut D, bytes: &mut [u8; 4096]) -> u32
     ensures honest { D.honest device.new ≡ D.honest device.old }
     ensures counted { D.failures device.old ≤ D.failures device.new }
     ensures front { ReadsFront (D.content device.old) (D.honest device.old) (D.failures device.old < D.failures device.new) result bytes.new }
+    ensures tried { TriesFront (D.honest device.old) (D.failures device.old) (D.failures device.new) result }
 {
     match read_sectors(device, SUPER_SECTOR, bytes) {
         Ok(()) => SUPER_SECTORS,
@@ -65,6 +68,7 @@ fn read_first<D: Device>(device: &mut D, bytes: &mut [u8; 4096]) -> u32
     ensures honest { D.honest device.new ≡ D.honest device.old }
     ensures counted { D.failures device.old ≤ D.failures device.new }
     ensures few { result ≤ 1 }
+    ensures tried { result ≡ 0 → D.honest device.old ≡ true → D.failures device.old < D.failures device.new }
     ensures read { IsRead (D.content device.old) (D.honest device.old) 8 (512 * result) (take (512 * result) bytes.new) }
 {
     match read_sectors(device, SUPER_SECTOR, &mut bytes[..512]) {

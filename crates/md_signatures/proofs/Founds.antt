@@ -1,12 +1,20 @@
 -- What was found of the first signatures, and one more.
-use Rattle.std.proofs.Common.{◌≡◌, ℕ, ◌+◌, ◌<◌, Bool, true, false, cond, List, [], ◌∷◌, ◌++◌, length, get_or, take, sym, ap, ◌∙◌, arith, append-nil}
+use Rattle.std.proofs.Common.{◌≡◌, ℕ, ◌+◌, ◌<◌, ◌≤◌, ⊎_elim, Bool, true, false, cond, List, [], ◌∷◌, ◌++◌, length, get_or, take, sym, ap, ◌∙◌, arith, append-nil}
 use Rattle.std.specs.List.{All, filter}
+use Rattle.std.proofs.lemmas.Bool.{cases_lt, false≢true}
 use Rattle.std.proofs.lemmas.List.Elements.{All-append, All-cons, All-nil, filter_more}
+use Rattle.std.proofs.lemmas.List.Filters.{length-filter_more}
 use Rattle.md_device.specs.declared.device.Device.{Ghosts}
 use Rattle.md_signatures.specs.declared.signature.Signature.{Signature}
 use Rattle.md_signatures.specs.Bearing.{bears}
 use Rattle.md_signatures.specs.Finding.{signatures}
 use Rattle.md_signatures.specs.Reading.{IsOnlySearched, TellsWhetherThere}
+
+-- what is there is found, or a call failed
+paid : (there answer : Bool) (m n : ℕ) → m ≤ n → (n ≡ m → answer ≡ there) → cond there 1 0 + m ≤ cond answer 1 0 + n
+paid false answer m n le same = omega (arith, le)
+paid true true m n le same = omega (arith, le)
+paid true false m n le same = ⊎_elim (λ (rose : m < n). omega (arith, rose)) (λ (not_more : n ≤ m). absurd (false≢true (same (omega (arith, le, not_more))))) (cases_lt m n)
 
 module _ {D : Type 0} {g : Ghosts D} where
   -- the device bears what was found after reads of it
@@ -52,3 +60,15 @@ module _ {D : Type 0} {g : Ghosts D} where
       ∙ ap (λ (t : Signature). front ++ cond (p t) (t ∷ []) []) here
       ∙ ap (λ (b : Bool). front ++ cond b (s ∷ []) []) (answered s answer only more tells h same ∙ is)
       ∙ append-nil front)
+
+  pub missed_more : {first mid last : D} (s : Signature) (answer : Bool) (found after : List Signature) (i : ℕ) → i < length signatures → get_or signatures i s ≡ s → IsOnlySearched g first mid → IsOnlySearched g mid last → TellsWhetherThere g mid last (bears (g.content mid) s) answer → length after ≡ length found + cond answer 1 0
+      → (g.honest first ≡ true → length (filter (bears (g.content first)) (take i signatures)) + g.failures first ≤ length found + g.failures mid)
+      → g.honest first ≡ true → length (filter (bears (g.content first)) (take (i + 1) signatures)) + g.failures first ≤ length after + g.failures last
+  missed_more {first = first} {mid = mid} {last = last} s answer found after i lt here only more tells many before h =
+      let p : Signature → Bool = bears (g.content first) in
+      let grown = length-filter_more p signatures i s lt in
+      let count : Signature → ℕ = λ t. cond (p t) 1 0 in
+      let one = ap count here in
+      let cost = paid (p s) answer (g.failures mid) (g.failures last) more.counted (λ same. tells.whole (only.honest ∙ h) same ∙ sym (bears_same s only)) in
+      let early = before h in
+      omega (arith, grown, one, cost, early, many)

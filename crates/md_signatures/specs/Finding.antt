@@ -1,5 +1,5 @@
 -- What is found on a device.
-use Rattle.std.specs.Prelude.{◌≡◌, true, List, [], ◌∷◌}
+use Rattle.std.specs.Prelude.{◌≡◌, ◌≤◌, ◌+◌, true, List, [], ◌∷◌, length}
 use Rattle.std.specs.List.{All, filter}
 use Rattle.md_device.specs.declared.device.Device.{Ghosts}
 use Rattle.md_signatures.specs.declared.signature.Signature.{Signature}
@@ -13,8 +13,11 @@ signatures =
     ∷ Reiserfs ∷ Ntfs ∷ Exfat
     ∷ Fat ∷ Squashfs ∷ Iso9660 ∷ []
 
--- an honest device bears all that was found; where no call failed, these are all that it bears, in their order
+-- an honest device bears all that was found; where no call failed, these are all that it bears, in their
+-- order; and each one that is missed costs a failed call of its own
 pub record FindsSignatures {D : Type 0} (g : Ghosts D) (old new : D) (found : List Signature) : Type 0 where
   pub sound : g.honest old ≡ true → All (λ s. bears (g.content old) s ≡ true) found
   pub whole : g.honest old ≡ true → g.failures new ≡ g.failures old
       → found ≡ filter (bears (g.content old)) signatures
+  pub missed : g.honest old ≡ true
+      → length (filter (bears (g.content old)) signatures) + g.failures old ≤ length found + g.failures new

@@ -1,18 +1,11 @@
 // The map that a read makes.
-ghost use Rattle.std.specs.Prelude.{◌*◌, ◌+◌, ◌<◌, ◌≤◌, ◌^◌};
-
 use md_badblocks::BadSet;
-use md_maps::write_map;
+use md_maps::write_map_of_read;
 use md_masked_images::{MapOutFault, map_out_advice};
 use md_messages::Messages;
 use md_words::{Command, Request};
-use std::alloc::{AllocError, Global};
 use std::fs::{self, File, OpenOptions};
 use std::io::{self, ErrorKind, Write};
-use std::string::String;
-
-// How many sectors a device has at most.
-const MOST_SECTORS: u64 = 1 << 54;
 
 /// A file that a read makes: ddrescue's map of the array, up to the last sector that is read.
 #[derive(Clone, Copy)]
@@ -54,7 +47,7 @@ impl<'a> MapOut<'a> {
 
     // Writes it once all sectors are put out, of which these are missing.
     fn write(&self, rt: &HostRuntime, missing: BadSet) -> Result<(), MapOutFault> {
-        let Ok(text) = map_text(rt.alloc(), self.sector, self.count, missing) else {
+        let Ok(text) = write_map_of_read(rt.alloc(), self.sector, self.count, missing) else {
             return Err(MapOutFault::NoMemory);
         };
         match write_into(rt, self.path, text.as_bytes()) {
@@ -124,19 +117,5 @@ pub fn is_map_made<E: Write>(
 fn write_into(rt: &HostRuntime, path: &str, bytes: &[u8]) -> io::Result<()> {
     let mut file = OpenOptions::new().write(true).open(rt, path)?;
     file.write_all(bytes)?;
-    file.flush()
-}
-
-// The map of an array up to the last sector that was read. Those before the first were not tried.
-fn map_text(
-    alloc: Global,
-    sector: u64,
-    count: u64,
-    mut missing: BadSet,
-) -> Result<String, AllocError> {
-    let end = sector.saturating_add(count).min(MOST_SECTORS);
-    let first = sector.min(end);
-    missing.remove(end, MOST_SECTORS - end)?;
-    missing.remove(0, first)?;
-    write_map(alloc, 512 * end, first, &missing)
+    file.sync_data()
 }

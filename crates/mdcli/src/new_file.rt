@@ -1,10 +1,10 @@
 // A new file that gets what is put out.
-ghost use Rattle.std.specs.Prelude.{None, ⊤};
+ghost use Rattle.std.specs.Prelude.{◌≡◌, None, is_some, true, ⊤};
 
 use md_examine::SinkFault;
 use md_sparse::{HoleFile, OutputFileFault};
 use std::fs::{self, File};
-use std::io::ErrorKind;
+use std::io::{self, ErrorKind};
 use std::os::unix::fs::FileExt;
 
 /// A new file that is written from its start to its end, with holes. What a file holds is not known.
@@ -14,7 +14,8 @@ pub struct NewFile<'a> {
     file: File,
     // How far it is written.
     at: u64,
-    failed: bool,
+    // Why it could not be written any more: the first reason.
+    fault: Option<io::Error>,
 }
 
 impl<'a> NewFile<'a> {
@@ -25,7 +26,7 @@ impl<'a> NewFile<'a> {
                 rt,
                 file,
                 at: 0,
-                failed: false,
+                fault: None,
             }),
             Err(error) if error.kind() == ErrorKind::AlreadyExists => Err(OutputFileFault::Exists),
             Err(error) => Err(OutputFileFault::Unwritten(error)),
@@ -33,30 +34,47 @@ impl<'a> NewFile<'a> {
     }
 
     /// Ends the file, which has this name: where nothing was written it is taken away, and else it is as long as what was
-    /// written.
+    /// written, and on its disk. Says why it is not, or why it was not written any more.
     pub fn end(self, path: &str) -> Result<(), OutputFileFault> {
-        if self.at == 0 {
-            let _ = fs::remove_file(self.rt, path);
-            return Ok(());
+        let NewFile { rt, file, at, fault } = self;
+        if at == 0 {
+            let _ = fs::remove_file(rt, path);
+            return match fault {
+                Some(error) => Err(OutputFileFault::Unwritten(error)),
+                None => Ok(()),
+            };
         }
-        match self.file.set_len(self.at) {
-            Ok(()) => Ok(()),
-            Err(error) => Err(OutputFileFault::Unwritten(error)),
+        let length = file.set_len(at);
+        if let Err(error) = file.sync_data() {
+            return Err(OutputFileFault::Unwritten(error));
         }
+        match fault.or(length.err()) {
+            Some(error) => Err(OutputFileFault::Cut(error)),
+            None => Ok(()),
+        }
+    }
+
+    // What is written fails for this reason. The first one is kept: the others follow from it.
+    fn fail(&mut self, error: io::Error) -> SinkFault
+        ensures { is_some self.new.fault ≡ true }
+    {
+        if self.fault.is_none() {
+            self.fault = Some(error);
+        }
+        SinkFault
     }
 }
 
 impl<'a> HoleFile for NewFile<'a> {
     ghost contents = { λ _. None };
 
-    ghost failed = { λ f. f.failed };
+    ghost failed = { λ f. is_some f.fault };
 
     ghost is_whole = { λ _. ⊤ };
 
     fn write(&mut self, bytes: &[u8]) -> Result<(), SinkFault> {
-        if self.file.write_all_at(bytes, self.at).is_err() {
-            self.failed = true;
-            return Err(SinkFault);
+        if let Err(error) = self.file.write_all_at(bytes, self.at) {
+            return Err(self.fail(error));
         }
         self.at = self.at.saturating_add(bytes.len() as u64);
         Ok(())
@@ -68,9 +86,8 @@ impl<'a> HoleFile for NewFile<'a> {
     }
 
     fn finish(&mut self) -> Result<(), SinkFault> {
-        if self.file.set_len(self.at).is_err() {
-            self.failed = true;
-            return Err(SinkFault);
+        if let Err(error) = self.file.set_len(self.at) {
+            return Err(self.fail(error));
         }
         Ok(())
     }

@@ -36,7 +36,7 @@ pub fn destination_of<'a, W: Write + Drop, E: Write>(
     }
 }
 
-/// Ends the file that was asked for, if one was. Says on `err` why it can't.
+/// Ends the file that was asked for, if one was. Says on `err` why it can't, or why it was not written any more.
 pub fn is_file_ended<'a, W: Write + Drop, E: Write>(
     destination: Destination<'a, W>,
     path: Option<&str>,
@@ -58,7 +58,7 @@ pub fn is_file_ended<'a, W: Write + Drop, E: Write>(
     }
 }
 
-// Says why there is no file, as `run` says why a command is refused.
+// Says why there is no file, or not all of it, as `run` says why a command is refused.
 fn tell<E: Write>(fault: OutputFileFault, path: &str, messages: Messages, err: &mut E) {
     let _ = writeln!(err, "mdcli: {fault}");
     if !messages.has_advice() {
@@ -66,7 +66,9 @@ fn tell<E: Write>(fault: OutputFileFault, path: &str, messages: Messages, err: &
     }
     let what_to_do = output_file_advice(&fault);
     let _ = match fault {
-        OutputFileFault::Unwritten(error) => writeln!(err, "{path}: {error}; {what_to_do}"),
+        OutputFileFault::Cut(error) | OutputFileFault::Unwritten(error) => {
+            writeln!(err, "{path}: {error}; {what_to_do}")
+        }
         OutputFileFault::Exists => writeln!(err, "{path}: {what_to_do}"),
     };
 }

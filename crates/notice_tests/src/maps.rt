@@ -4,7 +4,7 @@ ghost use Rattle.md_badblocks.specs.Runs.{IsBad};
 
 use crate::checks::same_at;
 use md_badblocks::{BadSet, Run};
-use md_maps::{LineFault, MapFault, read_map, write_map};
+use md_maps::{LineFault, MapFault, read_map, write_map, write_map_of_read};
 use std::alloc::{AllocError, Global};
 use std::process::Abort;
 use std::test::Fail;
@@ -134,6 +134,18 @@ fn a_map_is_written(rt: HostRuntime) -> Result<(), Fail> {
     drop(text);
     let text = write_map(rt.alloc(), 65536, 19, &missing)?;
     drop(missing);
+    same_at(&rt, &text.as_str(), text.as_str().ends_with(FROM_19), true);
+    drop(text);
+    Ok(())
+}
+
+#[test]
+fn a_map_of_a_read_is_written(rt: HostRuntime) -> Result<(), Fail> {
+    let mut missing = two_places(rt.alloc())?;
+    // Neither of these was read.
+    missing.add(3, 1)?;
+    missing.add(200, 5)?;
+    let text = write_map_of_read(rt.alloc(), 19, 109, missing)?;
     same_at(&rt, &text.as_str(), text.as_str().ends_with(FROM_19), true);
     drop(text);
     Ok(())

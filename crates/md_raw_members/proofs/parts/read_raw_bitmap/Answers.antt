@@ -1,6 +1,6 @@
 use Rattle.std.proofs.Common.{◌<◌, ℕ, Bool, List, arith, subst}
 use Rattle.md_raw_members.specs.Raw.{ReadsPlacedBitmap}
-use Rattle.md_raw_members.proofs.Later.{bitmap_later, placed_bitmap}
+use Rattle.md_raw_members.proofs.Later.{bitmap_later, placed_bitmap, tried_later}
 use Rattle.md_raw_members.proofs.parts.read_raw_bitmap.Goals as goal
 
 pub returns-clause-bitmap : goal.returns-clause-bitmap
@@ -19,3 +19,9 @@ returns-clause-bitmap g c =
     (bitmap_later (d.content old) (d.honest old) later all (λ failed. omega (arith, counted, failed)) superblock bitmap
     (subst (λ (b : List ℕ). ReadsPlacedBitmap b (d.honest old) later superblock bitmap) c.read_super_bytes.ensures.kept
     (subst (λ (h : Bool). ReadsPlacedBitmap (d.content mid) h later superblock bitmap) c.read_super_bytes.ensures.honest c.in_ok-bitmap.ensures.ok)))
+
+pub returns-clause-tried : goal.returns-clause-tried
+returns-clause-tried g c =
+    let d = g.D.Device in
+    let old = c.args.device.now in
+    tried_later (d.honest old) (d.failures old) (d.failures c.read_super_bytes.new.device) (d.failures c.read_bitmap.new.device) c.in_ok-read.read c.read_bitmap.ensures.counted c.in_ok-read.ensures.tried
