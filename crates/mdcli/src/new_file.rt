@@ -36,7 +36,12 @@ impl<'a> NewFile<'a> {
     /// Ends the file, which has this name: where nothing was written it is taken away, and else it is as long as what was
     /// written, and on its disk. Says why it is not, or why it was not written any more.
     pub fn end(self, path: &str) -> Result<(), OutputFileFault> {
-        let NewFile { rt, file, at, fault } = self;
+        let NewFile {
+            rt,
+            file,
+            at,
+            fault,
+        } = self;
         if at == 0 {
             let _ = fs::remove_file(rt, path);
             return match fault {

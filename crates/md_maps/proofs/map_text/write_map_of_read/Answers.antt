@@ -43,14 +43,14 @@ returns c =
       runs = c.in_ok-remove-2.ensures.canonical;
       among = λ s. (
         λ bad.
-        let after = (c.in_ok-remove-2.ensures.ok s).0 bad in
-        let before = (c.in_ok-remove.ensures.ok s).0 after.0 in
-        let low = bad_below 0 c.remove.new.self s c.in_ok-remove.ensures.canonical after.0 in
-        let within = is_read c.args.sector end first s c.min-first.ensures low after.1 before.1 in
-        (before.0, within.0, within.1),
+            let after = (c.in_ok-remove-2.ensures.ok s).0 bad in
+            let before = (c.in_ok-remove.ensures.ok s).0 after.0 in
+            let low = bad_below 0 c.remove.new.self s c.in_ok-remove.ensures.canonical after.0 in
+            let within = is_read c.args.sector end first s c.min-first.ensures low after.1 before.1 in
+            (before.0, within.0, within.1),
         λ has.
-        let from : 0 + first ≤ s = let at = c.min-first.ensures in let reached = has.1 in omega (arith, at, reached) in
-        (c.in_ok-remove-2.ensures.ok s).1 ((c.in_ok-remove.ensures.ok s).1 (has.0, inl has.2), inr from),
+            let from : 0 + first ≤ s = let at = c.min-first.ensures in let reached = has.1 in omega (arith, at, reached) in
+            (c.in_ok-remove-2.ensures.ok s).1 ((c.in_ok-remove.ensures.ok s).1 (has.0, inl has.2), inr from),
       );
       text_is = is ∙ ap (λ (place : ℕ). map_text (512 * end) (512 * place) lost) c.min-first.ensures;
     })
