@@ -116,9 +116,9 @@ fn a_question_takes_two_terminals(rt: HostRuntime) {
 fn an_unseen_question_is_a_no(rt: HostRuntime) {
     let mut room = [0u8; 20];
     let mut err = Output::new(room.as_mut_slice());
-    let mut input = Input::new(YES.gives);
+    let mut input = Input::new(b"yes\n".as_slice());
     let goes_on = Questions::Asked.go_on(LINES, &mut err, &mut input);
     holds(&rt, "whether it goes on", !goes_on);
     let left: &[u8] = input.into_inner();
-    holds(&rt, "what is left to read", left == YES.gives);
+    holds(&rt, "what is left to read", left == b"yes\n".as_slice());
 }
