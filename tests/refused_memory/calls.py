@@ -82,6 +82,7 @@ FAILS = {
     "md_inflight::Inflight::push_back": ("part_tests", "requests::removed_in_any_order", "NoMemory"),
     "md_maps::read_map": ("notice_tests", "maps::maps_are_read", "NoMemory"),
     "md_maps::write_map": ("notice_tests", "maps::a_map_is_written", "AllocError"),
+    "md_maps::write_map_of_read": ("notice_tests", "maps::a_map_of_a_read_is_written", "AllocError"),
     "md_masked_images::map_list": ("notice_tests", "masked_images::words_name_maps", "no memory: map_list"),
     "md_masked_images::mask_images": ("notice_tests", "masked_images::a_mask_is_kept_with_its_image", "no memory: mask_images"),
     "md_plan::plan": ("part_tests", "plans::small_tables::plan_needs_a_move", "NoMemory"),
