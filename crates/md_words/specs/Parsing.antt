@@ -137,7 +137,20 @@ sector_in rows = number_in 64 (codes "sector") rows
 abbrev pub count_in : List Row → ℕ
 count_in rows = number_in 64 (codes "count") rows
 
--- what the command of a name asks for
+-- what the command of a name asks for: one that changes an array, or examine
+abbrev pub ask_to_change : Text → List Row → Ask
+ask_to_change name rows =
+    if bytes_eq name (codes "write") then writes (sector_in rows)
+    else if bytes_eq name (codes "resync") then resyncs
+    else if bytes_eq name (codes "stop") then stops
+    else if bytes_eq name (codes "fail") then fails (member_in rows)
+    else if bytes_eq name (codes "remove") then removes (member_in rows)
+    else if bytes_eq name (codes "add") then adds (text_in (codes "device") rows)
+    else if bytes_eq name (codes "re-add") then re_adds (text_in (codes "device") rows)
+    else if bytes_eq name (codes "rebuild") then rebuilds (member_in rows)
+    else examines (image_form_in rows)
+
+-- and any
 abbrev pub ask_named : Text → List Row → Ask
 ask_named name rows =
     if bytes_eq name (codes "examine-bitmap") then examines_bitmap (image_form_in rows)
@@ -149,15 +162,7 @@ ask_named name rows =
     else if bytes_eq name (codes "read") then reads (sector_in rows) (count_in rows) (fill_in rows)
     (readonly_in rows)
     else if bytes_eq name (codes "check") then checks (check_form_in rows) (readonly_in rows)
-    else if bytes_eq name (codes "write") then writes (sector_in rows)
-    else if bytes_eq name (codes "resync") then resyncs
-    else if bytes_eq name (codes "stop") then stops
-    else if bytes_eq name (codes "fail") then fails (member_in rows)
-    else if bytes_eq name (codes "remove") then removes (member_in rows)
-    else if bytes_eq name (codes "add") then adds (text_in (codes "device") rows)
-    else if bytes_eq name (codes "re-add") then re_adds (text_in (codes "device") rows)
-    else if bytes_eq name (codes "rebuild") then rebuilds (member_in rows)
-    else examines (image_form_in rows)
+    else ask_to_change name rows
 
 abbrev pub ask_found : Option (Text × List Row) → Ask
 ask_found None = examines image_form.Text
