@@ -137,7 +137,7 @@ sector_in rows = number_in 64 (codes "sector") rows
 abbrev pub count_in : List Row → ℕ
 count_in rows = number_in 64 (codes "count") rows
 
--- what the command of a name asks for: one that changes an array, or examine
+-- what the command of a name asks for, where it is one that changes an array; of any other name it is examine
 abbrev pub ask_to_change : Text → List Row → Ask
 ask_to_change name rows =
     if bytes_eq name (codes "write") then writes (sector_in rows)
@@ -150,7 +150,7 @@ ask_to_change name rows =
     else if bytes_eq name (codes "rebuild") then rebuilds (member_in rows)
     else examines (image_form_in rows)
 
--- and any
+-- what the command of any name asks for
 abbrev pub ask_named : Text → List Row → Ask
 ask_named name rows =
     if bytes_eq name (codes "examine-bitmap") then examines_bitmap (image_form_in rows)

@@ -268,7 +268,7 @@ fn command_of<'a>(name: &str, found: &ArgMatches<'a>) -> Command<'a>
     }
 }
 
-// The same of a name that is none of those.
+// The command of a name, where it is one that changes an array. Of any other it is `Examine`.
 fn command_that_changes<'a>(name: &str, found: &ArgMatches<'a>) -> Command<'a>
     ensures { ask_of result ≡ ask_to_change name.now (rows_of (found_of found.now)) }
 {
