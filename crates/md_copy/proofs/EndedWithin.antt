@@ -7,12 +7,12 @@ use Rattle.md_passes.specs.Passes.{PassView}
 use Rattle.md_state.specs.Members.{IsMember}
 use Rattle.md_state.specs.View.{ArrayView, MirrorView}
 use Rattle.md_array.specs.Consistency.{IsConsistent}
-use Rattle.md_copy.specs.declared.fault.RebuildFault.{RebuildFault}
-use Rattle.md_copy.specs.declared.fault.RebuildFault.TheVariants.{Halted, NotSpare, Dirty, InFlight, LogFull, NoMemory, TargetFault, MetadataFault, EventsFull}
+use Rattle.md_rebuild_table.specs.declared.fault.RebuildFault.{RebuildFault}
+use Rattle.md_rebuild_table.specs.declared.fault.RebuildFault.TheVariants.{Halted, NotSpare, Dirty, InFlight, LogFull, NoMemory, TargetFault, MetadataFault, EventsFull}
+use Rattle.md_rebuild_table.specs.Sources.{missing_chunks}
 use Rattle.md_copy.specs.Listing.{EndsNoting}
 use Rattle.md_copy.specs.Passing.{CopiesAll, EndsBetween, FailsListing}
 use Rattle.md_copy.specs.Rebuilding.{LacksMemoryToRebuild, LacksRoom, LosesTarget, EndsAfterReady}
-use Rattle.md_copy.specs.Sources.{missing_chunks}
 use Rattle.md_copy.proofs.PassesLack.{all_lacks, chain_lacks, pass_lacks}
 
 -- the mirror has the target

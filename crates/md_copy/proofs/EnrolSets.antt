@@ -12,15 +12,15 @@ use Rattle.md_plan.specs.declared.planner.Planned.{Planned}
 use Rattle.md_state.specs.Members.{IsMember}
 use Rattle.md_state.specs.View.{ArrayView, MirrorView}
 use Rattle.md_array.specs.Steps.Enrol.{Enrols, MayEnrol}
-use Rattle.md_copy.specs.declared.fault.RebuildFault.{RebuildFault}
-use Rattle.md_copy.specs.declared.fault.RebuildFault.TheVariants.{Halted, NotSpare, Dirty, InFlight, LogFull, NoMemory, TargetFault, MetadataFault, EventsFull}
+use Rattle.md_rebuild_table.specs.declared.fault.RebuildFault.{RebuildFault}
+use Rattle.md_rebuild_table.specs.declared.fault.RebuildFault.TheVariants.{Halted, NotSpare, Dirty, InFlight, LogFull, NoMemory, TargetFault, MetadataFault, EventsFull}
+use Rattle.md_rebuild_table.specs.Orphans.{is_in, uncopied_chunks}
+use Rattle.md_rebuild_table.specs.Sources.{LacksChunk, is_missing, missing_chunks}
 use Rattle.md_copy.specs.declared.rebuilt.Rebuilt.{Rebuilt}
 use Rattle.md_copy.specs.Enrolled.{EnrolsCopied, FailsCopied, HasSets, RefusesFilledTarget}
 use Rattle.md_copy.specs.Held.{AreHeld}
 use Rattle.md_copy.specs.Leaving.{MayRecordAtEnd}
-use Rattle.md_copy.specs.Preparing.{is_in, uncopied_chunks}
 use Rattle.md_copy.specs.Ready.{IsReadyToCopy}
-use Rattle.md_copy.specs.Sources.{LacksChunk, is_missing, missing_chunks}
 use Rattle.md_copy.proofs.HeldChunks.{holds_of, recordable}
 use Rattle.md_copy.proofs.PlanChunks.{all_lacking, count}
 

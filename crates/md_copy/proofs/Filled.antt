@@ -27,11 +27,11 @@ use Rattle.md_state.specs.Members.{IsMember}
 use Rattle.md_state.specs.Missing.{is_rebuilt}
 use Rattle.md_state.specs.View.{Disk, MirrorView}
 use Rattle.md_array.specs.Consistency.{IsConsistent}
+use Rattle.md_rebuild_table.proofs.Served.{in_sync_as}
 use Rattle.md_copy.specs.Filling.{CopiesChunks, CountsFailed, FailsOnWrite, FillsPass, IsFilling}
 use Rattle.md_copy.specs.RebuildSources.{AreSources, IsPlanOf, IsSourceAt}
 use Rattle.md_copy.proofs.Carried.{other_counts, seen, slot_copied, target_beside, target_fails}
 use Rattle.md_copy.proofs.LentBack.{filling, rebuilt_out, within}
-use Rattle.md_copy.proofs.Served.{in_sync_as}
 use Rattle.md_copy.proofs.SourcesChosen.{takes_as}
 
 -- none is counted

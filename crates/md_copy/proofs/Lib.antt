@@ -5,7 +5,6 @@ pub mod Beside
 pub mod Carried
 pub mod CheckpointDone
 pub mod Chosen
-pub mod Covered
 pub mod EnrolSets
 pub mod FailedRows
 pub mod Filled
@@ -15,7 +14,6 @@ pub mod HeldChunks
 pub mod HeldFilled
 pub mod HeldListed
 pub mod HeldRecorded
-pub mod LeftOver
 pub mod LeftRecorded
 pub mod LentBack
 pub mod ListingEnds
@@ -26,7 +24,6 @@ pub mod ListsOn
 pub mod ListsStored
 pub mod MadeReady
 pub mod NotedLists
-pub mod Observed
 pub mod PassMade
 pub mod PassRecorded
 pub mod PassesGo
@@ -46,10 +43,7 @@ pub mod RefusedLeads
 pub mod RefusedPasses
 pub mod RefusedSteps
 pub mod Returned
-pub mod Rows
 pub mod Sectors
-pub mod Served
-pub mod SetsMade
 pub mod SourcesChosen
 mod Stands
 pub mod StartedAs
@@ -61,4 +55,3 @@ pub mod StoringKeeps
 pub mod TargetStates
 pub mod Told
 pub mod UnfinishedEnrol
-pub mod Unmarked

@@ -28,13 +28,13 @@ use Rattle.md_array.proofs.Rebuilding.MemberEnrolled.{holds_enrolled, lists_now}
 use Rattle.md_array.proofs.StepLemmas.Record.{listed_written}
 use Rattle.md_metadata.specs.Going.{GoesOn, only_others}
 use Rattle.md_metadata.specs.Storing.{IsStoring}
+use Rattle.md_rebuild_table.specs.Sources.{missing_chunks}
 use Rattle.md_copy.specs.declared.rebuilt.Rebuilt.{Rebuilt}
 use Rattle.md_copy.specs.Filling.{IsFilling}
 use Rattle.md_copy.specs.Listing.{HasFailedSlot, HasListOn, NotesLists}
 use Rattle.md_copy.specs.Passing.{AreListedPasses, CopiesAll, ListsPass, RecordsPass}
 use Rattle.md_copy.specs.Rebuilding.{RebuildsReadied}
 use Rattle.md_copy.specs.Rebuilt.{failed_of}
-use Rattle.md_copy.specs.Sources.{missing_chunks}
 use Rattle.md_copy.proofs.HeldRecorded.{other_is}
 use Rattle.md_copy.proofs.ListsOn.{AtInSync, IsCanonicalAt, IsRecordedOn, list_on, lists_stored, recorded_still, recorded_storing, same_bad}
 use Rattle.md_copy.proofs.ListsStored.{failed_fits}

@@ -39,12 +39,12 @@ use Rattle.md_metadata.proofs.Going.{GoesUnfailing, halts_as, stops_as, unfailin
 use Rattle.md_metadata.proofs.Steps.{is_now}
 use Rattle.md_pass.specs.Copied.{failed_slots, is_failed_slot}
 use Rattle.md_passes.specs.Listed.{IsOfFailed, ListsFailed, ListsOwn}
-use Rattle.md_copy.specs.declared.fault.RebuildFault.{RebuildFault}
-use Rattle.md_copy.specs.declared.fault.RebuildFault.TheVariants.{MetadataFault}
+use Rattle.md_rebuild_table.specs.declared.fault.RebuildFault.{RebuildFault}
+use Rattle.md_rebuild_table.specs.declared.fault.RebuildFault.TheVariants.{MetadataFault}
+use Rattle.md_rebuild_table.proofs.Served.{in_sync_as}
 use Rattle.md_copy.specs.Listing.{AreListsOf, FitsLog, HasFailedSlot, HasListOn, HaveRoom, IsListOn, IsStoringList, KeepsListAndData, ListsAll, NotesLists, EndsAtList, EndsStoringLists, StoresIfFailed, StoresListIf, StoresLists, StoresOwn, WritesMetadata, all_list_events}
 use Rattle.md_copy.proofs.ListingKeeps.{KeepsPlaces, LeavesBeside, apart_of, listing_fails, listing_fields, listing_halt_fails, listing_halts, listing_leaves, writes_one, writes_same, writes_then}
 use Rattle.md_copy.proofs.ListsOn.{IsCanonicalAt, any_or_none, list_on, lists_beside, lists_stored}
-use Rattle.md_copy.proofs.Served.{in_sync_as}
 
 -- ---- whether a slot of a member failed
 any_filter : {X : Type 0} (p q : X → Bool) (xs : List X) → list_any p (filter q xs) ≡ list_any (λ x. q x && p x) xs

@@ -25,10 +25,10 @@ use Rattle.md_metadata.proofs.Steps.{same_but}
 use Rattle.md_pass.specs.Copied.{failed_slots, is_failed_slot}
 use Rattle.md_passes.specs.Listed.{IsSourceInRole}
 use Rattle.md_passes.proofs.Listing.{lists_add}
-use Rattle.md_copy.specs.declared.fault.RebuildFault.{RebuildFault}
-use Rattle.md_copy.specs.declared.fault.RebuildFault.TheVariants.{LogFull}
+use Rattle.md_rebuild_table.specs.declared.fault.RebuildFault.{RebuildFault}
+use Rattle.md_rebuild_table.specs.declared.fault.RebuildFault.TheVariants.{LogFull}
+use Rattle.md_rebuild_table.proofs.Served.{in_sync_as}
 use Rattle.md_copy.specs.Listing.{ChangesListAlone, FitsLog, HaveRoom, IsNoting, NotesLists, RefusesSlot, EndsNoting, WhyNotNoted}
-use Rattle.md_copy.proofs.Served.{in_sync_as}
 use Rattle.md_copy.proofs.SourcesChosen.{takes_as}
 
 -- who is in sync in the slot's role has room

@@ -27,8 +27,9 @@ use Rattle.md_state.specs.Missing.{is_missing}
 use Rattle.md_state.specs.View.{ArrayView, MirrorView}
 use Rattle.md_array.specs.Steps.Checkpoint.{Checkpoints, FailsToCheckpoint, MayCheckpoint}
 use Rattle.md_array.specs.Consistency.{IsConsistent}
-use Rattle.md_copy.specs.declared.fault.RebuildFault.{RebuildFault}
-use Rattle.md_copy.specs.declared.fault.RebuildFault.TheVariants.{Halted, NotSpare, Dirty, InFlight, LogFull, NoMemory, TargetFault, MetadataFault, EventsFull}
+use Rattle.md_rebuild_table.specs.declared.fault.RebuildFault.{RebuildFault}
+use Rattle.md_rebuild_table.specs.declared.fault.RebuildFault.TheVariants.{Halted, NotSpare, Dirty, InFlight, LogFull, NoMemory, TargetFault, MetadataFault, EventsFull}
+use Rattle.md_rebuild_table.specs.Sources.{IsTableIn}
 use Rattle.md_copy.specs.declared.passes.Passed.{Passed}
 use Rattle.md_copy.specs.Filling.{BreaksPass, FillsPass}
 use Rattle.md_copy.specs.Held.{AreHeld}
@@ -36,7 +37,6 @@ use Rattle.md_copy.specs.Passing.{BreaksOffPass, FailsOne, IsTableFor, MakesOne,
 use Rattle.md_copy.specs.Preparing.{IsNoMemory}
 use Rattle.md_copy.specs.Ready.{IsReadyToCopy}
 use Rattle.md_copy.specs.RebuildSources.{IsPlanOf}
-use Rattle.md_copy.specs.Sources.{IsTableIn}
 use Rattle.md_copy.proofs.HeldChunks.{may_record, recordable}
 use Rattle.md_copy.proofs.HeldFilled.{held_filled}
 use Rattle.md_copy.proofs.LentBack.{planned_missing}

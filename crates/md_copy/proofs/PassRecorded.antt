@@ -23,10 +23,10 @@ use Rattle.md_state.specs.Missing.{is_missing}
 use Rattle.md_state.specs.View.{ArrayView, MirrorView}
 use Rattle.md_array.specs.Steps.Checkpoint.{Checkpoints}
 use Rattle.md_array.specs.Consistency.{IsConsistent}
+use Rattle.md_rebuild_table.specs.Sources.{LacksChunk}
 use Rattle.md_copy.specs.Held.{AreHeld}
 use Rattle.md_copy.specs.Passing.{RecordsPass}
 use Rattle.md_copy.specs.Ready.{IsReadyToCopy}
-use Rattle.md_copy.specs.Sources.{LacksChunk}
 use Rattle.md_copy.proofs.HeldFilled.{held_filled}
 use Rattle.md_copy.proofs.HeldListed.{GrowsOnly, held_listed, missing_grown}
 use Rattle.md_copy.proofs.HeldRecorded.{held_recorded, lacks_still, low_start, other_is, out_of_sync, recorded_is, target_same}

@@ -32,17 +32,18 @@ use Rattle.md_state.specs.Missing.{is_missing}
 use Rattle.md_state.specs.View.{ArrayView, MirrorView}
 use Rattle.md_array.specs.Consistency.{IsConsistent}
 use Rattle.md_array.proofs.StepLemmas.FailedParts.{halted_array}
-use Rattle.md_copy.specs.declared.fault.RebuildFault.{RebuildFault}
-use Rattle.md_copy.specs.declared.fault.RebuildFault.TheVariants.{Halted, NotSpare, Dirty, InFlight, LogFull, NoMemory, TargetFault, MetadataFault, EventsFull}
+use Rattle.md_rebuild_table.specs.declared.fault.RebuildFault.{RebuildFault}
+use Rattle.md_rebuild_table.specs.declared.fault.RebuildFault.TheVariants.{Halted, NotSpare, Dirty, InFlight, LogFull, NoMemory, TargetFault, MetadataFault, EventsFull}
+use Rattle.md_rebuild_table.specs.Beginning.{RefusesTable}
+use Rattle.md_rebuild_table.specs.Orphans.{IsSetOf}
+use Rattle.md_rebuild_table.specs.Sources.{LacksChunk, IsTableOf, missing_chunks}
 use Rattle.md_copy.specs.declared.passes.Passed.{Passed}
-use Rattle.md_copy.specs.Beginning.{RefusesTable}
 use Rattle.md_copy.specs.Held.{AreHeld}
 use Rattle.md_copy.specs.Leaving.{MayRecordAtEnd}
 use Rattle.md_copy.specs.Listing.{ListsAll, NotesLists, EndsListing, EndsNoting}
 use Rattle.md_copy.specs.Passing.{AreListedPasses, BreaksOffPass, EndsBetween, FailsListing, FailsOne, FailsRecording, GoesOnWith, IsTableFor, ListsPass, MakesOne, PassesAll, PassesFail, FailsBetween}
-use Rattle.md_copy.specs.Preparing.{IsNoMemory, IsSetOf}
+use Rattle.md_copy.specs.Preparing.{IsNoMemory}
 use Rattle.md_copy.specs.Ready.{IsReadyToCopy, IsRecordable}
-use Rattle.md_copy.specs.Sources.{LacksChunk, IsTableOf, missing_chunks}
 use Rattle.md_copy.proofs.HeldChunks.{recordable}
 use Rattle.md_copy.proofs.HeldFilled.{held_filled}
 use Rattle.md_copy.proofs.HeldListed.{GrowsOnly, none_written}

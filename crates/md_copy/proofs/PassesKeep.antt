@@ -21,9 +21,9 @@ use Rattle.md_state.specs.Members.{IsMember}
 use Rattle.md_state.specs.View.{ArrayView, Disk, MirrorView}
 use Rattle.md_array.specs.Steps.Enrol.{KeepsData}
 use Rattle.md_array.specs.Steps.Lend.{IsBesideChunk}
+use Rattle.md_rebuild_table.specs.Sources.{missing_chunks}
 use Rattle.md_copy.specs.Passing.{AreListedPasses, CopiesAll, ListsPass, RecordsPass}
 use Rattle.md_copy.specs.Rebuilt.{failed_of}
-use Rattle.md_copy.specs.Sources.{missing_chunks}
 use Rattle.md_copy.proofs.HeldRecorded.{data_kept, other_is, target_same}
 use Rattle.md_copy.proofs.PassRecorded.{lists_recorded}
 

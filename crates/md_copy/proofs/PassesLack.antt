@@ -14,9 +14,9 @@ use Rattle.md_passes.specs.Passes.{PassView, failed_chunks}
 use Rattle.md_state.specs.Members.{IsMember}
 use Rattle.md_state.specs.Missing.{is_missing}
 use Rattle.md_state.specs.View.{ArrayView, MirrorView}
+use Rattle.md_rebuild_table.specs.Orphans.{uncopied_chunks}
+use Rattle.md_rebuild_table.specs.Sources.{missing_chunks}
 use Rattle.md_copy.specs.Passing.{AreListedPasses, CopiesAll, ListsPass, RecordsPass}
-use Rattle.md_copy.specs.Preparing.{uncopied_chunks}
-use Rattle.md_copy.specs.Sources.{missing_chunks}
 use Rattle.md_copy.proofs.HeldListed.{GrowsOnly, missing_grown}
 use Rattle.md_copy.proofs.HeldRecorded.{lacked, lacks_still, out_of_sync, recorded_is, target_same}
 

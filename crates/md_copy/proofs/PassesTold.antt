@@ -14,10 +14,10 @@ use Rattle.md_passes.specs.Listed.{ArrayPasses, AreCopiedBy, IsArrayPass, ListsF
 use Rattle.md_passes.specs.Passes.{PassView, failed_chunks}
 use Rattle.md_state.specs.Members.{IsMember}
 use Rattle.md_state.specs.View.{ArrayView, MirrorView}
+use Rattle.md_rebuild_table.specs.Sources.{LacksChunk, missing_chunks}
 use Rattle.md_copy.specs.Held.{AreHeld}
 use Rattle.md_copy.specs.Passing.{AreListedPasses, CopiesAll, ListsPass}
 use Rattle.md_copy.specs.Ready.{IsReadyToCopy}
-use Rattle.md_copy.specs.Sources.{LacksChunk, missing_chunks}
 use Rattle.md_copy.proofs.HeldListed.{GrowsOnly}
 use Rattle.md_copy.proofs.PassRecorded.{at_y, failed_lacks, grown_held, grown_missing, recorded_held, recorded_lists, recorded_ready, y}
 use Rattle.md_copy.proofs.PlanChunks.{all_lacking}

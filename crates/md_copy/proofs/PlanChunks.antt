@@ -18,8 +18,8 @@ use Rattle.md_kept_members.specs.View.{MemberView}
 use Rattle.md_pass.specs.Beside.{has_chunk}
 use Rattle.md_state.specs.View.{ArrayView}
 use Rattle.md_state.specs.Members.{IsPermitted}
+use Rattle.md_rebuild_table.specs.Sources.{LacksChunk, IsTableIn, IsTableOf, is_missing, missing_chunks}
 use Rattle.md_copy.specs.RebuildSources.{IsPlanOf}
-use Rattle.md_copy.specs.Sources.{LacksChunk, IsTableIn, IsTableOf, is_missing, missing_chunks}
 use Rattle.md_copy.proofs.Lists.{got_of}
 use Rattle.md_copy.proofs.Planned.{allowed}
 

@@ -12,8 +12,8 @@ use Rattle.md_cert.proofs.Masks.{row_of}
 use Rattle.md_kept_members.specs.View.{MemberView}
 use Rattle.md_state.specs.View.{ArrayView}
 use Rattle.md_state.specs.Members.{IsPermitted}
+use Rattle.md_rebuild_table.specs.Sources.{HasSources}
 use Rattle.md_copy.specs.RebuildSources.{IsPlanOf}
-use Rattle.md_copy.specs.Sources.{HasSources}
 
 has_bit : (mask source : ℕ) → has mask source ≡ true → bit_at mask source ≡ 1
 unfolding has

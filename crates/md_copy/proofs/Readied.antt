@@ -17,12 +17,12 @@ use Rattle.md_array.specs.Steps.NoteResynced.{AreNoted}
 use Rattle.md_array.proofs.Rebuilding.AdmitEvent.{admitted_at}
 use Rattle.md_metadata.specs.Storing.{StaysReady}
 use Rattle.md_metadata.proofs.Going.{same_state}
-use Rattle.md_copy.specs.Beginning.{MayBeginRebuild, rises}
+use Rattle.md_rebuild_table.specs.Beginning.{MayBeginRebuild, rises}
+use Rattle.md_rebuild_table.specs.Targets.{MayBeRebuilt}
 use Rattle.md_copy.specs.Rebuilding.{BeginsRebuild}
 use Rattle.md_copy.specs.Readying.{AdmitsAfter, AdmitsFirst, Readies}
 use Rattle.md_copy.specs.Ready.{IsReadyToCopy, MayRebuildOn}
 use Rattle.md_copy.specs.Storing.{StoresFirst}
-use Rattle.md_copy.specs.Targets.{MayBeRebuilt}
 
 -- ---- states
 pub recovering_target : (a : ArrayView) (number : ℕ) (s : MemberState) → is_recovering s ≡ true → MayBeRebuilt a number s

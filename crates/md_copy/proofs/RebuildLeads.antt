@@ -39,6 +39,7 @@ use Rattle.md_array.proofs.StepLemmas.Turns.{all_on, all_such, turn_on, turn_the
 use Rattle.md_metadata.specs.Going.{GoesOn, LeadsBy, only_others}
 use Rattle.md_metadata.proofs.Going.{recording_stores}
 use Rattle.md_metadata.specs.Storing.{IsStoring}
+use Rattle.md_rebuild_table.specs.Sources.{LacksChunk, missing_chunks}
 use Rattle.md_copy.specs.declared.rebuilt.Rebuilt.{Rebuilt}
 use Rattle.md_copy.specs.Filling.{IsFilling}
 use Rattle.md_copy.specs.Listing.{IsNoting, IsStoringList}
@@ -47,7 +48,6 @@ use Rattle.md_copy.specs.RebuildEvents.{AreOfAdmission, AreOfPasses, AreStored, 
 use Rattle.md_copy.specs.Rebuilding.{BeginsRebuild, EnrolsBy, FillsBy, Rebuilds}
 use Rattle.md_copy.specs.Rebuilt.{HaltsFrom}
 use Rattle.md_copy.specs.Readying.{AdmitsAfter, AdmitsFirst, Readies}
-use Rattle.md_copy.specs.Sources.{LacksChunk, missing_chunks}
 use Rattle.md_copy.specs.Storing.{StoresFirst}
 use Rattle.md_copy.proofs.CheckpointDone.{checkpoint_done}
 use Rattle.md_copy.proofs.PassesTold.{HoldsSoFar, begins_holding, chain_holds, listed_holds}

@@ -16,12 +16,12 @@ use Rattle.md_state.specs.View.{ArrayView, MirrorView}
 use Rattle.md_array.specs.Consistency.{IsConsistent}
 use Rattle.md_array.specs.InTurn.{HaltsAt}
 use Rattle.md_array.proofs.StepLemmas.FailedParts.{halting_write}
+use Rattle.md_rebuild_table.specs.Orphans.{is_in}
+use Rattle.md_rebuild_table.specs.Sources.{missing_chunks}
 use Rattle.md_copy.specs.declared.rebuilt.Rebuilt.{Rebuilt}
 use Rattle.md_copy.specs.Filling.{CountsFailed}
-use Rattle.md_copy.specs.Preparing.{is_in}
 use Rattle.md_copy.specs.Rebuilding.{Rebuilds, RebuildsReadied}
 use Rattle.md_copy.specs.Rebuilt.{HaltsFrom, HaltsTo, HasRebuilt, IsRebuilt, IsRebuiltInSync, ListsGrow, RunsOrHalts, failed_of}
-use Rattle.md_copy.specs.Sources.{missing_chunks}
 use Rattle.md_copy.specs.Storing.{StoresUntilDone}
 use Rattle.md_copy.proofs.BegunAs.{permits_both, same_missing, serves_both, serves_most}
 use Rattle.md_copy.proofs.ListsKept.{own_stored_so, stored_so}

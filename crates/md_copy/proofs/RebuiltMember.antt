@@ -35,13 +35,14 @@ use Rattle.md_array.specs.Consistency.{IsConsistent}
 use Rattle.md_array.specs.Steps.Enrol.{HoldsContent, KeepsData}
 use Rattle.md_array.specs.Worlds.{AreHonest, is_listed}
 use Rattle.md_array.proofs.General.Indices.{at_set_same, got_in_map, got_other}
+use Rattle.md_rebuild_table.specs.Orphans.{is_in, uncopied_chunks}
+use Rattle.md_rebuild_table.specs.Sources.{LacksChunk, missing_chunks}
+use Rattle.md_rebuild_table.proofs.Served.{in_sync_as}
 use Rattle.md_copy.specs.declared.rebuilt.Rebuilt.{Rebuilt}
 use Rattle.md_copy.specs.Held.{AreHeld}
-use Rattle.md_copy.specs.Preparing.{is_in, uncopied_chunks}
 use Rattle.md_copy.specs.Ready.{IsReadyToCopy}
 use Rattle.md_copy.specs.Rebuilding.{RebuildsReadied}
 use Rattle.md_copy.specs.Rebuilt.{IsBesideCopied, IsRebuilt, IsServedThen, failed_of}
-use Rattle.md_copy.specs.Sources.{LacksChunk, missing_chunks}
 use Rattle.md_copy.proofs.EnrolSets.{is_uncopied, uncopied_is}
 use Rattle.md_copy.proofs.HeldRecorded.{out_of_sync}
 use Rattle.md_copy.proofs.PassesKeep.{PassesKeep, all_keep, disk_then}
@@ -49,7 +50,6 @@ use Rattle.md_copy.proofs.PassesLack.{LacksSame, all_lacks}
 use Rattle.md_copy.proofs.PassesTold.{HoldsSoFar, all_copied, array_passes, filled_held, filled_ready, last_lists}
 use Rattle.md_copy.proofs.PlanChunks.{all_lacking, count}
 use Rattle.md_copy.proofs.Sectors.{same_sector}
-use Rattle.md_copy.proofs.Served.{in_sync_as}
 use Rattle.md_copy.proofs.StoringKeeps.{KeepsAll, device_before, device_then, member_then, places_of}
 
 -- a member in sync has a role, in which it is

@@ -17,7 +17,7 @@ use Rattle.md_state.specs.Missing.{has_passed, is_missing}
 use Rattle.md_state.specs.View.{ArrayView, MirrorView}
 use Rattle.md_array.specs.Steps.Checkpoint.{Checkpoints}
 use Rattle.md_array.specs.Consistency.{IsConsistent}
-use Rattle.md_copy.specs.Preparing.{IsSubset}
+use Rattle.md_rebuild_table.specs.Orphans.{IsSubset}
 use Rattle.md_copy.specs.Refused.{IsRebuiltTo, rebuilt_offset}
 use Rattle.md_copy.proofs.HeldRecorded.{lacks_so, target_same}
 use Rattle.md_copy.proofs.Refused.{Preserves}

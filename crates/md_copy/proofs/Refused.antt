@@ -23,9 +23,9 @@ use Rattle.md_array.specs.Consistency.{IsConsistent}
 use Rattle.md_array.specs.Steps.Enrol.{KeepsData}
 use Rattle.md_array.specs.Steps.Lend.{IsBesideChunk}
 use Rattle.md_array.specs.Steps.Record.{super_write}
+use Rattle.md_rebuild_table.specs.declared.fault.RebuildFault.{RebuildFault}
+use Rattle.md_rebuild_table.specs.declared.fault.RebuildFault.TheVariants.{MetadataFault}
 use Rattle.md_copy.specs.Filling.{CountsFailed}
-use Rattle.md_copy.specs.declared.fault.RebuildFault.{RebuildFault}
-use Rattle.md_copy.specs.declared.fault.RebuildFault.TheVariants.{MetadataFault}
 use Rattle.md_copy.specs.Rebuilt.{KeepStates, ListsGrow, OthersKeepData, failed_of}
 use Rattle.md_copy.specs.Refused.{Ending, EndsSo, HasEnded, HasMade, IsBesideLacking, StatesStay}
 use Rattle.md_copy.proofs.StartedAs.{StartsAs}

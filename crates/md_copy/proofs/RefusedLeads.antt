@@ -34,8 +34,10 @@ use Rattle.md_array.proofs.Rebuilding.TargetLeft.{left_happens}
 use Rattle.md_array.proofs.StepLemmas.FailedParts.{halted_then}
 use Rattle.md_array.proofs.StepLemmas.Turns.{all_on}
 use Rattle.md_metadata.specs.Storing.{FailsAtLast, IsFailureOf}
-use Rattle.md_copy.specs.declared.fault.RebuildFault.{RebuildFault}
-use Rattle.md_copy.specs.declared.fault.RebuildFault.TheVariants.{Halted, NotSpare, Dirty, InFlight, LogFull, NoMemory, TargetFault, MetadataFault, EventsFull}
+use Rattle.md_rebuild_table.specs.declared.fault.RebuildFault.{RebuildFault}
+use Rattle.md_rebuild_table.specs.declared.fault.RebuildFault.TheVariants.{Halted, NotSpare, Dirty, InFlight, LogFull, NoMemory, TargetFault, MetadataFault, EventsFull}
+use Rattle.md_rebuild_table.specs.Sources.{missing_chunks}
+use Rattle.md_rebuild_table.specs.Targets.{IsTarget}
 use Rattle.md_copy.specs.Filling.{IsFilling}
 use Rattle.md_copy.specs.Leaving.{RecordsAtEnd}
 use Rattle.md_copy.specs.Listing.{EndsNoting}
@@ -44,9 +46,7 @@ use Rattle.md_copy.specs.RebuildEvents.{FailsAfterPass, FailsAtMarks, FailsCheck
 use Rattle.md_copy.specs.Rebuilding.{EndsFilled, EndsReadied, EndsStoring, LacksMemoryToRebuild, LacksRoom, LosesSource, LosesTarget, RefusesRebuild}
 use Rattle.md_copy.specs.Ready.{IsReadyToCopy}
 use Rattle.md_copy.specs.Readying.{FailsAdmission, EndsAdmitted}
-use Rattle.md_copy.specs.Sources.{missing_chunks}
 use Rattle.md_copy.specs.Storing.{FailsToRecordTarget, EndsAtOther}
-use Rattle.md_copy.specs.Targets.{IsTarget}
 use Rattle.md_copy.proofs.Answered.{with_set}
 use Rattle.md_copy.proofs.HeldRecorded.{out_of_sync}
 use Rattle.md_copy.proofs.PassRecorded.{recorded_ready}

@@ -34,18 +34,18 @@ use Rattle.md_state.specs.Members.{IsInSync, IsMember}
 use Rattle.md_state.specs.Missing.{has_passed, is_missing}
 use Rattle.md_state.specs.View.{ArrayView, Disk, MirrorView, of_disks}
 use Rattle.md_metadata.specs.Storing.{IsStoring, Stores}
-use Rattle.md_copy.specs.declared.fault.RebuildFault.{RebuildFault}
-use Rattle.md_copy.specs.declared.fault.RebuildFault.TheVariants.{Halted, NotSpare, Dirty, InFlight, LogFull, NoMemory, TargetFault, MetadataFault, EventsFull}
+use Rattle.md_rebuild_table.specs.declared.fault.RebuildFault.{RebuildFault}
+use Rattle.md_rebuild_table.specs.declared.fault.RebuildFault.TheVariants.{Halted, NotSpare, Dirty, InFlight, LogFull, NoMemory, TargetFault, MetadataFault, EventsFull}
+use Rattle.md_rebuild_table.specs.Orphans.{IsSubset, is_in}
+use Rattle.md_rebuild_table.specs.Sources.{missing_chunks}
 use Rattle.md_copy.specs.Filling.{IsFilling}
 use Rattle.md_copy.specs.Leaving.{HasNone, RecordsAtEnd}
 use Rattle.md_copy.specs.Listing.{HasFailedSlot, ListsAll, NotesLists, EndsAtList}
-use Rattle.md_copy.specs.Preparing.{IsSubset, is_in}
 use Rattle.md_copy.specs.Passing.{AreListedPasses, BreaksOffPass, CopiesAll, EndsBetween, FailsListing, RecordsPass}
 use Rattle.md_copy.specs.Enrolled.{LacksOwnRoom}
 use Rattle.md_copy.specs.Rebuilding.{BeginsRebuild, EndsFilled, LacksMemoryToRebuild, LacksRoom, LosesTarget, RefusesAtOnce, RefusesRebuild}
 use Rattle.md_copy.specs.Rebuilt.{failed_of}
 use Rattle.md_copy.specs.Refused.{AreListed, Ending, EndsSo, HasCopiedBy, HasEnded, HasHalted, HasMade, IsAdmitted, IsAsBefore, IsLost, IsRebuiltSoFar, IsListedOrFailed, IsRebuiltTo, KeepsDataBut, LacksOwnRoomFor, LacksRoomFor, ListsStand, ListsStandWithin, NotesSome, rebuilt_offset}
-use Rattle.md_copy.specs.Sources.{missing_chunks}
 use Rattle.md_copy.proofs.BegunAs.{permits_both, same_missing, serves_both, serves_most}
 use Rattle.md_copy.proofs.Halting.{data_but}
 use Rattle.md_copy.proofs.HeldRecorded.{other_is, out_of_sync}

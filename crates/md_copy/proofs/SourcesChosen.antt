@@ -15,11 +15,11 @@ use Rattle.md_state.specs.View.{ArrayView, Disk, MirrorView}
 use Rattle.md_state.specs.Members.{IsMember, IsPermitted}
 use Rattle.md_array.specs.Consistency.{IsConsistent}
 use Rattle.md_pass.specs.declared.source.Source.{Source}
+use Rattle.md_rebuild_table.specs.Targets.{IsTarget, MayBeRebuilt}
+use Rattle.md_rebuild_table.proofs.Served.{in_sync_as}
 use Rattle.md_copy.specs.RebuildSources.{AreSources, IsServedBy, IsRebuildSource, IsSourceAt, place_beside}
-use Rattle.md_copy.specs.Targets.{IsTarget, MayBeRebuilt}
 use Rattle.md_copy.proofs.Beside.{beside_is, beside_one, beside_within}
 use Rattle.md_copy.proofs.Planned.{IsAllowed}
-use Rattle.md_copy.proofs.Served.{in_sync_as}
 
 pub takes_as : (role : ℕ) (state : MemberState) → is_in_sync_as role state ≡ true → takes_role role state ≡ true
 takes_as role (InSync own) is = is

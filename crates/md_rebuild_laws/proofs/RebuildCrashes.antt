@@ -31,14 +31,14 @@ use Rattle.md_laws.proofs.Crashes.CallCrashes.{GoesSo, WritesWhole, sound_then, 
 use Rattle.md_laws.proofs.Crashes.WithinTarget.{recovering_recorded}
 use Rattle.md_metadata.specs.Going.{GoesOn, only_others}
 use Rattle.md_metadata.specs.Storing.{IsStoring}
-use Rattle.md_copy.specs.Beginning.{MayBeginRebuild}
+use Rattle.md_rebuild_table.specs.Beginning.{MayBeginRebuild}
+use Rattle.md_rebuild_table.specs.Sources.{missing_chunks}
 use Rattle.md_copy.specs.Listing.{IsStoringList, NotesLists}
 use Rattle.md_copy.specs.Passing.{AreListedPasses, CopiesAll, ListsPass, MakesPass, RecordsPass}
 use Rattle.md_copy.specs.Readying.{AdmitsAfter, AdmitsFirst, FailsAdmission, Readies}
 use Rattle.md_copy.specs.RebuildEvents.{FailsAtMarks}
 use Rattle.md_copy.specs.Rebuilding.{EndsStoring}
 use Rattle.md_copy.specs.Rebuilt.{failed_of}
-use Rattle.md_copy.specs.Sources.{missing_chunks}
 use Rattle.md_copy.specs.Storing.{FailsToRecordTarget, StoresFirst}
 use Rattle.md_copy.proofs.HeldRecorded.{out_of_sync, target_same}
 use Rattle.md_copy.proofs.LentBack.{rebuilt_out}
