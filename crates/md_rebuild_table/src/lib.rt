@@ -12,15 +12,15 @@
 //! ```
 #![tactic(auto)]
 
-mod check_rebuild;
 mod fault;
 mod in_sync;
 mod listed;
 mod orphans;
+mod rebuild_check;
 mod rebuild_table;
 mod target;
 
-pub use check_rebuild::check_rebuild;
 pub use fault::RebuildFault;
 pub use orphans::{keep_missing, marks_of, uncopied_chunks};
+pub use rebuild_check::check_rebuild;
 pub use rebuild_table::table;
