@@ -28,8 +28,8 @@ use Rattle.md_copy.specs.Readying.{AdmitsAfter, AdmitsFirst, Readies}
 use Rattle.md_copy.specs.RebuildEvents.{IsBeforeEnrol}
 use Rattle.md_copy.specs.Rebuilt.{failed_of}
 use Rattle.md_copy.specs.Storing.{StoresFirst}
-use Rattle.md_copy.proofs.PassesTold.{HoldsSoFar, chain_holds, listed_holds}
-use Rattle.md_copy.proofs.RebuildLeads.{filled, listing_before, noting_before, storing_before}
+use Rattle.md_copy.proofs.Passing.PassesTold.{HoldsSoFar, chain_holds, listed_holds}
+use Rattle.md_copy.proofs.Leads.RebuildLeads.{filled, listing_before, noting_before, storing_before}
 use Rattle.md_rebuild_laws.specs.RebuildRuns.{LogsUnshifted}
 use Rattle.md_rebuild_laws.proofs.Steady.{Comes, IsSteadyAt, comes_by, comes_same, comes_then, end, end_steady, holds_some}
 use Rattle.md_rebuild_laws.proofs.Unshifted.{Unshifted, unshifted_listed, unshifted_noted, unshifted_recorded, whole_lists}
