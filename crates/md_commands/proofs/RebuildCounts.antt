@@ -12,8 +12,9 @@ use Rattle.md_metadata.specs.Storing.{IsStoring}
 use Rattle.md_resync.specs.declared.fault.ResyncFault.{ResyncFault}
 use Rattle.md_state.specs.View.{Disk, MirrorView}
 use Rattle.md_array.specs.Steps.ReAdd.{ReAdds, RefusesReAdd}
-use Rattle.md_copy.specs.declared.fault.RebuildFault.{RebuildFault}
-use Rattle.md_copy.specs.declared.fault.RebuildFault.TheVariants as rebuild
+use Rattle.md_rebuild_table.specs.declared.fault.RebuildFault.{RebuildFault}
+use Rattle.md_rebuild_table.specs.declared.fault.RebuildFault.TheVariants as rebuild
+use Rattle.md_rebuild_table.specs.Sources.{missing_chunks}
 use Rattle.md_copy.specs.declared.rebuilt.Rebuilt.{Rebuilt}
 use Rattle.md_copy.specs.Filling.{BreaksPass}
 use Rattle.md_copy.specs.Leaving.{RecordsAtEnd, LeavesAfter}
@@ -21,7 +22,6 @@ use Rattle.md_copy.specs.Listing.{EndsListing}
 use Rattle.md_copy.specs.Passing.{AreListedPasses, BreaksOffPass, CopiesAll, EndsBetween, FailsListing, FailsRecording, RecordsPass}
 use Rattle.md_copy.specs.Readying.{AdmitsAfter, AdmitsFirst, EndsAdmitted}
 use Rattle.md_copy.specs.Rebuilding.{BeginsRebuild, EndsFilled, EndsReadied, FillsBy, LacksMemoryToRebuild, LacksRoom, LosesSource, LosesTarget, Rebuilds, RefusesRebuild}
-use Rattle.md_copy.specs.Sources.{missing_chunks}
 use Rattle.md_copy.specs.Storing.{HaltsUntilDone, StoresUntilDone, EndsAtOther}
 use Rattle.md_examine.specs.declared.sink.Sink.{Ghosts}
 use Rattle.md_commands.specs.declared.fault.CommandFault.{CommandFault}

@@ -1,64 +1,22 @@
-pub mod Answered
-pub mod Begun
-pub mod BegunAs
-pub mod Beside
-pub mod Carried
-pub mod CheckpointDone
-pub mod Chosen
-pub mod Covered
-pub mod EnrolSets
-pub mod FailedRows
-pub mod Filled
-pub mod Halting
-pub mod HeldAlong
-pub mod HeldChunks
-pub mod HeldFilled
-pub mod HeldListed
-pub mod HeldRecorded
-pub mod LeftOver
-pub mod LeftRecorded
-pub mod LentBack
-pub mod ListingEnds
-pub mod ListingKeeps
-pub mod Lists
-pub mod ListsKept
-pub mod ListsOn
-pub mod ListsStored
-pub mod MadeReady
-pub mod NotedLists
-pub mod Observed
-pub mod PassMade
-pub mod PassRecorded
-pub mod PassesGo
-pub mod PassesKeep
-pub mod PassesLack
-pub mod PassesTold
-pub mod PlanChunks
-pub mod Planned
-pub mod Readied
-pub mod ReadyStill
-pub mod RebuildLeads
-pub mod RebuiltByCall
-pub mod RebuiltMember
-pub mod RebuiltTo
-pub mod Refused
-pub mod RefusedLeads
-pub mod RefusedPasses
-pub mod RefusedSteps
-pub mod Returned
-pub mod Rows
-pub mod Sectors
-pub mod Served
-pub mod SetsMade
-pub mod SourcesChosen
-mod Stands
-pub mod StartedAs
-pub mod StartsReadied
-pub mod StatesKept
-pub mod EndedWithin
-pub mod StoredFirst
-pub mod StoringKeeps
-pub mod TargetStates
-pub mod Told
-pub mod UnfinishedEnrol
-pub mod Unmarked
+-- What a plan says, and where its sources stand.
+pub mod Plans
+-- A pass over devices that were lent.
+pub mod Fills
+-- What is stored beside the data, and what that leaves as it was.
+pub mod Stored
+-- What the target holds of the array.
+pub mod Held
+-- From the call to the moment at which a pass may be planned.
+pub mod Ready
+-- Passes, one after another.
+pub mod Passing
+-- Chunks that could not be read come to lists, and the lists are stored.
+pub mod Listings
+-- A rebuild by its steps: how it begins, and what it answers.
+pub mod Steps
+-- What a rebuild that is done makes of its target.
+pub mod Rebuilt
+-- A rebuild as a list of events.
+pub mod Leads
+-- What stands after a rebuild that is refused.
+pub mod Refusals

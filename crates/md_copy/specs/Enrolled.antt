@@ -7,10 +7,10 @@ use Rattle.md_state.specs.Steps.Enrol.{HasFullLog}
 use Rattle.md_state.specs.Missing.{is_missing}
 use Rattle.md_state.specs.View.{MirrorView}
 use Rattle.md_array.specs.Steps.Enrol.{Enrols, FailsToEnrol, MayEnrol}
-use Rattle.md_copy.specs.declared.fault.RebuildFault.{RebuildFault}
-use Rattle.md_copy.specs.declared.fault.RebuildFault.TheVariants.{LogFull, NoMemory, TargetFault}
+use Rattle.md_rebuild_table.specs.declared.fault.RebuildFault.{RebuildFault}
+use Rattle.md_rebuild_table.specs.declared.fault.RebuildFault.TheVariants.{LogFull, NoMemory, TargetFault}
+use Rattle.md_rebuild_table.specs.Orphans.{IsSetOf, IsSubset, is_in, uncopied_chunks}
 use Rattle.md_copy.specs.declared.rebuilt.Rebuilt.{Rebuilt}
-use Rattle.md_copy.specs.Preparing.{IsSetOf, IsSubset, is_in, uncopied_chunks}
 
 -- The target's list needs more room than its log has, and nothing was written for it.
 pub record HasNoRoom (target : ℕ) (copied orphans : Bitmap) (old new : MirrorView) : Type 0 where

@@ -1,9 +1,3 @@
--- What a member lacks, and where it may be read.
-pub mod Sources
--- Which members may be rebuilt (this project's own rule, after md_start_sync and remove_and_add_spares of md.c).
-pub mod Targets
--- Whether a rebuild of a member may begin, and the first reason why it may not (this project's own order).
-pub mod Beginning
 -- The sources of a plan: the members from which its chunks are read.
 pub mod RebuildSources
 -- What the members have to know is stored before a rebuild, and after it (this project's own order).
@@ -16,7 +10,7 @@ pub mod Ready
 pub mod Leaving
 -- Before a pass what the members have to know is stored, and a spare is admitted (this project's own order).
 pub mod Readying
--- Sets of chunks, and what is told of a rebuild.
+-- What is told of a rebuild, and the fault of one that found no memory.
 pub mod Preparing
 -- The target gets chunks, each from a member that serves it. No other device is written.
 pub mod Filling

@@ -13,15 +13,15 @@ use Rattle.md_array.specs.Consistency.{IsConsistent}
 use Rattle.md_pass.specs.Copied.{AreUncopied}
 use Rattle.md_passes.specs.Listed.{IsArrayPass, IsFailedOf}
 use Rattle.md_passes.specs.Passes.{PassView, failed_chunks, slots_of_pass}
-use Rattle.md_copy.specs.declared.fault.RebuildFault.{RebuildFault}
-use Rattle.md_copy.specs.declared.fault.RebuildFault.TheVariants.{LogFull, MetadataFault, NoMemory, TargetFault}
+use Rattle.md_rebuild_table.specs.declared.fault.RebuildFault.{RebuildFault}
+use Rattle.md_rebuild_table.specs.declared.fault.RebuildFault.TheVariants.{LogFull, MetadataFault, NoMemory, TargetFault}
+use Rattle.md_rebuild_table.specs.Sources.{HasSources, IsTableIn, missing_chunks}
 use Rattle.md_copy.specs.declared.passes.Passed.{Passed}
 use Rattle.md_copy.specs.Filling.{BreaksPass, CopiesChunks, CountsFailed}
 use Rattle.md_copy.specs.Held.{AreHeld}
 use Rattle.md_copy.specs.Listing.{ListsAll, EndsListing}
 use Rattle.md_copy.specs.Preparing.{IsNoMemory}
 use Rattle.md_copy.specs.Ready.{IsReadyToCopy}
-use Rattle.md_copy.specs.Sources.{HasSources, IsTableIn, missing_chunks}
 
 -- A pass over these chunks: it is planned by what is kept in memory, and made. Its slots failed whose chunks were not copied.
 pub record MakesPass (target : ℕ) (chunks : List ℕ) (p : PassView) (before after : Bitmap) (old new : MirrorView) : Type 0 where

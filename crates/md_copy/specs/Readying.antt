@@ -6,8 +6,8 @@ use Rattle.md_state.specs.Members.{IsMember}
 use Rattle.md_state.specs.View.{MirrorView}
 use Rattle.md_array.specs.Steps.Admit.{Admits, FailsToAdmit}
 use Rattle.md_array.specs.Consistency.{IsConsistent}
-use Rattle.md_copy.specs.declared.fault.RebuildFault.{RebuildFault}
-use Rattle.md_copy.specs.declared.fault.RebuildFault.TheVariants.{MetadataFault, NoMemory, TargetFault}
+use Rattle.md_rebuild_table.specs.declared.fault.RebuildFault.{RebuildFault}
+use Rattle.md_rebuild_table.specs.declared.fault.RebuildFault.TheVariants.{MetadataFault, NoMemory, TargetFault}
 use Rattle.md_copy.specs.Storing.{FailsToRecordTarget, EndsAtOther, StoresFirst}
 
 -- What was due is stored, so that no member in sync is two events behind. Then the target, a spare, was admitted.

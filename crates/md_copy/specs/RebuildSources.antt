@@ -14,7 +14,7 @@ use Rattle.md_kept_members.specs.View.{MemberView}
 use Rattle.md_state.specs.View.{ArrayView, Disk, MirrorView, of_disks}
 use Rattle.md_state.specs.Members.{IsInSync, IsMember}
 use Rattle.md_pass.specs.declared.source.Source.{Source}
-use Rattle.md_copy.specs.Sources.{IsTableIn}
+use Rattle.md_rebuild_table.specs.Sources.{IsTableIn}
 
 -- a plan of chunks that the member lacks
 pub record IsPlanOf (a : ArrayView) (m : MemberView) (plan : Plan) : Type 0 where

@@ -8,14 +8,15 @@ use Rattle.md_state.specs.Members.{IsMember}
 use Rattle.md_state.specs.View.{MirrorView}
 use Rattle.md_array.specs.Consistency.{IsConsistent}
 use Rattle.md_array.specs.Steps.Enrol.{Enrols, FailsToEnrol}
-use Rattle.md_copy.specs.declared.fault.RebuildFault.{RebuildFault}
-use Rattle.md_copy.specs.declared.fault.RebuildFault.TheVariants.{Halted, NotSpare, Dirty, InFlight, LogFull, NoMemory, TargetFault, MetadataFault, EventsFull}
+use Rattle.md_rebuild_table.specs.declared.fault.RebuildFault.{RebuildFault}
+use Rattle.md_rebuild_table.specs.declared.fault.RebuildFault.TheVariants.{Halted, NotSpare, Dirty, InFlight, LogFull, NoMemory, TargetFault, MetadataFault, EventsFull}
+use Rattle.md_rebuild_table.specs.Beginning.{CannotRebuild, MayBeginRebuild}
+use Rattle.md_rebuild_table.specs.Orphans.{IsSetOf, IsSubset, uncopied_chunks}
 use Rattle.md_copy.specs.declared.rebuilt.Rebuilt.{Rebuilt}
-use Rattle.md_copy.specs.Beginning.{CannotRebuild, MayBeginRebuild}
 use Rattle.md_copy.specs.Enrolled.{HasSets, LacksOwnRoom}
 use Rattle.md_copy.specs.Leaving.{HasNone, LeavesAfter}
 use Rattle.md_copy.specs.Passing.{BreaksOffPass, CopiesAll, EndsBetween, FailsListing, FailsRecording}
-use Rattle.md_copy.specs.Preparing.{IsSetOf, IsSubset, TellsPasses, uncopied_chunks}
+use Rattle.md_copy.specs.Preparing.{TellsPasses}
 use Rattle.md_copy.specs.Readying.{FailsAdmission, LacksAdmission, Readies, EndsAdmitted}
 use Rattle.md_copy.specs.Storing.{FailsToRecordTarget, StoresUntilDone, EndsAtOther}
 

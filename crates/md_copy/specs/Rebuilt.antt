@@ -25,11 +25,12 @@ use Rattle.md_metadata.specs.Storing.{IsFailureOf, IsRecording}
 use Rattle.md_pass.specs.Readings.{is_of}
 use Rattle.md_passes.specs.Listed.{ArrayPasses, IsOfFailed, MayServe, ServesAs, most_failures}
 use Rattle.md_passes.specs.Passes.{IsCopiedIn, PassView}
+use Rattle.md_rebuild_table.specs.Orphans.{is_in, uncopied_chunks}
+use Rattle.md_rebuild_table.specs.Sources.{missing_chunks}
 use Rattle.md_copy.specs.declared.rebuilt.Rebuilt.{Rebuilt}
 use Rattle.md_copy.specs.Filling.{CountsFailed}
 use Rattle.md_copy.specs.Listing.{HasFailedSlot, HasListOn}
-use Rattle.md_copy.specs.Preparing.{TellsPasses, is_in, uncopied_chunks}
-use Rattle.md_copy.specs.Sources.{missing_chunks}
+use Rattle.md_copy.specs.Preparing.{TellsPasses}
 
 -- The member was in sync before, and lists no sector of the chunk then.
 pub record ServesThen (old new : ArrayView) (target k chunk : ℕ) : Type 0 where

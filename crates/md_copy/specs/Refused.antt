@@ -23,13 +23,13 @@ use Rattle.md_array.specs.ReadAsKept.{IsSuperOn}
 use Rattle.md_array.specs.Worlds.{is_listed}
 use Rattle.md_passes.specs.Listed.{AreCopiedBy, IsArrayPass, IsOfFailed, ListsFailed, MayServe, ServesAs, most_failures}
 use Rattle.md_passes.specs.Passes.{IsCopiedIn, PassView, failed_chunks}
-use Rattle.md_copy.specs.declared.fault.RebuildFault.{RebuildFault}
-use Rattle.md_copy.specs.declared.fault.RebuildFault.TheVariants.{Halted, NotSpare, Dirty, InFlight, LogFull, NoMemory, TargetFault, MetadataFault, EventsFull}
+use Rattle.md_rebuild_table.specs.declared.fault.RebuildFault.{RebuildFault}
+use Rattle.md_rebuild_table.specs.declared.fault.RebuildFault.TheVariants.{Halted, NotSpare, Dirty, InFlight, LogFull, NoMemory, TargetFault, MetadataFault, EventsFull}
+use Rattle.md_rebuild_table.specs.Orphans.{is_in, uncopied_chunks}
+use Rattle.md_rebuild_table.specs.Sources.{missing_chunks}
 use Rattle.md_copy.specs.Filling.{CountsFailed}
 use Rattle.md_copy.specs.Listing.{HasFailedSlot}
-use Rattle.md_copy.specs.Preparing.{is_in, uncopied_chunks}
 use Rattle.md_copy.specs.Rebuilt.{KeepStates, ListsGrow, failed_of}
-use Rattle.md_copy.specs.Sources.{missing_chunks}
 
 -- ---- the passes that were made
 -- Passes one after another, each over the chunks that failed in the one before: of each some slots failed, and their chunks were listed. From an array

@@ -10,13 +10,12 @@ ghost use Rattle.md_copy.specs.Held.{AreHeld};
 ghost use Rattle.md_copy.specs.Leaving.{MayRecordAtEnd};
 ghost use Rattle.md_copy.specs.Ready.{IsReadyToCopy};
 
-use crate::fault::RebuildFault;
-use crate::orphans::{keep_missing, marks_of, uncopied_chunks};
 use crate::rebuilt::Rebuilt;
 use md_array::{EnrolFault, Mirror};
 use md_bitmap::Marks;
 use md_device::Device;
 use md_plan::Planned;
+use md_rebuild_table::{RebuildFault, keep_missing, marks_of, uncopied_chunks};
 use std::alloc::Global;
 
 /// The target comes into sync with the chunks that were copied, and lists the others that it lacks. What is told

@@ -10,13 +10,13 @@ ghost use Rattle.md_array.specs.Consistency.{IsConsistent};
 ghost use Rattle.md_copy.specs.Filling.{BreaksPass, CopiesChunks, FailsOnWrite, FillsPass};
 ghost use Rattle.md_copy.specs.RebuildSources.{AreSources, IsPlanOf};
 
-use crate::fault::RebuildFault;
 use crate::one_pass::copy_beside;
 use md_array::Mirror;
 use md_bitmap::Marks;
 use md_cert::Plan;
 use md_device::Device;
 use md_pass::{BoardCounts, Gate, PassFault, Source};
+use md_rebuild_table::RebuildFault;
 use std::alloc::Global;
 use std::sync::Wait;
 use std::thread::Threads;

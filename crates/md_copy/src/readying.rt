@@ -6,14 +6,14 @@ ghost use Rattle.md_state.specs.Members.{IsMember};
 ghost use Rattle.md_state.specs.Steps.Rise.{HasSpentEvents};
 ghost use Rattle.md_array.specs.Steps.Admit.{Admits};
 ghost use Rattle.md_array.specs.Consistency.{IsConsistent};
-ghost use Rattle.md_copy.specs.Beginning.{MayBeginRebuild};
+ghost use Rattle.md_rebuild_table.specs.Beginning.{MayBeginRebuild};
+ghost use Rattle.md_rebuild_table.specs.Targets.{IsTarget};
 ghost use Rattle.md_copy.specs.Readying.{Readies, RefusesAdmission, RefusesToReady};
-ghost use Rattle.md_copy.specs.Targets.{IsTarget};
 
-use crate::fault::RebuildFault;
 use crate::storing::store_first;
 use md_array::{AdmitFault, Mirror};
 use md_device::Device;
+use md_rebuild_table::RebuildFault;
 use std::alloc::Global;
 
 /// Stores what is due. A spare is then admitted, and what that makes due is stored. Where a member fails at that,

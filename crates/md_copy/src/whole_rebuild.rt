@@ -3,16 +3,14 @@ ghost use Rattle.std.specs.Prelude.{◌≡◌, ◌<◌, IfErr, IfOk, MatchResult
 ghost use Rattle.md_array.specs.Consistency.{IsConsistent};
 ghost use Rattle.md_kept_members.specs.View.{MemberView};
 ghost use Rattle.md_state.specs.Members.{IsMember};
+ghost use Rattle.md_rebuild_table.specs.Orphans.{IsSetOf};
 ghost use Rattle.md_copy.specs.Leaving.{MayRecordAtEnd};
-ghost use Rattle.md_copy.specs.Preparing.{IsSetOf};
 ghost use Rattle.md_copy.specs.Ready.{IsReadyToCopy};
 ghost use Rattle.md_copy.specs.Rebuilding.{RebuildsReadied, Rebuilds, RefusesRebuild, EndsAfterReady};
 ghost use Rattle.md_copy.specs.Rebuilt.{HasRebuilt};
 ghost use Rattle.md_copy.specs.Refused.{HasEnded};
 
-use crate::check_rebuild::check_rebuild;
 use crate::enrol_filled::enrol_copied;
-use crate::fault::RebuildFault;
 use crate::leave::leave;
 use crate::passes::copy_passes;
 use crate::readying::make_ready;
@@ -22,6 +20,7 @@ use md_array::Mirror;
 use md_bitmap::Marks;
 use md_device::Device;
 use md_pass::Gate;
+use md_rebuild_table::{RebuildFault, check_rebuild};
 use std::alloc::Global;
 use std::sync::Wait;
 use std::thread::Threads;

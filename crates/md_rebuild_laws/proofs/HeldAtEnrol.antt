@@ -31,15 +31,15 @@ use Rattle.md_array.proofs.General.Indices.{got_other}
 use Rattle.md_array.proofs.Rebuilding.HeldContent.{another, its_chunk, then_sector}
 use Rattle.md_array.proofs.Rebuilding.InBetween.{prepared_is, superblock, then_at, then_disk}
 use Rattle.md_array.proofs.Worlds.Bad.{test_from_bad}
+use Rattle.md_rebuild_table.specs.Sources.{missing_chunks}
 use Rattle.md_copy.specs.Rebuilt.{failed_of}
-use Rattle.md_copy.specs.Sources.{missing_chunks}
-use Rattle.md_copy.proofs.HeldChunks.{one_holds}
-use Rattle.md_copy.proofs.PassesKeep.{IsBesideSince, PassesKeep, all_keep}
-use Rattle.md_copy.proofs.PassesLack.{LacksSame, all_lacks}
-use Rattle.md_copy.proofs.PassesTold.{HoldsSoFar, filled_held, filled_ready}
-use Rattle.md_copy.proofs.RebuildLeads.{begin_holds}
-use Rattle.md_copy.proofs.StartedAs.{StartsAs}
-use Rattle.md_copy.proofs.StartsReadied.{starts_of}
+use Rattle.md_copy.proofs.Held.HeldChunks.{one_holds}
+use Rattle.md_copy.proofs.Passing.PassesKeep.{IsBesideSince, PassesKeep, all_keep}
+use Rattle.md_copy.proofs.Passing.PassesLack.{LacksSame, all_lacks}
+use Rattle.md_copy.proofs.Passing.PassesTold.{HoldsSoFar, filled_held, filled_ready}
+use Rattle.md_copy.proofs.Leads.RebuildLeads.{begin_holds}
+use Rattle.md_copy.proofs.Ready.StartedAs.{StartsAs}
+use Rattle.md_copy.proofs.Ready.StartsReadied.{starts_of}
 use Rattle.md_rebuild_laws.specs.RebuiltInLife.{HeldWhatItHad}
 use Rattle.md_rebuild_laws.specs.RebuildCrashes.{HasFilled}
 use Rattle.md_rebuild_laws.proofs.RebuiltHolds.{beside_other, one_chunk}

@@ -29,8 +29,8 @@ use Rattle.md_array.proofs.Worlds.States.{same_in_sync, same_recovering}
 use Rattle.md_laws.specs.Runs.{Moment}
 use Rattle.md_laws.proofs.Runs.MirrorContents.{life_held_at}
 use Rattle.md_laws.proofs.Runs.Recovering.{keeps_recovering}
-use Rattle.md_copy.proofs.LentBack.{rebuilt_out}
-use Rattle.md_copy.proofs.TargetStates.{target_rebuilt}
+use Rattle.md_copy.proofs.Fills.LentBack.{rebuilt_out}
+use Rattle.md_copy.proofs.Stored.TargetStates.{target_rebuilt}
 use Rattle.md_rebuild_laws.specs.RebuiltInLife.{HasNothing, HeldInLives, NewHadNothing, RebuildsResumed, RecoveringHeldIt, TakenBackHeldIt}
 use Rattle.md_rebuild_laws.proofs.RebuiltHolds.{holds_there}
 

@@ -41,19 +41,19 @@ use Rattle.md_laws.specs.CrashesWithin.{MayAllBeLeft, MayBeLeft}
 use Rattle.md_laws.proofs.Openings.Reopened.{super_on}
 use Rattle.md_laws.proofs.Crashes.AtSteps.{new_has, none_new}
 use Rattle.md_metadata.specs.Storing.{IsNoFailure, IsStoring, Stores}
+use Rattle.md_rebuild_table.specs.Sources.{missing_chunks}
 use Rattle.md_copy.specs.Listing.{ListsAll, WritesMetadata}
 use Rattle.md_copy.specs.Passing.{AreListedPasses}
 use Rattle.md_copy.specs.Rebuilding.{BeginsRebuild}
-use Rattle.md_copy.specs.Sources.{missing_chunks}
 use Rattle.md_copy.specs.Storing.{StoresFirst}
-use Rattle.md_copy.proofs.HeldRecorded.{low_start, out_of_sync, target_same}
-use Rattle.md_copy.proofs.ListsOn.{IsSuperOf}
-use Rattle.md_copy.proofs.PassRecorded.{recorded_ready}
-use Rattle.md_copy.proofs.PassesTold.{HoldsSoFar, chain_holds, listed_holds}
-use Rattle.md_copy.proofs.Readied.{admitted_is, ready_of, recovering_admitted}
-use Rattle.md_copy.proofs.ReadyStill.{ready_noted}
-use Rattle.md_copy.proofs.RebuildLeads.{begin_holds, same_beside}
-use Rattle.md_copy.proofs.StoringKeeps.{due_within}
+use Rattle.md_copy.proofs.Held.HeldRecorded.{low_start, out_of_sync, target_same}
+use Rattle.md_copy.proofs.Listings.ListsOn.{IsSuperOf}
+use Rattle.md_copy.proofs.Passing.PassRecorded.{recorded_ready}
+use Rattle.md_copy.proofs.Passing.PassesTold.{HoldsSoFar, chain_holds, listed_holds}
+use Rattle.md_copy.proofs.Ready.Readied.{admitted_is, ready_of, recovering_admitted}
+use Rattle.md_copy.proofs.Ready.ReadyStill.{ready_noted}
+use Rattle.md_copy.proofs.Leads.RebuildLeads.{begin_holds, same_beside}
+use Rattle.md_copy.proofs.Stored.StoringKeeps.{due_within}
 use Rattle.md_rebuild_laws.specs.LastOffsets.{FindsOffset, HasCome, HasOffset, HasOffsetBefore, OffsetStands, OpeningsFind, SaysOffset, CrashesCopyingFind, CrashesListingFind, CrashesStoringFind, CrashesUnlistedFind}
 
 -- ---- what a superblock says

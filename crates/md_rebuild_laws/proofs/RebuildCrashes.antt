@@ -31,24 +31,24 @@ use Rattle.md_laws.proofs.Crashes.CallCrashes.{GoesSo, WritesWhole, sound_then, 
 use Rattle.md_laws.proofs.Crashes.WithinTarget.{recovering_recorded}
 use Rattle.md_metadata.specs.Going.{GoesOn, only_others}
 use Rattle.md_metadata.specs.Storing.{IsStoring}
-use Rattle.md_copy.specs.Beginning.{MayBeginRebuild}
+use Rattle.md_rebuild_table.specs.Beginning.{MayBeginRebuild}
+use Rattle.md_rebuild_table.specs.Sources.{missing_chunks}
 use Rattle.md_copy.specs.Listing.{IsStoringList, NotesLists}
 use Rattle.md_copy.specs.Passing.{AreListedPasses, CopiesAll, ListsPass, MakesPass, RecordsPass}
 use Rattle.md_copy.specs.Readying.{AdmitsAfter, AdmitsFirst, FailsAdmission, Readies}
 use Rattle.md_copy.specs.RebuildEvents.{FailsAtMarks}
 use Rattle.md_copy.specs.Rebuilding.{EndsStoring}
 use Rattle.md_copy.specs.Rebuilt.{failed_of}
-use Rattle.md_copy.specs.Sources.{missing_chunks}
 use Rattle.md_copy.specs.Storing.{FailsToRecordTarget, StoresFirst}
-use Rattle.md_copy.proofs.HeldRecorded.{out_of_sync, target_same}
-use Rattle.md_copy.proofs.LentBack.{rebuilt_out}
-use Rattle.md_copy.proofs.PassesTold.{HoldsSoFar, chain_holds, listed_holds}
-use Rattle.md_copy.proofs.PassRecorded.{filled_ready, recorded_ready}
-use Rattle.md_copy.proofs.Readied.{recovering_admitted, spare_is, spare_rebuilt}
-use Rattle.md_copy.proofs.ReadyStill.{IsCalm, IsOnMembers, ready_filled, ready_noted, stays_all}
-use Rattle.md_copy.proofs.RebuildLeads.{begin_holds, filled, listing_before, storing_before}
-use Rattle.md_copy.proofs.TargetStates.{target_rebuilt}
-use Rattle.md_copy.proofs.UnfinishedEnrol.{prepares}
+use Rattle.md_copy.proofs.Held.HeldRecorded.{out_of_sync, target_same}
+use Rattle.md_copy.proofs.Fills.LentBack.{rebuilt_out}
+use Rattle.md_copy.proofs.Passing.PassesTold.{HoldsSoFar, chain_holds, listed_holds}
+use Rattle.md_copy.proofs.Passing.PassRecorded.{filled_ready, recorded_ready}
+use Rattle.md_copy.proofs.Ready.Readied.{recovering_admitted, spare_is, spare_rebuilt}
+use Rattle.md_copy.proofs.Ready.ReadyStill.{IsCalm, IsOnMembers, ready_filled, ready_noted, stays_all}
+use Rattle.md_copy.proofs.Leads.RebuildLeads.{begin_holds, filled, listing_before, storing_before}
+use Rattle.md_copy.proofs.Stored.TargetStates.{target_rebuilt}
+use Rattle.md_copy.proofs.Leads.UnfinishedEnrol.{prepares}
 use Rattle.md_rebuild_laws.specs.RebuildCrashes.{HasFilled, HasPassed, IsCrashAfter, IsCrashBefore, IsSuperWhole, CrashesAdmitting, CrashesAtCheckpoint, CrashesAtFailedCheckpoint, CrashesCopying, CrashesEnrolling, CrashesFilling, CrashesFirst, CrashesInListed, CrashesInPass, CrashesInPasses, CrashesListing, CrashesPassUnrecorded, CrashesReadying, CrashesRecording, CrashesStoring, CrashesUnadmitted, CrashesUnenrolled, CrashesUnrecorded}
 use Rattle.md_rebuild_laws.proofs.RebuildSteps.{Before, ComesUnspoiled, IfSome, admission_comes, checkpoint_comes, checkpoint_unspoils, fill_comes, filled_comes, if_some, listed_comes, noted_comes, noting_comes, passes_come, ready_comes, recorded_comes, so_last, some_map, stored_comes, stores_come, then_unspoiled, un_listed, un_noted, unshifted_if, until_last, whole_stores}
 use Rattle.md_rebuild_laws.proofs.Steady.{Comes, IsSteadyAt, comes_then, end, end_steady, steady_at}

@@ -31,8 +31,8 @@ use Rattle.md_copy.specs.declared.rebuilt.Rebuilt.{Rebuilt}
 use Rattle.md_copy.specs.RebuildEvents.{IsBeforeEnrol, IsOfRebuild}
 use Rattle.md_copy.specs.Rebuilding.{Rebuilds}
 use Rattle.md_copy.specs.Rebuilt.{failed_of}
-use Rattle.md_copy.proofs.PassesTold.{filled_ready}
-use Rattle.md_copy.proofs.RebuildLeads.{before_of, begin_holds, storing_before}
+use Rattle.md_copy.proofs.Passing.PassesTold.{filled_ready}
+use Rattle.md_copy.proofs.Leads.RebuildLeads.{before_of, begin_holds, storing_before}
 use Rattle.md_rebuild_laws.specs.RebuildRuns.{LogsUnshifted, RebuildIsARun, RebuildRunsOn, RunsTo}
 use Rattle.md_rebuild_laws.specs.RebuiltInLife.{HeldWhatItHad}
 use Rattle.md_rebuild_laws.specs.RebuildCrashes.{HasFilled, IsCrashEnrolled, CrashesAnyhow, CrashesEnrolled, CrashesInRebuild, CrashesStoringRecords}

@@ -21,15 +21,15 @@ use Rattle.md_laws.proofs.Runs.CallRuns.{admit_is_a_call, call_is_run, checkpoin
 use Rattle.md_laws.proofs.Runs.Moments.{run_then}
 use Rattle.md_metadata.specs.Going.{GoesOn, only_others}
 use Rattle.md_metadata.specs.Storing.{IsNoFailure, IsStoring}
+use Rattle.md_rebuild_table.specs.Sources.{missing_chunks}
 use Rattle.md_copy.specs.Listing.{IsNoting, IsStoringList, NotesLists, StoresLists}
 use Rattle.md_copy.specs.Passing.{AreListedPasses, CopiesAll, ListsPass, RecordsPass}
 use Rattle.md_copy.specs.Readying.{AdmitsAfter, AdmitsFirst, Readies}
 use Rattle.md_copy.specs.RebuildEvents.{IsBeforeEnrol}
 use Rattle.md_copy.specs.Rebuilt.{failed_of}
-use Rattle.md_copy.specs.Sources.{missing_chunks}
 use Rattle.md_copy.specs.Storing.{StoresFirst}
-use Rattle.md_copy.proofs.PassesTold.{HoldsSoFar, chain_holds, listed_holds}
-use Rattle.md_copy.proofs.RebuildLeads.{filled, listing_before, noting_before, storing_before}
+use Rattle.md_copy.proofs.Passing.PassesTold.{HoldsSoFar, chain_holds, listed_holds}
+use Rattle.md_copy.proofs.Leads.RebuildLeads.{filled, listing_before, noting_before, storing_before}
 use Rattle.md_rebuild_laws.specs.RebuildRuns.{LogsUnshifted}
 use Rattle.md_rebuild_laws.proofs.Steady.{Comes, IsSteadyAt, comes_by, comes_same, comes_then, end, end_steady, holds_some}
 use Rattle.md_rebuild_laws.proofs.Unshifted.{Unshifted, unshifted_listed, unshifted_noted, unshifted_recorded, whole_lists}

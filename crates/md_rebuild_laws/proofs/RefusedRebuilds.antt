@@ -11,17 +11,17 @@ use Rattle.md_state.specs.Members.{IsMember}
 use Rattle.md_state.specs.View.{ArrayView, MirrorView}
 use Rattle.md_array.proofs.StepLemmas.Turns.{all_such}
 use Rattle.md_laws.specs.Runs.{Moment}
+use Rattle.md_rebuild_table.specs.Sources.{missing_chunks}
 use Rattle.md_copy.specs.Filling.{IsFilling}
 use Rattle.md_copy.specs.Listing.{IsStoringList, NotesLists}
 use Rattle.md_copy.specs.Passing.{AreListedPasses, CopiesAll, RecordsPass}
 use Rattle.md_copy.specs.Rebuilding.{BeginsRebuild, LacksMemoryToRebuild, LacksRoom}
 use Rattle.md_copy.specs.Rebuilt.{failed_of}
-use Rattle.md_copy.specs.Sources.{missing_chunks}
-use Rattle.md_copy.proofs.PassesTold.{HoldsSoFar, chain_holds}
-use Rattle.md_copy.proofs.PassesTold as told
-use Rattle.md_copy.proofs.PassRecorded.{recorded_ready}
-use Rattle.md_copy.proofs.ReadyStill.{ready_noted}
-use Rattle.md_copy.proofs.RebuildLeads.{begin_holds, filled, listing_before}
+use Rattle.md_copy.proofs.Passing.PassesTold.{HoldsSoFar, chain_holds}
+use Rattle.md_copy.proofs.Passing.PassesTold as told
+use Rattle.md_copy.proofs.Passing.PassRecorded.{recorded_ready}
+use Rattle.md_copy.proofs.Ready.ReadyStill.{ready_noted}
+use Rattle.md_copy.proofs.Leads.RebuildLeads.{begin_holds, filled, listing_before}
 use Rattle.md_rebuild_laws.specs.RebuildRuns.{LogsUnshifted}
 use Rattle.md_rebuild_laws.specs.RefusedRebuilds.{HasLost, HasGivenUp, HasUnshifted, LostIsARun, RefusedIsARun, CrashesLeaving, CrashesLeavingAnyhow, CrashesLeavingLost, CrashesLeavingLostAnyhow, CrashesUnleft, CrashesUnleftLost, passes_then}
 use Rattle.md_rebuild_laws.proofs.RebuildRun.{stays_along}

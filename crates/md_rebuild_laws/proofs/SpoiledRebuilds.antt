@@ -24,19 +24,19 @@ use Rattle.md_laws.specs.CrashesWithin.{MayAllBeLeft}
 use Rattle.md_laws.proofs.Runs.Moments.{run_then}
 use Rattle.md_laws.proofs.Runs.Rests.{at_once, at_rest}
 use Rattle.md_laws.proofs.Crashes.Spoiled.{crashes_as_spoiled, crashes_at_enrol_as_spoiled, crashes_at_failed_enrol_as_spoiled}
-use Rattle.md_copy.specs.Beginning.{MayBeginRebuild}
+use Rattle.md_rebuild_table.specs.Beginning.{MayBeginRebuild}
+use Rattle.md_rebuild_table.specs.Sources.{missing_chunks}
 use Rattle.md_copy.specs.Passing.{AreListedPasses, CopiesAll, ListsPass, RecordsPass}
 use Rattle.md_copy.specs.Readying.{AdmitsAfter, FailsAdmission, Readies}
 use Rattle.md_copy.specs.RebuildEvents.{IsBeforeEnrol, IsOfUnfinished}
 use Rattle.md_copy.specs.Rebuilding.{EndsStoring}
-use Rattle.md_copy.specs.Sources.{missing_chunks}
 use Rattle.md_copy.specs.Storing.{FailsToRecordTarget}
-use Rattle.md_copy.proofs.LentBack.{rebuilt_out}
-use Rattle.md_copy.proofs.PassesTold.{HoldsSoFar, listed_holds}
-use Rattle.md_copy.proofs.Readied.{spare_rebuilt}
-use Rattle.md_copy.proofs.RefusedLeads.{unfinished_of}
-use Rattle.md_copy.proofs.StoredFirst.{rebuilt_still}
-use Rattle.md_copy.proofs.TargetStates.{target_rebuilt}
+use Rattle.md_copy.proofs.Fills.LentBack.{rebuilt_out}
+use Rattle.md_copy.proofs.Passing.PassesTold.{HoldsSoFar, listed_holds}
+use Rattle.md_copy.proofs.Ready.Readied.{spare_rebuilt}
+use Rattle.md_copy.proofs.Leads.RefusedLeads.{unfinished_of}
+use Rattle.md_copy.proofs.Stored.StoredFirst.{rebuilt_still}
+use Rattle.md_copy.proofs.Stored.TargetStates.{target_rebuilt}
 use Rattle.md_rebuild_laws.specs.RebuildCrashes.{AnySuper, HasFilled, IsCrashBefore, IsCrashUnfinished, CrashesAdmittingAnyhow, CrashesAtCheckpointAnyhow, CrashesCopying, CrashesEnrollingAnyhow, CrashesInListed, CrashesInPass, CrashesInPasses, CrashesReadying, CrashesRecordingAnyhow, CrashesTelling, CrashesUnadmittedAnyhow, CrashesUnenrolledAnyhow}
 use Rattle.md_rebuild_laws.proofs.RebuildSteps.{Before, IfSome, if_some, listed_comes, so_last, un_listed, until_last}
 use Rattle.md_rebuild_laws.proofs.Steady.{Comes, IsSteadyAt, end, end_steady, steady_at}

@@ -21,7 +21,7 @@ use Rattle.md_metadata.specs.Storing.{IsNoFailure}
 use Rattle.md_copy.specs.Listing.{IsStoringList, ListsAll, NotesLists}
 use Rattle.md_copy.specs.Readying.{AdmitsFirst, Readies}
 use Rattle.md_copy.specs.Storing.{StoresFirst}
-use Rattle.md_copy.proofs.HeldRecorded.{out_of_sync}
+use Rattle.md_copy.proofs.Held.HeldRecorded.{out_of_sync}
 
 -- of each member in sync
 abbrev pub Unshifted : ArrayView → Type 0

@@ -25,6 +25,7 @@ use Rattle.md_laws.specs.CallCrashes.{AtMoments, IsLeftWhole, CrashesIn}
 use Rattle.md_laws.specs.CrashesWithin.{MayAllBeLeft}
 use Rattle.md_metadata.specs.Going.{GoesOn, only_others}
 use Rattle.md_metadata.specs.Storing.{IsStoring}
+use Rattle.md_rebuild_table.specs.Sources.{missing_chunks}
 use Rattle.md_copy.specs.declared.rebuilt.Rebuilt.{Rebuilt}
 use Rattle.md_copy.specs.Filling.{IsFilling}
 use Rattle.md_copy.specs.Listing.{IsStoringList, NotesLists}
@@ -34,7 +35,6 @@ use Rattle.md_copy.specs.Storing.{FailsToRecordTarget, StoresFirst}
 use Rattle.md_copy.specs.RebuildEvents.{FailsAtMarks, IsBeforeEnrol, IsOfRebuild, IsOfUnfinished}
 use Rattle.md_copy.specs.Rebuilding.{BeginsRebuild, EndsStoring, FillsBy, Rebuilds}
 use Rattle.md_copy.specs.Rebuilt.{failed_of}
-use Rattle.md_copy.specs.Sources.{missing_chunks}
 use Rattle.md_rebuild_laws.specs.RebuildRuns.{AtMomentsWith, LogsUnshifted}
 use Rattle.md_rebuild_laws.specs.RebuiltInLife.{HeldWhatItHad}
 

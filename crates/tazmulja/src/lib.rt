@@ -64,8 +64,9 @@ pub use md_cert::{
     Certificate, ChunkList, NoMemory, Plan, Row, Slot, Slots, Table, Verdict, check,
 };
 pub use md_collect::{Collector, Refusal, Report, read_chunk};
-pub use md_copy::{Gate, RebuildFault, Rebuilt, rebuild, table};
+pub use md_copy::{Gate, Rebuilt, rebuild};
 pub use md_plan::{Planned, plan};
+pub use md_rebuild_table::{RebuildFault, table};
 pub use md_workers::{Board, Share};
 
 // Reports.

@@ -11,12 +11,12 @@ use Rattle.md_pass.specs.Sources.{MayRead, copy_of}
 use Rattle.md_state.specs.View.{Disk, MirrorView, disk_of, of_disks}
 use Rattle.md_array.specs.Steps.Lend.{AreBack}
 use Rattle.md_super.specs.declared.superblock.Superblock.{Superblock}
-use Rattle.md_copy.proofs.Carried.{may_read_of, seen}
-use Rattle.md_copy.proofs.Filled.{passed}
-use Rattle.md_copy.proofs.LentBack.{are_planned, back, within}
-use Rattle.md_copy.proofs.Lists.{mapped_at}
-use Rattle.md_copy.proofs.Observed.{field_of}
-use Rattle.md_copy.proofs.SourcesChosen.{has_room}
+use Rattle.md_rebuild_table.proofs.Observed.{field_of}
+use Rattle.md_copy.proofs.Fills.Carried.{may_read_of, seen}
+use Rattle.md_copy.proofs.Fills.Filled.{passed}
+use Rattle.md_copy.proofs.Fills.LentBack.{are_planned, back, within}
+use Rattle.md_copy.proofs.Plans.Lists.{mapped_at}
+use Rattle.md_copy.proofs.Plans.SourcesChosen.{has_room}
 use Rattle.md_copy.proofs.fill.fill_devices.Goals as goal
 
 pub copy_beside-result-requires-clause-planned : goal.copy_beside-result-requires-clause-planned

@@ -1,5 +1,5 @@
-use Rattle.md_copy.proofs.RebuildLeads.{rebuild_leads}
-use Rattle.md_copy.proofs.RefusedLeads.{refused_leads, unadmitted_leads, unrecorded_leads}
+use Rattle.md_copy.proofs.Leads.RebuildLeads.{rebuild_leads}
+use Rattle.md_copy.proofs.Leads.RefusedLeads.{refused_leads, unadmitted_leads, unrecorded_leads}
 use Rattle.md_copy.proofs.laws.rebuild_events.Goals as goal
 
 pub returns : goal.returns

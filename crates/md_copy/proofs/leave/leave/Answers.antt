@@ -1,6 +1,6 @@
 use Rattle.std.proofs.Common.{subst, inl, inr}
 use Rattle.md_copy.specs.Leaving.{MayRecordAtEnd}
-use Rattle.md_copy.proofs.LeftRecorded.{may_held, may_none}
+use Rattle.md_copy.proofs.Held.LeftRecorded.{may_held, may_none}
 use Rattle.md_copy.proofs.leave.leave.Goals as goal
 
 pub record-requires-clause-may : goal.record-requires-clause-may

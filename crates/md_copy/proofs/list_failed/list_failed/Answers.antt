@@ -9,7 +9,7 @@ use Rattle.md_passes.specs.Listed.{ServesAs}
 use Rattle.md_state.specs.View.{ArrayView}
 use Rattle.md_pass.specs.Copied.{failed_slots}
 use Rattle.md_copy.specs.Listing.{NotesLists, EndsNoting}
-use Rattle.md_copy.proofs.NotedLists.{all_noted, next_noted, notes_none, notes_stop}
+use Rattle.md_copy.proofs.Listings.NotedLists.{all_noted, next_noted, notes_none, notes_stop}
 use Rattle.md_copy.proofs.list_failed.list_failed.Goals as goal
 
 abbrev none : Slot

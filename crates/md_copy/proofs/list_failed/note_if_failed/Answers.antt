@@ -1,7 +1,7 @@
 use Rattle.std.proofs.Common.{subst}
 use Rattle.md_array.specs.Steps.NoteBad.{RefusesChunk}
-use Rattle.md_copy.proofs.NotedLists.{nothing_noted, one_noted, slot_failed, slot_full, slot_noted}
-use Rattle.md_copy.proofs.Served.{in_sync_as}
+use Rattle.md_rebuild_table.proofs.Served.{in_sync_as}
+use Rattle.md_copy.proofs.Listings.NotedLists.{nothing_noted, one_noted, slot_failed, slot_full, slot_noted}
 use Rattle.md_copy.proofs.list_failed.note_if_failed.Goals as goal
 
 pub returns-then-is_marked-clause-gives : goal.returns-then-is_marked-clause-gives

@@ -5,7 +5,7 @@ use Rattle.md_assembly.proofs.Indices.{got_within}
 use Rattle.md_cert.specs.declared.slots.Slot.{Slot}
 use Rattle.md_state.proofs.Members.At.{told}
 use Rattle.md_pass.specs.Copied.{failed_slots, is_failed_slot}
-use Rattle.md_copy.proofs.ListsStored.{failed_in_sync, none_failed, some_failed, stops_one, stored_none, stored_one}
+use Rattle.md_copy.proofs.Listings.ListsStored.{failed_in_sync, none_failed, some_failed, stops_one, stored_none, stored_one}
 use Rattle.md_copy.proofs.list_failed.store_if_failed.Goals as goal
 
 pub returns-then-not-has_failed : goal.returns-then-not-has_failed

@@ -2,7 +2,7 @@ use Rattle.std.proofs.Common.{◌∙◌, List, sym, subst, arith}
 use Rattle.std.proofs.lemmas.Result.{err_from_is_err_and}
 use Rattle.md_cert.specs.declared.slots.Slot.{Slot}
 use Rattle.md_copy.specs.Listing.{HaveRoom, EndsStoringLists, StoresLists}
-use Rattle.md_copy.proofs.ListsStored.{below_all, below_more, below_none, lists_stop, room_below, unspent_below}
+use Rattle.md_copy.proofs.Listings.ListsStored.{below_all, below_more, below_none, lists_stop, room_below, unspent_below}
 use Rattle.md_copy.proofs.list_failed.store_lists.Goals as goal
 use Rattle.md_pass.specs.Copied.{failed_slots}
 

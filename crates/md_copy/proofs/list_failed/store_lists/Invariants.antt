@@ -1,5 +1,5 @@
 use Rattle.md_pass.specs.Copied.{failed_slots}
-use Rattle.md_copy.proofs.ListsStored.{StoresBelow}
+use Rattle.md_copy.proofs.Listings.ListsStored.{StoresBelow}
 use Rattle.md_copy.proofs.list_failed.store_lists.Given as goal
 
 abbrev pub invariant-loop-k : goal.invariant-loop-k

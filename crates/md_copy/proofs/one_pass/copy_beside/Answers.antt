@@ -10,7 +10,7 @@ use Rattle.md_pass.specs.Sources.{copy_of}
 use Rattle.md_pass.specs.declared.fault.PassFault.{PassFault}
 use Rattle.md_pass.specs.declared.pass.BoardCounts.{BoardCounts}
 use Rattle.md_pass.specs.declared.source.Source.{Source}
-use Rattle.md_copy.proofs.Returned.{removed_again}
+use Rattle.md_copy.proofs.Fills.Returned.{removed_again}
 use Rattle.md_copy.proofs.one_pass.copy_beside.Goals as goal
 
 -- what a pass answers, between states that are the same

@@ -4,7 +4,7 @@ use Rattle.md_assembly.proofs.Indices.{got_within}
 use Rattle.md_array.proofs.General.Answered.{ok_gives}
 use Rattle.md_plan.specs.declared.planner.Planned.{Planned}
 use Rattle.md_copy.specs.Passing.{PassesAll}
-use Rattle.md_copy.proofs.PassesGo.{GoesSoFar, begins_so, ends_before, fails_one, goes_on, lacks_room, leaves_now, leaves_one, listing_fails, listing_leaves, listing_sound, mid_ready, mid_within, passes_all, rising, served_mid, table_stops}
+use Rattle.md_copy.proofs.Passing.PassesGo.{GoesSoFar, begins_so, ends_before, fails_one, goes_on, lacks_room, leaves_now, leaves_one, listing_fails, listing_leaves, listing_sound, mid_ready, mid_within, passes_all, rising, served_mid, table_stops}
 use Rattle.md_copy.proofs.passes.copy_passes.Goals as goal
 
 pub returns-in_err-rows-clause-gives : goal.returns-in_err-rows-clause-gives

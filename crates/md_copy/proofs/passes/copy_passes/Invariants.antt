@@ -1,6 +1,6 @@
 use Rattle.md_kept_members.specs.View.{MemberView}
 use Rattle.md_state.specs.Members.{IsMember}
-use Rattle.md_copy.proofs.PassesGo.{GoesSoFar}
+use Rattle.md_copy.proofs.Passing.PassesGo.{GoesSoFar}
 use Rattle.md_copy.proofs.passes.copy_passes.Given as goal
 
 abbrev pub invariant-loop-pass : goal.invariant-loop-pass

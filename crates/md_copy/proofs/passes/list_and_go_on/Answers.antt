@@ -1,9 +1,9 @@
 use Rattle.std.proofs.Common.{inl}
 use Rattle.std.proofs.lemmas.Result.{err_from_is_err_and}
 use Rattle.md_pass.specs.Copied.{failed_slots}
-use Rattle.md_copy.proofs.ListingEnds.{next_answered, stops_storing}
-use Rattle.md_copy.proofs.ListsStored.{all_listed}
-use Rattle.md_copy.proofs.ReadyStill.{ready_noted}
+use Rattle.md_copy.proofs.Listings.ListingEnds.{next_answered, stops_storing}
+use Rattle.md_copy.proofs.Listings.ListsStored.{all_listed}
+use Rattle.md_copy.proofs.Ready.ReadyStill.{ready_noted}
 use Rattle.md_copy.proofs.passes.list_and_go_on.Goals as goal
 
 pub store_lists-requires-clause-recorded : goal.store_lists-requires-clause-recorded

@@ -2,9 +2,9 @@ use Rattle.std.proofs.Common.{refl, subst}
 use Rattle.std.proofs.lemmas.Result.{err_from_is_err_and}
 use Rattle.std.proofs.lemmas.Bool.{both_ways}
 use Rattle.md_array.specs.Steps.Checkpoint.{RefusesCheckpoint}
-use Rattle.md_copy.proofs.PassMade.{broken_off, made_one, may_checkpoint, not_recorded, ready_then, uncopied, within_filled}
-use Rattle.md_copy.proofs.Readied.{recovering_target}
-use Rattle.md_copy.proofs.TargetStates.{recovering_rebuilt}
+use Rattle.md_copy.proofs.Passing.PassMade.{broken_off, made_one, may_checkpoint, not_recorded, ready_then, uncopied, within_filled}
+use Rattle.md_copy.proofs.Ready.Readied.{recovering_target}
+use Rattle.md_copy.proofs.Stored.TargetStates.{recovering_rebuilt}
 use Rattle.md_copy.proofs.passes.make_pass.Goals as goal
 
 pub prepare-requires-clause-target : goal.prepare-requires-clause-target

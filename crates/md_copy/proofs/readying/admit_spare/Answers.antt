@@ -1,6 +1,6 @@
 use Rattle.std.proofs.Common.{subst}
 use Rattle.md_array.specs.Steps.Admit.{RefusesAdmit}
-use Rattle.md_copy.proofs.TargetStates.{has_role}
+use Rattle.md_copy.proofs.Stored.TargetStates.{has_role}
 use Rattle.md_copy.proofs.readying.admit_spare.Goals as goal
 
 pub unreachable-requires-in-Err-NoRole : goal.unreachable-requires-in-Err-NoRole

@@ -1,6 +1,6 @@
 use Rattle.std.proofs.lemmas.Result.{err_from_is_err_and}
 use Rattle.md_state.proofs.Members.At.{told}
-use Rattle.md_copy.proofs.MadeReady.{ready_so, ready_then, rebuilt, rebuilt_admitted, refused_admission, refused_then, running, running_stored, target_stored, unspent, unspent_admitted, unspent_stored}
+use Rattle.md_copy.proofs.Ready.MadeReady.{ready_so, ready_then, rebuilt, rebuilt_admitted, refused_admission, refused_then, running, running_stored, target_stored, unspent, unspent_admitted, unspent_stored}
 use Rattle.md_copy.proofs.readying.make_ready.Goals as goal
 
 pub store_first-requires-clause-running : goal.store_first-requires-clause-running

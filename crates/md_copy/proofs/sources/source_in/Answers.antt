@@ -3,8 +3,8 @@ use Rattle.md_assembly.proofs.Indices.{got_within}
 use Rattle.md_super.specs.declared.superblock.Superblock.{Superblock}
 use Rattle.md_kept_members.specs.View.{MemberView}
 use Rattle.md_pass.specs.declared.source.Source.{Source}
-use Rattle.md_copy.proofs.Observed.{field_of}
-use Rattle.md_copy.proofs.SourcesChosen.{source_at}
+use Rattle.md_rebuild_table.proofs.Observed.{field_of}
+use Rattle.md_copy.proofs.Plans.SourcesChosen.{source_at}
 use Rattle.md_copy.proofs.sources.source_in.Goals as goal
 
 pub returns-clause-source : goal.returns-clause-source

@@ -1,9 +1,9 @@
 use Rattle.std.proofs.Common.{◌≡◌, All, List, arith, subst, sym}
 use Rattle.md_assembly.proofs.Indices.{got_within}
 use Rattle.md_cert.specs.declared.slots.Slot.{Slot}
-use Rattle.md_copy.proofs.Chosen.{IsChosen, chosen_more, chosen_same, named_in_sync, named_slot, unnamed_slot}
-use Rattle.md_copy.proofs.Planned.{IsAllowed, allowed}
-use Rattle.md_copy.proofs.SourcesChosen.{are_sources}
+use Rattle.md_copy.proofs.Plans.Chosen.{IsChosen, chosen_more, chosen_same, named_in_sync, named_slot, unnamed_slot}
+use Rattle.md_copy.proofs.Plans.Planned.{IsAllowed, allowed}
+use Rattle.md_copy.proofs.Plans.SourcesChosen.{are_sources}
 use Rattle.md_copy.proofs.sources.sources_of.Goals as goal
 use Rattle.md_copy.proofs.sources.sources_of.Goals.{then-has_slot+in_ok-push, else-has_slot}
 

@@ -1,4 +1,4 @@
-use Rattle.md_copy.proofs.Chosen.{IsChosen}
+use Rattle.md_copy.proofs.Plans.Chosen.{IsChosen}
 use Rattle.md_copy.proofs.sources.sources_of.Given as goal
 
 abbrev pub invariant-loop-role : goal.invariant-loop-role

@@ -1,6 +1,6 @@
 use Rattle.md_metadata.specs.Storing.{IsMarking, IsRecording, IsStoring}
 use Rattle.md_metadata.proofs.Going.{marking_stores, recording_stores, stops_as, stores_as}
-use Rattle.md_copy.proofs.StoredFirst.{fails_named, first_or_stops, in_sync_other, rebuilt_still, serving_where_halted, stops_then, unspent_still}
+use Rattle.md_copy.proofs.Stored.StoredFirst.{fails_named, first_or_stops, in_sync_other, rebuilt_still, serving_where_halted, stops_then, unspent_still}
 use Rattle.md_copy.proofs.storing.store_first.Goals as goal
 
 pub rebuild_fault_of-requires : goal.rebuild_fault_of-requires

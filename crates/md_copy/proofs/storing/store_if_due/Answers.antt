@@ -4,7 +4,7 @@ use Rattle.md_metadata.specs.Storing.{IsRecording, IsStoring}
 use Rattle.md_metadata.proofs.Going.{recording_stores, stops_as}
 use Rattle.md_metadata.proofs.StoredRecords.{other_due, other_or_stops, recorded_nothing}
 use Rattle.md_state.proofs.Members.At.{told}
-use Rattle.md_copy.proofs.StoredFirst.{fails_named, recording_other, serving_where_halted, stored_ok}
+use Rattle.md_copy.proofs.Stored.StoredFirst.{fails_named, recording_other, serving_where_halted, stored_ok}
 use Rattle.md_copy.proofs.storing.store_if_due.Goals as goal
 use Rattle.md_copy.proofs.storing.store_if_due.Goals.{then-is_in_sync-via-then-is_in_sync, then-is_in_sync-via-else-is_in_sync+then-not-is_recorded, then-is_in_sync-via-else-is_in_sync+else-not-is_recorded+then-not-due}
 

@@ -5,7 +5,7 @@ use Rattle.md_metadata.specs.Storing.{IsRecording, IsStoring}
 use Rattle.md_metadata.proofs.Going.{recording_stores, stores_as}
 use Rattle.md_metadata.proofs.StoredMembers.{last_on, records_last}
 use Rattle.md_metadata.proofs.StoredRecords.{recorded_all, recorded_more, recorded_none}
-use Rattle.md_copy.proofs.StoredFirst.{rebuilt_still, stops_then, unspent_still}
+use Rattle.md_copy.proofs.Stored.StoredFirst.{rebuilt_still, stops_then, unspent_still}
 use Rattle.md_copy.proofs.storing.store_out_of_sync.Goals as goal
 
 pub loop-k-init : goal.loop-k-init

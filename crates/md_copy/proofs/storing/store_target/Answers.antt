@@ -1,4 +1,4 @@
-use Rattle.md_copy.proofs.StoredFirst.{target_stored, target_unstored}
+use Rattle.md_copy.proofs.Stored.StoredFirst.{target_stored, target_unstored}
 use Rattle.md_copy.proofs.storing.store_target.Goals as goal
 
 pub returns-in-Ok : goal.returns-in-Ok

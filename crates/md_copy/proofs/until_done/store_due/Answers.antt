@@ -1,4 +1,4 @@
-use Rattle.md_copy.proofs.StoredFirst.{records_then}
+use Rattle.md_copy.proofs.Stored.StoredFirst.{records_then}
 use Rattle.md_copy.proofs.until_done.store_due.Goals as goal
 
 pub returns : goal.returns

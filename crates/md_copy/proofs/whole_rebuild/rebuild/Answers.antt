@@ -1,4 +1,4 @@
-use Rattle.md_copy.proofs.Told.{refused_of, rebuilt_of}
+use Rattle.md_copy.proofs.Refusals.Told.{refused_of, rebuilt_of}
 use Rattle.md_copy.proofs.whole_rebuild.rebuild.Goals as goal
 
 pub returns-clause-rebuilt : goal.returns-clause-rebuilt

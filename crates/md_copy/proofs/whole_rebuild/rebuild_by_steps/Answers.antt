@@ -3,9 +3,9 @@ use Rattle.std.proofs.lemmas.Result.{err_from_is_err_and}
 use Rattle.std.specs.Int.{div_ceil}
 use Rattle.md_assembly.proofs.Indices.{got_within}
 use Rattle.md_bitmap.specs.declared.chunks.Chunks.{Chunks}
-use Rattle.md_copy.proofs.Answered.{rebuilds, refused_at_once, refused_readied, refused_ready, refused_set}
-use Rattle.md_copy.proofs.Begun.{begins, ready_then, set_ready, within_ready}
-use Rattle.md_copy.proofs.EndedWithin.{stopped_within}
+use Rattle.md_copy.proofs.Steps.Answered.{rebuilds, refused_at_once, refused_readied, refused_ready, refused_set}
+use Rattle.md_copy.proofs.Steps.Begun.{begins, ready_then, set_ready, within_ready}
+use Rattle.md_copy.proofs.Steps.EndedWithin.{stopped_within}
 use Rattle.md_copy.proofs.whole_rebuild.rebuild_by_steps.Goals as goal
 
 pub returns-in_err-check_rebuild-clause-gives : goal.returns-in_err-check_rebuild-clause-gives

@@ -1,6 +1,6 @@
 use Rattle.std.proofs.lemmas.Result.{err_from_is_err_and}
 use Rattle.md_assembly.proofs.Indices.{got_within}
-use Rattle.md_copy.proofs.Answered.{enrol_stops, passes_stop, rebuilds_readied}
+use Rattle.md_copy.proofs.Steps.Answered.{enrol_stops, passes_stop, rebuilds_readied}
 use Rattle.md_copy.proofs.whole_rebuild.rebuild_readied.Goals as goal
 
 pub returns-in_err-plans-clause-gives : goal.returns-in_err-plans-clause-gives

@@ -1,5 +1,5 @@
 use Rattle.std.proofs.Common.{inl, inr}
-use Rattle.md_copy.proofs.UnfinishedEnrol.{prepares}
+use Rattle.md_copy.proofs.Leads.UnfinishedEnrol.{prepares}
 use Rattle.md_rebuild_laws.specs.UnfinishedEnrols.{CrashesUnfinishedEnrol, UnfinishedEnrolsPrepare}
 use Rattle.md_rebuild_laws.proofs.laws.unfinished_enrols.Goals as goal
 

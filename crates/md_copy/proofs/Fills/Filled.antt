@@ -1,0 +1,134 @@
+-- What a pass over the devices that were lent is for the mirror that has them back.
+use Rattle.std.proofs.Common.{◌≡◌, ◌≢◌, ◌∙◌, ℕ, ◌+◌, ◌<◌, ◌≤◌, ◌==◌, Bool, true, false, List, [], ◌∷◌, length, remove, count_by, get_or, slice_get, slice_index_or, Some, All, Result, Ok, Err, MatchResult, refl, sym, ap, subst, arith, inl, inr}
+use Rattle.std.specs.List.{list_any}
+use Rattle.std.proofs.lemmas.Bool.{both_ways, cases_Bool, eq-eqb, eqb-true}
+use Rattle.std.proofs.lemmas.List.Elements.{All-filter, All-head, All-tail}
+use Rattle.std.proofs.lemmas.List.Folds.{Any-from_list_any, list_any_at}
+use Rattle.std.proofs.lemmas.Option.{same_Some}
+use Rattle.md_assembly.proofs.Indices.{got_within}
+use Rattle.md_assembly.specs.States.{is_in_sync, is_in_sync_as}
+use Rattle.md_bitmap.specs.Marks.{Bitmap}
+use Rattle.md_cert.specs.declared.plan.Plan.{Plan}
+use Rattle.md_cert.specs.declared.slots.Slot.{Slot}
+use Rattle.md_collect.specs.Reports.{Copying}
+use Rattle.md_device.specs.declared.device.Device.{Ghosts}
+use Rattle.md_kept_members.specs.View.{MemberView}
+use Rattle.md_pass.specs.Beside.{KeepsBeside}
+use Rattle.md_pass.specs.Copied.{BreaksOff, CountFailed, EndsPass, HasCopied, OnFault, PassState, failed_slots, is_failed_slot, pass_state}
+use Rattle.md_workers.specs.Queues.{AreOnlyRead}
+use Rattle.md_pass.specs.Readings.{is_of}
+use Rattle.md_pass.specs.Sources.{copy_of}
+use Rattle.md_pass.specs.declared.fault.PassFault.{PassFault}
+use Rattle.md_pass.specs.declared.fault.PassFault.TheVariants.{NoMemory, TargetFault}
+use Rattle.md_pass.specs.declared.pass.BoardCounts.{BoardCounts}
+use Rattle.md_pass.specs.declared.source.Source.{Source}
+use Rattle.md_state.specs.DiskWrites.{AtDevice}
+use Rattle.md_state.specs.Members.{IsMember}
+use Rattle.md_state.specs.Missing.{is_rebuilt}
+use Rattle.md_state.specs.View.{Disk, MirrorView}
+use Rattle.md_array.specs.Consistency.{IsConsistent}
+use Rattle.md_rebuild_table.proofs.Served.{in_sync_as}
+use Rattle.md_copy.specs.Filling.{CopiesChunks, CountsFailed, FailsOnWrite, FillsPass, IsFilling}
+use Rattle.md_copy.specs.RebuildSources.{AreSources, IsPlanOf, IsSourceAt}
+use Rattle.md_copy.proofs.Fills.Carried.{other_counts, seen, slot_copied, target_beside, target_fails}
+use Rattle.md_copy.proofs.Fills.LentBack.{filling, rebuilt_out, within}
+use Rattle.md_copy.proofs.Plans.SourcesChosen.{takes_as}
+
+-- none is counted
+none_counted : (role : ℕ) (xs : List Slot) → All (λ (s : Slot). s.source ≡ role → ⊥) xs → count_by (is_of role) xs ≡ 0
+none_counted role [] none = refl
+none_counted role (x ∷ xs) none = by (none_counted role xs (All-tail (λ (s : Slot). s.source ≡ role → ⊥) x xs none)) (x.source == role) refl
+  where
+    by : count_by (is_of role) xs ≡ 0 → (b : Bool) → (x.source == role) ≡ b → count_by (is_of role) (x ∷ xs) ≡ 0
+    by rest true same = absurd (All-head (λ (s : Slot). s.source ≡ role → ⊥) x xs none (eqb-true x.source role same))
+    by rest false other = rw other rest
+
+module _ {D : Type 0} (g : Ghosts D) (v : MirrorView) (sound : IsConsistent v) (target : ℕ) (low : target < length v.array.members) (member : MemberView) (at : IsMember v.array target member) (rebuilt : is_rebuilt member.state ≡ true) (plan : Plan)
+    (is_plan : IsPlanOf v.array member plan) (olds news : List D) (v_is : v.disks ≡ seen g olds) (as_many : length news ≡ length olds)
+    (reads : AreOnlyRead g (remove olds target) (remove news target))
+    (keeps : (d : D) → KeepsBeside g (copy_of plan.slots v.array.chunks member.superblock.data_offset) (slice_index_or olds target d) (slice_index_or news target d))
+    (w : MirrorView) (same : w.array ≡ v.array) (w_is : w.disks ≡ seen g news) (sources : List Source) (are : AreSources v target plan.slots sources) (before after : Bitmap) where
+  abbrev copy : Copying
+  copy = copy_of plan.slots v.array.chunks member.superblock.data_offset
+
+  abbrev slots : List Slot
+  slots = plan.slots
+
+  abbrev failed : List Slot
+  failed = failed_slots slots after
+
+  abbrev old : D → PassState D
+  old d = pass_state (remove olds target) (slice_index_or olds target d) before
+
+  abbrev new : D → PassState D
+  new d = pass_state (remove news target) (slice_index_or news target d) after
+
+  there : target < length olds
+  there = within g v sound target low member at rebuilt plan is_plan olds news v_is as_many
+
+  some : D
+  some = (got_within olds target there).0
+
+  filled : IsFilling target member slots v w
+  filled = filling g v sound target low member at rebuilt plan is_plan olds news v_is as_many reads keeps w same w_is
+
+  in_v : (j : ℕ) (d : Disk) → slice_get v.disks j ≡ Some d → slice_get (seen g olds) j ≡ Some d
+  in_v j d at_d = ap (λ (xs : List Disk). slice_get xs j) (sym v_is) ∙ at_d
+
+  in_w : (j : ℕ) (e : Disk) → slice_get w.disks j ≡ Some e → slice_get (seen g news) j ≡ Some e
+  in_w j e at_e = ap (λ (xs : List Disk). slice_get xs j) (sym w_is) ∙ at_e
+
+  -- ---- what was copied
+  copies : ((d : D) → HasCopied g copy sources (old d) (new d)) → CopiesChunks target member slots before after v w
+  copies has = record {
+    filling = filled;
+    joined = (has some).joined;
+    copied = slot_copied g olds news target there as_many v w v_is w_is member.superblock.data_offset slots sources are after (λ d. (has d).holds);
+    beside = λ d e at_d at_e. target_beside g olds news target there as_many v.array.chunks member.superblock.data_offset before after (λ x. (has x).beside) d e (in_v target d at_d) (in_w target e at_e);
+  }
+
+  -- ---- what failed
+  is_other : (k role : ℕ) (m : MemberView) → IsMember v.array k m → is_in_sync_as role m.state ≡ true → k ≢ target
+  is_other k role m at_m in_role here =
+      let is : m ≡ member = same_Some m member (sym at_m ∙ ap (slice_get v.array.members) here ∙ at) in
+      both_ways (is_in_sync m.state) (ap (λ (z : MemberView). is_in_sync z.state) is ∙ rebuilt_out member.state rebuilt) (in_sync_as role m.state in_role)
+
+  -- a source has counted its slots
+  source_counts : ((d : D) → CountFailed g slots after sources (remove olds target) (remove news target)) → (i : ℕ) (s : Source) → i < length sources → get_or sources i s ≡ s
+      → (k : ℕ) (m : MemberView) → IsSourceAt v target k m s → AtDevice k v.disks w.disks (λ d e. d.honest ≡ true → d.failures + count_by (is_of s.role) failed ≤ e.failures)
+  source_counts counts i s below is k m source d e at_d at_e honest =
+      other_counts g olds news target there as_many k (count_by (is_of s.role) failed) source.other
+      (subst (λ n. (x : D) → g.honest (slice_index_or (remove olds target) n x) ≡ true → g.failures (slice_index_or (remove olds target) n x) + count_by (is_of s.role) failed ≤ g.failures (slice_index_or (remove news target) n x)) source.place
+      (subst (λ (t : Source). (x : D) → g.honest (slice_index_or (remove olds target) t.place x) ≡ true → g.failures (slice_index_or (remove olds target) t.place x) + count_by (is_of t.role) failed ≤ g.failures (slice_index_or (remove news target) t.place x)) is
+      (counts some i s below)))
+      d e (in_v k d at_d) (in_w k e at_e) honest
+
+  counted : ((d : D) → CountFailed g slots after sources (remove olds target) (remove news target)) → CountsFailed failed v w
+  counted counts k role m at_m in_role d e at_d at_e honest =
+      elim (cases_Bool (list_any (λ (s : Source). s.role == role) sources)) [
+        | inl found ↦
+            let hit = Any-from_list_any (λ (s : Source). s.role == role) sources found in
+            let s = hit.1 in
+            let role_is : s.role ≡ role = eqb-true s.role role hit.4 in
+            let source = subst (λ (t : Source). (j : ℕ) × (n : MemberView) × IsSourceAt v target j n t) hit.3 (are.each hit.0 s hit.2) in
+            let one : source.0 ≡ k = sound.roles.one_each source.0 k role source.1 m source.2.listed at_m
+            (takes_as role source.1.state (subst (λ r. is_in_sync_as r source.1.state ≡ true) role_is source.2.in_sync)) (takes_as role m.state in_role) in
+            let all = source_counts counts hit.0 s hit.2 hit.3 source.0 source.1 source.2 in
+            subst (λ r. d.failures + count_by (is_of r) failed ≤ e.failures) role_is
+            (all d e (ap (slice_get v.disks) one ∙ at_d) (ap (slice_get w.disks) one ∙ at_e) honest)
+        | inr none ↦
+            let out : All (λ (slot : Slot). slot.source ≡ role → ⊥) slots = λ j x below here.
+            (let by = are.served j x below in
+            both_ways (list_any (λ (s : Source). s.role == role) sources) none
+            (list_any_at (λ (s : Source). s.role == role) sources by.0 by.1 by.2 (eq-eqb (get_or sources by.0 by.1).role role (ap (λ (s : Source). s.role) by.3 ∙ by.4.role ∙ here)))) in
+            let zero = none_counted role failed (All-filter (is_failed_slot after) (λ (slot : Slot). slot.source ≡ role → ⊥) slots out) in
+            let up = (filled.others k d e (is_other k role m at_m in_role) at_d at_e).counted in
+            omega (arith, zero, up)
+      ]
+
+  -- ---- the whole answer
+  pub passed : (result : Result BoardCounts PassFault) → ((d : D) → MatchResult result (EndsPass g copy sources (old d) (new d)) (BreaksOff g copy sources (old d) (new d)))
+      → MatchResult result (λ counts. FillsPass target member slots before after v w counts.failed) (OnFault (CopiesChunks target member slots before after v w) (FailsOnWrite target member slots v w))
+  passed (Ok counts) h = record { copies = copies (λ d. (h d).copied); failed_are = (h some).failed; counted = counted (λ d. (h d).counted) }
+  passed (Err NoMemory) h = copies h
+  passed (Err TargetFault) h = record { filling = filled; failed = λ d e at_d at_e. target_fails g olds news target there as_many h d e (in_v target d at_d) (in_w target e at_e) }

@@ -1,0 +1,234 @@
+-- What passes leave as it was: the data of all members but the target, the target's beside the chunks that are copied, and all lists but those of the
+-- sources that failed.
+use Rattle.std.proofs.Common.{◌≡◌, ◌≢◌, ◌∙◌, ℕ, ◌+◌, ◌*◌, ◌≤◌, Bool, true, false, List, [], ◌∷◌, ◌++◌, append-nil, length, filter, count_by, get_or, slice_get, Some, refl, sym, ap, subst, arith, inl, inr}
+use Rattle.std.proofs.lemmas.Bool.{both_ways, cases_Bool, cases_eq}
+use Rattle.std.proofs.lemmas.List.{length-append}
+use Rattle.std.proofs.lemmas.List.Elements.{filter-append}
+use Rattle.std.proofs.lemmas.List.Sums.{length-filter}
+use Rattle.std.proofs.lemmas.Option.{same_Some, slice_get-get_or, slice_get_within}
+use Rattle.md_assembly.specs.States.{is_in_sync_as}
+use Rattle.md_bitmap.specs.declared.chunks.Chunks.{Chunks}
+use Rattle.md_bitmap.specs.Marks.{Bitmap, is_set}
+use Rattle.md_cert.specs.declared.slots.Slot.{Slot}
+use Rattle.md_device.specs.Splice.{part}
+use Rattle.md_kept_members.specs.View.{MemberView}
+use Rattle.md_pass.specs.Readings.{is_of}
+use Rattle.md_passes.proofs.Listing.{lists_add}
+use Rattle.md_passes.specs.Listed.{ListsFailed}
+use Rattle.md_passes.specs.Passes.{PassView, failed_chunks}
+use Rattle.md_state.specs.DiskWrites.{AtDevice}
+use Rattle.md_state.specs.Members.{IsMember}
+use Rattle.md_state.specs.View.{ArrayView, Disk, MirrorView}
+use Rattle.md_array.specs.Steps.Enrol.{KeepsData}
+use Rattle.md_array.specs.Steps.Lend.{IsBesideChunk}
+use Rattle.md_rebuild_table.specs.Sources.{missing_chunks}
+use Rattle.md_copy.specs.Passing.{AreListedPasses, CopiesAll, ListsPass, RecordsPass}
+use Rattle.md_copy.specs.Rebuilt.{failed_of}
+use Rattle.md_copy.proofs.Held.HeldRecorded.{data_kept, other_is, target_same}
+use Rattle.md_copy.proofs.Passing.PassRecorded.{lists_recorded}
+
+-- these bytes lie in the member's data area, beside the chunks that were copied in between
+pub record IsBesideSince (a : ArrayView) (m : MemberView) (before after : Bitmap) (at n : ℕ) : Type 0 where
+  pub from : 512 * m.superblock.data_offset ≤ at
+  pub to : at + n ≤ 512 * (m.superblock.data_offset + m.superblock.data_size)
+  pub beside : (c : ℕ) → is_set after.bytes c ≡ true → is_set before.bytes c ≡ false → IsBesideChunk a.chunks m.superblock.data_offset at n c
+
+-- These slots came to the lists, and those failed to be read.
+pub record PassesKeep (target : ℕ) (listed failed : List Slot) (before after : Bitmap) (old new : MirrorView) : Type 0 where
+  pub lists : ListsFailed listed old.array new.array
+  pub sizes : (k : ℕ) (m n : MemberView) → IsMember old.array k m → IsMember new.array k n → n.superblock.data_size ≡ m.superblock.data_size
+  pub as_many : length new.disks ≡ length old.disks
+  pub honest : (k : ℕ) (d e : Disk) → slice_get old.disks k ≡ Some d → slice_get new.disks k ≡ Some e → e.honest ≡ d.honest
+  pub others : (k : ℕ) (d e : Disk) (m : MemberView) → k ≢ target → slice_get old.disks k ≡ Some d → slice_get new.disks k ≡ Some e → IsMember old.array k m → KeepsData m d e
+  pub beside : (d e : Disk) (m : MemberView) → slice_get old.disks target ≡ Some d → slice_get new.disks target ≡ Some e → IsMember old.array target m
+      → (i n : ℕ) → IsBesideSince old.array m before after i n → part e.content i n ≡ part d.content i n
+  pub kept : (c : ℕ) → is_set before.bytes c ≡ true → is_set after.bytes c ≡ true
+  pub counted : (k : ℕ) (d e : Disk) → slice_get old.disks k ≡ Some d → slice_get new.disks k ≡ Some e → d.failures ≤ e.failures
+  pub fails : (k role : ℕ) (m : MemberView) → IsMember old.array k m → is_in_sync_as role m.state ≡ true
+      → AtDevice k old.disks new.disks (λ d e. d.honest ≡ true → d.failures + count_by (is_of role) failed ≤ e.failures)
+
+pub disk_then : (old new : MirrorView) → length new.disks ≡ length old.disks → (k : ℕ) (d : Disk) → slice_get old.disks k ≡ Some d → (e : Disk) × (slice_get new.disks k ≡ Some e)
+disk_then old new many k d at = (let low = slice_get_within old.disks k d at in (get_or new.disks k d, slice_get-get_or new.disks k d (omega (arith, low, many))))
+
+pub count_append : (p : Slot → Bool) (xs ys : List Slot) → count_by p (xs ++ ys) ≡ count_by p xs + count_by p ys
+count_append p xs ys =
+    let all = length-filter p (xs ++ ys) in
+    let first = length-filter p xs in
+    let second = length-filter p ys in
+    let split = ap length (filter-append p xs ys) in
+    let many = length-append (filter p xs) (filter p ys) in
+    omega (arith, all, first, second, split, many)
+
+pub keeps_none : (target : ℕ) (copied : Bitmap) (v : MirrorView) → PassesKeep target [] [] copied copied v v
+keeps_none target copied v = record {
+  lists = lists_add.none v.array;
+  sizes = λ k m n at_m at_n. ap (λ (x : MemberView). x.superblock.data_size) (same_Some n m (sym at_n ∙ at_m));
+  as_many = refl;
+  honest = λ k d e at_d at_e. ap (λ (x : Disk). x.honest) (same_Some e d (sym at_e ∙ at_d));
+  others = λ k d e m other at_d at_e at_m i n from to. ap (λ (x : Disk). part x.content i n) (same_Some e d (sym at_e ∙ at_d));
+  beside = λ d e m at_d at_e at_m i n h. ap (λ (x : Disk). part x.content i n) (same_Some e d (sym at_e ∙ at_d));
+  kept = λ c set. set;
+  counted = λ k d e at_d at_e. (let same = ap (λ (x : Disk). x.failures) (same_Some e d (sym at_e ∙ at_d)) in omega (arith, same));
+  fails = λ k role m at in_role d e at_d at_e honest. (let same = ap (λ (x : Disk). x.failures) (same_Some e d (sym at_e ∙ at_d)) in omega (arith, same));
+}
+
+pub keeps_on : (target : ℕ) (l1 l2 f1 f2 : List Slot) (x y z : Bitmap) (u v w : MirrorView) → PassesKeep target l1 f1 x y u v → PassesKeep target l2 f2 y z v w → PassesKeep target (l1 ++ l2) (f1 ++ f2) x z u w
+keeps_on target l1 l2 f1 f2 x y z u v w one two = record {
+  lists = lists_add.more l1 l2 u.array v.array w.array one.lists two.lists;
+  sizes = λ k m n at_m at_n. (let o = one.lists.after k m at_m in two.sizes k o.0 n o.1 at_n ∙ one.sizes k m o.0 at_m o.1);
+  as_many = two.as_many ∙ one.as_many;
+  honest = λ k d f at_d at_f. (let e = disk_then u v one.as_many k d at_d in two.honest k e.0 f e.1 at_f ∙ one.honest k d e.0 at_d e.1);
+  others = λ k d f m other at_d at_f at_m i n from to.
+      (let e = disk_then u v one.as_many k d at_d in
+      let o = one.lists.after k m at_m in
+      let offset = o.2.offset in
+      let size = one.sizes k m o.0 at_m o.1 in
+      two.others k e.0 f o.0 other e.1 at_f o.1 i n (omega (arith, offset, from)) (omega (arith, offset, size, to)) ∙ one.others k d e.0 m other at_d e.1 at_m i n from to);
+  beside = λ d f m at_d at_f at_m i n h.
+      (let e = disk_then u v one.as_many target d at_d in
+      let o = one.lists.after target m at_m in
+      two.beside e.0 f o.0 e.1 at_f o.1 i n (later m o.0 o.2.offset (one.sizes target m o.0 at_m o.1) i n h)
+      ∙ one.beside d e.0 m at_d e.1 at_m i n (record { from = h.from; to = h.to; beside = λ c set clear. h.beside c (two.kept c set) clear }));
+  kept = λ c set. two.kept c (one.kept c set);
+  counted = λ k d f at_d at_f.
+      (let e = disk_then u v one.as_many k d at_d in
+      let first = one.counted k d e.0 at_d e.1 in
+      let second = two.counted k e.0 f e.1 at_f in
+      omega (arith, first, second));
+  fails = λ k role m at in_role d f at_d at_f is_honest.
+      (let e = disk_then u v one.as_many k d at_d in
+      let o = one.lists.after k m at in
+      let first = one.fails k role m at in_role d e.0 at_d e.1 is_honest in
+      let second = two.fails k role o.0 o.1 (subst (λ s. is_in_sync_as role s ≡ true) (sym o.2.state) in_role) e.0 f e.1 at_f (one.honest k d e.0 at_d e.1 ∙ is_honest) in
+      let both = count_append (is_of role) f1 f2 in
+      omega (arith, first, second, both));
+}
+  where
+    clear_first : (c : ℕ) → is_set y.bytes c ≡ false → is_set x.bytes c ≡ false
+    clear_first c clear = elim (cases_Bool (is_set x.bytes c)) [ inl set ↦ absurd (both_ways (is_set y.bytes c) clear (one.kept c set)) | inr none ↦ none ]
+
+    later : (m o : MemberView) → o.superblock.data_offset ≡ m.superblock.data_offset → o.superblock.data_size ≡ m.superblock.data_size → (i n : ℕ) → IsBesideSince u.array m x z i n → IsBesideSince v.array o y z i n
+    later m o offset size i n h = record {
+      from = (let from = h.from in omega (arith, offset, from));
+      to = (let to = h.to in omega (arith, offset, size, to));
+      beside = λ c set clear.
+          subst (λ (q : Chunks). IsBesideChunk q o.superblock.data_offset i n c) (sym one.lists.chunks)
+          (subst (λ p. IsBesideChunk u.array.chunks p i n c) (sym offset) (h.beside c set (clear_first c clear)));
+    }
+
+-- ---- one pass
+module _ (target : ℕ) (chunks : List ℕ) (p : PassView) (before after : Bitmap) (v x : MirrorView) (h : RecordsPass target chunks p before after v x) where
+  abbrev w : MirrorView
+  w = h.filled
+
+  same : w.array ≡ v.array
+  same = h.makes.copies.filling.array
+
+  made_keeps : PassesKeep target [] p.failed before after v w
+  made_keeps =
+      let f = h.makes.copies.filling in
+      record {
+        lists = subst (λ (a : ArrayView). ListsFailed [] v.array a) (sym same) (lists_add.none v.array);
+        sizes = λ k m n at_m at_n. ap (λ (z : MemberView). z.superblock.data_size) (same_Some n m (sym (sym (ap (λ (a : ArrayView). slice_get a.members k) same) ∙ at_n) ∙ at_m));
+        as_many = f.as_many;
+        honest = λ k d e at_d at_e. elim (cases_eq k target) [
+          | inl here ↦ (f.on_target d e (ap (slice_get v.disks) (sym here) ∙ at_d) (ap (slice_get w.disks) (sym here) ∙ at_e)).honest_kept
+          | inr other ↦ (f.others k d e other at_d at_e).honest_kept
+        ];
+        others = λ k d e m other at_d at_e at_m i n from to. ap (λ xs. part xs i n) (f.others k d e other at_d at_e).content_kept;
+        beside = λ d e m at_d at_e at_m i n b.
+            (let is = same_Some m h.makes.member (sym at_m ∙ h.makes.at) in
+            (h.makes.copies.beside d e at_d at_e).beside i n (λ c set clear. subst (λ (z : MemberView). IsBesideChunk v.array.chunks z.superblock.data_offset i n c) is (b.beside c set clear)));
+        kept = h.makes.copies.joined.kept;
+        counted = λ k d e at_d at_e. elim (cases_eq k target) [
+          | inl here ↦ (f.on_target d e (ap (slice_get v.disks) (sym here) ∙ at_d) (ap (slice_get w.disks) (sym here) ∙ at_e)).counted
+          | inr other ↦ (f.others k d e other at_d at_e).counted
+        ];
+        fails = h.makes.counted;
+      }
+
+  same_disk : (k : ℕ) (d e : Disk) → k ≢ target → slice_get w.disks k ≡ Some d → slice_get x.disks k ≡ Some e → e ≡ d
+  same_disk k d e other at_d at_e = same_Some e d (sym at_e ∙ h.checkpoints.disks.tried.others k other ∙ at_d)
+
+  stored_keeps : PassesKeep target [] [] after after w x
+  stored_keeps =
+      let t = h.checkpoints.disks.tried in
+      record {
+        lists = lists_recorded target after w x h.makes.sound h.checkpoints;
+        sizes = λ k m n at_m at_n. elim (cases_eq k target) [
+          | inl here ↦
+              let now = target_same target after w x h.makes.sound h.checkpoints n (ap (slice_get x.array.members) (sym here) ∙ at_n) in
+              let was = same_Some h.checkpoints.may.member m (sym h.checkpoints.may.at ∙ ap (slice_get w.array.members) (sym here) ∙ at_m) in
+              ap (λ (z : MemberView). z.superblock.data_size) now ∙ ap (λ (z : MemberView). z.superblock.data_size) was
+          | inr other ↦ ap (λ (z : MemberView). z.superblock.data_size) (same_Some n m (sym (sym (other_is target after w x h.makes.sound h.checkpoints k other) ∙ at_n) ∙ at_m))
+        ];
+        as_many = t.as_many;
+        honest = λ k d e at_d at_e. elim (cases_eq k target) [
+          | inl here ↦ (t.stays d e (ap (slice_get w.disks) (sym here) ∙ at_d) (ap (slice_get x.disks) (sym here) ∙ at_e)).honest
+          | inr other ↦ ap (λ (z : Disk). z.honest) (same_disk k d e other at_d at_e)
+        ];
+        others = λ k d e m other at_d at_e at_m i n from to. ap (λ (z : Disk). part z.content i n) (same_disk k d e other at_d at_e);
+        beside = λ d e m at_d at_e at_m i n b.
+            (let is = same_Some m h.checkpoints.may.member (sym at_m ∙ h.checkpoints.may.at) in
+            let keeps : KeepsData m d e = subst (λ (z : MemberView). KeepsData z d e) (sym is) (data_kept target after w x h.makes.sound h.checkpoints d e at_d at_e) in
+            keeps i n b.from b.to);
+        kept = λ c set. set;
+        counted = λ k d e at_d at_e. elim (cases_eq k target) [
+          | inl here ↦ (t.stays d e (ap (slice_get w.disks) (sym here) ∙ at_d) (ap (slice_get x.disks) (sym here) ∙ at_e)).counted
+          | inr other ↦ (let is = ap (λ (z : Disk). z.failures) (same_disk k d e other at_d at_e) in omega (arith, is))
+        ];
+        fails = λ k role m at in_role d e at_d at_e honest. elim (cases_eq k target) [
+          | inl here ↦ (let up = (t.stays d e (ap (slice_get w.disks) (sym here) ∙ at_d) (ap (slice_get x.disks) (sym here) ∙ at_e)).counted in omega (arith, up))
+          | inr other ↦ (let is = ap (λ (z : Disk). z.failures) (same_disk k d e other at_d at_e) in omega (arith, is))
+        ];
+      }
+
+  pub pass_keeps : PassesKeep target [] p.failed before after v x
+  pass_keeps = subst (λ fs. PassesKeep target [] fs before after v x) (append-nil p.failed) (keeps_on target [] [] p.failed [] before after after v w x made_keeps stored_keeps)
+
+-- ---- with its lists
+lists_keep : (target : ℕ) (chunks : List ℕ) (p : PassView) (before after : Bitmap) (v w : MirrorView) → ListsPass target chunks p before after v w → PassesKeep target p.failed p.failed before after v w
+lists_keep target chunks p before after v w h =
+    let x = h.recorded in
+    let listing : PassesKeep target p.failed [] after after x w = record {
+      lists = h.lists.lists;
+      sizes = λ k m n at_m at_n. list_sizes k m n at_m at_n;
+      as_many = h.lists.writes.as_many;
+      honest = λ k d e at_d at_e. (h.lists.writes.stays k d e at_d at_e).honest;
+      others = λ k d e m other at_d at_e at_m. h.lists.writes.keeps k m at_m d e at_d at_e;
+      beside = λ d e m at_d at_e at_m i n b. h.lists.writes.keeps target m at_m d e at_d at_e i n b.from b.to;
+      kept = λ c set. set;
+      counted = λ k d e at_d at_e. (h.lists.writes.stays k d e at_d at_e).counted;
+      fails = λ k role m at in_role d e at_d at_e honest. (let up = (h.lists.writes.stays k d e at_d at_e).counted in omega (arith, up));
+    } in
+    subst (λ fs. PassesKeep target p.failed fs before after v w) (append-nil p.failed) (keeps_on target [] p.failed p.failed [] before after after v x w (pass_keeps target chunks p before after v x h.records) listing)
+  where
+    list_sizes : (k : ℕ) (m n : MemberView) → IsMember h.recorded.array k m → IsMember w.array k n → n.superblock.data_size ≡ m.superblock.data_size
+    list_sizes k m n at_m at_n =
+        let o = h.lists.notes.lists.after k m at_m in
+        let noted = ap (λ (z : MemberView). z.superblock.data_size) (h.lists.notes.members k m o.0 at_m o.1).same in
+        elim (h.lists.stores.members k o.0 n o.1 at_n) [
+          | inl stored ↦ ap (λ (z : MemberView). z.superblock.data_size) stored.1.same ∙ noted
+          | inr same ↦ ap (λ (z : MemberView). z.superblock.data_size) same.1 ∙ noted
+        ]
+
+-- ---- passes
+pub chain_keeps : (target : ℕ) (passes : List PassView) (chunks left : List ℕ) (before after : Bitmap) (v w : MirrorView) → AreListedPasses target passes chunks left before after v w
+    → PassesKeep target (failed_of passes) (failed_of passes) before after v w
+chain_keeps target [] chunks left before after v w h =
+    subst (λ (x : MirrorView). PassesKeep target [] [] before after v x) (sym h.2) (subst (λ (b : Bitmap). PassesKeep target [] [] before b v v) (sym h.1) (keeps_none target before v))
+chain_keeps target (p ∷ ps) chunks left before after v w h =
+    keeps_on target p.failed (failed_of ps) p.failed (failed_of ps) before h.0 after v h.1 w (lists_keep target chunks p before h.0 v h.1 h.2) (chain_keeps target ps (failed_chunks p) left h.0 after h.1 w h.3)
+
+pub failed_last : (passes : List PassView) (p : PassView) → p.failed ≡ [] → failed_of (passes ++ p ∷ []) ≡ failed_of passes
+failed_last [] p none = ap (λ xs. xs ++ []) none
+failed_last (q ∷ qs) p none = ap (λ xs. q.failed ++ xs) (failed_last qs p none)
+
+pub all_keep : (target : ℕ) (m : MemberView) (passes : List PassView) (before after : Bitmap) (v w : MirrorView) → CopiesAll target m passes before after v w
+    → PassesKeep target (failed_of passes) (failed_of passes) before after v w
+all_keep target m passes before after v w h =
+    let fs = failed_of h.listed in
+    let is : failed_of passes ≡ fs = ap failed_of h.passes_are ∙ failed_last h.listed h.last h.done in
+    let last : PassesKeep target [] [] h.mid after h.now w = subst (λ xs. PassesKeep target [] xs h.mid after h.now w) h.done (pass_keeps target h.left h.last h.mid after h.now w h.records) in
+    let all = keeps_on target fs [] fs [] before h.mid after v h.now w (chain_keeps target h.listed (missing_chunks v.array m) h.left before h.mid v h.now h.passed) last in
+    subst (λ xs. PassesKeep target xs xs before after v w) (append-nil fs ∙ sym is) all

@@ -1,8 +1,0 @@
-use Rattle.std.proofs.Common.{◌≡◌}
-use Rattle.md_kept_members.specs.View.{MemberView}
-use Rattle.md_state.specs.Members.{IsMember}
-use Rattle.md_copy.proofs.LeftOver.{uncopied_below}
-use Rattle.md_copy.proofs.orphans.uncopied_chunks.Given as goal
-
-abbrev pub invariant-loop-chunk : goal.invariant-loop-chunk
-invariant-loop-chunk g l = (m : MemberView) → IsMember l.mirror.array l.k m → l.chunks.items ≡ uncopied_below l.mirror.array m l.copied l.chunk
