@@ -123,7 +123,7 @@ ANSWERS = {
 }
 
 # These take no memory: one says so where a count is spent, and one gives a list of faults, which may be that a decoding found none.
-TAKES_NONE = {"md_crash_device::Fuse::share", "md_examine::super_faults_of"}
+TAKES_NONE = {"md_crash_device::Fuse::share", "md_raw_reports::super_faults_of"}
 
 NOT_SHIPPED = re.compile(r"(.*_tests|example_members|bench_parts|mdcli)$")
 TYPE = re.compile(r"^pub (?:enum|struct) (\w+)[^;{]*\{(.*?)^\}", re.M | re.S)

@@ -10,9 +10,9 @@ use crate::values::{hex_digits, name_len, shown_bytes, zeros_in_front};
 use itoa::{Buffer, Integer};
 use uuid::Uuid;
 
-// A value.
+/// A value.
 #[tactic(auto, unfolding(crate::specs::Lines::line_text), using(crate::proofs::Puts::puts_then))]
-pub(crate) fn line<S: Sink>(out: &mut S, label: &str, value: &[u8]) -> Result<(), SinkFault>
+pub fn line<S: Sink>(out: &mut S, label: &str, value: &[u8]) -> Result<(), SinkFault>
     ensures { PutsOrFails S.contents S.failed out.old out.new (line_text label.now value.now) result }
 {
     out.put(label.as_bytes())?;
@@ -22,9 +22,9 @@ pub(crate) fn line<S: Sink>(out: &mut S, label: &str, value: &[u8]) -> Result<()
     Ok(())
 }
 
-// A value in two parts.
+/// A value in two parts.
 #[tactic(auto, unfolding(crate::specs::Lines::line_text), using(crate::proofs::Puts::puts_then))]
-pub(crate) fn two_part_line<S: Sink>(
+pub fn two_part_line<S: Sink>(
     out: &mut S,
     label: &str,
     front: &[u8],
@@ -62,8 +62,8 @@ pub fn decimal_line<S: Sink, I: Integer>(out: &mut S, label: &str, n: I) -> Resu
     line(out, label, buffer.format(n).as_bytes())
 }
 
-// A number and its unit.
-pub(crate) fn unit_line<S: Sink, I: Integer>(
+/// A number and its unit.
+pub fn unit_line<S: Sink, I: Integer>(
     out: &mut S,
     label: &str,
     n: I,
@@ -83,13 +83,8 @@ pub fn sectors_line<S: Sink>(out: &mut S, label: &str, n: u64) -> Result<(), Sin
     two_part_line(out, label, buffer.format(n).as_bytes(), b" sectors")
 }
 
-// A number in hex after a prefix.
-pub(crate) fn hex_line<S: Sink>(
-    out: &mut S,
-    label: &str,
-    prefix: &[u8],
-    n: u32,
-) -> Result<(), SinkFault>
+/// A number in hex after a prefix.
+pub fn hex_line<S: Sink>(out: &mut S, label: &str, prefix: &[u8], n: u32) -> Result<(), SinkFault>
     ensures { PutsOrFails S.contents S.failed out.old out.new (line_text label.now (prefix.now ++ hex_text n)) result }
 {
     let digits = hex_digits(n);
@@ -97,8 +92,8 @@ pub(crate) fn hex_line<S: Sink>(
     two_part_line(out, label, prefix, &digits[start..])
 }
 
-// A number in eight hex digits.
-pub(crate) fn hex8_line<S: Sink>(out: &mut S, label: &str, n: u32) -> Result<(), SinkFault>
+/// A number in eight hex digits.
+pub fn hex8_line<S: Sink>(out: &mut S, label: &str, n: u32) -> Result<(), SinkFault>
     ensures { PutsOrFails S.contents S.failed out.old out.new (line_text label.now (hex8_text n)) result }
 {
     line(out, label, &hex_digits(n))
@@ -151,8 +146,8 @@ pub(crate) fn log_line<S: Sink>(
     four_part_line(out, label, entries, b" entries at ", offset, b" sectors")
 }
 
-// The chunks of a bitmap, and those of them that are marked.
-pub(crate) fn marks_line<S: Sink>(
+/// The chunks of a bitmap, and how many of them are marked.
+pub fn marks_line<S: Sink>(
     out: &mut S,
     label: &str,
     chunks: u32,

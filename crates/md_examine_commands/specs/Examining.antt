@@ -13,17 +13,17 @@ use Rattle.md_examine.specs.declared.sink.Sink.{Ghosts as SinkGhosts}
 use Rattle.md_examine.specs.SuperblockReport.{examine_text}
 use Rattle.md_examine.specs.BitmapReport.{bitmap_report}
 use Rattle.md_examine.specs.BadblocksReport.{badblocks_report}
-use Rattle.md_examine.specs.SuperFields.{all_text}
-use Rattle.md_examine.specs.BitmapFields.{bitmap_all_text}
-use Rattle.md_examine.specs.LogFields.{log_all_text}
-use Rattle.md_examine.specs.declared.raw_bitmap.RawBitmap.{RawBitmap}
-use Rattle.md_examine.specs.declared.super_fields.Found.{Found}
+use Rattle.md_raw_reports.specs.SuperFields.{all_text}
+use Rattle.md_raw_reports.specs.BitmapFields.{bitmap_all_text}
+use Rattle.md_raw_reports.specs.LogFields.{log_all_text}
+use Rattle.md_raw_reports.specs.declared.raw_bitmap.RawBitmap.{RawBitmap}
+use Rattle.md_raw_reports.specs.declared.super_fields.Found.{Found}
 use Rattle.md_json.specs.BadblocksObject.{badblocks_object}
 use Rattle.md_json.specs.BitmapObject.{bitmap_object}
 use Rattle.md_json.specs.Objects.{object_line}
-use Rattle.md_json.specs.RawBitmap.{raw_bitmap_object}
-use Rattle.md_json.specs.RawLog.{raw_log_object}
-use Rattle.md_json.specs.RawSuper.{raw_super_object}
+use Rattle.md_raw_json.specs.RawBitmap.{raw_bitmap_object}
+use Rattle.md_raw_json.specs.RawLog.{raw_log_object}
+use Rattle.md_raw_json.specs.RawSuper.{raw_super_object}
 use Rattle.md_json.specs.SuperblockObject.{superblock_object}
 use Rattle.md_raw_members.specs.Elsewhere.{FindsElsewhere}
 use Rattle.md_raw_members.specs.Raw.{ReadsRawBitmap, ReadsFront, ReadsRawLog, RefusesRawBitmap, RefusesRawSuper, RefusesRawLog}

@@ -6,13 +6,10 @@ ghost use Rattle.md_examine_commands.specs.Examining.{badblocks_shown, bitmap_sh
 use md_badblocks::BadSet;
 use md_bitmap::{BitmapHeader, Marks};
 use md_commands::CommandFault;
-use md_examine::{
-    Found, RawBitmap, Sink, examine, examine_all, examine_badblocks, examine_badblocks_all,
-    examine_bitmap, examine_bitmap_all,
-};
-use md_json::{
-    badblocks_json, bitmap_json, raw_bitmap_json, raw_log_json, raw_super_json, superblock_json,
-};
+use md_examine::{Sink, examine, examine_badblocks, examine_bitmap};
+use md_json::{badblocks_json, bitmap_json, superblock_json};
+use md_raw_json::{raw_bitmap_json, raw_log_json, raw_super_json};
+use md_raw_reports::{Found, RawBitmap, examine_all, examine_badblocks_all, examine_bitmap_all};
 use md_super::Superblock;
 
 pub(crate) fn put_superblock<S: Sink>(

@@ -1,7 +1,7 @@
 //! Reports as JSON: one object each, alone in its line.
 //!
 //! Start with the report in question: what `md_examine` and `md_report` say in text has a function of a like name
-//! here.
+//! here. What stands on a device though it may be refused is an object of `md_raw_json`, which is written by `values`.
 //!
 //! ```
 //! superblock_json(&mut out, &superblock)?;
@@ -15,19 +15,13 @@ mod check_object;
 mod member_objects;
 mod plan_object;
 mod quoting;
-mod raw_bitmap_object;
-mod raw_fields;
-mod raw_log_object;
-mod raw_super_object;
 mod superblock_object;
-mod values;
+pub mod values;
 
 pub use array_objects::{detail_json, summary_json};
 pub use badblocks_object::badblocks_json;
 pub use bitmap_object::bitmap_json;
 pub use check_object::check_json;
 pub use plan_object::plan_json;
-pub use raw_bitmap_object::raw_bitmap_json;
-pub use raw_log_object::raw_log_json;
-pub use raw_super_object::raw_super_json;
+pub use quoting::put_quoted;
 pub use superblock_object::superblock_json;

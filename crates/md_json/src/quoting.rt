@@ -9,7 +9,7 @@ use md_examine::{Sink, SinkFault};
 
 /// A text in quotes. Bytes above 127 stand as they are: text is UTF-8.
 #[tactic(auto, using(md_examine::proofs::Puts::puts_then))]
-pub(crate) fn put_quoted<S: Sink>(out: &mut S, text: &[u8]) -> Result<(), SinkFault>
+pub fn put_quoted<S: Sink>(out: &mut S, text: &[u8]) -> Result<(), SinkFault>
     ensures { PutsOrFails S.contents S.failed out.old out.new (quoted text.now) result }
 {
     out.put(b"\"")?;

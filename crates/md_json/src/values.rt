@@ -1,4 +1,5 @@
-// Fields of an object after the first one, each with its comma, its name and its value.
+//! How an object is written: fields after the first one, each with its comma, its name and its value.
+
 ghost use Rattle.std.specs.Prelude.{◌≡◌, ◌++◌, ◌∷◌, codes};
 ghost use Rattle.std.specs.Fmt.{signed_decimal};
 ghost use Rattle.uuid.specs.Text.{hyphenated_text, lower};
@@ -18,7 +19,7 @@ use uuid::Uuid;
 
 /// Opens the object of a report: its first field says which one it is.
 #[tactic(auto, unfolding(crate::specs::Objects::open_text), using(md_examine::proofs::Puts::puts_then))]
-pub(crate) fn open<S: Sink>(out: &mut S, kind: &str) -> Result<(), SinkFault>
+pub fn open<S: Sink>(out: &mut S, kind: &str) -> Result<(), SinkFault>
     ensures { PutsOrFails S.contents S.failed out.old out.new (open_text kind.now) result }
 {
     out.put(b"{")?;
@@ -27,8 +28,8 @@ pub(crate) fn open<S: Sink>(out: &mut S, kind: &str) -> Result<(), SinkFault>
     Ok(())
 }
 
-/// Closes it, and ends its line.
-pub(crate) fn close<S: Sink>(out: &mut S) -> Result<(), SinkFault>
+/// Closes the object of a report, and ends its line.
+pub fn close<S: Sink>(out: &mut S) -> Result<(), SinkFault>
     ensures { PutsOrFails S.contents S.failed out.old out.new close_text result }
 {
     out.put(b"}\n")
@@ -44,9 +45,9 @@ pub(crate) fn key<S: Sink>(out: &mut S, name: &str) -> Result<(), SinkFault>
     Ok(())
 }
 
-/// Puts out a comma, the name of a value, and a colon.
+/// Begins a field: a comma, its name, and a colon.
 #[tactic(auto, using(md_examine::proofs::Puts::puts_then))]
-pub(crate) fn next_key<S: Sink>(out: &mut S, name: &str) -> Result<(), SinkFault>
+pub fn next_key<S: Sink>(out: &mut S, name: &str) -> Result<(), SinkFault>
     ensures { PutsOrFails S.contents S.failed out.old out.new (44 ∷ key_text name.now) result }
 {
     out.put(b",")?;
@@ -64,9 +65,9 @@ pub(crate) fn next_plain<S: Sink>(out: &mut S, name: &str, value: &[u8]) -> Resu
     Ok(())
 }
 
-/// A text.
+/// A field whose value is a text.
 #[tactic(auto, unfolding(crate::specs::Objects::next_text), using(md_examine::proofs::Puts::puts_then))]
-pub(crate) fn next_text<S: Sink>(out: &mut S, name: &str, text: &[u8]) -> Result<(), SinkFault>
+pub fn next_text<S: Sink>(out: &mut S, name: &str, text: &[u8]) -> Result<(), SinkFault>
     ensures { PutsOrFails S.contents S.failed out.old out.new
         (next_text name.now (quoted text.now)) result }
 {
@@ -75,21 +76,17 @@ pub(crate) fn next_text<S: Sink>(out: &mut S, name: &str, text: &[u8]) -> Result
     Ok(())
 }
 
-/// A number.
-pub(crate) fn next_number<S: Sink, I: Integer>(
-    out: &mut S,
-    name: &str,
-    n: I,
-) -> Result<(), SinkFault>
+/// A field whose value is a number.
+pub fn next_number<S: Sink, I: Integer>(out: &mut S, name: &str, n: I) -> Result<(), SinkFault>
     ensures { PutsOrFails S.contents S.failed out.old out.new (next_text name.now (I.text n)) result }
 {
     let mut buffer = Buffer::new();
     next_plain(out, name, buffer.format(n).as_bytes())
 }
 
-/// A signed number.
+/// A field whose value is a signed number.
 #[tactic(auto, using(crate::proofs::Texts::signed_text))]
-pub(crate) fn next_signed<S: Sink>(out: &mut S, name: &str, n: i32) -> Result<(), SinkFault>
+pub fn next_signed<S: Sink>(out: &mut S, name: &str, n: i32) -> Result<(), SinkFault>
     ensures { PutsOrFails S.contents S.failed out.old out.new
         (next_text name.now (compact_text (signed n))) result }
 {
@@ -114,11 +111,7 @@ pub(crate) fn number<S: Sink, I: Integer>(out: &mut S, n: I) -> Result<(), SinkF
 
 /// Opens an object within a report, whose first field is a number.
 #[tactic(auto, using(md_examine::proofs::Puts::puts_then))]
-pub(crate) fn open_number<S: Sink, I: Integer>(
-    out: &mut S,
-    name: &str,
-    n: I,
-) -> Result<(), SinkFault>
+pub fn open_number<S: Sink, I: Integer>(out: &mut S, name: &str, n: I) -> Result<(), SinkFault>
     ensures { PutsOrFails S.contents S.failed out.old out.new
         (123 ∷ (key_text name.now ++ I.text n)) result }
 {
@@ -129,14 +122,14 @@ pub(crate) fn open_number<S: Sink, I: Integer>(
 }
 
 /// The comma before an element that is not the first.
-pub(crate) fn comma_if(later: bool) -> &'static [u8]
+pub fn comma_if(later: bool) -> &'static [u8]
     ensures { result.now ≡ comma_if later }
 {
     if later { b"," } else { b"" }
 }
 
-/// Nothing.
-pub(crate) fn next_null<S: Sink>(out: &mut S, name: &str) -> Result<(), SinkFault>
+/// A field whose value is null.
+pub fn next_null<S: Sink>(out: &mut S, name: &str) -> Result<(), SinkFault>
     ensures { PutsOrFails S.contents S.failed out.old out.new
         (next_text name.now (token_text Token.null)) result }
 {
@@ -155,8 +148,8 @@ pub(crate) fn next_bool<S: Sink>(out: &mut S, name: &str, holds: bool) -> Result
     }
 }
 
-/// An identifier.
-pub(crate) fn next_uuid<S: Sink>(out: &mut S, name: &str, id: &Uuid) -> Result<(), SinkFault>
+/// A field whose value is an identifier.
+pub fn next_uuid<S: Sink>(out: &mut S, name: &str, id: &Uuid) -> Result<(), SinkFault>
     ensures { PutsOrFails S.contents S.failed out.old out.new
         (next_text name.now (quoted (hyphenated_text lower id.now))) result }
 {
@@ -173,8 +166,8 @@ pub(crate) fn next_cleanness<S: Sink>(out: &mut S, v: &Superblock) -> Result<(),
     next_text(out, "state", cleanness(v).as_bytes())
 }
 
-/// The name of an array, as the report shows it.
-pub(crate) fn next_name<S: Sink>(out: &mut S, name: &str, value: &[u8; 32]) -> Result<(), SinkFault>
+/// A field whose value is the name of an array, as the report shows it.
+pub fn next_name<S: Sink>(out: &mut S, name: &str, value: &[u8; 32]) -> Result<(), SinkFault>
     ensures { PutsOrFails S.contents S.failed out.old out.new
         (next_text name.now (quoted (name_text value.now))) result }
 {

@@ -1,8 +1,8 @@
 -- What was found is found where more calls may have failed.
 use Rattle.std.proofs.Common.{◌≡◌, ℕ, Bool, true, List, subst}
 use Rattle.md_device.specs.Device.{held}
-use Rattle.md_examine.specs.declared.super_fields.Found.{Found}
-use Rattle.md_examine.specs.declared.super_fields.Found.TheVariants.{Nothing, Unreadable, Superblock}
+use Rattle.md_raw_reports.specs.declared.super_fields.Found.{Found}
+use Rattle.md_raw_reports.specs.declared.super_fields.Found.TheVariants.{Nothing, Unreadable, Superblock}
 use Rattle.md_raw_members.specs.Elsewhere.{FindsAt, FindsElsewhere, IsFoundInSector}
 use Rattle.md_raw_members.specs.Raw.{IsOn}
 

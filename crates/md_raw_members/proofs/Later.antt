@@ -3,10 +3,10 @@ use Rattle.std.proofs.Common.{◌*◌, ◌<◌, ◌≤◌, ℕ, Bool, List, [], 
 use Rattle.std.proofs.lemmas.List.Elements.{All-nil}
 use Rattle.md_device.specs.Splice.{part}
 use Rattle.md_members.specs.Reading.{IsRead}
-use Rattle.md_examine.specs.declared.raw_bitmap.CountedMarks.{CountedMarks}
-use Rattle.md_examine.specs.declared.raw_bitmap.RawBitmap.{RawBitmap}
-use Rattle.md_examine.specs.declared.raw_bitmap.RawBitmap.TheVariants.{Unplaced, Unreadable, Read}
-use Rattle.md_examine.specs.declared.raw_bitmap.UnreadMarks.{UnreadMarks}
+use Rattle.md_raw_reports.specs.declared.raw_bitmap.CountedMarks.{CountedMarks}
+use Rattle.md_raw_reports.specs.declared.raw_bitmap.RawBitmap.{RawBitmap}
+use Rattle.md_raw_reports.specs.declared.raw_bitmap.RawBitmap.TheVariants.{Unplaced, Unreadable, Read}
+use Rattle.md_raw_reports.specs.declared.raw_bitmap.UnreadMarks.{UnreadMarks}
 use Rattle.md_raw_members.specs.Raw.{CountsMarks, HasCounts, IsRest, ReadsBitmapAt, ReadsPlacedBitmap, ReadsRawBitmap, TriesFront}
 
 module _ (content : List ℕ) (honest : Bool) (F G : Type 0) (via : F → G) where

@@ -2,8 +2,8 @@
 use Rattle.std.specs.Prelude.{◌≡◌, ℕ, ◌-◌, ◌*◌, ◌/◌, Bool, true, List, [], ◌∷◌, length}
 use Rattle.md_device.specs.Device.{held}
 use Rattle.md_format.specs.Fields.{number_at, bytes_at}
-use Rattle.md_examine.specs.declared.super_fields.Found.{Found}
-use Rattle.md_examine.specs.declared.super_fields.Found.TheVariants.{Nothing, Unreadable, Superblock}
+use Rattle.md_raw_reports.specs.declared.super_fields.Found.{Found}
+use Rattle.md_raw_reports.specs.declared.super_fields.Found.TheVariants.{Nothing, Unreadable, Superblock}
 use Rattle.md_raw_members.specs.Raw.{IsOn}
 
 -- the bytes start a superblock of version 1

@@ -5,11 +5,11 @@ use Rattle.md_format.specs.Fields.{number_at}
 use Rattle.md_bitmap.specs.Marks.{count_set}
 use Rattle.md_bitmap.specs.Sectors.{bitmap_sectors}
 use Rattle.md_bitmap.specs.Sound.{chunk_count}
-use Rattle.md_examine.specs.BitmapFields.{is_chunk_size}
-use Rattle.md_examine.specs.declared.raw_bitmap.CountedMarks.{CountedMarks}
-use Rattle.md_examine.specs.declared.raw_bitmap.RawBitmap.{RawBitmap}
-use Rattle.md_examine.specs.declared.raw_bitmap.RawBitmap.TheVariants.{Unplaced, Unreadable, Read}
-use Rattle.md_examine.specs.declared.raw_bitmap.UnreadMarks.{UnreadMarks}
+use Rattle.md_raw_reports.specs.BitmapFields.{is_chunk_size}
+use Rattle.md_raw_reports.specs.declared.raw_bitmap.CountedMarks.{CountedMarks}
+use Rattle.md_raw_reports.specs.declared.raw_bitmap.RawBitmap.{RawBitmap}
+use Rattle.md_raw_reports.specs.declared.raw_bitmap.RawBitmap.TheVariants.{Unplaced, Unreadable, Read}
+use Rattle.md_raw_reports.specs.declared.raw_bitmap.UnreadMarks.{UnreadMarks}
 use Rattle.md_members.specs.Reading.{HasSuperSectors, IsRead}
 use Rattle.md_raw_members.specs.declared.fault.RawFault.{RawFault}
 use Rattle.md_raw_members.specs.declared.fault.RawFault.TheVariants.{TooShort, NoBitmap, Region}

@@ -10,8 +10,8 @@ use md_bitmap::{
     sectors_of_bitmap,
 };
 use md_device::Device;
-use md_examine::{CountedMarks, UnreadMarks};
 use md_format::{u32_at, u64_at};
+use md_raw_reports::{CountedMarks, UnreadMarks};
 
 /// Counts the marks of a bitmap that starts at this sector, which has these bytes: those after the header, and then those in each
 /// sector that follows, up to the first that is past the end or can't be read. Nothing is counted where the header does not say of

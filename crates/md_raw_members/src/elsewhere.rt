@@ -4,8 +4,8 @@ ghost use Rattle.md_raw_members.specs.Elsewhere.{FindsAt, FindsElsewhere, IsFoun
 
 use crate::read_parts::read_sectors;
 use md_device::Device;
-use md_examine::Found;
 use md_format::{u32_at, uuid_at};
+use md_raw_reports::Found;
 use md_super::{MAGIC, MAJOR_VERSION};
 
 // Where a superblock of version 1.1 stands.

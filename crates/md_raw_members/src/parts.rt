@@ -7,7 +7,7 @@ use crate::elsewhere::find_elsewhere;
 use crate::fault::RawFault;
 use crate::read_parts::{RawLog, read_bitmap, read_log_area, read_super_bytes};
 use md_device::Device;
-use md_examine::{Found, RawBitmap};
+use md_raw_reports::{Found, RawBitmap};
 
 /// Reads sectors 8 to 15, whatever stands there, and then looks for a superblock where one of version 1.1 stands, one of
 /// version 1.2 in a first partition, and one of version 1.0. The answer is also how many of the sectors could be read, from the

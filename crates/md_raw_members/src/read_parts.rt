@@ -6,8 +6,8 @@ ghost use Rattle.md_raw_members.specs.Raw.{FitsAt, IsOn, ReadsBitmapAt, ReadsFro
 use crate::counting::count_marks;
 use crate::fault::RawFault;
 use md_device::{Device, ReadFault};
-use md_examine::RawBitmap;
 use md_format::{u16_at, u32_at};
+use md_raw_reports::RawBitmap;
 use md_super::{FEATURE_BITMAP_OFFSET, SUPER_SECTOR};
 
 // The sectors up to the superblock's end.

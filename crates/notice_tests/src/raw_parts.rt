@@ -3,7 +3,7 @@ use crate::objects::{Row, holds};
 use example_members::{bitmap, member_image, put, vault};
 use md_device::{FaultDevice, MemDevice};
 use md_examine::Output;
-use md_json::{raw_bitmap_json, raw_log_json, raw_super_json};
+use md_raw_json::{raw_bitmap_json, raw_log_json, raw_super_json};
 use md_raw_members::{read_raw_bitmap, read_raw_log, read_raw_super};
 use std::alloc::Global;
 use std::process::Abort;

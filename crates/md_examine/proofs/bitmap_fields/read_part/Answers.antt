@@ -1,6 +1,0 @@
-use Rattle.md_examine.specs.BitmapFields.{read_text}
-use Rattle.md_examine.proofs.Puts.{puts_then}
-use Rattle.md_examine.proofs.bitmap_fields.read_part.Goals as goal
-
-pub returns : goal.returns
-returns g c = puts_then g.S.Sink.contents g.S.Sink.failed c.in_ok-header.ensures c.in_ok-count_lines.ensures

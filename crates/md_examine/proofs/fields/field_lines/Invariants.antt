@@ -1,8 +1,0 @@
-use Rattle.std.proofs.Common.{take}
-use Rattle.std.specs.List.{flat_map}
-use Rattle.md_examine.specs.Sink.{Puts}
-use Rattle.md_examine.specs.Fields.{field_text}
-use Rattle.md_examine.proofs.fields.field_lines.Given as goal
-
-abbrev pub invariant-loop-field : goal.invariant-loop-field
-invariant-loop-field g l = Puts g.S.Sink.contents g.S.Sink.failed l.fn.out l.out (flat_map (field_text l.bytes) (take l.field-index l.fields))

@@ -1,0 +1,8 @@
+use Rattle.md_raw_reports.specs.BitmapFields.{bitmap_all_text}
+use Rattle.md_examine.proofs.Puts.{puts_then}
+use Rattle.md_raw_reports.proofs.bitmap_fields.examine_bitmap_all.Goals as goal
+
+pub returns : goal.returns
+unfolding bitmap_all_text
+returns g c =
+    puts_then g.S.Sink.contents g.S.Sink.failed (puts_then g.S.Sink.contents g.S.Sink.failed c.in_ok-unread_line.ensures c.in_ok-super_fault_lines.ensures) c.in_ok-part.ensures
