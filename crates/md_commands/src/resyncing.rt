@@ -33,7 +33,7 @@ pub fn resync_array<D: Device + Drop, S: Sink>(
 }
 
 /// Resynchronises an array whose sectors can't be read or written before: one that is degraded, and in which members in sync may
-/// differ. Any other is left alone. A command that reads or writes begins with it.
+/// differ. Any other is left alone. It is the resync before a read, a write, a rebuild or a re-add.
 ///
 ///     resync_if_needed(alloc, &mut mirror)?;
 pub fn resync_if_needed<D: Device + Drop>(

@@ -15,6 +15,7 @@
 mod buffer;
 mod filling;
 pub mod laws;
+mod output;
 mod pieces;
 mod reading;
 mod way;

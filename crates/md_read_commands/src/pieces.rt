@@ -3,11 +3,11 @@ ghost use Rattle.std.specs.Prelude.{◌≡◌, ◌+◌, ◌*◌, ◌/◌, ◌%�
 ghost use Rattle.md_requests.specs.Pending.{PendingView};
 ghost use Rattle.md_state.specs.Requests.{IsPending};
 ghost use Rattle.md_array.specs.Consistency.{IsConsistent};
-ghost use Rattle.md_commands.specs.Output.{FailsOutput, PutsOut};
 ghost use Rattle.md_read_commands.specs.Pieces.{PutsPiece, PutsSectors, RefusesPiece, RefusesSectors, piece_sectors};
 ghost use Rattle.md_read_commands.specs.Ways.{MayReadBy};
 
 use crate::buffer::buffer;
+use crate::output::put_out;
 use crate::way::{Unread, Way, read_by};
 use md_array::Mirror;
 use md_commands::CommandFault;
@@ -131,15 +131,4 @@ fn put_piece<D: Device + Drop, S: Sink>(
             Err(fault)
         }
     }
-}
-
-// Puts out these bytes, and passes on what the output holds back.
-fn put_out<S: Sink>(out: &mut S, bytes: &[u8]) -> Result<(), CommandFault>
-    ensures { MatchResult result
-        (λ _. PutsOut S.Sink out.old out.new bytes.now)
-        (FailsOutput S.Sink out.new) }
-{
-    out.put(bytes)?;
-    out.flush()?;
-    Ok(())
 }
