@@ -14,6 +14,7 @@ WITHIN = {
     "md_array::Mirror::enrol": "md_copy::rebuild",
     "md_assembly::assemble": "md_array::Mirror::open",
     "md_check::compare_members": "md_commands::list_mismatches",
+    "md_commands::resync_if_needed": "md_read_commands::read_array",
     "md_create::new_spare": "md_array::Mirror::add",
     "md_images::lay_over": "md_cli::run",
     "md_kept_members::united_marks": "md_array::Mirror::open",
@@ -99,9 +100,6 @@ ANSWERS = {
     "md_commands::check_members_json": "check --json",
     "md_commands::fail_member": "fail",
     "md_commands::list_mismatches": "check --list",
-    "md_commands::read_array": "read",
-    "md_commands::read_array_filled": "read --fill",
-    "md_commands::read_array_readonly": "read --readonly",
     "md_commands::re_add_device": "re-add",
     "md_commands::rebuild_member": "rebuild",
     "md_commands::remove_member": "remove",
@@ -120,6 +118,9 @@ ANSWERS = {
     "md_images::take_images": "assemble",
     "md_images::image_list": "assemble",
     "md_members::read_member": "examine-bitmap",
+    "md_read_commands::read_array": "read",
+    "md_read_commands::read_array_filled": "read --fill",
+    "md_read_commands::read_array_readonly": "read --readonly",
 }
 
 # These take no memory: one says so where a count is spent, and one gives a list of faults, which may be that a decoding found none.

@@ -7,8 +7,9 @@ use Rattle.std.proofs.lemmas.List.Edits.{length-insert}
 use Rattle.std.specs.Prelude.{is_some}
 use Rattle.std.proofs.Math.Nat.{le_refl}
 use Rattle.std.proofs.lemmas.Option.{slice_get_within}
-use Rattle.md_commands.proofs.DeviceCounts.{AsMany, checks_as_many, done_check, done_fail, done_list, done_read, done_readonly, done_resync, done_write, fails_as_many, fills_as_many, lists_as_many, reads_as_many, reads_readonly_as_many, resyncs_as_many, stops_as_many, writes_as_many, stopped}
+use Rattle.md_commands.proofs.DeviceCounts.{AsMany, checks_as_many, done_check, done_fail, done_list, done_resync, done_write, fails_as_many, lists_as_many, resyncs_as_many, stops_as_many, writes_as_many, stopped}
 use Rattle.md_commands.proofs.RebuildCounts.{done_rebuild, rebuilds_as_many}
+use Rattle.md_read_commands.proofs.ReadCounts.{done_read, done_readonly, fills_as_many, reads_as_many, reads_readonly_as_many}
 use Rattle.md_commands.specs.declared.source.Source.{Ghosts as SourceGhosts}
 use Rattle.md_commands.specs.Adding.{KeepsDevice}
 use Rattle.md_commands.specs.Removing.{HandsBack}

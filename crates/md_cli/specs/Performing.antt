@@ -4,18 +4,18 @@ use Rattle.md_commands.specs.declared.source.Source.{Ghosts as SourceGhosts}
 use Rattle.md_commands.specs.Adding.{AddsDevice, KeepsDevice, RefusesJoining}
 use Rattle.md_commands.specs.Checking.{ChecksMembers, ListsMismatches, RefusesToCheck, RefusesToList}
 use Rattle.md_commands.specs.Failing.{RefusesToFail}
-use Rattle.md_commands.specs.Filling.{ReadsFilled}
 use Rattle.md_commands.specs.Objects.{checked_line, detail_shown, plan_shown, summary_shown}
 use Rattle.md_commands.specs.Output.{ShowsText}
 use Rattle.md_commands.specs.Planning.{RefusesToPlan, ShowsPlan}
 use Rattle.md_commands.specs.ReAdding.{ReAddsDevice, RefusesToReAdd}
-use Rattle.md_commands.specs.Reading.{ReadsArray, ReadsReadonly, RefusesReadonly, RefusesToRead}
 use Rattle.md_commands.specs.Rebuilding.{RebuildsArray, RefusesToRebuild}
 use Rattle.md_commands.specs.Removing.{HandsBack, RefusesToRemove, RemovesMember}
 use Rattle.md_commands.specs.Resyncing.{RefusesToResync, ResyncsArray}
 use Rattle.md_commands.specs.Stopping.{RefusesToStop, StopsArray, StopsArrayAfter}
 use Rattle.md_commands.specs.Writing.{RefusesToWrite, WritesArray}
 use Rattle.md_commands.specs.declared.fault.CommandFault.{CommandFault}
+use Rattle.md_read_commands.specs.Filling.{ReadsFilled}
+use Rattle.md_read_commands.specs.Reading.{ReadsArray, ReadsReadonly, RefusesReadonly, RefusesToRead}
 use Rattle.md_examine.specs.declared.sink.Sink.{Ghosts as SinkGhosts}
 use Rattle.md_images.specs.Taking.{Text}
 use Rattle.md_report.specs.CheckReport.{list_text}

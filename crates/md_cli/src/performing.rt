@@ -2,10 +2,10 @@
 ghost use Rattle.std.specs.Prelude.{◌≡◌, IfOk, MatchResult, false, is_some, true};
 ghost use Rattle.md_array.specs.Consistency.{IsConsistent};
 ghost use Rattle.md_words.specs.Asks.{ask_of, device_to_add, fills, opens_array};
-ghost use Rattle.md_commands.specs.Filling.{ReadsFilled};
 ghost use Rattle.md_commands.specs.Objects.{detail_shown, plan_shown, summary_shown};
 ghost use Rattle.md_commands.specs.Output.{ShowsText};
 ghost use Rattle.md_commands.specs.Planning.{RefusesToPlan, ShowsPlan};
+ghost use Rattle.md_read_commands.specs.Filling.{ReadsFilled};
 ghost use Rattle.md_messages.specs.Telling.{texts};
 ghost use Rattle.md_cli.specs.Opened.{opened_view};
 ghost use Rattle.md_cli.specs.Performing.{PerformsAdd, Performs, PerformsReAdd, PerformsRead, PerformsRemove, ShowsMismatches, ShowsSectors};
@@ -16,12 +16,13 @@ use crate::session::Session;
 use md_array::Mirror;
 use md_commands::{
     CommandFault, Source, Watch, add_device, check_members, check_members_json, fail_member,
-    list_mismatches, re_add_device, read_array, read_array_filled, read_array_readonly,
-    rebuild_member, remove_member, resync_array, show_detail, show_detail_json, show_plan,
-    show_plan_json, show_summary, show_summary_json, stop_array, write_array,
+    list_mismatches, re_add_device, rebuild_member, remove_member, resync_array, show_detail,
+    show_detail_json, show_plan, show_plan_json, show_summary, show_summary_json, stop_array,
+    write_array,
 };
 use md_device::Device;
 use md_examine::Sink;
+use md_read_commands::{read_array, read_array_filled, read_array_readonly};
 use md_words::{CheckForm, Command};
 use std::alloc::Global;
 use std::sync::Wait;

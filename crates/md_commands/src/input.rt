@@ -2,13 +2,12 @@
 ghost use Rattle.std.specs.Prelude.{◌≡◌, ◌+◌, ◌*◌, ◌-◌, ◌<◌, ◌≤◌, ◌++◌, MatchResult, length};
 ghost use Rattle.md_commands.specs.ReadingInput.{AppendsPiece, HasGoodLength, IsInput, ReadingInputFails, RefusesInput, RefusesLength, TakesUpTo};
 
-use crate::buffer::buffer;
 use crate::fault::CommandFault;
 use crate::source::Source;
 use std::alloc::Global;
 
-// How many sectors are asked for at once.
-const PIECE_SECTORS: u64 = 128;
+// How many bytes are asked for at once: 64 KiB.
+const PIECE_BYTES: usize = 65_536;
 
 /// Reads all of an input of whole sectors for an array of so many, which it keeps in memory.
 pub(crate) fn whole_input<I: Source>(
@@ -31,7 +30,7 @@ fn read_input<I: Source>(alloc: Global, input: &mut I, size: u64) -> Result<Vec<
         (λ bytes. TakesUpTo I.Source (512 * size + 1) input.old input.new bytes.items)
         (ReadingInputFails I.Source input.new) }
 {
-    let mut piece = buffer(alloc, PIECE_SECTORS)?;
+    let mut piece = vec![in alloc; 0; PIECE_BYTES]?;
     read_pieces(alloc, input, size, &mut piece)
 }
 

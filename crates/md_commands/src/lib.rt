@@ -1,33 +1,28 @@
-//! What commands do with an opened array: show it, plan a rebuild, stop it, read it, write to it, compare its members,
-//! resynchronise it, fail, remove, add, re-add or rebuild a member. Images and words are no matter of this crate: it has a
-//! mirror, an input and an output, and names of images only to put them out. And why a command is refused, whatever it is
-//! done with.
+//! What commands do with an opened array: show it, plan a rebuild, stop it, write to it, compare its members, resynchronise
+//! it, fail, remove, add, re-add or rebuild a member; `md_read_commands` reads it. Images and words are no matter of this crate:
+//! it has a mirror, an input and an output, and names of images only to put them out. And why a command is refused, whatever it
+//! is done with.
 //!
-//! Start with the function of a command, as `show_detail` or `read_array`; each has a file of its own.
+//! Start with the function of a command, as `show_detail` or `write_array`; each has a file of its own.
 //! `CommandFault` has every reason for which a command is refused.
 //!
 //! ```
 //! show_detail(&mirror, &mut out)?;
-//! read_array(alloc, &mut mirror, 8, 16, &mut out)?;
+//! write_array(alloc, &mut mirror, 8, &mut input, &mut out)?;
 //! ```
 #![tactic(auto)]
 
 mod adding;
-mod buffer;
 mod checking;
 mod failing;
 mod fault;
-mod filling;
 mod input;
-pub mod laws;
 mod named_member;
 mod objects;
 mod option_fault;
 mod output;
-mod pieces;
 mod planning;
 mod re_adding;
-mod reading;
 mod rebuilding;
 mod removing;
 mod resyncing;
@@ -35,7 +30,6 @@ mod showing;
 mod source;
 mod stopping;
 mod watch;
-mod way;
 mod writing;
 
 pub use adding::add_device;
@@ -46,10 +40,9 @@ pub use md_copy::Gate;
 pub use option_fault::OptionFault;
 pub use planning::{show_plan, show_plan_json};
 pub use re_adding::re_add_device;
-pub use reading::{read_array, read_array_filled, read_array_readonly};
 pub use rebuilding::rebuild_member;
 pub use removing::remove_member;
-pub use resyncing::resync_array;
+pub use resyncing::{resync_array, resync_if_needed};
 pub use showing::{show_detail, show_detail_json, show_summary, show_summary_json};
 pub use source::{Input, Source, SourceFault};
 pub use stopping::stop_array;

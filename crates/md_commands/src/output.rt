@@ -17,17 +17,6 @@ use md_examine::Sink;
 use md_plan::Planned;
 use md_report::{check_list_report, check_report, detail, plan_report, rebuilt_report, summary};
 
-/// Puts out these bytes, and passes on what the output holds back.
-pub(crate) fn put_out<S: Sink>(out: &mut S, bytes: &[u8]) -> Result<(), CommandFault>
-    ensures { MatchResult result
-        (λ _. PutsOut S.Sink out.old out.new bytes.now)
-        (FailsOutput S.Sink out.new) }
-{
-    out.put(bytes)?;
-    out.flush()?;
-    Ok(())
-}
-
 /// Puts out an array in one line.
 pub(crate) fn put_summary<D: Device + Drop, S: Sink>(
     mirror: &Mirror<D>,

@@ -32,8 +32,11 @@ pub fn resync_array<D: Device + Drop, S: Sink>(
     put_summary(mirror, out)
 }
 
-/// Resynchronises an array whose sectors can't be read or written before.
-pub(crate) fn resync_if_needed<D: Device + Drop>(
+/// Resynchronises an array whose sectors can't be read or written before: one that is degraded, and in which members in sync may
+/// differ. Any other is left alone. It is the resync before a read, a write, a rebuild or a re-add.
+///
+///     resync_if_needed(alloc, &mut mirror)?;
+pub fn resync_if_needed<D: Device + Drop>(
     alloc: Global,
     mirror: &mut Mirror<D>,
 ) -> Result<(), ResyncFault>

@@ -1,6 +1,6 @@
 use Rattle.std.proofs.Common.{Result, subst}
 use Rattle.md_commands.specs.declared.fault.CommandFault.{CommandFault}
-use Rattle.md_commands.specs.Filling.{ReadsFilled}
+use Rattle.md_read_commands.specs.Filling.{ReadsFilled}
 use Rattle.md_cli.proofs.performing.read_filled.Goals as goal
 
 pub returns-clause-reads : goal.returns-clause-reads

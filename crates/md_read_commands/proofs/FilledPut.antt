@@ -1,0 +1,110 @@
+-- Filled pieces are put out, each once it is read.
+use Rattle.std.proofs.Common.{◌≡◌, ◌∙◌, inl, inr, ℕ, ◌+◌, ◌*◌, ◌/◌, ◌≤◌, true, List, [], ◌++◌, length, take, refl, sym, subst, arith, length-append, append-nil}
+use Rattle.std.proofs.Math.Seq.{take-append_seam}
+use Rattle.md_badblocks.specs.declared.run.Run.{Run}
+use Rattle.md_examine.specs.declared.sink.Sink.{Ghosts}
+use Rattle.md_examine.specs.Sink.{Flushes, Puts}
+use Rattle.md_examine.proofs.Puts.{puts_nothing, puts_then}
+use Rattle.md_laws.proofs.Runs.Rests.{rests_same}
+use Rattle.md_state.specs.View.{MirrorView}
+use Rattle.md_commands.specs.declared.fault.CommandFault.{CommandFault}
+use Rattle.md_commands.specs.declared.fault.CommandFault.TheVariants.{NoPieceMemory, OutputFault}
+use Rattle.md_read_commands.specs.declared.way.Way.{Way}
+use Rattle.md_read_commands.specs.Filling.{FillsMore, FillsSome, FillsSomeMore, FillsUntilUnnoted, IsClear, PutsFilled, PutsFilledPiece, RefusesFilled, RefusesFilledPiece}
+use Rattle.md_read_commands.proofs.Filled.{clear_after, filled, fills_nothing, fills_then, unnoted_wider}
+
+module _ {S : Type 0} (o : Ghosts S) (way : Way) (sector : ℕ) where
+  -- so many sectors were filled and put out
+  pub record FilledSoFar (sectors : ℕ) (missing : List Run) (old new : MirrorView) (before after : S) : Type 0 where
+    pub bytes : List ℕ
+    pub many : length bytes ≡ 512 * sectors
+    pub more : FillsMore way sector bytes [] missing old new
+    pub puts : Puts o.contents o.failed before after bytes
+
+  pub puts_first : (missing : List Run) → missing ≡ [] → (v : MirrorView) (out : S) → FilledSoFar 0 missing v v out out
+  puts_first missing none v out = record {
+    bytes = [];
+    many = refl;
+    more = subst (λ (m : List Run). FillsMore way sector [] [] m v v) (sym none) (fills_nothing way sector [] v v (rests_same v));
+    puts = puts_nothing o.contents o.failed out;
+  }
+
+  -- there is no memory for a piece
+  pub no_piece : (count : ℕ) (missing : List Run) → missing ≡ [] → (v : MirrorView) (out : S) → RefusesFilled o way sector count missing v v out out NoPieceMemory
+  no_piece count missing none v out = inl (record { none = none; unread = refl; unwritten = refl })
+
+  module _ (missing : List Run) (old new : MirrorView) (before after : S) where
+    -- the end of the range
+    pub puts_all : (count : ℕ) (last : S) → FilledSoFar count missing old new before last → Flushes o.contents o.failed o.is_flushed last after → PutsFilled o way sector count missing old new before after
+    puts_all count last so_far flushes = record {
+      bytes = so_far.bytes;
+      many = so_far.many;
+      filled = filled way sector so_far.bytes missing old new so_far.more;
+      shown = record {
+        puts = subst (λ (b : List ℕ). Puts o.contents o.failed before after b) (append-nil so_far.bytes) (puts_then o.contents o.failed so_far.puts flushes.puts);
+        flushed = flushes.flushed;
+      };
+    }
+
+    pub not_flushed : (count : ℕ) (last : S) → FilledSoFar count missing old new before last → o.failed after ≡ true → RefusesFilled o way sector count missing old new before after OutputFault
+    not_flushed count last so_far failed = (
+      record { bytes = so_far.bytes; few = let many = so_far.many in omega arith; filled = filled way sector so_far.bytes missing old new so_far.more },
+      failed,
+    )
+
+  -- ---- one piece more
+  module _ (done : ℕ) (was : List Run) (old mid : MirrorView) (before between : S) (so_far : FilledSoFar done was old mid before between) where
+    abbrev b : List ℕ
+    b = so_far.bytes
+
+    here : sector + done ≡ sector + length b / 512
+    here = let many = so_far.many in omega arith
+
+    pub clear_next : IsClear was (sector + done)
+    clear_next = subst (λ (s : ℕ). IsClear was s) (sym here) (clear_after way sector b [] was old mid so_far.more (λ s bad. absurd bad))
+
+    module _ (missing : List Run) (new : MirrorView) (after : S) (sectors : ℕ) where
+      then_more : (piece : List ℕ) → FillsMore way (sector + done) piece was missing mid new → FillsMore way sector (b ++ piece) [] missing old new
+      then_more piece more = fills_then way sector b piece [] was missing old mid new so_far.more (subst (λ (s : ℕ). FillsMore way s piece was missing mid new) here more)
+
+      pub puts_more : (piece : List ℕ) → length piece ≡ 512 * sectors → PutsFilledPiece o way (sector + done) piece was missing mid new between after → FilledSoFar (done + sectors) missing old new before after
+      puts_more piece long puts = record {
+        bytes = b ++ piece;
+        many = let many = so_far.many in length-append b piece ∙ omega arith;
+        more = then_more piece puts.more;
+        puts = puts_then o.contents o.failed so_far.puts puts.puts;
+      }
+
+      module _ (count : ℕ) (within : done + sectors ≤ count) where
+        some_more : (some : FillsSomeMore way (sector + done) sectors was missing mid new) → length (b ++ some.bytes) ≤ 512 * count
+        some_more some = let many = so_far.many in let few = some.few in let long = length-append b some.bytes in omega arith
+
+        abbrev fills_some : (some : FillsSomeMore way (sector + done) sectors was missing mid new) → FillsSome way sector count missing old new
+        fills_some some = record { bytes = b ++ some.bytes; few = some_more some; filled = filled way sector (b ++ some.bytes) missing old new (then_more some.bytes some.more) }
+
+        until : FillsUntilUnnoted way (sector + done) sectors was missing mid new → after ≡ between → RefusesFilled o way sector count missing old new before after NoPieceMemory
+        until h same =
+            let some = h.some in
+            let from = h.from in
+            let below = h.below in
+            let many = so_far.many in
+            let long = length-append b some.bytes in
+            let whole = some.more.fills.whole in
+            inr (record {
+              put = record {
+                some = fills_some some;
+                taken = length b;
+                puts = subst (λ (x : S). Puts o.contents o.failed before x (take (length b) (b ++ some.bytes))) (sym same)
+                    (subst (λ (xs : List ℕ). Puts o.contents o.failed before between xs) (sym (take-append_seam b some.bytes)) so_far.puts);
+              };
+              s = h.s;
+              from = omega arith;
+              below = omega arith;
+              is = unnoted_wider way h.s missing old mid new so_far.more.fills.rests h.is;
+            })
+
+        pub refuses_more : (n : ℕ) → n ≡ sectors → (fault : CommandFault) → RefusesFilledPiece o way (sector + done) n was missing mid new between after fault → RefusesFilled o way sector count missing old new before after fault
+        refuses_more n same NoPieceMemory h =
+            until (subst (λ (k : ℕ). FillsUntilUnnoted way (sector + done) k was missing mid new) same h.0) h.1
+        refuses_more n same OutputFault h = (fills_some (subst (λ (k : ℕ). FillsSomeMore way (sector + done) k was missing mid new) same h.0), h.1)
+        refuses_more n same fault h = absurd h

@@ -1,0 +1,10 @@
+pub mod AsResynced
+pub mod Filled
+pub mod FilledPut
+pub mod Missing
+pub mod PiecesPut
+pub mod PiecesRead
+pub mod ReadCounts
+pub mod ReadReadied
+pub mod ResyncedData
+pub mod Ways

@@ -1,0 +1,16 @@
+use Rattle.std.proofs.Common.{◌≡◌, ◌-◌, ◌≤◌, length}
+use Rattle.md_array.specs.Consistency.{IsConsistent}
+use Rattle.md_read_commands.proofs.PiecesPut.{PutsSoFar}
+use Rattle.md_read_commands.proofs.pieces.put_pieces.Given as goal
+
+abbrev pub decreases-loop-done : goal.decreases-loop-done
+decreases-loop-done g l = l.count - l.done
+
+abbrev pub invariant-loop-done : goal.invariant-loop-done
+invariant-loop-done g l = record {
+  so_far : PutsSoFar g.S.Sink l.way l.sector l.done l.fn.mirror l.mirror l.fn.out l.out;
+  sound : IsConsistent l.mirror;
+  array : l.mirror.array ≡ l.fn.mirror.array;
+  long : length l.buffer ≡ length l.fn.buffer;
+  few : l.done ≤ l.count;
+}

@@ -1,0 +1,277 @@
+-- Sectors of the array are read and put out with zeros in the place of those that are not given: that nobody gives or, of an array that is
+-- not resynced, that the member from which a resync would copy them does not give.
+use Rattle.std.specs.List.{slice_get}
+use Rattle.std.specs.Prelude.{◌≡◌, ◌⊎◌, ◌↔◌, ℕ, ◌+◌, ◌*◌, ◌-◌, ◌/◌, ◌%◌, ◌<◌, ◌≤◌, Bool, true, List, [], length, replicate, take, Option, Some, None, Result, Ok, Err, MatchResult}
+use Rattle.md_badblocks.specs.declared.run.Run.{Run}
+use Rattle.md_badblocks.specs.Runs.{IsBad}
+use Rattle.md_device.specs.Device.{held}
+use Rattle.md_model.specs.Content.{Content, HoldsAtRest}
+use Rattle.md_model.specs.Worlds.{IsQuiet, Request}
+use Rattle.md_examine.specs.declared.sink.Sink.{Ghosts}
+use Rattle.md_examine.specs.Sink.{Puts}
+use Rattle.md_read.specs.declared.fault.UnreadFault.{UnreadFault}
+use Rattle.md_read.specs.declared.fault.UnreadFault.TheVariants.{Halted, NotResynced, OutOfRange, Unreadable}
+use Rattle.md_read.specs.Reading.{NoneGives}
+use Rattle.md_read.specs.Unresynced.{NoneGivesPart, SourceFails}
+use Rattle.md_kept_members.specs.View.{MemberView}
+use Rattle.md_state.specs.Steps.CopyData.{Lists}
+use Rattle.md_state.specs.DiskWrites.{AtDevice}
+use Rattle.md_state.specs.Members.{IsInSync}
+use Rattle.md_state.specs.Requests.{AreInFlight}
+use Rattle.md_state.specs.Rests.{Rests}
+use Rattle.md_state.specs.View.{Disk, MirrorView, geometry_of}
+use Rattle.md_array.specs.Worlds.{AreHonest, world_of}
+use Rattle.md_commands.specs.declared.fault.CommandFault.{CommandFault}
+use Rattle.md_commands.specs.declared.fault.CommandFault.TheVariants.{NoPieceMemory, OutputFault, Read, Resync}
+use Rattle.md_read_commands.specs.declared.way.Way.{Way}
+use Rattle.md_read_commands.specs.declared.way.Way.TheVariants.{Resynced, Unresynced}
+use Rattle.md_commands.specs.Output.{PutsOut}
+use Rattle.md_read_commands.specs.Reading.{IsReadyTo, RefusesReady}
+use Rattle.md_read_commands.specs.Ways.{ReadsBy}
+
+-- a sector of zeros
+unfoldable pub zeros : List ℕ
+zeros = replicate 512 0
+
+-- ---- what is read
+-- No member in sync gave the sector. Of an array that is not resynced: or the member from which a resync would copy it could not be read,
+-- and no other was asked, since it may hold something else there.
+abbrev pub IsNotGiven : Way → ℕ → MirrorView → MirrorView → Type 0
+IsNotGiven Resynced s old new = NoneGives s old new
+IsNotGiven Unresynced s old new = NoneGivesPart s old new ⊎ ((k : ℕ) × SourceFails k s old new)
+
+module _ (way : Way) where
+  -- A read gave the sector these bytes, and others perhaps with it. It was done between the two.
+  pub record IsGivenByRead (s : ℕ) (block : List ℕ) (old new : MirrorView) : Type 0 where
+    pub mid : MirrorView
+    pub later : MirrorView
+    pub before : Rests old mid
+    pub from : ℕ
+    pub bytes : List ℕ
+    pub reads : ReadsBy way from bytes mid later
+    pub after : Rests later new
+    pub low : from ≤ s
+    pub high : s < from + length bytes / 512
+    pub is : block ≡ held bytes (s - from) 512
+
+  -- These bytes stand for sectors from this one on: what a read gave and, of each that is missing, zeros. It is just those missing that
+  -- were not given.
+  pub record FillsSectors (sector : ℕ) (bytes : List ℕ) (missing : List Run)
+      (old new : MirrorView) : Type 0 where
+    pub whole : length bytes % 512 ≡ 0
+    pub rests : Rests old new
+    pub given : (i : ℕ) → i < length bytes / 512 → (IsBad missing (sector + i) → ⊥)
+        → IsGivenByRead (sector + i) (held bytes i 512) old new
+    -- The mirror as each sector was asked for, and when that was over. One comes after another, so that a read which failed for one is none
+    -- that failed for another.
+    pub asked : ℕ → MirrorView
+    pub over : ℕ → MirrorView
+    pub begins : (i : ℕ) → i < length bytes / 512 → Rests old (asked i)
+    pub within : (i : ℕ) → i < length bytes / 512 → Rests (asked i) (over i)
+    pub ends : (i : ℕ) → i < length bytes / 512 → Rests (over i) new
+    pub in_turn : (i j : ℕ) → i < j → j < length bytes / 512 → Rests (over i) (asked j)
+    pub lost : (i : ℕ) → i < length bytes / 512 → IsBad missing (sector + i)
+        → (held bytes i 512 ≡ zeros) × IsNotGiven way (sector + i) (asked i) (over i)
+
+  -- no other sector is missing
+  pub record IsFilled (sector : ℕ) (bytes : List ℕ) (missing : List Run) (old new : MirrorView) : Type 0 where
+    pub fills : FillsSectors sector bytes missing old new
+    pub within : (s : ℕ) → IsBad missing s → (sector ≤ s) × (s < sector + length bytes / 512)
+
+  -- so it is of some sectors from the first of a range on: not of all, perhaps
+  pub record FillsSome (sector count : ℕ) (missing : List Run) (old new : MirrorView) : Type 0 where
+    pub bytes : List ℕ
+    pub few : length bytes ≤ 512 * count
+    pub filled : IsFilled sector bytes missing old new
+
+-- What is read of a resynced array so is its content: where devices do what they answer, and the members in sync hold a content at rest,
+-- these are its bytes in each sector that is not missing and that no request in flight touches.
+abbrev pub FillsContent : Type 0
+FillsContent =
+    (sector : ℕ) (bytes : List ℕ) (missing : List Run) (old new : MirrorView)
+    → FillsSectors Resynced sector bytes missing old new
+    → AreHonest old.disks → (requests : ℕ → Option Request) → AreInFlight old.array requests
+    → (a : Content) → HoldsAtRest (geometry_of old.array) a (world_of old requests)
+    → (i : ℕ) → i < length bytes / 512 → (IsBad missing (sector + i) → ⊥)
+    → IsQuiet (world_of old requests) (sector + i)
+    → held bytes i 512 ≡ a (sector + i)
+
+-- Which sectors are missing: where devices do what they answer, and none of member k's calls failed while one
+-- of them was asked for, its own list has it. So a sector is missing only where each member in sync lists it,
+-- or failed as it was asked for.
+abbrev pub MissesUnserved : Type 0
+MissesUnserved =
+    (sector : ℕ) (bytes : List ℕ) (missing : List Run) (old new : MirrorView)
+    → (fills : FillsSectors Resynced sector bytes missing old new) → AreHonest old.disks
+    → (i : ℕ) → i < length bytes / 512 → IsBad missing (sector + i)
+    → (k : ℕ) (m : MemberView) → IsInSync old.array k m → (d : Disk) → slice_get old.disks k ≡ Some d
+    → AtDevice k (fills.asked i).disks (fills.over i).disks (λ d e. e.failures ≡ d.failures)
+    → Lists m (sector + i)
+
+-- ---- a part of a longer range
+-- no sector from this one on is missing yet
+abbrev pub IsClear : List Run → ℕ → Type 0
+IsClear missing sector = (s : ℕ) → IsBad missing s → s < sector
+
+module _ (way : Way) where
+  -- of other sectors it stays known which are missing
+  pub record FillsMore (sector : ℕ) (bytes : List ℕ) (was missing : List Run)
+      (old new : MirrorView) : Type 0 where
+    pub fills : FillsSectors way sector bytes missing old new
+    pub others : (s : ℕ) → (s < sector) ⊎ (sector + length bytes / 512 ≤ s) → IsBad missing s ↔ IsBad was s
+
+  -- so many sectors at the front of these bytes
+  pub record FillsFront (sector sectors : ℕ) (bytes : List ℕ) (was missing : List Run)
+      (old new : MirrorView) : Type 0 where
+    pub some : 0 < sectors
+    pub few : sectors ≤ length bytes / 512
+    pub more : FillsMore sector (take (512 * sectors) bytes) was missing old new
+
+  -- no more sectors than a piece has
+  pub record FillsSomeMore (sector count : ℕ) (was missing : List Run) (old new : MirrorView) : Type 0 where
+    pub bytes : List ℕ
+    pub few : length bytes ≤ 512 * count
+    pub more : FillsMore sector bytes was missing old new
+
+  -- Sector s was not given either, and there was no memory to note it.
+  pub record IsUnnoted (s : ℕ) (missing : List Run) (old new : MirrorView) : Type 0 where
+    pub asked : MirrorView
+    pub before : Rests old asked
+    pub within : Rests asked new
+    pub lost : IsNotGiven way s asked new
+    pub unnoted : IsBad missing s → ⊥
+
+  -- so it is of one of so many sectors from this one on; no other is noted
+  pub record NotesNone (sector sectors : ℕ) (was missing : List Run) (old new : MirrorView) : Type 0 where
+    pub same : missing ≡ was
+    pub rests : Rests old new
+    pub s : ℕ
+    pub from : sector ≤ s
+    pub below : s < sector + sectors
+    pub is : IsUnnoted s missing old new
+
+  -- so it is of one after those that were filled
+  pub record FillsUntilUnnoted (sector count : ℕ) (was missing : List Run) (old new : MirrorView)
+      : Type 0 where
+    pub some : FillsSomeMore sector count was missing old new
+    pub s : ℕ
+    pub from : sector + length some.bytes / 512 ≤ s
+    pub below : s < sector + count
+    pub is : IsUnnoted s missing old new
+
+-- ---- what is put out
+module _ {S : Type 0} (o : Ghosts S) (way : Way) where
+  pub record PutsFilled (sector count : ℕ) (missing : List Run) (old new : MirrorView)
+      (before after : S) : Type 0 where
+    pub bytes : List ℕ
+    pub many : length bytes ≡ 512 * count
+    pub filled : IsFilled way sector bytes missing old new
+    pub shown : PutsOut o before after bytes
+
+  -- the output took some of those that were read, from the first on
+  pub record PutsSome (sector count : ℕ) (missing : List Run) (old new : MirrorView)
+      (before after : S) : Type 0 where
+    pub some : FillsSome way sector count missing old new
+    pub taken : ℕ
+    pub puts : Puts o.contents o.failed before after (take taken some.bytes)
+
+  -- there is no memory for a piece
+  pub record ReadsNothing (missing : List Run) (old new : MirrorView) (before after : S) : Type 0 where
+    pub none : missing ≡ []
+    pub unread : new ≡ old
+    pub unwritten : after ≡ before
+
+  -- there is none to note that one sector more is missing
+  pub record PutsUntilUnnoted (sector count : ℕ) (missing : List Run) (old new : MirrorView)
+      (before after : S) : Type 0 where
+    pub put : PutsSome sector count missing old new before after
+    pub s : ℕ
+    pub from : sector + length put.some.bytes / 512 ≤ s
+    pub below : s < sector + count
+    pub is : IsUnnoted way s missing old new
+
+  -- There is no memory, which is taken for a piece and for what is missing alone, or the output failed. No sector that is not given
+  -- ends it.
+  abbrev pub RefusesFilled : ℕ → ℕ → List Run → MirrorView → MirrorView → S → S → CommandFault → Type 0
+  RefusesFilled sector count missing old new before after NoPieceMemory =
+      ReadsNothing missing old new before after
+      ⊎ PutsUntilUnnoted sector count missing old new before after
+  RefusesFilled sector count missing old new before after OutputFault =
+      FillsSome way sector count missing old new × (o.failed after ≡ true)
+  RefusesFilled sector count missing old new before after reason = ⊥
+
+  -- a piece of a longer range
+  pub record PutsFilledPiece (sector : ℕ) (piece : List ℕ) (was missing : List Run) (old new : MirrorView)
+      (before after : S) : Type 0 where
+    pub more : FillsMore way sector piece was missing old new
+    pub puts : Puts o.contents o.failed before after piece
+
+  abbrev pub RefusesFilledPiece : ℕ → ℕ → List Run → List Run → MirrorView → MirrorView → S → S → CommandFault
+      → Type 0
+  RefusesFilledPiece sector count was missing old new before after NoPieceMemory =
+      FillsUntilUnnoted way sector count was missing old new × (after ≡ before)
+  RefusesFilledPiece sector count was missing old new before after OutputFault =
+      FillsSomeMore way sector count was missing old new × (o.failed after ≡ true)
+  RefusesFilledPiece sector count was missing old new before after reason = ⊥
+
+-- ---- the command
+-- The sector is the first of those that are missing.
+pub record IsLeastMissing (missing : List Run) (s : ℕ) : Type 0 where
+  pub is : IsBad missing s
+  pub least : (t : ℕ) → IsBad missing t → s ≤ t
+
+-- as the answer of a read says it
+abbrev pub IsFirstMissing : List Run → UnreadFault → Type 0
+IsFirstMissing missing (Unreadable s) = IsLeastMissing missing s
+IsFirstMissing missing fault = ⊥
+
+module _ {S : Type 0} (o : Ghosts S) (readonly : Bool) (sector count : ℕ) (missing : List Run)
+    (old new : MirrorView) (before after : S) where
+  -- all of them are put out
+  pub record PutsAll : Type 0 where
+    pub way : Way
+    pub ready : MirrorView
+    pub readied : IsReadyTo readonly sector count old way ready
+    pub puts : PutsFilled o way sector count missing ready new before after
+
+  -- it is ready, and not all of them are
+  pub record FailsToPutAll (fault : CommandFault) : Type 0 where
+    pub way : Way
+    pub ready : MirrorView
+    pub readied : IsReadyTo readonly sector count old way ready
+    pub refused : RefusesFilled o way sector count missing ready new before after fault
+
+  pub record FillsArray : Type 0 where
+    pub puts : PutsAll
+    pub none : missing ≡ []
+
+  -- it is not made ready to be read
+  pub record IsNotReady (fault : CommandFault) : Type 0 where
+    pub refused : RefusesReady readonly sector count old new fault
+    pub unwritten : after ≡ before
+    pub none : missing ≡ []
+
+  abbrev pub RefusesToFill : CommandFault → Type 0
+  RefusesToFill NoPieceMemory = FailsToPutAll NoPieceMemory
+  RefusesToFill OutputFault = FailsToPutAll OutputFault
+  RefusesToFill (Read (Unreadable s)) = PutsAll × IsLeastMissing missing s
+  RefusesToFill (Read Halted) = IsNotReady (Read Halted)
+  RefusesToFill (Read OutOfRange) = IsNotReady (Read OutOfRange)
+  RefusesToFill (Read NotResynced) = IsNotReady (Read NotResynced)
+  RefusesToFill (Resync fault) = IsNotReady (Resync fault)
+  RefusesToFill fault = ⊥
+
+-- which are missing, where all are put out
+abbrev pub told_missing : List Run → Result (Unit {0}) CommandFault → Option (List Run)
+told_missing missing (Ok _) = Some missing
+told_missing missing (Err (Read (Unreadable s))) = Some missing
+told_missing missing (Err fault) = None
+
+module _ {S : Type 0} (o : Ghosts S) (readonly : Bool) (sector count : ℕ) (old new : MirrorView)
+    (before after : S) where
+  pub record ReadsFilled (told : Option (List Run)) (result : Result (Unit {0}) CommandFault) : Type 0 where
+    pub missing : List Run
+    pub told_is : told ≡ told_missing missing result
+    pub gives : MatchResult result
+        (λ _. FillsArray o readonly sector count missing old new before after)
+        (RefusesToFill o readonly sector count missing old new before after)

@@ -1,0 +1,188 @@
+// Sectors of the array are read and put out piece by piece, with zeros in the place of those that are not given.
+ghost use Rattle.std.specs.Prelude.{◌≡◌, ◌+◌, ◌*◌, ◌/◌, ◌%◌, ◌^◌, ◌<◌, ◌≤◌, [], IfOk, MatchResult, length, min};
+ghost use Rattle.md_requests.specs.Pending.{PendingView};
+ghost use Rattle.md_state.specs.Requests.{IsPending};
+ghost use Rattle.md_array.specs.Consistency.{IsConsistent};
+ghost use Rattle.md_read_commands.specs.Filling.{FillsFront, FillsMore, FillsUntilUnnoted, IsClear, NotesNone, PutsFilled, PutsFilledPiece, RefusesFilled, RefusesFilledPiece};
+ghost use Rattle.md_read_commands.specs.Pieces.{piece_sectors};
+ghost use Rattle.md_read_commands.specs.Ways.{MayReadBy};
+
+use crate::buffer::buffer;
+use crate::pieces::PIECE_SECTORS;
+use crate::way::{Way, read_by};
+use md_array::Mirror;
+use md_badblocks::BadSet;
+use md_commands::CommandFault;
+use md_device::Device;
+use md_examine::Sink;
+use std::alloc::{AllocError, Global};
+
+/// Puts out `count` sectors of an array, from this one on, read in this way, through one buffer. Each that is not given is added
+/// to `missing`, and zeros are put out in its place.
+pub(crate) fn put_filled<D: Device + Drop, S: Sink>(
+    alloc: Global,
+    mirror: &mut Mirror<D>,
+    way: Way,
+    sector: u64,
+    count: u64,
+    missing: &mut BadSet,
+    out: &mut S,
+) -> Result<(), CommandFault>
+    requires may { MayReadBy way mirror.old.array sector count }
+    requires fits { sector + count < 2 ^ 64 }
+    requires sound { IsConsistent mirror.old }
+    requires none { missing.old ≡ [] }
+    ensures gives { MatchResult result
+        (λ _. PutsFilled S.Sink way sector count missing.new mirror.old mirror.new out.old out.new)
+        (RefusesFilled S.Sink way sector count missing.new mirror.old mirror.new out.old out.new) }
+    ensures sound { IsConsistent mirror.new }
+    ensures pending { (p : PendingView) → IsPending mirror.old.array p → IsPending mirror.new.array p }
+{
+    let mut piece = buffer(alloc, count.min(PIECE_SECTORS))?;
+    put_filled_pieces(mirror, way, sector, count, &mut piece, missing, out)
+}
+
+// Puts them out through this buffer, of a piece, or of all of them where these are fewer.
+fn put_filled_pieces<D: Device + Drop, S: Sink>(
+    mirror: &mut Mirror<D>,
+    way: Way,
+    sector: u64,
+    count: u64,
+    buffer: &mut [u8],
+    missing: &mut BadSet,
+    out: &mut S,
+) -> Result<(), CommandFault>
+    requires room { length buffer.old ≡ 512 * min count piece_sectors }
+    requires may { MayReadBy way mirror.old.array sector count }
+    requires fits { sector + count < 2 ^ 64 }
+    requires sound { IsConsistent mirror.old }
+    requires none { missing.old ≡ [] }
+    ensures gives { MatchResult result
+        (λ _. PutsFilled S.Sink way sector count missing.new mirror.old mirror.new out.old out.new)
+        (RefusesFilled S.Sink way sector count missing.new mirror.old mirror.new out.old out.new) }
+    ensures sound { IsConsistent mirror.new }
+    ensures pending { (p : PendingView) → IsPending mirror.old.array p → IsPending mirror.new.array p }
+{
+    let mut done = 0;
+    while done < count {
+        let sectors = PIECE_SECTORS.min(count - done);
+        put_filled_piece(
+            mirror,
+            way,
+            sector + done,
+            &mut buffer[..512 * sectors as usize],
+            missing,
+            out,
+        )?;
+        done += sectors;
+    }
+    out.flush()?;
+    Ok(())
+}
+
+// Fills a piece and puts it out.
+fn put_filled_piece<D: Device + Drop, S: Sink>(
+    mirror: &mut Mirror<D>,
+    way: Way,
+    sector: u64,
+    piece: &mut [u8],
+    missing: &mut BadSet,
+    out: &mut S,
+) -> Result<(), CommandFault>
+    requires whole { length piece.old % 512 ≡ 0 }
+    requires may { MayReadBy way mirror.old.array sector (length piece.old / 512) }
+    requires sound { IsConsistent mirror.old }
+    requires clear { IsClear missing.old sector }
+    ensures gives { MatchResult result
+        (λ _. PutsFilledPiece S.Sink way sector piece.new missing.old missing.new mirror.old mirror.new
+        out.old out.new)
+        (RefusesFilledPiece S.Sink way sector (length piece.old / 512) missing.old missing.new
+        mirror.old mirror.new out.old out.new) }
+    ensures sound { IsConsistent mirror.new }
+    ensures pending { (p : PendingView) → IsPending mirror.old.array p → IsPending mirror.new.array p }
+{
+    fill_piece(mirror, way, sector, piece, missing)?;
+    out.put(piece)?;
+    Ok(())
+}
+
+// Fills a piece with what is read, and zeros in the place of each sector that is not given. The next read after such a sector
+// asks for one alone, and each that is given doubles it: so in a long bad area each sector is tried once on each member.
+fn fill_piece<D: Device + Drop>(
+    mirror: &mut Mirror<D>,
+    way: Way,
+    sector: u64,
+    piece: &mut [u8],
+    missing: &mut BadSet,
+) -> Result<(), AllocError>
+    requires whole { length piece.old % 512 ≡ 0 }
+    requires may { MayReadBy way mirror.old.array sector (length piece.old / 512) }
+    requires sound { IsConsistent mirror.old }
+    requires clear { IsClear missing.old sector }
+    ensures gives { MatchResult result
+        (λ _. FillsMore way sector piece.new missing.old missing.new mirror.old mirror.new)
+        (λ _. FillsUntilUnnoted way sector (length piece.old / 512) missing.old missing.new
+        mirror.old mirror.new) }
+    ensures sound { IsConsistent mirror.new }
+    ensures pending { (p : PendingView) → IsPending mirror.old.array p → IsPending mirror.new.array p }
+{
+    let sectors = piece.len() / 512;
+    let mut done = 0;
+    let mut most = sectors;
+    while done < sectors {
+        let end = done + most.min(sectors - done);
+        let at = sector + done as u64;
+        let filled = fill_front(mirror, way, at, &mut piece[512 * done..512 * end], missing)?;
+        done += filled.sectors;
+        most = filled.most;
+    }
+    Ok(())
+}
+
+// How many sectors were filled, and how many are to be asked for next.
+#[derive(Drop)]
+struct Filled {
+    sectors: usize,
+    most: usize,
+}
+
+// Fills the sectors at the front of these bytes: all that are given, or those before the first that is not and then that one.
+fn fill_front<D: Device + Drop>(
+    mirror: &mut Mirror<D>,
+    way: Way,
+    sector: u64,
+    bytes: &mut [u8],
+    missing: &mut BadSet,
+) -> Result<Filled, AllocError>
+    requires whole { length bytes.old % 512 ≡ 0 }
+    requires may { MayReadBy way mirror.old.array sector (length bytes.old / 512) }
+    requires sound { IsConsistent mirror.old }
+    requires clear { IsClear missing.old sector }
+    ensures gives { MatchResult result
+        (λ filled. FillsFront way sector filled.sectors bytes.new missing.old missing.new
+        mirror.old mirror.new)
+        (λ _. NotesNone way sector (length bytes.old / 512) missing.old missing.new
+        mirror.old mirror.new) }
+    ensures next { IfOk result (λ filled. 0 < filled.most) }
+    ensures sound { IsConsistent mirror.new }
+    ensures pending { (p : PendingView) → IsPending mirror.old.array p → IsPending mirror.new.array p }
+{
+    match read_by(mirror, way, sector, bytes) {
+        Ok(()) => {
+            let sectors = bytes.len() / 512;
+            Ok(Filled {
+                sectors,
+                most: 2 * sectors,
+            })
+        }
+        Err(unread) => {
+            missing.add(unread.sector, 1)?;
+            let given = (unread.sector - sector) as usize;
+            bytes[512 * given..512 * given + 512].fill(0);
+            Ok(Filled {
+                sectors: given + 1,
+                most: 1,
+            })
+        }
+    }
+}

@@ -1,0 +1,23 @@
+//! The command that reads an opened array: sectors of it are put out in pieces, which is all the memory that a read takes. A degraded
+//! array that is not resynced is resynced first, or read as it would be after that where no image may be changed; and where a
+//! sector is not given the read ends, or zeros stand in its place, and it is told which are missing. Why a read is refused is
+//! `CommandFault` of `md_commands`, which has the other commands on an opened array.
+//!
+//! Start with `read_array` in `reading.rt`: it chooses the way in which the sectors are read (`way.rt`), and puts them out
+//! piece by piece (`pieces.rt`; `filling.rt` with zeros). `laws` has what holds of all that is read so.
+//!
+//! ```
+//! read_array(alloc, &mut mirror, 8, 16, &mut out)?;
+//! let (missing, done) = read_array_filled(alloc, &mut mirror, 0, 32, true, &mut out);
+//! ```
+#![tactic(auto)]
+
+mod buffer;
+mod filling;
+pub mod laws;
+mod output;
+mod pieces;
+mod reading;
+mod way;
+
+pub use reading::{read_array, read_array_filled, read_array_readonly};

@@ -1,0 +1,238 @@
+// The command that reads an array.
+ghost use Rattle.std.specs.Prelude.{◌≡◌, ◌+◌, ◌^◌, ◌<◌, IfOk, MatchResult, [], false, true};
+ghost use Rattle.md_requests.specs.Pending.{PendingView};
+ghost use Rattle.md_state.specs.Requests.{IsPending};
+ghost use Rattle.md_array.specs.Consistency.{IsConsistent};
+ghost use Rattle.md_read_commands.specs.Filling.{FillsArray, IsFirstMissing, ReadsFilled, RefusesToFill};
+ghost use Rattle.md_read_commands.specs.Reading.{IsReadyTo, MayReadArray, ReadsArray, ReadsReadonly, RefusesRange, RefusesReadonly, RefusesReady, RefusesToRead};
+ghost use Rattle.md_read_commands.specs.Ways.{MayReadBy};
+
+use crate::filling::put_filled;
+use crate::pieces::put_sectors;
+use crate::way::Way;
+use md_array::Mirror;
+use md_badblocks::BadSet;
+use md_commands::{CommandFault, resync_if_needed};
+use md_device::Device;
+use md_examine::Sink;
+use md_read::UnreadFault;
+use std::alloc::Global;
+
+/// Puts out `count` sectors of an array, from this one on. A degraded array that is not resynced is resynced
+/// first. They are read and put out in pieces of 1 MiB, which is all the memory that they take.
+///
+/// That the mirror is halted, or the range empty or past the end, is looked for before anything else: that is
+/// `Read` with `Halted` or `OutOfRange`. That members in sync may differ, which is `Read` with `NotResynced`, is
+/// looked for before memory is taken.
+///
+/// `Read` with `Unreadable` comes while sectors are read. Of a range of one piece nothing has been put out then, of
+/// a longer one the sectors before the unreadable one.
+///
+///     let mut out = Output::new(rt.stdout());
+///     read_array(rt.alloc(), &mut mirror, 8, 2, &mut out)?; // puts out the 1024 bytes of sectors 8 and 9
+pub fn read_array<D: Device + Drop, S: Sink>(
+    alloc: Global,
+    mirror: &mut Mirror<D>,
+    sector: u64,
+    count: u64,
+    out: &mut S,
+) -> Result<(), CommandFault>
+    requires sound { IsConsistent mirror.old }
+    ensures gives { MatchResult result
+        (λ _. ReadsArray S.Sink sector count mirror.old mirror.new out.old out.new)
+        (RefusesToRead S.Sink sector count mirror.old mirror.new out.old out.new) }
+    ensures sound { IsConsistent mirror.new }
+    ensures pending { (p : PendingView) → IsPending mirror.old.array p → IsPending mirror.new.array p }
+{
+    let way = make_ready(alloc, mirror, sector, count)?;
+    put_sectors(alloc, mirror, way, sector, count, out)
+}
+
+/// Puts out `count` sectors of an array, from this one on, and writes nothing. Where `read_array` would resync first the array is
+/// read as it would be after that: each sector of a marked chunk comes from the member that a resync copies it from.
+/// They are read and put out in pieces of 1 MiB, which is all the memory that they take.
+///
+/// `Resync` with `ReadFault` says that such a member could not be read at a sector of the range. It comes while sectors are read,
+/// as `Read` with `Unreadable` does: of a range of one piece nothing has been put out then, of a longer one the sectors
+/// before. All other refusals are those of `read_array`, in the same order.
+///
+///     let mut out = Output::new(rt.stdout());
+///     read_array_readonly(rt.alloc(), &mut mirror, 8, 2, &mut out)?; // puts out the 1024 bytes of sectors 8 and 9
+pub fn read_array_readonly<D: Device + Drop, S: Sink>(
+    alloc: Global,
+    mirror: &mut Mirror<D>,
+    sector: u64,
+    count: u64,
+    out: &mut S,
+) -> Result<(), CommandFault>
+    requires sound { IsConsistent mirror.old }
+    ensures gives { MatchResult result
+        (λ _. ReadsReadonly S.Sink sector count mirror.old mirror.new out.old out.new)
+        (RefusesReadonly S.Sink sector count mirror.old mirror.new out.old out.new) }
+    ensures sound { IsConsistent mirror.new }
+    ensures pending { (p : PendingView) → IsPending mirror.old.array p → IsPending mirror.new.array p }
+{
+    let way = way_as_it_is(mirror, sector, count)?;
+    put_sectors(alloc, mirror, way, sector, count, out)
+}
+
+/// Puts out `count` sectors of an array, from this one on, as `read_array` does or, where no image may be changed, as
+/// `read_array_readonly`. But a sector at which these would end, for whichever reason, does not end it: zeros are put out in its
+/// place. Where all sectors are put out, those that are missing so come back.
+///
+/// `Read` with `Unreadable` says that there are some, and which is the first. All sectors are put out then.
+///
+/// `NoPieceMemory` may also come after some were put out: each run of missing sectors takes memory.
+///
+///     let mut out = Output::new(rt.stdout());
+///     let (missing, done) = read_array_filled(rt.alloc(), &mut mirror, 8, 2, true, &mut out); // puts out 1024 bytes
+pub fn read_array_filled<D: Device + Drop, S: Sink>(
+    alloc: Global,
+    mirror: &mut Mirror<D>,
+    sector: u64,
+    count: u64,
+    readonly: bool,
+    out: &mut S,
+) -> (Option<BadSet>, Result<(), CommandFault>)
+    requires sound { IsConsistent mirror.old }
+    ensures gives { ReadsFilled S.Sink readonly sector count mirror.old mirror.new
+        out.old out.new result.0 result.1 }
+    ensures sound { IsConsistent mirror.new }
+    ensures pending { (p : PendingView) → IsPending mirror.old.array p → IsPending mirror.new.array p }
+{
+    let mut missing = BadSet::new(alloc);
+    match fill_array(alloc, mirror, sector, count, readonly, &mut missing, out) {
+        Ok(()) => (Some(missing), Ok(())),
+        Err(CommandFault::Read(UnreadFault::Unreadable(s))) => {
+            let fault = CommandFault::Read(UnreadFault::Unreadable(s));
+            (Some(missing), Err(fault))
+        }
+        Err(fault) => (None, Err(fault)),
+    }
+}
+
+// Puts out sectors with zeros in the place of those that are not given. Which these are is noted, also where
+// not all sectors are put out.
+fn fill_array<D: Device + Drop, S: Sink>(
+    alloc: Global,
+    mirror: &mut Mirror<D>,
+    sector: u64,
+    count: u64,
+    readonly: bool,
+    missing: &mut BadSet,
+    out: &mut S,
+) -> Result<(), CommandFault>
+    requires none { missing.old ≡ [] }
+    requires sound { IsConsistent mirror.old }
+    ensures gives { MatchResult result
+        (λ _. FillsArray S.Sink readonly sector count missing.new mirror.old mirror.new out.old out.new)
+        (RefusesToFill S.Sink readonly sector count missing.new mirror.old mirror.new out.old out.new) }
+    ensures sound { IsConsistent mirror.new }
+    ensures pending { (p : PendingView) → IsPending mirror.old.array p → IsPending mirror.new.array p }
+{
+    let way = ready(alloc, mirror, sector, count, readonly)?;
+    put_filled(alloc, mirror, way, sector, count, missing, out)?;
+    first_missing(missing).map_err(CommandFault::Read)?;
+    Ok(())
+}
+
+// Says which sector is the first that is missing, if one is.
+fn first_missing(missing: &BadSet) -> Result<(), UnreadFault>
+    ensures { MatchResult result (λ _. missing.now ≡ []) (IsFirstMissing missing.now) }
+{
+    match missing.runs().first() {
+        Some(run) => Err(UnreadFault::Unreadable(run.start)),
+        None => Ok(()),
+    }
+}
+
+// Makes an array ready to be read, or only looks how it can be read as it is.
+fn ready<D: Device + Drop>(
+    alloc: Global,
+    mirror: &mut Mirror<D>,
+    sector: u64,
+    count: u64,
+    readonly: bool,
+) -> Result<Way, CommandFault>
+    requires sound { IsConsistent mirror.old }
+    ensures gives { MatchResult result
+        (λ way. IsReadyTo readonly sector count mirror.old way mirror.new)
+        (RefusesReady readonly sector count mirror.old mirror.new) }
+    ensures may { IfOk result (λ way. MayReadBy way mirror.new.array sector count) }
+    ensures fits { IfOk result (λ _. sector + count < 2 ^ 64) }
+    ensures sound { IsConsistent mirror.new }
+    ensures pending { (p : PendingView) → IsPending mirror.old.array p → IsPending mirror.new.array p }
+{
+    if readonly {
+        way_as_it_is(mirror, sector, count)
+    } else {
+        make_ready(alloc, mirror, sector, count)
+    }
+}
+
+// Resyncs an array whose sectors can't be read before.
+fn make_ready<D: Device + Drop>(
+    alloc: Global,
+    mirror: &mut Mirror<D>,
+    sector: u64,
+    count: u64,
+) -> Result<Way, CommandFault>
+    requires sound { IsConsistent mirror.old }
+    ensures gives { MatchResult result
+        (λ way. IsReadyTo false sector count mirror.old way mirror.new)
+        (RefusesReady false sector count mirror.old mirror.new) }
+    ensures may { IfOk result (λ way. MayReadBy way mirror.new.array sector count) }
+    ensures fits { IfOk result (λ _. sector + count < 2 ^ 64) }
+    ensures sound { IsConsistent mirror.new }
+    ensures pending { (p : PendingView) → IsPending mirror.old.array p → IsPending mirror.new.array p }
+{
+    check_range(mirror, sector, count).map_err(CommandFault::Read)?;
+    resync_if_needed(alloc, mirror).map_err(CommandFault::Resync)?;
+    if !mirror.resynced() {
+        return Err(CommandFault::Read(UnreadFault::NotResynced));
+    }
+    Ok(Way::Resynced)
+}
+
+// How an array is read that may not be resynced before.
+fn way_as_it_is<D: Device + Drop>(
+    mirror: &Mirror<D>,
+    sector: u64,
+    count: u64,
+) -> Result<Way, CommandFault>
+    ensures gives { MatchResult result
+        (λ way. IsReadyTo true sector count mirror.now way mirror.now)
+        (RefusesReady true sector count mirror.now mirror.now) }
+    ensures may { IfOk result (λ way. MayReadBy way mirror.now.array sector count) }
+    ensures fits { IfOk result (λ _. sector + count < 2 ^ 64) }
+{
+    check_range(mirror, sector, count).map_err(CommandFault::Read)?;
+    if mirror.resynced() {
+        return Ok(Way::Resynced);
+    }
+    if !mirror.degraded() {
+        return Err(CommandFault::Read(UnreadFault::NotResynced));
+    }
+    Ok(Way::Unresynced)
+}
+
+// Whether the mirror runs, and the array has these sectors.
+fn check_range<D: Device + Drop>(
+    mirror: &Mirror<D>,
+    sector: u64,
+    count: u64,
+) -> Result<(), UnreadFault>
+    ensures may { MatchResult result
+        (λ _. MayReadArray mirror.now.array sector count)
+        (RefusesRange sector count mirror.now mirror.now) }
+    ensures fits { IfOk result (λ _. sector + count < 2 ^ 64) }
+{
+    if mirror.halted() {
+        return Err(UnreadFault::Halted);
+    }
+    let size = mirror.chunks().size;
+    if count == 0 || count > size || sector > size - count {
+        return Err(UnreadFault::OutOfRange);
+    }
+    Ok(())
+}
