@@ -15,7 +15,7 @@ pub mod Listings
 -- A rebuild by its steps: how it begins, and what it answers.
 pub mod Steps
 -- What a rebuild that is done makes of its target.
-pub mod Rebuilt
+pub mod Done
 -- A rebuild as a list of events.
 pub mod Leads
 -- What stands after a rebuild that is refused.

@@ -31,7 +31,7 @@ use Rattle.md_laws.proofs.Runs.MirrorContents.{IsHeldAt, life_held_at}
 use Rattle.md_copy.specs.declared.rebuilt.Rebuilt.{Rebuilt}
 use Rattle.md_copy.specs.Rebuilding.{BeginsRebuild, Rebuilds}
 use Rattle.md_copy.specs.Rebuilt.{HasRebuilt, IsBesideCopied, IsRebuilt}
-use Rattle.md_copy.proofs.Rebuilt.RebuiltByCall.{has_rebuilt}
+use Rattle.md_copy.proofs.Done.RebuiltByCall.{has_rebuilt}
 use Rattle.md_rebuild_laws.specs.RebuiltInLife.{CopiesContent, HeldWhatItHad, RebuildsContent}
 use Rattle.md_rebuild_laws.proofs.HeldOnDisks.{has_content}
 

@@ -52,7 +52,7 @@ use Rattle.md_copy.specs.Storing.{StoresFirst}
 use Rattle.md_copy.proofs.Stored.CheckpointDone.{checkpoint_done}
 use Rattle.md_copy.proofs.Passing.PassesTold.{HoldsSoFar, begins_holding, chain_holds, listed_holds}
 use Rattle.md_copy.proofs.Ready.Readied.{ready_of}
-use Rattle.md_copy.proofs.Rebuilt.RebuiltByCall.{IsLast, last_of}
+use Rattle.md_copy.proofs.Done.RebuiltByCall.{IsLast, last_of}
 
 -- ---- kinds of events
 pub storing_before : (target : ℕ) (e : Event) → IsStoring e → IsBeforeEnrol target e

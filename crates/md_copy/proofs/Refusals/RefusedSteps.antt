@@ -44,7 +44,7 @@ use Rattle.md_copy.proofs.Ready.ReadyStill.{storing_states}
 use Rattle.md_copy.proofs.Refusals.Refused.{GrowsSo, IsSameOrLost, KeepsRest, Lasts, Preserves, StaysTarget, lasts_none, preserves_rest, preserves_started, rest_alone, rest_none, rest_on, rest_stored, rest_super, target_same}
 use Rattle.md_copy.proofs.Ready.StartedAs.{IsAs, StartsAs, starts_on}
 use Rattle.md_copy.proofs.Ready.StartsReadied.{starts_admitted, starts_of, starts_stored}
-use Rattle.md_copy.proofs.Rebuilt.StatesKept.{WasSo, so_admitted, so_readied, so_stored}
+use Rattle.md_copy.proofs.Done.StatesKept.{WasSo, so_admitted, so_readied, so_stored}
 use Rattle.md_copy.proofs.Stored.StoringKeeps.{places_of, storing_keeps}
 
 -- the target's state and its offset are what they were

@@ -8,7 +8,7 @@ use Rattle.md_copy.specs.declared.rebuilt.Rebuilt.{Rebuilt}
 use Rattle.md_copy.specs.Rebuilding.{Rebuilds, RefusesRebuild}
 use Rattle.md_copy.specs.Rebuilt.{HasRebuilt}
 use Rattle.md_copy.specs.Refused.{HasEnded}
-use Rattle.md_copy.proofs.Rebuilt.RebuiltByCall.{has_rebuilt}
+use Rattle.md_copy.proofs.Done.RebuiltByCall.{has_rebuilt}
 use Rattle.md_copy.proofs.Refusals.RefusedPasses.{refused_ended}
 
 pub rebuilt_of : (target : ℕ) (old new : MirrorView) (r : Result Rebuilt RebuildFault) → MatchResult r (λ told. Rebuilds target told old new) (RefusesRebuild target old new)

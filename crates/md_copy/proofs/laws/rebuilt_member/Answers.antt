@@ -1,4 +1,4 @@
-use Rattle.md_copy.proofs.Rebuilt.RebuiltByCall.{rebuilt_member}
+use Rattle.md_copy.proofs.Done.RebuiltByCall.{rebuilt_member}
 use Rattle.md_copy.proofs.laws.rebuilt_member.Goals as goal
 
 pub returns : goal.returns

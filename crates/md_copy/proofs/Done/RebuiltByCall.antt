@@ -27,10 +27,10 @@ use Rattle.md_copy.proofs.Ready.BegunAs.{permits_both, same_missing, serves_both
 use Rattle.md_copy.proofs.Listings.ListsKept.{own_stored_so, stored_so}
 use Rattle.md_copy.proofs.Passing.PassesTold.{HoldsSoFar, begins_holding}
 use Rattle.md_copy.proofs.Ready.Readied.{ready_of}
-use Rattle.md_copy.proofs.Rebuilt.RebuiltMember.{all_so, copied_so, counted_so, in_sync_now, lists_so, now_there, passes_so, rebuilt_so}
+use Rattle.md_copy.proofs.Done.RebuiltMember.{all_so, copied_so, counted_so, in_sync_now, lists_so, now_there, passes_so, rebuilt_so}
 use Rattle.md_copy.proofs.Ready.StartedAs.{IsAs, StartsAs, rebuilt_from}
 use Rattle.md_copy.proofs.Ready.StartsReadied.{starts_of}
-use Rattle.md_copy.proofs.Rebuilt.StatesKept.{so_readied, state_so}
+use Rattle.md_copy.proofs.Done.StatesKept.{so_readied, state_so}
 use Rattle.md_copy.proofs.Stored.StoringKeeps.{KeepsAll, keeps_none, settles_keep}
 
 -- ---- the end of the call, or what came right before a write that halted the mirror
