@@ -3,7 +3,7 @@ ghost use Rattle.std.specs.Prelude.{◌≡◌, ◌^◌, ◌≤◌, length, IfOk}
 
 use crate::shape::{NAMED, Shape, mask_of, scramble};
 use md_cert::{NoMemory, Table, Verdict, check};
-use md_plan::plan;
+use md_plan::{Planned, plan};
 use std::alloc::Global;
 use std::time::Instant;
 
@@ -42,22 +42,36 @@ fn time(rt: &HostRuntime, name: &str, shape: Shape, chunks: u32, passes: u32) ->
     let mut plan_time = u128::MAX;
     let mut check_time = u128::MAX;
     for pass in 0..passes {
-        let start = Instant::now(rt)?;
-        let planned = plan(rt.alloc(), &table)?;
-        plan_time = plan_time.min(start.elapsed(rt)?.as_nanos());
-        let rounds = planned.plan.rounds;
-        let mut lent = vec![in rt.alloc(); 0u32; rounds as usize]?;
-        let start = Instant::now(rt)?;
-        let verdict = check(&table, &planned.plan, &planned.certificate, &mut lent);
-        check_time = check_time.min(start.elapsed(rt)?.as_nanos());
+        let (planned, taken) = time_plan(rt, &table)?;
+        plan_time = plan_time.min(taken);
+        let (accepted, taken) = time_check(rt, &table, &planned)?;
+        check_time = check_time.min(taken);
         if pass == 0 {
+            let rounds = planned.plan.rounds;
             let shown = planned.certificate.chunks.as_slice().len();
-            let accepted = verdict == Verdict::Yes;
             println!(rt; "{name} rounds {rounds} certificate {shown} accepted {accepted}")?;
         }
     }
     eprintln!(rt; "{name} plan {plan_time} check {check_time}")?;
     Ok(())
+}
+
+// Plans a table, and says in how many nanoseconds.
+fn time_plan(rt: &HostRuntime, table: &Table) -> anyhow::Result<(Planned, u128)>
+    requires { length table.now ≤ 2 ^ 20 }
+{
+    let start = Instant::now(rt)?;
+    let planned = plan(rt.alloc(), table)?;
+    Ok((planned, start.elapsed(rt)?.as_nanos()))
+}
+
+// Whether the checker accepts a plan, and in how many nanoseconds it says so.
+fn time_check(rt: &HostRuntime, table: &Table, planned: &Planned) -> anyhow::Result<(bool, u128)> {
+    let mut lent = vec![in rt.alloc(); 0u32; planned.plan.rounds as usize]?;
+    let start = Instant::now(rt)?;
+    let verdict = check(table, &planned.plan, &planned.certificate, &mut lent);
+    let taken = start.elapsed(rt)?.as_nanos();
+    Ok((verdict == Verdict::Yes, taken))
 }
 
 // A table of one shape.
