@@ -123,8 +123,9 @@ ANSWERS = {
     "md_read_commands::read_array_readonly": "read --readonly",
 }
 
-# These take no memory: one says so where a count is spent, and one gives a list of faults, which may be that a decoding found none.
-TAKES_NONE = {"md_crash_device::Fuse::share", "md_raw_reports::super_faults_of"}
+# These take no memory: one says so where a count is spent, one gives a list of faults, which may be that a decoding found none, and of one
+# the contract excludes that fault.
+TAKES_NONE = {"md_crash_device::Fuse::share", "md_raw_reports::super_faults_of", "md_rebuild_table::check_rebuild"}
 
 NOT_SHIPPED = re.compile(r"(.*_tests|example_members|bench_parts|mdcli)$")
 TYPE = re.compile(r"^pub (?:enum|struct) (\w+)[^;{]*\{(.*?)^\}", re.M | re.S)
