@@ -17,7 +17,7 @@ module _ (sector : ℕ) (was bytes : List ℕ) (old new : MirrorView) where
   pub tries_rests : (told : SourceAnswer) → TriesSource sector was bytes old new told → Rests old new
   tries_rests answer.All (rests, given) = rests
   tries_rests answer.Nothing (rests, lists) = rests
-  tries_rests (answer.Failed k) (rests, source, failed) = rests
+  tries_rests (answer.Failed k) (rests, one, source, failed) = rests
   tries_rests answer.Several (rests, several) = rests
 
   pub all_given : length bytes ≡ length was → length was % 512 ≡ 0 → AllFrom sector (length was / 512) (IsSectorMarked old.array) → TriesSource sector was bytes old new answer.All
@@ -35,7 +35,7 @@ module _ (sector : ℕ) (was bytes : List ℕ) (old new : MirrorView) where
   nothing_given some marked (rests, lists) = record { rests = rests; ends = (refl, inl (marked, lists sector (omega arith) (omega arith))) }
 
   pub source_failed : (k : ℕ) → 0 < length was / 512 → IsSectorMarked old.array sector → TriesSource sector was bytes old new (answer.Failed k) → GivesNoPart sector old new (fault.ReadFault k sector)
-  source_failed k some marked (rests, source, failed) = record {
+  source_failed k some marked (rests, one, source, failed) = record {
     rests = rests;
     ends = (refl, record { marked = marked; source = source sector (omega arith) (omega arith); failed = failed });
   }

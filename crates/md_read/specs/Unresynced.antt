@@ -123,12 +123,13 @@ IsSourceOfSectors sector sectors a source.Several = 1 < sectors
 abbrev pub IsListedIn : ℕ → ℕ → ArrayView → Type 0
 IsListedIn role s a = (k : ℕ) (m : MemberView) → IsMember a k m → is_in_sync_as role m.state ≡ true → Lists m s
 
+-- Only of one sector alone a failed read says that the source does not give it: of several that were read at once some may be given yet.
 abbrev pub TriesSource : ℕ → List ℕ → List ℕ → MirrorView → MirrorView → SourceAnswer → Type 0
 TriesSource sector was bytes old new answer.All =
     Rests old new × ((from : ℕ) × AllFrom sector (length was / 512) (λ s. IsSource from s old.array) × HoldsData old from sector bytes)
 TriesSource sector was bytes old new answer.Nothing = Rests old new × AllFrom sector (length was / 512) (λ s. AllInSync old.array (λ m. Lists m s))
 TriesSource sector was bytes old new (answer.Failed k) =
-    Rests old new × AllFrom sector (length was / 512) (λ s. IsSource k s old.array) × HasReadFailed k old new
+    Rests old new × (length was / 512 ≡ 1) × AllFrom sector (length was / 512) (λ s. IsSource k s old.array) × HasReadFailed k old new
 TriesSource sector was bytes old new answer.Several = Rests old new × (1 < length was / 512)
 
 -- ---- the front of a part

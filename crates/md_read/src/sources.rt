@@ -26,9 +26,9 @@ pub(crate) enum SourceAnswer {
     All,
     /// There is none: all members in sync list all of them.
     Nothing,
-    /// It is this one, and a read of them failed.
+    /// There is one sector alone. It is this member, and a read of it failed.
     Failed(usize),
-    /// It is not the same for all of them.
+    /// There are several, and it is not the same for all of them, or a read of them failed: of fewer it may give some.
     Several,
 }
 
@@ -52,7 +52,7 @@ fn source_of<D: Device + Drop>(mirror: &Mirror<D>, sector: u64, sectors: u64) ->
     Source::Nobody
 }
 
-// Reads these sectors from it.
+// Reads these sectors from it. Where a read of several failed, the first of them may be given yet.
 fn read_source<D: Device + Drop>(
     mirror: &mut Mirror<D>,
     sector: u64,
@@ -64,12 +64,18 @@ fn read_source<D: Device + Drop>(
     requires sound { IsConsistent mirror.old }
     ensures { TriesSource sector buf.old buf.new mirror.old mirror.new result }
 {
-    match source_of(mirror, sector, buf.len() as u64 / 512) {
+    let sectors = buf.len() as u64 / 512;
+    match source_of(mirror, sector, sectors) {
         Source::Nobody => SourceAnswer::Nothing,
         Source::Several => SourceAnswer::Several,
         Source::Member(k) => match mirror.read_data(k, sector, buf) {
             Ok(()) => SourceAnswer::All,
-            Err(_) => SourceAnswer::Failed(k),
+            Err(_) => {
+                if sectors == 1 {
+                    return SourceAnswer::Failed(k);
+                }
+                SourceAnswer::Several
+            }
         },
     }
 }
@@ -92,13 +98,8 @@ pub(crate) fn read_marked<D: Device + Drop>(
     match read_source(mirror, sector, buf) {
         SourceAnswer::All => Ok(sectors),
         SourceAnswer::Nothing => Err(UnresyncedFault::Unreadable(sector)),
+        SourceAnswer::Failed(k) => Err(UnresyncedFault::ReadFault(k, sector)),
         SourceAnswer::Several => read_first(mirror, sector, buf),
-        SourceAnswer::Failed(k) => {
-            if sectors == 1 {
-                return Err(UnresyncedFault::ReadFault(k, sector));
-            }
-            read_first(mirror, sector, buf)
-        }
     }
 }
 

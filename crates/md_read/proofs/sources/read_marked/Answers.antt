@@ -9,12 +9,6 @@ read_first-requires-clause-sound g c =
     let mid = c.read_source.new.mirror in
     rests_sound old mid (tries_rests c.args.sector c.args.buf.now c.read_source.new.buf old mid c.read_source.result c.read_source.ensures) c.requires.sound
 
-pub read_first-requires-in-Failed-clause-sound : goal.read_first-requires-in-Failed-clause-sound
-read_first-requires-in-Failed-clause-sound g c =
-    let old = c.args.mirror.now in
-    let mid = c.read_source.new.mirror in
-    rests_sound old mid (tries_rests c.args.sector c.args.buf.now c.read_source.new.buf old mid c.read_source.result c.read_source.ensures) c.requires.sound
-
 pub returns-in-All : goal.returns-in-All
 returns-in-All g c =
     let old = c.args.mirror.now in
@@ -25,8 +19,8 @@ returns-in-All g c =
     front_whole c.args.sector was bytes old new long c.requires.some c.requires.whole
     (all_given c.args.sector was bytes old new long c.requires.whole c.requires.marked c.in-All.ensures)
 
-pub returns-then-sectors-eq1 : goal.returns-then-sectors-eq1
-returns-then-sectors-eq1 g c =
+pub returns-in-Failed : goal.returns-in-Failed
+returns-in-Failed g c =
     let some = c.requires.some in
     let here : 0 < length c.args.buf.now / 512 = omega arith in
     source_failed c.args.sector c.args.buf.now c.read_source.new.buf c.args.mirror.now c.read_source.new.mirror c.in-Failed.k here (c.requires.marked c.args.sector (omega arith) (omega arith)) c.in-Failed.ensures
@@ -37,11 +31,3 @@ returns-in-Several g c =
     let mid = c.read_source.new.mirror in
     let rests = tries_rests c.args.sector c.args.buf.now c.read_source.new.buf old mid c.read_source.result c.read_source.ensures in
     front_earlier c.args.sector c.args.buf.now c.read_source.new.buf c.read_first.new.buf old mid c.read_first.new.mirror rests c.read_source.auto.buf c.read_first.result c.read_first.ensures
-
-pub returns-else-sectors-eq1 : goal.returns-else-sectors-eq1
-returns-else-sectors-eq1 g c =
-    let old = c.args.mirror.now in
-    let mid = c.read_source.new.mirror in
-    let first = c.read_first-in-Failed in
-    let rests = tries_rests c.args.sector c.args.buf.now c.read_source.new.buf old mid c.read_source.result c.read_source.ensures in
-    front_earlier c.args.sector c.args.buf.now c.read_source.new.buf first.new.buf old mid first.new.mirror rests c.read_source.auto.buf first.result first.ensures
