@@ -9,12 +9,13 @@ use Rattle.md_commands.specs.declared.source.Source.{Ghosts as SourceGhosts}
 use Rattle.md_commands.specs.Output.{FailsOutput, PutsOut}
 use Rattle.md_commands.specs.ReadingInput.{IsInput}
 use Rattle.md_commands.specs.Stopping.{StopsAfter}
+use Rattle.md_commands.specs.ToldLength.{MayBeRead}
 use Rattle.md_commands.specs.Writing.{RefusesToWrite, WritesArray, WritesReadied}
 
 pub written_or_not : {I S : Type 0} (i : SourceGhosts I) (s : SinkGhosts S) (sector : ℕ) (old new : MirrorView) (input rest : I) (before after : S) (bytes : List ℕ)
-    → IsInput i old.array.chunks.size input rest bytes → StopsAfter (WritesReadied sector bytes old) new
+    → MayBeRead old.array sector (i.told input) → IsInput i old.array.chunks.size input rest bytes → StopsAfter (WritesReadied sector bytes old) new
     → (result : Result (Unit {0}) CommandFault) → MatchResult result (λ _. PutsOut s before after (summary_text new.array)) (FailsOutput s after)
     → MatchResult result (λ _. WritesArray i s sector old new input rest before after) (RefusesToWrite i s sector old new input rest before after)
-written_or_not i s sector old new input rest before after bytes is done (Ok x) shown = record { bytes = bytes; is = is; done = done; shown = shown }
-written_or_not i s sector old new input rest before after bytes is done (Err fault) fails =
-    subst (λ (f : CommandFault). RefusesToWrite i s sector old new input rest before after f) (sym fails.is) (record { bytes = bytes; is = is; done = done; failed = fails.failed })
+written_or_not i s sector old new input rest before after bytes may is done (Ok x) shown = record { may = may; bytes = bytes; is = is; done = done; shown = shown }
+written_or_not i s sector old new input rest before after bytes may is done (Err fault) fails =
+    subst (λ (f : CommandFault). RefusesToWrite i s sector old new input rest before after f) (sym fails.is) (record { may = may; bytes = bytes; is = is; done = done; failed = fails.failed })

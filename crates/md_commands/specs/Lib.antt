@@ -28,5 +28,7 @@ pub mod Resyncing
 pub mod Source
 -- The command that stops an array.
 pub mod Stopping
+-- The length of an input that is told before it is read.
+pub mod ToldLength
 -- The command that writes to an array.
 pub mod Writing

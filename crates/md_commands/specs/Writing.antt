@@ -14,6 +14,7 @@ use Rattle.md_commands.specs.Output.{PutsOut}
 use Rattle.md_commands.specs.ReadingInput.{IsInput, RefusesInput}
 use Rattle.md_commands.specs.Resyncing.{RefusesNeededResync, ResyncsIfNeeded}
 use Rattle.md_commands.specs.Stopping.{FailsToStop, StopsAfter}
+use Rattle.md_commands.specs.ToldLength.{MayBeRead, RefusesTold}
 
 -- the array is resynced where it has to be, and then the bytes are written
 pub record WritesReadied (sector : ℕ) (bytes : List ℕ) (old new : MirrorView) : Type 0 where
@@ -38,6 +39,7 @@ module _ {I S : Type 0} (i : SourceGhosts I) (s : SinkGhosts S) (sector : ℕ) (
     (input rest : I) (before after : S) where
   -- all of the input is written, the array is stopped, and then shown
   pub record WritesArray : Type 0 where
+    pub may : MayBeRead old.array sector (i.told input)
     pub bytes : List ℕ
     pub is : IsInput i old.array.chunks.size input rest bytes
     pub done : StopsAfter (WritesReadied sector bytes old) new
@@ -50,9 +52,18 @@ module _ {I S : Type 0} (i : SourceGhosts I) (s : SinkGhosts S) (sector : ℕ) (
     pub unread : rest ≡ input
     pub unwritten : after ≡ before
 
-  -- the input is refused, and nothing else is done
+  -- the input is refused for the length that is told of it, and nothing is done: it is not read
+  pub record RefusesToldInput (fault : CommandFault) : Type 0 where
+    pub running : old.array.halted ≡ false
+    pub refused : RefusesTold old.array sector (i.told input) fault
+    pub unchanged : new ≡ old
+    pub unread : rest ≡ input
+    pub unwritten : after ≡ before
+
+  -- the input is read and refused, and nothing else is done
   pub record RefusesAnyInput (fault : CommandFault) : Type 0 where
     pub running : old.array.halted ≡ false
+    pub may : MayBeRead old.array sector (i.told input)
     pub refused : RefusesInput i old.array.chunks.size input rest fault
     pub unchanged : new ≡ old
     pub unwritten : after ≡ before
@@ -60,6 +71,7 @@ module _ {I S : Type 0} (i : SourceGhosts I) (s : SinkGhosts S) (sector : ℕ) (
   -- its bytes are not written, or the array is not stopped
   pub record RefusesItsBytes (fault : CommandFault) : Type 0 where
     pub running : old.array.halted ≡ false
+    pub may : MayBeRead old.array sector (i.told input)
     pub bytes : List ℕ
     pub is : IsInput i old.array.chunks.size input rest bytes
     pub refused : RefusesBytes sector bytes old new fault
@@ -67,6 +79,7 @@ module _ {I S : Type 0} (i : SourceGhosts I) (s : SinkGhosts S) (sector : ℕ) (
 
   -- all is done, and the output failed
   pub record WritesInVain : Type 0 where
+    pub may : MayBeRead old.array sector (i.told input)
     pub bytes : List ℕ
     pub is : IsInput i old.array.chunks.size input rest bytes
     pub done : StopsAfter (WritesReadied sector bytes old) new
@@ -75,10 +88,11 @@ module _ {I S : Type 0} (i : SourceGhosts I) (s : SinkGhosts S) (sector : ℕ) (
   abbrev pub RefusesToWrite : CommandFault → Type 0
   RefusesToWrite InputFault = RefusesAnyInput InputFault
   RefusesToWrite NoPieceMemory = RefusesAnyInput NoPieceMemory
-  RefusesToWrite OutOfRange = RefusesAnyInput OutOfRange
-  RefusesToWrite BadLength = RefusesAnyInput BadLength
+  RefusesToWrite OutOfRange = RefusesToldInput OutOfRange ⊎ RefusesAnyInput OutOfRange
+  RefusesToWrite BadLength = RefusesToldInput BadLength ⊎ RefusesAnyInput BadLength
   RefusesToWrite (Resync fault) = RefusesItsBytes (Resync fault)
-  RefusesToWrite (Write fault) = RefusesUnread fault ⊎ RefusesItsBytes (Write fault)
+  RefusesToWrite (Write fault) =
+      RefusesUnread fault ⊎ RefusesToldInput (Write fault) ⊎ RefusesItsBytes (Write fault)
   RefusesToWrite (Stop fault) = RefusesItsBytes (Stop fault)
   RefusesToWrite OutputFault = WritesInVain
   RefusesToWrite fault = ⊥

@@ -20,7 +20,7 @@ pub(crate) fn whole_input<I: Source>(
         (RefusesInput I.Source size input.old input.new) }
 {
     let bytes = read_input(alloc, input, size)?;
-    check_length(bytes.len(), size)?;
+    check_length(bytes.len() as u64, size)?;
     Ok(bytes)
 }
 
@@ -82,11 +82,11 @@ fn append_piece<I: Source>(
     Ok(taken)
 }
 
-// Whether so many bytes are whole sectors, and no more than an array of so many sectors has.
-fn check_length(len: usize, size: u64) -> Result<(), CommandFault>
+/// Whether so many bytes are whole sectors, and no more than an array of so many sectors has.
+pub(crate) fn check_length(len: u64, size: u64) -> Result<(), CommandFault>
     ensures { MatchResult result (λ _. HasGoodLength size len) (RefusesLength size len) }
 {
-    let sectors = len as u64 / 512;
+    let sectors = len / 512;
     let rest = len % 512;
     if sectors > size || (sectors == size && rest > 0) {
         return Err(CommandFault::OutOfRange);

@@ -29,6 +29,7 @@ mod resyncing;
 mod showing;
 mod source;
 mod stopping;
+mod told_length;
 mod watch;
 mod writing;
 

@@ -1,5 +1,5 @@
 // Where the bytes to be written come from.
-ghost use Rattle.std.specs.Prelude.{Bool, List, Option, ℕ};
+ghost use Rattle.std.specs.Prelude.{◌≡◌, Bool, List, Option, ℕ};
 ghost use Rattle.md_commands.specs.Source.{GivesOrFails};
 
 use std::io::{Error as IoError, ErrorKind, Read};
@@ -19,10 +19,18 @@ pub trait Source {
     /// Whether a call has failed.
     ghost failed: { Self → Bool };
 
+    /// How many bytes are still to come, where that is told before they are read.
+    ghost told: { Self → Option ℕ };
+
     /// Fills the front of `buf` with the next bytes, and answers how many they are, or fails. No byte comes
     /// only at the end of the source, or where `buf` is empty.
     fn take(&mut self, buf: &mut [u8]) -> Result<usize, SourceFault>
         ensures { GivesOrFails remaining failed self.old self.new buf.new result };
+
+    /// How many bytes are still to come, where that is told before they are read, as of a file. What must be refused for its
+    /// length need not be read then.
+    fn bytes_left(&self) -> Option<u64>
+        ensures { result ≡ told self.now };
 }
 
 /// A reader of std as a source. It has failed where the reader answered an error once, but for one that says
@@ -31,20 +39,32 @@ pub trait Source {
 pub struct Input<R> {
     reader: R,
     failed: bool,
+    told: Option<u64>,
 }
 
 impl<R> Input<R> {
-    ghost use Rattle.std.specs.Prelude.{◌≡◌, false};
-    ghost use Rattle.md_commands.specs.Input.{input_has_failed, reader_of};
+    ghost use Rattle.std.specs.Prelude.{◌≡◌, None, false};
+    ghost use Rattle.md_commands.specs.Input.{input_has_failed, reader_of, told_of};
 
-    /// A source that has not failed. It takes no memory.
+    /// A source that has not failed, of a length that nobody tells. It takes no memory.
     pub fn new(reader: R) -> Input<R>
         ensures reader { reader_of result ≡ reader }
         ensures well { input_has_failed result ≡ false }
+        ensures untold { told_of result ≡ None }
+    {
+        Input::of_length(reader, None)
+    }
+
+    /// The same, where the caller tells how many bytes the reader has still to give, if that is known.
+    pub fn of_length(reader: R, told: Option<u64>) -> Input<R>
+        ensures reader { reader_of result ≡ reader }
+        ensures well { input_has_failed result ≡ false }
+        ensures told { told_of result ≡ told }
     {
         Input {
             reader,
             failed: false,
+            told,
         }
     }
 
@@ -61,7 +81,11 @@ impl<R: Read> Source for Input<R> {
 
     ghost failed = { λ i. i.failed };
 
+    ghost told = { λ i. i.told };
+
     fn take(&mut self, buf: &mut [u8]) -> Result<usize, SourceFault> {
+        // It was told of all that was to come.
+        self.told = None;
         for _ in 0..u64::MAX {
             match self.reader.read(buf) {
                 Ok(taken) => return Ok(taken),
@@ -71,6 +95,10 @@ impl<R: Read> Source for Input<R> {
         }
         self.failed = true;
         Err(SourceFault)
+    }
+
+    fn bytes_left(&self) -> Option<u64> {
+        self.told
     }
 }
 

@@ -11,6 +11,7 @@ use crate::input::whole_input;
 use crate::output::put_summary;
 use crate::resyncing::resync_if_needed;
 use crate::source::Source;
+use crate::told_length::check_told;
 use md_array::{BeginFault, Mirror};
 use md_device::Device;
 use md_examine::Sink;
@@ -21,8 +22,8 @@ use std::alloc::Global;
 /// Writes all of an input to an array, from this sector on; then stops it, and puts out what it is in one
 /// line. A degraded array that is not resynced is resynced first. The input is read into memory before
 /// anything else is done, to its end or to one byte more than the array has: at `InputFault`, `OutOfRange`,
-/// `BadLength` and `NoMemory` nothing was written. Of a halted mirror, which is `Write` with `Halted`, it is
-/// not read.
+/// `BadLength` and `NoMemory` nothing was written. It is not read of a halted mirror, which is `Write` with `Halted`, nor where
+/// it tells its length before (`Source::bytes_left`) and must be refused for that.
 ///
 /// The sector and the length of the input are compared with the end of the array after the resync: that is
 /// `Write` with `OutOfRange`, also where the input is empty.
@@ -47,6 +48,7 @@ pub fn write_array<D: Device + Drop, I: Source, S: Sink>(
     if mirror.halted() {
         return Err(CommandFault::Write(BeginFault::Halted));
     }
+    check_told(mirror, sector, input.bytes_left())?;
     let bytes = whole_input(alloc, input, mirror.chunks().size)?;
     write_and_stop(alloc, mirror, sector, &bytes)?;
     put_summary(mirror, out)

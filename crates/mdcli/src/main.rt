@@ -20,6 +20,7 @@ mod new_file;
 mod output_file;
 mod pace;
 mod progress;
+mod standard_input;
 mod watched;
 
 use crate::cleared::Cleared;
@@ -28,6 +29,7 @@ use crate::map_out::{MapOut, is_map_begun, is_map_made};
 use crate::maps::{masked_images, tell_refusal};
 use crate::output_file::{destination_of, is_file_ended, output_of};
 use crate::progress::Progress;
+use crate::standard_input::told_length;
 use md_cli::{Session, run};
 use md_commands::Input;
 use md_examine::Buffered;
@@ -103,10 +105,11 @@ fn main(rt: HostRuntime) -> ExitCode {
         let _ = is_file_ended(out, output, messages, &mut err);
         return ExitCode::from(REFUSED);
     }
+    let told = told_length(&rt, &parsed);
     let mut session = Session {
         rt: &rt,
         alloc: rt.alloc(),
-        input: Input::new(rt.stdin()),
+        input: Input::of_length(rt.stdin(), told),
         out: Buffered::new(rt.alloc(), out),
         watch: &progress,
         missing: None,
