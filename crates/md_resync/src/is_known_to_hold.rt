@@ -38,7 +38,7 @@ pub(crate) fn is_known_to_hold<D: Device + Drop>(
     holds(mirror, k, sector + first.len() as u64 / 512, rest, held)
 }
 
-// The same by one read.
+// Whether member k holds these bytes, by one read of it.
 fn holds<D: Device + Drop>(
     mirror: &mut Mirror<D>,
     k: usize,
