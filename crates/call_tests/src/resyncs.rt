@@ -38,7 +38,16 @@ const COPIED: Data = Data(
     NONE_OTHER,
 );
 
-// The bits of chunk 1, and of chunks 1 and 2.
+// Another sector differs at the end of chunk 0, and of chunk 4.
+const FEW: Data = Data(
+    Filling::Chunks([0, 1, 2, 3, 4, 5, 6, 7]),
+    (7, 1, WRITTEN),
+    (39, 1, WRITTEN),
+);
+
+// The bits of all chunks, of chunk 1, and of chunks 1 and 2.
+const MARKS_ALL: u8 = 0xff;
+
 const MARKS_ONE: u8 = 0b010;
 
 const MARKS_TWO: u8 = 0b110;
@@ -88,7 +97,7 @@ const UNREAD: Answer = Answer::NotResynced(ResyncFault::ReadFault(0, 1));
 
 const CLOSED: Answer = Answer::NotRead(UnreadFault::NotResynced);
 
-const COPIES: [Row; 6] = [
+const COPIES: [Row; 7] = [
     // Marked chunks are copied from the lowest role, whichever was written.
     Row {
         members: &[FIRST, SECOND],
@@ -110,6 +119,27 @@ const COPIES: [Row; 6] = [
             },
         ],
         calls: &RESYNCED,
+        left: &[
+            Left(10, 0, OLD, Also::Nothing),
+            Left(10, 0, OLD, Also::Nothing),
+        ],
+        ..ROW
+    },
+    // All chunks are marked, and two differ: they are written, the marks are cleared, and a fourth write would fail.
+    Row {
+        members: &[
+            Member {
+                marks: MARKS_ALL,
+                ..FIRST
+            },
+            Member {
+                fails: 4,
+                marks: MARKS_ALL,
+                data: FEW,
+                ..SECOND
+            },
+        ],
+        calls: &[(Call::Resync, Answer::Done)],
         left: &[
             Left(10, 0, OLD, Also::Nothing),
             Left(10, 0, OLD, Also::Nothing),

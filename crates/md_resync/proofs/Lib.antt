@@ -1,6 +1,7 @@
 pub mod Bests
 pub mod StepsOn
 pub mod CopiedRuns
+pub mod Compared
 pub mod StepRuns
 pub mod StepCrashes
 pub mod CopiedChunks

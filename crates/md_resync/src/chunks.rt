@@ -20,7 +20,6 @@ fn copy_run<D: Device + Drop>(
     end: u64,
     buffer: &mut [u8],
     held: &mut [u8],
-    unread: &mut u32,
 ) -> Result<u64, ResyncFault>
     requires some { sector < end }
     requires room { 512 ≤ length buffer.old }
@@ -38,7 +37,7 @@ fn copy_run<D: Device + Drop>(
     if mirror.read_data(from, sector, bytes).is_err() {
         return Err(ResyncFault::ReadFault(from, chunk));
     }
-    copy_to_members(mirror, from, sector, bytes, held, unread)?;
+    copy_to_members(mirror, from, sector, bytes, held)?;
     Ok(next)
 }
 
@@ -48,7 +47,6 @@ fn copy_chunk<D: Device + Drop>(
     chunk: u32,
     buffer: &mut [u8],
     held: &mut [u8],
-    unread: &mut u32,
 ) -> Result<(), ResyncFault>
     requires within { chunk < div_ceil mirror.old.array.chunks.size mirror.old.array.chunks.sectors }
     requires room { 512 ≤ length buffer.old }
@@ -61,7 +59,7 @@ fn copy_chunk<D: Device + Drop>(
     let end = start + sectors;
     let mut sector = start;
     while sector < end {
-        sector = copy_run(mirror, chunk, sector, end, buffer, held, unread)?;
+        sector = copy_run(mirror, chunk, sector, end, buffer, held)?;
     }
     Ok(())
 }
@@ -72,7 +70,6 @@ fn copy_if_marked<D: Device + Drop>(
     chunk: u32,
     buffer: &mut [u8],
     held: &mut [u8],
-    unread: &mut u32,
 ) -> Result<(), ResyncFault>
     requires within { chunk < div_ceil mirror.old.array.chunks.size mirror.old.array.chunks.sectors }
     requires room { 512 ≤ length buffer.old }
@@ -84,7 +81,7 @@ fn copy_if_marked<D: Device + Drop>(
     if !mirror.marks().is_marked(chunk) {
         return Ok(());
     }
-    copy_chunk(mirror, chunk, buffer, held, unread)
+    copy_chunk(mirror, chunk, buffer, held)
 }
 
 /// Copies each chunk that is marked. Takes no memory.
@@ -99,9 +96,8 @@ pub(crate) fn copy_marked<D: Device + Drop>(
     requires may { MayCopyMarked mirror.old.array }
     ensures { MatchResult result (λ _. CopiesMarked mirror.old mirror.new) (CopyingFails (IsInMarkedChunk mirror.old.array) mirror.old mirror.new) }
 {
-    let mut unread = 0;
     for chunk in 0..mirror.chunks().count() {
-        copy_if_marked(mirror, chunk, buffer, held, &mut unread)?;
+        copy_if_marked(mirror, chunk, buffer, held)?;
     }
     Ok(())
 }

@@ -7,19 +7,17 @@ ghost use Rattle.md_array.specs.Consistency.{IsConsistent};
 use md_array::Mirror;
 use md_device::Device;
 
-// After a member that differed so many writes are done without a look at what they overwrite: where much differs, as in
-// a new array, to read it all would cost more than it saves.
-const WRITES_UNREAD: u32 = 16;
+// Where much differs, as in a new array, mostly the first bytes of a run do: no more of it is read then than these.
+const FIRST_PIECE: usize = 16 * 1024;
 
-/// Whether member k holds these bytes from this sector of the array on, by a read of it. It is not read for the next
-/// `unread` writes, nor known to hold what can't be read. Takes no memory.
+/// Whether member k holds these bytes from this sector of the array on, by a read of it: first of a piece of them, and
+/// where that is the same, of the rest. It is not known to hold what can't be read. Takes no memory.
 pub(crate) fn is_known_to_hold<D: Device + Drop>(
     mirror: &mut Mirror<D>,
     k: usize,
     sector: u64,
     bytes: &[u8],
     held: &mut [u8],
-    unread: &mut u32,
 ) -> bool
     requires within { k < length mirror.old.array.members }
     requires room { length bytes.now ≤ length held.old }
@@ -30,14 +28,33 @@ pub(crate) fn is_known_to_hold<D: Device + Drop>(
     ensures sound { IsConsistent mirror.new }
     ensures holds { result ≡ true → HoldsData mirror.new k sector bytes.now }
 {
-    if let Some(left) = unread.checked_sub(1) {
-        *unread = left;
+    let (first, rest) = bytes.split_at(bytes.len().min(FIRST_PIECE));
+    if !holds(mirror, k, sector, first, held) {
         return false;
     }
-    let held = &mut held[..bytes.len()];
-    if mirror.read_data(k, sector, held).is_ok() && *held == *bytes {
+    if rest.is_empty() {
         return true;
     }
-    *unread = WRITES_UNREAD;
-    false
+    holds(mirror, k, sector + first.len() as u64 / 512, rest, held)
+}
+
+// Whether member k holds these bytes, by one read of it.
+fn holds<D: Device + Drop>(
+    mirror: &mut Mirror<D>,
+    k: usize,
+    sector: u64,
+    bytes: &[u8],
+    held: &mut [u8],
+) -> bool
+    requires within { k < length mirror.old.array.members }
+    requires room { length bytes.now ≤ length held.old }
+    requires whole { length bytes.now % 512 ≡ 0 }
+    requires inside { sector + length bytes.now / 512 ≤ mirror.old.array.chunks.size }
+    requires sound { IsConsistent mirror.old }
+    ensures rests { Rests mirror.old mirror.new }
+    ensures sound { IsConsistent mirror.new }
+    ensures holds { result ≡ true → HoldsData mirror.new k sector bytes.now }
+{
+    let held = &mut held[..bytes.len()];
+    mirror.read_data(k, sector, held).is_ok() && *held == *bytes
 }

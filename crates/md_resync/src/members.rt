@@ -9,14 +9,13 @@ use md_array::{CopyFault, Mirror};
 use md_device::Device;
 
 /// Gives what member `from` holds from this sector on to each other member in sync that is not known to hold it.
-/// `held` is room for as many bytes, and `unread` counts the writes for which no member is read first. Takes no memory.
+/// `held` is room for as many bytes. Takes no memory.
 pub(crate) fn copy_to_members<D: Device + Drop>(
     mirror: &mut Mirror<D>,
     from: usize,
     sector: u64,
     bytes: &[u8],
     held: &mut [u8],
-    unread: &mut u32,
 ) -> Result<(), ResyncFault>
     requires room { length bytes.now ≤ length held.old }
     requires sound { IsConsistent mirror.old }
@@ -24,7 +23,7 @@ pub(crate) fn copy_to_members<D: Device + Drop>(
     ensures { MatchResult result (λ _. GivesAll sector bytes.now mirror.old mirror.new) (GivingFails mirror.old mirror.new) }
 {
     for k in 0..mirror.members() {
-        copy_to(mirror, from, k, sector, bytes, held, unread)?;
+        copy_to(mirror, from, k, sector, bytes, held)?;
     }
     Ok(())
 }
@@ -37,7 +36,6 @@ fn copy_to<D: Device + Drop>(
     sector: u64,
     bytes: &[u8],
     held: &mut [u8],
-    unread: &mut u32,
 ) -> Result<(), ResyncFault>
     requires within { k < length mirror.old.array.members }
     requires room { length bytes.now ≤ length held.old }
@@ -48,7 +46,7 @@ fn copy_to<D: Device + Drop>(
     if k == from || !mirror.state(k).is_in_sync() {
         return Ok(());
     }
-    if is_known_to_hold(mirror, k, sector, bytes, held, unread) {
+    if is_known_to_hold(mirror, k, sector, bytes, held) {
         return Ok(());
     }
     match mirror.copy_data(k, sector, bytes) {
