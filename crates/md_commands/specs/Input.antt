@@ -9,5 +9,5 @@ abbrev pub input_has_failed : {R : Type 0} → Input R → Bool
 input_has_failed i = i.failed
 
 -- how many bytes it has still to give, where that was told
-abbrev pub told_of : {R : Type 0} → Input R → Option ℕ
-told_of i = i.told
+abbrev pub length_told_of : {R : Type 0} → Input R → Option ℕ
+length_told_of i = i.told

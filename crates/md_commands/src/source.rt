@@ -44,13 +44,13 @@ pub struct Input<R> {
 
 impl<R> Input<R> {
     ghost use Rattle.std.specs.Prelude.{◌≡◌, None, false};
-    ghost use Rattle.md_commands.specs.Input.{input_has_failed, reader_of, told_of};
+    ghost use Rattle.md_commands.specs.Input.{input_has_failed, reader_of, length_told_of};
 
     /// A source that has not failed, of a length that nobody tells. It takes no memory.
     pub fn new(reader: R) -> Input<R>
         ensures reader { reader_of result ≡ reader }
         ensures well { input_has_failed result ≡ false }
-        ensures untold { told_of result ≡ None }
+        ensures untold { length_told_of result ≡ None }
     {
         Input::of_length(reader, None)
     }
@@ -59,7 +59,7 @@ impl<R> Input<R> {
     pub fn of_length(reader: R, told: Option<u64>) -> Input<R>
         ensures reader { reader_of result ≡ reader }
         ensures well { input_has_failed result ≡ false }
-        ensures told { told_of result ≡ told }
+        ensures told { length_told_of result ≡ told }
     {
         Input {
             reader,
