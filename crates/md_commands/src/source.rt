@@ -55,7 +55,7 @@ impl<R> Input<R> {
         Input::of_length(reader, None)
     }
 
-    /// The same, where the caller tells how many bytes the reader has still to give, if that is known.
+    /// A source that has not failed, of which the caller tells how many bytes are still to come, if that is known.
     pub fn of_length(reader: R, told: Option<u64>) -> Input<R>
         ensures reader { reader_of result ≡ reader }
         ensures well { input_has_failed result ≡ false }
