@@ -273,12 +273,13 @@ module _ {S : Type 0} (s : SinkGhosts S) (old new : MirrorView) (before after : 
     pub writes_as_many : (fault : CommandFault) → RefusesToWrite i s sector old new input rest before after fault → AsMany old new
     writes_as_many InputFault h = same old new h.unchanged
     writes_as_many NoPieceMemory h = same old new h.unchanged
-    writes_as_many OutOfRange h = same old new h.unchanged
-    writes_as_many BadLength h = same old new h.unchanged
+    writes_as_many OutOfRange h = ⊎_elim (λ r. same old new r.unchanged) (λ r. same old new r.unchanged) h
+    writes_as_many BadLength h = ⊎_elim (λ r. same old new r.unchanged) (λ r. same old new r.unchanged) h
     writes_as_many (Resync fault) h = not_readied fault old new h.refused
     writes_as_many (Write fault) h = ⊎_elim
         (λ r. refused old new _ r.refused)
-        (λ r. not_written fault sector r.bytes r.refused.ready new r.refused.refused ∙ readied old r.refused.ready r.refused.readied)
+        (λ read. ⊎_elim (λ r. same old new r.unchanged)
+        (λ r. not_written fault sector r.bytes r.refused.ready new r.refused.refused ∙ readied old r.refused.ready r.refused.readied) read)
         h
     writes_as_many (Stop fault) h = fails_after (WritesReadied sector h.bytes old) old new fault (wrote_readied sector h.bytes old) h.refused
     writes_as_many OutputFault h = stopped_after (WritesReadied sector h.bytes old) old new (wrote_readied sector h.bytes old) h.done
