@@ -51,7 +51,7 @@ use Rattle.md_commands.specs.Failing.{RefusesToFail}
 use Rattle.md_commands.specs.Removing.{HandsBack, RefusesRemoving}
 use Rattle.md_commands.specs.Resyncing.{RefusesNeededResync, RefusesToResync, ResyncsIfNeeded, needs_resync}
 use Rattle.md_commands.specs.Stopping.{FailsToStop, FailsToStopArray, RefusesToStop, StopsAfter, StopsArray, StopsArrayAfter}
-use Rattle.md_commands.specs.Writing.{RefusesToWrite, WritesReadied}
+use Rattle.md_commands.specs.Writing.{RefusesAnyInput, RefusesItsBytes, RefusesToldInput, RefusesToWrite, WritesReadied}
 
 -- as many devices after as before
 abbrev pub AsMany : MirrorView → MirrorView → Type 0
@@ -270,16 +270,24 @@ module _ {S : Type 0} (s : SinkGhosts S) (old new : MirrorView) (before after : 
   lists_as_many fault h = absurd h
 
   module _ {I : Type 0} (i : SourceGhosts I) (sector : ℕ) (input rest : I) where
+    unread : (fault : CommandFault) → RefusesToldInput i s sector old new input rest before after fault → AsMany old new
+    unread fault h = same old new h.unchanged
+
+    refused_input : (fault : CommandFault) → RefusesAnyInput i s sector old new input rest before after fault → AsMany old new
+    refused_input fault h = same old new h.unchanged
+
+    bytes_not_written : (fault : BeginFault) → RefusesItsBytes i s sector old new input rest before after (Write fault) → AsMany old new
+    bytes_not_written fault r = not_written fault sector r.bytes r.refused.ready new r.refused.refused ∙ readied old r.refused.ready r.refused.readied
+
     pub writes_as_many : (fault : CommandFault) → RefusesToWrite i s sector old new input rest before after fault → AsMany old new
-    writes_as_many InputFault h = same old new h.unchanged
-    writes_as_many NoPieceMemory h = same old new h.unchanged
-    writes_as_many OutOfRange h = ⊎_elim (λ r. same old new r.unchanged) (λ r. same old new r.unchanged) h
-    writes_as_many BadLength h = ⊎_elim (λ r. same old new r.unchanged) (λ r. same old new r.unchanged) h
+    writes_as_many InputFault h = refused_input InputFault h
+    writes_as_many NoPieceMemory h = refused_input NoPieceMemory h
+    writes_as_many OutOfRange h = ⊎_elim (unread OutOfRange) (refused_input OutOfRange) h
+    writes_as_many BadLength h = ⊎_elim (unread BadLength) (refused_input BadLength) h
     writes_as_many (Resync fault) h = not_readied fault old new h.refused
     writes_as_many (Write fault) h = ⊎_elim
         (λ r. refused old new _ r.refused)
-        (λ read. ⊎_elim (λ r. same old new r.unchanged)
-        (λ r. not_written fault sector r.bytes r.refused.ready new r.refused.refused ∙ readied old r.refused.ready r.refused.readied) read)
+        (⊎_elim (unread (Write fault)) (bytes_not_written fault))
         h
     writes_as_many (Stop fault) h = fails_after (WritesReadied sector h.bytes old) old new fault (wrote_readied sector h.bytes old) h.refused
     writes_as_many OutputFault h = stopped_after (WritesReadied sector h.bytes old) old new (wrote_readied sector h.bytes old) h.done
