@@ -16,10 +16,9 @@ from sweeping import MOST, sweep
 SECONDS = 60
 
 # The crates, and which of their tests are not swept: those that play every order of steps, which make the calls of the others thousands of
-# times, those that plan large tables or many, which take long, the one that enters 10,000 requests, each with a call of its own, and those
-# that crash an array at each write, or many times.
+# times, those that plan large tables, which take long, and those that crash an array at each write, or many times.
 SUITES = {
-    "part_tests": r"plans::(large|random)_tables::|requests::ten_thousand_in_reverse",
+    "part_tests": r"plans::large_tables::",
     "step_tests": r"\w+::every_order::",
     "call_tests": None,
     "crash_tests": r"each_write::|lives::",

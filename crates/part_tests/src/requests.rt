@@ -99,18 +99,3 @@ fn each_item_is_dropped_once(rt: HostRuntime) -> Result<(), Fail> {
     same(&rt, "with the list", dropped.get(), 3);
     Ok(())
 }
-
-#[test]
-fn ten_thousand_in_reverse(rt: HostRuntime) -> Result<(), Fail> {
-    let mut list = Inflight::new(rt.alloc());
-    let mut tickets = Vec::new(rt.alloc());
-    for item in 0..10_000u32 {
-        tickets.push(list.push_back(item)?)?;
-    }
-    same(&rt, "entered", list.len(), 10_000);
-    while let Some(ticket) = tickets.pop() {
-        list.remove(ticket);
-    }
-    same(&rt, "left", list.len(), 0);
-    Ok(())
-}

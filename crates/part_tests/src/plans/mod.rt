@@ -1,7 +1,5 @@
 // Plans of rebuilds, and what the checker says of them.
 mod checked_plan;
 mod large_tables;
-mod plain_planner;
-pub(crate) mod random_tables;
 mod small_tables;
 mod verdicts;
