@@ -3,11 +3,11 @@ ghost use Rattle.std.specs.Prelude.{◌≡◌, ◌+◌, ℕ};
 
 use std::marker::Model;
 
-/// A count for contracts. It takes no memory, and counting does nothing when the program runs, so that
-/// it has no greatest number.
+/// A count for contracts, as a device keeps of the calls that it fails itself. It takes no memory, and counting does
+/// nothing when the program runs, so that it has no greatest number.
 #[derive(Drop)]
-pub(crate) struct Count {
-    ghost number: { ℕ },
+pub struct Count {
+    pub ghost number: { ℕ },
 }
 
 impl Model for Count {
@@ -19,14 +19,18 @@ impl Model for Count {
 // It owns nothing.
 unsafe impl Send for Count {}
 
+unsafe impl Sync for Count {}
+
 impl Count {
-    pub(crate) fn zero() -> Count
+    /// Nothing was counted.
+    pub fn zero() -> Count
         ensures { result.number ≡ 0 }
     {
         Count {}
     }
 
-    pub(crate) fn next(&self) -> Count
+    /// One more than this.
+    pub fn next(&self) -> Count
         ensures { result.number ≡ self.now.number + 1 }
     {
         Count {}

@@ -20,6 +20,7 @@ mod fault;
 mod memory;
 mod overlay;
 
+pub use count::Count;
 pub use device::{Device, ReadFault, WriteFault};
 pub use fault::FaultDevice;
 pub use memory::MemDevice;

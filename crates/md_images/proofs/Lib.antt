@@ -1,4 +1,3 @@
 pub mod Listed
 pub mod MemPlaces
 pub mod Taken
-pub mod Walks

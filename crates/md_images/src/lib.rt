@@ -12,7 +12,6 @@
 #![tactic(auto)]
 
 mod access;
-mod count;
 mod fault;
 mod image_fault;
 mod image_refusal;

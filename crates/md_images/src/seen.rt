@@ -1,9 +1,8 @@
 // A device that is only looked at.
 ghost use Rattle.std.specs.Prelude.{◌≡◌, []};
 
-use crate::count::Count;
 use crate::shared_read::SharedRead;
-use md_device::{Device, ReadFault, WriteFault};
+use md_device::{Count, Device, ReadFault, WriteFault};
 use std::marker::Model;
 
 /// A device that is only looked at, as a device that refuses every write of it. Contracts see the bytes that

@@ -1,4 +1,4 @@
--- The step of both walks: the empty struct is made. Assumes `Logic`.
+-- The step of the walk: the empty struct is made. Assumes `Logic`.
 use Rattle.std.proofs.Common.{List, [], ◌∷◌, refl}
 use seplogic.Ra.Ura.{Ura}
 use mir.Val.{Val, vstruct, vnil}

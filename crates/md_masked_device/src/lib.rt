@@ -8,7 +8,6 @@
 //! ```
 #![tactic(auto)]
 
-mod count;
 mod hidden;
 mod masked;
 

@@ -4,10 +4,9 @@ ghost use Rattle.md_device.specs.Splice.{SameOutside};
 ghost use Rattle.md_device.specs.Device.{held, written};
 ghost use Rattle.md_masked_device.specs.Masked.{Touches, IsUnmasked, disk_content};
 
-use crate::count::Count;
 use crate::hidden::Hidden;
 use md_badblocks::BadSet;
-use md_device::{Device, ReadFault, WriteFault};
+use md_device::{Count, Device, ReadFault, WriteFault};
 use md_images::SharedRead;
 use std::marker::Model;
 
