@@ -15,12 +15,9 @@ use std::fmt;
 use std::fmt::Debug;
 use std::marker::Model;
 
-#[cfg(test)]
-mod tests;
-
 /// A list of items in order of entry, each under a number of its own.
 ///
-/// Numbers rise from 0 and none is given out twice. Contracts see the entries as pairs of a number and
+/// Numbers rise from 0, or from the one that `from_number` is given, and none is given out twice. Contracts see the entries as pairs of a number and
 /// an item, the number of the next entry, which is 2^64 once u64::MAX was given out, and the list's
 /// name, which its tickets carry. No contract says which name a new list has. So a ticket can't be shown
 /// to belong to another list, though its number may stand there. Names take no bytes.
@@ -59,8 +56,8 @@ impl<T> Inflight<T> {
         Self::from_number(alloc, 0)
     }
 
-    // The empty list whose first entry gets this number.
-    fn from_number(alloc: Global, number: u64) -> Self
+    /// The empty list whose first entry gets this number.
+    pub fn from_number(alloc: Global, number: u64) -> Self
         ensures entries { result.entries ≡ [] }
         ensures next { result.next ≡ number }
     {

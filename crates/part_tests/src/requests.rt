@@ -1,6 +1,6 @@
 // Requests in flight: their numbers, their order, and which of them meet a span of sectors.
 use crate::checks::{holds, same};
-use md_inflight::{Inflight, Refused, Span};
+use md_inflight::{Inflight, PushFault, Refused, Span};
 use std::cell::Cell;
 use std::process::Abort;
 use std::test::Fail;
@@ -72,6 +72,18 @@ fn first_that_meets(rt: HostRuntime) -> Result<(), Fail> {
     let met = expect_meeting(&rt, &mut list);
     drop(list);
     met?;
+    Ok(())
+}
+
+#[test]
+fn numbers_spent(rt: HostRuntime) -> Result<(), Fail> {
+    let mut list = Inflight::from_number(rt.alloc(), u64::MAX);
+    let last = list.push_back('a')?;
+    same(&rt, "the last number", last.number(), u64::MAX);
+    let refused = list.push_back('b').err().expect(&rt, "it is refused");
+    same(&rt, "why", refused.why, PushFault::NumbersSpent);
+    same(&rt, "the item comes back", refused.item, 'b');
+    same(&rt, "none is entered", list.len(), 1);
     Ok(())
 }
 
