@@ -52,7 +52,7 @@ fn ends_with<R: Abort + Threads + Wait + Sync>(
     rt: &R,
     alloc: Global,
     images: &mut HeldImages,
-    steps: &[Step],
+    input: Input<Steps<'_>>,
     status: u8,
     said: &str,
 ) -> Result<(), Fail> {
@@ -60,7 +60,7 @@ fn ends_with<R: Abort + Threads + Wait + Sync>(
     let mut session = Session {
         rt,
         alloc,
-        input: Input::new(Steps { steps }),
+        input,
         out: Output::new(vec![in alloc]?),
         watch: &Silent,
         missing: None,
@@ -82,7 +82,8 @@ fn a_write_goes_on_after_an_interrupted_read(rt: HostRuntime) -> Result<(), Fail
         Step::IsInterrupted,
     ];
     let said = "mdcli: device 1 in role 1 is not among the images\n";
-    let written = ends_with(&rt, alloc, &mut images, &steps, 0, said);
+    let input = Input::new(Steps { steps: &steps });
+    let written = ends_with(&rt, alloc, &mut images, input, 0, said);
     drop(images);
     written
 }
@@ -91,9 +92,10 @@ fn keeps_the_image<R: Abort + Threads + Wait + Sync>(
     rt: &R,
     alloc: Global,
     images: &mut HeldImages,
-    steps: &[Step],
+    input: Input<Steps<'_>>,
+    said: &str,
 ) -> Result<(), Fail> {
-    ends_with(rt, alloc, images, steps, 1, "mdcli: InputFault\n")?;
+    ends_with(rt, alloc, images, input, 1, said)?;
     expect_kept_under(rt, alloc, images, "a")
 }
 
@@ -102,7 +104,31 @@ fn nothing_is_written_after_a_failed_read(rt: HostRuntime) -> Result<(), Fail> {
     let alloc = rt.alloc();
     let mut images = held_images(alloc, &[MEMBER])?;
     let steps = [Step::Gives(&SECTOR), Step::Fails];
-    let kept = keeps_the_image(&rt, alloc, &mut images, &steps);
+    let input = Input::new(Steps { steps: &steps });
+    let kept = keeps_the_image(&rt, alloc, &mut images, input, "mdcli: InputFault\n");
     drop(images);
     kept
+}
+
+#[test]
+fn nothing_is_read_of_a_length_that_is_refused(rt: HostRuntime) -> Result<(), Fail> {
+    let alloc = rt.alloc();
+    let mut images = held_images(alloc, &[MEMBER])?;
+    let steps = [Step::Fails];
+    let input = Input::of_length(Steps { steps: &steps }, Some(100));
+    let kept = keeps_the_image(&rt, alloc, &mut images, input, "mdcli: BadLength\n");
+    drop(images);
+    kept
+}
+
+#[test]
+fn an_input_of_a_good_length_is_written(rt: HostRuntime) -> Result<(), Fail> {
+    let alloc = rt.alloc();
+    let mut images = held_images(alloc, &[MEMBER])?;
+    let steps = [Step::Gives(&SECTOR)];
+    let input = Input::of_length(Steps { steps: &steps }, Some(512));
+    let said = "mdcli: device 1 in role 1 is not among the images\n";
+    let written = ends_with(&rt, alloc, &mut images, input, 0, said);
+    drop(images);
+    written
 }

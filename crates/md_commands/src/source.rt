@@ -1,5 +1,5 @@
 // Where the bytes to be written come from.
-ghost use Rattle.std.specs.Prelude.{◌≡◌, Bool, List, Option, ℕ};
+ghost use Rattle.std.specs.Prelude.{◌≡◌, Bool, List, None, Option, ℕ};
 ghost use Rattle.md_commands.specs.Source.{GivesOrFails};
 
 use std::io::{Error as IoError, ErrorKind, Read};
@@ -19,16 +19,17 @@ pub trait Source {
     /// Whether a call has failed.
     ghost failed: { Self → Bool };
 
-    /// How many bytes are still to come, where that is told before they are read.
+    /// How many bytes are still to come, where that is told before any is read.
     ghost told: { Self → Option ℕ };
 
     /// Fills the front of `buf` with the next bytes, and answers how many they are, or fails. No byte comes
     /// only at the end of the source, or where `buf` is empty.
     fn take(&mut self, buf: &mut [u8]) -> Result<usize, SourceFault>
-        ensures { GivesOrFails remaining failed self.old self.new buf.new result };
+        ensures gives { GivesOrFails remaining failed self.old self.new buf.new result }
+        ensures untold { told self.new ≡ None };
 
-    /// How many bytes are still to come, where that is told before they are read, as of a file. What must be refused for its
-    /// length need not be read then.
+    /// How many bytes are still to come, where that is told before any is read, as of a file. What must be refused for its
+    /// length need not be read then. After a `take` nothing is told.
     fn bytes_left(&self) -> Option<u64>
         ensures { result ≡ told self.now };
 }

@@ -29,7 +29,7 @@ use crate::map_out::{MapOut, is_map_begun, is_map_made};
 use crate::maps::{masked_images, tell_refusal};
 use crate::output_file::{destination_of, is_file_ended, output_of};
 use crate::progress::Progress;
-use crate::standard_input::told_length;
+use crate::standard_input::bytes_left_if_taken;
 use md_cli::{Session, run};
 use md_commands::Input;
 use md_examine::Buffered;
@@ -105,7 +105,7 @@ fn main(rt: HostRuntime) -> ExitCode {
         let _ = is_file_ended(out, output, messages, &mut err);
         return ExitCode::from(REFUSED);
     }
-    let told = told_length(&rt, &parsed);
+    let told = bytes_left_if_taken(&rt, &parsed);
     let mut session = Session {
         rt: &rt,
         alloc: rt.alloc(),

@@ -4,7 +4,7 @@ use std::{fs, str};
 
 /// How many bytes standard input has still to give, where the words that were parsed ask for a command that takes it, and the
 /// system tells.
-pub fn told_length<E>(rt: &HostRuntime, parsed: &Result<Request<'_>, E>) -> Option<u64> {
+pub fn bytes_left_if_taken<E>(rt: &HostRuntime, parsed: &Result<Request<'_>, E>) -> Option<u64> {
     match parsed {
         Ok(request) if request.command.takes_input() => bytes_left(rt),
         Ok(_) | Err(_) => None,

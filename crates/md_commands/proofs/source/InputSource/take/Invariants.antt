@@ -1,4 +1,4 @@
-use Rattle.std.proofs.Common.{◌≡◌}
+use Rattle.std.proofs.Common.{◌≡◌, None}
 use Rattle.std.specs.Io.KnownBytes.{Keeps}
 use Rattle.md_commands.proofs.source.InputSource.take.Given as goal
 
@@ -6,4 +6,5 @@ abbrev pub invariant-loop : goal.invariant-loop
 invariant-loop g l = record {
   keeps : Keeps (g.R.Read.remaining l.fn.self.reader) (g.R.Read.remaining l.self.reader);
   well : l.self.failed ≡ l.fn.self.failed;
+  untold : l.self.told ≡ None;
 }
