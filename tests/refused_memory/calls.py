@@ -26,6 +26,7 @@ WITHIN = {
     "md_masked_images::MaskedImages::add": "md_masked_images::mask_images",
     "md_masked_images::MaskedImages::lacking": "md_masked_images::mask_images",
     "md_members::read_super": "md_members::read_member",
+    "md_membership::joined_superblock": "md_array::Mirror::re_add",
     "md_messages::ask_first": "md_cli::run",
     "md_messages::Notices::note_held_on_each": "md_cli::run",
     "md_pass::copy_pass": "md_copy::rebuild",

@@ -81,6 +81,14 @@ is_spare (Stale role) = false
 is_spare Spare = true
 is_spare Faulty = false
 
+-- the member has a role, but is more than one event behind
+abbrev pub is_stale : MemberState → Bool
+is_stale (InSync role) = false
+is_stale (Recovering role) = false
+is_stale (Stale role) = true
+is_stale Spare = false
+is_stale Faulty = false
+
 -- the member is in sync or recovering in this role, so that no other may have it
 abbrev pub takes_role : ℕ → MemberState → Bool
 takes_role wanted (InSync role) = role == wanted

@@ -1,6 +1,6 @@
 // The state of a member.
 ghost use Rattle.std.specs.Prelude.{◌≡◌};
-ghost use Rattle.md_assembly.specs.States.{has_recovery_offset, is_active, is_in_sync, is_in_sync_as, is_recorded, is_recovering, is_spare, is_up_to_date, role_in, role_of, state_of, takes_role};
+ghost use Rattle.md_assembly.specs.States.{has_recovery_offset, is_active, is_in_sync, is_in_sync_as, is_recorded, is_recovering, is_spare, is_stale, is_up_to_date, role_in, role_of, state_of, takes_role};
 
 use md_super::{FAULTY, FEATURE_RECOVERY_OFFSET, Superblock};
 
@@ -88,6 +88,13 @@ impl MemberState {
         ensures { result ≡ is_spare self }
     {
         matches!(self, MemberState::Spare)
+    }
+
+    /// Whether the member has a role, but is more than one event behind.
+    pub fn is_stale(self) -> bool
+        ensures { result ≡ is_stale self }
+    {
+        matches!(self, MemberState::Stale(_))
     }
 }
 

@@ -143,6 +143,19 @@ impl Marks {
         has_run(&self.bits, from, end)
     }
 
+    /// Whether each chunk is marked here that is marked in another bitmap, which has no fewer chunks.
+    pub fn has_all_of(&self, others: &Marks) -> bool
+        requires { self.now.chunks ≤ others.now.chunks }
+        ensures { (result ≡ true) ↔ ((i : ℕ) → i < self.now.chunks → is_set others.now.bytes i ≡ true → is_set self.now.bytes i ≡ true) }
+    {
+        for chunk in 0..self.chunks {
+            if others.is_marked(chunk) && !self.is_marked(chunk) {
+                return false;
+            }
+        }
+        true
+    }
+
     /// How many chunks are marked.
     pub fn count(&self) -> u32
         ensures { result ≡ count_set self.now.bytes self.now.chunks }

@@ -9,7 +9,7 @@ use Rattle.md_faults.specs.declared.add_fault.AddFault.TheVariants.{WriteFault}
 use Rattle.md_faults.specs.declared.re_add_fault.ReAddFault.{ReAddFault}
 use Rattle.md_faults.specs.declared.re_add_fault.ReAddFault.TheVariants as re_add_fault
 use Rattle.md_kept_members.specs.TakingBack.{own_role}
-use Rattle.md_state.specs.Steps.NoteJoined.{joined_shared}
+use Rattle.md_membership.specs.Joining.{joined_shared}
 use Rattle.md_state.specs.View.{Disk, MirrorView}
 use Rattle.md_array.specs.Steps.Add.{Adds, FailsToAdd, RefusesAdd, add_event}
 use Rattle.md_array.specs.Open.Opened.{IsOpenedFrom}
@@ -78,7 +78,7 @@ abbrev pub CrashesInFailedReAdd : Type 0
 CrashesInFailedReAdd =
     (t : Moment) (device given : Disk) (new : MirrorView) → device.honest ≡ true → (f : FailsToReAdd device given t.mirror new)
     → (left : List Disk) → MayAllBeLeft (t.mirror.disks ++ device ∷ []) (new.disks ++ given ∷ []) (contents_of left)
-    → IsLeftBeside t left (IsAnyIn (write_of (joined_shared t.mirror.array f.fails.member.superblock.dev_number (own_role f.info.superblock)) f.fails.member) device.content)
+    → IsLeftBeside t left (IsAnyIn (write_of (joined_shared t.mirror.array.shared t.mirror.array.members f.fails.member.superblock.dev_number (own_role f.info.superblock)) f.fails.member) device.content)
 
 -- Where they are refused for another reason, that device too is as it was.
 abbrev pub CrashesInRefusedAdd : Type 0

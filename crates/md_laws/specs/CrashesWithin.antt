@@ -14,7 +14,7 @@ use Rattle.md_faults.specs.declared.re_add_fault.ReAddFault.TheVariants as re_ad
 use Rattle.md_kept_members.specs.Enrolling.{log_room}
 use Rattle.md_kept_members.specs.TakingBack.{own_role}
 use Rattle.md_kept_members.specs.View.{MemberView}
-use Rattle.md_state.specs.Steps.NoteJoined.{joined_shared}
+use Rattle.md_membership.specs.Joining.{joined_shared}
 use Rattle.md_state.specs.View.{Disk, MirrorView}
 use Rattle.md_state.specs.DiskWrites.{IsFailed, IsTried, IsWritten}
 use Rattle.md_state.specs.Steps.Remove.{Removes}
@@ -71,7 +71,7 @@ abbrev pub CrashesAtFailedReAdd : Type 0
 CrashesAtFailedReAdd =
     (device given : Disk) (old new : MirrorView) (left : List (List ℕ)) → device.honest ≡ true → (f : FailsToReAdd device given old new)
     → MayAllBeLeft (old.disks ++ device ∷ []) (new.disks ++ given ∷ []) left
-    → IsLeftBut (length old.disks) (IsAnyIn (write_of (joined_shared old.array f.fails.member.superblock.dev_number (own_role f.info.superblock)) f.fails.member))
+    → IsLeftBut (length old.disks) (IsAnyIn (write_of (joined_shared old.array.shared old.array.members f.fails.member.superblock.dev_number (own_role f.info.superblock)) f.fails.member))
     (old.disks ++ device ∷ []) left
 
 -- A crash within a `re_add` that is refused for any other reason leaves each device as it was.

@@ -8,7 +8,7 @@ use Rattle.md_model.specs.Worlds.{Request, World, IsInSync}
 use Rattle.md_model.specs.Content.{Content, Becomes, Holds, TellsAtEnrolment}
 use Rattle.md_model.specs.Events.{Event}
 use Rattle.md_model.specs.Runs.{History, away_after, failed_after, spoiled_after, tried_after}
-use Rattle.md_state.specs.Steps.Rise.{has_number}
+use Rattle.md_membership.specs.Numbers.{has_number}
 use Rattle.md_state.specs.View.{Disk, MirrorView, geometry_of}
 use Rattle.md_state.specs.Rests.{Rests}
 use Rattle.md_array.specs.Open.Opened.{IsOpenedFrom}
@@ -41,7 +41,7 @@ abbrev pub history_of : Moment → History
 history_of t = record { now = world_of t.mirror t.requests; failed_at = t.failed_at; tried = t.tried; away = t.away; spoiled = t.spoiled }
 
 abbrev pub opened_as : MirrorView → Moment
-opened_as m = record { mirror = m; requests = none_in_flight; failed_at = 0; tried = false; away = λ d. not (has_number m.array d); spoiled = λ _. false; log_unknown = λ _. false }
+opened_as m = record { mirror = m; requests = none_in_flight; failed_at = 0; tried = false; away = λ d. not (has_number m.array.members d); spoiled = λ _. false; log_unknown = λ _. false }
 
 abbrev pub then_as : Moment → Event → MirrorView → (ℕ → Option Request) → Moment
 then_as t e m requests =

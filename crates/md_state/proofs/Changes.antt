@@ -1,11 +1,7 @@
 -- What a step changes in memory: the event count, roles, requests, marks.
 
--- The roles of absent devices are gone through in their order.
-pub mod AbsentRoles
 -- An array that is made clean, in memory.
 pub mod Cleaned
--- A superblock's profile is a fact, so that any two proofs of it are one.
-pub mod Profiles
 -- An array whose count rose, and one of whose members became faulty.
 pub mod Raised
 -- The chunks of a request's sectors.

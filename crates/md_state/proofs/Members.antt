@@ -4,8 +4,6 @@
 pub mod At
 -- The first member in sync that lacks something, found by a test of each.
 pub mod FirstLacking
--- The numbers of members: there are no more than members.
-pub mod Numbers
 -- The roles in which a chunk of the array may be read, by what is found in the list of its members.
 pub mod Permitted
 -- Which roles are filled once a member comes into sync.

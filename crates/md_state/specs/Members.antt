@@ -67,7 +67,3 @@ IsPermitted a chunk role =
 -- resync_offset of a clean array
 abbrev pub clean_offset : ℕ
 clean_offset = 2 ^ 64 - 1
-
--- the role of a device that has failed (MD_DISK_ROLE_FAULTY of md_p.h)
-abbrev pub faulty_role : ℕ
-faulty_role = 0xfffe

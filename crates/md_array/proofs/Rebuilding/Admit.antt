@@ -7,9 +7,9 @@ use Rattle.md_kept_members.specs.Members.{made_due}
 use Rattle.md_kept_members.specs.TakingBack.{admitted_member, recovering}
 use Rattle.md_kept_members.specs.View.{MemberView}
 use Rattle.md_requests.specs.Pending.{PendingView}
+use Rattle.md_membership.specs.Joining.{joined_shared}
 use Rattle.md_state.specs.Steps.Admit.{MayAdmit, admitted}
 use Rattle.md_state.specs.DiskWrites.{IsFailed, IsWritten}
-use Rattle.md_state.specs.Steps.NoteJoined.{joined_shared}
 use Rattle.md_state.specs.Missing.{is_rebuilt}
 use Rattle.md_state.specs.Requests.{IsPending}
 use Rattle.md_state.specs.View.{ArrayView, MirrorView}
@@ -29,7 +29,7 @@ spare_rebuilt Spare e = refl
 spare_rebuilt Faulty e = absurd cc
 
 module _ (k role : ℕ) (old new : MirrorView) (may : MayAdmit k old.array role) (own shared : Superblock) (own_is : own ≡ recovering 0 may.member.superblock)
-    (shared_is : shared ≡ joined_shared old.array own.dev_number role) (readable : IsReadable (merged shared own)) where
+    (shared_is : shared ≡ joined_shared old.array.shared old.array.members own.dev_number role) (readable : IsReadable (merged shared own)) where
   abbrev a : ArrayView
   a = old.array
 
@@ -40,7 +40,7 @@ module _ (k role : ℕ) (old new : MirrorView) (may : MayAdmit k old.array role)
   n = admitted_member role m
 
   fields : shared ≡ (admitted a k m role).shared
-  fields = shared_is ∙ ap (λ (v : Superblock). joined_shared a v.dev_number role) own_is
+  fields = shared_is ∙ ap (λ (v : Superblock). joined_shared a.shared a.members v.dev_number role) own_is
 
   readable_then : (v : Superblock) → shared ≡ v → IsReadable (merged v n.superblock)
   readable_then v same = subst (λ (x : Superblock). IsReadable (merged x n.superblock)) same (subst (λ (x : Superblock). IsReadable (merged shared x)) own_is readable)

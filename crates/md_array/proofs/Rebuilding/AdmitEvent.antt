@@ -29,11 +29,12 @@ use Rattle.md_model.specs.Worlds.{Request, World}
 use Rattle.md_model.proofs.Puts.{put-at, put-miss, put-self}
 use Rattle.md_model.proofs.Steps.Between.{between_step, in_flight_step}
 use Rattle.md_requests.specs.Pending.{PendingView}
+use Rattle.md_membership.specs.Numbers.{is_absent}
 use Rattle.md_state.specs.Steps.Admit.{admitted}
 use Rattle.md_state.specs.Members.{IsInSync, IsMember}
 use Rattle.md_state.specs.Missing.{is_rebuilt}
 use Rattle.md_state.specs.Requests.{AreInFlight, IsPending, lacks}
-use Rattle.md_state.specs.Steps.Rise.{is_absent, risen}
+use Rattle.md_state.specs.Steps.Rise.{risen}
 use Rattle.md_state.specs.View.{ArrayView, Disk, MirrorView, geometry_of}
 use Rattle.md_super.specs.Merge.{merged}
 use Rattle.md_array.specs.Steps.Admit.{Admits}
@@ -338,7 +339,7 @@ module _ (k : ℕ) (old new : MirrorView) (c : IsConsistent old) (r : Admits k o
     }
       where
         roles_many : length up.shared.roles ≡ length a.shared.roles
-        roles_many = length-map-range_with_len (λ x. cond (is_absent a x) 0xfffe (role_in a.shared x)) 0 (length a.shared.roles)
+        roles_many = length-map-range_with_len (λ x. cond (is_absent a.shared a.members x) 0xfffe (role_in a.shared x)) 0 (length a.shared.roles)
 
         entries_is : length b.shared.roles ≡ cond (nat_lt (u.number k) u.entries || leb 1920 (u.number k)) u.entries (u.number k + 1)
         entries_is =

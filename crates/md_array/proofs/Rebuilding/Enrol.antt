@@ -14,9 +14,9 @@ use Rattle.md_assembly.proofs.Indices.{got_within}
 use Rattle.md_kept_members.specs.Enrolling.{HasRoomFor}
 use Rattle.md_kept_members.specs.Members.{made_due}
 use Rattle.md_kept_members.specs.View.{MemberView}
+use Rattle.md_membership.specs.Joining.{joined_shared}
 use Rattle.md_state.specs.Steps.Enrol.{ComesWith, MayTakeRole, enrolled, is_full_with}
 use Rattle.md_state.specs.Headers.{IsHeaderFor}
-use Rattle.md_state.specs.Steps.NoteJoined.{joined_shared}
 use Rattle.md_state.specs.View.{ArrayView, Disk, MirrorView, disk_of, of_disks}
 use Rattle.md_array.specs.Consistency.{IsConsistent}
 use Rattle.md_array.specs.Steps.Enrol.{Enrols, FailsToEnrol, IsStorable, IsUsedAlone, KeepsData, member_writes}
@@ -63,7 +63,7 @@ header_enrolled a k role n h events cleared count since is = record {
 }
 
 -- in memory, once all is stored
-pub enrolled_is : (a b : ArrayView) (k role : ℕ) (n : MemberView) (shared : Superblock) (full : Bool) → shared ≡ joined_shared a n.superblock.dev_number role → full ≡ is_full_with a k n
+pub enrolled_is : (a b : ArrayView) (k role : ℕ) (n : MemberView) (shared : Superblock) (full : Bool) → shared ≡ joined_shared a.shared a.members n.superblock.dev_number role → full ≡ is_full_with a k n
     → b ≡ record a { shared = shared; members = set (map made_due a.members) k n; events_cleared = cond full shared.events a.events_cleared } → b ≡ enrolled a k n role
 enrolled_is a b k role n shared full same told is =
     is ∙ (λ i. record a { shared = same i; members = set (map made_due a.members) k n; events_cleared = cond (told i) (same i).events a.events_cleared })
@@ -101,7 +101,7 @@ module _ {D : Type 0} (g : Ghosts D) (devices : List D) (k : ℕ) (was : D) (rea
 -- ---- the answers
 module _ (k role : ℕ) (copied orphans : Bitmap) (old new : MirrorView) (n : MemberView) (may : MayTakeRole k old.array role) (comes : ComesWith k role copied orphans old.array n)
     (start : ℕ) (starts : BitmapStartsAt n.superblock start) (h : BitmapHeader) (header : IsHeaderFor (enrolled old.array k n role) n h)
-    (shared : Superblock) (same : shared ≡ joined_shared old.array n.superblock.dev_number role) where
+    (shared : Superblock) (same : shared ≡ joined_shared old.array.shared old.array.members n.superblock.dev_number role) where
   pub enrols_by : new.array ≡ enrolled old.array k n role → IsReadable (merged shared n.superblock)
       → IsUsedAlone k old.disks new.disks (λ d e. DoesWrites of_disks (member_writes start h shared n) d e × KeepsData n d e) → Enrols k copied orphans old new
   enrols_by array readable disks =

@@ -34,9 +34,9 @@ use Rattle.md_assembly.specs.States.{is_in_sync, takes_role}
 use Rattle.md_kept_members.specs.Enrolling.{HasRoomFor, in_sync_superblock, log_room}
 use Rattle.md_kept_members.specs.Members.{made_due}
 use Rattle.md_kept_members.specs.View.{MemberView}
+use Rattle.md_membership.specs.Joining.{entries_with, joined_roles, role_after}
 use Rattle.md_state.specs.Steps.Enrol.{enrolled}
 use Rattle.md_state.specs.InMemory.{HasMarksOfSize, HasRoles}
-use Rattle.md_state.specs.Steps.NoteJoined.{entries_with, joined_roles, role_after}
 use Rattle.md_state.specs.Members.{IsMember}
 use Rattle.md_state.specs.View.{ArrayView, Disk, MirrorView}
 use Rattle.md_state.specs.Missing.{is_rebuilt}
@@ -44,16 +44,16 @@ use Rattle.md_state.specs.Missing.{is_rebuilt}
 -- ---- its role
 module _ (a : ArrayView) (k : ℕ) (m : MemberView) (role : ℕ) (is : IsMember a k m) (r : HasRoles a) where
   -- the array's superblock with its role has no more entries than one may have
-  pub few_entries : (own : Superblock) → IsReadable (merged (record a.shared { events = a.shared.events + 1; roles = joined_roles a m.superblock.dev_number role }) own)
-      → entries_with a m.superblock.dev_number ≤ 1920
+  pub few_entries : (own : Superblock) → IsReadable (merged (record a.shared { events = a.shared.events + 1; roles = joined_roles a.shared a.members m.superblock.dev_number role }) own)
+      → entries_with a.shared m.superblock.dev_number ≤ 1920
   few_entries own readable =
       let number = m.superblock.dev_number in
       let most = (sound_without_fault _ readable.sound).few_roles in
-      let count : length (joined_roles a number role) ≡ _ = ap length readable.fields.roles ∙ length-roles_in _ _ in
-      let entries = length-map-range_with_len (role_after a number role) 0 (entries_with a number) in
+      let count : length (joined_roles a.shared a.members number role) ≡ _ = ap length readable.fields.roles ∙ length-roles_in _ _ in
+      let entries = length-map-range_with_len (role_after a.shared a.members number role) 0 (entries_with a.shared number) in
       omega arith
 
-  pub takes_by : m.state ≡ Recovering role → entries_with a m.superblock.dev_number ≤ 1920 → TakesRole a k m role
+  pub takes_by : m.state ≡ Recovering role → entries_with a.shared m.superblock.dev_number ≤ 1920 → TakesRole a k m role
   takes_by state few =
       let number = m.superblock.dev_number in
       let takes : takes_role role m.state ≡ true = ap (takes_role role) state ∙ eq-eqb role role refl in
@@ -65,7 +65,7 @@ module _ (a : ArrayView) (k : ℕ) (m : MemberView) (role : ℕ) (is : IsMember 
         small = elim (cases_lt number 1920) [
           | inl small ↦ small
           | inr large ↦
-              let entries : entries_with a number ≡ length a.shared.roles = grind (arith, nat_tests) in
+              let entries : entries_with a.shared number ≡ length a.shared.roles = grind (arith, nat_tests) in
               let none = get_or_past a.shared.roles number 0xffff (omega arith) in
               absurd (omega arith)
         ];

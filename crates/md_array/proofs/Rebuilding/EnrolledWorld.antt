@@ -40,10 +40,11 @@ use Rattle.md_model.specs.States as states
 use Rattle.md_model.specs.Worlds.{Request, World}
 use Rattle.md_model.proofs.Cases.{is_below}
 use Rattle.md_model.proofs.Puts.{put-at}
+use Rattle.md_membership.specs.Numbers.{is_absent}
 use Rattle.md_state.proofs.Members.Filled.{filled_with}
 use Rattle.md_state.specs.Steps.Enrol.{enrolled, is_full_with}
 use Rattle.md_state.specs.Members.{IsMember, is_degraded, is_filled}
-use Rattle.md_state.specs.Steps.Rise.{is_absent, risen}
+use Rattle.md_state.specs.Steps.Rise.{risen}
 use Rattle.md_state.specs.View.{ArrayView, Disk, MirrorView, of_disks, geometry_of}
 use Rattle.md_super.specs.declared.superblock.Superblock.{Superblock}
 use Rattle.md_super.specs.Merge.{merged}
@@ -247,7 +248,7 @@ module _ (k : ℕ) (copied orphans : Bitmap) (old new : MirrorView) (c : IsConsi
     }
       where
         roles_many : length up.shared.roles ≡ length array.shared.roles
-        roles_many = length-map-range_with_len (λ x. cond (is_absent array x) 0xfffe (role_in array.shared x)) 0 (length array.shared.roles)
+        roles_many = length-map-range_with_len (λ x. cond (is_absent array.shared array.members x) 0xfffe (role_in array.shared x)) 0 (length array.shared.roles)
 
         entries_is : length b.shared.roles ≡ cond (nat_lt (u.number k) u.entries || leb 1920 (u.number k)) u.entries (u.number k + 1)
         entries_is =

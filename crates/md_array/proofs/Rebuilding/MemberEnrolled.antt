@@ -26,8 +26,8 @@ use Rattle.md_device_writes.specs.Writes.{after}
 use Rattle.md_kept_members.specs.Enrolling.{HasRoomFor}
 use Rattle.md_kept_members.specs.Members.{made_due}
 use Rattle.md_kept_members.specs.View.{MemberView}
+use Rattle.md_membership.specs.Joining.{entries_with, joined_roles}
 use Rattle.md_state.specs.Steps.Enrol.{enrolled}
-use Rattle.md_state.specs.Steps.NoteJoined.{entries_with, joined_roles}
 use Rattle.md_state.specs.Members.{is_degraded}
 use Rattle.md_state.specs.View.{ArrayView, Disk, MirrorView}
 
@@ -45,8 +45,8 @@ module _ (k : ℕ) (copied orphans : Bitmap) (old new : MirrorView) (c : IsConsi
   abbrev b : ArrayView
   b = enrolled a k n r.role
 
-  its_entries : entries_with a n.superblock.dev_number ≡ entries_with a m.superblock.dev_number
-  its_entries = ap (λ (v : Superblock). entries_with a v.dev_number) r.comes.comes.superblock
+  its_entries : entries_with a.shared n.superblock.dev_number ≡ entries_with a.shared m.superblock.dev_number
+  its_entries = ap (λ (v : Superblock). entries_with a.shared v.dev_number) r.comes.comes.superblock
 
   readable : IsReadable (merged b.shared n.superblock)
   readable = subst (λ (x : ArrayView). IsReadable (merged x.shared n.superblock)) r.array r.readable
@@ -55,8 +55,8 @@ module _ (k : ℕ) (copied orphans : Bitmap) (old new : MirrorView) (c : IsConsi
   takes =
       let same : r.may.member ≡ m = got_same a.members k r.may.member m r.may.at r.comes.at in
       let state : m.state ≡ Recovering r.role = subst (λ (x : MemberView). x.state ≡ Recovering r.role) same r.may.recovering in
-      let named : IsReadable (merged (record a.shared { events = a.shared.events + 1; roles = joined_roles a m.superblock.dev_number r.role }) n.superblock) =
-      subst (λ (v : Superblock). IsReadable (merged (record a.shared { events = a.shared.events + 1; roles = joined_roles a v.dev_number r.role }) n.superblock)) r.comes.comes.superblock readable in
+      let named : IsReadable (merged (record a.shared { events = a.shared.events + 1; roles = joined_roles a.shared a.members m.superblock.dev_number r.role }) n.superblock) =
+      subst (λ (v : Superblock). IsReadable (merged (record a.shared { events = a.shared.events + 1; roles = joined_roles a.shared a.members v.dev_number r.role }) n.superblock)) r.comes.comes.superblock readable in
       takes_by a k m r.role r.comes.at c.roles state (few_entries a k m r.role r.comes.at c.roles n.superblock named)
 
   room : HasRoomFor n.superblock n.bad

@@ -16,8 +16,8 @@ use Rattle.md_assembly.specs.States.{is_in_sync, role_in, takes_role}
 use Rattle.md_assembly.proofs.Indices.{got_within}
 use Rattle.md_kept_members.specs.Members.{made_due}
 use Rattle.md_kept_members.specs.View.{MemberView}
+use Rattle.md_membership.specs.Joining.{joined_shared}
 use Rattle.md_state.specs.InMemory.{HasMarksOfSize, HasRoles}
-use Rattle.md_state.specs.Steps.NoteJoined.{joined_shared}
 use Rattle.md_state.specs.Members.{IsMember, is_degraded, IsInSync}
 use Rattle.md_state.specs.Steps.Rise.{risen}
 use Rattle.md_state.specs.View.{ArrayView, Disk}
@@ -36,7 +36,7 @@ module _ (disks now : List Disk) (a : ArrayView) (c : IsConsistent (record { dis
   up = risen a (not (is_degraded a))
 
   abbrev b : ArrayView
-  b = record a { shared = joined_shared a n.superblock.dev_number role; members = set up.members k n; events_cleared = cleared }
+  b = record a { shared = joined_shared a.shared a.members n.superblock.dev_number role; members = set up.members k n; events_cleared = cleared }
 
   abbrev number : ℕ
   number = n.superblock.dev_number

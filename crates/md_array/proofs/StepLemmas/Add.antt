@@ -22,12 +22,13 @@ use Rattle.md_requests.specs.Pending.{PendingView}
 use Rattle.md_kept_members.specs.View.{MemberView}
 use Rattle.md_faults.specs.declared.add_fault.AddFault.{AddFault}
 use Rattle.md_faults.specs.declared.add_fault.AddFault.TheVariants as fault
-use Rattle.md_state.specs.Steps.Add.{IsSpareOf, MayAdd, RefusesToAdd, added, spare_role}
+use Rattle.md_membership.specs.Numbers.{has_number, spare_role}
+use Rattle.md_state.specs.Steps.Add.{IsSpareOf, MayAdd, RefusesToAdd, added}
 use Rattle.md_state.specs.InMemory.{HasMarksOfSize}
 use Rattle.md_state.specs.Requests.{IsPending, lacks}
-use Rattle.md_state.specs.Steps.Rise.{has_number, risen}
+use Rattle.md_state.specs.Steps.Rise.{risen}
 use Rattle.md_state.specs.View.{ArrayView, Disk, MirrorView, disk_of, of_disks}
-use Rattle.md_state.proofs.Members.Numbers.{number_is_small, number_is_unused}
+use Rattle.md_membership.proofs.NumbersUsed.{number_is_small, number_is_unused}
 use Rattle.md_array.specs.Steps.Add.{Adds, FailsToLayOut, LaysOutLast, RefusesAdd, RefusesToLayOut, RefusesUnwritten, kept_of}
 use Rattle.md_array.specs.Consistency.{IsConsistent}
 use Rattle.md_array.specs.Fits.{FitsMember}
@@ -40,14 +41,14 @@ module _ (a : ArrayView) (number sectors : ℕ) (laid : NewMember) (may : MayAdd
   pub its_number : laid.superblock.dev_number ≡ number
   its_number = spare.spare.superblock.dev_number
 
-  pub small : laid.superblock.dev_number < 1920
-  small = subst (λ n. n < 1920) (sym its_number) (number_is_small a number may.room may.number)
-
-  pub absent : has_number a laid.superblock.dev_number ≡ false
-  absent = ap (has_number a) its_number ∙ number_is_unused a number may.number
-
   pub room : length a.members < 64
   room = elim (cases_lt (length a.members) 64) [ inl low ↦ low | inr full ↦ absurd (may.room full) ]
+
+  pub small : laid.superblock.dev_number < 1920
+  small = subst (λ n. n < 1920) (sym its_number) (number_is_small a.shared a.members number room may.number)
+
+  pub absent : has_number a.members laid.superblock.dev_number ≡ false
+  absent = ap (has_number a.members) its_number ∙ number_is_unused a.shared a.members number may.number
 
   pub size_there : laid.superblock.size ≡ a.shared.size
   size_there = spare.spare.superblock.size_is

@@ -19,8 +19,9 @@ use Rattle.md_model.proofs.Steps.Between.{between_step, in_flight_step}
 use Rattle.md_kept_members.specs.Members.{made_due}
 use Rattle.md_kept_members.specs.View.{MemberView}
 use Rattle.md_faults.specs.declared.add_fault.AddFault.{AddFault}
-use Rattle.md_state.specs.Steps.Add.{IsFree, IsNumber, added, spare_role}
-use Rattle.md_state.specs.Steps.NoteJoined.{joined_roles}
+use Rattle.md_membership.specs.Joining.{joined_roles}
+use Rattle.md_membership.specs.Numbers.{IsFree, IsNumber, spare_role}
+use Rattle.md_state.specs.Steps.Add.{added}
 use Rattle.md_state.specs.Members.{IsMember, is_degraded}
 use Rattle.md_state.specs.Requests.{AreInFlight}
 use Rattle.md_state.specs.View.{ArrayView, Disk, MirrorView, geometry_of}
@@ -48,13 +49,13 @@ module _ (old : MirrorView) (requests : ℕ → Option Request) where
   abbrev w : World
   w = world_of old requests
 
-  as_free : (d : ℕ) → IsFree a d → membership.IsFree g w d
+  as_free : (d : ℕ) → IsFree a.shared a.members d → membership.IsFree g w d
   as_free d free = (free.room, free.unused, free.not_failed)
 
-  as_kept : (d : ℕ) → membership.IsFree g w d → IsFree a d
+  as_kept : (d : ℕ) → membership.IsFree g w d → IsFree a.shared a.members d
   as_kept d free = record { room = free.0; unused = free.1; not_failed = free.2 }
 
-  pub numbered : (d : ℕ) → IsNumber a d → membership.IsNumber g w d
+  pub numbered : (d : ℕ) → IsNumber a.shared a.members d → membership.IsNumber g w d
   numbered d (inl free) = inl (record { fits = as_free d free.fits; least = λ e other. free.least e (as_kept e other) })
   numbered d (inr least) = inr ((λ e other. least.0 e (as_kept e other)), record { fits = least.1.fits; least = λ e unused. least.1.least e unused })
 
@@ -116,7 +117,7 @@ module _ (k : ℕ) (device : Disk) (old new : MirrorView) (c : IsConsistent old)
 
     its_roles : (d : ℕ) → role_in laid.superblock d ≡ put r.number spare_role (role_at_rise (g old requests) (w old requests)) d
     its_roles d =
-        ap (λ (roles : List ℕ). get_or roles d 0xffff) (r.comes.spare.spare.superblock.roles ∙ ap (λ n. joined_roles old.array n spare_role) (sym is_number))
+        ap (λ (roles : List ℕ). get_or roles d 0xffff) (r.comes.spare.spare.superblock.roles ∙ ap (λ n. joined_roles old.array.shared old.array.members n spare_role) (sym is_number))
         ∙ role_joined old.array m spare_role low_number d
         ∙ ap (λ (f : ℕ → ℕ). put laid.superblock.dev_number spare_role f d) (λ i e. risen_role old.array full e i)
         ∙ ap (λ n. put n spare_role (role_at_rise (g old requests) (w old requests)) d) is_number

@@ -10,8 +10,9 @@ use Rattle.md_bitmap.specs.Marks.{Bitmap}
 use Rattle.md_assembly.specs.States.{role_in}
 use Rattle.md_requests.specs.Pending.{PendingView}
 use Rattle.md_kept_members.specs.Members.{made_due}
+use Rattle.md_membership.specs.Numbers.{has_number, is_absent}
 use Rattle.md_state.specs.View.{Disk, ArrayView, geometry_of}
-use Rattle.md_state.specs.Steps.Rise.{has_number, is_absent, risen}
+use Rattle.md_state.specs.Steps.Rise.{risen}
 use Rattle.md_state.specs.Members.{clean_offset}
 use Rattle.md_state.specs.Steps.Begin.{HasMarked, IsInRange, has_to_rise}
 use Rattle.md_state.specs.Requests.{IsPending, lacks}
@@ -61,17 +62,17 @@ module _ (disks : List Disk) (a : ArrayView) (requests : ℕ → Option worlds.R
   abbrev w : worlds.World
   w = world_on disks a requests
 
-  absent_there : list_any (is_absent a) (range_with_len 0 (length a.shared.roles)) ≡ true → counts.HasToRise (geometry_of a) w
+  absent_there : list_any (is_absent a.shared a.members) (range_with_len 0 (length a.shared.roles)) ≡ true → counts.HasToRise (geometry_of a) w
   absent_there e =
-      let x = at_any (is_absent a) (range_with_len 0 (length a.shared.roles)) e in
-      let parts = and_parts (nat_lt (role_in a.shared x.1) a.shared.raid_disks) (not (has_number a x.1)) x.3 in
-      inr (x.1, is_below _ _ parts.0, not-true (has_number a x.1) parts.1)
+      let x = at_any (is_absent a.shared a.members) (range_with_len 0 (length a.shared.roles)) e in
+      let parts = and_parts (nat_lt (role_in a.shared x.1) a.shared.raid_disks) (not (has_number a.members x.1)) x.3 in
+      inr (x.1, is_below _ _ parts.0, not-true (has_number a.members x.1) parts.1)
 
-  absent_here : (d : ℕ) → role_in a.shared d < a.shared.raid_disks → has_number a d ≡ false → list_any (is_absent a) (range_with_len 0 (length a.shared.roles)) ≡ true
+  absent_here : (d : ℕ) → role_in a.shared d < a.shared.raid_disks → has_number a.members d ≡ false → list_any (is_absent a.shared a.members) (range_with_len 0 (length a.shared.roles)) ≡ true
   absent_here d low away =
       let test = below-nat_lt (role_in a.shared d) a.shared.raid_disks low in
       elim (cases_lt d (length a.shared.roles)) [
-        | inl within ↦ any_at (is_absent a) (range_with_len 0 (length a.shared.roles)) d d (got_in_range (length a.shared.roles) d within) (and_from _ _ test (ap not away))
+        | inl within ↦ any_at (is_absent a.shared a.members) (range_with_len 0 (length a.shared.roles)) d d (got_in_range (length a.shared.roles) d within) (and_from _ _ test (ap not away))
         | inr past ↦ never _ test (past_is_high a d past)
       ]
 
@@ -79,7 +80,7 @@ module _ (disks : List Disk) (a : ArrayView) (requests : ℕ → Option worlds.R
   rises_as_told = (
     (λ e. elim (one_is (a.shared.resync_offset == clean_offset) _ e) [ inl clean ↦ inl clean | inr absent ↦ absent_there absent ]),
     (λ h. elim h [
-      | inl clean ↦ ap (λ b. b || list_any (is_absent a) (range_with_len 0 (length a.shared.roles))) clean
+      | inl clean ↦ ap (λ b. b || list_any (is_absent a.shared a.members) (range_with_len 0 (length a.shared.roles))) clean
       | inr x ↦ ap (λ b. a.shared.resync_offset == clean_offset || b) (absent_here x.0 x.1 x.2) ∙ or-true (a.shared.resync_offset == clean_offset)
     ]),
   )

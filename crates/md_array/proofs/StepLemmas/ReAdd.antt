@@ -35,12 +35,14 @@ use Rattle.md_device_writes.specs.Writes.{DoesWrites, FailsInWrites}
 use Rattle.md_requests.specs.Pending.{PendingView, has_written}
 use Rattle.md_faults.specs.declared.re_add_fault.ReAddFault.{ReAddFault}
 use Rattle.md_faults.specs.declared.re_add_fault.ReAddFault.TheVariants as fault
+use Rattle.md_membership.specs.Joining.{joined_shared}
+use Rattle.md_membership.specs.Numbers.{has_number}
 use Rattle.md_state.specs.DiskWrites.{IsFailed, IsWritten}
-use Rattle.md_state.specs.Steps.NoteJoined.{joined, joined_shared}
+use Rattle.md_state.specs.Steps.NoteJoined.{joined}
 use Rattle.md_state.specs.Members.{is_degraded}
 use Rattle.md_state.specs.Steps.ReAdd.{MayReAdd, RefusesToTakeBack, IsOffsetBack, IsReAddable}
 use Rattle.md_state.specs.Requests.{IsPending, lacks}
-use Rattle.md_state.specs.Steps.Rise.{has_number, risen}
+use Rattle.md_state.specs.Steps.Rise.{risen}
 use Rattle.md_state.specs.View.{ArrayView, Disk, MirrorView, disk_of}
 use Rattle.md_array.specs.Consistency.{IsConsistent}
 use Rattle.md_array.specs.Fits.{FitsMember}
@@ -124,7 +126,7 @@ module _ (a : ArrayView) (offset : ℕ) (info : MemberInfo) (m : MemberView) (ta
   size_kept = ap (λ (v : Superblock). v.size) taken.superblock ∙ size_there
 
   pub width_kept : m.header.chunksize / 512 ≡ a.chunks.sectors
-  width_kept = ap (λ (h : BitmapHeader). h.chunksize / 512) (same_Some m.header may.fits.header (sym taken.header ∙ may.fits.has_header)) ∙ may.fits.of_array.width
+  width_kept = ap (λ (h : BitmapHeader). h.chunksize / 512) (same_Some m.header may.fits.header (sym taken.header ∙ may.fits.has_header)) ∙ may.fits.of_array.chunks
 
   pub count_kept : a.chunks.size ≡ a.shared.size → a.marks.chunks ≡ div_ceil a.chunks.size a.chunks.sectors → m.stored.chunks ≡ a.marks.chunks
   count_kept size count =
@@ -164,7 +166,7 @@ has_marks_for a info fits whole size count marks is =
     ∙ ap (λ (x : BitmapHeader). chunk_count info.superblock.size x.chunksize) header
     ∙ ap (λ (n : ℕ). chunk_count n h.chunksize) (fits.of_array.size ∙ sym size)
     ∙ sym (div_ceil-sectors a.chunks.size h.chunksize h.sound.chunk_size)
-    ∙ ap (div_ceil a.chunks.size) fits.of_array.width
+    ∙ ap (div_ceil a.chunks.size) fits.of_array.chunks
     ∙ sym count in
     omega arith
 
@@ -216,8 +218,8 @@ module _ (k : ℕ) (device : Disk) (old new : MirrorView) (c : IsConsistent old)
   pub room : length a.members < 64
   room = elim (cases_lt (length a.members) 64) [ inl low ↦ low | inr full ↦ absurd (may.room full) ]
 
-  pub absent : has_number a m.superblock.dev_number ≡ false
-  absent = ap (has_number a) (number_there a offset info m taken may device.content device.honest r.read) ∙ may.fits.role.absent
+  pub absent : has_number a.members m.superblock.dev_number ≡ false
+  absent = ap (has_number a.members) (number_there a offset info m taken may device.content device.honest r.read) ∙ may.fits.role.absent
 
   pub taken_back_is_consistent : IsConsistent new
   unfolding after
@@ -287,22 +289,22 @@ module _ (device given : Disk) (v : MirrorView) (running : v.array.halted ≡ fa
 
 -- ---- what is done once it was read
 -- in memory, once its superblock is written
-pub joined_is : (a b : ArrayView) (m : MemberView) (v : Superblock) (full : Bool) (number role : ℕ) → v ≡ joined_shared a number role → number ≡ m.superblock.dev_number → full ≡ not (is_degraded a) → m.due ≡ false
+pub joined_is : (a b : ArrayView) (m : MemberView) (v : Superblock) (full : Bool) (number role : ℕ) → v ≡ joined_shared a.shared a.members number role → number ≡ m.superblock.dev_number → full ≡ not (is_degraded a) → m.due ≡ false
     → b ≡ record a { shared = v; members = map made_due a.members ++ record m { due = false } ∷ []; events_cleared = cond full v.events a.events_cleared } → b ≡ joined a m role
 joined_is a b m v full number role shared same told due is =
     is
-    ∙ ap (λ (x : Superblock). record a { shared = x; members = map made_due a.members ++ record m { due = false } ∷ []; events_cleared = cond full x.events a.events_cleared }) (shared ∙ ap (λ n. joined_shared a n role) same)
-    ∙ ap (λ b. record a { shared = joined_shared a m.superblock.dev_number role; members = map made_due a.members ++ record m { due = false } ∷ []; events_cleared = cond b (a.shared.events + 1) a.events_cleared }) told
+    ∙ ap (λ (x : Superblock). record a { shared = x; members = map made_due a.members ++ record m { due = false } ∷ []; events_cleared = cond full x.events a.events_cleared }) (shared ∙ ap (λ n. joined_shared a.shared a.members n role) same)
+    ∙ ap (λ b. record a { shared = joined_shared a.shared a.members m.superblock.dev_number role; members = map made_due a.members ++ record m { due = false } ∷ []; events_cleared = cond b (a.shared.events + 1) a.events_cleared }) told
     ∙ (λ i. record (joined a m role) { members = map made_due a.members ++ record m { due = sym due i } ∷ [] })
 
 -- on its device, by the contract of the write
 module _ {D : Type 0} (g : Ghosts D) (was now : D) (a : ArrayView) (offset : ℕ) (info : MemberInfo) (m : MemberView) (offset_is : IsOffsetBack a info offset) (taken : IsKeptTakenBack offset info m) (v : Superblock)
-    (shared : v ≡ joined_shared a info.superblock.dev_number (own_role info.superblock)) (outside : SameOutside (512 * 8) (length (write_of v m).bytes) (g.content was) (g.content now)) where
+    (shared : v ≡ joined_shared a.shared a.members info.superblock.dev_number (own_role info.superblock)) (outside : SameOutside (512 * 8) (length (write_of v m).bytes) (g.content was) (g.content now)) where
   number_kept : m.superblock.dev_number ≡ info.superblock.dev_number
   number_kept = ap (λ (x : Superblock). x.dev_number) taken.superblock
 
-  shared_kept : v ≡ joined_shared a m.superblock.dev_number (own_role info.superblock)
-  shared_kept = shared ∙ ap (λ n. joined_shared a n (own_role info.superblock)) (sym number_kept)
+  shared_kept : v ≡ joined_shared a.shared a.members m.superblock.dev_number (own_role info.superblock)
+  shared_kept = shared ∙ ap (λ n. joined_shared a.shared a.members n (own_role info.superblock)) (sym number_kept)
 
   pub recorded_last : (devices devices_now : List D) (b : ArrayView) (k : ℕ) → MayReAdd a info → b ≡ joined a m (own_role info.superblock) → IsReadable (merged v m.superblock) → DoesWrites g (write_of v m ∷ []) was now
       → sectors_of_device (g.content was) ≤ 2 ^ 54 → k ≡ length a.members → devices_now ≡ devices ++ now ∷ []
@@ -327,7 +329,7 @@ module _ {D : Type 0} (g : Ghosts D) (was now : D) (a : ArrayView) (offset : ℕ
     offset = offset;
     offset_is = subst (λ (x : ArrayView). IsOffsetBack x info offset) (sym array) offset_is;
     taken = taken;
-    failed = subst (λ (x : ArrayView). IsFailed 0 (write_of (joined_shared x m.superblock.dev_number (own_role info.superblock)) m) (disk_of g was ∷ []) (disk_of g now ∷ [])) (sym array)
+    failed = subst (λ (x : ArrayView). IsFailed 0 (write_of (joined_shared x.shared x.members m.superblock.dev_number (own_role info.superblock)) m) (disk_of g was ∷ []) (disk_of g now ∷ [])) (sym array)
         (subst (λ (x : Superblock). IsFailed 0 (write_of x m) (disk_of g was ∷ []) (disk_of g now ∷ [])) shared_kept
         (is_failed g (was ∷ []) 0 was refl now (write_of v m) (omega arith) outside stops));
   }

@@ -20,11 +20,13 @@ use Rattle.md_assembly.specs.States.{has_recovery_offset, is_in_sync, is_in_sync
 use Rattle.md_kept_members.specs.View.{MemberView}
 use Rattle.md_kept_members.specs.Members.{made_due}
 use Rattle.md_kept_members.proofs.Members.Indices.{listed_push}
+use Rattle.md_membership.specs.Joining.{entries_with, joined_roles, role_after}
+use Rattle.md_membership.specs.Numbers.{has_number, is_absent, roles_at_rise}
+use Rattle.md_membership.specs.Roles.{is_taken}
 use Rattle.md_state.specs.InMemory.{HasMarksOfSize, HasRoles}
-use Rattle.md_state.specs.Steps.NoteJoined.{entries_with, joined, joined_roles, role_after}
+use Rattle.md_state.specs.Steps.NoteJoined.{joined}
 use Rattle.md_state.specs.Members.{IsMember, is_degraded, is_filled}
-use Rattle.md_state.specs.Steps.ReAdd.{is_taken}
-use Rattle.md_state.specs.Steps.Rise.{has_number, is_absent, risen, roles_at_rise}
+use Rattle.md_state.specs.Steps.Rise.{risen}
 use Rattle.md_state.specs.View.{ArrayView, Disk, geometry_of}
 use Rattle.md_array.specs.Consistency.{IsConsistent}
 use Rattle.md_array.specs.Fits.{Fits, FitsMember}
@@ -44,10 +46,10 @@ pub record TakesAlone (a : ArrayView) (m : MemberView) (role : ℕ) : Type 0 whe
   pub out : is_in_sync m.state ≡ false
   pub unfilled : (wanted : ℕ) → is_in_sync_as wanted m.state ≡ false
   pub own : (wanted : ℕ) → takes_role wanted m.state ≡ true → role ≡ wanted
-  pub free : (wanted : ℕ) → takes_role wanted m.state ≡ true → is_taken a role ≡ false
+  pub free : (wanted : ℕ) → takes_role wanted m.state ≡ true → is_taken a.members role ≡ false
   pub below : (wanted : ℕ) → takes_role wanted m.state ≡ true → role < a.shared.raid_disks
 
-pub recovers_alone : (a : ArrayView) (m : MemberView) (role : ℕ) → m.state ≡ Recovering role → is_taken a role ≡ false → role < a.shared.raid_disks → TakesAlone a m role
+pub recovers_alone : (a : ArrayView) (m : MemberView) (role : ℕ) → m.state ≡ Recovering role → is_taken a.members role ≡ false → role < a.shared.raid_disks → TakesAlone a m role
 recovers_alone a m role state free below = record {
   out = ap is_in_sync state;
   unfilled = λ wanted. ap (is_in_sync_as wanted) state;
@@ -79,22 +81,22 @@ module _ (a : ArrayView) (m : MemberView) (role : ℕ) (small : m.superblock.dev
   number = m.superblock.dev_number
 
   -- ---- the roles
-  entries_are : entries_with a number ≡ max (length a.shared.roles) (number + 1)
+  entries_are : entries_with a.shared number ≡ max (length a.shared.roles) (number + 1)
   entries_are = grind (arith, nat_tests)
 
-  pub count_roles : length b.shared.roles ≡ entries_with a number
-  count_roles = length-map-range_with_len (role_after a number role) 0 (entries_with a number)
+  pub count_roles : length b.shared.roles ≡ entries_with a.shared number
+  count_roles = length-map-range_with_len (role_after a.shared a.members number role) 0 (entries_with a.shared number)
 
   pub role_joined : (d : ℕ) → role_in b.shared d ≡ put number role (role_in up.shared) d
   role_joined d =
       let enough = entries_are in
-      elim (cases_lt d (entries_with a number)) [
+      elim (cases_lt d (entries_with a.shared number)) [
         | inl low ↦
-            get_or-map-range_with_len (role_after a number role) 0 (entries_with a number) d d 0xffff low (omega arith)
+            get_or-map-range_with_len (role_after a.shared a.members number role) 0 (entries_with a.shared number) d d 0xffff low (omega arith)
             ∙ ap (cond (eqb d number) role) (sym (risen_role a full d))
         | inr past ↦
-            get_or_past (joined_roles a number role) d 0xffff (let count = count_roles in omega arith)
-            ∙ sym (get_or_past (roles_at_rise a) d 0xffff (let count = length-map-range_with_len (λ n. cond (is_absent a n) 0xfffe (role_in a.shared n)) 0 (length a.shared.roles) in omega arith))
+            get_or_past (joined_roles a.shared a.members number role) d 0xffff (let count = count_roles in omega arith)
+            ∙ sym (get_or_past (roles_at_rise a.shared a.members) d 0xffff (let count = length-map-range_with_len (λ n. cond (is_absent a.shared a.members n) 0xfffe (role_in a.shared n)) 0 (length a.shared.roles) in omega arith))
             ∙ sym (put-miss number role (role_in up.shared) d (λ same. absurd (omega arith)))
       ]
 
@@ -102,7 +104,7 @@ module _ (a : ArrayView) (m : MemberView) (role : ℕ) (small : m.superblock.dev
   was : (j : ℕ) (x : MemberView) → IsMember b j x → (IsMember up j x) ⊎ ((j ≡ length up.members) × (m ≡ x))
   was j x is = listed_push up.members m x j is
 
-  module _ (none : has_number a number ≡ false) (room : length a.members < 64) (alone : TakesAlone a m role) where
+  module _ (none : has_number a.members number ≡ false) (room : length a.members < 64) (alone : TakesAlone a m role) where
     other_number : (j : ℕ) (x : MemberView) → IsMember up j x → x.superblock.dev_number ≢ number
     other_number j x is same =
         let y = at_map made_due a.members j x is in
@@ -312,7 +314,7 @@ module _ (a : ArrayView) (m : MemberView) (role : ℕ) (small : m.superblock.dev
     }
       where
         roles_many : length up.shared.roles ≡ length a.shared.roles
-        roles_many = length-map-range_with_len (λ e. cond (is_absent a e) 0xfffe (role_in a.shared e)) 0 (length a.shared.roles)
+        roles_many = length-map-range_with_len (λ e. cond (is_absent a.shared a.members e) 0xfffe (role_in a.shared e)) 0 (length a.shared.roles)
 
     pub world_joined : world_on (disks ++ d ∷ []) b requests ≡ membership.joined (counts.risen (geometry_of a) (world_on disks a requests) full) (newcomer d.content)
     world_joined = world_entered ∙ ap (λ (w : worlds.World). membership.joined w (newcomer d.content)) (world_risen a full disks requests)

@@ -16,8 +16,9 @@ use Rattle.md_assembly.specs.declared.state.MemberState.TheVariants.{InSync, Rec
 use Rattle.md_assembly.specs.States.{has_recovery_offset, is_in_sync, is_in_sync_as, role_in, takes_role}
 use Rattle.md_kept_members.specs.View.{MemberView}
 use Rattle.md_kept_members.specs.Members.{made_due}
-use Rattle.md_state.specs.Members.{IsMember, is_degraded, is_filled, faulty_role}
-use Rattle.md_state.specs.Steps.Rise.{has_number, is_absent, roles_at_rise, risen}
+use Rattle.md_membership.specs.Numbers.{faulty_role, has_number, is_absent, roles_at_rise}
+use Rattle.md_state.specs.Members.{IsMember, is_degraded, is_filled}
+use Rattle.md_state.specs.Steps.Rise.{risen}
 use Rattle.md_state.specs.View.{Disk, ArrayView, MirrorView, geometry_of}
 use Rattle.md_state.specs.InMemory.{HasMarksOfSize, HasRoles}
 use Rattle.md_array.specs.Consistency.{HasSuper, IsConsistent}
@@ -35,14 +36,14 @@ past_is_high a d past =
     ap (λ role. nat_lt role a.shared.raid_disks) (get_or_past a.shared.roles d 0xffff past) ∙ not_below-nat_lt 0xffff a.shared.raid_disks (omega arith)
 
 module _ (a : ArrayView) (full : Bool) where
-  pub risen_role : (d : ℕ) → role_in (risen a full).shared d ≡ cond (is_absent a d) faulty_role (role_in a.shared d)
+  pub risen_role : (d : ℕ) → role_in (risen a full).shared d ≡ cond (is_absent a.shared a.members d) faulty_role (role_in a.shared d)
   risen_role d = elim (cases_lt d (length a.shared.roles)) [
-    | inl low ↦ get_or-map-range_with_len (λ n. cond (is_absent a n) faulty_role (role_in a.shared n)) 0 (length a.shared.roles) d d 0xffff low (omega arith)
+    | inl low ↦ get_or-map-range_with_len (λ n. cond (is_absent a.shared a.members n) faulty_role (role_in a.shared n)) 0 (length a.shared.roles) d d 0xffff low (omega arith)
     | inr past ↦
-        get_or_past (roles_at_rise a) d 0xffff
-        (let count = length-map-range_with_len (λ n. cond (is_absent a n) faulty_role (role_in a.shared n)) 0 (length a.shared.roles) in omega arith)
+        get_or_past (roles_at_rise a.shared a.members) d 0xffff
+        (let count = length-map-range_with_len (λ n. cond (is_absent a.shared a.members n) faulty_role (role_in a.shared n)) 0 (length a.shared.roles) in omega arith)
         ∙ sym (get_or_past a.shared.roles d 0xffff past)
-        ∙ sym (ap (λ b. cond (b && not (has_number a d)) faulty_role (role_in a.shared d)) (past_is_high a d past))
+        ∙ sym (ap (λ b. cond (b && not (has_number a.members d)) faulty_role (role_in a.shared d)) (past_is_high a d past))
   ]
 
   due_mapped : (o : Option MemberView) → unwrap_or (option_map (λ m. m.due) (option_map made_due o)) false
@@ -67,7 +68,7 @@ module _ (a : ArrayView) (full : Bool) where
     offset = λ k. read_map made_due 0 (λ m. m.superblock.recovery_offset) a.members k i;
     recovering = λ k. read_map made_due false (λ m. has_recovery_offset m.superblock) a.members k i;
     role = λ d. risen_role d i;
-    entries = length-map-range_with_len (λ d. cond (is_absent a d) faulty_role (role_in a.shared d)) 0 (length a.shared.roles) i;
+    entries = length-map-range_with_len (λ d. cond (is_absent a.shared a.members d) faulty_role (role_in a.shared d)) 0 (length a.shared.roles) i;
     present = λ d. any_map (λ m. eqb m.superblock.dev_number d) made_due a.members i;
     events = a.shared.events + 1;
     cleared_at = cond full (a.shared.events + 1) a.events_cleared;
@@ -92,7 +93,7 @@ module _ (a : ArrayView) (full : Bool) where
   present_role : (k : ℕ) (m : MemberView) → IsMember a k m → role_in (risen a full).shared m.superblock.dev_number ≡ role_in a.shared m.superblock.dev_number
   present_role k m is =
       let d = m.superblock.dev_number in
-      let there : has_number a d ≡ true = any_at (λ (n : MemberView). eqb n.superblock.dev_number d) a.members k m is (eq-eqb d d refl) in
+      let there : has_number a.members d ≡ true = any_at (λ (n : MemberView). eqb n.superblock.dev_number d) a.members k m is (eq-eqb d d refl) in
       risen_role d ∙ ap (λ b. cond b faulty_role (role_in a.shared d)) (ap (λ b. nat_lt (role_in a.shared d) a.shared.raid_disks && not b) there ∙ and-false (nat_lt (role_in a.shared d) a.shared.raid_disks))
 
   roles_risen : HasRoles a → HasRoles (risen a full)

@@ -10,16 +10,17 @@ use Rattle.md_model.proofs.Cases.{by_test, below-nat_lt, is_below}
 use Rattle.md_model.proofs.Puts.{by_same, put-hit, put-miss}
 use Rattle.md_assembly.specs.States.{has_recovery_offset, role_in}
 use Rattle.md_kept_members.specs.View.{MemberView}
+use Rattle.md_membership.specs.Numbers.{faulty_role, roles_without}
 use Rattle.md_state.specs.View.{Disk, ArrayView}
-use Rattle.md_state.specs.Members.{IsMember, faulty_role, clean_offset}
-use Rattle.md_state.specs.Steps.Rise.{made_faulty, roles_without, without}
+use Rattle.md_state.specs.Members.{IsMember, clean_offset}
+use Rattle.md_state.specs.Steps.Rise.{made_faulty, without}
 use Rattle.md_bitmap.specs.Marks.{is_set}
 use Rattle.md_array.specs.Worlds.{kind_of, stored_on, world_on, lists_of}
 use Rattle.md_array.proofs.General.Replaced.{read_changed, read_kept}
 use Rattle.md_array.proofs.General.Indices.{any_kept}
 
 -- ---- the roles
-pub length_without : (m : MemberView) (roles : List ℕ) → length (roles_without m roles) ≡ length roles
+pub length_without : (m : MemberView) (roles : List ℕ) → length (roles_without m.superblock.dev_number roles) ≡ length roles
 length_without m roles = by_number (nat_lt m.superblock.dev_number (length roles))
   where
     by_number : (b : Bool) → length (cond b (set roles m.superblock.dev_number faulty_role) roles) ≡ length roles
@@ -33,7 +34,7 @@ set_role roles n d low = by_same d n
     (λ apart. get_or-set_other roles n d faulty_role 0xffff apart ∙ sym (ap (λ b. cond (b && nat_lt d (length roles)) faulty_role (slice_index_or roles d 0xffff)) (ne_eqb d n apart)))
 
 pub role_without : (m : MemberView) (roles : List ℕ) (d : ℕ)
-    → slice_index_or (roles_without m roles) d 0xffff ≡ cond (eqb d m.superblock.dev_number && nat_lt d (length roles)) faulty_role (slice_index_or roles d 0xffff)
+    → slice_index_or (roles_without m.superblock.dev_number roles) d 0xffff ≡ cond (eqb d m.superblock.dev_number && nat_lt d (length roles)) faulty_role (slice_index_or roles d 0xffff)
 role_without m roles d = by_test (nat_lt n (length roles))
     (λ low. ap (λ b. slice_index_or (cond b (set roles n faulty_role) roles) d 0xffff) low ∙ set_role roles n d (is_below n (length roles) low))
     (λ past. ap (λ b. slice_index_or (cond b (set roles n faulty_role) roles) d 0xffff) past ∙ sym (ap (λ b. cond b faulty_role (slice_index_or roles d 0xffff)) (none_there past)))
@@ -47,7 +48,7 @@ role_without m roles d = by_test (nat_lt n (length roles))
         (λ apart. ap (λ b. b && nat_lt d (length roles)) (ne_eqb d n apart))
 
 -- the role of another number stays
-pub role_kept : (m : MemberView) (roles : List ℕ) (d : ℕ) → d ≢ m.superblock.dev_number → slice_index_or (roles_without m roles) d 0xffff ≡ slice_index_or roles d 0xffff
+pub role_kept : (m : MemberView) (roles : List ℕ) (d : ℕ) → d ≢ m.superblock.dev_number → slice_index_or (roles_without m.superblock.dev_number roles) d 0xffff ≡ slice_index_or roles d 0xffff
 role_kept m roles d apart =
     role_without m roles d ∙ ap (λ b. cond (b && nat_lt d (length roles)) faulty_role (slice_index_or roles d 0xffff)) (ne_eqb d m.superblock.dev_number apart)
 

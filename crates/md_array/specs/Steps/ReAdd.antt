@@ -11,9 +11,9 @@ use Rattle.md_kept_members.specs.TakingBack.{IsKeptTakenBack, own_role}
 use Rattle.md_kept_members.specs.View.{MemberView}
 use Rattle.md_faults.specs.declared.re_add_fault.ReAddFault.{ReAddFault}
 use Rattle.md_faults.specs.declared.re_add_fault.ReAddFault.TheVariants.{Halted, Member, Full, NotReAddable, NoRole, EventsFull, WriteFault, NoMemory}
+use Rattle.md_membership.specs.Joining.{joined_shared}
 use Rattle.md_state.specs.DeviceChanges.{IsLeftAlone, StaysHonest}
 use Rattle.md_state.specs.DiskWrites.{IsFailed, IsWritten}
-use Rattle.md_state.specs.Steps.NoteJoined.{joined_shared}
 use Rattle.md_state.specs.Members.{IsMember}
 use Rattle.md_state.specs.Steps.ReAdd.{IsOffsetBack, MayReAdd, RefusesToTakeBack, TakesBack}
 use Rattle.md_state.specs.Trying.{Refuses}
@@ -53,7 +53,7 @@ pub record FailsToRecordLast (device handed_back : Disk) (info : MemberInfo) (ol
   pub offset : ℕ
   pub offset_is : IsOffsetBack old.array info offset
   pub taken : IsKeptTakenBack offset info member
-  pub failed : IsFailed 0 (write_of (joined_shared old.array member.superblock.dev_number (own_role info.superblock)) member) (device ∷ []) (handed_back ∷ [])
+  pub failed : IsFailed 0 (write_of (joined_shared old.array.shared old.array.members member.superblock.dev_number (own_role info.superblock)) member) (device ∷ []) (handed_back ∷ [])
 
 abbrev pub RefusesToRecordLast : Disk → Disk → MemberInfo → MirrorView → MirrorView → ReAddFault → Type 0
 RefusesToRecordLast device handed_back info old new WriteFault = FailsToRecordLast device handed_back info old new

@@ -2,8 +2,9 @@
 ghost use Rattle.std.specs.Prelude.{◌≡◌, IfOk, MatchResult};
 ghost use Rattle.md_members.specs.Members.{sectors_of_device};
 ghost use Rattle.md_requests.specs.Pending.{PendingView};
-ghost use Rattle.md_state.specs.Steps.Add.{IsSpareOf, MayAdd, spare_role};
-ghost use Rattle.md_state.specs.Steps.NoteJoined.{joined_shared};
+ghost use Rattle.md_membership.specs.Joining.{joined_shared};
+ghost use Rattle.md_membership.specs.Numbers.{spare_role};
+ghost use Rattle.md_state.specs.Steps.Add.{IsSpareOf, MayAdd};
 ghost use Rattle.md_state.specs.Requests.{IsPending};
 ghost use Rattle.md_state.specs.View.{disk_of};
 ghost use Rattle.md_array.specs.Steps.Add.{AddHappens, Adds, LaysOutLast, RefusesAdd, RefusesToLayOut};
@@ -86,7 +87,7 @@ impl<D: Device + Drop> Mirror<D> {
     ) -> Result<(Superblock, NewMember), AllocError>
         requires sound { IsConsistent self.now }
         requires may { MayAdd self.now.array sectors number }
-        ensures { IfOk result (λ made. (made.0 ≡ joined_shared self.now.array number spare_role) × IsSpareOf self.now.array number sectors made.1) }
+        ensures { IfOk result (λ made. (made.0 ≡ joined_shared self.now.array.shared self.now.array.members number spare_role) × IsSpareOf self.now.array number sectors made.1) }
     {
         let shared = self.array.shared_with(alloc, number, SPARE)?;
         let spare = self.array.new_spare(alloc, &shared, number, sectors)?;

@@ -5,7 +5,7 @@ use Rattle.md_device.proofs.Leaving.{leaves_less, leaves_none, leaves_then}
 use Rattle.md_device_writes.specs.Writes.{IsAnyIn, Write}
 use Rattle.md_faults.specs.declared.re_add_fault.ReAddFault.TheVariants.{Halted, Member, Full, NotReAddable, NoRole, EventsFull, WriteFault, NoMemory}
 use Rattle.md_kept_members.specs.TakingBack.{own_role}
-use Rattle.md_state.specs.Steps.NoteJoined.{joined_shared}
+use Rattle.md_membership.specs.Joining.{joined_shared}
 use Rattle.md_state.specs.View.{Disk, MirrorView}
 use Rattle.md_array.specs.Steps.Record.{write_of}
 use Rattle.md_array.specs.Steps.ReAdd.{IsOnlyRead}
@@ -19,7 +19,7 @@ same_mirror device given old new left unchanged may = subst (λ (x : MirrorView)
 
 pub crashes_at_failed_re_add : CrashesAtFailedReAdd
 crashes_at_failed_re_add device given old new left honest f may =
-    let w : Write = write_of (joined_shared old.array f.fails.member.superblock.dev_number (own_role f.info.superblock)) f.fails.member in
+    let w : Write = write_of (joined_shared old.array.shared old.array.members f.fails.member.superblock.dev_number (own_role f.info.superblock)) f.fails.member in
     let after = f.after_reading in
     let same : after.content ≡ device.content = f.only_read.0.0 in
     let none : IsAnyIn w device.content device.content = record { size = refl; before = refl; after = refl } in

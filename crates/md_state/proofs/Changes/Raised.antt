@@ -9,20 +9,21 @@ use Rattle.md_super.specs.declared.superblock.Superblock.{Superblock}
 use Rattle.md_kept_members.specs.View.{MemberView}
 use Rattle.md_kept_members.specs.Members.{made_due}
 use Rattle.md_assembly.specs.States.{is_in_sync_as}
-use Rattle.md_state.specs.Steps.Rise.{made_faulty, risen, roles_at_rise, roles_without, without, failed}
+use Rattle.md_membership.specs.Numbers.{roles_at_rise, roles_without}
+use Rattle.md_state.specs.Steps.Rise.{made_faulty, risen, without, failed}
 use Rattle.md_state.specs.Members.{IsMember, is_degraded, is_filled}
 use Rattle.md_state.specs.View.{ArrayView}
-use Rattle.md_state.proofs.Changes.AbsentRoles.{with_roles}
-use Rattle.md_state.proofs.Changes.Profiles.{same_profile}
+use Rattle.md_membership.proofs.Profiles.{same_profile}
 
-pub raised : (a b : ArrayView) (members : List MemberView) (full : Bool) (p : IsProfile b.shared.feature_map b.shared.level b.shared.raid_disks b.shared.super_offset)
-    → b ≡ with_roles a (roles_at_rise a) → members ≡ map made_due b.members
-    → record b { shared = record b.shared { events = b.shared.events + 1; in_profile = p }; members = members; events_cleared = cond full (b.shared.events + 1) b.events_cleared } ≡ risen a full
-raised a b members full p is due =
-    ap (λ (v : Superblock). record b { shared = v; members = members; events_cleared = cond full (b.shared.events + 1) b.events_cleared })
-    (same_profile (record b.shared { events = b.shared.events + 1 }) p)
-    ∙ ap (λ (ms : List MemberView). record b { shared = record b.shared { events = b.shared.events + 1 }; members = ms; events_cleared = cond full (b.shared.events + 1) b.events_cleared }) due
-    ∙ ap (λ (x : ArrayView). record x { shared = record x.shared { events = x.shared.events + 1 }; members = map made_due x.members; events_cleared = cond full (x.shared.events + 1) x.events_cleared }) is
+pub raised : (a b : ArrayView) (w : Superblock) (members : List MemberView) (full : Bool) (p : IsProfile w.feature_map w.level w.raid_disks w.super_offset)
+    → b ≡ a → w ≡ record b.shared { roles = roles_at_rise b.shared b.members } → members ≡ map made_due b.members
+    → record b { shared = record w { events = w.events + 1; in_profile = p }; members = members; events_cleared = cond full (w.events + 1) b.events_cleared } ≡ risen a full
+raised a b w members full p is dropped due =
+    ap (λ (v : Superblock). record b { shared = v; members = members; events_cleared = cond full (w.events + 1) b.events_cleared })
+    (same_profile (record w { events = w.events + 1 }) p)
+    ∙ ap (λ (v : Superblock). record b { shared = record v { events = v.events + 1 }; members = members; events_cleared = cond full (v.events + 1) b.events_cleared }) dropped
+    ∙ ap (λ (ms : List MemberView). record (risen b full) { members = ms }) due
+    ∙ ap (λ (x : ArrayView). risen x full) is
 
 any-map : {A B : Type 0} (f : A → B) (p : B → Bool) (xs : List A) → list_any p (map f xs) ≡ list_any (λ x. p (f x)) xs
 any-map f p [] = refl
@@ -37,14 +38,13 @@ degraded_of a b members disks =
     ∙ ap (λ n. list_any (λ role. not (is_filled a role)) (range_with_len 0 n)) disks
 
 -- member k became faulty
-pub faulted : (a b : ArrayView) (k : ℕ) (m x : MemberView) (roles : List ℕ) (p : IsProfile b.shared.feature_map b.shared.level b.shared.raid_disks b.shared.super_offset)
-    → b ≡ a → x ≡ m → roles ≡ roles_without m a.shared.roles
-    → record b { shared = record b.shared { roles = roles; in_profile = p }; members = set b.members k (made_faulty x) } ≡ without a k m
-faulted a b k m x roles p is same changed =
-    ap (λ (v : Superblock). record b { shared = v; members = set b.members k (made_faulty x) }) (same_profile (record b.shared { roles = roles }) p)
-    ∙ ap (λ (n : MemberView). record b { shared = record b.shared { roles = roles }; members = set b.members k (made_faulty n) }) same
-    ∙ ap (λ (rs : List ℕ). record b { shared = record b.shared { roles = rs }; members = set b.members k (made_faulty m) }) changed
-    ∙ ap (λ (y : ArrayView). record y { shared = record y.shared { roles = roles_without m a.shared.roles }; members = set y.members k (made_faulty m) }) is
+pub faulted : (a b : ArrayView) (k : ℕ) (m x : MemberView) (w : Superblock) → b ≡ a → x ≡ m
+    → w ≡ record b.shared { roles = roles_without x.superblock.dev_number b.shared.roles }
+    → record b { shared = w; members = set b.members k (made_faulty x) } ≡ without a k m
+faulted a b k m x w is same dropped =
+    ap (λ (v : Superblock). record b { shared = v; members = set b.members k (made_faulty x) }) dropped
+    ∙ ap (λ (n : MemberView). without b k n) same
+    ∙ ap (λ (y : ArrayView). without y k m) is
 
 turned : {A : Type 0} (b : Bool) (x y : A) → cond b x y ≡ cond (not b) y x
 turned true x y = refl

@@ -13,7 +13,7 @@ use Rattle.md_state.specs.View.{ArrayView, Disk}
 use Rattle.md_state.specs.Members.{clean_offset, is_degraded}
 use Rattle.md_state.specs.Steps.Rise.{risen}
 use Rattle.md_state.specs.Steps.Begin.{HasMarked, IsInRange, MayBeginAt, RefusesBegin, active_offset, array_after_rise, has_to_rise, with_request}
-use Rattle.md_state.proofs.Changes.Profiles.{same_profile}
+use Rattle.md_membership.proofs.Profiles.{same_profile}
 
 -- the list with a request of these sectors
 abbrev pub entered : InflightList Extent → ℕ → ℕ → InflightList Extent

@@ -1,38 +1,19 @@
--- A new device comes in as a spare (hot_add_disk in the kernel's md driver and mdadm's --add; how its number is chosen, and that the
--- count rises, are this project's own).
-use Rattle.std.specs.Prelude.{◌≡◌, ◌≢◌, ◌⊎◌, ℕ, ◌+◌, ◌<◌, ◌≤◌, true, false, cond, length, replicate}
+-- A new device comes in as a spare (hot_add_disk in the kernel's md driver and mdadm's --add; that the count rises is this project's
+-- own).
+use Rattle.std.specs.Prelude.{◌≡◌, ℕ, ◌+◌, ◌≤◌, true, false, cond, length, replicate}
 use Rattle.md_bitmap.specs.declared.header.BitmapHeader.{BitmapHeader}
 use Rattle.md_bitmap.specs.Header.{CountsFit, SettingsFit}
 use Rattle.md_create.specs.declared.params.NewMember.{NewMember}
 use Rattle.md_create.specs.Spares.{IsNewSpare}
-use Rattle.md_model.specs.Membership.{IsLeastNumber}
-use Rattle.md_assembly.specs.States.{role_in}
 use Rattle.md_kept_members.specs.Spares.{IsOfFreshest, kept_spare}
 use Rattle.md_faults.specs.declared.add_fault.AddFault.{AddFault}
 use Rattle.md_faults.specs.declared.add_fault.AddFault.TheVariants.{Halted, TooSmall, Full, EventsFull, WriteFault, NoMemory}
-use Rattle.md_state.specs.Steps.NoteJoined.{HasMostMembers, joined, joined_shared}
-use Rattle.md_state.specs.Members.{faulty_role, is_degraded}
-use Rattle.md_state.specs.Steps.Rise.{HasSpentEvents, has_number, is_absent}
+use Rattle.md_membership.specs.Joining.{joined_shared}
+use Rattle.md_membership.specs.Numbers.{IsNumber, spare_role}
+use Rattle.md_state.specs.Steps.NoteJoined.{HasMostMembers, joined}
+use Rattle.md_state.specs.Members.{is_degraded}
+use Rattle.md_state.specs.Steps.Rise.{HasSpentEvents}
 use Rattle.md_state.specs.View.{ArrayView}
-
--- the role of a device that has none in the array (MD_DISK_ROLE_SPARE of md_p.h)
-abbrev pub spare_role : ℕ
-spare_role = 0xffff
-
--- ---- its number
--- the role of a number after a rise of the count: that of an absent device is a failed one's then
-abbrev pub role_at_rise : ArrayView → ℕ → ℕ
-role_at_rise a d = cond (is_absent a d) faulty_role (role_in a.shared d)
-
--- A superblock has room for it, no member has it, and it is not that of a failed device.
-pub record IsFree (a : ArrayView) (d : ℕ) : Type 0 where
-  pub room : d < 1920
-  pub unused : has_number a d ≡ false
-  pub not_failed : role_at_rise a d ≢ faulty_role
-
--- the least such; where there is none, the least that no member has
-abbrev pub IsNumber : ArrayView → ℕ → Type 0
-IsNumber a d = IsLeastNumber (IsFree a) d ⊎ (((e : ℕ) → IsFree a e → ⊥) × IsLeastNumber (λ e. has_number a e ≡ false) d)
 
 -- ---- whether it may come in
 -- 2048 sectors of the device are in front of its data
@@ -45,7 +26,7 @@ pub record MayAdd (a : ArrayView) (sectors d : ℕ) : Type 0 where
   pub long : HasRoomForData a sectors
   pub room : HasMostMembers a → ⊥
   pub unspent : HasSpentEvents a → ⊥
-  pub number : IsNumber a d
+  pub number : IsNumber a.shared a.members d
 
 pub record IsTooSmall (a : ArrayView) (sectors : ℕ) : Type 0 where
   pub running : a.halted ≡ false
@@ -96,7 +77,7 @@ pub record IsSpareOf (a : ArrayView) (number sectors : ℕ) (m : NewMember) : Ty
   pub settings : BitmapHeader
   pub of_freshest : IsOfFreshest a.members settings
   pub header : IsSpareHeader a settings m.header
-  pub spare : IsNewSpare (joined_shared a number spare_role) m.header number sectors m
+  pub spare : IsNewSpare (joined_shared a.shared a.members number spare_role) m.header number sectors m
 
 -- ---- the array with it
 abbrev pub added : ArrayView → NewMember → ArrayView

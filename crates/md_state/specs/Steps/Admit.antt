@@ -6,30 +6,20 @@ use Rattle.md_kept_members.specs.TakingBack.{admitted_member}
 use Rattle.md_kept_members.specs.View.{MemberView}
 use Rattle.md_faults.specs.declared.admit_fault.AdmitFault.{AdmitFault}
 use Rattle.md_faults.specs.declared.admit_fault.AdmitFault.TheVariants.{Halted, NoRole, EventsFull, TargetFault, NoMemory}
-use Rattle.md_state.specs.Steps.NoteJoined.{joined_shared}
+use Rattle.md_membership.specs.Joining.{joined_shared}
+use Rattle.md_membership.specs.Roles.{AreAllTaken, IsLeastFree}
 use Rattle.md_state.specs.Members.{IsMember}
-use Rattle.md_state.specs.Steps.ReAdd.{is_taken}
 use Rattle.md_state.specs.Steps.Rise.{HasSpentEvents}
 use Rattle.md_state.specs.View.{ArrayView}
 
 -- ---- its role
--- the least role that no member in sync or recovering has
-pub record IsLeastFree (a : ArrayView) (role : ℕ) : Type 0 where
-  pub below : role < a.shared.raid_disks
-  pub free : is_taken a role ≡ false
-  pub least : (r : ℕ) → r < role → is_taken a r ≡ true
-
--- each role is taken
-abbrev pub AreAllTaken : ArrayView → Type 0
-AreAllTaken a = (r : ℕ) → r < a.shared.raid_disks → is_taken a r ≡ true
-
 -- A member gets a role, if a superblock has room for its number.
 pub record GetsRole (a : ArrayView) (m : MemberView) (role : ℕ) : Type 0 where
   pub small : m.superblock.dev_number < 1920
-  pub least : IsLeastFree a role
+  pub least : IsLeastFree a.shared.raid_disks a.members role
 
 abbrev pub GetsNoRole : ArrayView → MemberView → Type 0
-GetsNoRole a m = (1920 ≤ m.superblock.dev_number) ⊎ AreAllTaken a
+GetsNoRole a m = (1920 ≤ m.superblock.dev_number) ⊎ AreAllTaken a.shared.raid_disks a.members
 
 -- ---- whether it may be admitted
 pub record MayAdmit (k : ℕ) (a : ArrayView) (role : ℕ) : Type 0 where
@@ -67,6 +57,6 @@ RefusesToAdmit k a NoMemory = ⊥
 abbrev pub admitted : ArrayView → ℕ → MemberView → ℕ → ArrayView
 admitted a k m role =
     record a {
-      shared = joined_shared a m.superblock.dev_number role;
+      shared = joined_shared a.shared a.members m.superblock.dev_number role;
       members = set (map made_due a.members) k (admitted_member role m);
     }

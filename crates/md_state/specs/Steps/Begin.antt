@@ -1,6 +1,5 @@
 -- A request begins: it is entered, and its chunks are marked in memory.
 use Rattle.std.specs.Prelude.{◌≡◌, ◌≢◌, ℕ, ◌+◌, ◌-◌, ◌/◌, ◌<◌, ◌≤◌, ◌^◌, Bool, true, false, not, cond, ◌==◌, ◌&&◌, ◌||◌, nat_le, List, [], ◌∷◌, ◌++◌, length, Some, None}
-use Rattle.std.specs.List.{list_any, range_with_len}
 use Rattle.md_inflight.specs.Inflight.{lookup}
 use Rattle.md_bitmap.specs.Marks.{Bitmap, is_set}
 use Rattle.md_requests.specs.Pending.{PendingView}
@@ -8,13 +7,14 @@ use Rattle.md_faults.specs.declared.step_fault.BeginFault.{BeginFault}
 use Rattle.md_faults.specs.declared.step_fault.BeginFault.TheVariants.{Halted, OutOfRange, Overlaps, NotResynced, EventsFull, NumbersSpent, NoMemory}
 use Rattle.md_state.specs.View.{ArrayView, MirrorView}
 use Rattle.md_state.specs.Members.{is_degraded, clean_offset}
-use Rattle.md_state.specs.Steps.Rise.{is_absent, risen, HasSpentEvents}
+use Rattle.md_membership.specs.Numbers.{has_absent_role}
+use Rattle.md_state.specs.Steps.Rise.{risen, HasSpentEvents}
 use Rattle.md_state.specs.Trying.{Refuses, RefusesHalted}
 use Rattle.md_state.specs.Steps.ClearIdle.{first_in_flight}
 
 -- The count rises at a request: the array is clean, or a role below raid_disks is that of an absent device.
 abbrev pub has_to_rise : ArrayView → Bool
-has_to_rise a = a.shared.resync_offset == clean_offset || list_any (is_absent a) (range_with_len 0 (length a.shared.roles))
+has_to_rise a = a.shared.resync_offset == clean_offset || has_absent_role a.shared a.members
 
 -- the request has a sector, and lies within the array
 pub record IsInRange (a : ArrayView) (sector sectors : ℕ) : Type 0 where

@@ -9,7 +9,7 @@ use Rattle.md_kept_members.specs.Members.{made_due}
 use Rattle.md_kept_members.specs.View.{MemberView}
 use Rattle.md_faults.specs.declared.enrol_fault.EnrolFault.{EnrolFault}
 use Rattle.md_faults.specs.declared.enrol_fault.EnrolFault.TheVariants.{Halted, EventsFull, LogFull, TargetFault, NoMemory}
-use Rattle.md_state.specs.Steps.NoteJoined.{joined_shared}
+use Rattle.md_membership.specs.Joining.{joined_shared}
 use Rattle.md_state.specs.Members.{IsMember, is_degraded}
 use Rattle.md_state.specs.Steps.Rise.{HasSpentEvents}
 use Rattle.md_state.specs.View.{ArrayView}
@@ -70,7 +70,7 @@ is_full_with a k n = not (is_degraded (record a { members = set a.members k n })
 abbrev pub enrolled : ArrayView → ℕ → MemberView → ℕ → ArrayView
 enrolled a k n role =
     record a {
-      shared = joined_shared a n.superblock.dev_number role;
+      shared = joined_shared a.shared a.members n.superblock.dev_number role;
       members = set (map made_due a.members) k n;
       events_cleared = cond (is_full_with a k n) (a.shared.events + 1) a.events_cleared;
     }

@@ -8,7 +8,8 @@ use Rattle.md_faults.specs.declared.step_fault.RemoveFault.{RemoveFault}
 use Rattle.md_faults.specs.declared.step_fault.RemoveFault.TheVariants.{Halted, StillActive, EventsFull}
 use Rattle.md_state.specs.Steps.Fail.{IsRunningWith}
 use Rattle.md_state.specs.Members.{IsMember, is_degraded}
-use Rattle.md_state.specs.Steps.Rise.{HasSpentEvents, risen, roles_without}
+use Rattle.md_membership.specs.Numbers.{roles_without}
+use Rattle.md_state.specs.Steps.Rise.{HasSpentEvents, risen}
 use Rattle.md_state.specs.Trying.{Refuses, RefusesHalted}
 use Rattle.md_state.specs.View.{ArrayView, Disk, MirrorView}
 
@@ -18,7 +19,7 @@ taken_out a k = record a { members = remove a.members k }
 
 -- The entry of its number is that of a failed device, where it has one. None is made.
 abbrev pub without_entry : ArrayView → MemberView → ArrayView
-without_entry a m = record a { shared = record a.shared { roles = roles_without m a.shared.roles } }
+without_entry a m = record a { shared = record a.shared { roles = roles_without m.superblock.dev_number a.shared.roles } }
 
 -- the count rises, and the array is as full after it as before
 abbrev pub without_spare : ArrayView → MemberView → ArrayView

@@ -1,11 +1,10 @@
 // A new device may come in.
-ghost use Rattle.std.specs.Prelude.{◌≡◌, ◌+◌, ◌↔◌, ◌<◌, ◌≤◌, MatchResult, nat_le, IsTrue, false, ℕ, IfOk, length};
-ghost use Rattle.md_model.specs.Membership.{IsLeastNumber};
+ghost use Rattle.std.specs.Prelude.{◌≡◌, ◌+◌, ◌<◌, MatchResult, nat_le, ℕ, IfOk, length};
 ghost use Rattle.md_bitmap.specs.Sound.{IsSoundHeader};
 ghost use Rattle.md_kept_members.specs.View.{MemberView};
-ghost use Rattle.md_state.specs.Steps.Add.{MayAdd, RefusesToAdd, IsFree, IsNumber, role_at_rise, HasRoomForData, IsSpareHeader, IsSpareOf, spare_role};
-ghost use Rattle.md_state.specs.Steps.NoteJoined.{HasMostMembers, joined_shared};
-ghost use Rattle.md_state.specs.Steps.Rise.{has_number};
+ghost use Rattle.md_membership.specs.Joining.{joined_shared};
+ghost use Rattle.md_membership.specs.Numbers.{spare_role};
+ghost use Rattle.md_state.specs.Steps.Add.{MayAdd, RefusesToAdd, HasRoomForData, IsSpareHeader, IsSpareOf};
 ghost use Rattle.md_state.specs.Members.{IsMember};
 
 use crate::array::Array;
@@ -15,7 +14,8 @@ use md_bitmap::BitmapHeader;
 use md_create::{BITMAP_RESERVED, DATA_SECTOR, NewMember, new_spare};
 use md_faults::AddFault;
 use md_kept_members::freshest_header;
-use md_super::{FAULTY, MAX_ROLES, Superblock};
+use md_membership::new_number;
+use md_super::Superblock;
 use std::alloc::{AllocError, Global};
 
 impl Array {
@@ -36,7 +36,7 @@ impl Array {
         if self.shared.events == u64::MAX {
             return Err(AddFault::EventsFull);
         }
-        Ok(self.new_number())
+        Ok(new_number(&self.shared, &self.members))
     }
 }
 
@@ -47,54 +47,6 @@ fn is_long_enough(sectors: u64, size: u64) -> bool
     match sectors.checked_sub(DATA_SECTOR) {
         Some(room) => size <= room,
         None => false,
-    }
-}
-
-// The number of a new device.
-impl Array {
-    /// The number that a new device gets.
-    pub(crate) fn new_number(&self) -> u32
-        requires { HasMostMembers self.now → ⊥ }
-        ensures { IsNumber self.now result }
-    {
-        for number in 0..MAX_ROLES {
-            if self.is_free(number) {
-                return number;
-            }
-        }
-        self.least_unused()
-    }
-
-    // Whether no member has the number, and it is not that of a failed device after a rise of the count.
-    fn is_free(&self, number: u32) -> bool
-        requires { number < 1920 }
-        ensures { IsTrue result ↔ IsFree self.now number }
-    {
-        !self.has_number(number) && self.role_at_rise(number) != FAULTY
-    }
-
-    /// The role of a number after a rise of the count.
-    pub(crate) fn role_at_rise(&self, number: u32) -> u16
-        ensures { result ≡ role_at_rise self.now number }
-    {
-        if self.is_absent(number) {
-            return FAULTY;
-        }
-        self.shared.role_of(number)
-    }
-
-    // The least number that no member has. Of one number more than there are members, one is.
-    fn least_unused(&self) -> u32
-        requires { HasMostMembers self.now → ⊥ }
-        ensures { IsLeastNumber (λ d. has_number self.now d ≡ false) result }
-    {
-        let members = self.members.len() as u32;
-        for number in 0..members {
-            if !self.has_number(number) {
-                return number;
-            }
-        }
-        members
     }
 }
 
@@ -109,7 +61,7 @@ impl Array {
         number: u32,
         sectors: u64,
     ) -> Result<NewMember, AllocError>
-        requires shared { shared.now ≡ joined_shared self.now number spare_role }
+        requires shared { shared.now ≡ joined_shared self.now.shared self.now.members number spare_role }
         requires some { 0 < length self.now.members }
         requires sound { (k : ℕ) (m : MemberView) → IsMember self.now k m → IsSoundHeader self.now.shared.size m.header.chunksize }
         requires some_size { 0 < self.now.shared.size }

@@ -3,12 +3,13 @@ ghost use Rattle.std.specs.Prelude.{◌≡◌, ◌<◌, MatchOption, MatchResult
 ghost use Rattle.md_kept_members.specs.Members.{made_due};
 ghost use Rattle.md_kept_members.specs.TakingBack.{admitted_member, recovering};
 ghost use Rattle.md_kept_members.specs.View.{MemberView};
-ghost use Rattle.md_state.specs.Steps.Admit.{AreAllTaken, GetsNoRole, GetsRole, IsLeastFree, MayAdmit, RefusesToAdmit};
+ghost use Rattle.md_state.specs.Steps.Admit.{GetsNoRole, GetsRole, MayAdmit, RefusesToAdmit};
 ghost use Rattle.md_state.specs.Members.{IsMember};
 
 use crate::array::Array;
 use md_faults::AdmitFault;
 use md_kept_members::{Member, make_due, note_admitted};
+use md_membership::least_free_role;
 use md_super::{MAX_ROLES, Superblock};
 
 impl Array {
@@ -65,18 +66,6 @@ impl Array {
         if member.superblock.dev_number >= MAX_ROLES {
             return None;
         }
-        self.least_free_role()
-    }
-
-    fn least_free_role(&self) -> Option<u16>
-        ensures { MatchOption result (AreAllTaken self.now) (IsLeastFree self.now) }
-    {
-        let disks = self.shared.raid_disks as u16;
-        for role in 0..disks {
-            if !self.is_taken(role) {
-                return Some(role);
-            }
-        }
-        None
+        least_free_role(&self.shared, &self.members)
     }
 }

@@ -11,7 +11,7 @@ use crate::array::Array;
 use md_assembly::MemberState;
 use md_faults::{CopyFault, FailFault, StoreFault, WriteMemberFault};
 use md_kept_members::has_other_in_sync;
-use md_super::FAULTY;
+use md_membership::drop_role;
 
 impl Array {
     /// The answer where storing something on member k failed: the member is faulty from now on, or the
@@ -90,10 +90,7 @@ impl Array {
         let member = &mut self.members[k];
         member.state = MemberState::Faulty;
         member.due = false;
-        let number = member.superblock.dev_number;
-        if number < self.shared.roles.max_dev() {
-            self.shared.roles.set(number, FAULTY);
-        }
+        drop_role(&mut self.shared, member.superblock.dev_number);
     }
 
     // Where the array is full, marks that are cleared from now on are cleared at its count.

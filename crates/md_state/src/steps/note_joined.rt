@@ -1,13 +1,14 @@
 // A device comes in as a member.
-ghost use Rattle.std.specs.Prelude.{◌≡◌, ◌++◌, ◌∷◌, ◌<◌, ◌≤◌, List, [], IfOk, cond, false, length, map};
+ghost use Rattle.std.specs.Prelude.{◌≡◌, ◌++◌, ◌∷◌, ◌<◌, List, [], IfOk, cond, false, length, map};
 ghost use Rattle.md_kept_members.specs.Members.{made_due};
 ghost use Rattle.md_kept_members.specs.View.{MemberView};
-ghost use Rattle.md_state.specs.Steps.NoteJoined.{entries_with, joined_roles, joined_shared, role_after};
+ghost use Rattle.md_membership.specs.Joining.{joined_shared};
 ghost use Rattle.md_state.specs.Steps.Rise.{HasSpentEvents};
 
 use crate::array::Array;
 use md_kept_members::make_due;
-use md_super::{MAX_ROLES, Roles, Superblock};
+use md_membership::joined_superblock;
+use md_super::Superblock;
 use std::alloc::{AllocError, Global};
 
 /// The members that an array may have.
@@ -23,13 +24,9 @@ impl Array {
         role: u16,
     ) -> Result<Superblock, AllocError>
         requires { HasSpentEvents self.now → ⊥ }
-        ensures { IfOk result (λ v. v ≡ joined_shared self.now number role) }
+        ensures { IfOk result (λ v. v ≡ joined_shared self.now.shared self.now.members number role) }
     {
-        let roles = self.roles_with(alloc, number, role)?;
-        let mut next = self.shared.try_clone(alloc)?;
-        next.events += 1;
-        next.roles = roles;
-        Ok(next)
+        joined_superblock(alloc, &self.shared, &self.members, number, role)
     }
 
     /// The member that stands last has come in, with the array's fields as `shared_with` gives them. `full`
@@ -59,36 +56,5 @@ impl Array {
         let last = self.members.len() - 1;
         make_due(&mut self.members);
         self.members[last].due = false;
-    }
-
-    fn roles_with(&self, alloc: Global, number: u32, role: u16) -> Result<Roles, AllocError>
-        ensures { IfOk result (λ roles. roles ≡ joined_roles self.now number role) }
-    {
-        let mut roles = Vec::new(alloc);
-        for d in 0..self.entries_with(number) {
-            roles.push(self.role_after(number, role, d))?;
-        }
-        Ok(Roles::from_vec(roles))
-    }
-
-    fn entries_with(&self, number: u32) -> u32
-        ensures value { result ≡ entries_with self.now number }
-        ensures few { result ≤ 1920 }
-    {
-        let entries = self.shared.roles.max_dev();
-        if number < MAX_ROLES {
-            entries.max(number + 1)
-        } else {
-            entries
-        }
-    }
-
-    fn role_after(&self, number: u32, role: u16, d: u32) -> u16
-        ensures { result ≡ role_after self.now number role d }
-    {
-        if d == number {
-            return role;
-        }
-        self.role_at_rise(d)
     }
 }

@@ -1,15 +1,15 @@
 // Removing a member.
-ghost use Rattle.std.specs.Prelude.{◌≡◌, ◌<◌, List, MatchResult, cond, length, nat_lt, set, true};
+ghost use Rattle.std.specs.Prelude.{◌≡◌, ◌<◌, List, MatchResult, length, true};
 ghost use Rattle.md_kept_members.specs.View.{MemberView};
 ghost use Rattle.md_assembly.specs.States.{is_spare};
-ghost use Rattle.md_state.specs.Members.{IsMember, faulty_role};
+ghost use Rattle.md_state.specs.Members.{IsMember};
 ghost use Rattle.md_state.specs.Steps.Remove.{Leaves, MayLeave, RefusesRemove, before_leaving, without_spare};
 ghost use Rattle.md_state.specs.View.{Disk};
 ghost use Rattle.md_state.specs.Steps.Rise.{HasSpentEvents};
 
 use crate::array::Array;
 use md_faults::RemoveFault;
-use md_super::FAULTY;
+use md_membership::drop_role;
 
 impl Array {
     /// What `Mirror::remove` does in memory, whatever its devices are.
@@ -62,19 +62,6 @@ impl Array {
     {
         self.rise();
         let number = self.members[k].superblock.dev_number;
-        self.drop_entry(number);
-    }
-
-    // The entry of this number is that of a failed device, where it has one.
-    fn drop_entry(&mut self, number: u32)
-        ensures { self.new ≡ record self.old {
-          shared = record self.old.shared {
-            roles = cond (nat_lt number (length self.old.shared.roles)) (set self.old.shared.roles number faulty_role) self.old.shared.roles;
-          };
-        } }
-    {
-        if number < self.shared.roles.max_dev() {
-            self.shared.roles.set(number, FAULTY);
-        }
+        drop_role(&mut self.shared, number);
     }
 }

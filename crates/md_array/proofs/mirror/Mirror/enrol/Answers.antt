@@ -2,9 +2,9 @@ use Rattle.std.proofs.Common.{◌≡◌, ◌∙◌, ◌+◌, ◌<◌, arith, con
 use Rattle.std.proofs.lemmas.Option.{slice_get_within}
 use Rattle.md_super.specs.declared.superblock.Superblock.{Superblock}
 use Rattle.md_kept_members.specs.View.{MemberView}
+use Rattle.md_membership.specs.Joining.{joined_shared}
 use Rattle.md_state.specs.Steps.Enrol.{ComesWith, enrolled, is_full_with}
 use Rattle.md_state.specs.Headers.{IsHeaderFor}
-use Rattle.md_state.specs.Steps.NoteJoined.{joined_shared}
 use Rattle.md_state.specs.View.{MirrorView, disk_of}
 use Rattle.md_array.specs.Consistency.{IsConsistent}
 use Rattle.md_array.specs.Steps.Enrol.{Enrols, FailsToEnrol}
@@ -41,8 +41,8 @@ store_member-requires g c =
     (of c.index_mut.result.now) (here g.D.Device devices c.args.k c.index_mut.result.now c.index_mut.ensures.value (on_device g at))
 
 -- the array's fields as they are written
-same_shared : (g : given.Over) (c : After-header_under-header g) → c.in-Ok.shared ≡ joined_shared c.self.inside.array c.in_ok-member.member.superblock.dev_number c.in_ok-role.role
-same_shared g c = c.in-Ok.ensures ∙ ap (λ (m : MemberView). joined_shared c.self.inside.array m.superblock.dev_number c.in_ok-role.role) c.member.view_is
+same_shared : (g : given.Over) (c : After-header_under-header g) → c.in-Ok.shared ≡ joined_shared c.self.inside.array.shared c.self.inside.array.members c.in_ok-member.member.superblock.dev_number c.in_ok-role.role
+same_shared g c = c.in-Ok.ensures ∙ ap (λ (m : MemberView). joined_shared c.self.inside.array.shared c.self.inside.array.members m.superblock.dev_number c.in_ok-role.role) c.member.view_is
 
 told_full : (g : given.Over) (c : After-header_under-header g) → c.is_full_with-full.result ≡ is_full_with c.self.inside.array c.args.k c.in_ok-member.member
 told_full g c =

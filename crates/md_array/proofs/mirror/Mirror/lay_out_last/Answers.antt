@@ -2,8 +2,9 @@ use Rattle.std.proofs.Common.{◌≡◌, ◌∙◌, ℕ, ◌-◌, Bool, false, n
 use Rattle.std.proofs.lemmas.List.{length-map, length_push}
 use Rattle.md_kept_members.specs.Members.{made_due}
 use Rattle.md_kept_members.specs.View.{MemberView}
-use Rattle.md_state.specs.Steps.Add.{IsSpareOf, added, spare_role}
-use Rattle.md_state.specs.Steps.NoteJoined.{joined_shared}
+use Rattle.md_membership.specs.Joining.{joined_shared}
+use Rattle.md_membership.specs.Numbers.{spare_role}
+use Rattle.md_state.specs.Steps.Add.{IsSpareOf, added}
 use Rattle.md_state.specs.View.{ArrayView, MirrorView, disk_of}
 use Rattle.md_array.specs.Steps.Add.{LaysOutLast, kept_of}
 use Rattle.md_array.specs.Consistency.{IsConsistent}
@@ -58,7 +59,7 @@ returns g c =
     let mapped = length-map devices of in
     let same = told c.sectors.result (g.D.Device.content c.args.device) c.sectors.ensures.size in
     let spare = subst (λ (n : ℕ). IsSpareOf before c.args.number n laid) same (subst (λ (v : MirrorView). IsSpareOf v.array c.args.number c.sectors.result laid) (sym c.self.view_is) c.in-Ok.ensures.1) in
-    let shared = subst (λ (v : MirrorView). c.in-Ok.shared ≡ joined_shared v.array c.args.number spare_role) (sym c.self.view_is) c.in-Ok.ensures.0 in
+    let shared = subst (λ (v : MirrorView). c.in-Ok.shared ≡ joined_shared v.array.shared v.array.members c.args.number spare_role) (sym c.self.view_is) c.in-Ok.ensures.0 in
     let kept : c.kept_spare-member.result ≡ m = c.kept_spare-member.ensures in
     let pushed : c.push_reserved.new.self.items ≡ c.self-inside.inside.0.1.0.members.items ++ m ∷ [] =
     c.push_reserved.ensures.items ∙ ap (λ (xs : List MemberView). xs ++ c.kept_spare-member.result ∷ []) c.reserve.ensures.items ∙ ap (λ (x : MemberView). c.self-inside.inside.0.1.0.members.items ++ x ∷ []) kept in

@@ -4,7 +4,8 @@ use Rattle.md_super.specs.declared.superblock.Superblock.{Superblock}
 use Rattle.md_kept_members.specs.Members.{made_due}
 use Rattle.md_kept_members.specs.TakingBack.{own_role}
 use Rattle.md_kept_members.specs.View.{MemberView}
-use Rattle.md_state.specs.Steps.NoteJoined.{joined, joined_shared}
+use Rattle.md_membership.specs.Joining.{joined_shared}
+use Rattle.md_state.specs.Steps.NoteJoined.{joined}
 use Rattle.md_state.specs.Steps.ReAdd.{MayReAdd}
 use Rattle.md_state.specs.View.{ArrayView, MirrorView, disk_of}
 use Rattle.md_array.specs.Consistency.{IsConsistent}
@@ -48,7 +49,7 @@ returns-then-is_err-3 g c =
     (λ i. record { disks = map of (c.reserve-2.ensures.items i); array = record array { members = c.reserve.ensures.items i } })
     ∙ ap (λ (x : Inside g.row.D.Denot). record { disks = map of x.devices.items; array = x.array }) c.self-inside.view_is
     ∙ c.self.view_is in
-    let shared = c.in-Ok.ensures ∙ ap (λ role. joined_shared c.self.inside.array c.args.info.superblock.dev_number role) c.role_of-role.ensures in
+    let shared = c.in-Ok.ensures ∙ ap (λ role. joined_shared c.self.inside.array.shared c.self.inside.array.members c.args.info.superblock.dev_number role) c.role_of-role.ensures in
     not_recorded g.D.Device c.args.device c.store_superblock.new.device c.self.inside.array c.offset_back-offset.result c.args.info m c.offset_back-offset.ensures c.taken_back-member.ensures c.in-Ok.shared shared c.store_superblock.ensures.outside
     old new unchanged (ap (λ (v : MirrorView). v.array) (sym c.self.view_is))
     (err_of c.store_superblock.result _ _ c.if-is_err-3.ensures.value c.store_superblock.ensures.writes)
@@ -61,7 +62,7 @@ returns g c =
     let devices = c.self.inside.devices.items in
     let role : ℕ = own_role c.args.info.superblock in
     let number : ℕ = c.args.info.superblock.dev_number in
-    let shared : c.in-Ok.shared ≡ joined_shared before number role = c.in-Ok.ensures ∙ ap (joined_shared before number) c.role_of-role.ensures in
+    let shared : c.in-Ok.shared ≡ joined_shared before.shared before.members number role = c.in-Ok.ensures ∙ ap (joined_shared before.shared before.members number) c.role_of-role.ensures in
     let full : Bool = not c.is_degraded-full.result in
     let new : MirrorView = record { disks = map of c.push_reserved-2.new.self.items; array = c.note_joined.new.self } in
     let sound = subst IsConsistent (sym c.self.view_is) c.requires.sound in

@@ -5,18 +5,19 @@ use Rattle.md_create.specs.declared.params.NewMember.{NewMember}
 use Rattle.md_create.specs.Spares.{IsNewSpare}
 use Rattle.md_kept_members.specs.Spares.{IsOfFreshest}
 use Rattle.md_kept_members.specs.View.{MemberView}
-use Rattle.md_state.specs.Steps.Add.{IsSpareHeader, IsSpareOf, spare_role}
-use Rattle.md_state.specs.Steps.NoteJoined.{joined_shared}
+use Rattle.md_membership.specs.Joining.{joined_shared}
+use Rattle.md_membership.specs.Numbers.{spare_role}
+use Rattle.md_state.specs.Steps.Add.{IsSpareHeader, IsSpareOf}
 use Rattle.md_state.specs.View.{ArrayView}
 use Rattle.md_state.proofs.array.Array.new_spare.Goals as goal
 
 made : {E : Type 0} (a : ArrayView) (settings header : BitmapHeader) (v : Superblock) (number sectors : ℕ) (r : Result NewMember E)
-    → IsOfFreshest a.members settings → IsSpareHeader a settings header → v ≡ joined_shared a number spare_role → IfOk r (IsNewSpare v header number sectors) → IfOk r (IsSpareOf a number sectors)
+    → IsOfFreshest a.members settings → IsSpareHeader a settings header → v ≡ joined_shared a.shared a.members number spare_role → IfOk r (IsNewSpare v header number sectors) → IfOk r (IsSpareOf a number sectors)
 made a settings header v number sectors (Ok m) of_freshest is shared spare = record {
   settings = settings;
   of_freshest = of_freshest;
   header = subst (IsSpareHeader a settings) (sym spare.header) is;
-  spare = subst (λ (h : BitmapHeader). IsNewSpare (joined_shared a number spare_role) h number sectors m) (sym spare.header) (subst (λ (x : Superblock). IsNewSpare x header number sectors m) shared spare);
+  spare = subst (λ (h : BitmapHeader). IsNewSpare (joined_shared a.shared a.members number spare_role) h number sectors m) (sym spare.header) (subst (λ (x : Superblock). IsNewSpare x header number sectors m) shared spare);
 }
 made a settings header v number sectors (Err e) of_freshest is shared spare = tt
 
