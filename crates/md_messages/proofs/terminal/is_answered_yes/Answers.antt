@@ -5,7 +5,7 @@ use Rattle.md_messages.proofs.terminal.is_answered_yes.Goals as goal
 pub returns-in-Ok : goal.returns-in-Ok
 returns-in-Ok g c =
     let room : length c.take.new.buf ≡ 16 = omega (arith, c.take.auto.buf, length-replicate {A = ℕ} 16 0) in
-    inl (record { buf = c.take.new.buf; count = c.in-Ok.count; room = room; gives = c.in-Ok.ensures; is = c.is_yes.ensures })
+    inl (record { buf = c.take.new.buf; count = c.in-Ok.count; room = room; gives = c.in-Ok.ensures.gives; is = c.is_yes.ensures })
 
 pub returns-in-Err : goal.returns-in-Err
-returns-in-Err g c = inr (record { failed = c.in-Err.ensures; is = refl })
+returns-in-Err g c = inr (record { failed = c.in-Err.ensures.gives; is = refl })
