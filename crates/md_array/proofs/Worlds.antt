@@ -33,9 +33,9 @@ pub mod ResyncMarked
 -- The count of an array rises as that of its world does, and the array stays consistent; and when it is not degraded its world
 -- is full.
 pub mod Risen
--- A sector is copied from a member in sync to another: no more than that sector of its data changes, and that is the model's
 -- Each member in sync has the marks of memory stored, as the model has it.
 pub mod Noted
+-- A sector is copied from a member in sync to another: no more than that sector of its data changes, and that is the model's
 -- event.
 pub mod SectorCopied
 -- What the world shows of a mirror that was opened, member by member.

@@ -17,6 +17,7 @@ use Rattle.md_faults.specs.declared.step_fault.StoreFault.{StoreFault}
 use Rattle.md_faults.specs.declared.step_fault.StoreFault.TheVariants.{MemberFailed}
 use Rattle.md_faults.specs.declared.step_fault.WriteMemberFault.{WriteMemberFault}
 use Rattle.md_faults.specs.declared.step_fault.WriteMemberFault.TheVariants as write_fault
+use Rattle.md_stored_members.specs.Storing.{sector_from_super}
 use Rattle.md_state.specs.DeviceChanges.{IsLeftAlone, LeavesOn, StaysHonest}
 use Rattle.md_state.specs.View.{ArrayView, Disk, MirrorView, of_disks, geometry_of}
 use Rattle.md_state.specs.Members.{IsMember}
@@ -27,7 +28,7 @@ use Rattle.md_array.specs.Consistency.{IsConsistent}
 use Rattle.md_array.specs.Steps.Lend.{IsBesideMissing}
 use Rattle.md_array.specs.ReadAsKept.{AreReadAsKept}
 use Rattle.md_array.specs.Steps.Record.{super_write}
-use Rattle.md_array.specs.Worlds.{AreHonest, stored_on, world_of, super_in, block_on, sector_from_super}
+use Rattle.md_array.specs.Worlds.{AreHonest, stored_on, world_of, super_in, block_on}
 use Rattle.md_device_writes.specs.Writes.{DoesWrites, Write}
 
 -- A device that had this superblock is written once, and stands after the others then, none of which is used.

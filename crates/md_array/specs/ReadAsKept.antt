@@ -7,10 +7,11 @@ use Rattle.md_super.specs.Format.{IsSuper}
 use Rattle.md_members.specs.Members.{reads_log}
 use Rattle.md_kept_members.specs.View.{MemberView}
 use Rattle.md_assembly.specs.States.{is_recorded}
+use Rattle.md_stored_members.specs.Storing.{sector_from_super}
 use Rattle.md_state.specs.Members.{IsMember}
 use Rattle.md_state.specs.Missing.{is_rebuilt}
 use Rattle.md_state.specs.View.{Disk, ArrayView, MirrorView}
-use Rattle.md_array.specs.Worlds.{block_on, sector_from_super, header_on, is_listed}
+use Rattle.md_array.specs.Worlds.{block_on, header_on, is_listed}
 
 -- this superblock is read on a device
 pub record IsSuperOn (content : List ℕ) (v : Superblock) : Type 0 where

@@ -1,5 +1,5 @@
 -- The mirror as the array's world: each device's bytes are read for what assembly, marks and data are.
-use Rattle.std.specs.Prelude.{◌≡◌, ℕ, ◌+◌, ◌*◌, Bool, true, false, cond, ◌&&◌, not, ◌==◌, eqb, nat_lt, nat_le, bit_and, ◌^◌, List, [], length, drop, slice_get, slice_index_or, Option, Some, None, ℤ, pos, negsuc, ◌+ℤ◌, option_map, unwrap_or}
+use Rattle.std.specs.Prelude.{◌≡◌, ℕ, ◌+◌, ◌*◌, Bool, true, false, cond, ◌&&◌, not, ◌==◌, eqb, nat_lt, nat_le, bit_and, ◌^◌, List, [], length, drop, slice_get, slice_index_or, Option, Some, None, option_map, unwrap_or}
 use Rattle.std.specs.List.{list_any}
 use Rattle.std.specs.Str.{bytes_eq}
 use Rattle.md_model.specs.States as model
@@ -21,6 +21,7 @@ use Rattle.md_assembly.specs.declared.state.MemberState.{MemberState}
 use Rattle.md_assembly.specs.declared.state.MemberState.TheVariants.{InSync, Recovering, Stale, Spare, Faulty}
 use Rattle.md_assembly.specs.States.{role_in, has_recovery_offset}
 use Rattle.md_kept_members.specs.View.{MemberView}
+use Rattle.md_stored_members.specs.Storing.{sector_from_super}
 use Rattle.md_state.specs.View.{Disk, ArrayView, MirrorView}
 use Rattle.md_state.specs.Members.{clean_offset}
 
@@ -57,14 +58,6 @@ super_in block = by_fault (super_fault_of block)
 -- the superblock of a device, at sector 8
 abbrev pub block_on : List ℕ → List ℕ
 block_on content = part content 4096 4096
-
--- a sector that is counted from the superblock
-abbrev pub sector_at : ℤ → ℕ
-sector_at (pos n) = n
-sector_at (negsuc n) = 0
-
-abbrev pub sector_from_super : ℤ → ℕ
-sector_from_super offset = sector_at (pos 8 +ℤ offset)
 
 -- the sector lies in one of the runs
 abbrev pub lies_in : List Run → ℕ → Bool

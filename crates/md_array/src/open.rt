@@ -1,6 +1,5 @@
 // Opening devices as a mirror.
-ghost use Rattle.std.specs.Prelude.{◌≡◌, ◌<◌, ◌≤◌, ◌≤ℤ◌, ◌+ℤ◌, IfOk, IfErr, MatchResult, length, map, pos, OnOk, OnErr};
-ghost use Rattle.md_members.specs.Reading.{BitmapStartsAt};
+ghost use Rattle.std.specs.Prelude.{◌≡◌, IfOk, IfErr, MatchResult, length, map, OnOk, OnErr};
 ghost use Rattle.md_kept_members.specs.Members.{NeedsMarks};
 ghost use Rattle.md_state.specs.View.{disk_of};
 ghost use Rattle.md_state.specs.DeviceChanges.{IsUntouched, StaysHonest};
@@ -19,7 +18,7 @@ use md_device_writes::store_bitmap;
 use md_kept_members::{Member, needs_marks};
 use md_members::{MemberFault, MemberInfo, read_member};
 use md_state::Array;
-use md_super::{SUPER_SECTOR, Superblock};
+use md_stored_members::bitmap_start;
 use std::alloc::Global;
 
 impl<D: Device + Drop> Mirror<D> {
@@ -71,7 +70,6 @@ fn assembly_refusal(fault: AssembleFault) -> OpenFault
     }
 }
 
-// The members of a list of devices.
 /// Reads each device as a member, up to the first that is refused.
 pub(crate) fn read_members<D: Device>(
     alloc: Global,
@@ -102,7 +100,6 @@ fn refusal(k: usize, fault: MemberFault) -> OpenFault
     }
 }
 
-// Storing marks on the members.
 /// Stores marks on each member in sync whose bitmap was not accepted, in the order of the members,
 /// up to the first on which a write fails.
 pub(crate) fn store_needed_marks<D: Device>(
@@ -154,12 +151,4 @@ pub(crate) fn store_marks_on<D: Device>(
     let start = bitmap_start(&member.superblock);
     let header = array.header_for(member);
     store_bitmap(device, start, &header, &member.stored)
-}
-
-/// The device's sector where the bitmap starts.
-pub(crate) fn bitmap_start(v: &Superblock) -> u32
-    requires { pos 0 ≤ℤ (pos 8 +ℤ v.now.bitmap_offset) }
-    ensures { BitmapStartsAt v.now result }
-{
-    (SUPER_SECTOR as i64 + i64::from(v.bitmap_offset)) as u32
 }

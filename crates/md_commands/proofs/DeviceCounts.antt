@@ -15,13 +15,13 @@ use Rattle.md_faults.specs.declared.step_fault.FailFault.{FailFault}
 use Rattle.md_faults.specs.declared.step_fault.FailFault.TheVariants as fail
 use Rattle.md_faults.specs.declared.step_fault.RemoveFault.{RemoveFault}
 use Rattle.md_faults.specs.declared.step_fault.RemoveFault.TheVariants as remove
+use Rattle.md_stored_members.specs.Storing.{log_writes}
 use Rattle.md_state.specs.Steps.Fail.{FailsMember, RefusesFail}
 use Rattle.md_state.specs.Steps.Remove.{RefusesRemove, Removes}
 use Rattle.md_state.specs.Requests.{AreInFlight, among, request_of}
 use Rattle.md_state.specs.Trying.{Refuses}
 use Rattle.md_state.specs.View.{ArrayView, Disk, MirrorView}
 use Rattle.md_array.specs.Steps.Add.{Adds, RefusesAdd}
-use Rattle.md_array.specs.Steps.Enrol.{log_writes}
 use Rattle.md_array.specs.InTurn.{AllOf, Did, HaltsAt, Leads, Requests}
 use Rattle.md_array.specs.Steps.StoreLog.{AreWritten}
 use Rattle.md_array.proofs.StepLemmas.FailedParts.{failed_write, halting_write}

@@ -12,11 +12,12 @@ use Rattle.md_members.specs.Areas.{bitmap_sectors}
 use Rattle.md_model.specs.Devices.{is_accepted}
 use Rattle.md_model.specs.Sectors.{chunk_of}
 use Rattle.md_model.proofs.Cases.{below-nat_lt, by_test, is_below}
+use Rattle.md_stored_members.specs.Storing.{sector_from_super}
 use Rattle.md_state.specs.Members.{IsInSync, IsMember}
 use Rattle.md_state.specs.View.{ArrayView, Disk, MirrorView, geometry_of}
 use Rattle.md_array.specs.ReadAsKept.{chunk_size_on}
 use Rattle.md_array.specs.Open.Marks.{StoresMarksOn}
-use Rattle.md_array.specs.Worlds.{AreHonest, sector_from_super, none_in_flight, stored_of}
+use Rattle.md_array.specs.Worlds.{AreHonest, none_in_flight, stored_of}
 use Rattle.md_array.proofs.General.Indices.{got_in_map}
 use Rattle.md_array.proofs.Worlds.Device.{chunk_size_new}
 use Rattle.md_array.proofs.Worlds.InSync.{in_sync_is}

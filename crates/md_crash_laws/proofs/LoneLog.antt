@@ -13,10 +13,11 @@ use Rattle.md_model.specs.Worlds.{IsQuiet, World}
 use Rattle.md_model.proofs.Puts.{by_same}
 use Rattle.md_model.proofs.Steps.Keeps.{IsKept}
 use Rattle.md_device_writes.specs.Writes.{Write}
+use Rattle.md_stored_members.specs.Storing.{sector_from_super}
 use Rattle.md_state.specs.DiskWrites.{IsTried}
 use Rattle.md_state.specs.Members.{IsMember}
 use Rattle.md_state.specs.View.{ArrayView, Disk}
-use Rattle.md_array.specs.Worlds.{sector_from_super, stored_on, super_of, world_of}
+use Rattle.md_array.specs.Worlds.{stored_on, super_of, world_of}
 use Rattle.md_array.proofs.Rebuilding.StoreLog.{is_log, own_beside}
 use Rattle.md_array.proofs.Rebuilding.MemberStored.{log_long}
 use Rattle.md_array.proofs.StepLemmas.OneMember.{stored_there}

@@ -12,11 +12,12 @@ use Rattle.md_model.specs.Sectors.{Geometry}
 use Rattle.md_model.proofs.Puts.{by_same}
 use Rattle.md_model.proofs.Steps.Keeps.{IsKept}
 use Rattle.md_device_writes.specs.Writes.{Write}
+use Rattle.md_stored_members.specs.Storing.{sector_from_super}
 use Rattle.md_state.specs.DiskWrites.{IsTried}
 use Rattle.md_state.specs.Members.{IsMember}
 use Rattle.md_state.specs.View.{ArrayView, Disk, geometry_of}
 use Rattle.md_array.specs.ReadAsKept.{HasWidth}
-use Rattle.md_array.specs.Worlds.{sector_from_super, stored_on, super_of, world_of}
+use Rattle.md_array.specs.Worlds.{stored_on, super_of, world_of}
 use Rattle.md_array.proofs.StepLemmas.OneMember.{stored_there}
 use Rattle.md_array.proofs.Worlds.Outside.{starts_at}
 use Rattle.md_array.proofs.Worlds.PartsApart.{HasParts, block_beside_marks, log_beside_marks, marks_alone, parts_of}

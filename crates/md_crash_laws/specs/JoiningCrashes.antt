@@ -10,11 +10,11 @@ use Rattle.md_faults.specs.declared.re_add_fault.ReAddFault.{ReAddFault}
 use Rattle.md_faults.specs.declared.re_add_fault.ReAddFault.TheVariants as re_add_fault
 use Rattle.md_kept_members.specs.TakingBack.{own_role}
 use Rattle.md_membership.specs.Joining.{joined_shared}
+use Rattle.md_stored_members.specs.Superblocks.{write_of}
 use Rattle.md_state.specs.View.{Disk, MirrorView}
 use Rattle.md_array.specs.Steps.Add.{Adds, FailsToAdd, RefusesAdd, add_event}
 use Rattle.md_array.specs.Open.Opened.{IsOpenedFrom}
 use Rattle.md_array.specs.Steps.ReAdd.{FailsToReAdd, ReAdds, RefusesReAdd, re_add_event}
-use Rattle.md_array.specs.Steps.Record.{write_of}
 use Rattle.md_array.specs.Worlds.{AreHonest, block_on, super_in}
 use Rattle.md_laws.specs.Left.{IsLeftByCrash, contents_of}
 use Rattle.md_laws.specs.Runs.{MirrorRun, Moment}

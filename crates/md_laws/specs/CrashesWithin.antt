@@ -15,6 +15,8 @@ use Rattle.md_kept_members.specs.Enrolling.{log_room}
 use Rattle.md_kept_members.specs.TakingBack.{own_role}
 use Rattle.md_kept_members.specs.View.{MemberView}
 use Rattle.md_membership.specs.Joining.{joined_shared}
+use Rattle.md_stored_members.specs.Superblocks.{write_of}
+use Rattle.md_stored_members.specs.Storing.{sector_from_super}
 use Rattle.md_state.specs.View.{Disk, MirrorView}
 use Rattle.md_state.specs.DiskWrites.{IsFailed, IsTried, IsWritten}
 use Rattle.md_state.specs.Steps.Remove.{Removes}
@@ -26,8 +28,8 @@ use Rattle.md_array.specs.Events.{ComesLast, IsSameBesideMarks, IsSameBesideMiss
 use Rattle.md_array.specs.Steps.GiveBack.{Fills}
 use Rattle.md_array.specs.Steps.StoreLog.{StoresLog}
 use Rattle.md_array.specs.Steps.ReAdd.{FailsToReAdd, ReAdds, RefusesReAdd}
-use Rattle.md_array.specs.Steps.Record.{super_write, write_of}
-use Rattle.md_array.specs.Worlds.{AreHonest, sector_from_super}
+use Rattle.md_array.specs.Steps.Record.{super_write}
+use Rattle.md_array.specs.Worlds.{AreHonest}
 
 -- A crash since the device was d, and until it was e, might have left this.
 abbrev pub MayBeLeft : Disk → Disk → List ℕ → Type 0

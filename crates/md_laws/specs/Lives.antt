@@ -12,12 +12,13 @@ use Rattle.md_super.specs.declared.superblock.Superblock.{Superblock}
 use Rattle.md_members.specs.Areas.{bitmap_sectors}
 use Rattle.md_assembly.specs.States.{is_in_sync, state_of}
 use Rattle.md_kept_members.specs.View.{MemberView}
+use Rattle.md_stored_members.specs.Storing.{sector_from_super}
 use Rattle.md_state.specs.View.{ArrayView, Disk, MirrorView, geometry_of}
 use Rattle.md_state.specs.Members.{IsInSync, IsMember}
 use Rattle.md_state.specs.Missing.{is_rebuilt}
 use Rattle.md_array.specs.Open.Opened.{IsArrayOf, IsOpenedFrom}
 use Rattle.md_array.specs.ReadAsKept.{AreReadAsKept, HasWidth, IsSuperOn, chunk_size_on}
-use Rattle.md_array.specs.Worlds.{AreHonest, sector_from_super, none_in_flight, stored_of, super_of, world_of}
+use Rattle.md_array.specs.Worlds.{AreHonest, none_in_flight, stored_of, super_of, world_of}
 use Rattle.md_laws.specs.HalfOpened.{IsHalfOpened}
 use Rattle.md_laws.specs.Left.{IsLeftByCrash, IsLeftWriting}
 use Rattle.md_laws.specs.Runs.{IsStart, MirrorRun, MirrorRunTellsEnrolments, MirrorRunWith, Moment, history_of, opened_as}

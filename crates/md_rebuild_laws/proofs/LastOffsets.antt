@@ -20,6 +20,8 @@ use Rattle.md_super.specs.declared.superblock.Superblock.{Superblock}
 use Rattle.md_super.specs.Faults.{NoSuperFault}
 use Rattle.md_super.specs.Format.{IsSuper}
 use Rattle.md_super.specs.Merge.{merged}
+use Rattle.md_stored_members.specs.Superblocks.{IsReadable}
+use Rattle.md_stored_members.proofs.Beside.{apart}
 use Rattle.md_state.specs.DiskWrites.{IsWritten}
 use Rattle.md_state.specs.Members.{IsMember}
 use Rattle.md_state.specs.View.{ArrayView, Disk, MirrorView}
@@ -29,12 +31,11 @@ use Rattle.md_array.specs.Events.{IsSameBesideMissing}
 use Rattle.md_array.specs.InTurn.{AllOf, Did, IsInOrder, Leads, Requests}
 use Rattle.md_array.specs.Open.Opened.{IsArrayOf}
 use Rattle.md_array.specs.ReadAsKept.{IsSuperOn}
-use Rattle.md_array.specs.Steps.Record.{IsReadable, super_write}
+use Rattle.md_array.specs.Steps.Record.{super_write}
 use Rattle.md_array.specs.Worlds.{AreHonest, block_on}
 use Rattle.md_array.proofs.General.Indices.{at_set_same, got_in_map, got_other}
 use Rattle.md_array.proofs.StepLemmas.StoreMarks.{marks_stored_is_consistent}
 use Rattle.md_array.proofs.StepLemmas.Record.{recorded_is_consistent}
-use Rattle.md_array.proofs.Worlds.Outside.{apart}
 use Rattle.md_array.proofs.Worlds.Shown.{IsReadAt, read_at}
 use Rattle.md_laws.specs.Left.{contents_of}
 use Rattle.md_laws.specs.CrashesWithin.{MayAllBeLeft, MayBeLeft}

@@ -13,6 +13,7 @@ use Rattle.md_model.specs.Events.{Event, MemberPart}
 use Rattle.md_device_writes.specs.Writes.{Write}
 use Rattle.md_requests.specs.declared.extent.Extent.{Extent}
 use Rattle.md_kept_members.specs.View.{MemberView}
+use Rattle.md_stored_members.specs.Storing.{sector_from_super}
 use Rattle.md_state.specs.Steps.CopyData.{Lists}
 use Rattle.md_state.specs.DeviceChanges.{AreSame}
 use Rattle.md_state.specs.Members.{IsInSync}
@@ -23,7 +24,7 @@ use Rattle.md_state.specs.Requests.{AreInFlight}
 use Rattle.md_array.specs.Consistency.{IsConsistent}
 use Rattle.md_array.specs.InTurn.{AllOf, IsSectorDue, Leads, Requests}
 use Rattle.md_array.specs.Steps.NoteResynced.{AllAgreeAt, IsHonestMember, sector_of}
-use Rattle.md_array.specs.Worlds.{sector_from_super, none_in_flight}
+use Rattle.md_array.specs.Worlds.{none_in_flight}
 use Rattle.md_array.proofs.StepLemmas.Turns.{all_such}
 use Rattle.md_array.proofs.General.Indices.{at_set_same, got_other}
 use Rattle.md_array.proofs.StepLemmas.FailedParts.{halted_then}

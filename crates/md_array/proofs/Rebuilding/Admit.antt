@@ -8,6 +8,7 @@ use Rattle.md_kept_members.specs.TakingBack.{admitted_member, recovering}
 use Rattle.md_kept_members.specs.View.{MemberView}
 use Rattle.md_requests.specs.Pending.{PendingView}
 use Rattle.md_membership.specs.Joining.{joined_shared}
+use Rattle.md_stored_members.specs.Superblocks.{IsReadable, own_write}
 use Rattle.md_state.specs.Steps.Admit.{MayAdmit, admitted}
 use Rattle.md_state.specs.DiskWrites.{IsFailed, IsWritten}
 use Rattle.md_state.specs.Missing.{is_rebuilt}
@@ -17,7 +18,6 @@ use Rattle.md_super.specs.declared.superblock.Superblock.{Superblock}
 use Rattle.md_super.specs.Merge.{merged}
 use Rattle.md_array.specs.Steps.Admit.{Admits, FailsAsTarget, FailsToAdmit}
 use Rattle.md_array.specs.Consistency.{IsConsistent}
-use Rattle.md_array.specs.Steps.Record.{IsReadable, own_write}
 use Rattle.md_array.proofs.Rebuilding.TargetLeft.{left_as_target, left_is_consistent, left_is_pending, left_spoils}
 use Rattle.md_array.specs.Spoiling.{SpoilsTarget}
 

@@ -30,6 +30,8 @@ use Rattle.md_model.proofs.Puts.{put-at, put-miss, put-self}
 use Rattle.md_model.proofs.Steps.Between.{between_step, in_flight_step}
 use Rattle.md_requests.specs.Pending.{PendingView}
 use Rattle.md_membership.specs.Numbers.{is_absent}
+use Rattle.md_stored_members.specs.Superblocks.{IsReadable}
+use Rattle.md_stored_members.specs.Storing.{sector_from_super}
 use Rattle.md_state.specs.Steps.Admit.{admitted}
 use Rattle.md_state.specs.Members.{IsInSync, IsMember}
 use Rattle.md_state.specs.Missing.{is_rebuilt}
@@ -41,8 +43,8 @@ use Rattle.md_array.specs.Steps.Admit.{Admits}
 use Rattle.md_array.specs.Consistency.{IsConsistent}
 use Rattle.md_array.specs.Events.{Happens, listed_on}
 use Rattle.md_array.specs.ReadAsKept.{AreReadAsKept, IsReadAsKept}
-use Rattle.md_array.specs.Steps.Record.{IsReadable, super_write}
-use Rattle.md_array.specs.Worlds.{AreHonest, block_on, sector_from_super, is_listed, is_listed_next, is_logged, kind_of, lists_of, stored_of, stored_on, super_in, super_of, world_of, world_on}
+use Rattle.md_array.specs.Steps.Record.{super_write}
+use Rattle.md_array.specs.Worlds.{AreHonest, block_on, is_listed, is_listed_next, is_logged, kind_of, lists_of, stored_of, stored_on, super_in, super_of, world_of, world_on}
 use Rattle.md_array.proofs.General.Honesty.{tried_honest}
 use Rattle.md_array.proofs.General.Indices.{any_at, any_kept, at_map, at_set_same, count_map, counted_kept, got_in_map, got_other}
 use Rattle.md_array.proofs.General.Replaced.{of_set, read_changed, read_kept}

@@ -10,6 +10,7 @@ use Rattle.md_kept_members.specs.TakingBack.{with_recovery_offset}
 use Rattle.md_kept_members.specs.View.{MemberView}
 use Rattle.md_model.specs.Content.{Content}
 use Rattle.md_model.specs.Events.{Event}
+use Rattle.md_stored_members.specs.Superblocks.{IsReadable}
 use Rattle.md_state.specs.Steps.Checkpoint.{IsNextOffset, with_offset_of}
 use Rattle.md_state.specs.DiskWrites.{IsFailed}
 use Rattle.md_state.specs.Members.{IsMember}
@@ -21,7 +22,7 @@ use Rattle.md_array.specs.Steps.Checkpoint.{Checkpoints, FailsToCheckpoint, IfCh
 use Rattle.md_array.specs.Consistency.{IsConsistent}
 use Rattle.md_array.specs.Steps.Enrol.{HoldsContent}
 use Rattle.md_array.specs.Events.{Happens, listed_on}
-use Rattle.md_array.specs.Steps.Record.{IsReadable, Records, super_write}
+use Rattle.md_array.specs.Steps.Record.{Records, super_write}
 use Rattle.md_array.specs.Steps.RecordTarget.{LeavesUnrecorded, RefusesTarget}
 use Rattle.md_array.proofs.General.Indices.{at_set_same}
 use Rattle.md_array.proofs.Rebuilding.CheckpointEvent as event

@@ -23,6 +23,7 @@ use Rattle.md_model.specs.Worlds.{Request, World}
 use Rattle.md_model.proofs.Cases.{below-nat_lt, by_test, above-leb}
 use Rattle.md_model.proofs.Puts.{put-hit}
 use Rattle.md_model.proofs.Steps.Between.{between_step, in_flight_step}
+use Rattle.md_stored_members.specs.Superblocks.{IsReadable}
 use Rattle.md_state.specs.Steps.Checkpoint.{IsNextOffset, EndsCheckpoint, with_offset_of}
 use Rattle.md_state.specs.Missing.{is_missing}
 use Rattle.md_state.specs.Requests.{AreInFlight}
@@ -33,7 +34,7 @@ use Rattle.md_array.specs.Consistency.{IsConsistent}
 use Rattle.md_array.specs.Steps.Enrol.{HoldsContent}
 use Rattle.md_array.specs.Events.{Happens, ListsStill, listed_on}
 use Rattle.md_array.specs.Steps.GiveBack.{MayRebuild}
-use Rattle.md_array.specs.Steps.Record.{IsReadable, Records, super_write}
+use Rattle.md_array.specs.Steps.Record.{Records, super_write}
 use Rattle.md_array.specs.Worlds.{AreHonest, is_listed, kind_of, world_of}
 use Rattle.md_array.proofs.General.Indices.{at_set_same}
 use Rattle.md_array.proofs.Rebuilding.CopiedContent as some

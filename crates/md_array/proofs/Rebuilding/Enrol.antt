@@ -15,12 +15,13 @@ use Rattle.md_kept_members.specs.Enrolling.{HasRoomFor}
 use Rattle.md_kept_members.specs.Members.{made_due}
 use Rattle.md_kept_members.specs.View.{MemberView}
 use Rattle.md_membership.specs.Joining.{joined_shared}
+use Rattle.md_stored_members.specs.Storing.{IsStorable, member_writes}
+use Rattle.md_stored_members.specs.Superblocks.{IsReadable}
 use Rattle.md_state.specs.Steps.Enrol.{ComesWith, MayTakeRole, enrolled, is_full_with}
 use Rattle.md_state.specs.Headers.{IsHeaderFor}
 use Rattle.md_state.specs.View.{ArrayView, Disk, MirrorView, disk_of, of_disks}
 use Rattle.md_array.specs.Consistency.{IsConsistent}
-use Rattle.md_array.specs.Steps.Enrol.{Enrols, FailsToEnrol, IsStorable, IsUsedAlone, KeepsData, member_writes}
-use Rattle.md_array.specs.Steps.Record.{IsReadable}
+use Rattle.md_array.specs.Steps.Enrol.{Enrols, FailsToEnrol, IsUsedAlone, KeepsData}
 use Rattle.md_array.proofs.General.Indices.{got_other}
 use Rattle.md_array.proofs.Rebuilding.EnrolledArray.{storable}
 use Rattle.md_array.proofs.StepLemmas.OneWrite.{at_device, here}

@@ -2,6 +2,8 @@
 use Rattle.std.proofs.Common.{◌≡◌, ◌≢◌, ℕ, ◌+◌, ◌*◌, ◌/◌, ◌<◌, inl, inr, Bool, true, false, true≢false, cond, ◌&&◌, nat_lt, List, [], ◌∷◌, length, map, set, slice_get, Option, Some, refl, sym, ap, ◌∙◌, subst, arith, eq-eqb, length-set}
 use Rattle.std.proofs.lemmas.Bool.{cases_lt, and_parts}
 use Rattle.std.proofs.lemmas.Option.{slice_get_within}
+use Rattle.md_stored_members.specs.Superblocks.{IsReadable, write_of}
+use Rattle.md_stored_members.specs.Storing.{sector_from_super}
 use Rattle.md_state.specs.Missing.{is_missing}
 use Rattle.md_state.specs.Steps.CopyData.{IsDone}
 use Rattle.md_state.specs.DeviceChanges.{StaysHonest}
@@ -41,8 +43,7 @@ use Rattle.md_array.specs.Steps.EnrolEvents.{IsHeldBy, enrol_event, prepared}
 use Rattle.md_array.specs.Events.{Does}
 use Rattle.md_array.specs.InTurn.{Leads, Requests}
 use Rattle.md_array.specs.ReadAsKept.{AreReadAsKept, IsReadAsKept}
-use Rattle.md_array.specs.Steps.Record.{IsReadable, write_of}
-use Rattle.md_array.specs.Worlds.{AreHonest, sector_from_super, header_on, is_listed, kind_of, stored_of, world_of, world_on, lists_of}
+use Rattle.md_array.specs.Worlds.{AreHonest, header_on, is_listed, kind_of, stored_of, world_of, world_on, lists_of}
 use Rattle.md_array.proofs.General.Indices.{at_map, at_set_same, got_in_map, got_other}
 use Rattle.md_array.proofs.General.Replaced.{of_set}
 use Rattle.md_array.proofs.General.Tests.{and_same}

@@ -10,6 +10,8 @@ use Rattle.md_kept_members.specs.View.{MemberView}
 use Rattle.md_members.specs.Areas.{bitmap_sectors}
 use Rattle.md_model.specs.Events.{Event}
 use Rattle.md_model.proofs.Cases.{by_test}
+use Rattle.md_stored_members.specs.Storing.{IsStorable, log_writes}
+use Rattle.md_stored_members.specs.Superblocks.{write_of}
 use Rattle.md_state.specs.DeviceChanges.{StaysHonest}
 use Rattle.md_state.specs.Steps.Enrol.{enrolled}
 use Rattle.md_state.specs.Missing.{is_rebuilt}
@@ -19,11 +21,10 @@ use Rattle.md_device_writes.specs.Bitmaps.{bitmap_writes}
 use Rattle.md_device_writes.proofs.Frames.{outside_none}
 use Rattle.md_device_writes.specs.Writes.{DoesWrites, FailsInWrites, IsAnyIn, IsCutShort, Write, after}
 use Rattle.md_array.specs.Consistency.{IsConsistent}
-use Rattle.md_array.specs.Steps.Enrol.{Enrols, FailsToEnrol, IsStorable, KeepsData, MayEnrol, log_writes}
+use Rattle.md_array.specs.Steps.Enrol.{Enrols, FailsToEnrol, KeepsData, MayEnrol}
 use Rattle.md_array.specs.Steps.EnrolEvents.{FailsAtSuper, Prepares, before_last, prepared_only, with_first, writes_before}
 use Rattle.md_array.specs.Events.{IsChangedAlone, IsSameBesideMarks}
 use Rattle.md_array.specs.InTurn.{Leads, Requests}
-use Rattle.md_array.specs.Steps.Record.{write_of}
 use Rattle.md_array.specs.Spoiling.{SpoilsTarget}
 use Rattle.md_array.proofs.General.Indices.{at_set_same, got_other}
 use Rattle.md_array.proofs.Rebuilding.Enrol.{can_store}
@@ -83,7 +84,7 @@ module _ (k : ℕ) (copied orphans : Bitmap) (old new : MirrorView) (c : IsConsi
 
     pub done_keeps : KeepsData n d done
     done_keeps = subst (λ (ws : List Write). KeepsData n d (record d { content = after d.content ws })) (sym f.are.are)
-        (data_kept b n f.are.start f.are.starts f.are.header f.are.header_is b.shared d.content storable f.readable d)
+        (data_kept b n f.are.start f.are.starts f.are.header f.are.header_is b.shared d.content storable f.readable)
 
     pub done_writes : DoesWrites of_disks f.writes d done
     done_writes = record {

@@ -5,12 +5,12 @@ use Rattle.std.proofs.lemmas.Bool.Decides.{nat_tests}
 use Rattle.std.proofs.lemmas.List.{get_or_past}
 use Rattle.std.proofs.lemmas.List.FromFn.{length-map-range_with_len}
 use Rattle.std.proofs.lemmas.Option.{slice_get_within}
+use Rattle.md_stored_members.specs.Storing.{IsStorable, sector_from_super}
+use Rattle.md_stored_members.specs.Superblocks.{IsReadable}
 use Rattle.md_array.proofs.StepLemmas.OneMember.{HasPlacesOf}
 use Rattle.md_array.specs.Consistency.{HasPlaces, HasSuper, IsConsistent}
-use Rattle.md_array.specs.Steps.Enrol.{IsStorable}
 use Rattle.md_array.specs.Fits.{Fits}
-use Rattle.md_array.specs.Steps.Record.{IsReadable}
-use Rattle.md_array.specs.Worlds.{sector_from_super, is_listed_next, super_in, super_of, is_listed}
+use Rattle.md_array.specs.Worlds.{is_listed_next, super_in, super_of, is_listed}
 use Rattle.md_array.proofs.General.Indices.{at_set_same, got_in_map}
 use Rattle.md_array.proofs.StepLemmas.Record.{listed_written, readable_super}
 use Rattle.md_array.proofs.Rebuilding.RoleTaken as taken

@@ -5,10 +5,11 @@ use Rattle.std.specs.List.{list_any, range_with_len}
 use Rattle.std.proofs.lemmas.List.FromFn.{length-map-range_with_len}
 use Rattle.std.proofs.lemmas.Nat.{and_assoc}
 use Rattle.std.proofs.lemmas.Option.{slice_get_within}
+use Rattle.md_stored_members.specs.Storing.{log_writes}
+use Rattle.md_stored_members.specs.Superblocks.{write_of}
 use Rattle.md_array.proofs.Rebuilding.MemberEnrolled.{lists_now}
 use Rattle.md_array.specs.Consistency.{IsConsistent}
-use Rattle.md_array.specs.Steps.Enrol.{Enrols, log_writes}
-use Rattle.md_array.specs.Steps.Record.{write_of}
+use Rattle.md_array.specs.Steps.Enrol.{Enrols}
 use Rattle.md_array.specs.Worlds.{block_on, is_listed, kind_of, lies_in, stored_of, stored_on, super_in, super_of, world_of, world_on, lists_of}
 use Rattle.md_array.proofs.General.Indices.{any_kept, at_set_same, got_in_map, got_other}
 use Rattle.md_array.proofs.General.Replaced.{read_changed, read_kept}

@@ -12,20 +12,22 @@ use Rattle.md_model.specs.States as states
 use Rattle.md_model.specs.Worlds.{Request, World}
 use Rattle.md_model.proofs.Cases.{below-nat_lt, by_option, is_below, not_below-nat_lt}
 use Rattle.md_model.proofs.Puts.{by_same}
+use Rattle.md_stored_members.specs.Storing.{sector_from_super}
+use Rattle.md_stored_members.proofs.Beside.{sector_at_is}
 use Rattle.md_array.proofs.Worlds.States.{same_in_sync, same_recovering}
 use Rattle.md_array.proofs.Worlds.Noted.{noted_there}
 use Rattle.md_array.specs.Consistency.{IsConsistent}
 use Rattle.md_array.specs.Events.{Happens, IsSameBesideMissing}
 use Rattle.md_array.specs.Steps.GiveBack.{Fills, MayRebuild}
 use Rattle.md_array.specs.Steps.Lend.{AreBack, ComesBackFromLoan, IsBesideChunk}
-use Rattle.md_array.specs.Worlds.{AreHonest, sector_from_super, header_fits, kind_of, stored_of, super_in, world_of}
+use Rattle.md_array.specs.Worlds.{AreHonest, header_fits, kind_of, stored_of, super_in, world_of}
 use Rattle.md_array.proofs.General.Tests.{and_same}
 use Rattle.md_array.proofs.Rebuilding.OneDevice.{IsOnlyAt, changed_only, only_does, only_left, only_world}
 use Rattle.md_array.proofs.StepLemmas.Lend.{block_back, header_back, in_area, log_back, read_back}
 use Rattle.md_array.proofs.StepLemmas.MakeClean.{none_listed}
 use Rattle.md_array.proofs.StepLemmas.OneMember.{member_there, stored_there}
 use Rattle.md_array.proofs.Worlds.Listed as lists
-use Rattle.md_array.proofs.Worlds.Outside.{byte_of_part, sector_at_is}
+use Rattle.md_array.proofs.Worlds.Outside.{byte_of_part}
 use Rattle.md_array.proofs.Worlds.PartsApart.{HasParts, parts_of}
 use Rattle.md_array.proofs.Worlds.Writes.{is_set-same, within_area}
 use Rattle.md_assembly.specs.declared.state.MemberState.{MemberState}

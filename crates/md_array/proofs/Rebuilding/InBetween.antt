@@ -14,6 +14,8 @@ use Rattle.md_device.proofs.Splices.{part_after, part_before, spliced_outside}
 use Rattle.md_kept_members.specs.Enrolling.{HasRoomFor, in_sync_superblock, log_room}
 use Rattle.md_kept_members.specs.View.{MemberView}
 use Rattle.md_members.specs.Areas.{bitmap_sectors}
+use Rattle.md_stored_members.specs.Storing.{IsStorable, log_writes, sector_from_super}
+use Rattle.md_stored_members.specs.Superblocks.{write_of}
 use Rattle.md_state.specs.DeviceChanges.{IsLeftAlone, LeavesOn, StaysHonest}
 use Rattle.md_state.specs.Missing.{is_rebuilt}
 use Rattle.md_state.specs.View.{ArrayView, Disk, MirrorView}
@@ -24,12 +26,10 @@ use Rattle.md_device_writes.specs.Writes.{after}
 use Rattle.md_device_writes.proofs.Frames.{outside_around}
 use Rattle.md_device_writes.proofs.Runs.{after-append}
 use Rattle.md_array.specs.Consistency.{IsConsistent}
-use Rattle.md_array.specs.Steps.Enrol.{Enrols, IsStorable, MayEnrol, log_writes}
+use Rattle.md_array.specs.Steps.Enrol.{Enrols, MayEnrol}
 use Rattle.md_array.specs.Steps.EnrolEvents.{Prepares, first_writes, prepared, with_writes}
 use Rattle.md_array.specs.Events.{IsBesideArea, IsBesideMarks, IsChangedAlone, IsSameBesideMarks}
 use Rattle.md_array.specs.Steps.GiveBack.{MayRebuild}
-use Rattle.md_array.specs.Steps.Record.{write_of}
-use Rattle.md_array.specs.Worlds.{sector_from_super}
 use Rattle.md_array.proofs.General.Indices.{at_set_same, got_other}
 use Rattle.md_array.proofs.Rebuilding.EnrolledArray as array
 use Rattle.md_array.proofs.Rebuilding.MemberStored as stored

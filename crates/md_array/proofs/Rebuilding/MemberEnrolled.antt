@@ -1,11 +1,11 @@
 -- A member that was rebuilt comes into sync: the mirror stays consistent, and an opening reads what is kept.
 use Rattle.std.proofs.Common.{◌≡◌, ℕ, ◌+◌, ◌/◌, inl, true, not, map, slice_get, Some, refl, sym, ap, ◌∙◌, subst, arith, ◌↔◌, Bool, false}
 use Rattle.std.proofs.lemmas.Option.{slice_get_within}
+use Rattle.md_stored_members.specs.Superblocks.{IsReadable}
 use Rattle.md_array.proofs.Rebuilding.RoleTaken.{TakesRole}
 use Rattle.md_array.specs.Consistency.{HasSuper, IsConsistent}
 use Rattle.md_array.specs.Steps.Enrol.{AreEnrolWrites, Enrols}
 use Rattle.md_array.specs.ReadAsKept.{AreReadAsKept, IsReadAsKept}
-use Rattle.md_array.specs.Steps.Record.{IsReadable}
 use Rattle.md_array.specs.Worlds.{AreHonest, is_listed}
 use Rattle.md_array.proofs.General.Indices.{at_map}
 use Rattle.md_array.proofs.General.Replaced.{of_set}

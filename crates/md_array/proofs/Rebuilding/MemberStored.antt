@@ -1,5 +1,5 @@
 -- What stands on a device once all of a member but its data is stored there.
-use Rattle.std.proofs.Common.{◌≡◌, ℕ, ◌+◌, ◌-◌, ◌*◌, ◌/◌, ◌≤◌, Bool, true, false, cond, not, ◌==◌, bit_and, pos, if◌then◌else◌, List, [], ◌∷◌, ◌++◌, length, length-append, replicate, refl, sym, ap, ◌∙◌, subst, arith}
+use Rattle.std.proofs.Common.{◌≡◌, ℕ, ◌+◌, ◌-◌, ◌*◌, ◌≤◌, Bool, true, false, cond, not, ◌==◌, bit_and, pos, if◌then◌else◌, List, [], ◌∷◌, ◌++◌, length, length-append, replicate, refl, sym, ap, ◌∙◌, subst, arith}
 use Rattle.std.specs.List.{flat_map}
 use Rattle.std.proofs.lemmas.List.{length-replicate}
 use Rattle.std.proofs.lemmas.List.Sums.{sum_by-cons}
@@ -19,7 +19,7 @@ use Rattle.md_badblocks.specs.Log.{all_ones, entries_of, entry_at, log_bytes}
 use Rattle.md_badblocks.specs.Runs.{entries_needed, entry_count}
 use Rattle.md_badblocks.proofs.Entries.{length-bytes}
 use Rattle.md_members.specs.declared.area.Area.{Area}
-use Rattle.md_members.specs.Areas.{AreApart, BitmapIsPlaced, AreAreasPlaced, LogIsPlaced, bitmap_area, bitmap_sectors, data_area, has_bad_blocks, has_bitmap, log_area, super_area}
+use Rattle.md_members.specs.Areas.{AreApart, BitmapIsPlaced, AreAreasPlaced, LogIsPlaced, bitmap_area, bitmap_sectors, has_bad_blocks, has_bitmap, log_area, super_area}
 use Rattle.md_members.specs.Members.{sectors_of_device}
 use Rattle.md_members.specs.Reading.{BitmapStartsAt}
 use Rattle.md_device_writes.specs.Bitmaps.{bitmap_writes}
@@ -29,14 +29,15 @@ use Rattle.md_device_writes.proofs.Stored.{AreStored, stored_all}
 use Rattle.md_device_writes.proofs.Frames.{outside_around}
 use Rattle.md_kept_members.specs.Enrolling.{HasRoomFor, in_sync_superblock, log_room, whole-supported}
 use Rattle.md_kept_members.specs.View.{MemberView}
+use Rattle.md_stored_members.specs.Storing.{IsStorable, KeepsDataOn, log_writes, member_writes, sector_from_super}
+use Rattle.md_stored_members.specs.Superblocks.{IsReadable, write_of}
+use Rattle.md_stored_members.proofs.Beside.{apart_either_way, data_beside_bitmap, data_beside_log, data_beside_super, data_then, sector_at_is}
 use Rattle.md_state.specs.Headers.{IsHeaderFor}
-use Rattle.md_state.specs.View.{ArrayView, Disk}
-use Rattle.md_array.specs.Steps.Enrol.{IsStorable, KeepsData, log_writes, member_writes}
-use Rattle.md_array.specs.Steps.Record.{IsReadable, write_of}
-use Rattle.md_array.specs.Worlds.{block_on, sector_from_super}
+use Rattle.md_state.specs.View.{ArrayView}
+use Rattle.md_array.specs.Worlds.{block_on}
 use Rattle.md_array.proofs.Openings.OwnFields as own_fields
 use Rattle.md_array.proofs.Worlds.Device.{fits_on}
-use Rattle.md_array.proofs.Worlds.Outside.{apart_either_way, bit_stays, header_stays, log_stays, sector_at_is, starts_at, stays}
+use Rattle.md_array.proofs.Worlds.Outside.{bit_stays, header_stays, log_stays, starts_at}
 use Rattle.md_array.proofs.Worlds.Writes.{HoldsBitmap, holds_written, within_area}
 
 -- ---- its superblock, once it is in sync
@@ -95,41 +96,6 @@ length-log_bytes runs room fits =
     length-bytes (flat_map entries_of runs ++ ones)
     ∙ ap (λ n. 8 * n) (length-append (flat_map entries_of runs) ones
     ∙ (let front = length-entries runs in let rest = length-replicate {A = ℕ} (room - entries_needed runs) all_ones in omega arith))
-
--- ---- data stays
-data_beside : (n : MemberView) (d e : Disk) (area : Area) (start : ℕ) → area.start ≡ pos start → AreApart (data_area n.superblock) area
-    → SameOutside (512 * start) (512 * area.sectors) d.content e.content → KeepsData n d e
-data_beside n d e area start at apart same i m from to =
-    stays area start at d.content e.content same (data_area n.superblock) n.superblock.data_offset refl apart i m from to
-
-pub data_then : (n : MemberView) (c d e : Disk) → KeepsData n c d → KeepsData n d e → KeepsData n c e
-data_then n c d e first second i m from to = second i m from to ∙ first i m from to
-
-module _ (n : MemberView) (d e : Disk) (sectors : ℕ) (placed : AreAreasPlaced sectors n.superblock (bitmap_sectors n.stored.chunks)) where
-  pub data_beside_bitmap : has_bitmap n.superblock ≡ true → (start : ℕ) → BitmapStartsAt n.superblock start
-      → SameOutside (512 * start) (512 * bitmap_sectors n.stored.chunks) d.content e.content → KeepsData n d e
-  data_beside_bitmap has start starts =
-      data_beside n d e (bitmap_area n.superblock (bitmap_sectors n.stored.chunks)) start (sym starts) (placed.bitmap has).from_data
-
-  pub data_beside_super : SameOutside (512 * 8) 4096 d.content e.content → KeepsData n d e
-  data_beside_super = data_beside n d e super_area 8 refl (apart_either_way super_area (data_area n.superblock) placed.data_apart)
-
-  pub data_beside_log : has_bad_block_log n.superblock ≡ true → SameOutside (512 * sector_from_super n.superblock.bblog_offset) (512 * n.superblock.bblog_size) d.content e.content → KeepsData n d e
-  data_beside_log there =
-      let log = placed.log there in
-      data_beside n d e (log_area n.superblock) (sector_from_super n.superblock.bblog_offset) (sector_at_is (log_area n.superblock).start log.within.from) log.from_data
-
--- a member that can be stored can be so on a device that is as long
-pub still_storable : (n : MemberView) (old new : List ℕ) → length new ≡ length old → IsStorable n old → IsStorable n new
-still_storable n old new long s =
-    let same : sectors_of_device old ≡ sectors_of_device new = ap (λ (x : ℕ). x / 512) (sym long) in
-    record {
-      long = subst (λ (x : ℕ). 16 ≤ x) same s.long;
-      has = s.has;
-      placed = subst (λ (x : ℕ). AreAreasPlaced x n.superblock (bitmap_sectors n.stored.chunks)) same s.placed;
-      few_chunks = s.few_chunks;
-      room = s.room;
-    }
 
 -- ---- what stands there
 -- All of the member but its data, beside these fields of the array, with this header.
@@ -256,14 +222,13 @@ module _ (a : ArrayView) (n : MemberView) (start : ℕ) (starts : BitmapStartsAt
   pub marks_outside : SameOutside (512 * start) (512 * width) old marked
   marks_outside = let outside = marks_stored.outside in outside_around outside (512 * start) (512 * width) (omega arith) (omega arith)
 
-  pub data_kept : (d : Disk) → KeepsData n (record d { content = old }) (record d { content = after old (member_writes start h shared n) })
-  data_kept d =
-      let at : List ℕ → Disk = λ xs. record d { content = xs } in
-      data_then n (at old) (at marked) (at (after old (member_writes start h shared n)))
-      (data_beside_bitmap n (at old) (at marked) (sectors_of_device old) fit.placed fit.has start starts marks_outside)
-      (data_then n (at marked) (at listed) (at (after old (member_writes start h shared n)))
-      (by_log (λ there. data_beside_log n (at marked) (at listed) (sectors_of_device old) fit.placed there (listed_outside there)) (λ none. λ i m from to. ap (λ (xs : List ℕ). part xs i m) (unlisted none)))
-      (subst (λ (xs : List ℕ). KeepsData n (at listed) (at xs)) (sym in_order) (data_beside_super n (at listed) (at new) (sectors_of_device old) fit.placed named)))
+  pub data_kept : KeepsDataOn n old (after old (member_writes start h shared n))
+  data_kept =
+      data_then n old marked (after old (member_writes start h shared n))
+      (data_beside_bitmap n old marked (sectors_of_device old) fit.placed fit.has start starts marks_outside)
+      (data_then n marked listed (after old (member_writes start h shared n))
+      (by_log (λ there. data_beside_log n marked listed (sectors_of_device old) fit.placed there (listed_outside there)) (λ none. λ i m from to. ap (λ (xs : List ℕ). part xs i m) (unlisted none)))
+      (subst (λ (xs : List ℕ). KeepsDataOn n listed xs) (sym in_order) (data_beside_super n listed new (sectors_of_device old) fit.placed named)))
 
   -- all of it, once the writes are done
   pub holds_member : (content : List ℕ) → content ≡ after old (member_writes start h shared n) → HoldsMember shared n h content

@@ -13,6 +13,8 @@ use Rattle.md_model.specs.Events.{Event, Step}
 use Rattle.md_model.specs.Rebuilding as model
 use Rattle.md_model.specs.Worlds.{Request}
 use Rattle.md_model.proofs.Cases.{is_below}
+use Rattle.md_stored_members.specs.Storing.{sector_from_super}
+use Rattle.md_stored_members.proofs.Beside.{apart, sector_at_is}
 use Rattle.md_state.specs.Requests.{AreInFlight}
 use Rattle.md_state.specs.View.{ArrayView, Disk, MirrorView, geometry_of}
 use Rattle.md_super.specs.declared.superblock.Superblock.{Superblock}
@@ -23,13 +25,12 @@ use Rattle.md_array.specs.Consistency.{IsConsistent}
 use Rattle.md_array.specs.Steps.EnrolEvents.{Prepares}
 use Rattle.md_array.specs.Events.{Happens, IsBesideArea, IsBesideMarks, IsSameBesideMarks}
 use Rattle.md_array.specs.ReadAsKept.{HasOwnSuper, IsReadAsKept}
-use Rattle.md_array.specs.Worlds.{AreHonest, block_on, sector_from_super, is_listed, is_logged, stored_of, super_in, world_of}
+use Rattle.md_array.specs.Worlds.{AreHonest, block_on, is_listed, is_logged, stored_of, super_in, world_of}
 use Rattle.md_array.proofs.Rebuilding.FilledEvent.{may_rebuild}
 use Rattle.md_array.proofs.Rebuilding.OneDevice.{IsOnlyAt, changed_only, only_does, only_left, only_world}
 use Rattle.md_array.proofs.StepLemmas.OneMember.{stored_there}
 use Rattle.md_array.proofs.General.Tests.{and_same}
 use Rattle.md_array.proofs.Worlds.Listed.{bit_read}
-use Rattle.md_array.proofs.Worlds.Outside.{apart, sector_at_is}
 use Rattle.md_array.proofs.Worlds.PartsApart.{HasParts, parts_of, same_if}
 use Rattle.md_array.proofs.Worlds.ReadAsKept.{super_was}
 

@@ -29,6 +29,8 @@ use Rattle.md_model.proofs.Steps.Between.{between_step, in_flight_step}
 use Rattle.md_requests.specs.Pending.{PendingView}
 use Rattle.md_faults.specs.declared.step_fault.StoreFault.{StoreFault}
 use Rattle.md_faults.specs.declared.step_fault.StoreFault.TheVariants.{Halted, NotActive, MemberFailed}
+use Rattle.md_stored_members.specs.Storing.{log_writes, sector_from_super}
+use Rattle.md_stored_members.proofs.Beside.{sector_at_is}
 use Rattle.md_state.specs.DiskWrites.{IsFailed, IsTried, IsWritten}
 use Rattle.md_state.specs.Steps.Fail.{AnswersStore}
 use Rattle.md_state.specs.Members.{IsInSync, IsMember}
@@ -39,11 +41,10 @@ use Rattle.md_super.specs.declared.superblock.Superblock.{Superblock}
 use Rattle.md_super.specs.Log.{has_bad_block_log}
 use Rattle.md_device_writes.specs.Writes.{DoesWrites, FailsInWrites, Write}
 use Rattle.md_array.specs.Consistency.{HasPlaces, HasSuper, IsConsistent}
-use Rattle.md_array.specs.Steps.Enrol.{log_writes}
 use Rattle.md_array.specs.Events.{Happens, listed_on}
 use Rattle.md_array.specs.Steps.StoreLog.{AreWritten, FailsToStoreLog, HasNoShift, IfLogFailed, RefusesStoreLog, StoresLog}
 use Rattle.md_array.specs.ReadAsKept.{AreReadAsKept, HasOwnSuper, IsReadAsKept}
-use Rattle.md_array.specs.Worlds.{block_on, sector_from_super, header_on, is_listed, is_listed_next, is_logged, list_bit, lists_of, reads_log_on, stored_of, stored_on, super_in, world_of, world_on}
+use Rattle.md_array.specs.Worlds.{block_on, header_on, is_listed, is_listed_next, is_logged, list_bit, lists_of, reads_log_on, stored_of, stored_on, super_in, world_of, world_on}
 use Rattle.md_array.proofs.General.Honesty.{tried_honest}
 use Rattle.md_array.proofs.General.Indices.{at_set_same, set_itself}
 use Rattle.md_array.proofs.General.Replaced.{of_set}
@@ -60,7 +61,6 @@ use Rattle.md_array.proofs.Worlds.Device.{fits_on}
 use Rattle.md_array.proofs.Worlds.Failed.{IsThere, does_failing, left, member_fails, there_is}
 use Rattle.md_array.proofs.Worlds.InSync.{in_sync_there}
 use Rattle.md_array.proofs.Worlds.Listed.{listed_alike}
-use Rattle.md_array.proofs.Worlds.Outside.{sector_at_is}
 use Rattle.md_array.proofs.Worlds.PartsApart.{HasParts, block_beside_log, header_beside_log, log_alone, parts_of}
 use Rattle.md_array.proofs.Openings.ListTold.{told_logged}
 use Rattle.md_array.proofs.Worlds.ReadAsKept.{super_was}

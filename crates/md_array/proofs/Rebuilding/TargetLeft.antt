@@ -12,6 +12,7 @@ use Rattle.md_model.specs.States as states
 use Rattle.md_model.specs.Worlds.{Request}
 use Rattle.md_model.proofs.Cases.{none_some}
 use Rattle.md_requests.specs.Pending.{PendingView}
+use Rattle.md_stored_members.specs.Superblocks.{IsReadable, own_write}
 use Rattle.md_state.specs.DiskWrites.{IsFailed}
 use Rattle.md_state.specs.Members.{IsMember}
 use Rattle.md_state.specs.Missing.{is_rebuilt}
@@ -24,7 +25,6 @@ use Rattle.md_array.specs.Steps.Admit.{FailsAsTarget, FailsOnTargetAlone, IsOldO
 use Rattle.md_array.specs.Consistency.{IsConsistent}
 use Rattle.md_array.specs.Events.{ListsStill}
 use Rattle.md_array.specs.ReadAsKept.{HasOwnSuper, IsReadAsKept}
-use Rattle.md_array.specs.Steps.Record.{IsReadable, own_write}
 use Rattle.md_array.specs.Worlds.{block_on, kind_of, stored_of, super_in, super_of, world_of}
 use Rattle.md_array.proofs.Rebuilding.FilledEvent.{rebuilt_target}
 use Rattle.md_array.proofs.Rebuilding.OneDevice.{IsOnlyAt, only_does, only_is_consistent, only_left, only_world, tried_only}

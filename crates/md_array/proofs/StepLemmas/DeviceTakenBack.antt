@@ -2,10 +2,12 @@
 use Rattle.std.proofs.Common.{◌≡◌, ℕ, ◌+◌, ◌*◌, ◌/◌, ◌<◌, true, not, ◌&&◌, ◌==◌, nat_lt, List, drop, inl, Option, Some, None, refl, sym, ap, ◌∙◌, subst, Bool}
 use Rattle.std.proofs.lemmas.Nat.{and_or_apart}
 use Rattle.std.proofs.lemmas.Option.{same_Some}
+use Rattle.md_stored_members.specs.Superblocks.{IsReadable}
+use Rattle.md_stored_members.specs.Storing.{sector_from_super}
 use Rattle.md_array.proofs.Worlds.Member.{accepted_by}
 use Rattle.md_array.specs.ReadAsKept.{HasWidth, IsReadAsKept, chunk_size_on}
-use Rattle.md_array.specs.Steps.Record.{IsReadable, super_write}
-use Rattle.md_array.specs.Worlds.{block_on, sector_from_super, is_listed, is_listed_next, is_logged, list_bit, stored_of, super_in, super_of, header_on, lies_in}
+use Rattle.md_array.specs.Steps.Record.{super_write}
+use Rattle.md_array.specs.Worlds.{block_on, is_listed, is_listed_next, is_logged, list_bit, stored_of, super_in, super_of, header_on, lies_in}
 use Rattle.md_array.proofs.General.Tests.{and_same}
 use Rattle.md_array.proofs.StepLemmas.Record.{listed_written, lists_alike, readable_super}
 use Rattle.md_array.proofs.Worlds.Bad as bad

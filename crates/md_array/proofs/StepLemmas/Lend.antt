@@ -17,15 +17,16 @@ use Rattle.md_assembly.specs.declared.state.MemberState.TheVariants.{InSync, Rec
 use Rattle.md_assembly.specs.States.{is_in_sync}
 use Rattle.md_assembly.proofs.Indices.{got_within}
 use Rattle.md_kept_members.specs.View.{MemberView}
+use Rattle.md_stored_members.specs.Storing.{sector_from_super}
+use Rattle.md_stored_members.proofs.Beside.{apart_either_way, sector_at_is}
 use Rattle.md_state.specs.Missing.{is_rebuilt}
 use Rattle.md_state.specs.View.{ArrayView, Disk, MirrorView}
 use Rattle.md_array.specs.Consistency.{HasPlaces, HasSuper, IsConsistent}
 use Rattle.md_array.specs.Steps.Lend.{AreBack, ComesBackFromLoan, IsBesideChunk}
 use Rattle.md_array.specs.ReadAsKept.{AreReadAsKept, IsReadAsKept}
-use Rattle.md_array.specs.Worlds.{block_on, sector_from_super, header_on, is_listed, is_listed_next, super_in}
+use Rattle.md_array.specs.Worlds.{block_on, header_on, is_listed, is_listed_next, super_in}
 use Rattle.md_array.proofs.StepLemmas.OneMember.{fits_like, like_itself}
 use Rattle.md_array.proofs.Worlds.Listed.{IsLogKept}
-use Rattle.md_array.proofs.Worlds.Outside.{apart_either_way, sector_at_is}
 use Rattle.md_array.proofs.Worlds.PartsApart.{HasParts, parts_of}
 use Rattle.md_array.proofs.Worlds.ReadAsKept as read_as_kept
 

@@ -10,12 +10,13 @@ use Rattle.md_model.specs.Rebuilding.{is_target}
 use Rattle.md_model.specs.States as states
 use Rattle.md_model.specs.Worlds.{Request}
 use Rattle.md_kept_members.specs.View.{MemberView}
+use Rattle.md_stored_members.specs.Storing.{sector_from_super}
 use Rattle.md_state.specs.Members.{IsMember}
 use Rattle.md_state.specs.Missing.{is_rebuilt}
 use Rattle.md_state.specs.View.{ArrayView, Disk, MirrorView}
 use Rattle.md_array.specs.Consistency.{IsConsistent}
 use Rattle.md_array.specs.Events.{ListsIn, ListsStill}
-use Rattle.md_array.specs.Worlds.{sector_from_super, is_listed, is_listed_next, is_logged, kind_of, lies_in, lists_of, reads_log_on, world_of}
+use Rattle.md_array.specs.Worlds.{is_listed, is_listed_next, is_logged, kind_of, lies_in, lists_of, reads_log_on, world_of}
 use Rattle.md_array.proofs.StepLemmas.OneMember.{member_there, stored_there}
 
 target_rebuilt : (s : MemberState) → is_target (kind_of s) ≡ true → is_rebuilt s ≡ true

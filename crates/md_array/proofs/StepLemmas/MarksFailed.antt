@@ -9,12 +9,13 @@ use Rattle.md_model.specs.Failures.{LeftByMarks}
 use Rattle.md_model.specs.Events.{Event, MemberPart}
 use Rattle.md_device_writes.specs.Writes.{Write}
 use Rattle.md_kept_members.specs.View.{MemberView}
+use Rattle.md_stored_members.specs.Storing.{sector_from_super}
 use Rattle.md_state.specs.View.{ArrayView, Disk, MirrorView}
 use Rattle.md_state.specs.Members.{IsMember}
 use Rattle.md_state.specs.Steps.StoreMarks.{FailsToStoreMarks}
 use Rattle.md_array.specs.Consistency.{IsConsistent}
 use Rattle.md_array.specs.Events.{Happens}
-use Rattle.md_array.specs.Worlds.{sector_from_super, stored_of, world_of, world_on}
+use Rattle.md_array.specs.Worlds.{stored_of, world_of, world_on}
 use Rattle.md_array.proofs.StepLemmas.OneMember.{stored_there}
 use Rattle.md_array.proofs.Worlds.PartsApart.{bits_elsewhere, block_beside_marks, events_elsewhere, fits_elsewhere, log_beside_marks, marks_alone, parts_of}
 use Rattle.md_array.proofs.Worlds.ReadAsKept.{own_stays}

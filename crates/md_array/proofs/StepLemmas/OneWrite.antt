@@ -1,6 +1,7 @@
 -- One write to the device of a member.
 use Rattle.std.proofs.Common.{◌≡◌, ◌∙◌, ℕ, ◌*◌, ◌<◌, true, List, [], ◌∷◌, Some, length, get_or, map, set, ap, sym, subst, arith, length-set}
 use Rattle.std.specs.List.{slice_get}
+use Rattle.std.specs.Prelude.{Result}
 use Rattle.std.proofs.lemmas.List.{map-set, length-map}
 use Rattle.std.proofs.lemmas.Option.{slice_get_within}
 use Rattle.md_device.specs.Device.{written}
@@ -9,6 +10,7 @@ use Rattle.md_device.specs.declared.device.Device.{Ghosts}
 use Rattle.md_device_writes.specs.Writes.{DoesWrites, IsAnyIn, IsCutShort, FailsInWrites, Write}
 use Rattle.md_device_writes.proofs.Runs.{stops_in_one}
 use Rattle.md_kept_members.specs.View.{MemberView}
+use Rattle.md_stored_members.specs.OneOfMany.{WritesAlone}
 use Rattle.md_state.specs.View.{ArrayView, Disk, MirrorView, disk_of}
 use Rattle.md_state.specs.Members.{IsMember}
 use Rattle.md_state.specs.DeviceChanges.{LeavesOn, StaysHonest}
@@ -67,6 +69,14 @@ module _ {D : Type 0} (g : Ghosts D) (devices : List D) (k : ℕ) (was : D) (rea
           failed = at_device before k d e (λ a b. a.honest ≡ true → a.failures < b.failures) (here within) stops.failed;
           within = at_device before k d e (λ a b. a.honest ≡ true → LeavesOn (IsAnyIn w a.content) a b) (here within) (stops_in_one g w was new stops);
         })
+
+-- device k of several was written
+module _ {D : Type 0} (g : Ghosts D) (k : ℕ) (w : Write) (old new : List D) {T E : Type 0} (result : Result T E) (on : WritesAlone g k w old new result) (within : k < length old) where
+  pub written_on : DoesWrites g (w ∷ []) on.was on.is → IsWritten k w (map (disk_of g) old) (map (disk_of g) new)
+  written_on does = subst (λ (xs : List D). IsWritten k w (map (disk_of g) old) (map (disk_of g) xs)) (sym on.has) (is_written g old k on.was on.had on.is w within on.outside does)
+
+  pub failed_on : FailsInWrites g (w ∷ []) on.was on.is → IsFailed k w (map (disk_of g) old) (map (disk_of g) new)
+  failed_on stops = subst (λ (xs : List D). IsFailed k w (map (disk_of g) old) (map (disk_of g) xs)) (sym on.has) (is_failed g old k on.was on.had on.is w within on.outside stops)
 
 -- the mirror is consistent, and member k is one of it
 module _ {D : Type 0} (disk : D → Disk) (devices : List D) (a : ArrayView) (old : MirrorView) (k : ℕ) (view : ◌≡◌ {A = MirrorView} (record { disks = map disk devices; array = a }) old)

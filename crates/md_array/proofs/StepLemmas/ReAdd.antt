@@ -37,6 +37,7 @@ use Rattle.md_faults.specs.declared.re_add_fault.ReAddFault.{ReAddFault}
 use Rattle.md_faults.specs.declared.re_add_fault.ReAddFault.TheVariants as fault
 use Rattle.md_membership.specs.Joining.{joined_shared}
 use Rattle.md_membership.specs.Numbers.{has_number}
+use Rattle.md_stored_members.specs.Superblocks.{IsReadable, write_of}
 use Rattle.md_state.specs.DiskWrites.{IsFailed, IsWritten}
 use Rattle.md_state.specs.Steps.NoteJoined.{joined}
 use Rattle.md_state.specs.Members.{is_degraded}
@@ -46,7 +47,6 @@ use Rattle.md_state.specs.Steps.Rise.{risen}
 use Rattle.md_state.specs.View.{ArrayView, Disk, MirrorView, disk_of}
 use Rattle.md_array.specs.Consistency.{IsConsistent}
 use Rattle.md_array.specs.Fits.{FitsMember}
-use Rattle.md_array.specs.Steps.Record.{IsReadable, write_of}
 use Rattle.md_array.specs.Steps.ReAdd.{FailsToRecordLast, IsOnlyRead, ReAdds, RecordsLast, RefusesDevice, RefusesInfo, RefusesReAdd, RefusesToRecordLast, unread_as}
 use Rattle.md_array.proofs.Openings.ListTold.{recovering_log_bit, told_next}
 use Rattle.md_array.proofs.Openings.OwnFields.{bitmap_same, placed_next}

@@ -17,6 +17,8 @@ use Rattle.md_model.specs.Sectors.{Geometry, put}
 use Rattle.md_model.specs.States as model
 use Rattle.md_model.specs.Worlds.{Request, World}
 use Rattle.md_model.proofs.Steps.Between.{between_step, in_flight_step}
+use Rattle.md_stored_members.specs.Superblocks.{IsReadable}
+use Rattle.md_stored_members.specs.Storing.{sector_from_super}
 use Rattle.md_state.specs.Steps.ReAdd.{HasNoOtherMarks}
 use Rattle.md_state.specs.DiskWrites.{IsWritten}
 use Rattle.md_state.specs.Steps.NoteJoined.{joined}
@@ -41,8 +43,8 @@ use Rattle.md_array.specs.Events.{Does, Happens}
 use Rattle.md_array.specs.Fits.{FitsMember}
 use Rattle.md_array.specs.Steps.ReAdd.{ComesBackReAdded, ReAddHappens, ReAdds, RefusesReAdd, re_add_event}
 use Rattle.md_array.specs.ReadAsKept.{AreReadAsKept}
-use Rattle.md_array.specs.Steps.Record.{IsReadable, super_write}
-use Rattle.md_array.specs.Worlds.{AreHonest, block_on, kind_of, stored_of, super_in, super_of, world_of, sector_from_super, lists_of}
+use Rattle.md_array.specs.Steps.Record.{super_write}
+use Rattle.md_array.specs.Worlds.{AreHonest, block_on, kind_of, stored_of, super_in, super_of, world_of, lists_of}
 use Rattle.md_array.proofs.General.Appended.{got_last}
 use Rattle.md_array.proofs.General.Indices.{any_at}
 use Rattle.md_array.proofs.StepLemmas.DeviceTakenBack.{known_now, read_now, stored_now, accepted_taken, bits_there, listed_is_bad}

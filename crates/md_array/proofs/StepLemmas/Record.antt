@@ -1,10 +1,11 @@
 -- A member's superblock that is stored is the model's event, and the mirror stays consistent.
 use Rattle.std.proofs.Common.{◌≡◌, ℕ, ◌+◌, ◌*◌, ◌/◌, inl, inr, Bool, true, false, true≢false, ◌&&◌, nat_lt, List, slice_get, Option, Some, refl, sym, ap, ◌∙◌, subst, arith}
 use Rattle.std.proofs.lemmas.Option.{slice_get_within}
+use Rattle.md_stored_members.specs.Superblocks.{IsReadable}
 use Rattle.md_array.proofs.StepLemmas.ListGrown.{grows_by}
 use Rattle.md_array.specs.Consistency.{HasPlaces, HasSuper, IsConsistent}
 use Rattle.md_array.specs.ReadAsKept.{IsReadAsKept}
-use Rattle.md_array.specs.Steps.Record.{IsReadable, Records, super_write}
+use Rattle.md_array.specs.Steps.Record.{Records, super_write}
 use Rattle.md_array.specs.Events.{Happens}
 use Rattle.md_array.specs.Worlds.{block_on, is_listed, is_listed_next, kind_of, stored_of, super_in, super_of, world_of, world_on}
 use Rattle.md_array.proofs.General.Honesty.{tried_honest}

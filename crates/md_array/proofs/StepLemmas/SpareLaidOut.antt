@@ -15,11 +15,12 @@ use Rattle.md_create.specs.Layout.{IsLaidOutAs}
 use Rattle.md_create.specs.ReadBack.{IsReadBack, sealed}
 use Rattle.md_create.proofs.Laid.{few_sectors}
 use Rattle.md_device_writes.proofs.Frames.{outside_none}
+use Rattle.md_stored_members.specs.Storing.{sector_from_super}
 use Rattle.md_state.specs.Steps.Add.{IsSpareOf, added}
 use Rattle.md_state.specs.View.{ArrayView}
 use Rattle.md_array.specs.Steps.Add.{kept_of}
 use Rattle.md_array.specs.ReadAsKept.{HasOwnSuper, HasWidth, IsReadAsKept}
-use Rattle.md_array.specs.Worlds.{block_on, sector_from_super, header_on, is_listed, is_logged, list_bit, stored_of, super_in, super_of}
+use Rattle.md_array.specs.Worlds.{block_on, header_on, is_listed, is_logged, list_bit, stored_of, super_in, super_of}
 use Rattle.md_array.proofs.General.Tests.{and_same}
 use Rattle.md_array.proofs.Worlds.Listed.{same_log}
 use Rattle.md_array.proofs.Worlds.Supers.{super_shown}

@@ -28,13 +28,15 @@ use Rattle.md_assembly.specs.States.{is_in_sync}
 use Rattle.md_assembly.proofs.Indices.{got_within}
 use Rattle.md_requests.specs.Pending.{PendingView}
 use Rattle.md_kept_members.specs.View.{MemberView}
+use Rattle.md_stored_members.specs.Storing.{sector_from_super}
+use Rattle.md_stored_members.proofs.Beside.{sector_at_is}
 use Rattle.md_state.specs.View.{ArrayView, Disk, MirrorView, geometry_of}
 use Rattle.md_state.specs.Steps.StoreMarks.{StoresMarkSector}
 use Rattle.md_state.specs.Requests.{IsPending}
 use Rattle.md_array.specs.Consistency.{HasPlaces, HasSuper, IsConsistent}
 use Rattle.md_array.specs.ReadAsKept.{HasWidth, IsReadAsKept}
 use Rattle.md_array.specs.Events.{Happens}
-use Rattle.md_array.specs.Worlds.{block_on, sector_from_super, header_on, kind_of, stored_of, super_in, world_of}
+use Rattle.md_array.specs.Worlds.{block_on, header_on, kind_of, stored_of, super_in, world_of}
 use Rattle.md_array.proofs.General.Honesty.{tried_honest}
 use Rattle.md_array.proofs.Worlds.Listed.{still_next, still_known}
 use Rattle.md_array.proofs.StepLemmas.OneMember.{ChangesMember, changed_in_flight, changed_is_consistent, changed_is_pending, changed_world, member_there, stored_there}
@@ -42,7 +44,7 @@ use Rattle.md_array.proofs.Worlds.PartsApart.{HasParts, bits_elsewhere, block_be
 use Rattle.md_array.proofs.Worlds.ReadAsKept.{changed_read, stays}
 use Rattle.md_array.proofs.Worlds.Device.{fits_on}
 use Rattle.md_array.proofs.Worlds.Member.{header_fits_there}
-use Rattle.md_array.proofs.Worlds.Outside.{sector_at_is, starts_at}
+use Rattle.md_array.proofs.Worlds.Outside.{starts_at}
 use Rattle.md_array.proofs.Worlds.States.{same_in_sync}
 use Rattle.md_array.proofs.General.Tests.{and_same}
 use Rattle.md_array.proofs.Worlds.Writes.{is_set-same}

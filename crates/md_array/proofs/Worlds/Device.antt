@@ -20,12 +20,13 @@ use Rattle.md_assembly.specs.States.{is_in_sync, state_of}
 use Rattle.md_badblocks.specs.Runs.{IsBad}
 use Rattle.md_model.specs.Devices.{is_accepted}
 use Rattle.md_model.proofs.Cases.{by_test}
+use Rattle.md_stored_members.specs.Storing.{sector_from_super}
 use Rattle.md_state.specs.View.{Disk, ArrayView}
 use Rattle.md_state.specs.DeviceChanges.{IsUnchanged}
 use Rattle.md_array.specs.Consistency.{HasPlaces}
 use Rattle.md_array.specs.ReadAsKept.{HasWidth, IsReadAsKept, chunk_size_on}
 use Rattle.md_array.specs.Open.Marks.{StoresMarksOn}
-use Rattle.md_array.specs.Worlds.{block_on, sector_from_super, is_listed, is_listed_next, stored_of, super_in, super_of}
+use Rattle.md_array.specs.Worlds.{block_on, is_listed, is_listed_next, stored_of, super_in, super_of}
 use Rattle.md_array.proofs.Worlds.Listed.{IsLogKept, listed_as_next, listed_kept, listed_kept_of, next_kept, listed_at_offset, next_at_offset}
 use Rattle.md_array.proofs.Worlds.PartsApart.{log_beside_bitmap}
 use Rattle.md_array.proofs.Worlds.ReadAsKept.{own_stays}

@@ -1,5 +1,5 @@
 -- What stands apart from an area of a device stays when the area is written: the superblock, the data, the log and the bitmap.
-use Rattle.std.proofs.Common.{◌≡◌, ℕ, ◌+◌, ◌*◌, ◌/◌, ◌<◌, ◌≤◌, ◌⊎◌, inl, inr, List, drop, slice_index, ℤ, pos, negsuc, ◌+ℤ◌, ◌≤ℤ◌, refl, sym, ap, ◌∙◌, arith, get_or-drop}
+use Rattle.std.proofs.Common.{◌≡◌, ℕ, ◌+◌, ◌*◌, ◌/◌, ◌<◌, ◌≤◌, ◌⊎◌, inl, inr, List, drop, slice_index, pos, ◌≤ℤ◌, refl, sym, ap, ◌∙◌, arith, get_or-drop}
 use Rattle.std.proofs.lemmas.Int.{ints}
 use Rattle.md_device.specs.Splice.{part, SameOutside}
 use Rattle.md_device.proofs.Splices.{part_before, part_after, slice_index-part}
@@ -8,12 +8,10 @@ use Rattle.md_bitmap.specs.Marks.{is_set}
 use Rattle.md_members.specs.declared.area.Area.{Area}
 use Rattle.md_members.specs.Areas.{AreApart, end_of_area, super_area, data_area, log_area}
 use Rattle.md_members.specs.Reading.{BitmapStartsAt}
-use Rattle.md_array.specs.Worlds.{block_on, sector_from_super, header_on, sector_at}
+use Rattle.md_stored_members.specs.Storing.{sector_from_super, sector_at}
+use Rattle.md_stored_members.proofs.Beside.{apart, sector_at_is, stays}
+use Rattle.md_array.specs.Worlds.{block_on, header_on}
 use Rattle.md_array.proofs.Worlds.Writes.{is_set-same}
-
-pub sector_at_is : (z : ℤ) → pos 0 ≤ℤ z → z ≡ pos (sector_at z)
-sector_at_is (pos n) h = refl
-sector_at_is (negsuc n) h = absurd (omega (arith, ints))
 
 -- a sector where the bitmap starts is the one that the world takes
 pub starts_at : (v : Superblock) (start : ℕ) → BitmapStartsAt v start → sector_from_super v.bitmap_offset ≡ start
@@ -27,14 +25,6 @@ pub record LiesIn (outer inner : Area) : Type 0 where
 pub apart_from_part : (a outer inner : Area) → LiesIn outer inner → AreApart a outer → AreApart a inner
 apart_from_part a outer inner i (inl before) = let from = i.from in inl (omega (arith, ints))
 apart_from_part a outer inner i (inr behind) = let to = i.to in inr (omega (arith, ints))
-
-pub apart_either_way : (a b : Area) → AreApart a b → AreApart b a
-apart_either_way a b (inl before) = inr before
-apart_either_way a b (inr behind) = inl behind
-
-pub apart : (p q : ℤ) (s start m n : ℕ) → p ≡ pos s → q ≡ pos start → ((p +ℤ pos m) ≤ℤ q) ⊎ ((q +ℤ pos n) ≤ℤ p) → (s + m ≤ start) ⊎ (start + n ≤ s)
-apart p q s start m n e f (inl h) = inl (omega (arith, ints))
-apart p q s start m n e f (inr h) = inr (omega (arith, ints))
 
 -- one byte
 pub byte_of_part : (p : ℕ) (old new : List ℕ) → part new p 1 ≡ part old p 1 → slice_index new p ≡ slice_index old p
@@ -53,31 +43,27 @@ byte_stays at n p old new same where_is =
 
 -- the area that is written, from this sector on
 module _ (written : Area) (start : ℕ) (at : written.start ≡ pos start) (old new : List ℕ) (same : SameOutside (512 * start) (512 * written.sectors) old new) where
-  pub stays : (a : Area) (s : ℕ) → a.start ≡ pos s → AreApart a written → (i m : ℕ) → 512 * s ≤ i → i + m ≤ 512 * (s + a.sectors) → part new i m ≡ part old i m
-  stays a s e h i m from to =
-      elim (apart a.start written.start s start a.sectors written.sectors e at h) [
-        | inl before ↦ part_before same i m (omega arith)
-        | inr behind ↦ part_after same i m (omega arith)
-      ]
+  beside : (a : Area) (s : ℕ) → a.start ≡ pos s → AreApart a written → (i m : ℕ) → 512 * s ≤ i → i + m ≤ 512 * (s + a.sectors) → part new i m ≡ part old i m
+  beside = stays written start at old new same
 
   pub block_stays : AreApart super_area written → block_on new ≡ block_on old
-  block_stays h = stays super_area 8 refl h 4096 4096 (omega arith) (omega arith)
+  block_stays h = beside super_area 8 refl h 4096 4096 (omega arith) (omega arith)
 
   module _ (v : Superblock) where
     pub data_stays : AreApart (data_area v) written → v.size ≤ v.data_size → (s : ℕ) → s < v.size
         → part new (512 * (v.data_offset + s)) 512 ≡ part old (512 * (v.data_offset + s)) 512
-    data_stays h holds s below = stays (data_area v) v.data_offset refl h (512 * (v.data_offset + s)) 512 (omega arith) (omega arith)
+    data_stays h holds s below = beside (data_area v) v.data_offset refl h (512 * (v.data_offset + s)) 512 (omega arith) (omega arith)
 
     pub log_stays : AreApart (log_area v) written → pos 0 ≤ℤ (log_area v).start
         → part new (512 * sector_from_super v.bblog_offset) (512 * v.bblog_size) ≡ part old (512 * sector_from_super v.bblog_offset) (512 * v.bblog_size)
     log_stays h from =
-        stays (log_area v) (sector_from_super v.bblog_offset) (sector_at_is (log_area v).start from) h
+        beside (log_area v) (sector_from_super v.bblog_offset) (sector_at_is (log_area v).start from) h
         (512 * sector_from_super v.bblog_offset) (512 * v.bblog_size) (omega arith) (omega arith)
 
   -- of a bitmap in the area a from a sector on
   module _ (a : Area) (first : ℕ) (from : a.start ≡ pos first) (h : AreApart a written) where
     pub header_stays : 0 < a.sectors → header_on new first ≡ header_on old first
-    header_stays some = stays a first from h (512 * first) 256 (omega arith) (omega arith)
+    header_stays some = beside a first from h (512 * first) 256 (omega arith) (omega arith)
 
     pub bit_stays : (c : ℕ) → 256 + c / 8 < 512 * a.sectors → is_set (drop (512 * first + 256) new) c ≡ is_set (drop (512 * first + 256) old) c
     bit_stays c within = is_set-same (drop (512 * first + 256) new) (drop (512 * first + 256) old) c

@@ -16,13 +16,15 @@ use Rattle.md_model.specs.Sectors.{block_of}
 use Rattle.md_model.specs.Devices.{Stored}
 use Rattle.md_model.proofs.Cases.{is_below}
 use Rattle.md_kept_members.specs.View.{MemberView}
+use Rattle.md_stored_members.specs.Storing.{sector_from_super}
+use Rattle.md_stored_members.proofs.Beside.{apart_either_way, sector_at_is}
 use Rattle.md_state.specs.View.{ArrayView, Disk, MirrorView}
 use Rattle.md_state.specs.Members.{IsMember}
 use Rattle.md_array.specs.Consistency.{IsConsistent}
-use Rattle.md_array.specs.Worlds.{block_on, sector_from_super, header_fits, header_on, stored_of, super_in}
+use Rattle.md_array.specs.Worlds.{block_on, header_fits, header_on, stored_of, super_in}
 use Rattle.md_array.proofs.Worlds.Listed as lists
 use Rattle.md_array.proofs.Worlds.Listed.{IsLogKept}
-use Rattle.md_array.proofs.Worlds.Outside.{LiesIn, apart_either_way, apart_from_part, bit_stays, block_stays, byte_stays, data_stays, header_stays, log_stays, sector_at_is}
+use Rattle.md_array.proofs.Worlds.Outside.{LiesIn, apart_from_part, bit_stays, block_stays, byte_stays, data_stays, header_stays, log_stays}
 use Rattle.md_array.proofs.General.Tests.{and_same}
 use Rattle.md_array.proofs.Worlds.Writes.{is_set-same, within_area}
 use Rattle.std.proofs.lemmas.Option.{slice_get_within}

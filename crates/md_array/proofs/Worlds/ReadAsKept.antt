@@ -15,14 +15,16 @@ use Rattle.md_kept_members.specs.View.{MemberView}
 use Rattle.md_kept_members.specs.Members.{made_due}
 use Rattle.md_assembly.specs.States.{is_recorded}
 use Rattle.md_assembly.proofs.Indices.{got_within}
+use Rattle.md_stored_members.specs.Superblocks.{IsReadable}
+use Rattle.md_stored_members.specs.Storing.{sector_from_super}
 use Rattle.md_state.specs.Members.{IsMember}
 use Rattle.md_state.specs.Missing.{is_rebuilt}
 use Rattle.md_state.specs.Steps.Rise.{failed, made_faulty, risen}
 use Rattle.md_state.specs.View.{ArrayView, Disk, MirrorView}
 use Rattle.md_state.specs.DiskWrites.{AtDevice, IsTried}
 use Rattle.md_array.specs.ReadAsKept.{AreReadAsKept, HasOwnSuper, HasWidth, IsFromBefore, IsReadAsKept, IsSuperOn}
-use Rattle.md_array.specs.Steps.Record.{IsReadable, super_write}
-use Rattle.md_array.specs.Worlds.{block_on, sector_from_super}
+use Rattle.md_array.specs.Steps.Record.{super_write}
+use Rattle.md_array.specs.Worlds.{block_on}
 use Rattle.md_array.proofs.Worlds.Listed.{IsLogKept, listed_read_both, same_log}
 use Rattle.md_array.proofs.StepLemmas.OneMember.{ChangesMember}
 use Rattle.md_array.proofs.Worlds.PartsApart.{HasParts, block_beside_data, header_beside_data, log_beside_data}

@@ -18,9 +18,10 @@ use Rattle.md_assembly.specs.States.{is_recorded, state_of}
 use Rattle.md_model.specs.Devices.{is_accepted, Super}
 use Rattle.md_kept_members.specs.View.{MemberView}
 use Rattle.md_kept_members.specs.Kept.{IsKept, known_offset}
+use Rattle.md_stored_members.specs.Storing.{sector_from_super}
 use Rattle.md_state.specs.View.{ArrayView}
 use Rattle.md_array.specs.ReadAsKept.{HasOwnSuper, HasWidth, chunk_size_on}
-use Rattle.md_array.specs.Worlds.{block_on, sector_from_super, is_listed, stored_of, super_in, super_of}
+use Rattle.md_array.specs.Worlds.{block_on, is_listed, stored_of, super_in, super_of}
 use Rattle.md_array.proofs.Openings.OwnFields.{state_same, super_same}
 use Rattle.md_array.proofs.Worlds.PartsApart.{HasParts}
 use Rattle.md_array.proofs.Worlds.Listed.{listed_kept_of, same_log, listed_at_offset}

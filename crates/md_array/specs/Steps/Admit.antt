@@ -5,13 +5,14 @@ use Rattle.md_faults.specs.declared.admit_fault.AdmitFault.{AdmitFault}
 use Rattle.md_faults.specs.declared.admit_fault.AdmitFault.TheVariants.{Halted, NoRole, EventsFull, TargetFault, NoMemory}
 use Rattle.md_kept_members.specs.TakingBack.{admitted_member}
 use Rattle.md_model.specs.Events.{Event}
+use Rattle.md_stored_members.specs.Superblocks.{IsReadable}
 use Rattle.md_state.specs.Steps.Admit.{MayAdmit, RefusesToAdmit, admitted}
 use Rattle.md_state.specs.DiskWrites.{AtDevice, IsFailed, IsWritten}
 use Rattle.md_state.specs.Trying.{Refuses}
 use Rattle.md_state.specs.View.{Disk, MirrorView}
 use Rattle.md_super.specs.Merge.{merged}
 use Rattle.md_array.specs.Events.{Happens, listed_on}
-use Rattle.md_array.specs.Steps.Record.{IsReadable, super_write}
+use Rattle.md_array.specs.Steps.Record.{super_write}
 use Rattle.md_array.specs.Worlds.{block_on, super_in}
 
 -- A spare is admitted: its superblock was written, once.

@@ -8,6 +8,7 @@ use Rattle.md_kept_members.specs.TakingBack.{with_recovery_offset}
 use Rattle.md_kept_members.specs.View.{MemberView}
 use Rattle.md_model.specs.Content.{Content}
 use Rattle.md_model.specs.Events.{Event}
+use Rattle.md_stored_members.specs.Superblocks.{IsReadable}
 use Rattle.md_state.specs.Steps.Checkpoint.{IsNextOffset, with_offset_of}
 use Rattle.md_state.specs.DiskWrites.{IsFailed, IsWritten}
 use Rattle.md_state.specs.Steps.MakeClean.{IsIdle}
@@ -19,7 +20,7 @@ use Rattle.md_array.specs.Steps.Admit.{FailsAsTarget}
 use Rattle.md_array.specs.Steps.Enrol.{HoldsContent, HoldsCopied}
 use Rattle.md_array.specs.Events.{Happens, listed_on}
 use Rattle.md_array.specs.Steps.NoteResynced.{AreNoted}
-use Rattle.md_array.specs.Steps.Record.{IsReadable, super_write}
+use Rattle.md_array.specs.Steps.Record.{super_write}
 use Rattle.md_array.specs.Worlds.{AreHonest}
 
 -- Nothing is in flight, the array is resynced, each member in sync has the marks stored, and the member is recovering. These chunks were

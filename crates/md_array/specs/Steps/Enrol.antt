@@ -1,23 +1,15 @@
 -- A member that was rebuilt comes into sync: its marks are stored, its log, and last its superblock (this project's own order).
-use Rattle.std.specs.Prelude.{◌≡◌, ◌≢◌, ◌⊎◌, ⊤, ℕ, ◌+◌, ◌*◌, ◌<◌, ◌≤◌, Bool, true, false, List, [], ◌∷◌, ◌++◌, if◌then◌else◌, length, slice_get, Some, None, Result, MatchResult}
+use Rattle.std.specs.Prelude.{◌≡◌, ◌≢◌, ◌⊎◌, ⊤, ℕ, ◌+◌, ◌*◌, ◌<◌, Bool, true, false, List, length, slice_get, Some, None, Result, MatchResult}
 use Rattle.md_device.specs.Splice.{part}
-use Rattle.md_super.specs.declared.superblock.Superblock.{Superblock}
-use Rattle.md_super.specs.Log.{has_bad_block_log}
 use Rattle.md_super.specs.Merge.{merged}
 use Rattle.md_assembly.specs.States.{is_recovering}
 use Rattle.md_bitmap.specs.declared.header.BitmapHeader.{BitmapHeader}
 use Rattle.md_bitmap.specs.Chunks.{InChunk}
 use Rattle.md_bitmap.specs.Marks.{Bitmap, is_set}
-use Rattle.md_badblocks.specs.declared.run.Run.{Run}
-use Rattle.md_badblocks.specs.Log.{log_bytes}
-use Rattle.md_members.specs.Areas.{AreAreasPlaced, bitmap_sectors, has_bitmap}
-use Rattle.md_members.specs.Members.{sectors_of_device}
 use Rattle.md_members.specs.Reading.{BitmapStartsAt}
 use Rattle.md_model.specs.Content.{Content}
 use Rattle.md_model.specs.Sectors.{put}
-use Rattle.md_device_writes.specs.Bitmaps.{bitmap_writes}
 use Rattle.md_device_writes.specs.Writes.{DoesWrites, FailsInWrites, Write}
-use Rattle.md_kept_members.specs.Enrolling.{HasRoomFor, log_room}
 use Rattle.md_kept_members.specs.View.{MemberView}
 use Rattle.md_faults.specs.declared.enrol_fault.EnrolFault.{EnrolFault}
 use Rattle.md_faults.specs.declared.enrol_fault.EnrolFault.TheVariants.{Halted, EventsFull, LogFull, TargetFault, NoMemory}
@@ -30,8 +22,9 @@ use Rattle.md_state.specs.Missing.{is_missing}
 use Rattle.md_state.specs.Trying.{Refuses}
 use Rattle.md_state.specs.View.{ArrayView, Disk, MirrorView, of_disks}
 use Rattle.md_array.specs.ReadAsKept.{AreReadAsKept}
-use Rattle.md_array.specs.Steps.Record.{IsReadable, write_of}
-use Rattle.md_array.specs.Worlds.{AreHonest, sector_from_super, is_listed}
+use Rattle.md_stored_members.specs.Storing.{KeepsDataOn, member_writes}
+use Rattle.md_stored_members.specs.Superblocks.{IsReadable}
+use Rattle.md_array.specs.Worlds.{AreHonest, is_listed}
 
 -- ---- its conditions
 -- Where the array's content is held: each member in sync holds it in each sector that its device does not list.
@@ -62,25 +55,6 @@ pub record MayEnrol (k : ℕ) (copied orphans : Bitmap) (v : MirrorView) : Type 
   pub holds : AreHonest v.disks → HoldsCopied v.disks v.array k copied  -- what a device holds that isn't honest, no caller can know
 
 -- ---- what is written
--- A member's parts lie on a device, and its log has room for its list: all of it but its data may be stored there.
-pub record IsStorable (n : MemberView) (content : List ℕ) : Type 0 where
-  pub long : 16 ≤ sectors_of_device content
-  pub has : has_bitmap n.superblock ≡ true
-  pub placed : AreAreasPlaced (sectors_of_device content) n.superblock (bitmap_sectors n.stored.chunks)
-  pub few_chunks : n.stored.chunks ≤ 1048576
-  pub room : HasRoomFor n.superblock n.bad
-
--- a list is stored in the log that a superblock names, where it names one
-abbrev pub log_writes : Superblock → List Run → List Write
-log_writes own list =
-    if has_bad_block_log own then record { sector = sector_from_super own.bblog_offset; bytes = log_bytes list (log_room own) } ∷ [] else []
-
--- what stores all of a member but its data: its marks with this header, from this sector on, the bitmap's first sector last; its log;
--- and its superblock beside these fields of the array
-abbrev pub member_writes : ℕ → BitmapHeader → Superblock → MemberView → List Write
-member_writes start header shared n =
-    bitmap_writes start header n.stored (bitmap_sectors n.stored.chunks) ++ (log_writes n.superblock n.bad ++ write_of shared n ∷ [])
-
 -- The writes of a member as it is kept then, in an array as it is then: its marks are stored under the count and the events_cleared that
 -- are to come.
 pub record AreEnrolWrites (a : ArrayView) (n : MemberView) (writes : List Write) : Type 0 where
@@ -92,8 +66,7 @@ pub record AreEnrolWrites (a : ArrayView) (n : MemberView) (writes : List Write)
 
 -- data stays: at most the member's superblock, bitmap and log change
 abbrev pub KeepsData : MemberView → Disk → Disk → Type 0
-KeepsData m d e =
-    (at n : ℕ) → 512 * m.superblock.data_offset ≤ at → at + n ≤ 512 * (m.superblock.data_offset + m.superblock.data_size) → part e.content at n ≡ part d.content at n
+KeepsData m d e = KeepsDataOn m d.content e.content
 
 -- no other device is used
 pub record IsUsedAlone (k : ℕ) (before after : List Disk) (Change : Disk → Disk → Type 0) : Type 0 where

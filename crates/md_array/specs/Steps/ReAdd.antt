@@ -12,6 +12,7 @@ use Rattle.md_kept_members.specs.View.{MemberView}
 use Rattle.md_faults.specs.declared.re_add_fault.ReAddFault.{ReAddFault}
 use Rattle.md_faults.specs.declared.re_add_fault.ReAddFault.TheVariants.{Halted, Member, Full, NotReAddable, NoRole, EventsFull, WriteFault, NoMemory}
 use Rattle.md_membership.specs.Joining.{joined_shared}
+use Rattle.md_stored_members.specs.Superblocks.{IsReadable, write_of}
 use Rattle.md_state.specs.DeviceChanges.{IsLeftAlone, StaysHonest}
 use Rattle.md_state.specs.DiskWrites.{IsFailed, IsWritten}
 use Rattle.md_state.specs.Members.{IsMember}
@@ -19,7 +20,7 @@ use Rattle.md_state.specs.Steps.ReAdd.{IsOffsetBack, MayReAdd, RefusesToTakeBack
 use Rattle.md_state.specs.Trying.{Refuses}
 use Rattle.md_state.specs.View.{Disk, MirrorView}
 use Rattle.md_array.specs.Events.{Happens}
-use Rattle.md_array.specs.Steps.Record.{IsReadable, super_write, write_of}
+use Rattle.md_array.specs.Steps.Record.{super_write}
 use Rattle.md_array.specs.Worlds.{block_on, stored_of, super_in, super_of}
 
 -- nothing was written on a device, but some of its reads may have failed

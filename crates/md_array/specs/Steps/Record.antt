@@ -1,12 +1,9 @@
 -- A member's superblock is stored.
-use Rattle.std.specs.Prelude.{◌≡◌, ◌⊎◌, ℕ, true, false, length, set}
-use Rattle.md_super.specs.declared.superblock.Superblock.{Superblock}
-use Rattle.md_super.specs.Encoding.{super_bytes}
-use Rattle.md_super.specs.Faults.{NoSuperFault}
-use Rattle.md_super.specs.Format.{IsSuper}
+use Rattle.std.specs.Prelude.{◌≡◌, ◌⊎◌, ℕ, true, false, set}
 use Rattle.md_super.specs.Merge.{merged}
 use Rattle.md_device_writes.specs.Writes.{Write}
 use Rattle.md_kept_members.specs.View.{MemberView}
+use Rattle.md_stored_members.specs.Superblocks.{IsReadable, write_of}
 use Rattle.md_assembly.specs.States.{is_recorded}
 use Rattle.md_faults.specs.declared.step_fault.StoreFault.{StoreFault}
 use Rattle.md_faults.specs.declared.step_fault.StoreFault.TheVariants.{Halted, NotActive, MemberFailed}
@@ -16,22 +13,9 @@ use Rattle.md_state.specs.OutOfSync.{IsInactive}
 use Rattle.md_state.specs.DiskWrites.{IsWritten}
 use Rattle.md_state.specs.Trying.{Refuses, RefusesHalted, FailsWriting, HaltsWriting}
 
--- the array's fields and the member's own, at sector 8
-abbrev pub own_write : Superblock → Superblock → Write
-own_write shared own = record { sector = 8; bytes = super_bytes (merged shared own) }
-
-abbrev pub write_of : Superblock → MemberView → Write
-write_of shared m = own_write shared m.superblock
-
+-- the array's fields, and the member's own
 abbrev pub super_write : ArrayView → MemberView → Write
 super_write a m = write_of a.shared m
-
--- a reader of the bytes that are written for a superblock finds its fields in them, and no fault
-pub record IsReadable (v : Superblock) : Type 0 where
-  pub size : length (super_bytes v) ≡ 4096
-  pub sum : ℕ  -- the checksum in them
-  pub fields : IsSuper (super_bytes v) (record v { sb_csum = sum })
-  pub sound : NoSuperFault (super_bytes v)
 
 -- member k may be recorded
 pub record MayRecord (k : ℕ) (a : ArrayView) (m : MemberView) : Type 0 where

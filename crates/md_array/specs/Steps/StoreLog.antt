@@ -7,12 +7,12 @@ use Rattle.md_kept_members.specs.Enrolling.{HasRoomFor}
 use Rattle.md_kept_members.specs.View.{MemberView}
 use Rattle.md_faults.specs.declared.step_fault.StoreFault.{StoreFault}
 use Rattle.md_faults.specs.declared.step_fault.StoreFault.TheVariants.{Halted, NotActive, MemberFailed}
+use Rattle.md_stored_members.specs.Storing.{log_writes}
 use Rattle.md_state.specs.DiskWrites.{IsWritten}
 use Rattle.md_state.specs.Members.{IsInSync, IsMember}
 use Rattle.md_state.specs.Steps.StoreLog.{logged}
 use Rattle.md_state.specs.Trying.{FailsWriting, HaltsWriting, RefusesHalted}
 use Rattle.md_state.specs.View.{Disk, MirrorView}
-use Rattle.md_array.specs.Steps.Enrol.{log_writes}
 use Rattle.md_array.specs.Events.{Happens, listed_on}
 
 -- these writes were done on device k, of which there is one at most

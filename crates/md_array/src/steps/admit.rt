@@ -9,10 +9,10 @@ ghost use Rattle.md_array.specs.Steps.Admit.{AdmitHappens, Admits, RefusesAdmit}
 ghost use Rattle.md_array.specs.Consistency.{IsConsistent};
 
 use crate::mirror::Mirror;
-use crate::steps::record::store_fields;
 use md_device::Device;
 use md_faults::AdmitFault;
 use md_kept_members::admitted_superblock;
+use md_stored_members::store_fields_on;
 use std::alloc::Global;
 
 impl<D: Device + Drop> Mirror<D> {
@@ -38,7 +38,7 @@ impl<D: Device + Drop> Mirror<D> {
         let Ok(shared) = array.shared_with(alloc, own.dev_number, role) else {
             return Err(AdmitFault::NoMemory);
         };
-        if store_fields(&mut self.devices[k], &shared, &own).is_err() {
+        if store_fields_on(&mut self.devices, k, &shared, &own).is_err() {
             return Err(AdmitFault::TargetFault);
         }
         self.array.note_admitted(k, role, own, shared);

@@ -1,28 +1,15 @@
 // A member that was rebuilt comes into sync.
-ghost use Rattle.std.specs.Prelude.{◌≡◌, ◌*◌, ◌≤◌, ◌≤ℤ◌, ◌+ℤ◌, pos, ℕ, MatchResult, true, false};
-ghost use Rattle.md_badblocks.specs.Runs.{IsCanonical};
-ghost use Rattle.md_device.specs.Splice.{SameOutside};
-ghost use Rattle.md_super.specs.Log.{has_bad_block_log};
-ghost use Rattle.md_super.specs.Merge.{merged};
-ghost use Rattle.md_array.specs.Worlds.{sector_from_super};
+ghost use Rattle.std.specs.Prelude.{MatchResult};
 ghost use Rattle.md_array.specs.Consistency.{IsConsistent};
-ghost use Rattle.md_array.specs.Steps.Enrol.{EnrolReads, Enrols, IsStorable, KeepsData, MayEnrol, RefusesEnrol, log_writes, member_writes};
-ghost use Rattle.md_array.specs.Steps.Record.{IsReadable};
-ghost use Rattle.md_members.specs.Reading.{BitmapStartsAt, LogStartsAt};
-ghost use Rattle.md_device_writes.specs.Writes.{MakesWrites};
+ghost use Rattle.md_array.specs.Steps.Enrol.{EnrolReads, Enrols, MayEnrol, RefusesEnrol};
 ghost use Rattle.md_requests.specs.Pending.{PendingView};
 ghost use Rattle.md_state.specs.Requests.{IsPending};
-ghost use Rattle.md_state.specs.View.{disk_of};
 
 use crate::mirror::Mirror;
-use crate::open::bitmap_start;
-use crate::steps::record::block_for;
-use md_bitmap::{BitmapHeader, Marks};
-use md_device::{Device, WriteFault};
-use md_device_writes::{put, store_bitmap};
+use md_bitmap::Marks;
+use md_device::Device;
 use md_faults::EnrolFault;
-use md_kept_members::Member;
-use md_super::{SUPER_SECTOR, Superblock};
+use md_stored_members::store_member;
 use std::alloc::Global;
 
 impl<D: Device + Drop> Mirror<D> {
@@ -64,54 +51,4 @@ impl<D: Device + Drop> Mirror<D> {
         self.array.note_enrolled(k, member, shared, full);
         Ok(())
     }
-}
-
-// Writes all of a member but its data on its device: its marks with this header, its log, and its
-// superblock beside these fields of the array. The superblock's bytes are made first, so that they are
-// known to be readable whichever write fails.
-fn store_member<D: Device>(
-    device: &mut D,
-    header: &BitmapHeader,
-    shared: &Superblock,
-    member: &Member,
-) -> Result<(), WriteFault>
-    requires { IsStorable member.now (D.content device.old) }
-    ensures writes { (start : ℕ) × BitmapStartsAt member.now.superblock start
-        × MakesWrites D.Device (member_writes start header.now shared.now member.now) device.old device.new result }
-    ensures data { KeepsData member.now (disk_of D.Device device.old) (disk_of D.Device device.new) }
-    ensures readable { IsReadable (merged shared.now member.now.superblock) }
-{
-    let block = block_for(shared, &member.superblock);
-    let start = bitmap_start(&member.superblock);
-    store_bitmap(device, start, header, &member.stored)?;
-    store_log(device, member)?;
-    put(device, SUPER_SECTOR, &block)
-}
-
-/// Writes a member's list in the log on its device, where its superblock names one.
-pub(crate) fn store_log<D: Device>(device: &mut D, member: &Member) -> Result<(), WriteFault>
-    requires { IsStorable member.now (D.content device.old) }
-    ensures canonical { IsCanonical member.now.bad }
-    ensures writes { MakesWrites D.Device (log_writes member.now.superblock member.now.bad) device.old device.new result }
-    ensures outside { has_bad_block_log member.now.superblock ≡ true → SameOutside (512 * sector_from_super member.now.superblock.bblog_offset) (512 * member.now.superblock.bblog_size) (D.content device.old) (D.content device.new) }
-    ensures untouched { has_bad_block_log member.now.superblock ≡ false → device.new ≡ device.old }
-    ensures data { KeepsData member.now (disk_of D.Device device.old) (disk_of D.Device device.new) }
-{
-    let _runs = member.bad.runs();
-    let own = &member.superblock;
-    if !own.has_bad_block_log() {
-        return Ok(());
-    }
-    let mut buffer = [0; 4096];
-    let log = &mut buffer[..512 * own.bblog_size as usize];
-    let _ = member.bad.to_log(log);
-    put(device, log_start(own), log)
-}
-
-// The device's sector where the log starts.
-fn log_start(own: &Superblock) -> u64
-    requires { pos 0 ≤ℤ (pos 8 +ℤ own.now.bblog_offset) }
-    ensures { LogStartsAt own.now result }
-{
-    (SUPER_SECTOR as i64 + i64::from(own.bblog_offset)) as u64
 }

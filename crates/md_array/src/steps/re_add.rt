@@ -10,11 +10,11 @@ ghost use Rattle.md_array.specs.Consistency.{IsConsistent};
 ghost use Rattle.md_array.specs.Steps.ReAdd.{ReAddHappens, ReAdds, RecordsLast, RefusesReAdd, RefusesToRecordLast, unread_as};
 
 use crate::mirror::Mirror;
-use crate::steps::record::store_superblock;
 use md_device::Device;
 use md_faults::ReAddFault;
 use md_kept_members::taken_back;
 use md_members::{MemberFault, MemberInfo, read_member};
+use md_stored_members::store_superblock;
 use std::alloc::Global;
 
 impl<D: Device + Drop> Mirror<D> {

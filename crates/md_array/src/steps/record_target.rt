@@ -10,9 +10,9 @@ ghost use Rattle.md_array.specs.Steps.Record.{Records};
 ghost use Rattle.md_array.specs.Steps.RecordTarget.{RefusesTarget, TargetHappens};
 
 use crate::mirror::Mirror;
-use crate::steps::record::store_superblock;
 use md_device::Device;
 use md_faults::TargetFault;
+use md_stored_members::store_superblock;
 
 impl<D: Device + Drop> Mirror<D> {
     /// Writes the superblock of member k, a spare or recovering, as `record` does. Where the write fails

@@ -10,9 +10,9 @@ ghost use Rattle.md_array.specs.Consistency.{IsConsistent};
 ghost use Rattle.md_array.specs.Steps.StoreLog.{RefusesStoreLog, StoreLogHappens, StoresLog};
 
 use crate::mirror::Mirror;
-use crate::steps::enrol::store_log;
 use md_device::Device;
 use md_faults::StoreFault;
+use md_stored_members::store_log;
 
 impl<D: Device + Drop> Mirror<D> {
     /// Stores the list of member k, which is in sync, in its log, where its superblock names one. Its

@@ -12,12 +12,12 @@ ghost use Rattle.md_array.specs.Fits.{FitsMember};
 ghost use Rattle.md_array.specs.Events.{StoreMarksHappens};
 
 use crate::mirror::Mirror;
-use crate::open::bitmap_start;
 use md_device::{Device, WriteFault};
 use md_device_writes::store_bitmap_sector;
 use md_faults::StoreFault;
 use md_kept_members::Member;
 use md_state::Array;
+use md_stored_members::bitmap_start;
 
 impl<D: Device + Drop> Mirror<D> {
     /// Writes sector `block` of member k's bitmap by the marks in memory. Sector 0 holds the header too.

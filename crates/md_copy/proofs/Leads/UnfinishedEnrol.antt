@@ -14,6 +14,9 @@ use Rattle.md_device.proofs.Splices.{spliced_outside}
 use Rattle.md_kept_members.specs.Enrolling.{in_sync_superblock, log_room}
 use Rattle.md_kept_members.specs.View.{MemberView}
 use Rattle.md_members.specs.Areas.{bitmap_area, bitmap_sectors, log_area}
+use Rattle.md_stored_members.specs.Storing.{IsStorable, log_writes, sector_from_super}
+use Rattle.md_stored_members.specs.Superblocks.{write_of}
+use Rattle.md_stored_members.proofs.Beside.{sector_at_is}
 use Rattle.md_state.specs.DeviceChanges.{IsLeftAlone, LeavesOn, StaysHonest}
 use Rattle.md_state.specs.DiskWrites.{AtDevice}
 use Rattle.md_state.specs.Steps.Enrol.{enrolled}
@@ -26,17 +29,15 @@ use Rattle.md_device_writes.specs.Writes.{FailsInWrites, IsAnyIn, IsCutShort, Is
 use Rattle.md_device_writes.proofs.Frames.{outside_around, outside_none}
 use Rattle.md_device_writes.proofs.Sectors.{length-bitmap_run, runs_from}
 use Rattle.md_array.specs.Consistency.{IsConsistent}
-use Rattle.md_array.specs.Steps.Enrol.{FailsToEnrol, IsStorable, MayEnrol, log_writes}
+use Rattle.md_array.specs.Steps.Enrol.{FailsToEnrol, MayEnrol}
 use Rattle.md_array.specs.Steps.EnrolEvents.{FailsAtSuper, Prepares}
 use Rattle.md_array.specs.Steps.GiveBack.{MayRebuild}
 use Rattle.md_array.specs.Events.{IsBesideArea, IsBesideMarks, IsChangedAlone, IsSameBesideMarks}
-use Rattle.md_array.specs.Steps.Record.{write_of}
-use Rattle.md_array.specs.Worlds.{sector_from_super}
 use Rattle.md_array.proofs.Rebuilding.Enrol.{can_store}
 use Rattle.md_array.proofs.Rebuilding.InBetween.{beside_area, recovers_rebuilt}
 use Rattle.md_array.proofs.Rebuilding.MemberStored.{log_long}
 use Rattle.md_array.proofs.Worlds.Device.{fits_on}
-use Rattle.md_array.proofs.Worlds.Outside.{sector_at_is, starts_at}
+use Rattle.md_array.proofs.Worlds.Outside.{starts_at}
 use Rattle.md_copy.specs.RebuildEvents.{FailsAtMarks}
 
 -- ---- writes beside which a member's other bytes are

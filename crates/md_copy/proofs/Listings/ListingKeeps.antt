@@ -19,6 +19,8 @@ use Rattle.md_model.proofs.Cases.{by_test}
 use Rattle.md_super.specs.declared.superblock.Superblock.{Superblock}
 use Rattle.md_super.specs.Log.{has_bad_block_log}
 use Rattle.md_device_writes.specs.Writes.{Write}
+use Rattle.md_stored_members.specs.Storing.{log_writes, sector_from_super}
+use Rattle.md_stored_members.proofs.Beside.{apart_either_way, sector_at_is, stays}
 use Rattle.md_state.specs.DeviceChanges.{StaysHonest}
 use Rattle.md_state.specs.DiskWrites.{AtDevice, IsTried, IsWritten}
 use Rattle.md_state.specs.Members.{IsInSync, IsMember}
@@ -27,17 +29,16 @@ use Rattle.md_state.specs.Steps.Rise.{Fails, Halts, made_faulty}
 use Rattle.md_state.specs.Steps.StoreMarks.{IsMarkWrite}
 use Rattle.md_state.specs.View.{ArrayView, Disk, MirrorView}
 use Rattle.md_array.specs.Consistency.{IsConsistent}
-use Rattle.md_array.specs.Steps.Enrol.{KeepsData, log_writes}
+use Rattle.md_array.specs.Steps.Enrol.{KeepsData}
 use Rattle.md_array.specs.InTurn.{AllOf, Did, HaltsAt, Leads, Requests}
 use Rattle.md_array.specs.Steps.StoreLog.{AreWritten}
 use Rattle.md_array.specs.Steps.Record.{super_write}
-use Rattle.md_array.specs.Worlds.{sector_from_super}
 use Rattle.md_array.proofs.General.Indices.{at_map}
 use Rattle.md_array.proofs.General.Replaced.{of_set}
 use Rattle.md_array.proofs.Rebuilding.StoreLog.{is_log, log_of}
 use Rattle.md_array.proofs.Rebuilding.MemberStored.{log_long}
 use Rattle.md_array.proofs.StepLemmas.FailedParts.{failed_write, halting_write}
-use Rattle.md_array.proofs.Worlds.Outside.{LiesIn, apart_either_way, apart_from_part, sector_at_is, stays}
+use Rattle.md_array.proofs.Worlds.Outside.{LiesIn, apart_from_part}
 use Rattle.md_metadata.specs.Going.{GoesOn, HaltsAfter, only_others}
 use Rattle.md_metadata.specs.Storing.{FailsAtLast, IsFailureOf, IsNoFailure}
 use Rattle.md_metadata.specs.StoringLists.{IsListing}

@@ -25,6 +25,9 @@ use Rattle.md_super.specs.Format.{IsSuper}
 use Rattle.md_super.specs.Log.{has_bad_block_log}
 use Rattle.md_super.specs.Merge.{merged}
 use Rattle.md_device_writes.specs.Writes.{Write}
+use Rattle.md_stored_members.specs.Superblocks.{IsReadable}
+use Rattle.md_stored_members.specs.Storing.{sector_from_super}
+use Rattle.md_stored_members.proofs.Beside.{sector_at_is}
 use Rattle.md_state.specs.DiskWrites.{IsTried, IsWritten}
 use Rattle.md_state.specs.Members.{IsMember}
 use Rattle.md_state.specs.Steps.StoreLog.{logged}
@@ -34,8 +37,8 @@ use Rattle.md_state.specs.View.{ArrayView, Disk, MirrorView}
 use Rattle.md_array.specs.Consistency.{IsConsistent}
 use Rattle.md_array.specs.InTurn.{AllOf, Did, IsInOrder, Leads, Requests}
 use Rattle.md_array.specs.Steps.StoreLog.{AreWritten, StoresLog}
-use Rattle.md_array.specs.Steps.Record.{IsReadable, Records, super_write}
-use Rattle.md_array.specs.Worlds.{block_on, sector_from_super, is_listed_next}
+use Rattle.md_array.specs.Steps.Record.{Records, super_write}
+use Rattle.md_array.specs.Worlds.{block_on, is_listed_next}
 use Rattle.md_array.proofs.General.Indices.{at_set_same, got_other}
 use Rattle.md_array.proofs.General.Replaced.{of_set}
 use Rattle.md_array.proofs.Rebuilding.LogListed.{listed_logged}
@@ -47,7 +50,7 @@ use Rattle.md_array.proofs.StepLemmas.StoreMarks.{marks_stored_is_consistent}
 use Rattle.md_array.proofs.StepLemmas.Record.{recorded_is_consistent}
 use Rattle.md_array.proofs.Worlds.Device.{fits_on}
 use Rattle.md_array.proofs.Worlds.Listed.{IsLogKept, listed_alike, listed_as_next, next_kept}
-use Rattle.md_array.proofs.Worlds.Outside.{sector_at_is, starts_at}
+use Rattle.md_array.proofs.Worlds.Outside.{starts_at}
 use Rattle.md_array.proofs.Worlds.PartsApart.{block_beside_marks, log_beside_marks, log_beside_super, parts_of}
 use Rattle.md_metadata.specs.Going.{GoesOn, only_others}
 use Rattle.md_metadata.specs.Storing.{IsStoring}

@@ -15,6 +15,7 @@ use Rattle.md_device_writes.specs.Writes.{Write}
 use Rattle.md_kept_members.specs.Members.{made_due}
 use Rattle.md_kept_members.specs.View.{MemberView}
 use Rattle.md_assembly.specs.declared.state.MemberState.TheVariants.{Faulty}
+use Rattle.md_stored_members.proofs.Beside.{apart_either_way, stays}
 use Rattle.md_state.specs.DiskWrites.{AtDevice, IsTried}
 use Rattle.md_state.specs.Members.{IsInSync, IsMember}
 use Rattle.md_state.specs.Steps.Rise.{Fails, made_faulty}
@@ -26,7 +27,7 @@ use Rattle.md_array.specs.InTurn.{AllOf, Did, HaltsAt, IsInOrder, IsSectorDue, L
 use Rattle.md_array.specs.Steps.Record.{super_write}
 use Rattle.md_array.proofs.General.Indices.{at_map}
 use Rattle.md_array.proofs.General.Replaced.{of_set}
-use Rattle.md_array.proofs.Worlds.Outside.{LiesIn, apart_either_way, apart_from_part, stays}
+use Rattle.md_array.proofs.Worlds.Outside.{LiesIn, apart_from_part}
 use Rattle.md_metadata.specs.Going.{GoesOn, only_others}
 use Rattle.md_metadata.specs.Storing.{IsRecording, IsStoring}
 use Rattle.md_copy.specs.Storing.{StoresUntilDone}

@@ -5,6 +5,8 @@ use Rattle.md_assembly.proofs.Indices.{got_same, got_within}
 use Rattle.md_bitmap.specs.Marks.{Bitmap}
 use Rattle.md_device.specs.Splice.{SameOutside}
 use Rattle.md_kept_members.specs.View.{MemberView}
+use Rattle.md_stored_members.specs.Storing.{log_writes}
+use Rattle.md_stored_members.specs.Superblocks.{write_of}
 use Rattle.md_state.specs.DeviceChanges.{StaysHonest}
 use Rattle.md_state.specs.DiskWrites.{IsFailed, IsTried, IsWritten}
 use Rattle.md_state.specs.Members.{IsMember}
@@ -14,10 +16,9 @@ use Rattle.md_members.specs.Areas.{bitmap_sectors}
 use Rattle.md_device_writes.specs.Bitmaps.{bitmap_writes}
 use Rattle.md_device_writes.specs.Writes.{FailsInWrites, IsAnyIn, IsCutShort, Write, after}
 use Rattle.md_array.specs.Consistency.{IsConsistent}
-use Rattle.md_array.specs.Steps.Enrol.{Enrols, FailsToEnrol, MayEnrol, log_writes}
+use Rattle.md_array.specs.Steps.Enrol.{Enrols, FailsToEnrol, MayEnrol}
 use Rattle.md_array.specs.Steps.EnrolEvents.{FailsAtSuper, Prepares, prepared, writes_before}
 use Rattle.md_array.specs.Events.{HasWriteFailed, IsSameBesideMarks}
-use Rattle.md_array.specs.Steps.Record.{write_of}
 use Rattle.md_array.specs.Worlds.{AreHonest}
 use Rattle.md_array.proofs.General.Indices.{got_other}
 use Rattle.md_array.proofs.Rebuilding.CutBefore.{cut_enrol, cut_first}

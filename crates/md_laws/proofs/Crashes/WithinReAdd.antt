@@ -6,8 +6,8 @@ use Rattle.md_device_writes.specs.Writes.{IsAnyIn, Write}
 use Rattle.md_faults.specs.declared.re_add_fault.ReAddFault.TheVariants.{Halted, Member, Full, NotReAddable, NoRole, EventsFull, WriteFault, NoMemory}
 use Rattle.md_kept_members.specs.TakingBack.{own_role}
 use Rattle.md_membership.specs.Joining.{joined_shared}
+use Rattle.md_stored_members.specs.Superblocks.{write_of}
 use Rattle.md_state.specs.View.{Disk, MirrorView}
-use Rattle.md_array.specs.Steps.Record.{write_of}
 use Rattle.md_array.specs.Steps.ReAdd.{IsOnlyRead}
 use Rattle.md_laws.specs.CrashesWithin.{IsLeftBut, MayAllBeLeft, CrashesAtFailedReAdd, CrashesAtRefusedReAdd}
 use Rattle.md_laws.proofs.Crashes.WithinAdd.{left_of_new}

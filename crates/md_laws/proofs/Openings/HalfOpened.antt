@@ -21,13 +21,14 @@ use Rattle.md_model.proofs.Cases.{by_test}
 use Rattle.md_model.proofs.Puts.{by_same}
 use Rattle.md_kept_members.specs.View.{MemberView}
 use Rattle.md_kept_members.specs.Members.{NeedsMarks}
+use Rattle.md_stored_members.specs.Storing.{sector_from_super}
 use Rattle.md_state.specs.Members.{IsMember}
 use Rattle.md_state.specs.View.{ArrayView, Disk, geometry_of}
 use Rattle.md_state.specs.DeviceChanges.{IsLeftAlone}
 use Rattle.md_array.specs.Open.Opened.{IsArrayOf}
 use Rattle.md_array.specs.ReadAsKept.{chunk_size_on}
 use Rattle.md_array.specs.Open.Marks.{AreMarkWrites, FailsToStore, IsMarkedBy, StoresMarksOn}
-use Rattle.md_array.specs.Worlds.{sector_from_super, header_fits, header_on, stored_of}
+use Rattle.md_array.specs.Worlds.{header_fits, header_on, stored_of}
 use Rattle.md_array.proofs.Worlds.PartsApart.{bitmap_alone}
 use Rattle.md_array.proofs.General.Indices.{got_in_map}
 use Rattle.md_array.proofs.Worlds.Device.{IsOpenedMember, bits_new, chunk_size_new, fits_on}

@@ -16,12 +16,13 @@ use Rattle.md_model.specs.Crashes as crashes
 use Rattle.md_kept_members.specs.View.{MemberView}
 use Rattle.md_assembly.specs.States.{is_in_sync}
 use Rattle.md_assembly.proofs.Indices.{got_within, got_same}
+use Rattle.md_stored_members.specs.Storing.{sector_from_super}
 use Rattle.md_state.specs.View.{ArrayView, Disk, geometry_of}
 use Rattle.md_state.specs.Members.{IsMember}
 use Rattle.md_state.specs.Missing.{is_rebuilt}
 use Rattle.md_array.specs.ReadAsKept.{HasWidth, IsOwnSuper, IsReadAsKept, IsSuperOn}
 use Rattle.md_array.specs.Open.Opened.{IsArrayOf}
-use Rattle.md_array.specs.Worlds.{block_on, sector_from_super, header_on, is_listed, stored_of, stored_on, super_in}
+use Rattle.md_array.specs.Worlds.{block_on, header_on, is_listed, stored_of, stored_on, super_in}
 use Rattle.md_array.proofs.Worlds.Listed.{listed_kept_of}
 use Rattle.md_array.proofs.StepLemmas.Lend.{unrebuilt}
 use Rattle.md_array.proofs.StepLemmas.OneMember.{stored_there}

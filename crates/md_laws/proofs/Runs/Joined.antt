@@ -13,10 +13,11 @@ use Rattle.md_model.specs.Worlds.{World}
 use Rattle.md_model.proofs.Lives.Lives.{sound_in_sync}
 use Rattle.md_super.specs.declared.superblock.Superblock.{Superblock}
 use Rattle.md_super.specs.Log.{has_bad_block_log}
+use Rattle.md_stored_members.specs.Storing.{sector_from_super}
 use Rattle.md_state.specs.View.{ArrayView, Disk, MirrorView, geometry_of}
 use Rattle.md_array.specs.Steps.ReAdd.{ReAdds}
 use Rattle.md_array.specs.ReadAsKept.{HasOwnSuper, IsOwnSuper, IsSuperOn}
-use Rattle.md_array.specs.Worlds.{block_on, sector_from_super, is_listed, is_logged, list_bit, stored_of, super_in, super_of, world_of}
+use Rattle.md_array.specs.Worlds.{block_on, is_listed, is_logged, list_bit, stored_of, super_in, super_of, world_of}
 use Rattle.md_array.proofs.StepLemmas.OneMember.{stored_there}
 use Rattle.md_array.proofs.Worlds.InSync.{in_sync_there}
 use Rattle.md_array.proofs.Worlds.Listed.{listed_kept_of}

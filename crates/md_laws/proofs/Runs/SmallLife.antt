@@ -9,12 +9,13 @@ use Rattle.md_model.specs.Sectors.{put}
 use Rattle.md_model.specs.Worlds.{World}
 use Rattle.md_model.proofs.Cases.{by_test, is_below}
 use Rattle.md_requests.specs.Pending.{PendingView}
+use Rattle.md_stored_members.specs.Storing.{sector_from_super}
 use Rattle.md_state.specs.View.{ArrayView, Disk, MirrorView}
 use Rattle.md_state.specs.Requests.{among, request_of}
 use Rattle.md_array.specs.Consistency.{IsConsistent}
 use Rattle.md_array.specs.Events.{BeginHappens, Happens}
 use Rattle.md_array.specs.Open.Opened.{IsOpenedFrom}
-use Rattle.md_array.specs.Worlds.{AreHonest, sector_from_super, none_in_flight, world_on}
+use Rattle.md_array.specs.Worlds.{AreHonest, none_in_flight, world_on}
 use Rattle.md_array.proofs.Worlds.InSync.{in_sync_is}
 use Rattle.md_laws.specs.Lives.{IsFoundAgain, IsReopened}
 use Rattle.md_laws.specs.Runs.{IsStart, Moment, opened_as}

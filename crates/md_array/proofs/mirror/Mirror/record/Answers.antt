@@ -4,11 +4,12 @@ use Rattle.md_device.specs.Splice.{SameOutside}
 use Rattle.md_super.specs.declared.superblock.Superblock.{Superblock}
 use Rattle.md_super.specs.Merge.{merged}
 use Rattle.md_device_writes.specs.Writes.{MakesWrites}
+use Rattle.md_stored_members.specs.Superblocks.{IsReadable, write_of}
 use Rattle.md_state.specs.View.{ArrayView, MirrorView, disk_of}
 use Rattle.md_state.specs.Steps.Record.{IsActive}
 use Rattle.md_state.specs.Members.{IsMember}
 use Rattle.md_state.proofs.Members.At.{member_read}
-use Rattle.md_array.specs.Steps.Record.{IsReadable, MayRecord, Records, RefusesRecord, super_write, write_of}
+use Rattle.md_array.specs.Steps.Record.{MayRecord, Records, RefusesRecord, super_write}
 use Rattle.md_array.proofs.General.Answered.{err_of, ok_of}
 use Rattle.md_array.proofs.StepLemmas.OneWrite.{fits_now, fits_there, is_failed, is_written, within_devices, within_members}
 use Rattle.md_array.proofs.StepLemmas.StoresKeep.{record_refused_happens, record_refused_is_consistent, record_refused_is_pending}

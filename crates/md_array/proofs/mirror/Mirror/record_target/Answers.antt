@@ -3,13 +3,14 @@ use Rattle.md_device.specs.Splice.{SameOutside}
 use Rattle.md_super.specs.declared.superblock.Superblock.{Superblock}
 use Rattle.md_super.specs.Merge.{merged}
 use Rattle.md_device_writes.specs.Writes.{MakesWrites}
+use Rattle.md_stored_members.specs.Superblocks.{IsReadable, write_of}
 use Rattle.md_state.specs.Members.{IsMember}
 use Rattle.md_state.specs.Missing.{is_rebuilt}
 use Rattle.md_state.specs.Requests.{IsPending}
 use Rattle.md_state.specs.View.{ArrayView, MirrorView, disk_of}
 use Rattle.md_state.proofs.Members.At.{member_read}
 use Rattle.md_array.specs.Consistency.{IsConsistent}
-use Rattle.md_array.specs.Steps.Record.{IsReadable, MayRecord, Records, super_write, write_of}
+use Rattle.md_array.specs.Steps.Record.{MayRecord, Records, super_write}
 use Rattle.md_array.specs.Steps.RecordTarget.{LeavesUnrecorded, TargetFails}
 use Rattle.md_array.specs.declared.mirror.Mirror.TheInside.{Inside}
 use Rattle.md_array.proofs.Rebuilding.RecordTargetEvent.{target_fails_happens}

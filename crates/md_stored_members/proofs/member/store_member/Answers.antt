@@ -7,21 +7,20 @@ use Rattle.md_device_writes.specs.Bitmaps.{bitmap_writes}
 use Rattle.md_device_writes.specs.Writes.{DoesWrites, FailsInWrites, MakesWrites}
 use Rattle.md_device_writes.proofs.Runs.{does_any, stops_any, stops_front, stops_then}
 use Rattle.md_kept_members.specs.View.{MemberView}
-use Rattle.md_state.specs.View.{disk_of}
-use Rattle.md_array.specs.Steps.Enrol.{KeepsData, log_writes, member_writes}
-use Rattle.md_array.specs.Steps.Record.{write_of}
-use Rattle.md_array.proofs.Rebuilding.MemberStored.{data_beside_bitmap, data_beside_super, data_then}
-use Rattle.md_array.proofs.steps.enrol.store_member.Given as given
-use Rattle.md_array.proofs.steps.enrol.store_member.Goals as goal
-use Rattle.md_array.proofs.steps.enrol.store_member.Goals.{After-store_bitmap}
+use Rattle.md_stored_members.specs.Storing.{KeepsDataOn, log_writes, member_writes}
+use Rattle.md_stored_members.specs.Superblocks.{write_of}
+use Rattle.md_stored_members.proofs.Beside.{data_beside_bitmap, data_beside_super, data_then}
+use Rattle.md_stored_members.proofs.member.store_member.Given as given
+use Rattle.md_stored_members.proofs.member.store_member.Goals as goal
+use Rattle.md_stored_members.proofs.member.store_member.Goals.{After-store_bitmap}
 
 starts : (g : given.Over) (c : After-store_bitmap g) → BitmapStartsAt c.args.member.now.superblock c.bitmap_start-start.result
 starts g c = subst (λ (m : MemberView). BitmapStartsAt m.superblock c.bitmap_start-start.result) c.member.view_is c.bitmap_start-start.ensures
 
 -- data stays beside the bitmap, whether or not it was stored
-beside_bitmap : (g : given.Over) (c : After-store_bitmap g) → KeepsData c.args.member.now (disk_of g.D.Device c.args.device.now) (disk_of g.D.Device c.store_bitmap.new.device)
+beside_bitmap : (g : given.Over) (c : After-store_bitmap g) → KeepsDataOn c.args.member.now (g.D.Device.content c.args.device.now) (g.D.Device.content c.store_bitmap.new.device)
 beside_bitmap g c =
-    let of = disk_of g.D.Device in
+    let of = g.D.Device.content in
     let s = c.bitmap_start-start.result in
     data_beside_bitmap c.args.member.now (of c.args.device.now) (of c.store_bitmap.new.device) (sectors_of_device (g.D.Device.content c.args.device.now)) c.requires.placed c.requires.has s (starts g c)
     (subst (λ (m : MemberView). SameOutside (512 * s) (512 * bitmap_sectors m.stored.chunks) (g.D.Device.content c.args.device.now) (g.D.Device.content c.store_bitmap.new.device)) c.member.view_is
@@ -70,7 +69,7 @@ returns-in_err-store_log-clause-writes g c =
 
 pub returns-in_err-store_log-clause-data : goal.returns-in_err-store_log-clause-data
 returns-in_err-store_log-clause-data g c =
-    let of = disk_of g.D.Device in
+    let of = g.D.Device.content in
     data_then c.args.member.now (of c.args.device.now) (of c.store_bitmap.new.device) (of c.store_log.new.device)
     (beside_bitmap g (goal.at.returns-in_err-store_log-clause-data g c).After-store_bitmap) c.in_err-store_log.ensures.data
 
@@ -102,7 +101,7 @@ returns-clause-writes g c =
 pub returns-clause-data : goal.returns-clause-data
 returns-clause-data g c =
     let n = c.args.member.now in
-    let of = disk_of g.D.Device in
+    let of = g.D.Device.content in
     let was = of c.args.device.now in
     let marked = of c.store_bitmap.new.device in
     let listed = of c.store_log.new.device in
@@ -110,5 +109,5 @@ returns-clause-data g c =
     data_then n was marked now
     (beside_bitmap g (goal.at.returns-clause-data g c).After-store_bitmap)
     (data_then n marked listed now c.in_ok-store_log.ensures.data
-    (data_beside_super n listed now (sectors_of_device was.content) c.requires.placed
-    (subst (λ (x : ℕ). SameOutside (512 * 8) x listed.content now.content) (ap length c.block_for-block.ensures.bytes ∙ c.block_for-block.ensures.readable.size) c.put.ensures.outside)))
+    (data_beside_super n listed now (sectors_of_device was) c.requires.placed
+    (subst (λ (x : ℕ). SameOutside (512 * 8) x listed now) (ap length c.block_for-block.ensures.bytes ∙ c.block_for-block.ensures.readable.size) c.put.ensures.outside)))

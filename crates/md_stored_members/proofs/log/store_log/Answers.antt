@@ -5,16 +5,15 @@ use Rattle.md_super.specs.Log.{has_bad_block_log}
 use Rattle.md_members.specs.Members.{sectors_of_device}
 use Rattle.md_members.specs.Reading.{LogStartsAt}
 use Rattle.md_kept_members.specs.View.{MemberView}
-use Rattle.md_state.specs.View.{disk_of}
-use Rattle.md_array.specs.Worlds.{sector_from_super, sector_at}
-use Rattle.md_array.proofs.Rebuilding.MemberStored.{data_beside_log}
-use Rattle.md_array.proofs.steps.enrol.store_log.Goals as goal
+use Rattle.md_stored_members.specs.Storing.{sector_from_super, sector_at}
+use Rattle.md_stored_members.proofs.Beside.{data_beside_log}
+use Rattle.md_stored_members.proofs.log.store_log.Goals as goal
 
 pub returns-clause-data : goal.returns-clause-data
 returns-clause-data g c =
     let n = c.args.member.now in
-    let d = disk_of g.D.Device c.args.device.now in
-    let e = disk_of g.D.Device c.put.new.device in
+    let was = g.D.Device.content c.args.device.now in
+    let now = g.D.Device.content c.put.new.device in
     let own = n.superblock in
     let there : has_bad_block_log own ≡ true =
     subst (λ (m : MemberView). has_bad_block_log m.superblock ≡ true) c.member.view_is (sym c.has_bad_block_log.ensures ∙ c.if-not-has_bad_block_log.false) in
@@ -24,6 +23,6 @@ returns-clause-data g c =
     let log = c.requires.placed.log there in
     let long : length c.to_log.new.buf ≡ 512 * own.bblog_size =
     c.to_log.auto.buf ∙ length-take-le (512 * c.member.inside.superblock.bblog_size) _ (omega (arith, size, log.short)) ∙ ap (λ n. 512 * n) size in
-    data_beside_log n d e (sectors_of_device d.content) c.requires.placed there
-    (subst (λ (x : ℕ). SameOutside (512 * x) (512 * own.bblog_size) d.content e.content) start
-    (subst (λ (x : ℕ). SameOutside (512 * c.log_start.result) x d.content e.content) long c.put.ensures.outside))
+    data_beside_log n was now (sectors_of_device was) c.requires.placed there
+    (subst (λ (x : ℕ). SameOutside (512 * x) (512 * own.bblog_size) was now) start
+    (subst (λ (x : ℕ). SameOutside (512 * c.log_start.result) x was now) long c.put.ensures.outside))
