@@ -19,12 +19,24 @@ use Rattle.md_state.specs.Steps.ReadData.{FailsToRead, ReadsData}
 use Rattle.md_state.specs.View.{ArrayView, MirrorView}
 use Rattle.md_state.proofs.Members.At.{told}
 use Rattle.md_device.specs.Device.{held}
-use Rattle.md_read.specs.Reading.{GivesInGroup, HasRole, IsInRole, ListedIn, NotGivenIn}
+use Rattle.md_read.specs.Reading.{GivesInGroup, HasRole, IsInRole, IsListedInPart, ListedIn, NotGivenIn}
 
 -- ---- what is listed
 
 abbrev pub ListsSome : MemberView → ℕ → ℕ → Type 0
 ListsSome m sector sectors = (s : ℕ) × Lists m s × (sector ≤ s) × (s < sector + sectors)
+
+-- who is in sync in a role lists some of the sectors
+pub listed_in_part : (a : ArrayView) (role k : ℕ) (is : IsInRole a role k) (sector sectors : ℕ) → ListsSome is.member sector sectors → IsListedInPart sector sectors a
+listed_in_part a role k is sector sectors (s, lists, from, below) = record {
+  index = k;
+  member = is.member;
+  in_sync = record { member = is.at; in_sync = (in_sync_as role is.member.state is.in_sync).0 };
+  listed = s;
+  lists = lists;
+  from = from;
+  below = below;
+}
 
 abbrev pub ListsAll : MemberView → ℕ → ℕ → Type 0
 ListsAll m sector sectors = (s : ℕ) → sector ≤ s → s < sector + sectors → Lists m s

@@ -15,7 +15,7 @@ use Rattle.md_array.proofs.Worlds.SectorCopied.{has_role, in_sync_as}
 use Rattle.md_laws.proofs.Runs.Rests.{rests_same, rests_then}
 use Rattle.md_read.specs.declared.roles.Answer.{Answer}
 use Rattle.md_read.specs.declared.roles.Answer.TheVariants as answer
-use Rattle.md_read.specs.Reading.{AllOfGroupList, GivesFirst, GivesIn, GivesInGroup, GivesRun, HasNotGiven, IsAskedBefore, IsBefore, IsInRole, ListedIn, NoneGives, NoneOfGroupGives, NotGivenIn, TriesGroup, TriesRoles, all_listed, gives_none}
+use Rattle.md_read.specs.Reading.{AllOfGroupList, GivesFirst, GivesIn, GivesInGroup, GivesRun, HasNotGiven, IsAskedBefore, IsBefore, IsInRole, IsListedInPart, ListedIn, NoneGives, NoneOfGroupGives, NotGivenIn, TriesGroup, TriesRoles, all_listed, gives_none}
 use Rattle.md_assembly.proofs.Indices.{got_within}
 use Rattle.md_assembly.specs.States.{is_in_sync_as}
 use Rattle.md_assembly.specs.declared.state.MemberState.{MemberState}
@@ -24,6 +24,9 @@ use Rattle.md_assembly.specs.declared.state.MemberState.TheVariants.{Faulty, InS
 module _ (old mid : MirrorView) (first : Rests old mid) where
   abbrev pub is_earlier : (role k : ℕ) → IsInRole mid.array role k → IsInRole old.array role k
   is_earlier role k is = record { member = is.member; at = sym (ap (λ (a : ArrayView). slice_get a.members k) first.array) ∙ is.at; in_sync = is.in_sync }
+
+  pub in_part_earlier : (sector sectors : ℕ) → IsListedInPart sector sectors mid.array → IsListedInPart sector sectors old.array
+  in_part_earlier sector sectors part = subst (IsListedInPart sector sectors) first.array part
 
   pub held_earlier : (k sector : ℕ) (bytes : List ℕ) → HoldsData mid k sector bytes → HoldsData old k sector bytes
   held_earlier k sector bytes holds d m at there honest =
@@ -218,7 +221,7 @@ module _ (sector : ℕ) (was : List ℕ) (whole : length was % 512 ≡ 0) where
   -- all of them are of the first group's members, or some may be
   pub first_group : (bytes : List ℕ) (old new : MirrorView) (first : Answer) → length bytes ≡ length was → gives_none first ≡ false → TriesGroup false sector was bytes old new first → TriesRoles sector was bytes old new first
   first_group bytes old new answer.All long some (rests, gives) = given_run false sector bytes old new gives (λ e. absurd cc) rests (omega arith)
-  first_group bytes old new answer.Perhaps long some perhaps = perhaps
+  first_group bytes old new answer.Perhaps long some (rests, several, part) = (rests, several, inl part)
   first_group bytes old new answer.Nothing long some tried = absurd cc
   first_group bytes old new answer.Failed long some tried = absurd cc
 
@@ -256,7 +259,11 @@ module _ (sector : ℕ) (was : List ℕ) (whole : length was % 512 ≡ 0) (left 
         (omega arith)
     second_group bytes answer.Nothing same some tried_also = absurd cc
     second_group bytes answer.Failed same some tried_also = absurd cc
-    second_group bytes answer.Perhaps same some (rests, several) = (rests_then old mid new before.0 rests, subst (λ n. 1 < n / 512) long several)
+    second_group bytes answer.Perhaps same some (rests, several, part) = (
+      rests_then old mid new before.0 rests,
+      subst (λ n. 1 < n / 512) long several,
+      inl (in_part_earlier old mid before.0 sector (length was / 512) (subst (λ (n : ℕ). IsListedInPart sector (n / 512) mid.array) long part)),
+    )
 
     -- neither group gave any of them
     module _ (bytes : List ℕ) (second : Answer) (also : gives_none second ≡ true) (tried_also : TriesGroup true sector left bytes mid new second) where
@@ -278,7 +285,7 @@ module _ (sector : ℕ) (was : List ℕ) (whole : length was % 512 ≡ 0) (left 
 
       -- of several some may be given
       pub some_perhaps : 1 < length was / 512 → TriesRoles sector was bytes old new answer.Perhaps
-      some_perhaps several = (both_rest, several)
+      some_perhaps several = (both_rest, several, inr neither)
 
       -- all members in sync list all of them
       pub both_list : all_listed first ≡ true → all_listed second ≡ true → TriesRoles sector was bytes old new answer.Nothing

@@ -150,11 +150,21 @@ pub record GivesInGroup (mostly : Bool) (role sector : ℕ) (bytes : List ℕ) (
   pub gives : GivesIn role sector bytes old new
   pub flag : is_write_mostly gives.is.member.superblock ≡ mostly
 
+-- A member in sync lists one of these sectors. So all of them are not asked of it: of fewer, those beside that one may be.
+pub record IsListedInPart (sector sectors : ℕ) (a : ArrayView) : Type 0 where
+  pub index : ℕ
+  pub member : MemberView
+  pub in_sync : IsInSync a index member
+  pub listed : ℕ
+  pub lists : Lists member listed
+  pub from : sector ≤ listed
+  pub below : listed < sector + sectors
+
 abbrev pub TriesRole : Bool → ℕ → ℕ → List ℕ → List ℕ → MirrorView → MirrorView → Answer → Type 0
 TriesRole mostly role sector was bytes old new answer.All = Rests old new × GivesInGroup mostly role sector bytes old new
 TriesRole mostly role sector was bytes old new answer.Nothing = Rests old new × ((s : ℕ) → sector ≤ s → s < sector + length was / 512 → ListedIn mostly role s old.array)
 TriesRole mostly role sector was bytes old new answer.Failed = Rests old new × ((s : ℕ) → sector ≤ s → s < sector + length was / 512 → NotGivenIn mostly role s old new)
-TriesRole mostly role sector was bytes old new answer.Perhaps = Rests old new × (1 < length was / 512)
+TriesRole mostly role sector was bytes old new answer.Perhaps = Rests old new × (1 < length was / 512) × IsListedInPart sector (length was / 512) old.array
 
 -- ---- one group
 -- None of the members in sync of a group, those that are write-mostly or the others, gave any of these
@@ -181,7 +191,7 @@ abbrev pub TriesGroup : Bool → ℕ → List ℕ → List ℕ → MirrorView �
 TriesGroup mostly sector was bytes old new answer.All = Rests old new × GivesFirst mostly sector bytes old new
 TriesGroup mostly sector was bytes old new answer.Nothing = Rests old new × AllOfGroupList mostly sector (length was / 512) old.array
 TriesGroup mostly sector was bytes old new answer.Failed = Rests old new × NoneOfGroupGives mostly sector (length was / 512) old new
-TriesGroup mostly sector was bytes old new answer.Perhaps = Rests old new × (1 < length was / 512)
+TriesGroup mostly sector was bytes old new answer.Perhaps = Rests old new × (1 < length was / 512) × IsListedInPart sector (length was / 512) old.array
 
 -- none of the sectors was given
 abbrev pub gives_none : Answer → Bool
@@ -198,12 +208,17 @@ all_listed answer.Failed = false
 all_listed answer.Perhaps = false
 
 -- ---- a run of sectors
+-- Why fewer of these sectors may be given: a member in sync lists one of them, or no member in sync gave them, each having been asked for all
+-- that it does not list. So none is asked for a part of a run before the others were asked for the whole.
+abbrev pub MayGiveFewer : ℕ → ℕ → MirrorView → MirrorView → Type 0
+MayGiveFewer sector sectors old new = IsListedInPart sector sectors old.array ⊎ ((s : ℕ) → sector ≤ s → s < sector + sectors → NoneGives s old new)
+
 -- Only of one sector alone a failed read says that nobody gives it: of several that were read at once some may be given yet.
 abbrev pub TriesRoles : ℕ → List ℕ → List ℕ → MirrorView → MirrorView → Answer → Type 0
 TriesRoles sector was bytes old new answer.All = GivesRun sector bytes old new
 TriesRoles sector was bytes old new answer.Nothing = Rests old new × ((s : ℕ) → sector ≤ s → s < sector + length was / 512 → AllInSync old.array (λ m. Lists m s))
 TriesRoles sector was bytes old new answer.Failed = Rests old new × (length was / 512 ≡ 1) × NoneGives sector old new
-TriesRoles sector was bytes old new answer.Perhaps = Rests old new × (1 < length was / 512)
+TriesRoles sector was bytes old new answer.Perhaps = Rests old new × (1 < length was / 512) × MayGiveFewer sector (length was / 512) old new
 
 -- so many of the sectors were given, as one run
 pub record GivesFirstRun (sector : ℕ) (was bytes : List ℕ) (old new : MirrorView) (sectors : ℕ) : Type 0 where

@@ -37,7 +37,7 @@ use Rattle.md_metadata.specs.Going.{IsFaulty}
 use Rattle.md_metadata.specs.Storing.{IsNoFailure, IsUpToDate}
 use Rattle.md_metadata.proofs.Going.{fails_after}
 use Rattle.md_metadata.proofs.Steps.{faulty_after}
-use Rattle.md_resync.specs.Copying.{CopiesOnly, CopyingGoesOn, GivesTo, CopyingHalts, IsAmong, IsBesideSectors, IsBetween, IsCopyIn, IsCopying, IsRun, LosesCopying}
+use Rattle.md_resync.specs.Copying.{CopiesOnly, CopyingGoesOn, GivesTo, GivesWhereUnlike, CopyingHalts, IsAmong, IsBesideSectors, IsBetween, IsCopyIn, IsCopying, IsRun, IsUnlike, LosesCopying}
 use Rattle.md_resync.proofs.StepsOn.{by_none, by_on, by_run, by_singles}
 
 -- ---- devices, each as honest as it was
@@ -313,6 +313,18 @@ gives_after_read k sector bytes old mid new sound rests g = record {
   kept = λ j holds. g.kept j (read_holds old mid rests j sector bytes holds);
   agree = λ s beside agree. g.agree s beside (read_agrees old mid rests s agree);
 }
+
+-- ---- only where the member is unlike
+pub nothing_given : (k sector : ℕ) (bytes : List ℕ) (v : MirrorView) → IsConsistent v → ((m : MemberView) → IsInSync v.array k m → HoldsData v k sector bytes) → GivesWhereUnlike k sector bytes v v
+unfolding gives_nothing copies_none goes_nowhere
+nothing_given k sector bytes v sound has = record { gives = gives_nothing k sector bytes v sound has; why = inl refl }
+
+pub only_read : (k sector : ℕ) (bytes : List ℕ) (old new : MirrorView) → IsConsistent old → Rests old new → HoldsData new k sector bytes → GivesWhereUnlike k sector bytes old new
+unfolding gives_read copies_read goes_read
+only_read k sector bytes old new sound rests holds = record { gives = gives_read k sector bytes old new sound rests holds; why = inl refl }
+
+pub given_unlike : (k sector : ℕ) (bytes : List ℕ) (old mid new : MirrorView) → IsConsistent old → Rests old mid → IsUnlike k sector bytes old mid → GivesTo k sector bytes mid new → GivesWhereUnlike k sector bytes old new
+given_unlike k sector bytes old mid new sound rests unlike g = record { gives = gives_after_read k sector bytes old mid new sound rests g; why = inr (mid, rests, unlike) }
 
 -- ---- a write that failed
 module _ (k chunk : ℕ) (old new : MirrorView) where

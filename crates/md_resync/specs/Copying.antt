@@ -1,14 +1,17 @@
 -- Marked chunks are copied, run by run.
-use Rattle.std.specs.Prelude.{◌≡◌, ◌⊎◌, ℕ, ◌+◌, ◌*◌, ◌/◌, ◌<◌, ◌≤◌, true, List, length, Option}
+use Rattle.std.specs.Prelude.{◌≡◌, ◌≢◌, ◌⊎◌, ℕ, ◌+◌, ◌*◌, ◌/◌, ◌<◌, ◌≤◌, true, List, [], length, Option}
+use Rattle.md_device.specs.Device.{held}
 use Rattle.md_bitmap.specs.Marks.{is_set}
 use Rattle.md_model.specs.Events.{Event, MemberPart}
 use Rattle.md_kept_members.specs.View.{MemberView}
 use Rattle.md_state.specs.Steps.CopyData.{IsSource, MayCopyChunk}
 use Rattle.md_state.specs.DeviceChanges.{AreSame}
+use Rattle.md_state.specs.DiskWrites.{AtDevice}
 use Rattle.md_state.specs.Steps.MakeClean.{IsIdle}
-use Rattle.md_state.specs.Members.{AllInSync, IsInSync}
+use Rattle.md_state.specs.Members.{AllInSync, IsInSync, IsMember}
 use Rattle.md_state.specs.Steps.ReadData.{FailsToRead, HoldsData}
 use Rattle.md_state.specs.Requests.{AreInFlight}
+use Rattle.md_state.specs.Rests.{Rests}
 use Rattle.md_state.specs.View.{ArrayView, MirrorView}
 use Rattle.md_array.specs.Consistency.{IsConsistent}
 use Rattle.md_array.specs.InTurn.{AllOf, HaltsAt, Requests}
@@ -85,6 +88,17 @@ pub record GivesTo (k sector : ℕ) (bytes : List ℕ) (old new : MirrorView) : 
   pub given : (m : MemberView) → IsInSync new.array k m → HoldsData new k sector bytes
   pub kept : (j : ℕ) → HoldsData old j sector bytes → HoldsData new j sector bytes
   pub agree : (s : ℕ) → IsBesideSectors sector bytes s → AllAgreeAt old s → AllAgreeAt new s
+
+-- A read of member k failed, or it holds other bytes than these.
+abbrev pub IsUnlike : ℕ → ℕ → List ℕ → MirrorView → MirrorView → Type 0
+IsUnlike k sector bytes old new =
+    AtDevice k old.disks new.disks (λ d e. d.honest ≡ true
+    → (d.failures < e.failures) ⊎ ((m : MemberView) → IsMember old.array k m → held e.content (m.superblock.data_offset + sector) (length bytes) ≢ bytes))
+
+-- Member k is written only where it was found unlike, right before: what is alike is spared.
+pub record GivesWhereUnlike (k sector : ℕ) (bytes : List ℕ) (old new : MirrorView) : Type 0 where
+  pub gives : GivesTo k sector bytes old new
+  pub why : (gives.copies.goes.events ≡ []) ⊎ ((mid : MirrorView) × Rests old mid × IsUnlike k sector bytes old mid)
 
 -- Each member in sync before member k has the bytes. Who had them has them, and members that agreed in
 -- another sector agree there.

@@ -1,8 +1,9 @@
 // Members that agree already are not written.
-ghost use Rattle.std.specs.Prelude.{◌≡◌, ◌+◌, ◌/◌, ◌%◌, ◌<◌, ◌≤◌, length, true};
+ghost use Rattle.std.specs.Prelude.{◌≡◌, ◌+◌, ◌/◌, ◌%◌, ◌<◌, ◌≤◌, length, true, false};
 ghost use Rattle.md_state.specs.Steps.ReadData.{HoldsData};
 ghost use Rattle.md_state.specs.Rests.{Rests};
 ghost use Rattle.md_array.specs.Consistency.{IsConsistent};
+ghost use Rattle.md_resync.specs.Copying.{IsUnlike};
 
 use md_array::Mirror;
 use md_device::Device;
@@ -27,6 +28,7 @@ pub(crate) fn is_known_to_hold<D: Device + Drop>(
     ensures rests { Rests mirror.old mirror.new }
     ensures sound { IsConsistent mirror.new }
     ensures holds { result ≡ true → HoldsData mirror.new k sector bytes.now }
+    ensures unlike { result ≡ false → IsUnlike k sector bytes.now mirror.old mirror.new }
 {
     let (first, rest) = bytes.split_at(bytes.len().min(FIRST_PIECE));
     if !holds(mirror, k, sector, first, held) {
@@ -54,6 +56,7 @@ fn holds<D: Device + Drop>(
     ensures rests { Rests mirror.old mirror.new }
     ensures sound { IsConsistent mirror.new }
     ensures holds { result ≡ true → HoldsData mirror.new k sector bytes.now }
+    ensures unlike { result ≡ false → IsUnlike k sector bytes.now mirror.old mirror.new }
 {
     let held = &mut held[..bytes.len()];
     mirror.read_data(k, sector, held).is_ok() && *held == *bytes

@@ -1,7 +1,7 @@
 // Sectors go to each member in sync but the one that gave them.
 ghost use Rattle.std.specs.Prelude.{◌<◌, ◌≤◌, MatchResult, length};
 ghost use Rattle.md_array.specs.Consistency.{IsConsistent};
-ghost use Rattle.md_resync.specs.Copying.{GivesAll, GivesTo, GivingFails, IsRun};
+ghost use Rattle.md_resync.specs.Copying.{GivesAll, GivesWhereUnlike, GivingFails, IsRun};
 
 use crate::fault::ResyncFault;
 use crate::is_known_to_hold::is_known_to_hold;
@@ -28,7 +28,7 @@ pub(crate) fn copy_to_members<D: Device + Drop>(
     Ok(())
 }
 
-// Gives it to member k, if that is in sync, and another.
+// Gives it to member k, if that is in sync, and another, and is not known to hold it.
 fn copy_to<D: Device + Drop>(
     mirror: &mut Mirror<D>,
     from: usize,
@@ -41,7 +41,7 @@ fn copy_to<D: Device + Drop>(
     requires room { length bytes.now ≤ length held.old }
     requires sound { IsConsistent mirror.old }
     requires run { IsRun from sector bytes.now mirror.old }
-    ensures { MatchResult result (λ _. GivesTo k sector bytes.now mirror.old mirror.new) (GivingFails mirror.old mirror.new) }
+    ensures { MatchResult result (λ _. GivesWhereUnlike k sector bytes.now mirror.old mirror.new) (GivingFails mirror.old mirror.new) }
 {
     if k == from || !mirror.state(k).is_in_sync() {
         return Ok(());

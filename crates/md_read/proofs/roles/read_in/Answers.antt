@@ -2,7 +2,7 @@ use Rattle.std.proofs.Common.{◌/◌, length, arith}
 use Rattle.std.proofs.lemmas.Option.{slice_get_within}
 use Rattle.md_laws.proofs.Runs.Rests.{rests_same}
 use Rattle.md_read.proofs.AllListed.{lists_more}
-use Rattle.md_read.proofs.InRoles.{all_listed, gives_in, not_asked, read_failed}
+use Rattle.md_read.proofs.InRoles.{all_listed, gives_in, listed_in_part, not_asked, read_failed}
 use Rattle.md_read.proofs.roles.read_in.Goals as goal
 
 pub returns-in_default : goal.returns-in_default
@@ -40,6 +40,7 @@ returns-then-lists_some g c =
       rests_same c.args.mirror.now,
       lists_more is.member c.args.sector (length c.args.buf.now / 512) (omega arith) ((c.lists_some.ensures is.member is.at).0 c.if-lists_some.true)
           (λ all. let on = (c.lists_all.ensures is.member is.at).1 all in let out = c.if-lists_all.false in cc),
+      listed_in_part c.args.mirror.now.array c.args.role c.in-Some.k is c.args.sector (length c.args.buf.now / 512) ((c.lists_some.ensures is.member is.at).0 c.if-lists_some.true),
     )
 
 pub read_data-requires-clause-within : goal.read_data-requires-clause-within

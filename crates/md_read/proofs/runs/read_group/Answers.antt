@@ -2,9 +2,9 @@ use Rattle.std.proofs.Common.{◌≡◌, ◌∙◌, ◌+◌, ◌/◌, ◌<◌, �
 use Rattle.md_super.specs.declared.superblock.Superblock.{Superblock}
 use Rattle.md_array.proofs.General.Resting.{rests_sound}
 use Rattle.md_laws.proofs.Runs.Rests.{rests_then}
-use Rattle.md_read.specs.Reading.{NotGivenIn}
+use Rattle.md_read.specs.Reading.{IsListedInPart, NotGivenIn}
 use Rattle.md_state.specs.Rests.{Rests}
-use Rattle.md_read.proofs.RunsRead.{NoneBelow, given_first, listed_in_any, listed_more, listed_not_given, none_in_any, none_more}
+use Rattle.md_read.proofs.RunsRead.{NoneBelow, given_first, in_part_earlier, listed_in_any, listed_more, listed_not_given, none_in_any, none_more}
 use Rattle.md_read.proofs.runs.read_group.Goals as goal
 use Rattle.md_read.proofs.runs.read_group.Goals.{in-Failed, in-Nothing}
 
@@ -24,9 +24,11 @@ pub returns-in-Perhaps : goal.returns-in-Perhaps
 returns-in-Perhaps g c =
     let so_far = c.loop-role.invariant.none in
     let long = c.loop-role.invariant.long in
-    let many = c.in-Perhaps.ensures.1 in (
+    let many = c.in-Perhaps.ensures.1 in
+    let some = c.in-Perhaps.ensures.2 in (
       rests_then c.args.mirror.now c.loop-role.mirror c.read_in.new.mirror so_far.rests c.in-Perhaps.ensures.0,
       subst (λ (n : ℕ). 1 < n / 512) long many,
+      in_part_earlier c.args.mirror.now c.loop-role.mirror so_far.rests c.args.sector (length c.args.buf.now / 512) (subst (λ (n : ℕ). IsListedInPart c.args.sector (n / 512) c.loop-role.mirror.array) long some),
     )
 
 pub loop-role-preserved : goal.loop-role-preserved

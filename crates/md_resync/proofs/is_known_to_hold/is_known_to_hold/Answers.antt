@@ -1,6 +1,6 @@
-use Rattle.std.proofs.Common.{◌≡◌, true, arith}
+use Rattle.std.proofs.Common.{◌≡◌, true, false, arith}
 use Rattle.md_laws.proofs.Runs.Rests.{rests_then}
-use Rattle.md_resync.proofs.Compared.{pieces_hold, size_fits}
+use Rattle.md_resync.proofs.Compared.{back_unlike, front_unlike, pieces_hold, size_fits}
 use Rattle.md_resync.proofs.CopiedRuns.{read_holds}
 use Rattle.md_resync.proofs.is_known_to_hold.is_known_to_hold.Goals as goal
 
@@ -27,3 +27,26 @@ returns-clause-holds g c = λ yes.
     let same : c.holds.result ≡ true = cc in
     pieces_hold new c.args.k c.args.sector c.args.bytes.now n c.split_at.result.0.now c.split_at.result.1.now (omega arith) (omega arith) c.split_at.ensures.front c.split_at.ensures.back c.split_at.ensures.front_len
     (read_holds mid new c.holds-2.ensures.rests c.args.k c.args.sector c.split_at.result.0.now (c.holds.ensures.holds same)) (c.holds-2.ensures.holds yes)
+
+pub returns-then-not-holds-clause-unlike : goal.returns-then-not-holds-clause-unlike
+returns-then-not-holds-clause-unlike g c = λ no.
+    let n = c.min.result in
+    let least = c.min.ensures in
+    let whole = c.requires.whole in
+    let out = c.if-not-holds.true in
+    let unlike : c.holds.result ≡ false = cc in
+    let old = c.args.mirror.now in
+    let mid = c.holds.new.mirror in
+    front_unlike c.args.k c.args.sector c.args.bytes.now n (omega arith) (omega arith) old mid mid c.split_at.result.0.now c.split_at.ensures.front c.split_at.ensures.front_len (c.holds.ensures.unlike unlike)
+
+pub returns-clause-unlike : goal.returns-clause-unlike
+returns-clause-unlike g c = λ no.
+    let n = c.min.result in
+    let least = c.min.ensures in
+    let whole = c.requires.whole in
+    let long = c.split_at.ensures.front_len in
+    let old = c.args.mirror.now in
+    let mid = c.holds.new.mirror in
+    let new = c.holds-2.new.mirror in
+    back_unlike c.args.k c.args.sector c.args.bytes.now n (omega arith) (omega arith) old mid new c.split_at.result.1.now c.split_at.ensures.back (let back = c.split_at.ensures.back_len in omega arith) c.holds.ensures.rests
+    (rw long at c.holds-2.ensures.unlike no)

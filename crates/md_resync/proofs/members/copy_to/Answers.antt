@@ -10,14 +10,14 @@ use Rattle.md_state.proofs.Members.At.{told}
 use Rattle.md_resync.specs.Copying.{IsAmong}
 use Rattle.md_resync.proofs.Bests.{member_at}
 use Rattle.md_resync.proofs.CopiedChunks.{run_later}
-use Rattle.md_resync.proofs.CopiedRuns.{copies_read, gives_after_read, gives_nothing, gives_read, gives_to, halts_copying, halts_then, loses_copying, loses_then, read_holds, run_is_copy}
+use Rattle.md_resync.proofs.CopiedRuns.{copies_read, given_unlike, gives_to, halts_copying, halts_then, loses_copying, loses_then, nothing_given, only_read, read_holds, run_is_copy}
 use Rattle.md_resync.proofs.members.copy_to.Goals as goal
 use Rattle.md_resync.proofs.members.copy_to.Goals.{then-k-from-via-then-k-from, then-k-from-via-else-k-from+then-not-is_in_sync}
 
 pub returns-then-k-from : goal.returns-then-k-from
 returns-then-k-from g c =
     let old = c.args.mirror.now in
-    gives_nothing c.args.k c.args.sector c.args.bytes.now old c.requires.sound
+    nothing_given c.args.k c.args.sector c.args.bytes.now old c.requires.sound
     (λ m in_sync. elim c.then-k-from.branch [
       | then-k-from-via-then-k-from w ↦ subst (λ k. HoldsData old k c.args.sector c.args.bytes.now) (let same = w.if-k-from.true in omega arith) c.requires.run.holds
       | then-k-from-via-else-k-from+then-not-is_in_sync w ↦
@@ -37,7 +37,7 @@ is_known_to_hold-requires-clause-inside g c = let long = c.requires.run.long in 
 pub returns-then-is_known_to_hold : goal.returns-then-is_known_to_hold
 returns-then-is_known_to_hold g c =
     let read = c.is_known_to_hold.ensures in
-    gives_read c.args.k c.args.sector c.args.bytes.now c.args.mirror.now c.is_known_to_hold.new.mirror c.requires.sound read.rests (read.holds c.if-is_known_to_hold.true)
+    only_read c.args.k c.args.sector c.args.bytes.now c.args.mirror.now c.is_known_to_hold.new.mirror c.requires.sound read.rests (read.holds c.if-is_known_to_hold.true)
 
 pub copy_data-requires-clause-copy : goal.copy_data-requires-clause-copy
 copy_data-requires-clause-copy g c =
@@ -58,7 +58,7 @@ returns-in-Ok g c =
     let e = c.in-Ok.ensures in
     let read = c.is_known_to_hold.ensures in
     let mid = c.is_known_to_hold.new.mirror in
-    gives_after_read c.args.k c.args.sector c.args.bytes.now c.args.mirror.now mid c.copy_data.new.self c.requires.sound read.rests
+    given_unlike c.args.k c.args.sector c.args.bytes.now c.args.mirror.now mid c.copy_data.new.self c.requires.sound read.rests (read.unlike c.if-is_known_to_hold.false)
     (gives_to c.args.k c.args.sector c.args.bytes.now mid c.copy_data.new.self read.sound e.gives e.event)
 
 pub returns-in-Err-MemberFailed : goal.returns-in-Err-MemberFailed

@@ -32,7 +32,7 @@ returns-in_err-copy_to g c =
 
 pub loop-k-preserved : goal.loop-k-preserved
 loop-k-preserved g c = record {
-  below = below_more c.loop-k.k c.args.sector c.args.bytes.now c.args.mirror.now c.loop-k.mirror c.copy_to.new.mirror c.loop-k.invariant.below c.in_ok-copy_to.ensures;
+  below = below_more c.loop-k.k c.args.sector c.args.bytes.now c.args.mirror.now c.loop-k.mirror c.copy_to.new.mirror c.loop-k.invariant.below c.in_ok-copy_to.ensures.gives;
   held_long = c.copy_to.auto.held ∙ c.loop-k.invariant.held_long;
 }
 
