@@ -1,5 +1,6 @@
 """What the parts of tests/ share: the program, and the count of what passed."""
 
+import shutil
 import subprocess
 import sys
 from pathlib import Path
@@ -45,6 +46,15 @@ class Tally:
             line += ", %d skipped" % self.skipped_count
         print(line, flush=True)
         return 1 if self.failed_count else 0
+
+
+def library_of(source, folder):
+    """The library of a C source, which is preloaded; None where there is no compiler."""
+    library = folder / (source.stem + ".so")
+    words = ["cc", "-shared", "-fPIC", "-O1", "-o", str(library), str(source)]
+    if not shutil.which("cc") or subprocess.run(words, stdin=subprocess.DEVNULL).returncode != 0:
+        return None
+    return library
 
 
 def require_program(option="--if-missing"):

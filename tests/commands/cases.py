@@ -8,7 +8,7 @@ import uuid
 from pathlib import Path
 
 import members
-from objects import SaysTheSame
+from objects import HasValues, SaysTheSame
 
 TOP = Path(__file__).resolve().parent.parent.parent
 SECTOR = 512
@@ -26,15 +26,17 @@ SHORT = bytes(2111 * SECTOR)
 
 class Step:
     """A run of the program: its words, its input, its output (or the head and the tail of it, or a list of some of its lines), its
-    fault, or what it tells on standard error, and the images that it changes."""
+    fault, or what it tells on standard error, the images that it changes, and the files that it makes."""
 
-    def __init__(self, words, output="", fault=None, told="", changes="", given=b""):
+    def __init__(self, words, output="", fault=None, told="", changes="", given=b"", made=None):
         self.words = words.split()
         self.given = given
         self.output = output
         self.status = 1 if fault else 0
         self.errors = ("mdcli: %s\n" % fault if fault else "") + told
         self.changes = changes.split()
+        self.fault = fault
+        self.made = made or {}
 
     def play(self, folder, run):
         """The reasons against what a run gives and leaves."""
@@ -58,10 +60,12 @@ class Step:
         return output.startswith(head) and output.endswith(tail)
 
     def against_images(self, before, after):
-        if before.keys() != after.keys():
-            return ["the images are %s, and were %s" % (sorted(after), sorted(before))]
+        if before.keys() | self.made.keys() != after.keys():
+            return ["the files are %s, and were %s" % (sorted(after), sorted(before))]
         found = [name for name in sorted(before) if before[name] != after[name]]
-        return [] if found == self.changes else ["it changed %r, and %r was wanted" % (found, self.changes)]
+        reasons = [] if found == self.changes else ["it changed %r, and %r was wanted" % (found, self.changes)]
+        other = [name for name in sorted(self.made) if after[name] != self.made[name]]
+        return reasons + ["%s is %r, and %r was wanted" % (name, after[name], self.made[name]) for name in other]
 
 
 class Made:
@@ -337,6 +341,7 @@ UNNAMED = "mdcli: device %d in role %d is not among the images\n"
 STANDING = "mdcli: %s: is device %d%s of array " + SET + ", %s there\n"
 FORGOTTEN = "mdcli: %s: is in sync in this very array, and is not among the images\n"
 EXT = "mdcli: %s: holds an ext2, ext3 or ext4 file system\n"
+XFS = "mdcli: %s: holds an XFS file system\n"
 PARTED = "mdcli: %s: was used without %s since they parted: what was written to it alone is not in this array\n"
 
 PLAN = (
@@ -345,6 +350,11 @@ PLAN = (
 )
 
 REBUILT = (PLAN[0], PLAN[1] + "rebuilt member 2, passes 1, orphans 0\n")
+REBUILT_FROM_COPIES = (
+    PLAN[0],
+    "rounds 1, chunks 2, orphans 0\n   chunk source    round\n       1      1        0\n       5      0        0\n"
+    "certificate for 0 rounds: 1 5\norphans: none\nrebuilt member 2, passes 2, orphans 0\n",
+)
 # Chunk 5 of the array's eight.
 REBUILT_FROM_ONE = (
     "rounds 7, chunks 7, orphans 1\n   chunk source    round\n",
@@ -362,15 +372,29 @@ TWO_LONG = {"a": bytes((2048 + LONG) * SECTOR), "b": bytes((2048 + LONG) * SECTO
 THREE = {"a": ZEROS, "b": ZEROS, "c": ZEROS}
 
 
-def lacks(sector):
-    """ddrescue's map of a small image that lacks this sector of its data."""
-    at = (2048 + sector) * SECTOR
-    blocks = (0, at, "+"), (at, SECTOR, "-"), (at + SECTOR, len(ZEROS) - at - SECTOR, "+")
+def lacks(*runs):
+    """ddrescue's map of a small image that lacks these runs of sectors of its data, each a first one and how many."""
+    blocks, at = [], 0
+    for start, count in runs:
+        first = (2048 + start) * SECTOR
+        blocks += [(at, first - at, "+"), (first, count * SECTOR, "-")]
+        at = first + count * SECTOR
+    blocks.append((at, len(ZEROS) - at, "+"))
     return ("0 + 1\n" + "".join("0x%x 0x%x %s\n" % block for block in blocks)).encode()
 
 
+def map_out(first, count, lost):
+    """The map that a read with --fill makes of these sectors, of which one is not given."""
+    blocks = [(0, first, "?"), (first, lost, "+"), (lost, lost + 1, "-"), (lost + 1, first + count, "+")]
+    lines = ["0x%08X  0x%08X  %s\n" % (SECTOR * start, SECTOR * (end - start), status) for start, end, status in blocks if start < end]
+    head = "# Mapfile. Created by mdcli\n# current_pos  current_status  current_pass\n0x00000000     +               1\n"
+    return (head + "#      pos        size  status\n" + "".join(lines)).encode()
+
+
 # The maps are files beside the images.
-TWO_MAPPED = dict(TWO, early=lacks(8), late=lacks(9), cut=b"0 + 1\n0 4096 +")
+TWO_MAPPED = dict(TWO, early=lacks((8, 1)), late=lacks((9, 1)), far=lacks((40, 1)), cut=lacks((9, 1))[:-1])
+# Chunk 1 is in the midst of the first of four runs: a write to it leaves five, for which memory is taken.
+FOUR_RUNS = lacks((4, 17), (30, 1), (32, 1), (34, 1))
 
 
 def create(level, devices, chunk, images, **answer):
@@ -448,6 +472,17 @@ def as_role(role, number):
     return make
 
 
+def marked_alone(name, chunk):
+    """What leaves no mark on an image but that of this chunk."""
+
+    def make(image):
+        for other in members.Member(image).bits - {chunk}:
+            image = members.with_other_mark(image, other)
+        return image
+
+    return Made(name, name, make)
+
+
 def outdated(name):
     """What makes the bitmap of an image one that is out of date."""
     return Made(name, name, lambda image: members.with_header(image, events=0))
@@ -467,7 +502,14 @@ OBJECTS_OF_TWO = ",".join(
     for k, name in enumerate("ab")
 )
 SHORT_OBJECT = '{"report":"assemble","in_sync":2,"raid_devices":2,"events":1,"marked_chunks":0,"members":[%s]}\n' % OBJECTS_OF_TWO
+EQUAL = '{"report":"check","mismatched_chunks":0,"mismatches":[],"members":[%s]}\n' % OBJECTS_OF_TWO
 CHECKED = '{"report":"check","mismatched_chunks":1,"mismatches":[{"sector":8,"sectors":8,"pairs":[[0,1]]}],"members":[%s]}\n' % OBJECTS_OF_TWO
+
+# The same with the second image first: a member's index is its place among the images.
+CHECKED_TURNED = CHECKED[: CHECKED.index('"members":')] + '"members":[%s]}\n' % ",".join(
+    '{"image":"%s","index":%d,"device_number":%d,"role":%d,"state":"in sync","write_mostly":false}' % (name, index, role, role)
+    for index, (name, role) in enumerate((("b", 1), ("a", 0)))
+)
 
 # Three members of which some differ in two chunks.
 THREE_DIFFER = (
@@ -550,6 +592,22 @@ CASES = [
         "create, a missing member is write-mostly",
         TWO,
         [create("1", 3, 4, "--write-mostly 2 a b missing", fault="BadGeometry")],
+    ),
+    (
+        "create, what the images hold is told",
+        {"a": changed(ZEROS, (1080, "H", 0xEF53)), "b": changed(ZEROS, (0, "4s", b"XFSB")), "c": VAULT, "d": ZEROS},
+        [
+            create("raid1", 3, 3, "--assume-clean a b c", fault="BadGeometry"),
+            create(
+                "raid1",
+                5,
+                4,
+                "--assume-clean a missing b c d",
+                output="in sync 4 of 5, events 1, marked 0\n",
+                told=EXT % "a" + XFS % "b" + STANDING % ("c", 0, " in role 0", "in sync"),
+                changes="a b c d",
+            ),
+        ],
     ),
     (
         "a write-mostly member",
@@ -678,13 +736,52 @@ CASES = [
                 fault="Unreadable 9",
                 told=FILLED % 9,
             ),
+            Step(
+                "read --fill --map-out new --readonly --sector 8 --count 2 --map a=late --map b=late a b",
+                DATA[:SECTOR].decode() + "\0" * SECTOR,
+                fault="Unreadable 9",
+                told=FILLED % 9,
+                made={"new": map_out(8, 2, 9)},
+            ),
             # What is there already is never overwritten: it may be an image.
             Step("read --fill --map-out b --sector 8 --count 2 a b", fault="MapOutExists"),
+            Step("read --fill --map-out new --sector 8 --count 2 --map a=late a b", fault="MapOutExists"),
+            Step("read --output b --sector 8 --count 2 --map a=late a b", fault="OutputFileExists"),
+            Step("read --output read --sector 8 --count 2 --map a=late --map b=early a b", made={"read": DATA[:SECTOR] + bytes(SECTOR)}),
+            Step("detail --map a=early --map b=late a b", DETAIL),
             Step("check --map b=late a b", fault="ReadFault 1 1"),
-            Step("detail --map a=cut a b", fault="BadMap 0 Line 2 Cut"),
+            Step("detail --map a=cut a b", fault="BadMap 0 Line 4 Cut"),
+            Step("detail --map c=late a b", fault="BadMap 0 NotListed"),
             Step("detail --map a=late --map c=late a b", fault="BadMap 1 NotListed"),
             Step("detail --map a=late --map a=late a b", fault="BadMap 1 Repeated"),
             Step("detail --map a=none a b", fault="BadMap 0 Unread"),
+        ],
+    ),
+    (
+        "copies that lack what other disks give, made to agree",
+        dict(TWO_MAPPED, four=FOUR_RUNS),
+        [
+            create("raid1", 2, 4, "a b", output="in sync 2 of 2, events 1, marked 8\n", changes="a b"),
+            Made("b", "b", lambda image: members.with_data(image, 8, DATA)),
+            marked_alone("a", 1),
+            marked_alone("b", 1),
+            Step("resync --map a=early a b", fault="ReadFault 0 1"),
+            # Without memory for the runs that are left the write fails: what it wrote is not given.
+            Step("resync --map b=four a b", "in sync 2 of 2, events 2, marked 0\n", changes="a b"),
+            Step("check a b", AGREE),
+            Step("read --sector 8 --count 2 b a", BLANK),
+        ],
+    ),
+    (
+        "a third member is rebuilt from copies that lack what other disks give",
+        dict(TWO_MAPPED, c=ZEROS),
+        WITH_A_SPARE
+        + [
+            Step("plan --member 2 --map a=early --map b=far a b c", PLAN),
+            # What the one does not give the other one does, in a second pass.
+            Step("rebuild --member 2 --map a=early --map b=far a b c", REBUILT_FROM_COPIES, changes="a b c"),
+            Step("examine-badblocks a", "        2056 for 8 sectors\n"),
+            Step("check a b c", AGREE),
         ],
     ),
     (
@@ -1146,6 +1243,182 @@ def all_of(images):
 
 
 ODD = 'a"b\\c'
+# Names with what JSON escapes, and with what it does not.
+ESCAPED = 'a "b"\\\x01\x1f\n\t\b\f\r.img'
+UNESCAPED = "\u00e9\x7f \U0001f4be"
+# A superblock of the greatest numbers that it can have and be read, and one of the least.
+GREATEST = members.with_superblock(
+    VAULT,
+    {0: 31},
+    feature_map=members.BITMAP_BIT | members.RECOVERY_BIT | members.BAD_BLOCKS_BIT,
+    set_name=b'"a\\b"\xff\x01\0x'.ljust(32, b"x"),
+    ctime=2**64 - 1,
+    size=2**64 - 1,
+    raid_disks=32,
+    bitmap_offset=2**31 - 1,
+    data_offset=2**64 - 1,
+    data_size=2**53 + 1,
+    recovery_offset=2**64 - 2,
+    bblog_size=2**16 - 1,
+    bblog_offset=2**31 - 1,
+    devflags=255,
+    utime=2**64 - 1,
+    events=2**64 - 1,
+    resync_offset=0,
+)
+LEAST = members.with_superblock(
+    GREATEST,
+    {0: 0xFFFF},
+    feature_map=members.BITMAP_BIT,
+    set_name=bytes(32),
+    ctime=0,
+    size=0,
+    raid_disks=1,
+    bitmap_offset=-(2**31),
+    data_offset=0,
+    data_size=0,
+    bblog_offset=-(2**31),
+    devflags=0,
+    utime=0,
+    events=0,
+    resync_offset=2**64 - 1,
+)
+# The marks of 4096 chunks, in two sectors, and what stands there.
+MARKED_TWICE = changed(VAULT, (BITMAP + 40, "Q", 32768), (17 * SECTOR, "B", 5))
+MARKED_REPORT = RAW_BITMAP.replace("Super Fault     : Checksum\n", "").replace(": 64 sectors", ": 32768 sectors")
+MARKED_REPORT = MARKED_REPORT.replace("8 chunks, 1 marked", "4096 chunks, 3 marked")
+
+# The images of as many members as there can be, and the pairs of which the second is one.
+MANY = " ".join("%d.img" % role for role in range(32))
+PAIRS = [sorted((1, role)) for role in range(32) if role != 1]
+LISTED_MANY = "".join(
+    "%12d for 8 sectors, members %s\n" % (sector, " ".join("%d!=%d" % tuple(pair) for pair in PAIRS)) for sector in (0, 56)
+) + "mismatched chunks: 2\n"
+# Of chunks 3 and 7 each member lists a sector. All others but 6 only the first one gives: they have too few sources for a round fewer.
+PLAN_WITH_ORPHANS = {
+    "/report": "plan",
+    "/rounds": 5,
+    "/chunks": [
+        {"chunk": 0, "source": 0, "round": 0},
+        {"chunk": 1, "source": 0, "round": 1},
+        {"chunk": 2, "source": 0, "round": 2},
+        {"chunk": 4, "source": 0, "round": 3},
+        {"chunk": 5, "source": 0, "round": 4},
+        {"chunk": 6, "source": 1, "round": 0},
+    ],
+    "/certificate": {"rounds": 4, "chunks": [0, 1, 2, 4, 5]},
+    "/orphans": [3, 7],
+    "/members/2/state": "spare",
+    "/members/2/role": None,
+}
+# Of an array of as many chunks as there can be: the member lacks marked chunks alone, of which two are given by none.
+PLAN_OF_THE_LAST_CHUNK = {
+    "/report": "plan",
+    "/rounds": 1,
+    "/chunks": [{"chunk": 5, "source": 1, "round": 0}, {"chunk": 6, "source": 0, "round": 0}],
+    "/certificate": {"rounds": 0, "chunks": [5, 6]},
+    "/orphans": [3, 2**20 - 1],
+    "/members/2/state": "re-added",
+}
+
+class Unreadable:
+    """What is shown with --all of a disk that does not give some sectors: the text, and the fields in which the object differs from that of
+    a disk which gives them; or the whole object, where it has fewer fields."""
+
+    def __init__(self, command, image, sectors, text, differs=None, whole=None):
+        self.command, self.image, self.sectors, self.text = command, image, sectors, text
+        self.differs, self.whole = differs, whole
+
+    def wanted(self, readable):
+        """The object, by that of a disk that gives all."""
+        return {**readable, **self.differs} if self.whole is None else self.whole
+
+
+def unreadable_at(sector):
+    return "Unreadable At   : %d sectors\n" % sector
+
+
+AT_71 = [{"sector": 71, "array_uuid": None}]
+UNREADABLE = [
+    Unreadable("examine", VAULT, range(15, 16), unreadable_at(9) + SOUND_REPORT, {"unreadable_at": 9}),
+    Unreadable("examine", VAULT, range(9, 16), unreadable_at(9) + SOUND_REPORT, {"unreadable_at": 9}),
+    Unreadable("examine", VAULT, range(71, 72), SOUND_REPORT + unreadable_at(71), {"elsewhere": AT_71}),
+    Unreadable(
+        "examine",
+        VAULT,
+        range(15, 72),
+        unreadable_at(9) + SOUND_REPORT + unreadable_at(71),
+        {"unreadable_at": 9, "elsewhere": AT_71},
+    ),
+    Unreadable(
+        "examine",
+        TWICE,
+        range(2056, 2057),
+        SOUND_REPORT + unreadable_at(2056) + ELSEWHERE.splitlines(True)[1],
+        {"elsewhere": [{"sector": 2056, "array_uuid": None}, {"sector": 2096, "array_uuid": SET}]},
+    ),
+    Unreadable(
+        "examine",
+        VAULT,
+        range(8, 9),
+        unreadable_at(8),
+        whole={"report": "examine --all", "unreadable_at": 8, "elsewhere": []},
+    ),
+    Unreadable(
+        "examine",
+        TWICE,
+        range(8, 9),
+        unreadable_at(8) + ELSEWHERE,
+        whole={
+            "report": "examine --all",
+            "unreadable_at": 8,
+            "elsewhere": [{"sector": 2056, "array_uuid": SET}, {"sector": 2096, "array_uuid": SET}],
+        },
+    ),
+    Unreadable(
+        "examine-bitmap",
+        MARKED_TWICE,
+        range(17, 18),
+        MARKED_REPORT.replace("3 marked", "1 marked") + "Unread          : 2048 chunks\n" + unreadable_at(17),
+        {"bitmap_unreadable_at": 17, "marked_chunks": 1, "unread_chunks": 2048},
+    ),
+    Unreadable("examine-bitmap", MARKED_TWICE, range(9, 16), unreadable_at(9) + MARKED_REPORT, {"unreadable_at": 9}),
+    Unreadable(
+        "examine-bitmap",
+        MARKED_TWICE,
+        range(16, 17),
+        unreadable_at(16),
+        whole={"report": "examine-bitmap --all", "unreadable_at": None, "super_faults": [], "bitmap_unreadable_at": 16},
+    ),
+    Unreadable(
+        "examine-bitmap",
+        MARKED_TWICE,
+        range(8, 17),
+        unreadable_at(8),
+        whole={"report": "examine-bitmap --all", "unreadable_at": 8},
+    ),
+    Unreadable(
+        "examine-badblocks",
+        LISTED,
+        range(2035, 2036),
+        "".join(RAW_LOG.splitlines(True)[1:4]) + unreadable_at(2032),
+        {"log_unreadable_at": 2032, "entries": []},
+    ),
+    Unreadable(
+        "examine-badblocks",
+        UNSUMMED_LOGGED,
+        range(2032, 2033),
+        "".join(RAW_LOG.splitlines(True)[:4]) + unreadable_at(2032),
+        {"log_unreadable_at": 2032, "entries": []},
+    ),
+    Unreadable(
+        "examine-badblocks",
+        VAULT,
+        range(8, 9),
+        unreadable_at(8),
+        whole={"report": "examine-badblocks --all", "unreadable_at": 8, "log_unreadable_at": None, "entries": []},
+    ),
+]
 
 # Each report as an object says what it says as text, also where it is refused. No call for memory is refused in these either.
 AS_JSON = [
@@ -1225,6 +1498,232 @@ AS_JSON = [
         ],
     ),
     (
+        "examine --json, the greatest numbers and the least, to the last digit",
+        {"a": GREATEST, "b": LEAST},
+        [
+            SaysTheSame("examine a"),
+            HasValues(
+                "examine a",
+                {
+                    "/report": "examine",
+                    "/magic": "a92b4efc",
+                    "/array_uuid": SET,
+                    "/name": '"a\\b"??',
+                    "/creation_time": 2**40 - 1,
+                    "/raid_devices": 32,
+                    "/used_dev_size": 2**64 - 1,
+                    "/avail_dev_size": 2**53 + 1,
+                    "/data_offset": 2**64 - 1,
+                    "/recovery_offset": 2**64 - 2,
+                    "/device_role": "active",
+                    "/role": 31,
+                    "/device_flags": 255,
+                    "/internal_bitmap": 2**31 - 1,
+                    "/bad_block_log": {"entries": 64 * (2**16 - 1), "offset": 2**31 - 1},
+                    "/update_time": 2**40 - 1,
+                    "/events": 2**64 - 1,
+                    "/state": "active",
+                },
+            ),
+            SaysTheSame("examine b"),
+            HasValues(
+                "examine b",
+                {
+                    "/name": "",
+                    "/creation_time": 0,
+                    "/used_dev_size": 0,
+                    "/recovery_offset": None,
+                    "/device_role": "spare",
+                    "/role": None,
+                    "/internal_bitmap": -(2**31),
+                    "/bad_block_log": {"entries": 64 * (2**16 - 1), "offset": -(2**31)},
+                    "/events": 0,
+                    "/state": "clean",
+                },
+            ),
+            SaysTheSame("examine --all a"),
+            HasValues(
+                "examine --all a",
+                {
+                    "/events": 2**64 - 1,
+                    "/avail_dev_size": 2**53 + 1,
+                    "/recovery_offset": 2**64 - 2,
+                    "/resync_offset": 0,
+                    "/bitmap_offset": 2**31 - 1,
+                },
+            ),
+            SaysTheSame("examine --all b"),
+            HasValues(
+                "examine --all b",
+                {
+                    "/events": 0,
+                    "/resync_offset": 2**64 - 1,
+                    "/bitmap_offset": -(2**31),
+                    "/roles": [{"device_number": 1, "role": 1}],
+                },
+            ),
+        ],
+    ),
+    (
+        "examine --json, the example member",
+        {"a": VAULT},
+        [
+            HasValues(
+                "examine a",
+                {"/internal_bitmap": 8, "/recovery_offset": None, "/role": 0, "/bad_block_log": {"entries": 512, "offset": 2024}},
+            ),
+            HasValues(
+                "examine --all a",
+                {
+                    "/report": "examine --all",
+                    "/unreadable_at": None,
+                    "/faults": [],
+                    "/unsupported_features": 0,
+                    "/array_uuid": SET,
+                    "/resync_offset": 2**64 - 1,
+                    "/computed_checksum": "8ab7c54f",
+                    "/roles": [{"device_number": 0, "role": 0}, {"device_number": 1, "role": 1}],
+                    "/elsewhere": [],
+                },
+            ),
+        ],
+    ),
+    (
+        "examine-badblocks --json, no run, and runs whose sectors are above 2^53",
+        {"a": members.with_bad_blocks(VAULT, []), "b": members.with_bad_blocks(VAULT, [(7, 3), (2**53 + 1, 1), (2**54 - 512, 511)])},
+        [
+            HasValues("examine-badblocks a", {"": {"report": "examine-badblocks", "bad_blocks": []}}),
+            HasValues(
+                "examine-badblocks b",
+                {
+                    "/report": "examine-badblocks",
+                    "/bad_blocks": [
+                        {"sector": 7, "sectors": 3},
+                        {"sector": 2**53 + 1, "sectors": 1},
+                        {"sector": 2**54 - 512, "sectors": 511},
+                    ],
+                },
+            ),
+            SaysTheSame("examine-badblocks b"),
+            SaysTheSame("examine-badblocks --all b"),
+            HasValues(
+                "examine-badblocks --all b",
+                {
+                    "/entries/1": {"entry": 1, "start": 2**53 + 1, "length": 1},
+                    "/log_size": 8,
+                    "/log_offset": 2024,
+                    "/log_unreadable_at": None,
+                },
+            ),
+        ],
+    ),
+    (
+        "examine-bitmap --all --json, the marks of two sectors",
+        {"a": MARKED_TWICE},
+        [
+            SaysTheSame("examine-bitmap --all a"),
+            HasValues(
+                "examine-bitmap --all a",
+                {
+                    "/report": "examine-bitmap --all",
+                    "/unreadable_at": None,
+                    "/super_faults": [],
+                    "/bitmap_unreadable_at": None,
+                    "/faults": [],
+                    "/sync_size": 32768,
+                    "/chunks": 4096,
+                    "/marked_chunks": 3,
+                    "/unread_chunks": 0,
+                },
+            ),
+        ],
+    ),
+    (
+        "names of images as JSON, with what is escaped there and what is not",
+        {ESCAPED: of_set(0, 10, [0, 1]), UNESCAPED: of_set(1, 8, [0, 1])},
+        [SaysTheSame([command, ESCAPED, UNESCAPED]) for command in ("assemble", "detail", "check")]
+        + [SaysTheSame(["detail", "./" + UNESCAPED, "./" + ESCAPED])]
+        + [
+            HasValues(
+                ["detail", "--readonly", "./" + ESCAPED, UNESCAPED],
+                {
+                    "/report": "detail",
+                    "/name": "vault",
+                    "/in_sync": 1,
+                    "/degraded": True,
+                    "/events": 10,
+                    "/members/0/image": "./" + ESCAPED,
+                    "/members/0/state": "in sync",
+                    "/members/0/role": 0,
+                    "/members/1/image": UNESCAPED,
+                    "/members/1/state": "stale",
+                    "/members/1/device_number": 1,
+                    "/members/1/write_mostly": False,
+                },
+            )
+        ],
+    ),
+    (
+        "a plan as JSON, with chunks that no member can give",
+        THREE,
+        WITH_A_SPARE
+        + [
+            Made("a", "a", lambda image: members.with_bad_blocks(image, [(2048 + 24, 8), (2048 + 63, 1)])),
+            Made("b", "b", lambda image: members.with_bad_blocks(image, [(2048, 18), (2048 + 30, 3), (2048 + 39, 2), (2048 + 56, 1)])),
+            SaysTheSame("plan --member 2 a b c"),
+            HasValues("plan --member 2 a b c", PLAN_WITH_ORPHANS),
+        ],
+    ),
+    (
+        "a check of as many members as can be as JSON: one of them differs from all others",
+        {"%d" % role + ".img": ZEROS for role in range(32)},
+        [
+            create(
+                "1",
+                32,
+                4,
+                "--assume-clean " + MANY,
+                output="in sync 32 of 32, events 1, marked 0\n",
+                changes=" ".join(sorted(MANY.split())),
+            ),
+            Made("1.img", "1.img", lambda image: members.with_data(members.with_data(image, 3, DATA), 63, DATA[:SECTOR])),
+            Step("check --list " + MANY, LISTED_MANY),
+            SaysTheSame("check " + MANY),
+            HasValues(
+                "check --list " + MANY,
+                {
+                    "/report": "check",
+                    "/mismatched_chunks": 2,
+                    "/mismatches": [{"sector": sector, "sectors": 8, "pairs": PAIRS} for sector in (0, 56)],
+                    "/members/1/index": 1,
+                    "/members/31/image": "31.img",
+                    "/members/31/role": 31,
+                },
+            ),
+        ],
+    ),
+    (
+        "check --list --json says what --json says",
+        TWO,
+        [
+            create("raid1", 2, 4, "--assume-clean a b", output=CLEAN, changes="a b"),
+            Step("check --list --json a b", EQUAL),
+            Made("b", "b", lambda image: members.with_data(image, 8, DATA)),
+            Step("check --json a b", CHECKED),
+            Step("check --list --json a b", CHECKED),
+            Step("check --json --list --readonly b a", CHECKED_TURNED),
+            # All eight chunks differ.
+            Made("b", "b", lambda image: members.with_data(image, 0, members.pattern(1, 64))),
+            HasValues(
+                "check --list a b",
+                {
+                    "/mismatched_chunks": 8,
+                    "/mismatches": [{"sector": 8 * chunk, "sectors": 8, "pairs": [[0, 1]]} for chunk in range(8)],
+                },
+            ),
+        ],
+    ),
+    (
         "no array as JSON",
         {"a": VAULT, "b": VAULT},
         [SaysTheSame(command + " " + names) for command in ("assemble", "detail", "check", "plan --member 0") for names in ("a b", "a a", "c", "")],
@@ -1235,6 +1734,14 @@ AS_JSON = [
 def write_images(folder, images):
     for name, content in images.items():
         (folder / name).write_bytes(content)
+
+
+def put_back(folder, images):
+    """The folder has these images and no other file."""
+    write_images(folder, images)
+    for path in folder.iterdir():
+        if path.name not in images:
+            path.unlink()
 
 
 def read_images(folder):

@@ -248,7 +248,8 @@ class SaysTheSame:
     changed. It is the object alone in its line, its fields in their order."""
 
     def __init__(self, words):
-        self.words = words.split()
+        # A list where names have white space.
+        self.words = words.split() if isinstance(words, str) else list(words)
 
     def play(self, folder, run):
         command, rest = self.words[0], self.words[1:]
@@ -274,6 +275,52 @@ class SaysTheSame:
         return wanted
 
 
+class HasValues:
+    """An object has these values, by their paths, as `/members/0/role': each is compared as JSON, so that a number is the same to its
+    last digit, and no number a truth. It is the object alone in its line, in the shortest form. It changes no image."""
+
+    def __init__(self, words, values):
+        self.words = words.split() if isinstance(words, str) else list(words)
+        self.values = values
+
+    def play(self, folder, run):
+        before = {path.name: path.read_bytes() for path in folder.iterdir()}
+        status, output, errors = run(self.words[:1] + ["--json"] + self.words[1:])
+        reasons = [] if status == 0 else ["the status is %r: %r" % (status, errors)]
+        try:
+            found = json.loads(output)
+        except ValueError as fault:
+            return reasons + ["it is no JSON: %s, in %r" % (fault, output)]
+        if output != in_short(found) + "\n":
+            reasons.append("it is not one line in the shortest form: %r" % output)
+        for path, value in self.values.items():
+            if in_short(value_at(found, path)) != in_short(value):
+                reasons.append("%s is %s, and not %s" % (path, in_short(value_at(found, path)), in_short(value)))
+        if {path.name: path.read_bytes() for path in folder.iterdir()} != before:
+            reasons.append("an image is changed")
+        return reasons
+
+
+def in_short(value):
+    """Its text as JSON without white space, and with only those characters escaped that have to be."""
+    return json.dumps(value, separators=(",", ":"), ensure_ascii=False)
+
+
+ABSENT = "there is none"
+
+
+def value_at(found, path):
+    """The value at a path, or `ABSENT'."""
+    for name in path.split("/")[1:]:
+        if isinstance(found, list) and name.isdigit() and int(name) < len(found):
+            found = found[int(name)]
+        elif isinstance(found, dict) and name in found:
+            found = found[name]
+        else:
+            return ABSENT
+    return found
+
+
 def against(output, wanted):
     if output.count("\n") != 1 or not output.endswith("\n"):
         return ["it is not one line: %r" % output]
@@ -285,6 +332,6 @@ def against(output, wanted):
     wanted = json.loads(json.dumps(wanted), object_pairs_hook=lambda pairs: pairs)
     if found != wanted:
         return ["it says %r, and the text says %r" % (found, wanted)]
-    if output != json.dumps(json.loads(output), separators=(",", ":"), ensure_ascii=False) + "\n":
+    if output != in_short(json.loads(output)) + "\n":
         return ["its text is not the shortest: %r" % output]
     return []

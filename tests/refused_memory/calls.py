@@ -23,6 +23,8 @@ WITHIN = {
     "md_kept_members::list_after": "md_copy::rebuild",
     "md_kept_members::list_with": "md_array::Mirror::note_bad",
     "md_kept_members::members_of": "md_array::Mirror::open",
+    "md_maps::read_map": "md_masked_images::mask_images",
+    "md_maps::write_map": "md_maps::write_map_of_read",
     "md_masked_images::MaskedImages::add": "md_masked_images::mask_images",
     "md_masked_images::MaskedImages::lacking": "md_masked_images::mask_images",
     "md_members::read_super": "md_members::read_member",
@@ -84,13 +86,7 @@ FAILS = {
     "md_images::MemImages::add": ("command_tests", "faults_in_memory::images_that_fail", "AllocError"),
     "md_images::MemImages::add_protected": ("command_tests", "faults_in_memory::images_that_fail", "AllocError"),
     "md_inflight::Inflight::push_back": ("part_tests", "requests::removed_in_any_order", "NoMemory"),
-    "md_maps::read_map": ("notice_tests", "maps::maps_are_read", "NoMemory"),
-    "md_maps::write_map": ("notice_tests", "maps::a_map_is_written", "AllocError"),
-    "md_maps::write_map_of_read": ("notice_tests", "maps::a_map_of_a_read_is_written", "AllocError"),
-    "md_masked_images::map_list": ("notice_tests", "masked_images::words_name_maps", "no memory: map_list"),
-    "md_masked_images::mask_images": ("notice_tests", "masked_images::a_mask_is_kept_with_its_image", "no memory: mask_images"),
     "md_plan::plan": ("part_tests", "plans::small_tables::plan_needs_a_move", "NoMemory"),
-    "md_signatures::find_signatures": ("notice_tests", "signatures::all_are_found_in_order", "AllocError"),
     "md_crash_device::Fuse::new": ("crash_tests", "fuses::metadata_stay", "AllocError"),
 }
 
@@ -118,10 +114,21 @@ ANSWERS = {
     "md_held::held_on_each": "create",
     "md_images::take_images": "assemble",
     "md_images::image_list": "assemble",
+    # It is made after all else is said.
+    "md_maps::write_map_of_read": "read --map-out",
     "md_members::read_member": "examine-bitmap",
     "md_read_commands::read_array": "read",
     "md_read_commands::read_array_filled": "read --fill",
     "md_read_commands::read_array_readonly": "read --readonly",
+    # Whoever has no memory for it goes on, and says that nobody looked.
+    "md_signatures::find_signatures": "add, unseen",
+}
+
+# A command that answers `NoMemory' and is refused with all memory, later than another one that makes the calls before this one alone: so
+# more of its runs answer so. The names of the images come before the list of maps, and the texts of the maps before the masks.
+LATER = {
+    "md_masked_images::map_list": ("detail: BadMap 1 NotListed", "detail: BadMap 0 NotListed"),
+    "md_masked_images::mask_images": ("read: OutputFileExists", "detail: BadMap 0 Line 4 Cut"),
 }
 
 # These take no memory: one says so where a count is spent, one gives a list of faults, which may be that a decoding found none, and of one
@@ -190,7 +197,11 @@ def reasons_against(call, outcomes, commands):
     if call in WITHIN:
         return [] if WITHIN[call] in LINES else ["it is made within %s, which has no line" % WITHIN[call]]
     if call in ANSWERS:
-        return [] if ANSWERS[call] in commands else ["no run of `%s' answered NoMemory" % ANSWERS[call]]
+        return [] if commands[ANSWERS[call]] else ["no run of `%s' answered NoMemory" % ANSWERS[call]]
+    if call in LATER:
+        later, earlier = LATER[call]
+        counts = commands[later], commands[earlier]
+        return [] if counts[0] > counts[1] > 0 else ["of `%s' and `%s' %d and %d runs answered NoMemory" % (later, earlier, *counts)]
     suite, test, words = AGAIN.get(call) or FAILS[call]
     if call in AGAIN:
         words = "no memory: " + words
@@ -200,7 +211,7 @@ def reasons_against(call, outcomes, commands):
     return [] if words in outcome.said else ["no run of %s %s said `%s'" % (suite, test, words)]
 
 
-LINES = {"md_cli::run"}.union(WITHIN, AGAIN, FAILS, ANSWERS, TAKES_NONE)
+LINES = {"md_cli::run"}.union(WITHIN, AGAIN, FAILS, ANSWERS, LATER, TAKES_NONE)
 
 
 def judge_all(tally, outcomes, commands):

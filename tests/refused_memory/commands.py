@@ -3,6 +3,7 @@
 No run may fault or hang. Each ends as with all memory, where a line on what an image holds may be missing or say that nobody looked,
 or with a refusal and no report, and changes no image but those that it changes with all memory."""
 
+import collections
 import concurrent.futures
 import subprocess
 import sys
@@ -16,6 +17,7 @@ import support  # noqa: E402
 from sweeping import MOST, sweep  # noqa: E402
 
 SECONDS = 10
+NO_MEMORY = "mdcli: NoMemory\n"
 # Of an image for whose look there was no memory.
 UNSEEN = ": there was no memory to look at it: it may hold data"
 
@@ -54,12 +56,14 @@ def against_refusal(step, answer, before, after):
     # A read that goes on has put out what comes before a run of missing sectors for which there is no memory.
     is_part = "--fill" in step.words and isinstance(step.output, str) and step.output.startswith(output)
     reasons = [] if status in (1, 2) and (is_part or not output) and errors else ["the answer is %r" % (answer,)]
-    # What is written over images that are only looked at finds no memory, and fails for no other reason.
-    if status == 1 and "--readonly" in step.words and errors != "mdcli: NoMemory\n":
+    # What is written over images that are only looked at finds no memory, and fails for no other reason. A file is made after all is said.
+    if status == 1 and "--readonly" in step.words and errors not in (NO_MEMORY, (step.errors if step.made else "") + NO_MEMORY):
         reasons.append("the answer is %r" % (answer,))
-    if before.keys() != after.keys() or any(before[name] != after[name] for name in before if name not in step.changes):
+    if before.keys() != after.keys() - step.made.keys() or any(before[name] != after[name] for name in before if name not in step.changes):
         reasons.append("an image is changed")
-    return reasons
+    # A file that is made has what was written to it before, if it is there.
+    other = [name for name in after if name not in before and not step.made.get(name, b"").startswith(after[name])]
+    return reasons + ["%s is %r" % (name, after[name]) for name in other]
 
 
 def says_less(step, answer, before, after):
@@ -70,16 +74,33 @@ def says_less(step, answer, before, after):
     return status == step.status == 0 and step.is_report(output) and not step.against_images(before, after) and told <= wanted
 
 
+def names_of(step, answer):
+    """Under which names a run is counted that was refused a call: of one that answered `NoMemory' its command; where that is all that it
+    said, and with all memory it is refused otherwise, its command and how; where it had said before all that it says with all memory, the
+    option of what it was to make then; and of one that did not look at an image on which there is a signature, and no superblock, that it is
+    so."""
+    status, _, errors = answer
+    names = [command_of(step)] if "NoMemory" in errors else []
+    if step.fault and (status, errors) == (1, NO_MEMORY):
+        names.append("%s: %s" % (step.words[0], step.fault))
+    if "--map-out" in step.words and step.made and (status, errors) == (1, step.errors + NO_MEMORY):
+        names.append("%s --map-out" % step.words[0])
+    unseen = [line[: -len(UNSEEN)] for line in errors.splitlines() if line.endswith(UNSEEN)]
+    if any(line + ": holds " in step.errors for line in unseen):
+        names.append("%s, unseen" % step.words[0])
+    return names
+
+
 def play(folder, step, before, settings):
-    """A run that is refused a call. Gives whether it answered so, and the reasons against it; then the images are as before."""
+    """A run that is refused a call. Gives the names under which it is counted, and the reasons against it; then the images are as before."""
     program = Program(folder, settings)
     differs = step.play(folder, program)
     after = cases.read_images(folder)
     if differs and says_less(step, program.answer, before, after):
         differs = []
     reasons = against_refusal(step, program.answer, before, after) if differs else []
-    cases.write_images(folder, before)
-    return "NoMemory" in program.answer[2], reasons
+    cases.put_back(folder, before)
+    return names_of(step, program.answer), reasons
 
 
 def command_of(step):
@@ -90,18 +111,19 @@ def command_of(step):
 
 
 def sweep_step(case, step, folder, library):
-    """What comes of a step: a name, the reasons against it, the command, and whether it answered that it found no memory."""
+    """What comes of a step: a name, the reasons against it, and how many of its runs are counted under each name."""
     before = cases.read_images(folder)
-    calls, answers_so = 0, False
+    calls, counted = 0, collections.Counter()
     for number, ended in sweep(library, lambda settings: play(folder, step, before, settings)):
         if number > MOST:
-            return case, ["the calls come to no end"], command_of(step), answers_so
-        said, reasons = ended
-        calls, answers_so = number, answers_so or said
+            return case, ["the calls come to no end"], counted
+        names, reasons = ended
+        calls = number
+        counted.update(names)
         if reasons:
-            return "%s: %s, where call %d is refused" % (case, command_of(step), number), reasons, command_of(step), answers_so
+            return "%s: %s, where call %d is refused" % (case, command_of(step), number), reasons, counted
     reasons = [] if calls else ["no call is refused"]
-    return "%s: %s: %d calls" % (case, command_of(step), calls), reasons, command_of(step), answers_so
+    return "%s: %s: %d calls" % (case, command_of(step), calls), reasons, counted
 
 
 def sweep_case(place, library):
@@ -119,14 +141,13 @@ def sweep_case(place, library):
 
 
 def sweep_all(tally, library):
-    """Sweeps each case. Gives the commands that answered `NoMemory'."""
-    answered = set()
+    """Sweeps each case. Gives the names under which runs are counted, with the most runs of a step."""
+    answered = collections.Counter()
     # A case takes up to minutes, so there are as many at a time as processors.
     with concurrent.futures.ProcessPoolExecutor() as workers:
         count = len(cases.CASES)
         for outcomes in workers.map(sweep_case, range(count), [library] * count):
-            for name, reasons, command, answers_so in outcomes:
+            for name, reasons, counted in outcomes:
                 tally.judge(name, reasons)
-                if answers_so:
-                    answered.add(command)
+                answered |= counted
     return answered

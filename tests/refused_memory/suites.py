@@ -22,7 +22,6 @@ SUITES = {
     "step_tests": r"\w+::every_order::",
     "call_tests": None,
     "crash_tests": r"each_write::|lives::",
-    "notice_tests": None,
     "command_tests": None,
 }
 COUNTS_BLOCKS = ("part_tests", "step_tests")
