@@ -3,6 +3,7 @@
 A case is a name, its images by their names, and its steps in turn. A step's words are those after `mdcli`.
 """
 
+import copy
 import struct
 import uuid
 from pathlib import Path
@@ -68,6 +69,14 @@ class Step:
         return reasons + ["%s is %r, and %r was wanted" % (name, after[name], self.made[name]) for name in other]
 
 
+def verbose(step):
+    """The step with --verbose, by which nothing more is told of a command that is done."""
+    if isinstance(step, Step):
+        step = copy.copy(step)
+        step.words = step.words[:1] + ["--verbose"] + step.words[1:]
+    return step
+
+
 class Made:
     """A further image is made of one that is there."""
 
@@ -119,6 +128,9 @@ UNSUMMED = changed(VAULT, (SUPER + 216, "I", 0))
 OUT_OF_DATE = members.with_header(VAULT, events=8)
 # The event count can't rise any more.
 SPENT = members.with_header(members.with_superblock(VAULT, events=2**64 - 1), events=2**64 - 1)
+
+# The example array's other member.
+OTHER = members.with_superblock(VAULT, dev_number=1)
 
 # The superblock of a damaged member, and what stands in it.
 DAMAGED = changed(VAULT, (SUPER, "I", 0), (SUPER + 72, "I", 5))
@@ -343,6 +355,13 @@ FORGOTTEN = "mdcli: %s: is in sync in this very array, and is not among the imag
 EXT = "mdcli: %s: holds an ext2, ext3 or ext4 file system\n"
 XFS = "mdcli: %s: holds an XFS file system\n"
 PARTED = "mdcli: %s: was used without %s since they parted: what was written to it alone is not in this array\n"
+# With --verbose: what to do with an image that can't be read in a place, and with one that can't be read in more places than it can
+# list.
+COPY = "%s: copy the disk by ddrescue, and use the copy with its map (`--map`), without which zeros would count as data; or leave the image out\n"
+LEAVE_OUT = (
+    "%s: it can't be read in more places than its bad block log has room for: leave the image out, if another member is in sync; or copy the"
+    " disk by ddrescue, which may get more of it, and use the copy with its map (`--map`), without which zeros would count as data\n"
+)
 
 PLAN = (
     "rounds 4, chunks 8, orphans 0\n   chunk source    round\n",
@@ -365,6 +384,17 @@ REBUILT_FROM_ONE = (
 REBUILT_FROM_SECTOR_20 = (
     "rounds 6, chunks 6, orphans 0\n   chunk source    round\n       2      0",
     "\ncertificate for 5 rounds: 2 3 4 5 6 7\norphans: none\nrebuilt member 1, passes 1, orphans 0\n",
+)
+
+# The second member of two gets each chunk of the first one.
+REBUILT_SECOND = ("rounds 8, chunks 8, orphans 0\n", "rebuilt member 1, passes 1, orphans 0\n")
+# So it does, but for chunk 1, which can't be read: the plan of the pass after that has no chunk left.
+REBUILT_BUT_ONE = (
+    "rounds 8, chunks 8, orphans 0\n   chunk source    round\n"
+    + "".join("%8d      0 %8d\n" % (chunk, chunk) for chunk in range(8))
+    + "certificate for 7 rounds: 0 1 2 3 4 5 6 7\norphans: none\n"
+    + "rounds 0, chunks 0, orphans 1\n   chunk source    round\ncertificate: none\norphans: 1\n"
+    + "rebuilt member 1, passes 2, orphans 1\n"
 )
 
 TWO = {"a": ZEROS, "b": ZEROS}
@@ -515,6 +545,27 @@ CHECKED_TURNED = CHECKED[: CHECKED.index('"members":')] + '"members":[%s]}\n' % 
 THREE_DIFFER = (
     "           8 for 8 sectors, members %s\n          16 for 8 sectors, members 0!=1 0!=2 1!=2\nmismatched chunks: 2\n"
 )
+
+# A member fails and leaves, and the other one is written alone.
+LIFE_APART = [
+    create("raid1", 2, 4, "--assume-clean a b", output=CLEAN, changes="a b"),
+    Step("write --sector 8 a b", WRITTEN, changes="a b", given=DATA[:SECTOR]),
+    Step("fail --member 1 a b", FAILED, changes="a"),
+    Step("write --sector 16 a b", ALONE, changes="a", given=DATA[SECTOR:]),
+    Step("remove --member 1 a b", ALONE),
+]
+# It comes back, and alone gives what was written before it left and since.
+LIFE_TOGETHER = [
+    Step("re-add --device b a", "in sync 2 of 2, events 8, marked 0\n", changes="a b"),
+    Holds("b", "a", as_role(1, 1)),
+    Step("check a b", AGREE),
+    Step("read --sector 8 --count 1 b", DATA[:SECTOR].decode(), told=UNNAMED % (0, 0)),
+    Step("read --sector 16 --count 1 b", DATA[SECTOR:].decode(), told=UNNAMED % (0, 0)),
+    Step("detail b a", DETAIL_AFTER_RE_ADD),
+]
+
+# A new member comes in beside the example member.
+NEW_BESIDE_VAULT = Step("add --device b a", "in sync 1 of 2, events 11, marked 1\n", told=UNNAMED % (1, 1), changes="a b")
 
 # Two members of three that agree, and a spare.
 WITH_A_SPARE = [
@@ -835,6 +886,16 @@ CASES = [
         ],
     ),
     (
+        "the example members are compared, and one that can't be read in a sector",
+        {"a": VAULT, "b": OTHER, "late": lacks(9)},
+        [
+            Step("check --verbose a b", AGREE),
+            Step("check --readonly a b", AGREE),
+            Step("check --verbose --map b=late a b", fault="ReadFault 1 1", told=COPY % "b"),
+            Step("check --readonly --map b=late a b", fault="ReadFault 1 1"),
+        ],
+    ),
+    (
         "which of three members differ",
         THREE,
         [
@@ -954,21 +1015,13 @@ CASES = [
     (
         "the life of a mirror: one that failed and left comes back, and gets what was written since",
         TWO,
-        [
-            create("raid1", 2, 4, "--assume-clean a b", output=CLEAN, changes="a b"),
-            Step("write --sector 8 a b", WRITTEN, changes="a b", given=DATA[:SECTOR]),
-            Step("fail --member 1 a b", FAILED, changes="a"),
-            Step("write --sector 16 a b", ALONE, changes="a", given=DATA[SECTOR:]),
-            Step("remove --member 1 a b", ALONE),
+        LIFE_APART
+        + [
             # Marks were last cleared at the events of the first write.
             Made("c", "b", lambda image: members.with_superblock(image, events=2)),
             Step("re-add --device c a", fault="NotReAddable"),
-            Step("re-add --device b a", "in sync 2 of 2, events 8, marked 0\n", changes="a b"),
-            Holds("b", "a", as_role(1, 1)),
-            Step("check a b", AGREE),
-            Step("read --sector 16 --count 1 b", DATA[SECTOR:].decode(), told=UNNAMED % (0, 0)),
-            Step("detail b a", DETAIL_AFTER_RE_ADD),
-        ],
+        ]
+        + LIFE_TOGETHER,
     ),
     (
         "one that failed and left comes back, and lacks nothing",
@@ -1011,7 +1064,7 @@ CASES = [
             Step("fail --member 1 a b", "in sync 1 of 2, events 2, marked 0\n", changes="a"),
             Step("remove --member 1 a b", "in sync 1 of 2, events 2, marked 0\n"),
             Step("add --device c a", "in sync 1 of 2, events 3, marked 0\n", changes="a c"),
-            Step("rebuild --member 1 a c", ("rounds 8, chunks 8, orphans 0\n", "rebuilt member 1, passes 1, orphans 0\n"), changes="a c"),
+            Step("rebuild --member 1 a c", REBUILT_SECOND, changes="a c"),
             Step("re-add --device b a c", fault="NotReAddable"),
         ],
     ),
@@ -1024,7 +1077,7 @@ CASES = [
             Step("fail --member b b a", fault="NotActive"),
             Step("remove --member b a b", "in sync 1 of 2, events 2, marked 0\n"),
             Step("add --device c a", "in sync 1 of 2, events 3, marked 0\n", changes="a c"),
-            Step("rebuild --member c a c", ("rounds 8, chunks 8, orphans 0\n", "rebuilt member 1, passes 1, orphans 0\n"), changes="a c"),
+            Step("rebuild --member c a c", REBUILT_SECOND, changes="a c"),
             Step("plan --member c c a", fault="NotSpare"),
             # A number is a place, also where an image has that name.
             Step("fail --member 0 a 0", fault="Member 1 Super Magic"),
@@ -1105,6 +1158,35 @@ CASES = [
             Step("detail a b", DETAIL_OF_RECOVERING),
             Step("rebuild --member 1 a b", fault="LogFull 1"),
             Step("read --sector 0 --count 1 b", fault="Assemble NotEnough"),
+        ],
+    ),
+    (
+        "a new member beside the example member is rebuilt, and fails",
+        {"a": VAULT, "b": ZEROS},
+        [
+            NEW_BESIDE_VAULT,
+            Step("rebuild --verbose --member 1 a b", REBUILT_SECOND, changes="a b"),
+            Step("fail --verbose --member 1 a b", "in sync 1 of 2, events 14, marked 0\n", changes="a"),
+        ],
+    ),
+    (
+        "a chunk that can't be read is listed on its source, and on the new member, since no other gives it",
+        {"a": VAULT, "b": ZEROS, "late": lacks(9)},
+        [
+            NEW_BESIDE_VAULT,
+            Step("rebuild --verbose --map a=late --member 1 a b", REBUILT_BUT_ONE, changes="a b"),
+            Step("examine-badblocks --verbose a", "        2056 for 8 sectors\n"),
+            Step("examine-badblocks --verbose b", "        2056 for 8 sectors\n"),
+        ],
+    ),
+    (
+        "a chunk that can't be read ends a rebuild where it can't be listed on its source",
+        {"a": without_log(VAULT), "b": ZEROS, "late": lacks(9)},
+        [
+            NEW_BESIDE_VAULT,
+            Step("rebuild --verbose --map a=late --member 1 a b", fault="LogFull 0", told=LEAVE_OUT % "a", changes="a b"),
+            # The spare was admitted before that, so it is recovering, and can be failed.
+            Step("fail --verbose --member 1 a b", "in sync 1 of 2, events 13, marked 1\n", changes="a"),
         ],
     ),
     (
@@ -1727,6 +1809,21 @@ AS_JSON = [
         "no array as JSON",
         {"a": VAULT, "b": VAULT},
         [SaysTheSame(command + " " + names) for command in ("assemble", "detail", "check", "plan --member 0") for names in ("a b", "a a", "c", "")],
+    ),
+]
+
+
+# With --verbose. Of a command that is done nothing more is told, and one that only looks is refused in the same words as one that may
+# change images. No call for memory is refused in these either.
+VERBOSE = [
+    ("the life of a mirror, verbose", TWO, [verbose(step) for step in LIFE_APART + LIFE_TOGETHER]),
+    (
+        "the example members are only looked at, verbose",
+        {"a": VAULT, "b": OTHER, "late": lacks(9)},
+        [
+            verbose(Step("check --readonly a b", AGREE)),
+            verbose(Step("check --readonly --map b=late a b", fault="ReadFault 1 1", told=COPY % "b")),
+        ],
     ),
 ]
 

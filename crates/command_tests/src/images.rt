@@ -1,7 +1,7 @@
 // The images in memory that commands are given.
 use crate::checks::holds;
 use crate::devices::BadDevice;
-use example_members::{bitmap, member_image, put, seal, vault, zeros};
+use example_members::{bitmap, member_image, vault, zeros};
 use md_device::MemDevice;
 use md_images::{Access, Images, MemImages};
 use std::alloc::Global;
@@ -10,12 +10,10 @@ use std::test::Fail;
 
 pub(crate) type HeldImages = MemImages<BadDevice>;
 
-#[derive(Clone, Copy)]
 pub(crate) struct Image {
     pub(crate) name: &'static str,
-    // It is a member of the vault's array with this number, or holds nothing.
-    pub(crate) number: Option<u32>,
-    pub(crate) has_log: bool,
+    // It is the vault's member, or holds nothing.
+    pub(crate) is_member: bool,
     // Reads of these sectors fail.
     pub(crate) bad: &'static [u64],
     // It may only be looked at.
@@ -25,32 +23,23 @@ pub(crate) struct Image {
 // The vault's member.
 pub(crate) const MEMBER: Image = Image {
     name: "a",
-    number: Some(0),
-    has_log: true,
+    is_member: true,
     bad: &[],
     is_protected: false,
 };
 
 pub(crate) const BLANK: Image = Image {
     name: "b",
-    number: None,
+    is_member: false,
     ..MEMBER
 };
 
-fn superblock_of(number: u32, has_log: bool) -> [u8; 4096] {
-    let mut superblock = vault();
-    put(&mut superblock, 160, &number.to_le_bytes());
-    if !has_log {
-        put(&mut superblock, 186, &[0; 6]);
-    }
-    seal(superblock, 2)
-}
-
 fn device_of(alloc: Global, image: &Image) -> Result<BadDevice, Fail> {
     let bad = Vec::from_slice(alloc, image.bad)?;
-    let memory = match image.number {
-        Some(number) => member_image(alloc, &superblock_of(number, image.has_log), &bitmap())?,
-        None => zeros(alloc, 2112)?,
+    let memory = if image.is_member {
+        member_image(alloc, &vault(), &bitmap())?
+    } else {
+        zeros(alloc, 2112)?
     };
     Ok(BadDevice { memory, bad })
 }

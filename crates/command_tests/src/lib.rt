@@ -1,13 +1,12 @@
-//! Tests of commands on images in memory: the life of a mirror, a rebuild and a check, images that fail or
-//! are protected; inputs that fail; and the report of a plan.
+//! Tests of commands on images in memory: images that fail or are protected, an input of which some reads are
+//! interrupted; and a question that can't be shown.
 //!
-//! Start with `Command`, `Case` and `play` (`commands.rt`): a case is images, and commands on them one after
-//! another.
+//! Start with `Case` and `play` (`commands.rt`): a case is images, and a command on them.
 //!
 //! ```
-//! const CHECKED: Command = Command {
-//!     words: &["mdcli", "check", "a", "b"],
-//!     shows: Shows::All("mismatched chunks: 0\n"),
+//! const EXAMINED: Case = Case {
+//!     words: &["mdcli", "examine-badblocks", "a"],
+//!     shows: "no bad blocks\n",
 //!     ..DONE
 //! };
 //! ```
@@ -25,14 +24,6 @@ mod errors;
 mod faults_in_memory;
 #[cfg(test)]
 mod images;
-#[cfg(test)]
-mod life_of_a_mirror;
-#[cfg(test)]
-mod member_checks;
-#[cfg(test)]
-mod plan_reports;
-#[cfg(test)]
-mod rebuilds;
 #[cfg(test)]
 mod silent;
 #[cfg(test)]
