@@ -887,7 +887,7 @@ CASES = [
     ),
     (
         "the example members are compared, and one that can't be read in a sector",
-        {"a": VAULT, "b": OTHER, "late": lacks(9)},
+        {"a": VAULT, "b": OTHER, "late": lacks((9, 1))},
         [
             Step("check --verbose a b", AGREE),
             Step("check --readonly a b", AGREE),
@@ -1171,7 +1171,7 @@ CASES = [
     ),
     (
         "a chunk that can't be read is listed on its source, and on the new member, since no other gives it",
-        {"a": VAULT, "b": ZEROS, "late": lacks(9)},
+        {"a": VAULT, "b": ZEROS, "late": lacks((9, 1))},
         [
             NEW_BESIDE_VAULT,
             Step("rebuild --verbose --map a=late --member 1 a b", REBUILT_BUT_ONE, changes="a b"),
@@ -1181,7 +1181,7 @@ CASES = [
     ),
     (
         "a chunk that can't be read ends a rebuild where it can't be listed on its source",
-        {"a": without_log(VAULT), "b": ZEROS, "late": lacks(9)},
+        {"a": without_log(VAULT), "b": ZEROS, "late": lacks((9, 1))},
         [
             NEW_BESIDE_VAULT,
             Step("rebuild --verbose --map a=late --member 1 a b", fault="LogFull 0", told=LEAVE_OUT % "a", changes="a b"),
@@ -1819,7 +1819,7 @@ VERBOSE = [
     ("the life of a mirror, verbose", TWO, [verbose(step) for step in LIFE_APART + LIFE_TOGETHER]),
     (
         "the example members are only looked at, verbose",
-        {"a": VAULT, "b": OTHER, "late": lacks(9)},
+        {"a": VAULT, "b": OTHER, "late": lacks((9, 1))},
         [
             verbose(Step("check --readonly a b", AGREE)),
             verbose(Step("check --readonly --map b=late a b", fault="ReadFault 1 1", told=COPY % "b")),
