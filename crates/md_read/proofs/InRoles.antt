@@ -26,9 +26,13 @@ use Rattle.md_read.specs.Reading.{GivesInGroup, HasRole, IsInRole, IsListedInPar
 abbrev pub ListsSome : MemberView → ℕ → ℕ → Type 0
 ListsSome m sector sectors = (s : ℕ) × Lists m s × (sector ≤ s) × (s < sector + sectors)
 
--- who is in sync in a role lists some of the sectors
-pub listed_in_part : (a : ArrayView) (role k : ℕ) (is : IsInRole a role k) (sector sectors : ℕ) → ListsSome is.member sector sectors → IsListedInPart sector sectors a
-listed_in_part a role k is sector sectors (s, lists, from, below) = record {
+abbrev pub ListsAll : MemberView → ℕ → ℕ → Type 0
+ListsAll m sector sectors = (s : ℕ) → sector ≤ s → s < sector + sectors → Lists m s
+
+-- who is in sync in a role lists some of the sectors, and not all
+pub listed_in_part : (a : ArrayView) (role k : ℕ) (is : IsInRole a role k) (sector sectors : ℕ) → ListsSome is.member sector sectors → (ListsAll is.member sector sectors → ⊥)
+    → IsListedInPart sector sectors a
+listed_in_part a role k is sector sectors (s, lists, from, below) not_all = record {
   index = k;
   member = is.member;
   in_sync = record { member = is.at; in_sync = (in_sync_as role is.member.state is.in_sync).0 };
@@ -36,10 +40,8 @@ listed_in_part a role k is sector sectors (s, lists, from, below) = record {
   lists = lists;
   from = from;
   below = below;
+  not_all = not_all;
 }
-
-abbrev pub ListsAll : MemberView → ℕ → ℕ → Type 0
-ListsAll m sector sectors = (s : ℕ) → sector ≤ s → s < sector + sectors → Lists m s
 
 pub empty_lists : (m : MemberView) (sector sectors : ℕ) → length m.bad ≡ 0 → (false ≡ true) ↔ ListsSome m sector sectors
 empty_lists m sector sectors none = (λ e. absurd cc, λ l. absurd (none_bad m.bad (m.superblock.data_offset + l.0) none l.1))

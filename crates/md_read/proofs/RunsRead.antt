@@ -15,7 +15,7 @@ use Rattle.md_array.proofs.Worlds.SectorCopied.{has_role, in_sync_as}
 use Rattle.md_laws.proofs.Runs.Rests.{rests_same, rests_then}
 use Rattle.md_read.specs.declared.roles.Answer.{Answer}
 use Rattle.md_read.specs.declared.roles.Answer.TheVariants as answer
-use Rattle.md_read.specs.Reading.{AllOfGroupList, GivesFirst, GivesIn, GivesInGroup, GivesRun, HasNotGiven, IsAskedBefore, IsBefore, IsInRole, IsListedInPart, ListedIn, NoneGives, NoneOfGroupGives, NotGivenIn, TriesGroup, TriesRoles, all_listed, gives_none}
+use Rattle.md_read.specs.Reading.{AllOfGroupList, GivesFirst, GivesIn, GivesInGroup, GivesRun, HasNotGiven, IsAskedBefore, IsBefore, IsCutFrom, IsInRole, IsListedInPart, ListedIn, MayGiveFewer, NoneGives, NoneOfGroupGives, NotGivenIn, TriesGroup, TriesRoles, all_listed, gives_none}
 use Rattle.md_assembly.proofs.Indices.{got_within}
 use Rattle.md_assembly.specs.States.{is_in_sync_as}
 use Rattle.md_assembly.specs.declared.state.MemberState.{MemberState}
@@ -104,6 +104,22 @@ module _ (old mid new : MirrorView) (first : Rests old mid) (second : Rests mid 
     given = in_group_earlier mostly run.role sector bytes run.given;
     lowest = λ lower low s from below. not_given_earlier mostly lower s (run.lowest lower low s from below);
   }
+
+  -- why fewer may be given
+  pub fewer_earlier : (sector sectors : ℕ) → MayGiveFewer sector sectors mid new → MayGiveFewer sector sectors old new
+  fewer_earlier sector sectors why = elim why [
+    | inl part ↦ inl (in_part_earlier old mid first sector sectors part)
+    | inr none ↦ inr (λ s from below. none_gives_earlier s (none s from below))
+  ]
+
+  fewer_later : (sector sectors : ℕ) → MayGiveFewer sector sectors old mid → MayGiveFewer sector sectors old new
+  fewer_later sector sectors why = elim why [
+    | inl part ↦ inl part
+    | inr none ↦ inr (λ s from below k m on. has_not_given_later k m s (none s from below k m on))
+  ]
+
+  pub cut_later : (sector sectors all : ℕ) → IsCutFrom sector sectors all old mid → IsCutFrom sector sectors all old new
+  cut_later sector sectors all cut = record { more = cut.more; above = cut.above; half = cut.half; within = cut.within; why = fewer_later sector cut.more cut.why }
 
   -- a run that is given is given after devices were read
   pub run_earlier : (sector : ℕ) (run : List ℕ) → GivesRun sector run mid new → GivesRun sector run old new

@@ -150,7 +150,7 @@ pub record GivesInGroup (mostly : Bool) (role sector : ℕ) (bytes : List ℕ) (
   pub gives : GivesIn role sector bytes old new
   pub flag : is_write_mostly gives.is.member.superblock ≡ mostly
 
--- A member in sync lists one of these sectors. So all of them are not asked of it: of fewer, those beside that one may be.
+-- A member in sync lists one of these sectors, and not all. So it is not asked for all of them, and of fewer it may give some.
 pub record IsListedInPart (sector sectors : ℕ) (a : ArrayView) : Type 0 where
   pub index : ℕ
   pub member : MemberView
@@ -159,6 +159,7 @@ pub record IsListedInPart (sector sectors : ℕ) (a : ArrayView) : Type 0 where
   pub lists : Lists member listed
   pub from : sector ≤ listed
   pub below : listed < sector + sectors
+  pub not_all : ((s : ℕ) → sector ≤ s → s < sector + sectors → Lists member s) → ⊥
 
 abbrev pub TriesRole : Bool → ℕ → ℕ → List ℕ → List ℕ → MirrorView → MirrorView → Answer → Type 0
 TriesRole mostly role sector was bytes old new answer.All = Rests old new × GivesInGroup mostly role sector bytes old new
@@ -208,8 +209,8 @@ all_listed answer.Failed = false
 all_listed answer.Perhaps = false
 
 -- ---- a run of sectors
--- Why fewer of these sectors may be given: a member in sync lists one of them, or no member in sync gave them, each having been asked for all
--- that it does not list. So none is asked for a part of a run before the others were asked for the whole.
+-- Why fewer of these sectors may be given: a member in sync lists a part of them, or none gave them, of which each was asked that does not
+-- list them. So where no list meets a run, no part of it is asked of a member before the others were asked for the whole.
 abbrev pub MayGiveFewer : ℕ → ℕ → MirrorView → MirrorView → Type 0
 MayGiveFewer sector sectors old new = IsListedInPart sector sectors old.array ⊎ ((s : ℕ) → sector ≤ s → s < sector + sectors → NoneGives s old new)
 
@@ -220,11 +221,20 @@ TriesRoles sector was bytes old new answer.Nothing = Rests old new × ((s : ℕ)
 TriesRoles sector was bytes old new answer.Failed = Rests old new × (length was / 512 ≡ 1) × NoneGives sector old new
 TriesRoles sector was bytes old new answer.Perhaps = Rests old new × (1 < length was / 512) × MayGiveFewer sector (length was / 512) old new
 
+-- Fewer than all of the sectors are asked for only where more of them could not be given as a whole: up to twice as many, and one.
+pub record IsCutFrom (sector sectors all : ℕ) (old new : MirrorView) : Type 0 where
+  pub more : ℕ
+  pub above : sectors < more
+  pub half : more ≤ 2 * sectors + 1
+  pub within : more ≤ all
+  pub why : MayGiveFewer sector more old new
+
 -- so many of the sectors were given, as one run
 pub record GivesFirstRun (sector : ℕ) (was bytes : List ℕ) (old new : MirrorView) (sectors : ℕ) : Type 0 where
   pub some : 0 < sectors
   pub few : sectors ≤ length was / 512
   pub given : GivesRun sector (take (512 * sectors) bytes) old new
+  pub cut : (sectors ≡ length was / 512) ⊎ IsCutFrom sector sectors (length was / 512) old new
 
 -- no member in sync gave the first of them
 pub record GivesNoFront (sector : ℕ) (old new : MirrorView) : Type 0 where

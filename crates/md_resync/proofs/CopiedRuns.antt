@@ -324,7 +324,7 @@ unfolding gives_read copies_read goes_read
 only_read k sector bytes old new sound rests holds = record { gives = gives_read k sector bytes old new sound rests holds; why = inl refl }
 
 pub given_unlike : (k sector : ℕ) (bytes : List ℕ) (old mid new : MirrorView) → IsConsistent old → Rests old mid → IsUnlike k sector bytes old mid → GivesTo k sector bytes mid new → GivesWhereUnlike k sector bytes old new
-given_unlike k sector bytes old mid new sound rests unlike g = record { gives = gives_after_read k sector bytes old mid new sound rests g; why = inr (mid, rests, unlike) }
+given_unlike k sector bytes old mid new sound rests unlike g = record { gives = gives_after_read k sector bytes old mid new sound rests g; why = inr (mid, rests, unlike, g) }
 
 -- ---- a write that failed
 module _ (k chunk : ℕ) (old new : MirrorView) where

@@ -95,10 +95,10 @@ IsUnlike k sector bytes old new =
     AtDevice k old.disks new.disks (λ d e. d.honest ≡ true
     → (d.failures < e.failures) ⊎ ((m : MemberView) → IsMember old.array k m → held e.content (m.superblock.data_offset + sector) (length bytes) ≢ bytes))
 
--- Member k is written only where it was found unlike, right before: what is alike is spared.
+-- Member k is written only where it was found unlike, right before it got the bytes: what is alike is spared.
 pub record GivesWhereUnlike (k sector : ℕ) (bytes : List ℕ) (old new : MirrorView) : Type 0 where
   pub gives : GivesTo k sector bytes old new
-  pub why : (gives.copies.goes.events ≡ []) ⊎ ((mid : MirrorView) × Rests old mid × IsUnlike k sector bytes old mid)
+  pub why : (gives.copies.goes.events ≡ []) ⊎ ((mid : MirrorView) × Rests old mid × IsUnlike k sector bytes old mid × GivesTo k sector bytes mid new)
 
 -- Each member in sync before member k has the bytes. Who had them has them, and members that agreed in
 -- another sector agree there.

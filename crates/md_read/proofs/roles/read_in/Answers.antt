@@ -40,7 +40,8 @@ returns-then-lists_some g c =
       rests_same c.args.mirror.now,
       lists_more is.member c.args.sector (length c.args.buf.now / 512) (omega arith) ((c.lists_some.ensures is.member is.at).0 c.if-lists_some.true)
           (λ all. let on = (c.lists_all.ensures is.member is.at).1 all in let out = c.if-lists_all.false in cc),
-      listed_in_part c.args.mirror.now.array c.args.role c.in-Some.k is c.args.sector (length c.args.buf.now / 512) ((c.lists_some.ensures is.member is.at).0 c.if-lists_some.true),
+      listed_in_part c.args.mirror.now.array c.args.role c.in-Some.k is c.args.sector (length c.args.buf.now / 512) ((c.lists_some.ensures is.member is.at).0 c.if-lists_some.true)
+          (λ all. let on = (c.lists_all.ensures is.member is.at).1 all in let out = c.if-lists_all.false in cc),
     )
 
 pub read_data-requires-clause-within : goal.read_data-requires-clause-within
