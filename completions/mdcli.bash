@@ -8,17 +8,17 @@ _mdcli_commands() {
 # The options of a command, beside --help and --verbose. A value follows one that ends in =.
 _mdcli_options() {
   case $1 in
-    examine | examine-bitmap | examine-badblocks) printf '%s\n' --all --json ;;
+    examine | examine-bitmap | examine-badblocks) printf '%s\n' --all --json --readonly ;;
     create) printf '%s\n' --level= --raid-devices= --uuid= --name= --bitmap-chunk= --size= --time= --write-mostly= --assume-clean --run ;;
-    assemble) printf '%s\n' --json --readonly ;;
-    detail) printf '%s\n' --json --readonly --map= ;;
+    assemble | detail) printf '%s\n' --json --readonly --map= ;;
     plan) printf '%s\n' --member= --json --readonly --map= ;;
     read) printf '%s\n' --sector= --count= --fill --map-out= --output= --readonly --map= ;;
     write) printf '%s\n' --sector= ;;
     check) printf '%s\n' --list --json --readonly --map= ;;
     resync) printf '%s\n' --map= ;;
     fail | remove) printf '%s\n' --member= ;;
-    add | re-add) printf '%s\n' --device= --run ;;
+    add) printf '%s\n' --device= --run ;;
+    re-add) printf '%s\n' --device= --full --run ;;
     rebuild) printf '%s\n' --member= --run --map= ;;
   esac
 }

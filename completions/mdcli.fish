@@ -28,6 +28,7 @@ complete -c mdcli -n 'not __fish_use_subcommand; and not __fish_seen_subcommand_
 
 complete -c mdcli -n '__fish_seen_subcommand_from examine examine-bitmap examine-badblocks' -l all -d "Shows what stands there, though it may be refused, with each fault in it"
 complete -c mdcli -n '__fish_seen_subcommand_from examine examine-bitmap examine-badblocks assemble detail plan check' -l json -d "Shows the report as a JSON object, in one line"
+complete -c mdcli -n '__fish_seen_subcommand_from examine examine-bitmap examine-badblocks assemble detail plan read check' -l readonly -d "Changes no image: what would be stored is kept in memory"
 complete -c mdcli -n '__fish_seen_subcommand_from create' -l level -x -a 'raid1 mirror 1' -d "The RAID level: 1, raid1 or mirror"
 complete -c mdcli -n '__fish_seen_subcommand_from create' -l raid-devices -x -d "The number of members"
 complete -c mdcli -n '__fish_seen_subcommand_from create' -l uuid -x -d "The UUID of the array"
@@ -38,8 +39,7 @@ complete -c mdcli -n '__fish_seen_subcommand_from create' -l time -x -d "The tim
 complete -c mdcli -n '__fish_seen_subcommand_from create' -l write-mostly -x -d "The role of a member that is read only where no other can serve"
 complete -c mdcli -n '__fish_seen_subcommand_from create' -l assume-clean -d "Takes the members for equal, so that nothing is to be copied"
 complete -c mdcli -n '__fish_seen_subcommand_from create add re-add rebuild' -l run -d "Asks nothing at a terminal, and goes on"
-complete -c mdcli -n '__fish_seen_subcommand_from assemble detail plan read check' -l readonly -d "Changes no image: what would be stored is kept in memory"
-complete -c mdcli -n '__fish_seen_subcommand_from detail plan read check resync rebuild' -l map -x -d "The image is a copy of a disk, and FILE ddrescue's map of it: what it lacks is not read; of each image one"
+complete -c mdcli -n '__fish_seen_subcommand_from assemble detail plan read check resync rebuild' -l map -x -d "The image is a copy of a disk, and FILE ddrescue's map of it: what it lacks is not read; of each image one"
 complete -c mdcli -n '__fish_seen_subcommand_from plan fail remove rebuild' -l member -x -d "The member: its place among the images, from 0, or its image as it is listed"
 complete -c mdcli -n '__fish_seen_subcommand_from read write' -l sector -x -d "The first sector of the array, from 0; a sector has 512 bytes"
 complete -c mdcli -n '__fish_seen_subcommand_from read' -l count -x -d "The number of sectors"
@@ -48,6 +48,7 @@ complete -c mdcli -n '__fish_seen_subcommand_from read' -l map-out -x -d "With -
 complete -c mdcli -n '__fish_seen_subcommand_from read' -l output -x -d "Makes a new file of the sectors, and writes nothing to standard output; blocks of zeros are holes in it"
 complete -c mdcli -n '__fish_seen_subcommand_from check' -l list -d "Shows where members differ too, and which: a line for each such chunk"
 complete -c mdcli -n '__fish_seen_subcommand_from add re-add' -l device -r -F -d "The image that joins the array: a file or a block device, none of those listed"
+complete -c mdcli -n '__fish_seen_subcommand_from re-add' -l full -d "Rebuilds all of it, whatever its bitmap says"
 complete -c mdcli -n '__fish_seen_subcommand_from examine examine-bitmap examine-badblocks create assemble detail plan read write check resync stop fail remove add re-add rebuild' -s v -l verbose -d "Says more of a refusal: the image that it is about, and what to do"
 
 complete -c mdcli -n '__fish_seen_subcommand_from create' -a missing -d 'A member that is not there'

@@ -132,17 +132,20 @@ class Member:
         return [(SECTOR * first, SECTOR * (first + count)) for first, count in spans]
 
 
+def member_of(content):
+    """The member in an image, None where it can't be read."""
+    try:
+        return Member(content)
+    except Unreadable:
+        return None
+
+
 class Found:
     """The array that images make: which superblock is the freshest, and what each member is by it. An image that can't be
-    read is left out."""
+    read is left out. One that was read already is given as its member, or None."""
 
     def __init__(self, contents):
-        self.members = []
-        for content in contents:
-            try:
-                self.members.append(Member(content))
-            except Unreadable:
-                self.members.append(None)
+        self.members = [one if one is None or isinstance(one, Member) else member_of(one) for one in contents]
         readable = [member for member in self.members if member]
         if not readable:
             raise Unreadable("no image can be read")
@@ -155,8 +158,12 @@ class Found:
         self.marks = set().union(*(member.marks for member in self.in_sync))
 
     def role(self, member):
-        roles = self.freshest.roles
-        return roles[member.number] if member.number < len(roles) else 0xFFFF
+        return self.role_by(self.freshest, member)
+
+    @staticmethod
+    def role_by(teller, member):
+        """The role of a member by the superblock of this one."""
+        return teller.roles[member.number] if member.number < len(teller.roles) else 0xFFFF
 
     def state(self, member):
         role = self.role(member)
@@ -164,7 +171,7 @@ class Found:
             return "faulty"
         if role >= self.freshest.superblock.raid_disks:
             return "spare"
-        if member.superblock.events + 1 < self.events:
+        if member.superblock.events + 1 < self.events or self.role_by(member, member) != role:
             return "stale"
         return "recovering" if member.superblock.feature_map & RECOVERY_BIT else "in sync"
 

@@ -1,14 +1,37 @@
 """What the parts of tests/ share: the program, and the count of what passed."""
 
+import fcntl
+import os
 import shutil
+import signal
 import subprocess
 import sys
+import termios
 from pathlib import Path
 
 TOP = Path(__file__).resolve().parent.parent
 # The launcher at the top, and the program that it runs.
 LAUNCHER = TOP / "mdcli"
 PROGRAM = TOP / "crates" / "mdcli" / "out" / "mdcli"
+
+
+def leave_terminal():
+    """Gives up the terminal that controls this process, if one does, so that the programs which it starts ask nobody: a
+    question would wait for the person who runs the tests. The signals of its keys still come."""
+    try:
+        terminal = os.open("/dev/tty", os.O_RDWR)
+    except OSError:
+        return
+    # Where this process leads the session, the system sends it this signal then.
+    kept = signal.signal(signal.SIGHUP, signal.SIG_IGN)
+    try:
+        fcntl.ioctl(terminal, termios.TIOCNOTTY)
+    finally:
+        signal.signal(signal.SIGHUP, kept)
+        os.close(terminal)
+
+
+leave_terminal()
 
 
 class Tally:

@@ -27,15 +27,17 @@ SHORT = bytes(2111 * SECTOR)
 
 class Step:
     """A run of the program: its words, its input, its output (or the head and the tail of it, or a list of some of its lines), its
-    fault, or what it tells on standard error, the images that it changes, and the files that it makes."""
+    fault, or what it tells on standard error, the images that it changes, and the files that it makes. What it touches are images that
+    it changes on its way, and leaves as they were where nothing comes between."""
 
-    def __init__(self, words, output="", fault=None, told="", changes="", given=b"", made=None):
+    def __init__(self, words, output="", fault=None, told="", changes="", given=b"", made=None, touches=""):
         self.words = words.split()
         self.given = given
         self.output = output
         self.status = 1 if fault else 0
         self.errors = ("mdcli: %s\n" % fault if fault else "") + told
         self.changes = changes.split()
+        self.touches = touches.split()
         self.fault = fault
         self.made = made or {}
 
@@ -1035,6 +1037,43 @@ CASES = [
         ],
     ),
     (
+        "one that failed and left comes back, and gets all of the data where that is asked for",
+        {"a": ZEROS, "b": ZEROS, "c": ZEROS, "d": ZEROS},
+        [
+            create("raid1", 2, 4, "--assume-clean a b", output=CLEAN, changes="a b"),
+            Step("fail --member 1 a b", "in sync 1 of 2, events 2, marked 0\n", changes="a"),
+            Step("remove --member 1 a b", "in sync 1 of 2, events 2, marked 0\n"),
+            # It was written to elsewhere, and nothing on it tells.
+            Made("c", "b", lambda image: members.with_data(image, 40, DATA[:SECTOR])),
+            Made("d", "a", lambda image: image),
+            Step("re-add --device c d", "in sync 2 of 2, events 4, marked 0\n", changes="c d"),
+            Step("check c d", "mismatched chunks: 1\n"),
+            Made("c", "b", lambda image: members.with_data(image, 40, DATA[:SECTOR])),
+            Step("re-add --full --device c a", "in sync 2 of 2, events 4, marked 0\n", changes="a c"),
+            Step("check a c", "mismatched chunks: 0\n"),
+            Holds("c", "a", as_role(1, 1)),
+        ],
+    ),
+    (
+        "one that does not come back is as it was, also where all of the data is asked for",
+        {"a": ZEROS, "b": ZEROS, "c": ZEROS, "d": bytes(15 * SECTOR), "e": ZEROS},
+        LIFE_APART
+        + [
+            # Its events are below those at which marks were last cleared: the flag is set on it, and taken away again.
+            Made("c", "b", lambda image: members.with_superblock(image, events=2)),
+            Step("re-add --full --device c a", fault="NotReAddable"),
+            Made("c", "b", lambda image: members.with_superblock(image, events=99)),
+            Step("re-add --full --device c a", fault="NotReAddable"),
+            Made("c", "b", lambda image: members.with_superblock(image, set_uuid=bytes(16))),
+            Step("re-add --full --device c a", fault="NotReAddable"),
+            Made("c", "b", lambda image: members.with_superblock(image, feature_map=0)),
+            Step("re-add --full --device c a", fault="NotReAddable"),
+            Step("re-add --full --device d a", fault="Member TooShort"),
+            Step("re-add --full --device e a", fault="Member Super Magic"),
+            Step("re-add --full --device a a", fault="BadImage 1"),
+        ],
+    ),
+    (
         "two halves of a mirror that were used apart",
         {"a": ZEROS, "b": ZEROS, "c": ZEROS},
         [
@@ -1156,7 +1195,8 @@ CASES = [
             # It is admitted, and its data are copied. It stays a recovering member.
             Step("rebuild --member 1 a b", fault="LogFull 1", changes="a b"),
             Step("detail a b", DETAIL_OF_RECOVERING),
-            Step("rebuild --member 1 a b", fault="LogFull 1"),
+            # Until it is recorded again how far it came, the superblock of the second says less.
+            Step("rebuild --member 1 a b", fault="LogFull 1", touches="b"),
             Step("read --sector 0 --count 1 b", fault="Assemble NotEnough"),
         ],
     ),

@@ -301,9 +301,14 @@ class HasValues:
         return reasons
 
 
+# Control characters of Latin-1, separators of lines, and what changes the direction of text.
+HIDDEN = re.compile("[\x7f-\x9f\u061c\u200e\u200f\u2028-\u202e\u2066-\u2069]")
+
+
 def in_short(value):
-    """Its text as JSON without white space, and with only those characters escaped that have to be."""
-    return json.dumps(value, separators=(",", ":"), ensure_ascii=False)
+    """Its text as JSON without white space, and with only those characters escaped that have to be, or that hide something."""
+    text = json.dumps(value, separators=(",", ":"), ensure_ascii=False)
+    return HIDDEN.sub(lambda found: "\\u%04x" % ord(found.group()), text)
 
 
 ABSENT = "there is none"

@@ -16,9 +16,9 @@ CRATES = Path(__file__).resolve().parent.parent.parent / "crates"
 BOUNDS = Path(__file__).resolve().with_name("counts.txt")
 
 # One thing in two crates: what a step asks of memory and changes there, and its write (docs/ARCHITECTURE.md, "Where a step
-# stands"); a word of the model, which is said of a world there, and of a mirror in one of the others (in md_laws of its life, in md_membership of its superblock and members) ("How to read a contract").
+# stands"); a word of the model, which is said of a world there, and of a mirror in one of the others (in md_laws of its life, in md_kept_members of its superblock and members) ("How a crate is laid out").
 STEP_LAYERS = {"md_state": "a step", "md_array": "a step"}
-MODEL, MIRRORS = "md_model", ("md_membership", "md_state", "md_array", "md_laws")
+MODEL, MIRRORS = "md_model", ("md_kept_members", "md_state", "md_array", "md_laws")
 
 IMPL = re.compile(r"(?m)^impl(?:<[^{]*?>)? (\w+)(?:<[^{]*?>)?(?:\s+where[^{]*)?\s*\{")
 FUNCTION = re.compile(r"\bfn (\w+)")

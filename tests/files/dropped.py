@@ -142,9 +142,10 @@ class Dropped:
         for failed, (call, file) in enumerate(calls, 1):
             number = files.index(int(file))
             answer, _ = calls_of(failed)
+            fault = "BadImage" if failed <= len(files) else "MemberFailed"
             if (answer[0], answer[2]) == (0, LINE % images[number]):
                 dropped.add(number)
-            elif answer != (1, "", "mdcli: MemberFailed %d\n" % number):
+            elif answer != (1, "", "mdcli: %s %d\n" % (fault, number)):
                 reasons.append("call %d, a %s: the answer is %r" % (failed, call, answer))
         if dropped != {0, 1}:
             reasons.append("of which a write was done all the same: %r" % sorted(dropped))

@@ -10,10 +10,10 @@ import support
 TABLES = support.TOP / "docs" / "FAULTS.md"
 CRATES = support.TOP / "crates"
 
-ADVICE = CRATES / "md_advice" / "src" / "advice.rt"
-MAPS = CRATES / "md_masked_images" / "src" / "advice.rt"
-OUTPUT_FILES = CRATES / "md_sparse" / "src" / "fault.rt"
-LIMITS = CRATES / "md_advice" / "src" / "geometry_advice.rt"
+ADVICE = CRATES / "md_messages" / "src" / "advice" / "advice.rt"
+MAPS = CRATES / "md_masks" / "src" / "images" / "advice.rt"
+OUTPUT_FILES = CRATES / "md_files" / "src" / "sparse" / "fault.rt"
+LIMITS = CRATES / "md_messages" / "src" / "advice" / "geometry_advice.rt"
 
 TEXT = re.compile(r'const (\w+): &str =\s*"((?:[^"\\]|\\.)*)"')
 
@@ -24,7 +24,7 @@ VARIANT = re.compile(r'#\[error\("([^"]*)"\)\]\s*(\w+)(?:\(([^)]*)\))?')
 def enums():
     """The variants of each enum of faults: the message, the name, and the types of its values."""
     found = {}
-    for file in sorted(CRATES.glob("*/src/*.rt")):
+    for file in sorted(CRATES.glob("*/src/**/*.rt")):
         for name, body in ENUM.findall(file.read_text()):
             found[name] = [
                 (text, variant, [one.strip() for one in types.split(",") if one.strip()])

@@ -23,6 +23,8 @@ class Case:
         self.target = target
         self.ends = ends
         self.is_re_add = words[0] == "re-add"
+        # Then a flag is written to the bitmap of the one that comes back, before its superblock.
+        self.is_full = "--full" in words
         self.resyncs_first = resyncs_first
         self.images = others if self.is_re_add else others + [target]
         self.before = members.Found([contents[index] for index in others])
@@ -45,8 +47,8 @@ class Case:
         return {"FAILED_IMAGE": str(scratch.path(index)), **ends}
 
     def missing_chunks(self):
-        """A spare lacks all chunks, a member that is taken back those that are marked."""
-        return self.before.marks if self.is_re_add else set(range(self.before.in_sync[0].chunks))
+        """A spare lacks all chunks, a member that is taken back those that are marked, unless all of it is asked for."""
+        return self.before.marks if self.is_re_add and not self.is_full else set(range(self.before.in_sync[0].chunks))
 
     @staticmethod
     def index_of(call):
@@ -93,9 +95,10 @@ def made_cases(scratch):
         contents = contents + [members.pattern(3, 2048 + SECTORS)]
         return prepared(scratch, contents, [(["add", "--device", scratch.path(target)], others, b"")])
 
-    def re_add_case(name, contents, others, ends, **settings):
+    def re_add_case(name, contents, others, ends, full=(), **settings):
         target = len(contents) - 1
-        return Case("re-add, " + name, ["re-add", "--device", scratch.path(target)], contents, others, target, ends, **settings)
+        words = ["re-add", *full, "--device", scratch.path(target)]
+        return Case("re-add, " + name, words, contents, others, target, ends, **settings)
 
     def a_spare_of_three():
         contents = with_spare(scratch.created([0, 1, None], SECTORS, CHUNK_KIB, CLEAN), [0, 1])
@@ -120,14 +123,22 @@ def made_cases(scratch):
         ends = "rebuilt member 1, passes 2, orphans 1\n"
         return rebuild_case("a lone source that can't be read in a chunk", contents, [0], ends, unreadable=(0, range(9, 10)))
 
-    def a_member_that_left():
+    def one_that_left():
         away = [
             (["fail", "--member", 1], [0, 1], b""),
             (["remove", "--member", 1], [0, 1], b""),
             (["write", "--sector", 6], [0], members.pattern(9, 12)),
         ]
-        contents = prepared(scratch, scratch.created([0, 1], SECTORS, CHUNK_KIB, CLEAN), away)
-        return re_add_case("marked chunks alone", contents, [0], "in sync 2 of 2, events 6, marked 0\n")
+        return prepared(scratch, scratch.created([0, 1], SECTORS, CHUNK_KIB, CLEAN), away)
+
+    def a_member_that_left():
+        return re_add_case("marked chunks alone", one_that_left(), [0], "in sync 2 of 2, events 6, marked 0\n")
+
+    def a_member_that_comes_back_whole():
+        contents = one_that_left()
+        # It was written to elsewhere, in a chunk that is not marked, and nothing on it tells.
+        contents[1] = members.with_data(contents[1], 40, members.pattern(5, 1))
+        return re_add_case("all of it", contents, [0], "in sync 2 of 2, events 6, marked 0\n", full=["--full"])
 
     def a_member_of_an_unequal_array():
         away = [(["fail", "--member", 2], [0, 1, 2], b""), (["remove", "--member", 2], [0, 1, 2], b"")]

@@ -23,12 +23,12 @@ WITHIN = {
     "md_kept_members::list_after": "md_copy::rebuild",
     "md_kept_members::list_with": "md_array::Mirror::note_bad",
     "md_kept_members::members_of": "md_array::Mirror::open",
-    "md_maps::read_map": "md_masked_images::mask_images",
-    "md_maps::write_map": "md_maps::write_map_of_read",
-    "md_masked_images::MaskedImages::add": "md_masked_images::mask_images",
-    "md_masked_images::MaskedImages::lacking": "md_masked_images::mask_images",
+    "md_masks::read_map": "md_masks::mask_images",
+    "md_masks::write_map": "md_masks::write_map_of_read",
+    "md_masks::MaskedImages::add": "md_masks::mask_images",
+    "md_masks::MaskedImages::lacking": "md_masks::mask_images",
     "md_members::read_super": "md_members::read_member",
-    "md_membership::joined_superblock": "md_array::Mirror::re_add",
+    "md_kept_members::joined_superblock": "md_array::Mirror::re_add",
     "md_messages::ask_first": "md_cli::run",
     "md_messages::Notices::note_held_on_each": "md_cli::run",
     "md_pass::copy_pass": "md_copy::rebuild",
@@ -49,8 +49,8 @@ WITHIN = {
     "md_super::decode": "md_members::read_member",
     "md_super::Roles::try_clone": "md_array::Mirror::re_add",
     "md_super::Superblock::try_clone": "md_array::Mirror::re_add",
-    "md_workers::Reports::none": "md_copy::rebuild",
-    "md_workers::Reports::push": "md_copy::rebuild",
+    "md_collect::Reports::none": "md_copy::rebuild",
+    "md_collect::Reports::push": "md_copy::rebuild",
 }
 
 # A test that makes the call as a step, which answers that it found no memory, leaves the mirror as it was, and is made again: the
@@ -86,8 +86,11 @@ FAILS = {
     "md_images::MemImages::add": ("command_tests", "faults_in_memory::images_and_inputs_that_fail", "AllocError"),
     "md_images::MemImages::add_protected": ("command_tests", "faults_in_memory::images_and_inputs_that_fail", "AllocError"),
     "md_inflight::Inflight::push_back": ("part_tests", "requests::removed_in_any_order", "NoMemory"),
+    "md_nbd::answer_option": ("part_tests", "nbd_messages::answers_as_another_server_gives", "AllocError"),
+    "md_nbd::put_request": ("part_tests", "nbd_messages::requests_of_clients", "AllocError"),
     "md_plan::plan": ("part_tests", "plans::small_tables::plan_needs_a_move", "NoMemory"),
-    "md_crash_device::Fuse::new": ("crash_tests", "fuses::metadata_stay", "AllocError"),
+    "md_nbd::haggle": ("part_tests", "nbd_sessions::agrees_with_a_client", "NoMemory"),
+    "md_device::Fuse::new": ("crash_tests", "fuses::metadata_stay", "AllocError"),
 }
 
 # A command of the program that answers `NoMemory'.
@@ -111,29 +114,30 @@ ANSWERS = {
     "md_commands::write_array": "write",
     "md_create::create": "create",
     "md_examine_commands::examine_images": "examine-bitmap",
-    "md_held::held_on_each": "create",
+    "md_notices::held_on_each": "create",
     "md_images::take_images": "assemble",
     "md_images::image_list": "assemble",
     # It is made after all else is said.
-    "md_maps::write_map_of_read": "read --map-out",
+    "md_masks::write_map_of_read": "read --map-out",
     "md_members::read_member": "examine-bitmap",
+    "md_metadata::come_back": "re-add --full",
     "md_read_commands::read_array": "read",
     "md_read_commands::read_array_filled": "read --fill",
     "md_read_commands::read_array_readonly": "read --readonly",
     # Whoever has no memory for it goes on, and says that nobody looked.
-    "md_signatures::find_signatures": "add, unseen",
+    "md_notices::find_signatures": "add, unseen",
 }
 
 # A command that answers `NoMemory' and is refused with all memory, later than another one that makes the calls before this one alone: so
 # more of its runs answer so. The names of the images come before the list of maps, and the texts of the maps before the masks.
 LATER = {
-    "md_masked_images::map_list": ("detail: BadMap 1 NotListed", "detail: BadMap 0 NotListed"),
-    "md_masked_images::mask_images": ("read: OutputFileExists", "detail: BadMap 0 Line 4 Cut"),
+    "md_masks::map_list": ("detail: BadMap 1 NotListed", "detail: BadMap 0 NotListed"),
+    "md_masks::mask_images": ("read: OutputFileExists", "detail: BadMap 0 Line 4 Cut"),
 }
 
 # These take no memory: one says so where a count is spent, one gives a list of faults, which may be that a decoding found none, and of one
 # the contract excludes that fault.
-TAKES_NONE = {"md_crash_device::Fuse::share", "md_raw_reports::super_faults_of", "md_rebuild_table::check_rebuild"}
+TAKES_NONE = {"md_device::Fuse::share", "md_raw_reports::super_faults_of", "md_rebuild_table::check_rebuild"}
 
 NOT_SHIPPED = re.compile(r"(.*_tests|example_members|bench_parts|mdcli)$")
 TYPE = re.compile(r"^pub (?:enum|struct) (\w+)[^;{]*\{(.*?)^\}", re.M | re.S)

@@ -56,10 +56,14 @@ def against_refusal(step, answer, before, after):
     # A read that goes on has put out what comes before a run of missing sectors for which there is no memory.
     is_part = "--fill" in step.words and isinstance(step.output, str) and step.output.startswith(output)
     reasons = [] if status in (1, 2) and (is_part or not output) and errors else ["the answer is %r" % (answer,)]
+    # Without memory for a word it is not said that it is none.
+    if "UTF-8" in errors:
+        reasons.append("the answer is %r" % (answer,))
     # What is written over images that are only looked at finds no memory, and fails for no other reason. A file is made after all is said.
     if status == 1 and "--readonly" in step.words and errors not in (NO_MEMORY, (step.errors if step.made else "") + NO_MEMORY):
         reasons.append("the answer is %r" % (answer,))
-    if before.keys() != after.keys() - step.made.keys() or any(before[name] != after[name] for name in before if name not in step.changes):
+    left = [name for name in before if name not in step.changes + step.touches]
+    if before.keys() != after.keys() - step.made.keys() or any(before[name] != after[name] for name in left):
         reasons.append("an image is changed")
     # A file that is made has what was written to it before, if it is there.
     other = [name for name in after if name not in before and not step.made.get(name, b"").startswith(after[name])]
@@ -104,9 +108,10 @@ def play(folder, step, before, settings):
 
 
 def command_of(step):
-    """A command, with the option by which it is another call: of an object, of a read that goes on, or where no image may be changed."""
+    """A command, with the option by which it is another call: of an object, of a read that goes on, of a member that comes back whole, or
+    where no image may be changed."""
     other = [word for word in ("--json", "--fill") if word in step.words]
-    other += [word for word in step.words[1:2] if word in ("--readonly", "--list")]
+    other += [word for word in step.words[1:2] if word in ("--readonly", "--list", "--full")]
     return " ".join(step.words[:1] + other[:1])
 
 

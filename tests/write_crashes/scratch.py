@@ -21,6 +21,21 @@ class Call:
         self.place = int(place)
         self.size = int(size)
         self.image = image
+        self.written = b""
+
+
+def calls_in(log, has_bytes):
+    """The calls of a log, where the bytes of each write follow its line if it has them."""
+    calls, at = [], 0
+    while at < len(log):
+        end = log.index(b"\n", at)
+        call = Call(log[at:end].decode())
+        at = end + 1
+        if has_bytes and call.kind == "write":
+            call.written = log[at : at + call.size]
+            at += call.size
+        calls.append(call)
+    return calls
 
 
 class Answer:
@@ -67,7 +82,7 @@ class Scratch:
             timeout=SECONDS,
             env={**os.environ, "LD_PRELOAD": str(self.library), "CALLS_LOG": str(self.log), **settings},
         )
-        return Answer(done, [Call(line) for line in self.log.read_text().splitlines()])
+        return Answer(done, calls_in(self.log.read_bytes(), "CALLS_BYTES" in settings))
 
     def stopped(self, words, images, given, how, number, **settings):
         return self.run(words, images, given, STOPPED_CALL=str(number), STOPPED_HOW=how, **settings)

@@ -10,7 +10,8 @@
 
    Of the reads of images the one whose number stands in FAILED_READ fails, and so does each that meets the bytes of the image
    FAILED_IMAGE from FAILED_FROM up to FAILED_TO. Each of them first waits for READ_WAIT microseconds. Each of these calls is a
-   line of the file that CALLS_LOG names. No disk is waited for: what a process wrote is there once it has ended. */
+   line of the file that CALLS_LOG names, where CALLS_BYTES is set followed by the bytes of a write. No disk is waited for: what
+   a process wrote is there once it has ended. */
 #define _GNU_SOURCE
 #include <errno.h>
 #include <fcntl.h>
@@ -39,15 +40,16 @@ static const char *image_of(int fd)
     return strcmp(path + size - 4, ".img") ? NULL : path;
 }
 
-static void note(const char *call, const char *image, off_t place, size_t size)
+static void note(const char *call, const char *image, off_t place, size_t size, const void *bytes)
 {
     const char *path = getenv("CALLS_LOG");
     char line[4200];
     int length = snprintf(line, sizeof line, "%s %lld %zu %s\n", call, (long long)place, size, image);
     int log = path ? open(path, O_WRONLY | O_APPEND | O_CREAT, 0666) : -1;
+    struct iovec parts[2] = {{line, length}, {(void *)bytes, bytes && getenv("CALLS_BYTES") ? size : 0}};
     if (log < 0)
         return;
-    if (syscall(SYS_write, log, line, length) != length)
+    if (syscall(SYS_writev, log, parts, 2) != (ssize_t)(parts[0].iov_len + parts[1].iov_len))
         abort();
     close(log);
 }
@@ -59,10 +61,10 @@ static long number_in(const char *name)
 }
 
 /* What happens to a call that writes, or NULL. */
-static const char *turn(const char *call, const char *image, off_t place, size_t size)
+static const char *turn(const char *call, const char *image, off_t place, size_t size, const void *bytes)
 {
     static long calls;
-    note(call, image, place, size);
+    note(call, image, place, size, bytes);
     return __atomic_add_fetch(&calls, 1, __ATOMIC_SEQ_CST) == number_in("STOPPED_CALL") ? getenv("STOPPED_HOW") : NULL;
 }
 
@@ -107,7 +109,7 @@ static void write_junk(int fd, size_t size, off_t place)
 static ssize_t write_at(int fd, const void *bytes, size_t size, off_t place)
 {
     const char *image = image_of(fd);
-    const char *how = image ? turn("write", image, place, size) : NULL;
+    const char *how = image ? turn("write", image, place, size, bytes) : NULL;
     size_t half = size / SECTOR / 2 * SECTOR;
     if (!how)
         return syscall(SYS_pwrite64, fd, bytes, size, place);
@@ -186,7 +188,7 @@ ssize_t writev(int fd, const struct iovec *parts, int count)
 static int sync_of(int fd, long call)
 {
     const char *image = image_of(fd);
-    const char *how = image ? turn("sync", image, 0, 0) : NULL;
+    const char *how = image ? turn("sync", image, 0, 0, NULL) : NULL;
     if (!image)
         return syscall(call, fd);
     if (!how || is(how, "short"))
@@ -220,7 +222,7 @@ static ssize_t read_at(int fd, void *bytes, size_t size, off_t place)
     if (image) {
         if (number_in("READ_WAIT") > 0)
             usleep(number_in("READ_WAIT"));
-        note("read", image, place, size);
+        note("read", image, place, size, NULL);
         if (__atomic_add_fetch(&calls, 1, __ATOMIC_SEQ_CST) == number_in("FAILED_READ"))
             return fail();
         if (is_bad(image, place, size))

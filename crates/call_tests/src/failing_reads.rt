@@ -1,5 +1,5 @@
 // How many reads of members fail while sectors of the array are read, where some can't be read on one of them.
-ghost use Rattle.std.specs.Prelude.{[], IfOk, false};
+ghost use Rattle.std.specs.Prelude.{[], IfOk, false, length, refl};
 ghost use Rattle.md_array.specs.Consistency.{IsConsistent};
 
 use crate::checks::holds;
@@ -7,7 +7,7 @@ use crate::data::{Data, Filling, NONE_OTHER, WHOLE};
 use crate::members::{DATA, FIRST, Member, NEVER, device_of};
 use crate::open::open;
 use md_array::Mirror;
-use md_device::{Device, FaultDevice, MemDevice, ReadFault, WriteFault};
+use md_device::{Device, Fault, FaultDevice, FaultList, MemDevice, ReadFault, WriteFault};
 use md_read::read;
 use std::alloc::Global;
 use std::process::Abort;
@@ -18,6 +18,7 @@ use std::test::Fail;
 struct Counted {
     device: FaultDevice<MemDevice>,
     failed: u64,
+    faults: FaultList,
 }
 
 impl Device for Counted {
@@ -25,7 +26,11 @@ impl Device for Counted {
 
     ghost honest = { λ _. false };
 
-    ghost failures = { λ _. 0 };
+    ghost faults = { λ d. d.faults.list };
+
+    ghost failures = { λ d. length d.faults.list };
+
+    ghost counts = { λ _. refl };
 
     ghost crashes = { λ _. [] };
 
@@ -37,12 +42,17 @@ impl Device for Counted {
         let outcome = self.device.read(sector, buf);
         if outcome.is_err() {
             self.failed = self.failed.saturating_add(1);
+            self.faults = self.faults.with_fault(&Fault::read(sector, buf.len()));
         }
         outcome
     }
 
     fn write(&mut self, sector: u64, bytes: &[u8]) -> Result<(), WriteFault> {
-        self.device.write(sector, bytes)
+        let outcome = self.device.write(sector, bytes);
+        if outcome.is_err() {
+            self.faults = self.faults.with_fault(&Fault::write(sector, bytes.len()));
+        }
+        outcome
     }
 }
 
@@ -61,6 +71,7 @@ fn failing_member(alloc: Global, number: u8, bad: &[u64]) -> Result<Counted, Fai
     Ok(Counted {
         device: FaultDevice::new(device, sectors, NEVER, NEVER, false),
         failed: 0,
+        faults: FaultList::empty(),
     })
 }
 

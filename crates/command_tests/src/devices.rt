@@ -1,7 +1,7 @@
 // A device in memory, some sectors of which can't be read.
-ghost use Rattle.std.specs.Prelude.{[], false};
+ghost use Rattle.std.specs.Prelude.{[], false, length, refl};
 
-use md_device::{Device, MemDevice, ReadFault, WriteFault};
+use md_device::{Device, Fault, FaultList, MemDevice, ReadFault, WriteFault};
 use md_images::SharedRead;
 
 /// A device in memory, some sectors of which can't be read. No contract says which: it is not honest.
@@ -9,6 +9,7 @@ use md_images::SharedRead;
 pub(crate) struct BadDevice {
     pub(crate) memory: MemDevice,
     pub(crate) bad: Vec<u64>,
+    pub(crate) faults: FaultList,
 }
 
 impl Device for BadDevice {
@@ -16,7 +17,11 @@ impl Device for BadDevice {
 
     ghost honest = { λ _. false };
 
-    ghost failures = { λ _. 0 };
+    ghost faults = { λ d. d.faults.list };
+
+    ghost failures = { λ d. length d.faults.list };
+
+    ghost counts = { λ _. refl };
 
     ghost crashes = { λ _. [] };
 
@@ -25,11 +30,19 @@ impl Device for BadDevice {
     }
 
     fn read(&mut self, sector: u64, buf: &mut [u8]) -> Result<(), ReadFault> {
-        self.read_shared(sector, buf)
+        let outcome = self.read_shared(sector, buf);
+        if outcome.is_err() {
+            self.faults = self.faults.with_fault(&Fault::read(sector, buf.len()));
+        }
+        outcome
     }
 
     fn write(&mut self, sector: u64, bytes: &[u8]) -> Result<(), WriteFault> {
-        self.memory.write(sector, bytes)
+        let outcome = self.memory.write(sector, bytes);
+        if outcome.is_err() {
+            self.faults = self.faults.with_fault(&Fault::write(sector, bytes.len()));
+        }
+        outcome
     }
 }
 

@@ -2,7 +2,7 @@
 use crate::checks::holds;
 use crate::devices::BadDevice;
 use example_members::{bitmap, member_image, vault, zeros};
-use md_device::MemDevice;
+use md_device::{FaultList, MemDevice};
 use md_images::{Access, Images, MemImages};
 use std::alloc::Global;
 use std::process::Abort;
@@ -41,7 +41,11 @@ fn device_of(alloc: Global, image: &Image) -> Result<BadDevice, Fail> {
     } else {
         zeros(alloc, 2112)?
     };
-    Ok(BadDevice { memory, bad })
+    Ok(BadDevice {
+        memory,
+        bad,
+        faults: FaultList::empty(),
+    })
 }
 
 fn add(alloc: Global, images: &mut HeldImages, image: &Image) -> Result<(), Fail> {

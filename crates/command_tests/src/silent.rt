@@ -16,9 +16,15 @@ impl Gate for Silent {
 impl Asker for Silent {
     ghost shows = { λ _. false };
 
+    ghost told_first = { λ _. false };
+
     ghost answered = { λ _ _ _. ⊤ };
 
     fn is_there(&self) -> bool {
+        false
+    }
+
+    fn is_told_first(&self) -> bool {
         false
     }
 

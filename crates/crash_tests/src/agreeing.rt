@@ -1,7 +1,7 @@
 // The members of a new array agree once it is resynchronised, whatever stood in their data.
 use crate::checks::{holds_at, same_at};
 use example_members::zeros;
-use md_crash_laws::fresh_agreement;
+use md_call_laws::fresh_agreement;
 use md_create::{CreateParams, NewMember, create, lay_out};
 use md_device::{Device, MemDevice};
 use std::alloc::Global;

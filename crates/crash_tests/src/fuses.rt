@@ -3,8 +3,7 @@ ghost use Rattle.std.specs.Prelude.{◌≡◌, IfOk, length};
 
 use crate::checks::{holds_at, same_at};
 use crate::run::Crashing;
-use md_crash_device::{CrashDevice, Fuse};
-use md_device::{Device, MemDevice};
+use md_device::{CrashDevice, Device, Fuse, MemDevice};
 use std::alloc::Global;
 use std::process::Abort;
 use std::test::Fail;

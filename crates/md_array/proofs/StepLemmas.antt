@@ -32,6 +32,8 @@ pub mod InFlight
 -- A superblock is written to a member that is rebuilt, or its write fails: the log on the device lists what the list in memory has, if it did
 -- before.
 pub mod ListStays
+-- A recovering member surely has no more than what is before a sector: that is the model's event.
+pub mod LowerOffset
 -- An active array becomes clean, as the model has it.
 pub mod MakeClean
 -- A sector of a member's bitmap that is stored is the model's event, and the mirror stays consistent.

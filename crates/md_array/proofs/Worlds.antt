@@ -16,6 +16,9 @@ pub mod InSync
 pub mod Joined
 -- What a device's log lists, by the superblock that stands there, and by the one that is kept.
 pub mod Listed
+-- Each recovering member surely has no more than what is before a sector, from which on data are about to change: the array stays
+-- consistent, and its world is lowered.
+pub mod Lowered
 -- A member of an array that was opened, by its device before and after.
 pub mod Member
 -- What stands apart from an area of a device stays when the area is written: the superblock, the data, the log and the bitmap.

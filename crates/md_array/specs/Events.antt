@@ -11,13 +11,13 @@ use Rattle.md_model.specs.Worlds.{Request, World}
 use Rattle.md_model.specs.Content.{Content, Becomes, HoldsBetween, HoldsInFlight}
 use Rattle.md_model.specs.Events.{Event, MemberPart, Step}
 use Rattle.md_model.specs.Runs.{failed_after, spoiled_after}
-use Rattle.md_requests.specs.Pending.{PendingView}
+use Rattle.md_inflight.specs.Requests.Pending.{PendingView}
 use Rattle.md_kept_members.specs.View.{MemberView}
 use Rattle.md_faults.specs.declared.step_fault.StoreFault.{StoreFault}
 use Rattle.md_faults.specs.declared.step_fault.StoreFault.TheVariants.{MemberFailed}
 use Rattle.md_faults.specs.declared.step_fault.WriteMemberFault.{WriteMemberFault}
 use Rattle.md_faults.specs.declared.step_fault.WriteMemberFault.TheVariants as write_fault
-use Rattle.md_stored_members.specs.Storing.{sector_from_super}
+use Rattle.md_kept_members.specs.OnDevices.Storing.{sector_from_super}
 use Rattle.md_state.specs.DeviceChanges.{IsLeftAlone, LeavesOn, StaysHonest}
 use Rattle.md_state.specs.View.{ArrayView, Disk, MirrorView, of_disks, geometry_of}
 use Rattle.md_state.specs.Members.{IsMember}
@@ -25,11 +25,11 @@ use Rattle.md_state.specs.Steps.CopyData.{IsDone}
 use Rattle.md_state.specs.DiskWrites.{AtDevice, IsFailed, IsTried, IsWritten}
 use Rattle.md_state.specs.Requests.{AreInFlight, among, request_of}
 use Rattle.md_array.specs.Consistency.{IsConsistent}
-use Rattle.md_array.specs.Steps.Lend.{IsBesideMissing}
+use Rattle.md_array.specs.Steps.Lend.{IsBesideUnsaid}
 use Rattle.md_array.specs.ReadAsKept.{AreReadAsKept}
 use Rattle.md_array.specs.Steps.Record.{super_write}
 use Rattle.md_array.specs.Worlds.{AreHonest, stored_on, world_of, super_in, block_on}
-use Rattle.md_device_writes.specs.Writes.{DoesWrites, Write}
+use Rattle.md_members.specs.DeviceWrites.Writes.{DoesWrites, Write}
 
 -- A device that had this superblock is written once, and stands after the others then, none of which is used.
 pub record WritesLast (own : Super) (before after : List Disk) : Type 0 where
@@ -64,10 +64,11 @@ pub record IsChangedAlone (k : ℕ) (Related : List ℕ → List ℕ → Type 0)
   pub changed : AtDevice k before after (λ d e. d.honest ≡ true → Related d.content e.content)
   pub within : AtDevice k before after (λ d e. d.honest ≡ true → LeavesOn (Related d.content) d e)
 
--- two contents of a member's device that are the same beside each chunk that it lacks
-pub record IsSameBesideMissing (a : ArrayView) (m : MemberView) (old new : List ℕ) : Type 0 where
+-- two contents of a member's device that are the same beside each chunk that it lacks, and of which its superblock does not say that it
+-- has it
+pub record IsSameBesideUnsaid (a : ArrayView) (m : MemberView) (old new : List ℕ) : Type 0 where
   pub size : length new ≡ length old
-  pub beside : (at n : ℕ) → IsBesideMissing a m at n → part new at n ≡ part old at n
+  pub beside : (at n : ℕ) → IsBesideUnsaid a m at n → part new at n ≡ part old at n
 
 -- n bytes of a device lie beside an area of so many sectors from this one on
 abbrev pub IsBesideArea : ℕ → ℕ → ℕ → ℕ → Type 0
@@ -101,19 +102,20 @@ WritesOnce Event.Resynced before after = after ≡ before
 WritesOnce Event.Unresynced before after = after ≡ before
 WritesOnce (Event.Remove k) before after = GoesAway k before after
 WritesOnce (Event.Add number left) before after = ComesLast before after
-WritesOnce (Event.ReAdd own device left) before after = WritesLast own before after
+WritesOnce (Event.ReAdd own offset device left) before after = WritesLast own before after
 WritesOnce Event.MakeClean before after = after ≡ before
 WritesOnce (Event.Begin n p) before after = after ≡ before
 WritesOnce (Event.Finish n) before after = after ≡ before
 WritesOnce (Event.ClearIdle c) before after = after ≡ before
 WritesOnce (Event.Fail k) before after = after ≡ before
-WritesOnce (Event.Fill k) before after = (a : ArrayView) × (m : MemberView) × IsChangedAlone k (IsSameBesideMissing a m) before after
+WritesOnce (Event.LowerOffset k s) before after = after ≡ before
+WritesOnce (Event.Fill k) before after = (a : ArrayView) × (m : MemberView) × IsChangedAlone k (IsSameBesideUnsaid a m) before after
 WritesOnce (Event.Prepare k) before after = (m : MemberView) × IsChangedAlone k (IsSameBesideMarks m) before after
 WritesOnce (Event.RecordTargetFails k) before after = (w : Write) × IsFailed k w before after
 WritesOnce (Event.SpoilTarget k) before after = (w : Write) × HasWriteFailed k w before after
 WritesOnce (Event.Enrol k role listed) before after = (w : Write) × IsDone k w before after
 WritesOnce (Event.Admit k role listed) before after = (w : Write) × IsWritten k w before after
-WritesOnce (Event.Checkpoint k offset listed) before after = (w : Write) × IsWritten k w before after
+WritesOnce (Event.Checkpoint k sure listed) before after = (w : Write) × IsWritten k w before after
 WritesOnce (Event.NoteBad k c) before after = after ≡ before
 WritesOnce (Event.StoreLog k listed) before after = (after ≡ before) ⊎ ((w : Write) × IsWritten k w before after)
 
@@ -134,7 +136,7 @@ abbrev pub KeepsLists : Event → World → World → Type 0
 KeepsLists (Event.Record k) w w' = ListsStill k w w'
 KeepsLists (Event.RecordTargetFails k) w w' = ListsStill k w w'
 KeepsLists (Event.Admit k role listed) w w' = ListsStill k w w'
-KeepsLists (Event.Checkpoint k offset listed) w w' = ListsStill k w w'
+KeepsLists (Event.Checkpoint k sure listed) w w' = ListsStill k w w'
 KeepsLists e w w' = ⊤
 
 -- By the event the mirror goes from its world with these requests in flight to that with those. A content that the members in

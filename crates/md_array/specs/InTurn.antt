@@ -5,7 +5,7 @@ use Rattle.md_model.specs.Worlds.{Request}
 use Rattle.md_model.specs.Content.{Content}
 use Rattle.md_model.specs.Events.{Event, MemberPart}
 use Rattle.md_bitmap.specs.Marks.{is_set}
-use Rattle.md_requests.specs.Pending.{PendingView}
+use Rattle.md_inflight.specs.Requests.Pending.{PendingView}
 use Rattle.md_kept_members.specs.View.{MemberView}
 use Rattle.md_state.specs.View.{ArrayView, Disk, MirrorView}
 use Rattle.md_state.specs.Members.{IsInSync, IsMember}
@@ -30,6 +30,7 @@ use Rattle.md_array.specs.Steps.Add.{Adds, add_event}
 use Rattle.md_array.specs.Steps.Admit.{DidAdmit}
 use Rattle.md_array.specs.Steps.Checkpoint.{DidCheckpoint}
 use Rattle.md_array.specs.Steps.StoreLog.{FailsToStoreLog, HaltsStoringLog, HasNoShift, StoresLog}
+use Rattle.md_array.specs.Steps.LowerOffset.{LowersOffset}
 use Rattle.md_array.specs.Steps.NoteBad.{NotesChunk}
 use Rattle.md_array.specs.Steps.ReAdd.{ReAdds, re_add_event}
 use Rattle.md_array.specs.Spoiling.{SpoilsTarget}
@@ -47,7 +48,7 @@ LeftWhole old (Event.WriteFails k MemberPart.Superblock) new =
     (m : MemberView) → IsMember old.array k m → AtDevice k old.disks new.disks (IsOldNewOrNone (super_write old.array m).bytes)
 LeftWhole old (Event.RecordTargetFails k) new =
     (m : MemberView) → IsMember old.array k m → AtDevice k old.disks new.disks (IsOldNewOrNone (super_write old.array m).bytes)
-LeftWhole old (Event.Checkpoint k offset listed) new = (content : Content) × HoldsContent old.disks old.array content
+LeftWhole old (Event.Checkpoint k sure listed) new = (content : Content) × HoldsContent old.disks old.array content
 LeftWhole old (Event.StoreLog k listed) new = HasNoShift k old
 LeftWhole old (Event.WriteFails k MemberPart.Log) new = HasNoShift k old
 LeftWhole old (Event.Enrol k role listed) new = (content : Content) × IsHeldBy k listed content old
@@ -122,7 +123,8 @@ Did old before Event.MakeClean new after = (after ≡ before) × MakesClean old 
 Did old before (Event.Fail k) new after = (after ≡ before) × FailsMember k old new
 Did old before (Event.Remove k) new after = (after ≡ before) × ((disk : Disk) × Removes k disk old new)
 Did old before (Event.Add number left) new after = (after ≡ before) × DidAdd (Event.Add number left) old new
-Did old before (Event.ReAdd own device left) new after = (after ≡ before) × DidReAdd (Event.ReAdd own device left) old new
+Did old before (Event.ReAdd own offset device left) new after = (after ≡ before) × DidReAdd (Event.ReAdd own offset device left) old new
+Did old before (Event.LowerOffset k s) new after = (after ≡ before) × LowersOffset k s old new
 Did old before (Event.WriteFails k MemberPart.Superblock) new after = (after ≡ before) × FailsToRecord k old new
 Did old before (Event.WriteFails k (MemberPart.BitmapSector b)) new after = (after ≡ before) × FailsToStoreMarks k b old new
 Did old before (Event.WriteFails k (MemberPart.RequestData n)) new after =
@@ -137,7 +139,7 @@ Did old before (Event.RecordTargetFails k) new after = (after ≡ before) × Fai
 Did old before (Event.SpoilTarget k) new after = (after ≡ before) × SpoilsTarget k old new
 Did old before (Event.Enrol k role listed) new after = (after ≡ before) × DidEnrol (Event.Enrol k role listed) old new
 Did old before (Event.Admit k role listed) new after = (after ≡ before) × DidAdmit (Event.Admit k role listed) old new
-Did old before (Event.Checkpoint k offset listed) new after = (after ≡ before) × DidCheckpoint (Event.Checkpoint k offset listed) old new
+Did old before (Event.Checkpoint k sure listed) new after = (after ≡ before) × DidCheckpoint (Event.Checkpoint k sure listed) old new
 Did old before (Event.NoteBad k c) new after = (after ≡ before) × NotesChunk k c old new
 Did old before (Event.StoreLog k listed) new after = (after ≡ before) × StoresLog k old new
 Did old before (Event.WriteFails k MemberPart.Log) new after = (after ≡ before) × FailsToStoreLog k old new

@@ -7,7 +7,7 @@ use Rattle.md_super.specs.Format.{IsSuper}
 use Rattle.md_members.specs.Members.{reads_log}
 use Rattle.md_kept_members.specs.View.{MemberView}
 use Rattle.md_assembly.specs.States.{is_recorded}
-use Rattle.md_stored_members.specs.Storing.{sector_from_super}
+use Rattle.md_kept_members.specs.OnDevices.Storing.{sector_from_super}
 use Rattle.md_state.specs.Members.{IsMember}
 use Rattle.md_state.specs.Missing.{is_rebuilt}
 use Rattle.md_state.specs.View.{Disk, ArrayView, MirrorView}

@@ -4,7 +4,7 @@ use Rattle.md_kept_members.specs.View.{MemberView}
 use Rattle.md_state.specs.Members.{IsMember}
 use Rattle.md_state.specs.Missing.{is_rebuilt}
 use Rattle.md_state.specs.View.{MirrorView}
-use Rattle.md_device_writes.specs.Writes.{Write}
+use Rattle.md_members.specs.DeviceWrites.Writes.{Write}
 use Rattle.md_array.specs.Events.{HasWriteFailed}
 
 -- The write was that of `admit`, `checkpoint` or `enrol`, and is as long as a superblock. In memory all is as it was: the member is what it

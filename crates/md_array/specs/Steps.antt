@@ -18,6 +18,8 @@ pub mod Fail
 pub mod GiveBack
 -- The devices move out, for a rebuild or a check, and come back (this project's own).
 pub mod Lend
+-- A recovering member is to say no more that it has data which are about to change.
+pub mod LowerOffset
 -- The list of a member in sync grows, in memory alone.
 pub mod NoteBad
 -- The array is known to be resynced, or no longer.

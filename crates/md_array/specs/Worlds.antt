@@ -21,7 +21,7 @@ use Rattle.md_assembly.specs.declared.state.MemberState.{MemberState}
 use Rattle.md_assembly.specs.declared.state.MemberState.TheVariants.{InSync, Recovering, Stale, Spare, Faulty}
 use Rattle.md_assembly.specs.States.{role_in, has_recovery_offset}
 use Rattle.md_kept_members.specs.View.{MemberView}
-use Rattle.md_stored_members.specs.Storing.{sector_from_super}
+use Rattle.md_kept_members.specs.OnDevices.Storing.{sector_from_super}
 use Rattle.md_state.specs.View.{Disk, ArrayView, MirrorView}
 use Rattle.md_state.specs.Members.{clean_offset}
 
@@ -137,7 +137,9 @@ world_on disks a requests =
       due = λ k. at_member a k false (λ m. m.due);
       known = λ k c. at_member a k false (λ m. nat_lt c a.marks.chunks && is_set m.stored.bytes c);
       bad = λ k s. at_member a k false (λ m. lists_of a m s);
-      offset = λ k. at_member a k 0 (λ m. m.superblock.recovery_offset);
+      offset = λ k. at_member a k 0 (λ m. m.offset);
+      sure_offset = λ k. at_member a k 0 (λ m. m.superblock.recovery_offset);
+      stored_offset = λ k. at_member a k 0 (λ m. m.stored_offset);
       recovering = λ k. at_member a k false (λ m. has_recovery_offset m.superblock);
       role = role_in a.shared;
       entries = length a.shared.roles;

@@ -23,5 +23,5 @@ pub use md_faults::{
     AddFault, AdmitFault, BeginFault, CleanFault, ClearFault, CopyFault, EnrolFault, FailFault,
     FinishFault, NoteFault, ReAddFault, RemoveFault, StoreFault, TargetFault, WriteMemberFault,
 };
-pub use md_requests::Pending;
+pub use md_inflight::Pending;
 pub use mirror::Mirror;

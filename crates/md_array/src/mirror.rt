@@ -9,6 +9,7 @@ ghost use Rattle.md_kept_members.specs.Members.{NeedsMarks};
 ghost use Rattle.md_state.specs.View.{disk_of};
 ghost use Rattle.md_state.specs.Missing.{is_re_added, AreMissing, is_missing};
 ghost use Rattle.md_state.specs.Members.{IsMember, IsPermitted, is_degraded};
+ghost use Rattle.md_state.specs.Steps.Checkpoint.{IsFirstEnd};
 ghost use Rattle.md_state.specs.Steps.WriteMember.{HasMarksFrom};
 ghost use Rattle.md_array.specs.Consistency.{IsConsistent};
 ghost use Rattle.md_array.specs.InSyncCount.{count_in_sync};
@@ -66,6 +67,17 @@ impl<D: Device + Drop> Mirror<D> {
         ensures { (m : MemberView) → IsMember self.now.array k m → result ≡ is_re_added self.now.array m }
     {
         self.array.is_re_added(k)
+    }
+
+    /// The start of the first chunk that member k lacks and that is not among these, or of which it lists a sector; the array's size,
+    /// where there is none. A checkpoint after these were copied stores it.
+    pub fn checkpoint_end(&self, k: usize, copied: &Marks) -> u64
+        requires within { k < length self.now.array.members }
+        requires sound { IsConsistent self.now }
+        requires copied { copied.now.chunks ≡ self.now.array.marks.chunks }
+        ensures { (m : MemberView) → IsMember self.now.array k m → IsFirstEnd self.now.array m copied.now result }
+    {
+        self.array.checkpoint_end(k, copied)
     }
 
     /// Whether `open` stored marks on member k: it is in sync, and the bitmap that was read on it is

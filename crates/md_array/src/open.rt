@@ -14,11 +14,9 @@ use crate::fault::OpenFault;
 use crate::mirror::Mirror;
 use md_assembly::{AssembleFault, assemble};
 use md_device::{Device, WriteFault};
-use md_device_writes::store_bitmap;
-use md_kept_members::{Member, needs_marks};
-use md_members::{MemberFault, MemberInfo, read_member};
+use md_kept_members::{Member, bitmap_start, needs_marks};
+use md_members::{MemberFault, MemberInfo, read_member, store_bitmap};
 use md_state::Array;
-use md_stored_members::bitmap_start;
 use std::alloc::Global;
 
 impl<D: Device + Drop> Mirror<D> {

@@ -1,5 +1,6 @@
 -- Which roles are taken, counted member by member.
 use Rattle.std.proofs.Common.{◌≡◌, ℕ, ◌+◌, ◌<◌, ◌≤◌, Bool, true, false, cond, ◌||◌, List, [], ◌∷◌, map, refl, ap, sym, ◌∙◌, arith, inl, inr}
+use Rattle.std.specs.Prelude.{◌==◌, nat_le, not}
 use Rattle.std.specs.List.{count_by, list_any}
 use Rattle.std.proofs.lemmas.Bool.{cases_lt, eqb-true, leb-false}
 use Rattle.std.proofs.lemmas.List.Sums.{sum_by-cons}
@@ -10,7 +11,7 @@ use Rattle.md_assembly.specs.declared.state.MemberState.TheVariants.{InSync, Rec
 use Rattle.md_assembly.specs.Assembled.{IsFirstFreshest, superblocks}
 use Rattle.md_assembly.specs.Faults.{IsDoubleRole, AssembleFaultStands}
 use Rattle.md_assembly.specs.declared.fault.AssembleFault.TheVariants.{NotEnough}
-use Rattle.md_assembly.specs.States.{is_in_sync, state_of, states_by, takes_role}
+use Rattle.md_assembly.specs.States.{bears, has_recovery_offset, is_in_sync, is_up_to_date, role_in, state_of, states_by, takes_role}
 use Rattle.md_assembly.proofs.Freshness.{by_this, by_freshest}
 
 pub states_of_members : (v : Superblock) (members : List MemberInfo) → map (λ m. state_of v m.superblock) members ≡ states_by v (superblocks members)
@@ -39,16 +40,20 @@ is_double members i v role count f e more =
     by_freshest (λ states. 1 < count_by (takes_role role) states) (superblocks members) i v f (omega arith)
 
 -- a role that is taken is below the raid disks
-below_disks : (faulty spare stale recovering : Bool) (role wanted disks : ℕ) → (spare ≡ false → role < disks) → takes_role wanted (cond faulty Faulty (cond spare Spare (cond stale (Stale role) (cond recovering (Recovering role) (InSync role))))) ≡ true → wanted < disks
-below_disks true spare stale recovering role wanted disks low e = absurd cc
-below_disks false true stale recovering role wanted disks low e = absurd cc
-below_disks false false true recovering role wanted disks low e = absurd cc
-below_disks false false false true role wanted disks low e = let same = eqb-true role wanted e in let under = low refl in omega arith
-below_disks false false false false role wanted disks low e = let same = eqb-true role wanted e in let under = low refl in omega arith
+below_disks : (faulty spare stale other recovering : Bool) (role wanted disks : ℕ) → (spare ≡ false → role < disks)
+    → takes_role wanted (cond faulty Faulty (cond spare Spare (cond stale (Stale role) (cond other (Stale role) (cond recovering (Recovering role) (InSync role)))))) ≡ true → wanted < disks
+below_disks true spare stale other recovering role wanted disks low e = absurd cc
+below_disks false true stale other recovering role wanted disks low e = absurd cc
+below_disks false false true other recovering role wanted disks low e = absurd cc
+below_disks false false false true recovering role wanted disks low e = absurd cc
+below_disks false false false false true role wanted disks low e = let same = eqb-true role wanted e in let under = low refl in omega arith
+below_disks false false false false false role wanted disks low e = let same = eqb-true role wanted e in let under = low refl in omega arith
 
 taken_below : (v w : Superblock) (role : ℕ) → takes_role role (state_of v w) ≡ true → role < v.raid_disks
 unfolding state_of
-taken_below v w role e = below_disks _ _ _ _ _ role v.raid_disks (λ s. leb-false _ _ s) e
+taken_below v w role e =
+    let given = role_in v w.dev_number in
+    below_disks (given == 0xfffe) (nat_le v.raid_disks given) (not (is_up_to_date v w)) (not (bears w given)) (has_recovery_offset w) given role v.raid_disks (λ s. leb-false _ _ s) e
 
 none_taken : (v : Superblock) (role : ℕ) (members : List MemberInfo) → v.raid_disks ≤ role → count_by (λ m. takes_role role (state_of v m.superblock)) members ≡ 0
 none_taken v role [] past = refl

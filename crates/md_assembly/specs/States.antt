@@ -1,5 +1,6 @@
 -- The state of a member by the freshest superblock and its own (super_1_validate of the kernel's md driver, without
--- replacement and journal; that a member one event behind is up to date is the kernel's rule too).
+-- replacement and journal; that a member one event behind is up to date is the kernel's rule too; that its own superblock
+-- has to give it the same role is this project's own).
 use Rattle.std.specs.Prelude.{ℕ, ◌+◌, ◌==◌, nat_le, Bool, true, false, not, bit_and, slice_index_or, List, map, Option, Some, None, if◌then◌else◌}
 use Rattle.md_super.specs.declared.superblock.Superblock.{Superblock}
 use Rattle.md_assembly.specs.declared.state.MemberState.{MemberState}
@@ -17,12 +18,18 @@ is_up_to_date freshest own = nat_le freshest.events (own.events + 1)
 abbrev pub has_recovery_offset : Superblock → Bool
 has_recovery_offset own = not (bit_and own.feature_map 2 == 0)
 
+-- The member's own superblock gives it the role. It gives another where each half of an array was completed with a new disk of
+-- the same number, or where a crash came between the superblocks that tell of a new role.
+abbrev pub bears : Superblock → ℕ → Bool
+bears own role = role_in own own.dev_number == role
+
 -- the state of a member whose role this is: 0xfffe is that of a failed device
 abbrev pub state_by_role : Superblock → Superblock → ℕ → MemberState
 state_by_role freshest own role =
     if role == 0xfffe then Faulty else
     if nat_le freshest.raid_disks role then Spare else
     if not (is_up_to_date freshest own) then Stale role else
+    if not (bears own role) then Stale role else
     if has_recovery_offset own then Recovering role else InSync role
 
 unfoldable pub state_of : Superblock → Superblock → MemberState
@@ -81,7 +88,7 @@ is_spare (Stale role) = false
 is_spare Spare = true
 is_spare Faulty = false
 
--- the member has a role, but is more than one event behind
+-- the member has a role, but is more than one event behind, or its own superblock gives it another
 abbrev pub is_stale : MemberState → Bool
 is_stale (InSync role) = false
 is_stale (Recovering role) = false

@@ -11,7 +11,7 @@ pub enum MemberState {
     InSync(u16),
     /// It is up to date, and its data are not yet whole.
     Recovering(u16),
-    /// It has a role, and its events are behind by more than one.
+    /// It has a role, and its events are behind by more than one, or its own superblock gives it another role or none.
     Stale(u16),
     /// It has no role.
     Spare,
@@ -90,7 +90,7 @@ impl MemberState {
         matches!(self, MemberState::Spare)
     }
 
-    /// Whether the member has a role, but is more than one event behind.
+    /// Whether the member has a role, but is more than one event behind, or has another by its own superblock.
     pub fn is_stale(self) -> bool
         ensures { result ≡ is_stale self }
     {
@@ -98,7 +98,8 @@ impl MemberState {
     }
 }
 
-/// The state of a member by the freshest superblock and its own.
+/// The state of a member by the freshest superblock and its own. The freshest decides; but a member that is in sync or
+/// recovering bears its role in its own superblock, which is the first to tell of it.
 #[tactic(auto, unfolding(crate::specs::States::state_of))]
 pub fn state_of(freshest: &Superblock, own: &Superblock) -> MemberState
     ensures { result ≡ state_of freshest.now own.now }
@@ -110,7 +111,7 @@ pub fn state_of(freshest: &Superblock, own: &Superblock) -> MemberState
     if u32::from(role) >= freshest.raid_disks {
         return MemberState::Spare;
     }
-    if !is_up_to_date(freshest, own) {
+    if !is_up_to_date(freshest, own) || own.role_of(own.dev_number) != role {
         return MemberState::Stale(role);
     }
     if own.feature_map & FEATURE_RECOVERY_OFFSET != 0 {

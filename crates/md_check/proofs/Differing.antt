@@ -4,7 +4,7 @@ use Rattle.std.proofs.lemmas.Bool.{cases_lt}
 use Rattle.md_bitmap.specs.declared.chunks.Chunks.{Chunks}
 use Rattle.md_bitmap.specs.Chunks.{InChunk}
 use Rattle.md_bitmap.specs.Marks.{Bitmap, is_set}
-use Rattle.md_workers.proofs.Tests.{has_new, has_old, has_either}
+use Rattle.md_collect.proofs.WorkerLemmas.Tests.{has_new, has_old, has_either}
 use Rattle.md_check.specs.Differences.{AddsDifferent, AreDifferent, DifferBetween, DifferIn, DifferWithin, IsEmptySet}
 use Rattle.md_check.proofs.ChunkSectors.{chunk_is, in_its_chunk}
 

@@ -2,6 +2,8 @@
 mod SectorsRead
 -- A sector lies in one chunk.
 mod ChunkSectors
+-- A read of sectors of a chunk that failed, before other calls and after them.
+mod ChunkFaults
 -- Sets of chunks in which members differ, as more sectors are looked at.
 mod Differing
 -- A comparison, as more sectors are looked at.

@@ -11,16 +11,17 @@ use Rattle.md_device.proofs.Leaving.{leaves_none}
 use Rattle.md_bitmap.specs.Marks.{Bitmap, count_set, is_set}
 use Rattle.md_badblocks.specs.declared.run.Run.{Run}
 use Rattle.md_badblocks.specs.Runs.{IsBad}
-use Rattle.md_collect.specs.Reading.{CountsFailure}
+use Rattle.md_bitmap.specs.declared.chunks.Chunks.{Chunks}
+use Rattle.md_collect.specs.Reading.{CountsFailure, FailsInChunk}
 use Rattle.md_assembly.specs.States.{is_in_sync}
 use Rattle.md_assembly.proofs.Indices.{got_same, got_within}
 use Rattle.md_kept_members.specs.View.{MemberView}
-use Rattle.md_workers.specs.Queues.{OnlyRead}
+use Rattle.md_collect.specs.Workers.Queues.{OnlyRead}
 use Rattle.md_state.specs.DeviceChanges.{EachPair, IsUntouched, LeavesAsWas, StaysHonest}
 use Rattle.md_state.specs.Steps.MakeClean.{IsIdle}
 use Rattle.md_state.specs.Members.{IsAlone, IsMember}
 use Rattle.md_state.specs.Rests.{Rests}
-use Rattle.md_state.specs.View.{ArrayView, Disk, MirrorView, disk_of}
+use Rattle.md_state.specs.View.{ArrayView, Disk, MirrorView, disk_of, of_disks}
 use Rattle.md_array.specs.Consistency.{IsConsistent}
 use Rattle.md_array.specs.Steps.Lend.{AreBack, lent}
 use Rattle.md_array.specs.Worlds as worlds
@@ -38,6 +39,7 @@ use Rattle.md_check.specs.Readings.{MissesChunk, MissesIn}
 use Rattle.md_check.specs.Readers.{AreReadersHonest, AreReadersRead, HaveNotFailed, HasDataOnDevice, OnlyReaderRead, ReaderShows, on_device}
 use Rattle.md_check.proofs.Compared.{names_stay, pairs_stay, still_sized}
 use Rattle.md_check.proofs.Differing.{between_as, differ_as}
+use Rattle.md_state.proofs.Stays.{stays_read, stays_same}
 
 -- where at most one member is in sync no two differ
 pub alone_same : (disks : List Disk) (a : ArrayView) (c : ℕ) → IsAlone a → Mismatches disks a c → ⊥
@@ -52,13 +54,14 @@ alone_same disks a c alone m =
     (sym one.is ∙ ap (λ (x : Disk). held x.content (one.member.superblock.data_offset + m.sector) 512) disk
     ∙ ap (λ (x : MemberView). held other.disk.content (x.superblock.data_offset + m.sector) 512) member ∙ other.is)
 
+-- a read of a chunk that failed on a device, as it is seen of the mirror
+shown_there : {D : Type 0} (g : Ghosts D) (d e : Disk) (x y : D) (own offset chunk : ℕ) (chunks : Chunks) → d ≡ disk_of g x → e ≡ disk_of g y → own ≡ offset → FailsInChunk g x y own chunks chunk → FailsInChunk of_disks d e offset chunks chunk
+shown_there g d e x y own offset chunk chunks was now same fails = rw (was, now, ← same) fails
+
 -- a device that was only read
 module _ {D : Type 0} {g : Ghosts D} (d e : Disk) (x y : D) (was : d ≡ disk_of g x) (now : e ≡ disk_of g y) (only : OnlyRead g x y) where
   stays : StaysHonest d e
-  stays = record {
-    honest = ap (λ (z : Disk). z.honest) now ∙ only.honest_kept ∙ sym (ap (λ (z : Disk). z.honest) was);
-    counted = let a = ap (λ (z : Disk). z.failures) was in let b = ap (λ (z : Disk). z.failures) now in let up = only.counted in omega (arith, a, b, up);
-  }
+  stays = rw (was, now) (stays_read g x y only.honest_kept only.counted only.reads_alone)
 
   leaves : LeavesAsWas d e
   leaves = rw (was, now) only.crashes
@@ -68,7 +71,7 @@ pub rests_alone : (v : MirrorView) → Rests v v
 rests_alone v = record {
   array = refl;
   disks = record {
-    same = record { as_many = refl; honest = λ k d e at there. let same = got_same v.disks k e d there at in record { honest = ap (λ (x : Disk). x.honest) same; counted = let n = ap (λ (x : Disk). x.failures) same in omega (arith, n) } };
+    same = record { as_many = refl; honest = λ k d e at there. subst (StaysHonest d) (got_same v.disks k d e at there) (stays_same d) };
     content = λ k d e at there. ap (λ (x : Disk). x.content) (got_same v.disks k e d there at);
     within = λ k d e at there _. subst (λ (x : Disk). LeavesMore d.crashes x.crashes (λ left. left ≡ d.content)) (got_same v.disks k d e at there) (leaves_none d.crashes (λ left. left ≡ d.content));
   };
@@ -335,6 +338,15 @@ module _ {D : Type 0} (g : Ghosts D) (old : MirrorView) (sound : IsConsistent ol
         let after_it : e.failures ≡ g.failures w.new.device = ap (λ (x : Disk). x.failures) w.now in
         omega (arith, up, before, after_it)
 
+    -- and it failed a read of that chunk
+    failed_there : (k chunk : ℕ) (m : MemberView) → IsMember old.array k m → ((x : Reader D) → MissesChunk g old.array.chunks 0 old.array.chunks.size (get_or readers k x) (get_or news k x) chunk)
+        → (d e : Disk) → slice_get old.disks k ≡ Some d → slice_get after k ≡ Some e → FailsInChunk of_disks d e m.superblock.data_offset old.array.chunks chunk
+    failed_there k chunk m at misses d e here there =
+        let w = was_read k d e here there in
+        let it = both_at k w.reader w.new (λ a b. FailsInChunk g a.device b.device a.offset old.array.chunks chunk) w.reader_at w.new_at (misses w.reader).there in
+        let is = stands k w.reader d m w.reader_at here at in
+        shown_there g d e w.reader.device w.new.device w.reader.offset m.superblock.data_offset chunk old.array.chunks w.was w.now is.offset it
+
     -- no device of the first n counted a failure
     pub not_failed : (n : ℕ) → HaveNotFailed g n readers news → EachPair (λ k d e. k < n → e.failures ≡ d.failures) old.disks after
     not_failed n none k d e here there below =
@@ -381,5 +393,6 @@ module _ {D : Type 0} (g : Ghosts D) (old : MirrorView) (sound : IsConsistent ol
           inside = miss.read.inside;
           unlisted = λ bad. miss.read.unlisted (subst (λ (s : Reader D). IsBad s.listed miss.read.sector) (sym at) ((its.listed miss.read.sector).1 bad));
           failed = rw is (λ d e here there honest. failed_at k missed.chunk misses.misses d e here there honest);
+          there = rw is (λ d e here there. failed_there k missed.chunk m.0 m.1 misses.misses d e here there);
           earlier = rw is (not_failed k misses.earlier);
         }

@@ -8,8 +8,9 @@ use Rattle.md_bitmap.specs.declared.chunks.Chunks.{Chunks}
 use Rattle.md_badblocks.specs.declared.run.Run.{Run}
 use Rattle.md_badblocks.specs.Runs.{IsBad}
 use Rattle.md_collect.specs.Places.{HasRoom}
-use Rattle.md_collect.specs.Reading.{CountsFailure}
-use Rattle.md_workers.proofs.OnlyReads.{not_read, read_then}
+use Rattle.md_collect.specs.Reading.{CountsFailure, FailsInChunk}
+use Rattle.md_collect.proofs.WorkerLemmas.OnlyReads.{not_read, read_then}
+use Rattle.md_check.proofs.ChunkFaults.{chunk_since}
 use Rattle.md_check.specs.declared.reader.Reader.{Reader}
 use Rattle.md_check.specs.declared.lent.Missed.{Missed}
 use Rattle.md_check.specs.Readings.{HasReadSectors, HasTurned, HasUnlisted, IsLead, IsToRead, MissesIn}
@@ -73,7 +74,7 @@ module _ {D : Type 0} {g : Ghosts D} where
       → ((k : ℕ) (d : Reader D) → k < length olds → HasTurned g chunks from sectors n lead (get_or olds k d) (get_or news k d))
       → missed.member < length news → ((d : Reader D) → (get_or news missed.member d).missed ≡ Option.Some missed.chunk)
       → ((k : ℕ) (d : Reader D) → k < missed.member → (get_or news k d).missed ≡ None) → MissesIn g chunks firsts news missed
-  misses_in firsts olds news missed so_far unfailing same has within noted first_noted =
+  misses_in {chunks = chunks} firsts olds news missed so_far unfailing same has within noted first_noted =
       let k = missed.member in
       let many = so_far.as_many in
       let here : k < length olds = omega arith in
@@ -87,6 +88,8 @@ module _ {D : Type 0} {g : Ghosts D} where
               reads = ap is_some (sym (role_kept (get_or firsts k d) (get_or olds k d) one)) ∙ m.reads;
               read = read_at_all (get_or olds k d).listed (get_or firsts k d).listed (listed_kept (get_or firsts k d) (get_or olds k d) one) m.read;
               fails = λ honest. let up = m.fails (one.only_read.honest_kept ∙ honest) in let before = one.only_read.counted in omega arith;
+              there = chunk_since g (get_or firsts k d).device (get_or olds k d).device (get_or news k d).device (get_or firsts k d).offset chunks missed.chunk one.only_read
+                  (subst (λ (o : ℕ). FailsInChunk g (get_or olds k d).device (get_or news k d).device o chunks missed.chunk) (offset_kept (get_or firsts k d) (get_or olds k d) one) m.there);
             };
         earlier = turn_unfailing k firsts olds news (omega arith) has first_noted (λ j d below. unfailing j d (omega arith));
       }
@@ -229,7 +232,7 @@ module _ {D : Type 0} {g : Ghosts D} where
         long = has.long;
         gave = λ none reads honest. subst (λ (b : List ℕ). HasUnlisted (g.content old.device) old.offset old.listed 0 sectors b) (sym own) (has.gave none reads honest);
         size = let l = ap length own in let same = has.long in omega arith;
-        missed = λ c at. let m = has.missed c at in record { reads = m.reads; read = m.read; fails = m.fails };
+        missed = λ c at. let m = has.missed c at in record { reads = m.reads; read = m.read; fails = m.fails; there = m.there };
         unfailing = has.unfailing;
       }
 
@@ -243,7 +246,7 @@ module _ {D : Type 0} {g : Ghosts D} where
         gave = λ none reads honest. subst (λ (b : List ℕ). HasUnlisted (g.content old.device) old.offset old.listed from (length lead / 512) b) (sym own) (leads reads honest);
         size = let l = ap length own in omega arith;
         missed = λ c at. let m = has.missed c at in
-            record { reads = m.reads; read = later_to_read from (from + length lead / 512) ahead (length lead / 512 + ahead) (omega arith) (omega arith) m.read; fails = m.fails };
+            record { reads = m.reads; read = later_to_read from (from + length lead / 512) ahead (length lead / 512 + ahead) (omega arith) (omega arith) m.read; fails = m.fails; there = m.there };
         unfailing = has.unfailing;
       }
 
@@ -253,6 +256,6 @@ module _ {D : Type 0} {g : Ghosts D} where
     long = has.long;
     gave = has.gave;
     size = has.size;
-    missed = λ c at. let x = has.missed c at in record { reads = x.reads; read = later_to_read from from n m (omega arith) (omega arith) x.read; fails = x.fails };
+    missed = λ c at. let x = has.missed c at in record { reads = x.reads; read = later_to_read from from n m (omega arith) (omega arith) x.read; fails = x.fails; there = x.there };
     unfailing = has.unfailing;
   }

@@ -12,7 +12,8 @@ use Rattle.md_state.specs.Steps.MakeClean.{HasInFlight, IsIdle}
 use Rattle.md_state.specs.Members.{IsAlone, IsInSync, IsMember}
 use Rattle.md_state.specs.Rests.{Rests}
 use Rattle.md_state.specs.Trying.{Refuses, RefusesHalted}
-use Rattle.md_state.specs.View.{ArrayView, Disk, MirrorView}
+use Rattle.md_state.specs.View.{ArrayView, Disk, MirrorView, of_disks}
+use Rattle.md_collect.specs.Reading.{FailsInChunk}
 use Rattle.md_array.specs.Worlds.{AreHonest}
 use Rattle.md_check.specs.declared.fault.CheckFault.{CheckFault}
 use Rattle.md_check.specs.declared.fault.CheckFault.TheVariants.{Halted, InFlight, NoMemory, ReadFault}
@@ -68,8 +69,8 @@ pub record FindsOfPairs (before after : Comparison) (old new : MirrorView) : Typ
       → (c : ℕ) → (is_set after.chunks.bytes c ≡ true) ↔ Mismatches old.disks old.array c
   pub between : AreHonest old.disks → All (λ pair. AreBetween old.disks old.array pair) after.pairs.items
 
--- Member j is in sync, and the first whose device counts one failure more or several: it could not be read in a chunk of which it
--- does not list each sector.
+-- Member j is in sync, and the first whose device counts one failure more or several: a read of nothing but bytes of this chunk
+-- failed, of which it does not list each sector.
 pub record FailsChecking (old new : MirrorView) (j c : ℕ) : Type 0 where
   pub idle : IsIdle old.array
   pub rests : Rests old new
@@ -80,6 +81,7 @@ pub record FailsChecking (old new : MirrorView) (j c : ℕ) : Type 0 where
   pub inside : InChunk old.array.chunks.sectors old.array.chunks.size c sector
   pub unlisted : IsBad member.bad (member.superblock.data_offset + sector) → ⊥
   pub failed : AtDevice j old.disks new.disks (λ d e. d.honest ≡ true → d.failures < e.failures)
+  pub there : AtDevice j old.disks new.disks (λ d e. FailsInChunk of_disks d e member.superblock.data_offset old.array.chunks c)
   pub earlier : EachPair (λ k d e. k < j → e.failures ≡ d.failures) old.disks new.disks
 
 abbrev pub RefusesCheck : MirrorView → MirrorView → CheckFault → Type 0

@@ -5,7 +5,7 @@ use Rattle.md_device.specs.declared.device.Device.{Ghosts}
 use Rattle.md_bitmap.specs.declared.chunks.Chunks.{Chunks}
 use Rattle.md_badblocks.specs.Runs.{IsBad}
 use Rattle.md_collect.specs.Places.{HasRoom}
-use Rattle.md_workers.specs.Queues.{OnlyRead}
+use Rattle.md_collect.specs.Workers.Queues.{OnlyRead}
 use Rattle.md_check.specs.declared.reader.Reader.{Reader}
 
 module _ {D : Type 0} where

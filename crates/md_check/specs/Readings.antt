@@ -6,7 +6,7 @@ use Rattle.md_bitmap.specs.declared.chunks.Chunks.{Chunks}
 use Rattle.md_bitmap.specs.Chunks.{InChunk}
 use Rattle.md_badblocks.specs.declared.run.Run.{Run}
 use Rattle.md_badblocks.specs.Runs.{IsBad}
-use Rattle.md_collect.specs.Reading.{CountsFailure}
+use Rattle.md_collect.specs.Reading.{CountsFailure, FailsInChunk}
 use Rattle.md_check.specs.declared.reader.Reader.{Reader}
 use Rattle.md_check.specs.declared.lent.Missed.{Missed}
 use Rattle.md_check.specs.Readers.{HasNotFailed, HaveNotFailed, OnlyReaderRead, shown_of}
@@ -25,11 +25,13 @@ pub record IsToRead (chunks : Chunks) (listed : List Run) (from n c : ℕ) : Typ
   pub unlisted : IsBad listed sector → ⊥
 
 module _ {D : Type 0} (g : Ghosts D) where
-  -- the member is read, and could not be in a chunk that has one of these n sectors, which it does not list
+  -- the member is read, and could not be in a chunk that has one of these n sectors, which it does not list: a read of nothing but
+  -- bytes of that chunk failed
   pub record MissesChunk (chunks : Chunks) (from n : ℕ) (old new : Reader D) (c : ℕ) : Type 0 where
     pub reads : is_some old.role ≡ true
     pub read : IsToRead chunks old.listed from n c
     pub fails : CountsFailure g old.device new.device
+    pub there : FailsInChunk g old.device new.device old.offset chunks c
 
   -- a reader before and after it was read into its buffer: this many sectors from this one on
   pub record HasReadSectors (chunks : Chunks) (from sectors : ℕ) (old new : Reader D) : Type 0 where

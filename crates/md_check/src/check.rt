@@ -14,8 +14,8 @@ use crate::pairs::pairs_in_sync;
 use crate::readers::{leave_readers, readers_of};
 use md_array::Mirror;
 use md_bitmap::Marks;
+use md_collect::Gate;
 use md_device::Device;
-use md_workers::Gate;
 use std::alloc::Global;
 use std::thread::Threads;
 

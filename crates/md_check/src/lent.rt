@@ -12,8 +12,8 @@ use crate::reader::Reader;
 use crate::turn::{first_turn, turn};
 use crate::window::Window;
 use md_bitmap::Chunks;
+use md_collect::Gate;
 use md_device::Device;
-use md_workers::Gate;
 use std::mem;
 use std::thread::Threads;
 

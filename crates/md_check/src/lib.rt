@@ -27,4 +27,4 @@ mod work;
 pub use check::{check_array, compare_members};
 pub use fault::CheckFault;
 pub use found::{Comparison, Pair};
-pub use md_workers::Gate;
+pub use md_collect::Gate;

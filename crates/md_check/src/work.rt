@@ -3,8 +3,9 @@ ghost use Rattle.std.specs.Prelude.{◌≡◌, ◌+◌, ◌*◌, ◌/◌, ◌%�
 ghost use Rattle.md_device.specs.Device.{held};
 ghost use Rattle.md_badblocks.specs.Runs.{IsBad};
 ghost use Rattle.md_collect.specs.Places.{HasRoom};
-ghost use Rattle.md_collect.specs.Reading.{CountsFailure};
-ghost use Rattle.md_workers.specs.Queues.{OnlyRead};
+ghost use Rattle.md_device.specs.Failing.{AddsItself, failed_read};
+ghost use Rattle.md_collect.specs.Reading.{CountsFailure, FailsInChunk};
+ghost use Rattle.md_collect.specs.Workers.Queues.{OnlyRead};
 ghost use Rattle.md_check.specs.Readings.{HasLed, HasReadSectors, HasTurned, HasUnlisted, IsLead, IsToRead};
 ghost use Rattle.md_check.specs.Readers.{HasDataOnDevice, IsUsed};
 
@@ -12,8 +13,8 @@ use crate::reader::Reader;
 use crate::window::{Part, Window};
 use md_badblocks::BadSet;
 use md_bitmap::Chunks;
+use md_collect::Gate;
 use md_device::{Device, ReadFault};
-use md_workers::Gate;
 
 // How many sectors are compared at once, 64 KiB: what was just read is then still in the processor's cache.
 const BLOCK: usize = 128 * 512;
@@ -137,6 +138,7 @@ fn read_beside<D: Device, G: Gate>(
     ensures unfailing { OnOk result (D.failures reader.new.device ≡ D.failures reader.old.device) }
     ensures missed { IfErr result (λ c. IsToRead chunks reader.old.listed from (length lead.now / 512) c) }
     ensures failed { OnErr result (CountsFailure D.Device reader.old.device reader.new.device) }
+    ensures there { IfErr result (λ c. FailsInChunk D.Device reader.old.device reader.new.device reader.old.offset chunks c) }
 {
     if is_read_alike(gate, chunks, from, lead, role, reader)? {
         return Ok(true);
@@ -164,6 +166,7 @@ fn is_read_alike<D: Device, G: Gate>(
     ensures unfailing { OnOk result (D.failures reader.new.device ≡ D.failures reader.old.device) }
     ensures missed { IfErr result (λ c. IsToRead chunks reader.old.listed from (length lead.now / 512) c) }
     ensures failed { OnErr result (CountsFailure D.Device reader.old.device reader.new.device) }
+    ensures there { IfErr result (λ c. FailsInChunk D.Device reader.old.device reader.new.device reader.old.offset chunks c) }
 {
     let mut done = 0;
     while done < lead.len() {
@@ -199,6 +202,7 @@ fn is_block_alike<D: Device, G: Gate>(
     ensures unfailing { OnOk result (D.failures reader.new.device ≡ D.failures reader.old.device) }
     ensures missed { IfErr result (λ c. IsToRead chunks reader.old.listed from (length block.now / 512) c) }
     ensures failed { OnErr result (CountsFailure D.Device reader.old.device reader.new.device) }
+    ensures there { IfErr result (λ c. FailsInChunk D.Device reader.old.device reader.new.device reader.old.offset chunks c) }
 {
     let sectors = block.len() as u64 / 512;
     read_into(gate, chunks, Part { from, sectors }, role, reader)?;
@@ -230,6 +234,7 @@ fn read_into<D: Device, G: Gate>(
     ensures unfailing { OnOk result (D.failures reader.new.device ≡ D.failures reader.old.device) }
     ensures missed { IfErr result (λ c. IsToRead chunks reader.old.listed part.from part.sectors c) }
     ensures failed { OnErr result (CountsFailure D.Device reader.old.device reader.new.device) }
+    ensures there { IfErr result (λ c. FailsInChunk D.Device reader.old.device reader.new.device reader.old.offset chunks c) }
 {
     read_part(
         gate,
@@ -263,6 +268,7 @@ fn read_part<D: Device, G: Gate>(
     ensures unfailing { OnOk result (D.failures device.new ≡ D.failures device.old) }
     ensures missed { IfErr result (λ c. IsToRead chunks listed.now part.from part.sectors c) }
     ensures failed { OnErr result (CountsFailure D.Device device.old device.new) }
+    ensures there { IfErr result (λ c. FailsInChunk D.Device device.old device.new offset chunks c) }
 {
     let mut done = 0;
     while done < part.sectors {
@@ -296,6 +302,7 @@ fn read_front<D: Device, G: Gate>(
     ensures unfailing { OnOk result (D.failures device.new ≡ D.failures device.old) }
     ensures missed { IfErr result (λ c. IsToRead chunks listed.now sector 1 c) }
     ensures failed { OnErr result (CountsFailure D.Device device.old device.new) }
+    ensures there { IfErr result (λ c. FailsInChunk D.Device device.old device.new offset chunks c) }
 {
     let chunk = chunks.chunk_of(sector);
     let (start, sectors) = chunks.range(chunk);
@@ -342,6 +349,7 @@ fn read_run<D: Device>(
         → buf.new ≡ held (D.content device.old) (offset + sector) (length buf.old)) }
     ensures unfailing { OnOk result (D.failures device.new ≡ D.failures device.old) }
     ensures failed { OnErr result (CountsFailure D.Device device.old device.new) }
+    ensures there { AddsItself result (failed_read (offset + sector) (length buf.old)) (D.faults device.old) (D.faults device.new) }
 {
     let _limit = device.sectors();
     device.read(offset + sector, buf)

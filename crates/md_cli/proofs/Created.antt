@@ -10,8 +10,8 @@ use Rattle.md_create.specs.Values.{AreMembers}
 use Rattle.md_create.specs.declared.params.CreateParams.{CreateParams}
 use Rattle.md_create.specs.declared.params.NewMember.{NewMember}
 use Rattle.md_state.specs.View.{Disk}
-use Rattle.md_held.specs.declared.held.Held.{Held}
-use Rattle.md_held.specs.Holding.{LooksAtEach}
+use Rattle.md_notices.specs.declared.held.held.Held.{Held}
+use Rattle.md_notices.specs.Held.Holding.{LooksAtEach}
 use Rattle.md_cli.specs.Creating.{AreLaidOut, AreNewMembers, At, sizes_of}
 use Rattle.md_images.specs.Taking.{image_list}
 use Rattle.md_cli.proofs.Counted.{has_room, member_count}

@@ -68,10 +68,10 @@ all_laid before now members n so = record { as_many = so.as_many; each = so.each
 -- what a call says of a device it says of the device as contracts see it
 module _ {D : Type 0} (g : Ghosts D) (d e : D) (m : NewMember) where
   pub does_on_disk : DoesWrites g (writes_of m) d e → LaysOut (disk_of g d) (disk_of g e) m
-  does_on_disk h = record { kept = record { size = h.kept.size; honest_kept = h.kept.honest_kept; counted = h.kept.counted }; unfailing = h.unfailing; all_done = h.all_done; within = h.within }
+  does_on_disk h = record { kept = record { size = h.kept.size; honest_kept = h.kept.honest_kept; counted = h.kept.counted; grown = h.kept.grown }; unfailing = h.unfailing; none_failed = h.none_failed; all_done = h.all_done; within = h.within }
 
   pub stops_on_disk : FailsInWrites g (writes_of m) d e → FailsInLayout (disk_of g d) (disk_of g e) m
-  stops_on_disk h = record { kept = record { size = h.kept.size; honest_kept = h.kept.honest_kept; counted = h.kept.counted }; failed = h.failed; done = h.done; tried = h.tried; rest = h.rest; order = h.order; outside = h.outside; within = h.within }
+  stops_on_disk h = record { kept = record { size = h.kept.size; honest_kept = h.kept.honest_kept; counted = h.kept.counted; grown = h.kept.grown }; failed = h.failed; done = h.done; tried = h.tried; rest = h.rest; order = h.order; tried_alone_failed = h.tried_alone_failed; outside = h.outside; within = h.within }
 
 -- the first list of devices with one that was written to
 pub with_disk : {D : Type 0} (g : Ghosts D) (devices : List D) (n : ℕ) (e : D) → map (disk_of g) (set devices n e) ≡ set (map (disk_of g) devices) n (disk_of g e)

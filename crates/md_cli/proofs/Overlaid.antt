@@ -1,5 +1,5 @@
 -- Overlays over devices, as contracts see devices.
-use Rattle.std.proofs.Common.{◌≡◌, ◌+◌, List, [], ◌∷◌, map, refl, ap}
+use Rattle.std.proofs.Common.{◌≡◌, List, [], ◌∷◌, length, map, refl, ap}
 use Rattle.md_device.specs.declared.device.Device.{Ghosts}
 use Rattle.md_device.specs.Overlay.{Overlay}
 use Rattle.md_state.specs.View.{disk_of}
@@ -9,7 +9,7 @@ use Rattle.md_cli.specs.Arrays.{overlaid}
 
 -- an overlay over a device that is looked at, as contracts of `Device` see it
 abbrev pub overlay_ghosts : Ghosts (Overlay View)
-overlay_ghosts = record { content = λ o. o.content; honest = λ o. o.inner.honest; failures = λ o. o.refused + o.inner.failed; crashes = λ _. [] }
+overlay_ghosts = record { content = λ o. o.content; honest = λ o. o.inner.honest; faults = λ o. o.faults; failures = λ o. length o.faults; crashes = λ _. [] }
 
 -- overlays over devices are their disks, overlaid
 pub shown_over : {D : Type 0} (g : Ghosts D) (ds : List D) → map (disk_of overlay_ghosts) (map (overlay_over g.content g.honest) ds) ≡ map overlaid (map (disk_of g) ds)

@@ -116,7 +116,7 @@ module _ {R S : Type 0} (r : SourceGhosts R) (s : SinkGhosts S) (names : List Te
     within = λ _. le_refl _;
     moves = λ _. refl;
   }
-  all_kept (re_adds name) result brings h = record {
+  all_kept (re_adds name full) result brings h = record {
     as_many = joins_count before.mirror.disks after.mirror.disks after.beside h.1.kept ∙ ap (λ (n : ℕ). length before.mirror.disks + n) (sym (one_there before.beside h.1.device h.1.is));
     within = λ _. le_refl _;
     moves = λ _. refl;

@@ -31,7 +31,7 @@ use Rattle.md_cli.specs.Streams.{Told}
 -- a device that is only looked at, and over which what is written is kept in memory: no call on it has failed yet, and no
 -- crash leaves any of what is written
 abbrev pub overlaid : Disk → Disk
-overlaid d = record d { failures = 0; crashes = [] }
+overlaid d = record d { faults = []; failures = 0; crashes = [] }
 
 module _ {X : Type 0} where
   -- they are not opened as a mirror, and nothing is read or put out

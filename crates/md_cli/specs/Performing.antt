@@ -1,5 +1,7 @@
 -- What commands do with an opened array.
-use Rattle.std.specs.Prelude.{◌≡◌, ℕ, Bool, true, false, List, Some, Result, MatchResult}
+use Rattle.std.specs.Prelude.{◌≡◌, ℕ, Bool, true, false, List, Some, Result, MatchResult, if◌then◌else◌}
+use Rattle.md_metadata.specs.declared.coming_back.extent_of_rebuild.RebuildExtent.{RebuildExtent}
+use Rattle.md_metadata.specs.declared.coming_back.extent_of_rebuild.RebuildExtent.TheVariants.{All, Marked}
 use Rattle.md_commands.specs.declared.source.Source.{Ghosts as SourceGhosts}
 use Rattle.md_commands.specs.Adding.{AddsDevice, KeepsDevice, RefusesJoining}
 use Rattle.md_commands.specs.Checking.{ChecksMembers, ListsMismatches, RefusesToCheck, RefusesToList}
@@ -26,6 +28,10 @@ use Rattle.md_words.specs.declared.form.CheckForm.{CheckForm}
 use Rattle.md_words.specs.declared.form.CheckForm.TheVariants as check_form
 use Rattle.md_cli.specs.Opened.{OpenedView}
 use Rattle.md_cli.specs.Streams.{Streams}
+
+-- what a member that comes back is rebuilt in: what is marked, or all of it
+abbrev pub rebuild_extent : Bool → RebuildExtent
+rebuild_extent full = if full then All else Marked
 
 module _ {S : Type 0} (s : SinkGhosts S) where
   -- Sectors of the array are put out: after a resync where one is needed or, where no image may be changed, as they would be after it.
@@ -83,14 +89,14 @@ module _ {S : Type 0} (s : SinkGhosts S) where
         (RefusesJoining s device after.beside before.mirror after.mirror old new)
 
   -- it comes back, and gets what it lacks
-  pub record PerformsReAdd (before after : OpenedView) (old new : S)
+  pub record PerformsReAdd (extent : RebuildExtent) (before after : OpenedView) (old new : S)
       (result : Result (Unit {0}) CommandFault) : Type 0 where
     pub device : Disk
     pub is : before.beside ≡ Some device
     pub kept : KeepsDevice before.mirror.disks after.mirror.disks after.beside
     pub re_adds : MatchResult result
-        (λ _. StopsArrayAfter s (ReAddsDevice device before.mirror) after.mirror old new)
-        (RefusesToReAdd s device after.beside before.mirror after.mirror old new)
+        (λ _. StopsArrayAfter s (ReAddsDevice extent device before.mirror) after.mirror old new)
+        (RefusesToReAdd s extent device after.beside before.mirror after.mirror old new)
 
 module _ {R S : Type 0} (r : SourceGhosts R) (s : SinkGhosts S) (names : List Text) where
   -- The array as it was opened and as it is left, from the images of these names, that of a device which joins last; and the streams
@@ -139,8 +145,9 @@ module _ {R S : Type 0} (r : SourceGhosts R) (s : SinkGhosts S) (names : List Te
       (new.input ≡ old.input) × PerformsRemove s k before after old.output new.output result
   Performs (adds name) before after old new result =
       (new.input ≡ old.input) × PerformsAdd s before after old.output new.output result
-  Performs (re_adds name) before after old new result =
-      (new.input ≡ old.input) × PerformsReAdd s before after old.output new.output result
+  Performs (re_adds name full) before after old new result =
+      (new.input ≡ old.input)
+      × PerformsReAdd s (rebuild_extent full) before after old.output new.output result
   Performs (rebuilds k) before after old new result =
       (after.beside ≡ before.beside) × (new.input ≡ old.input)
       × MatchResult result

@@ -27,6 +27,6 @@ told_of session notices = record { streams = streams_of session; notices = notic
 abbrev pub OnlyPutsOut : {R S : Type 0} → Told R S → Told R S → Type 0
 OnlyPutsOut old new = new ≡ record old { streams = record old.streams { output = new.streams.output } }
 
--- who reads standard error, where so much is told: what a command is asked of was shown before, where the session's watch shows lines
+-- who reads standard error, where so much is told: what a command is asked of was shown there before, where the session's watch says so
 abbrev pub audience_of : {T R S W : Type 0} → AskerGhosts W → Session T R S W → Messages → Audience
-audience_of w session messages = record { messages = messages; was_shown = w.shows session.watch.now }
+audience_of w session messages = record { messages = messages; was_shown = w.told_first session.watch.now }

@@ -15,10 +15,10 @@ use crate::opened::Opened;
 use crate::session::Session;
 use md_array::Mirror;
 use md_commands::{
-    CommandFault, Source, Watch, add_device, check_members, check_members_json, fail_member,
-    list_mismatches, re_add_device, rebuild_member, remove_member, resync_array, show_detail,
-    show_detail_json, show_plan, show_plan_json, show_summary, show_summary_json, stop_array,
-    write_array,
+    CommandFault, RebuildExtent, Source, Watch, add_device, check_members, check_members_json,
+    fail_member, list_mismatches, re_add_device, rebuild_member, remove_member, resync_array,
+    show_detail, show_detail_json, show_plan, show_plan_json, show_summary, show_summary_json,
+    stop_array, write_array,
 };
 use md_device::Device;
 use md_examine::Sink;
@@ -84,7 +84,14 @@ pub(crate) fn perform<
         }
         Command::Remove { member } => remove(opened, member, &mut session.out),
         Command::Add { .. } => add(alloc, opened, &mut session.out),
-        Command::ReAdd { .. } => re_add(rt, alloc, opened, watch, &mut session.out),
+        Command::ReAdd { full: true, .. } => {
+            let out = &mut session.out;
+            re_add(rt, alloc, opened, RebuildExtent::All, watch, out)
+        }
+        Command::ReAdd { full: false, .. } => {
+            let out = &mut session.out;
+            re_add(rt, alloc, opened, RebuildExtent::Marked, watch, out)
+        }
         Command::Rebuild { member } => {
             let out = &mut session.out;
             Ok(rebuild_member(rt, alloc, &mut opened.mirror, member, watch, out)?)
@@ -283,19 +290,28 @@ fn re_add<D: Device + Drop + Send, T: Threads + Wait + Sync, W: Watch + Sync, S:
     rt: &T,
     alloc: Global,
     opened: &mut Opened<D>,
+    extent: RebuildExtent,
     watch: &W,
     out: &mut S,
 ) -> Result<(), CommandFault>
     requires sound { IsConsistent opened.old.mirror }
     requires some { is_some opened.old.beside ≡ true }
-    ensures re_adds { PerformsReAdd S.Sink
+    ensures re_adds { PerformsReAdd S.Sink extent
         (opened_view D.Device opened.old) (opened_view D.Device opened.new) out.old out.new result }
     ensures flushed { IfOk result (λ _. S.is_flushed out.new) }
 {
     let Some(device) = opened.beside.take() else {
         unreachable!()
     };
-    let (device, re_added) = re_add_device(rt, alloc, &mut opened.mirror, device, watch, out);
+    let (device, re_added) = re_add_device(
+        rt,
+        alloc,
+        &mut opened.mirror,
+        device,
+        extent,
+        watch,
+        out,
+    );
     opened.beside = device;
     Ok(re_added?)
 }

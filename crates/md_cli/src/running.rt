@@ -13,13 +13,14 @@ use crate::create_options::params_of;
 use crate::creating::create_images;
 use crate::session::Session;
 use clap::Error;
-use md_advice::advise;
 use md_badblocks::BadSet;
 use md_commands::{CommandFault, Source, Watch};
 use md_examine::Sink;
 use md_examine_commands::examine_images;
 use md_images::Images;
-use md_messages::{Asker, Audience, Messages, Notices, put_missing_lines, put_refused, put_told};
+use md_messages::{
+    Asker, Audience, Messages, Notices, advise, put_missing_lines, put_refused, put_told,
+};
 use md_words::{Command, CreateOptions, Request};
 use std::alloc::Global;
 use std::io::Write;
@@ -82,7 +83,7 @@ pub fn run<
     let mut notices = Notices::none();
     let audience = Audience {
         messages,
-        was_shown: session.watch.is_there(),
+        was_shown: session.watch.is_told_first(),
     };
     let outcome = act(session, request.command, images, names, &mut notices);
     let missing = &session.missing;

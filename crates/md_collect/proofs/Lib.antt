@@ -2,3 +2,6 @@ pub mod Search
 pub mod Counts
 pub mod Lists
 pub mod Crashes
+mod Faults
+-- What reads members side by side.
+pub mod WorkerLemmas

@@ -10,3 +10,5 @@ pub mod Collecting
 pub mod Lists
 -- What becomes of the collector and its target when a report is taken.
 pub mod Targets
+-- What reads members side by side.
+pub mod Workers

@@ -1,10 +1,16 @@
 -- A chunk is read from a source.
-use Rattle.std.specs.Prelude.{◌≡◌, ◌<◌, ◌≤◌, ℕ, List, length, true, None, IfOk, IfSome, IsSome, OnErr, Result}
+use Rattle.std.specs.Prelude.{◌≡◌, ◌+◌, ◌<◌, ◌≤◌, ℕ, List, length, true, None, IfOk, IfSome, IsSome, OnErr, Result}
 use Rattle.md_device.specs.declared.device.Device.{Ghosts}
+use Rattle.md_device.specs.declared.fault_list.Fault.{Fault}
 use Rattle.md_device.specs.Crashes.{LeavesMore}
+use Rattle.md_device.specs.Failing.{EachNewFault, SomeNewFault, IsReadWithin}
 use Rattle.md_bitmap.specs.declared.chunks.Chunks.{Chunks}
-use Rattle.md_collect.specs.Places.{bytes_of_chunk, chunk_on}
+use Rattle.md_collect.specs.Places.{bytes_of_chunk, chunk_on, start_of}
 use Rattle.md_collect.specs.Reports.{ReportView}
+
+-- a read of nothing but bytes of the chunk, on a member whose data start at this sector
+abbrev pub IsReadOfChunk : ℕ → Chunks → ℕ → Fault → Type 0
+IsReadOfChunk offset chunks chunk = IsReadWithin (offset + start_of chunks chunk) (bytes_of_chunk chunks chunk)
 
 module _ {D : Type 0} (g : Ghosts D) where
   -- these bytes are the source's own
@@ -14,6 +20,10 @@ module _ {D : Type 0} (g : Ghosts D) where
   -- the device has counted a failure
   abbrev pub CountsFailure : D → D → Type 0
   CountsFailure old new = g.honest old ≡ true → g.failures old < g.failures new
+
+  -- a read of the chunk failed in between
+  abbrev pub FailsInChunk : D → D → ℕ → Chunks → ℕ → Type 0
+  FailsInChunk old new offset chunks chunk = SomeNewFault (g.faults old) (g.faults new) (IsReadOfChunk offset chunks chunk)
 
   -- a crash leaves what the device held before
   abbrev pub LeavesContent : D → D → Type 0
@@ -26,6 +36,9 @@ module _ {D : Type 0} (g : Ghosts D) where
     pub delivered : IfOk result (λ r. IfSome r.bytes (IsChunkOf old offset chunks chunk))
     pub unfailing : IfOk result (λ r. IsSome r.bytes → g.failures new ≡ g.failures old)
     pub failed : IfOk result (λ r. r.bytes ≡ None → CountsFailure old new)
+    pub failed_there : IfOk result (λ r. r.bytes ≡ None → FailsInChunk old new offset chunks chunk)
+    pub no_other_failed : EachNewFault (g.faults old) (g.faults new) (IsReadOfChunk offset chunks chunk)
+    pub none_failed : IfOk result (λ r. IsSome r.bytes → g.faults new ≡ g.faults old)
     pub err : OnErr result (new ≡ old)
     pub kept : g.content new ≡ g.content old
     pub honest : g.honest new ≡ g.honest old

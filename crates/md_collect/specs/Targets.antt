@@ -1,9 +1,10 @@
 -- What becomes of the collector and its target when a report is taken.
-use Rattle.std.specs.Prelude.{◌≡◌, ℕ, ◌+◌, ◌*◌, List, true, None, Some, Result, Err}
+use Rattle.std.specs.Prelude.{◌≡◌, ℕ, ◌+◌, ◌*◌, ◌++◌, ◌∷◌, [], List, true, None, Some, Result, Err}
 use Rattle.std.specs.Result.{result_err}
 use Rattle.md_device.specs.declared.device.Device.{Ghosts}
 use Rattle.md_device.specs.Splice.{SameOutside}
 use Rattle.md_device.specs.Crashes.{LeavesMore}
+use Rattle.md_device.specs.Failing.{failed_write}
 use Rattle.md_collect.specs.Places.{start_of, bytes_of_chunk}
 use Rattle.md_collect.specs.declared.refusal.Refusal.{Refusal}
 use Rattle.md_collect.specs.declared.refusal.Refusal.TheVariants.{TargetFault}
@@ -43,6 +44,11 @@ module _ {D : Type 0} (g : Ghosts D) where
   -- the target has the report's bytes in its chunk
   abbrev pub HoldsReport : CollectorView → D → D → ReportView → Type 0
   HoldsReport v before after r = g.honest before ≡ true → g.content after ≡ with_report (copying v) (g.content before) r
+
+  -- the write of all of the chunk failed, and no other call
+  abbrev pub FailsChunkWrite : CollectorView → ℕ → D → D → Type 0
+  FailsChunkWrite v chunk before after =
+      g.faults after ≡ g.faults before ++ failed_write (v.offset + start_of v.chunks chunk) (bytes_of_chunk v.chunks chunk) ∷ []
 
   -- the step of a list of reports
   abbrev pub TakesStep : CollectorView → CollectorView → D → D → ReportView → Result (Unit {0}) Refusal → Type 0

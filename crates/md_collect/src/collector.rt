@@ -1,10 +1,11 @@
 // What is delivered of planned chunks goes to the target, each chunk once.
 ghost use Rattle.std.specs.Prelude.{◌≡◌, ◌≤◌, Err, IfNone, IfOk, None, OnOk};
+ghost use Rattle.md_device.specs.Failing.{OnlyWritesFailed};
 ghost use Rattle.md_collect.specs.Places.{HasRoom, IsChunk};
 ghost use Rattle.md_collect.specs.Reports.{has_length};
 ghost use Rattle.md_collect.specs.Reading.{CountsFailure};
 ghost use Rattle.md_collect.specs.Collecting.{ArePlanned, CollectorView, IsCounted, IsUnreported, report_refusal, reports_of};
-ghost use Rattle.md_collect.specs.Targets.{ChangesChunk, HoldsReport, KeepsCopy, LeavesBesideChunk, RefusesFirst, SpoilsAtFault, TakesStep};
+ghost use Rattle.md_collect.specs.Targets.{ChangesChunk, FailsChunkWrite, HoldsReport, KeepsCopy, LeavesBesideChunk, RefusesFirst, SpoilsAtFault, TakesStep};
 
 use crate::planned::is_planned;
 use crate::refusal::Refusal;
@@ -62,8 +63,8 @@ impl Collector {
 
     /// Takes a report. Where it counts, its bytes are written to the target. It takes no memory.
     ///
-    /// A refusal changes nothing, but for `TargetFault`: after it the chunk may hold any bytes, and
-    /// no later report counts.
+    /// A refusal changes nothing, but for `TargetFault`, where the write of this very chunk failed: after it the
+    /// chunk may hold any bytes, and no later report counts.
     pub fn take<D: Device>(&mut self, target: &mut D, report: Report) -> Result<(), Refusal>
         requires { HasRoom (D.content target.old) self.old.offset self.old.chunks }
 
@@ -74,20 +75,23 @@ impl Collector {
         ensures unwritten { report.bytes ≡ None → target.new ≡ target.old }
         ensures fault { SpoilsAtFault self.old self.new report result }
         ensures failed { result ≡ Err Refusal.TargetFault → CountsFailure D.Device target.old target.new }
+        ensures failed_there { result ≡ Err Refusal.TargetFault → FailsChunkWrite D.Device self.old report.chunk target.old target.new }
         ensures takes { TakesStep D.Device self.old self.new target.old target.new report result }
 
         ensures kept { KeepsCopy self.old self.new }
         ensures outside { ChangesChunk self.old report.chunk (D.content target.old) (D.content target.new) }
         ensures honest { D.honest target.new ≡ D.honest target.old }
         ensures counted { D.failures target.old ≤ D.failures target.new }
+        ensures grown { OnlyWritesFailed (D.faults target.old) (D.faults target.new) }
         ensures unfailing { OnOk result (D.failures target.new ≡ D.failures target.old) }
+        ensures none_failed { OnOk result (D.faults target.new ≡ D.faults target.old) }
         ensures within { LeavesBesideChunk D.Device self.old report.chunk target.old target.new }
     {
         self.take_ref(target, &report)
     }
 
     /// Takes a report whose memory is to be used again.
-    #[tactic(auto, unfolding(crate::specs::Places::with_chunk), using(md_device::proofs::Leaving::leaves_none, crate::proofs::Crashes::leaves_beside))]
+    #[tactic(auto, unfolding(crate::specs::Places::with_chunk), using(md_device::proofs::Leaving::leaves_none, md_device::proofs::Failing::fails_none, md_device::proofs::Failing::fails_call, crate::proofs::Crashes::leaves_beside))]
     pub fn take_ref<D: Device>(&mut self, target: &mut D, report: &Report) -> Result<(), Refusal>
         requires { HasRoom (D.content target.old) self.old.offset self.old.chunks }
 
@@ -98,13 +102,16 @@ impl Collector {
         ensures unwritten { report.now.bytes ≡ None → target.new ≡ target.old }
         ensures fault { SpoilsAtFault self.old self.new report.now result }
         ensures failed { result ≡ Err Refusal.TargetFault → CountsFailure D.Device target.old target.new }
+        ensures failed_there { result ≡ Err Refusal.TargetFault → FailsChunkWrite D.Device self.old report.now.chunk target.old target.new }
         ensures takes { TakesStep D.Device self.old self.new target.old target.new report.now result }
 
         ensures kept { KeepsCopy self.old self.new }
         ensures outside { ChangesChunk self.old report.now.chunk (D.content target.old) (D.content target.new) }
         ensures honest { D.honest target.new ≡ D.honest target.old }
         ensures counted { D.failures target.old ≤ D.failures target.new }
+        ensures grown { OnlyWritesFailed (D.faults target.old) (D.faults target.new) }
         ensures unfailing { OnOk result (D.failures target.new ≡ D.failures target.old) }
+        ensures none_failed { OnOk result (D.faults target.new ≡ D.faults target.old) }
         ensures within { LeavesBesideChunk D.Device self.old report.now.chunk target.old target.new }
     {
         if let Some(why) = self.refusal(report) {

@@ -1,6 +1,6 @@
 -- A check leaves the array as it is, whatever comes of it.
 use Rattle.std.proofs.Common.{◌≡◌, ℕ, Result, Ok, Err, MatchResult, ap, subst, sym}
-use Rattle.md_requests.specs.Pending.{PendingView}
+use Rattle.md_inflight.specs.Requests.Pending.{PendingView}
 use Rattle.md_state.specs.Requests.{IsPending}
 use Rattle.md_state.specs.View.{ArrayView, MirrorView}
 use Rattle.md_check.specs.declared.fault.CheckFault.{CheckFault}

@@ -6,7 +6,7 @@ use Rattle.std.proofs.lemmas.Option.{none-some, slice_get_within}
 use Rattle.md_bitmap.specs.declared.chunks.Chunks.{Chunks}
 use Rattle.md_model.specs.Devices.{Stored, Super}
 use Rattle.md_model.specs.Events.{Event}
-use Rattle.md_requests.specs.Pending.{PendingView}
+use Rattle.md_inflight.specs.Requests.Pending.{PendingView}
 use Rattle.md_faults.specs.declared.add_fault.AddFault.{AddFault}
 use Rattle.md_faults.specs.declared.add_fault.AddFault.TheVariants as add
 use Rattle.md_faults.specs.declared.step_fault.BeginFault.{BeginFault}
@@ -15,7 +15,7 @@ use Rattle.md_faults.specs.declared.step_fault.FailFault.{FailFault}
 use Rattle.md_faults.specs.declared.step_fault.FailFault.TheVariants as fail
 use Rattle.md_faults.specs.declared.step_fault.RemoveFault.{RemoveFault}
 use Rattle.md_faults.specs.declared.step_fault.RemoveFault.TheVariants as remove
-use Rattle.md_stored_members.specs.Storing.{log_writes}
+use Rattle.md_kept_members.specs.OnDevices.Storing.{log_writes}
 use Rattle.md_state.specs.Steps.Fail.{FailsMember, RefusesFail}
 use Rattle.md_state.specs.Steps.Remove.{RefusesRemove, Removes}
 use Rattle.md_state.specs.Requests.{AreInFlight, among, request_of}
@@ -26,7 +26,7 @@ use Rattle.md_array.specs.InTurn.{AllOf, Did, HaltsAt, Leads, Requests}
 use Rattle.md_array.specs.Steps.StoreLog.{AreWritten}
 use Rattle.md_array.proofs.StepLemmas.FailedParts.{failed_write, halting_write}
 use Rattle.md_array.proofs.StepLemmas.Turns.{all_on, all_such}
-use Rattle.md_device_writes.specs.Writes.{Write as DiskWrite}
+use Rattle.md_members.specs.DeviceWrites.Writes.{Write as DiskWrite}
 use Rattle.md_laws.specs.ReadInTurn.{LeadsReading}
 use Rattle.md_metadata.specs.declared.stop_fault.StopFault.{StopFault}
 use Rattle.md_metadata.specs.declared.stop_fault.StopFault.TheVariants as stop
@@ -68,7 +68,7 @@ refused old new Reason r = same old new r.unchanged
 pub record KeepsMembers (IsOf : Event → Type 0) : Type 0 where
   pub removes : (k : ℕ) → IsOf (Event.Remove k) → ⊥
   pub adds : (d : ℕ) (left : Stored) → IsOf (Event.Add d left) → ⊥
-  pub re_adds : (own : Super) (device left : Stored) → IsOf (Event.ReAdd own device left) → ⊥
+  pub re_adds : (own : Super) (offset : ℕ) (device left : Stored) → IsOf (Event.ReAdd own offset device left) → ⊥
   pub enrols : (k role : ℕ) (listed : ℕ → Bool) → IsOf (Event.Enrol k role listed) → ⊥
 
 -- a log's write, where there is one
@@ -91,14 +91,15 @@ did IsOf keeps Event.Unresynced old new before after of h = ap length h.1.disks
 did IsOf keeps Event.MakeClean old new before after of h = ap length h.1.disks
 did IsOf keeps (Event.Remove k) old new before after of h = absurd (keeps.removes k of)
 did IsOf keeps (Event.Add d left) old new before after of h = absurd (keeps.adds d left of)
-did IsOf keeps (Event.ReAdd own device left) old new before after of h = absurd (keeps.re_adds own device left of)
+did IsOf keeps (Event.ReAdd own offset device left) old new before after of h = absurd (keeps.re_adds own offset device left of)
+did IsOf keeps (Event.LowerOffset k s) old new before after of h = ap length h.1.disks
 did IsOf keeps (Event.Fill k) old new before after of h = h.1.disks.as_many
 did IsOf keeps (Event.Prepare k) old new before after of h = h.1.disks.as_many
 did IsOf keeps (Event.RecordTargetFails k) old new before after of h = h.1.leaves.disks.tried.as_many
 did IsOf keeps (Event.SpoilTarget k) old new before after of h = h.1.disks.tried.as_many
 did IsOf keeps (Event.Enrol k role listed) old new before after of h = absurd (keeps.enrols k role listed of)
 did IsOf keeps (Event.Admit k role listed) old new before after of h = h.1.admits.disks.tried.as_many
-did IsOf keeps (Event.Checkpoint k offset listed) old new before after of h = h.1.checkpoints.disks.tried.as_many
+did IsOf keeps (Event.Checkpoint k sure listed) old new before after of h = h.1.checkpoints.disks.tried.as_many
 did IsOf keeps (Event.NoteBad k c) old new before after of h = ap length h.1.disks
 did IsOf keeps (Event.StoreLog k listed) old new before after of h = log_written k (log_writes h.1.member.superblock h.1.member.bad) old.disks new.disks h.1.disks
 
@@ -137,18 +138,18 @@ keeps_or_ends : (IsOf : Event → Type 0) → KeepsMembers IsOf → KeepsMembers
 keeps_or_ends IsOf keeps = record {
   removes = λ k. ⊎_elim (λ (of : IsOf (Event.Remove k)). keeps.removes k of) (λ (no : ⊥). no);
   adds = λ d left. ⊎_elim (λ (of : IsOf (Event.Add d left)). keeps.adds d left of) (λ (no : ⊥). no);
-  re_adds = λ own device left. ⊎_elim (λ (of : IsOf (Event.ReAdd own device left)). keeps.re_adds own device left of) (λ (no : ⊥). no);
+  re_adds = λ own offset device left. ⊎_elim (λ (of : IsOf (Event.ReAdd own offset device left)). keeps.re_adds own offset device left of) (λ (no : ⊥). no);
   enrols = λ k role listed. ⊎_elim (λ (of : IsOf (Event.Enrol k role listed)). keeps.enrols k role listed of) (λ (no : ⊥). no);
 }
 
 stopping_keeps : KeepsMembers IsStopping
-stopping_keeps = record { removes = λ k of. of; adds = λ d left of. of; re_adds = λ own device left of. of; enrols = λ k role listed of. of }
+stopping_keeps = record { removes = λ k of. of; adds = λ d left of. of; re_adds = λ own offset device left of. of; enrols = λ k role listed of. of }
 
 resync_keeps : KeepsMembers IsOfResync
-resync_keeps = record { removes = λ k of. of; adds = λ d left of. of; re_adds = λ own device left of. of; enrols = λ k role listed of. of }
+resync_keeps = record { removes = λ k of. of; adds = λ d left of. of; re_adds = λ own offset device left of. of; enrols = λ k role listed of. of }
 
 request_keeps : (chunks : Chunks) (p : PendingView) → KeepsMembers (IsOfRequest chunks p)
-request_keeps chunks p = record { removes = λ k of. of; adds = λ d left of. of; re_adds = λ own device left of. of; enrols = λ k role listed of. of }
+request_keeps chunks p = record { removes = λ k of. of; adds = λ d left of. of; re_adds = λ own offset device left of. of; enrols = λ k role listed of. of }
 
 -- no request of the model
 pub nothing : Requests

@@ -4,14 +4,13 @@ use Rattle.std.proofs.lemmas.List.{length-append}
 use Rattle.md_bitmap.specs.Marks.{Bitmap}
 use Rattle.md_cert.specs.declared.slots.Slot.{Slot}
 use Rattle.md_kept_members.specs.View.{MemberView}
-use Rattle.md_passes.specs.Passes.{PassView, failed_chunks, slots_of_pass}
+use Rattle.md_copy.specs.PassLaws.Passes.{PassView, failed_chunks, slots_of_pass}
 use Rattle.md_faults.specs.declared.re_add_fault.ReAddFault.{ReAddFault}
-use Rattle.md_faults.specs.declared.re_add_fault.ReAddFault.TheVariants as re_add
 use Rattle.md_metadata.specs.Going.{GoesOn, only_others}
 use Rattle.md_metadata.specs.Storing.{IsStoring}
 use Rattle.md_resync.specs.declared.fault.ResyncFault.{ResyncFault}
 use Rattle.md_state.specs.View.{Disk, MirrorView}
-use Rattle.md_array.specs.Steps.ReAdd.{ReAdds, RefusesReAdd}
+use Rattle.md_array.specs.Steps.ReAdd.{ReAdds}
 use Rattle.md_rebuild_table.specs.declared.fault.RebuildFault.{RebuildFault}
 use Rattle.md_rebuild_table.specs.declared.fault.RebuildFault.TheVariants as rebuild
 use Rattle.md_rebuild_table.specs.Sources.{missing_chunks}
@@ -20,13 +19,16 @@ use Rattle.md_copy.specs.Filling.{BreaksPass}
 use Rattle.md_copy.specs.Leaving.{RecordsAtEnd, LeavesAfter}
 use Rattle.md_copy.specs.Listing.{EndsListing}
 use Rattle.md_copy.specs.Passing.{AreListedPasses, BreaksOffPass, CopiesAll, EndsBetween, FailsListing, FailsRecording, RecordsPass}
-use Rattle.md_copy.specs.Readying.{AdmitsAfter, AdmitsFirst, EndsAdmitted}
+use Rattle.md_copy.specs.Readying.{AdmitsAfter, AdmitsFirst, EndsAdmitted, LowersTarget}
 use Rattle.md_copy.specs.Rebuilding.{BeginsRebuild, EndsFilled, EndsReadied, FillsBy, LacksMemoryToRebuild, LacksRoom, LosesSource, LosesTarget, Rebuilds, RefusesRebuild}
 use Rattle.md_copy.specs.Storing.{HaltsUntilDone, StoresUntilDone, EndsAtOther}
 use Rattle.md_examine.specs.declared.sink.Sink.{Ghosts}
+use Rattle.md_metadata.specs.declared.coming_back.extent_of_rebuild.RebuildExtent.{RebuildExtent}
+use Rattle.md_metadata.specs.declared.coming_back.extent_of_rebuild.RebuildExtent.TheVariants.{All, Marked}
 use Rattle.md_commands.specs.declared.fault.CommandFault.{CommandFault}
 use Rattle.md_commands.specs.declared.fault.CommandFault.TheVariants.{BadMember, OutputFault, Rebuild, Resync, Stop}
 use Rattle.md_commands.specs.Adding.{KeepsDevice}
+use Rattle.md_metadata.specs.ComingBack.{ComesBack, HandsBackAsWas}
 use Rattle.md_commands.specs.ReAdding.{ComesBackReadied, RebuildsMember, RefusesRebuilding}
 use Rattle.md_commands.specs.Rebuilding.{RebuildsArray, RebuildsResynced, RefusesToRebuild}
 use Rattle.md_commands.specs.Resyncing.{RefusesNeededResync, ResyncsIfNeeded}
@@ -34,7 +36,7 @@ use Rattle.md_commands.specs.Stopping.{StopsArrayAfter}
 use Rattle.md_commands.proofs.DeviceCounts.{AsMany, KeepsMembers, fails_after, halts, led, none_in_flight, not_readied, nothing, readied, same, stopped, stopped_after, stops_as_many}
 
 storing_keeps : KeepsMembers IsStoring
-storing_keeps = record { removes = λ k of. of; adds = λ d left of. of; re_adds = λ own device left of. of; enrols = λ k role listed of. of }
+storing_keeps = record { removes = λ k of. of; adds = λ d left of. of; re_adds = λ own offset device left of. of; enrols = λ k role listed of. of }
 
 gone_on : (old new : MirrorView) → GoesOn only_others only_others IsStoring old new → AsMany old new
 gone_on old new goes = led IsStoring storing_keeps goes.events None old new nothing nothing goes.steps (goes.leads None nothing (none_in_flight old.array))
@@ -51,8 +53,12 @@ admitted k old new a = a.admits.disks.tried.as_many ∙ gone_on old a.stored a.f
 admitted_first : (k : ℕ) (old ready : MirrorView) → AdmitsFirst k old ready → AsMany old ready
 admitted_first k old ready a = gone_on a.admitted ready a.then.stores.goes ∙ admitted k old a.admitted a.after
 
+lowered : (k : ℕ) (none : Bitmap) (old mid : MirrorView) → LowersTarget k none old mid → AsMany old mid
+lowered k none old mid h = ⊎_elim (λ l. ap length l.lowers.disks) (λ is. same old mid is.0) h
+
 begun : (k : ℕ) (old ready : MirrorView) (none : Bitmap) → BeginsRebuild k old ready none → AsMany old ready
-begun k old ready none b = ⊎_elim (λ r. gone_on old ready r.1.stores.goes) (λ a. admitted_first k old ready a.1) b.first
+begun k old ready none b =
+    ⊎_elim (λ r. gone_on b.lowered ready r.1.stores.goes) (λ a. admitted_first k b.lowered ready a.1) b.first ∙ lowered k none old b.lowered b.lowers
 
 stopped_at : (k j : ℕ) (old new : MirrorView) → EndsAtOther k j old new → AsMany old new
 stopped_at k j old new s =
@@ -174,22 +180,25 @@ not_rebuilt rebuild.Dirty k old new h = same old new h.unchanged
 not_rebuilt (rebuild.InFlight number) k old new h = same old new h.unchanged
 not_rebuilt rebuild.EventsFull k old new h = same old new h.unchanged
 not_rebuilt (rebuild.MetadataFault j) k old new h =
-    ⊎_elim (λ e. stopped_at k j old new e.why)
+    ⊎_elim (λ e. stopped_at k j e.lowered new e.why ∙ lowered k e.none old e.lowered e.lowers)
     (λ rest.
-    ⊎_elim (λ e. stopped_admitted k j old new e.why)
+    ⊎_elim (λ e. stopped_admitted k j e.lowered new e.why ∙ lowered k e.none old e.lowered e.lowers)
     (λ l. left_after k old new _ (λ nothing stopped e. when_ready k old stopped _ (λ m none ready why. loses_source j k m none ready stopped why) e.1) l)
     rest)
     h
 not_rebuilt rebuild.TargetFault k old new h =
-    ⊎_elim (λ f. f.why.fails.disks.tried.as_many ∙ gone_on old f.why.mid f.why.stores.goes)
+    ⊎_elim (λ f. f.why.fails.disks.tried.as_many ∙ (gone_on f.lowered f.why.mid f.why.stores.goes ∙ lowered k f.none old f.lowered f.lowers))
     (λ rest.
-    ⊎_elim (λ f. f.why.fails.disks.tried.as_many ∙ gone_on old f.why.stored f.why.first.stores.goes)
+    ⊎_elim (λ f. f.why.fails.disks.tried.as_many ∙ (gone_on f.lowered f.why.stored f.why.first.stores.goes ∙ lowered k f.none old f.lowered f.lowers))
     (λ e. when_ready k old new _ (λ m none ready why. loses_target k m none ready new why) e)
     rest)
     h
 not_rebuilt rebuild.NoMemory k old new h =
-    ⊎_elim (λ n. ⊎_elim (λ is. same old new is) (λ lacks. gone_on old new lacks.first.stores.goes) n.why)
+    ⊎_elim (λ n. same old new n.unchanged)
+    (λ rest.
+    ⊎_elim (λ n. gone_on n.lowered new n.why.first.stores.goes ∙ lowered k n.none old n.lowered n.lowers)
     (λ l. left_after k old new _ (λ copied stopped e. when_ready k old stopped _ (λ m none ready why. lacks_memory k m none copied ready stopped why) e) l)
+    rest)
     h
 not_rebuilt (rebuild.LogFull j) k old new h =
     left_after k old new _ (λ copied stopped e. when_ready k old stopped _ (λ m none ready why. lacks_room j k m none copied ready stopped why) e) h
@@ -215,15 +224,9 @@ module _ {S : Type 0} (s : Ghosts S) (k : ℕ) (old new : MirrorView) (before af
 re_added : (k : ℕ) (device : Disk) (old new : MirrorView) → ReAdds k device old new → length new.disks ≡ length old.disks + 1
 re_added k device old new r = ap length r.recorded.disks ∙ length-append old.disks (r.recorded.now ∷ [])
 
-not_re_added : (fault : ReAddFault) (device given : Disk) (old new : MirrorView) → RefusesReAdd device given old new fault → AsMany old new
-not_re_added re_add.Halted device given old new h = same old new h.0.unchanged
-not_re_added (re_add.Member fault) device given old new h = same old new h.unchanged
-not_re_added re_add.Full device given old new h = same old new h.unchanged
-not_re_added re_add.NotReAddable device given old new h = same old new h.unchanged
-not_re_added re_add.NoRole device given old new h = same old new h.unchanged
-not_re_added re_add.EventsFull device given old new h = same old new h.unchanged
-not_re_added re_add.WriteFault device given old new h = same old new h.fails.unchanged
-not_re_added re_add.NoMemory device given old new h = same old new h.unchanged
+come_back : (extent : RebuildExtent) (k : ℕ) (device : Disk) (old new : MirrorView) → ComesBack extent k device old new → length new.disks ≡ length old.disks + 1
+come_back Marked k device old new r = re_added k device old new r
+come_back All k device old new r = re_added k r.comes.stale old new r.comes.re_adds
 
 -- a member was rebuilt, or not, and the array stopped after it, or not
 shown_as_many : {S : Type 0} (s : Ghosts S) (k : ℕ) (old new : MirrorView) (before after : S) (result : Result (Unit {0}) CommandFault)
@@ -233,17 +236,17 @@ shown_as_many s k old new before after (Err (Rebuild fault)) h = not_rebuilt fau
 shown_as_many s k old new before after (Err fault) h =
     stops_as_many s h.mid new before after fault h.refused ∙ rebuilt k h.through.0 old h.mid h.through.1
 
-pub joins_rebuilt : {S : Type 0} (s : Ghosts S) (k : ℕ) (device : Disk) (old joined new : MirrorView) (before after : S) (result : Result (Unit {0}) CommandFault)
-    → ComesBackReadied k device old joined
+pub joins_rebuilt : {S : Type 0} (s : Ghosts S) (extent : RebuildExtent) (k : ℕ) (device : Disk) (old joined new : MirrorView) (before after : S) (result : Result (Unit {0}) CommandFault)
+    → ComesBackReadied extent k device old joined
     → MatchResult result (λ _. StopsArrayAfter s (RebuildsMember k joined) new before after) (RefusesRebuilding s k joined new before after)
     → KeepsDevice old.disks new.disks None
-joins_rebuilt s k device old joined new before after result comes h =
+joins_rebuilt s extent k device old joined new before after result comes h =
     shown_as_many s k joined new before after result h
-    ∙ (re_added k device comes.ready joined comes.re_adds ∙ ap (λ (n : ℕ). n + 1) (readied old comes.ready comes.readied))
+    ∙ (come_back extent k device comes.ready joined comes.comes ∙ ap (λ (n : ℕ). n + 1) (readied old comes.ready comes.readied))
 
-pub stays_away : (fault : ReAddFault) (device given : Disk) (old ready new : MirrorView) → ResyncsIfNeeded old ready → RefusesReAdd device given ready new fault
+pub stays_away : (fault : ReAddFault) (device given : Disk) (old ready new : MirrorView) → ResyncsIfNeeded old ready → HandsBackAsWas device given ready new fault
     → KeepsDevice old.disks new.disks (Some given)
-stays_away fault device given old ready new readied_is h = not_re_added fault device given ready new h ∙ readied old ready readied_is
+stays_away fault device given old ready new readied_is h = same ready new h.mirror ∙ readied old ready readied_is
 
 pub stays_untried : (fault : ResyncFault) (given : Disk) (old new : MirrorView) → RefusesNeededResync old new fault → KeepsDevice old.disks new.disks (Some given)
 stays_untried fault given old new h = not_readied fault old new h

@@ -1,6 +1,6 @@
 -- A rebuild leaves each request in flight: where there is one it is refused, and does nothing.
 use Rattle.std.proofs.Common.{◌≡◌, ⊎_elim, ℕ, Result, Ok, Err, MatchResult, sym, subst}
-use Rattle.md_requests.specs.Pending.{PendingView, extent_of}
+use Rattle.md_inflight.specs.Requests.Pending.{PendingView, extent_of}
 use Rattle.md_state.specs.Steps.MakeClean.{IsIdle}
 use Rattle.md_state.specs.Requests.{IsPending}
 use Rattle.md_state.specs.View.{ArrayView, MirrorView}
@@ -35,7 +35,9 @@ not_rebuilt rebuild.TargetFault k old new p h is =
     (λ rest. ⊎_elim (λ e. absurd (none_pending old.array p e.may.idle is)) (λ e. absurd (none_pending old.array p e.begins.may.idle is)) rest)
     h
 not_rebuilt rebuild.NoMemory k old new p h is =
-    ⊎_elim (λ e. absurd (none_pending old.array p e.may.idle is)) (λ l. absurd (none_pending old.array p l.why.begins.may.idle is)) h
+    ⊎_elim (λ e. absurd (none_pending old.array p e.may.idle is))
+    (λ rest. ⊎_elim (λ e. absurd (none_pending old.array p e.may.idle is)) (λ l. absurd (none_pending old.array p l.why.begins.may.idle is)) rest)
+    h
 not_rebuilt (rebuild.LogFull j) k old new p h is = absurd (none_pending old.array p h.why.begins.may.idle is)
 
 pub rebuilt_or_not : (k : ℕ) (old new : MirrorView) (result : Result Rebuilt RebuildFault) → MatchResult result (λ told. Rebuilds k told old new) (RefusesRebuild k old new)

@@ -4,6 +4,7 @@ use Rattle.md_copy.specs.declared.rebuilt.Rebuilt.{Rebuilt}
 use Rattle.md_examine.specs.declared.sink.Sink.{Ghosts}
 use Rattle.md_report.specs.RebuiltReport.{rebuilt_text}
 use Rattle.md_state.specs.View.{Disk, MirrorView}
+use Rattle.md_metadata.specs.declared.coming_back.extent_of_rebuild.RebuildExtent.{RebuildExtent}
 use Rattle.md_commands.specs.declared.fault.CommandFault.{CommandFault}
 use Rattle.md_commands.specs.declared.fault.CommandFault.TheVariants.{ReAdd, Rebuild, Resync, Stop}
 use Rattle.md_commands.specs.Failing.{HasMember}
@@ -35,10 +36,10 @@ module _ {S : Type 0} (s : Ghosts S) (k : ℕ) (old mid new : MirrorView) (befor
   shown_or_not rebuilds (Err (Rebuild fault)) h = absurd h
   shown_or_not rebuilds (Err fault) h = record { mid = mid; through = rebuilds; refused = h }
 
-module _ {S : Type 0} (s : Ghosts S) (k : ℕ) (device : Disk) (given : Option Disk) (old joined new : MirrorView) (before after : S) where
-  pub re_added_or_not : ComesBackReadied k device old joined → (result : Result (Unit {0}) CommandFault)
+module _ {S : Type 0} (s : Ghosts S) (extent : RebuildExtent) (k : ℕ) (device : Disk) (given : Option Disk) (old joined new : MirrorView) (before after : S) where
+  pub re_added_or_not : ComesBackReadied extent k device old joined → (result : Result (Unit {0}) CommandFault)
       → MatchResult result (λ _. StopsArrayAfter s (RebuildsMember k joined) new before after) (RefusesRebuilding s k joined new before after)
-      → MatchResult result (λ _. StopsArrayAfter s (ReAddsDevice device old) new before after) (RefusesToReAdd s device given old new before after)
+      → MatchResult result (λ _. StopsArrayAfter s (ReAddsDevice extent device old) new before after) (RefusesToReAdd s extent device given old new before after)
   re_added_or_not comes (Ok x) h = record {
     mid = h.mid;
     through = record { k = k; joined = joined; comes = comes; rebuilds = h.through };

@@ -1,10 +1,10 @@
 -- What a command puts out as a JSON object, with the images of the members.
 use Rattle.std.specs.Prelude.{ℕ, Bool, true, false, List}
 use Rattle.md_check.specs.declared.found.Comparison.{Comparison}
-use Rattle.md_json.specs.ArrayObjects.{detail_object, summary_object}
-use Rattle.md_json.specs.CheckObject.{check_object}
-use Rattle.md_json.specs.Objects.{object_line}
-use Rattle.md_json.specs.PlanObject.{plan_object}
+use Rattle.md_report.specs.AsJson.ArrayObjects.{detail_object, summary_object}
+use Rattle.md_report.specs.AsJson.CheckObject.{check_object}
+use Rattle.md_report.specs.AsJson.Objects.{object_line}
+use Rattle.md_report.specs.AsJson.PlanObject.{plan_object}
 use Rattle.md_plan.specs.declared.planner.Planned.{Planned}
 use Rattle.md_report.specs.DetailReport.{detail_text}
 use Rattle.md_report.specs.RebuiltReport.{planned_text}

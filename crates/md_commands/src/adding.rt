@@ -1,6 +1,6 @@
 // The command that adds a device.
 ghost use Rattle.std.specs.Prelude.{MatchResult, option_map};
-ghost use Rattle.md_requests.specs.Pending.{PendingView};
+ghost use Rattle.md_inflight.specs.Requests.Pending.{PendingView};
 ghost use Rattle.md_state.specs.Requests.{IsPending};
 ghost use Rattle.md_state.specs.View.{disk_of};
 ghost use Rattle.md_array.specs.Consistency.{IsConsistent};

@@ -1,9 +1,9 @@
 // The command that compares the members in sync.
 ghost use Rattle.std.specs.Prelude.{MatchResult};
-ghost use Rattle.md_requests.specs.Pending.{PendingView};
+ghost use Rattle.md_inflight.specs.Requests.Pending.{PendingView};
 ghost use Rattle.md_state.specs.Requests.{IsPending};
 ghost use Rattle.md_array.specs.Consistency.{IsConsistent};
-ghost use Rattle.md_json.specs.MemberObjects.{texts_of};
+ghost use Rattle.md_report.specs.AsJson.MemberObjects.{texts_of};
 ghost use Rattle.md_report.specs.CheckReport.{list_text};
 ghost use Rattle.md_commands.specs.Checking.{ChecksMembers, ListsMismatches, RefusesToCheck, RefusesToList};
 ghost use Rattle.md_commands.specs.Objects.{checked_line};

@@ -38,6 +38,7 @@ pub use checking::{check_members, check_members_json, list_mismatches};
 pub use failing::fail_member;
 pub use fault::CommandFault;
 pub use md_copy::Gate;
+pub use md_metadata::RebuildExtent;
 pub use option_fault::OptionFault;
 pub use planning::{show_plan, show_plan_json};
 pub use re_adding::re_add_device;

@@ -1,9 +1,9 @@
 // What a command puts out as a JSON object.
 ghost use Rattle.std.specs.Prelude.{MatchResult};
 ghost use Rattle.md_check.specs.Differences.{IsSized};
-ghost use Rattle.md_json.specs.ArrayObjects.{detail_object, summary_object};
-ghost use Rattle.md_json.specs.MemberObjects.{texts_of};
-ghost use Rattle.md_json.specs.Objects.{object_line};
+ghost use Rattle.md_report.specs.AsJson.ArrayObjects.{detail_object, summary_object};
+ghost use Rattle.md_report.specs.AsJson.MemberObjects.{texts_of};
+ghost use Rattle.md_report.specs.AsJson.Objects.{object_line};
 ghost use Rattle.md_commands.specs.Objects.{checked_line, planned_line};
 ghost use Rattle.md_commands.specs.Output.{FailsOutput, PutsOut};
 
@@ -12,8 +12,8 @@ use md_array::Mirror;
 use md_check::Comparison;
 use md_device::Device;
 use md_examine::Sink;
-use md_json::{check_json, detail_json, plan_json, summary_json};
 use md_plan::Planned;
+use md_report::{check_json, detail_json, plan_json, summary_json};
 
 /// Puts out an array in short.
 pub(crate) fn put_summary_json<D: Device + Drop, S: Sink>(

@@ -1,6 +1,6 @@
 // The command that takes a device back.
 ghost use Rattle.std.specs.Prelude.{◌≡◌, ◌<◌, MatchResult, length, option_map};
-ghost use Rattle.md_requests.specs.Pending.{PendingView};
+ghost use Rattle.md_inflight.specs.Requests.Pending.{PendingView};
 ghost use Rattle.md_state.specs.Requests.{IsPending};
 ghost use Rattle.md_state.specs.View.{disk_of};
 ghost use Rattle.md_array.specs.Consistency.{IsConsistent};
@@ -16,33 +16,36 @@ use crate::watch::Watch;
 use md_array::Mirror;
 use md_device::Device;
 use md_examine::Sink;
+use md_metadata::{RebuildExtent, come_back};
 use std::alloc::Global;
 use std::sync::Wait;
 use std::thread::Threads;
 
 /// Takes a device back that left this array, rebuilds it, then stops the array, and puts out what it is in one
-/// line. It gets the marked chunks: all else of its data is taken for the array's. A degraded array that is not
-/// resynced is resynced first. A device that does not come back is handed back: as it was, unless a write to it
-/// failed, which is `ReAdd` with `WriteFault`. One that came back is the mirror's, its last, also where it is not
-/// rebuilt, or the array not stopped or shown after that.
+/// line. It gets the marked chunks, and all else of its data is taken for the array's, or with `RebuildExtent::All` all
+/// chunks. A degraded array that is not resynced is resynced first. A device that does not come back is handed back: as it
+/// was, unless a write to it failed, which is `ReAdd` with `WriteFault`. One that came back is the mirror's, its last, also
+/// where it is not rebuilt, or the array not stopped or shown after that.
 ///
 ///     let mut out = Output::new(rt.stdout());
-///     let (device, re_added) = re_add_device(&rt, rt.alloc(), &mut mirror, device, &watch, &mut out);
+///     let marked = RebuildExtent::Marked;
+///     let (device, re_added) = re_add_device(&rt, rt.alloc(), &mut mirror, device, marked, &watch, &mut out);
 ///     re_added?; // it has put out `in sync 2 of 2, events 8, marked 0`
 pub fn re_add_device<D: Device + Drop + Send, W: Watch + Sync, S: Sink, T: Threads + Wait + Sync>(
     rt: &T,
     alloc: Global,
     mirror: &mut Mirror<D>,
     device: D,
+    extent: RebuildExtent,
     watch: &W,
     out: &mut S,
 ) -> (Option<D>, Result<(), CommandFault>)
     requires sound { IsConsistent mirror.old }
     ensures gives { MatchResult result.1
-        (λ _. StopsArrayAfter S.Sink (ReAddsDevice (disk_of D.Device device) mirror.old) mirror.new out.old
-        out.new)
-        (RefusesToReAdd S.Sink (disk_of D.Device device) (option_map (disk_of D.Device) result.0) mirror.old
-        mirror.new out.old out.new) }
+        (λ _. StopsArrayAfter S.Sink (ReAddsDevice extent (disk_of D.Device device) mirror.old) mirror.new
+        out.old out.new)
+        (RefusesToReAdd S.Sink extent (disk_of D.Device device) (option_map (disk_of D.Device) result.0)
+        mirror.old mirror.new out.old out.new) }
     ensures device { KeepsDevice mirror.old.disks mirror.new.disks (option_map (disk_of D.Device) result.0) }
     ensures sound { IsConsistent mirror.new }
     ensures pending { (p : PendingView) → IsPending mirror.old.array p → IsPending mirror.new.array p }
@@ -50,7 +53,7 @@ pub fn re_add_device<D: Device + Drop + Send, W: Watch + Sync, S: Sink, T: Threa
     if let Err(fault) = resync_if_needed(alloc, mirror) {
         return (Some(device), Err(CommandFault::Resync(fault)));
     }
-    match mirror.re_add(alloc, device) {
+    match come_back(alloc, mirror, device, extent) {
         Ok(k) => {
             let shown = rebuild_and_show(rt, alloc, mirror, k, watch, out);
             (None, shown)

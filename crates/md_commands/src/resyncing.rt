@@ -1,6 +1,6 @@
 // The command that resynchronises an array, and the resync before another one.
 ghost use Rattle.std.specs.Prelude.{MatchResult};
-ghost use Rattle.md_requests.specs.Pending.{PendingView};
+ghost use Rattle.md_inflight.specs.Requests.Pending.{PendingView};
 ghost use Rattle.md_state.specs.Requests.{IsPending};
 ghost use Rattle.md_array.specs.Consistency.{IsConsistent};
 ghost use Rattle.md_commands.specs.Resyncing.{RefusesNeededResync, RefusesToResync, ResyncsArray, ResyncsIfNeeded};

@@ -1,9 +1,9 @@
 // The commands that show an array.
 ghost use Rattle.md_report.specs.DetailReport.{detail_text};
 ghost use Rattle.md_report.specs.SummaryReport.{summary_text};
-ghost use Rattle.md_json.specs.ArrayObjects.{detail_object, summary_object};
-ghost use Rattle.md_json.specs.MemberObjects.{texts_of};
-ghost use Rattle.md_json.specs.Objects.{object_line};
+ghost use Rattle.md_report.specs.AsJson.ArrayObjects.{detail_object, summary_object};
+ghost use Rattle.md_report.specs.AsJson.MemberObjects.{texts_of};
+ghost use Rattle.md_report.specs.AsJson.Objects.{object_line};
 ghost use Rattle.md_commands.specs.Output.{ShowsText};
 
 use crate::fault::CommandFault;

@@ -1,3 +1,5 @@
+-- Which calls of a device failed, over several steps of a rebuild.
+pub mod Failing
 -- What a plan says, and where its sources stand.
 pub mod Plans
 -- A pass over devices that were lent.
@@ -20,3 +22,5 @@ pub mod Done
 pub mod Leads
 -- What stands after a rebuild that is refused.
 pub mod Refusals
+-- The passes of a rebuild, as plans one after another.
+pub mod PassLemmas

@@ -2,6 +2,8 @@
 
 -- A rebuild's first pass is over the chunks that the target lacked before the call, and planned by where they might be read then.
 pub mod BegunAs
+-- A recovering target is to say no more that it has what it lacks: but for that all is as it was before.
+pub mod Lowered
 -- A rebuild is readied, step by step.
 pub mod MadeReady
 -- What a rebuild is readied for: what is stored first and the admission of a spare leave it able to go on, and then its target is recovering.
@@ -14,3 +16,5 @@ pub mod ReadyStill
 pub mod StartedAs
 -- A rebuild that was readied starts as it was before: by what is stored first, and by the admission of a spare.
 pub mod StartsReadied
+-- What the target lacks its superblock does not say that it has, once a rebuild is readied.
+pub mod Unsaid

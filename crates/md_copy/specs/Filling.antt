@@ -1,14 +1,14 @@
 -- The target gets chunks, each from a member that serves it. No other device is written.
-use Rattle.std.specs.Prelude.{◌≡◌, ◌≢◌, ℕ, ◌+◌, ◌≤◌, true, List, length, count_by, slice_get, Some, All}
+use Rattle.std.specs.Prelude.{◌≡◌, ◌≢◌, ℕ, ◌+◌, ◌≤◌, true, List, length, count_by, slice_get, Some, All, Contains}
 use Rattle.md_bitmap.specs.Marks.{Bitmap, is_set}
 use Rattle.md_cert.specs.declared.slots.Slot.{Slot}
 use Rattle.md_collect.specs.Places.{chunk_on}
-use Rattle.md_collect.specs.Reading.{CountsFailure}
+use Rattle.md_collect.specs.Reading.{CountsFailure, FailsInChunk}
 use Rattle.md_assembly.specs.States.{is_in_sync_as}
 use Rattle.md_kept_members.specs.View.{MemberView}
 use Rattle.md_pass.specs.Beside.{KeepsBeside, SameBesideCopied}
 use Rattle.md_pass.specs.Copied.{AreJoined, failed_slots}
-use Rattle.md_workers.specs.Queues.{OnlyRead}
+use Rattle.md_collect.specs.Workers.Queues.{OnlyRead}
 use Rattle.md_pass.specs.Readings.{is_of}
 use Rattle.md_pass.specs.Sources.{copy_of}
 use Rattle.md_state.specs.DiskWrites.{AtDevice}
@@ -51,11 +51,18 @@ CountsFailed failed old new =
     (k role : ℕ) (m : MemberView) → IsMember old.array k m → is_in_sync_as role m.state ≡ true
     → AtDevice k old.disks new.disks (λ d e. d.honest ≡ true → d.failures + count_by (is_of role) failed ≤ e.failures)
 
--- All slots were read. Those failed whose chunk was not copied, so many, and the devices have counted them.
+-- Of each of these slots the device of the member in sync in its role failed a read of nothing but bytes of the slot's chunk.
+abbrev pub HaveFailedThere : List Slot → MirrorView → MirrorView → Type 0
+HaveFailedThere failed old new =
+    (slot : Slot) → Contains failed slot → (k : ℕ) (m : MemberView) → IsMember old.array k m → is_in_sync_as slot.source m.state ≡ true
+    → AtDevice k old.disks new.disks (λ d e. FailsInChunk of_disks d e m.superblock.data_offset old.array.chunks slot.chunk)
+
+-- All slots were read. Those failed whose chunk was not copied, so many, and the devices have counted them: in each a read failed.
 pub record FillsPass (target : ℕ) (m : MemberView) (slots : List Slot) (before after : Bitmap) (old new : MirrorView) (failed : ℕ) : Type 0 where
   pub copies : CopiesChunks target m slots before after old new
   pub failed_are : failed ≡ length (failed_slots slots after)
   pub counted : CountsFailed (failed_slots slots after) old new
+  pub there : HaveFailedThere (failed_slots slots after) old new
 
 -- A write to the target failed. Of what was copied nothing is said.
 pub record FailsOnWrite (target : ℕ) (m : MemberView) (slots : List Slot) (old new : MirrorView) : Type 0 where

@@ -28,3 +28,5 @@ pub mod Rebuilt
 pub mod Refused
 -- A rebuild as a list of events of the array's model (this project's own).
 pub mod RebuildEvents
+-- The passes of a rebuild, as plans one after another.
+pub mod PassLaws

@@ -11,13 +11,13 @@ use Rattle.md_state.specs.View.{MirrorView}
 use Rattle.md_array.specs.Steps.Checkpoint.{Checkpoints, FailsToCheckpoint}
 use Rattle.md_array.specs.Consistency.{IsConsistent}
 use Rattle.md_pass.specs.Copied.{AreUncopied}
-use Rattle.md_passes.specs.Listed.{IsArrayPass, IsFailedOf}
-use Rattle.md_passes.specs.Passes.{PassView, failed_chunks, slots_of_pass}
+use Rattle.md_copy.specs.PassLaws.Listed.{IsArrayPass, IsFailedOf}
+use Rattle.md_copy.specs.PassLaws.Passes.{PassView, failed_chunks, slots_of_pass}
 use Rattle.md_rebuild_table.specs.declared.fault.RebuildFault.{RebuildFault}
 use Rattle.md_rebuild_table.specs.declared.fault.RebuildFault.TheVariants.{LogFull, MetadataFault, NoMemory, TargetFault}
 use Rattle.md_rebuild_table.specs.Sources.{HasSources, IsTableIn, missing_chunks}
 use Rattle.md_copy.specs.declared.passes.Passed.{Passed}
-use Rattle.md_copy.specs.Filling.{BreaksPass, CopiesChunks, CountsFailed}
+use Rattle.md_copy.specs.Filling.{BreaksPass, CopiesChunks, CountsFailed, HaveFailedThere}
 use Rattle.md_copy.specs.Held.{AreHeld}
 use Rattle.md_copy.specs.Listing.{ListsAll, EndsListing}
 use Rattle.md_copy.specs.Preparing.{IsNoMemory}
@@ -32,6 +32,7 @@ pub record MakesPass (target : ℕ) (chunks : List ℕ) (p : PassView) (before a
   pub copies : CopiesChunks target member (slots_of_pass p) before after old new
   pub failed : IsFailedOf p after
   pub counted : CountsFailed p.failed old new
+  pub there : HaveFailedThere p.failed old new
   pub sound : IsConsistent new
 
 -- A pass is made, and how far the target is rebuilt by it is recorded on the target.

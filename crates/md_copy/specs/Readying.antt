@@ -1,14 +1,31 @@
 -- Before a pass what the members have to know is stored, and a spare is admitted (this project's own order).
-use Rattle.std.specs.Prelude.{◌≡◌, ◌⊎◌, ℕ, true}
+use Rattle.std.specs.Prelude.{◌≡◌, ◌⊎◌, ℕ, true, false}
+use Rattle.md_bitmap.specs.Marks.{Bitmap}
 use Rattle.md_assembly.specs.States.{is_recovering, is_spare}
 use Rattle.md_kept_members.specs.View.{MemberView}
 use Rattle.md_state.specs.Members.{IsMember}
 use Rattle.md_state.specs.View.{MirrorView}
 use Rattle.md_array.specs.Steps.Admit.{Admits, FailsToAdmit}
+use Rattle.md_array.specs.Steps.LowerOffset.{LowersOffset}
 use Rattle.md_array.specs.Consistency.{IsConsistent}
+use Rattle.md_state.specs.Steps.Checkpoint.{IsFirstEnd}
 use Rattle.md_rebuild_table.specs.declared.fault.RebuildFault.{RebuildFault}
 use Rattle.md_rebuild_table.specs.declared.fault.RebuildFault.TheVariants.{MetadataFault, NoMemory, TargetFault}
 use Rattle.md_copy.specs.Storing.{FailsToRecordTarget, EndsAtOther, StoresFirst}
+
+-- A recovering target is to say no more that it has what it lacks: what it lacks is filled, and a kernel may go on where the rebuild
+-- ends. In memory alone; its superblock is due, if it says so. A spare says nothing.
+pub record LowersTo (target : ℕ) (none : Bitmap) (old lowered : MirrorView) : Type 0 where
+  pub member : MemberView
+  pub at : IsMember old.array target member
+  pub recovering : is_recovering member.state ≡ true
+  pub sector : ℕ
+  pub first : IsFirstEnd old.array member none sector
+  pub lowers : LowersOffset target sector old lowered
+
+abbrev pub LowersTarget : ℕ → Bitmap → MirrorView → MirrorView → Type 0
+LowersTarget target none old lowered =
+    LowersTo target none old lowered ⊎ ((lowered ≡ old) × ((m : MemberView) → IsMember old.array target m → is_recovering m.state ≡ false))
 
 -- What was due is stored, so that no member in sync is two events behind. Then the target, a spare, was admitted.
 pub record AdmitsAfter (target : ℕ) (old admitted : MirrorView) : Type 0 where

@@ -19,9 +19,9 @@ use Rattle.md_copy.specs.Listing.{IsNoting, IsStoringList}
 use Rattle.md_copy.specs.Rebuilding.{LosesTarget, RefusesRebuild}
 
 -- ---- which events
--- The events of a rebuild before the target comes into sync. Marks, lists and superblocks are stored. The
--- target, a spare, is admitted. Of it data change, how far it is rebuilt is recorded, its bitmap and its log
--- change, or its own record fails.
+-- The events of a rebuild before the target comes into sync. A recovering target is to say no more that it has
+-- what it lacks. Marks, lists and superblocks are stored. The target, a spare, is admitted. Of it data change, how
+-- far it is rebuilt is recorded, its bitmap and its log change, or its own record fails.
 abbrev pub IsBeforeEnrol : ℕ → Event → Type 0
 IsBeforeEnrol target (Event.Record k) = Unit {0}
 IsBeforeEnrol target (Event.StoreMarks k b) = Unit {0}
@@ -30,11 +30,12 @@ IsBeforeEnrol target (Event.StoreLog k listed) = Unit {0}
 IsBeforeEnrol target (Event.WriteFails k MemberPart.Superblock) = Unit {0}
 IsBeforeEnrol target (Event.WriteFails k (MemberPart.BitmapSector b)) = Unit {0}
 IsBeforeEnrol target (Event.WriteFails k MemberPart.Log) = Unit {0}
+IsBeforeEnrol target (Event.LowerOffset k s) = k ≡ target
 IsBeforeEnrol target (Event.Fill k) = k ≡ target
 IsBeforeEnrol target (Event.Prepare k) = k ≡ target
 IsBeforeEnrol target (Event.RecordTargetFails k) = k ≡ target
 IsBeforeEnrol target (Event.Admit k role listed) = k ≡ target
-IsBeforeEnrol target (Event.Checkpoint k offset listed) = k ≡ target
+IsBeforeEnrol target (Event.Checkpoint k sure listed) = k ≡ target
 IsBeforeEnrol target e = ⊥
 
 -- The events of a rebuild: those before the target comes into sync, and the one by which it does.
@@ -48,6 +49,10 @@ IsOfRebuild target e = IsBeforeEnrol target e
 abbrev pub IsOfUnfinished : ℕ → Event → Type 0
 IsOfUnfinished target (Event.SpoilTarget k) = k ≡ target
 IsOfUnfinished target e = IsBeforeEnrol target e
+
+-- A recovering target is to say no more that it has what it lacks; of a spare there is no such event.
+abbrev pub AreOfLowering : ℕ → List Event → Type 0
+AreOfLowering target events = (events ≡ []) ⊎ ((sector : ℕ) × (events ≡ Event.LowerOffset target sector ∷ []))
 
 -- What is due is stored, and nothing fails.
 pub record AreStored (events : List Event) : Type 0 where
@@ -73,35 +78,37 @@ pub record AreListsStored (events : List Event) : Type 0 where
 -- The target is filled, and how far that came is recorded. What failed is noted, and then all lists are
 -- stored.
 pub record AreOfPass (target : ℕ) (events : List Event) : Type 0 where
-  pub offset : ℕ
+  pub sure : ℕ
   pub listed : ℕ → Bool
   pub noted : List Event
   pub notes : AllOf IsNoting noted
   pub stored : List Event
   pub stores : AreListsStored stored
-  pub list : events ≡ Event.Fill target ∷ Event.Checkpoint target offset listed ∷ (noted ++ stored)
+  pub list : events ≡ Event.Fill target ∷ Event.Checkpoint target sure listed ∷ (noted ++ stored)
 
 -- These are the events of passes, one after another, and each part of the first list those of one pass.
 abbrev pub AreOfPasses : ℕ → List (List Event) → List Event → Type 0
 AreOfPasses target [] events = events ≡ []
 AreOfPasses target (first ∷ more) events = AreOfPass target first × ((rest : List Event) × AreOfPasses target more rest × (events ≡ first ++ rest))
 
--- In this order: what is due is stored, and the target admitted if it is a spare; passes are made of which slots failed; then the last is made, the
--- target prepared, and it comes into sync; what is due then is stored.
+-- In this order: the target, if it is recovering, is to say no more that it has what it lacks; what is due is stored, and the target admitted if it is
+-- a spare; passes are made of which slots failed; then the last is made, the target prepared, and it comes into sync; what is due then is stored.
 pub record IsListOfRebuild (target : ℕ) (events : List Event) : Type 0 where
+  pub lowering : List Event
+  pub lowers : AreOfLowering target lowering
   pub before : List Event
   pub first : AreStored before ⊎ AreOfAdmission target before
   pub parts : List (List Event)
   pub passes : List Event
   pub passes_are : AreOfPasses target parts passes
-  pub offset : ℕ
+  pub sure : ℕ
   pub recorded : ℕ → Bool
   pub role : ℕ
   pub listed : ℕ → Bool
   pub after : List Event
   pub last : AllOf IsStoring after
   pub list : events
-      ≡ before ++ (passes ++ Event.Fill target ∷ Event.Checkpoint target offset recorded ∷ Event.Prepare target ∷ Event.Enrol target role listed ∷ after)
+      ≡ lowering ++ (before ++ (passes ++ Event.Fill target ∷ Event.Checkpoint target sure recorded ∷ Event.Prepare target ∷ Event.Enrol target role listed ∷ after))
 
 -- ---- where they lead
 -- The write of an event of a kind failed on a member that can't be made faulty, and the mirror is halted.
@@ -148,7 +155,7 @@ EventsEndWith e events = (before : List Event) × (events ≡ before ++ e ∷ []
 abbrev pub AreOfLeaving : ℕ → List Event → Type 0
 AreOfLeaving target events =
     (events ≡ [])
-    ⊎ (((offset : ℕ) × (listed : ℕ → Bool) × (events ≡ Event.Checkpoint target offset listed ∷ [])) ⊎ (events ≡ Event.SpoilTarget target ∷ []))
+    ⊎ (((sure : ℕ) × (listed : ℕ → Bool) × (events ≡ Event.Checkpoint target sure listed ∷ [])) ⊎ (events ≡ Event.SpoilTarget target ∷ []))
 
 -- A write to member k failed. At most it was tried after that to record how far the target is rebuilt.
 pub record FailsAtMember (target k : ℕ) (events : List Event) : Type 0 where
@@ -175,7 +182,7 @@ WritesTarget {target} (inr (inr ends)) events =
 -- How far the target is rebuilt was recorded before the fault was answered, or could not be.
 abbrev pub TellsLeaving : {target : ℕ} {copied : Bitmap} {stopped new : MirrorView} → RecordsAtEnd target copied stopped new → List Event → Type 0
 TellsLeaving {target} (inl halted) events = Unit {0}
-TellsLeaving {target} (inr (inl recorded)) events = (offset : ℕ) × (listed : ℕ → Bool) × EventsEndWith (Event.Checkpoint target offset listed) events
+TellsLeaving {target} (inr (inl recorded)) events = (sure : ℕ) × (listed : ℕ → Bool) × EventsEndWith (Event.Checkpoint target sure listed) events
 TellsLeaving {target} (inr (inr fails)) events = EventsEndWith (Event.SpoilTarget target) events
 
 -- The mirror was halted only where `MetadataFault` is answered.
@@ -189,8 +196,9 @@ TellsFault target old new (MetadataFault k) h goes = TellsMember target k goes.l
 TellsFault target old new TargetFault (inl recording) goes = (goes.last ≡ new) × EventsEndWith (Event.RecordTargetFails target) goes.leads.events
 TellsFault target old new TargetFault (inr (inl admission)) goes = (goes.last ≡ new) × EventsEndWith (Event.SpoilTarget target) goes.leads.events
 TellsFault target old new TargetFault (inr (inr ends)) goes = (goes.last ≡ new) × WritesTarget ends.why goes.leads.events
-TellsFault target old new NoMemory (inl first) goes = goes.last ≡ new
-TellsFault target old new NoMemory (inr h) goes = (goes.last ≡ new) × TellsLeaving h.leaves goes.leads.events
+TellsFault target old new NoMemory (inl set) goes = goes.last ≡ new
+TellsFault target old new NoMemory (inr (inl admission)) goes = goes.last ≡ new
+TellsFault target old new NoMemory (inr (inr h)) goes = (goes.last ≡ new) × TellsLeaving h.leaves goes.leads.events
 TellsFault target old new (LogFull k) h goes = (goes.last ≡ new) × TellsLeaving h.leaves goes.leads.events
 
 pub record LeadsUnfinished (target : ℕ) (old new : MirrorView) (fault : RebuildFault) (h : RefusesRebuild target old new fault) : Type 0 where
@@ -232,8 +240,9 @@ FailsCheckpoint target old new (MetadataFault k) (inr (inr h)) = FailsLeaving h.
 FailsCheckpoint target old new TargetFault (inl first) = ⊥
 FailsCheckpoint target old new TargetFault (inr (inl admission)) = ⊥
 FailsCheckpoint target old new TargetFault (inr (inr ends)) = FailsAfterPass ends.why
-FailsCheckpoint target old new NoMemory (inl first) = ⊥
-FailsCheckpoint target old new NoMemory (inr h) = FailsLeaving h.leaves
+FailsCheckpoint target old new NoMemory (inl set) = ⊥
+FailsCheckpoint target old new NoMemory (inr (inl admission)) = ⊥
+FailsCheckpoint target old new NoMemory (inr (inr h)) = FailsLeaving h.leaves
 FailsCheckpoint target old new (LogFull k) h = FailsLeaving h.leaves
 
 -- The checkpoint failed. Where its write left the old superblock or none, it is the event of a record that

@@ -3,7 +3,7 @@
 use Rattle.std.specs.Prelude.{◌≡◌, ◌⊎◌, ℕ, false, List}
 use Rattle.md_bitmap.specs.Marks.{Bitmap}
 use Rattle.md_kept_members.specs.View.{MemberView}
-use Rattle.md_passes.specs.Passes.{PassView}
+use Rattle.md_copy.specs.PassLaws.Passes.{PassView}
 use Rattle.md_state.specs.Members.{IsMember}
 use Rattle.md_state.specs.View.{MirrorView}
 use Rattle.md_array.specs.Consistency.{IsConsistent}
@@ -17,16 +17,21 @@ use Rattle.md_copy.specs.Enrolled.{HasSets, LacksOwnRoom}
 use Rattle.md_copy.specs.Leaving.{HasNone, LeavesAfter}
 use Rattle.md_copy.specs.Passing.{BreaksOffPass, CopiesAll, EndsBetween, FailsListing, FailsRecording}
 use Rattle.md_copy.specs.Preparing.{TellsPasses}
-use Rattle.md_copy.specs.Readying.{FailsAdmission, LacksAdmission, Readies, EndsAdmitted}
+use Rattle.md_copy.specs.Readying.{FailsAdmission, LacksAdmission, LowersTarget, Readies, EndsAdmitted}
 use Rattle.md_copy.specs.Storing.{FailsToRecordTarget, StoresUntilDone, EndsAtOther}
 
--- A rebuild was checked, what is due is stored, and a spare is admitted. No chunk is copied yet.
+-- A rebuild was checked, a recovering target says no more that it has what it lacks, what is due is stored, and a spare is admitted. No
+-- chunk is copied yet.
 pub record BeginsRebuild (target : ℕ) (old ready : MirrorView) (none : Bitmap) : Type 0 where
   pub sound : IsConsistent old
   pub member : MemberView
   pub at : IsMember old.array target member
   pub may : MayBeginRebuild old.array member
-  pub first : Readies target member old ready
+  pub lowered : MirrorView
+  pub lowers : LowersTarget target none old lowered
+  pub then : MemberView
+  pub at_then : IsMember lowered.array target then
+  pub first : Readies target then lowered ready
   pub now : MemberView
   pub there : IsMember ready.array target now
   pub is_none : IsSetOf ready.array (λ c. false) none
@@ -125,11 +130,15 @@ pub record RefusesAtOnce (target : ℕ) (fault : RebuildFault) (old new : Mirror
   pub cannot : CannotRebuild old.array member fault
 
 -- A rebuild might begin, and did not come so far that a pass may be planned.
-pub record EndsStoring (target : ℕ) (old : MirrorView) (Why : Type 0) : Type 0 where
+pub record EndsStoring (target : ℕ) (old : MirrorView) (Why : MirrorView → Type 0) : Type 0 where
   pub member : MemberView
   pub at : IsMember old.array target member
   pub may : MayBeginRebuild old.array member
-  pub why : Why
+  pub none : Bitmap
+  pub is_none : IsSetOf old.array (λ c. false) none
+  pub lowered : MirrorView
+  pub lowers : LowersTarget target none old lowered
+  pub why : Why lowered
 
 -- A rebuild came so far that a pass may be planned, and ended later.
 pub record EndsReadied (target : ℕ) (old : MirrorView) (Why : MemberView → Bitmap → MirrorView → Type 0) : Type 0 where
@@ -138,9 +147,12 @@ pub record EndsReadied (target : ℕ) (old : MirrorView) (Why : MemberView → B
   pub begins : BeginsRebuild target old ready none
   pub why : Why begins.now none ready
 
--- Memory was refused for the set of the chunks, so that nothing was done; or for the admission of a spare.
-abbrev pub LacksMemoryFirst : ℕ → MirrorView → MirrorView → Type 0
-LacksMemoryFirst target old new = (new ≡ old) ⊎ LacksAdmission target old new
+-- Memory was refused for the set of the chunks, so that nothing was done.
+pub record LacksMemoryAtOnce (target : ℕ) (old new : MirrorView) : Type 0 where
+  pub member : MemberView
+  pub at : IsMember old.array target member
+  pub may : MayBeginRebuild old.array member
+  pub unchanged : new ≡ old
 
 -- Once passes may be made, how far the target is rebuilt is recorded before the fault is answered, but where the target could not be written. Before
 -- that nothing is copied, and it is not.
@@ -151,15 +163,16 @@ RefusesRebuild target old new Dirty = RefusesAtOnce target Dirty old new
 RefusesRebuild target old new (InFlight number) = RefusesAtOnce target (InFlight number) old new
 RefusesRebuild target old new EventsFull = RefusesAtOnce target EventsFull old new
 RefusesRebuild target old new (MetadataFault k) =
-    EndsStoring target old (EndsAtOther target k old new)
-    ⊎ (EndsStoring target old (EndsAdmitted target k old new)
+    EndsStoring target old (λ lowered. EndsAtOther target k lowered new)
+    ⊎ (EndsStoring target old (λ lowered. EndsAdmitted target k lowered new)
     ⊎ LeavesAfter target (λ nothing stopped. HasNone nothing × EndsReadied target old (λ m none ready. LosesSource k target m none ready stopped)) new)
 RefusesRebuild target old new TargetFault =
-    EndsStoring target old (FailsToRecordTarget target old new)
-    ⊎ (EndsStoring target old (FailsAdmission target old new)
+    EndsStoring target old (λ lowered. FailsToRecordTarget target lowered new)
+    ⊎ (EndsStoring target old (λ lowered. FailsAdmission target lowered new)
     ⊎ EndsReadied target old (λ m none ready. LosesTarget target m none ready new))
 RefusesRebuild target old new NoMemory =
-    EndsStoring target old (LacksMemoryFirst target old new)
-    ⊎ LeavesAfter target (λ copied stopped. EndsReadied target old (λ m none ready. LacksMemoryToRebuild target m none copied ready stopped)) new
+    LacksMemoryAtOnce target old new
+    ⊎ (EndsStoring target old (λ lowered. LacksAdmission target lowered new)
+    ⊎ LeavesAfter target (λ copied stopped. EndsReadied target old (λ m none ready. LacksMemoryToRebuild target m none copied ready stopped)) new)
 RefusesRebuild target old new (LogFull k) =
     LeavesAfter target (λ copied stopped. EndsReadied target old (λ m none ready. LacksRoom k target m none copied ready stopped)) new

@@ -23,12 +23,12 @@ use Rattle.md_array.specs.Worlds.{AreHonest}
 use Rattle.md_array.specs.InTurn.{HaltsAt, Requests}
 use Rattle.md_metadata.specs.Storing.{IsFailureOf, IsRecording}
 use Rattle.md_pass.specs.Readings.{is_of}
-use Rattle.md_passes.specs.Listed.{ArrayPasses, IsOfFailed, MayServe, ServesAs, most_failures}
-use Rattle.md_passes.specs.Passes.{IsCopiedIn, PassView}
+use Rattle.md_copy.specs.PassLaws.Listed.{ArrayPasses, IsOfFailed, MayServe, ServesAs, most_failures}
+use Rattle.md_copy.specs.PassLaws.Passes.{IsCopiedIn, PassView}
 use Rattle.md_rebuild_table.specs.Orphans.{is_in, uncopied_chunks}
 use Rattle.md_rebuild_table.specs.Sources.{missing_chunks}
 use Rattle.md_copy.specs.declared.rebuilt.Rebuilt.{Rebuilt}
-use Rattle.md_copy.specs.Filling.{CountsFailed}
+use Rattle.md_copy.specs.Filling.{CountsFailed, HaveFailedThere}
 use Rattle.md_copy.specs.Listing.{HasFailedSlot, HasListOn}
 use Rattle.md_copy.specs.Preparing.{TellsPasses}
 
@@ -100,7 +100,8 @@ ListsGrow target failed old new =
     → (sector : ℕ) → IsBad n.bad sector ↔ (IsBad m.bad sector ⊎ IsOfFailed old.chunks failed m sector)
 
 -- The first pass is planned by where a chunk may be read before the call, the others by where it may be once what failed before is listed, and
--- each is least. There are no more of them than chunks to read, counted for each member in sync, and one.
+-- each is least. There are no more of them than chunks to read, counted for each member in sync, and one. A slot that failed is one in whose
+-- chunk a read of its source failed in this call.
 pub record AreItsPasses (target : ℕ) (passes : List PassView) (chunks : List ℕ) (old : MirrorView) (last : MirrorView) : Type 0 where
   pub first : ArrayView
   pub served : (c role : ℕ) → ServesAs first c role ↔ ServesAs old.array c role
@@ -110,6 +111,7 @@ pub record AreItsPasses (target : ℕ) (passes : List PassView) (chunks : List �
   pub few : length passes ≤ most_failures old.array + 1
   pub lists : ListsGrow target (failed_of passes) old.array last.array
   pub counted : CountsFailed (failed_of passes) old last
+  pub there : HaveFailedThere (failed_of passes) old last
 
 -- A write to the member failed: its device, if it is honest, has counted a failure, and if the member was in sync, more than slots of it failed.
 abbrev pub FailsWrite : List Slot → MemberView → Disk → Disk → Type 0

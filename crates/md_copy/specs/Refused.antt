@@ -21,13 +21,13 @@ use Rattle.md_array.specs.Steps.Enrol.{KeepsData}
 use Rattle.md_array.specs.Steps.Lend.{IsBesideMissing}
 use Rattle.md_array.specs.ReadAsKept.{IsSuperOn}
 use Rattle.md_array.specs.Worlds.{is_listed}
-use Rattle.md_passes.specs.Listed.{AreCopiedBy, IsArrayPass, IsOfFailed, ListsFailed, MayServe, ServesAs, most_failures}
-use Rattle.md_passes.specs.Passes.{IsCopiedIn, PassView, failed_chunks}
+use Rattle.md_copy.specs.PassLaws.Listed.{AreCopiedBy, IsArrayPass, IsOfFailed, ListsFailed, MayServe, ServesAs, most_failures}
+use Rattle.md_copy.specs.PassLaws.Passes.{IsCopiedIn, PassView, failed_chunks}
 use Rattle.md_rebuild_table.specs.declared.fault.RebuildFault.{RebuildFault}
 use Rattle.md_rebuild_table.specs.declared.fault.RebuildFault.TheVariants.{Halted, NotSpare, Dirty, InFlight, LogFull, NoMemory, TargetFault, MetadataFault, EventsFull}
 use Rattle.md_rebuild_table.specs.Orphans.{is_in, uncopied_chunks}
 use Rattle.md_rebuild_table.specs.Sources.{missing_chunks}
-use Rattle.md_copy.specs.Filling.{CountsFailed}
+use Rattle.md_copy.specs.Filling.{CountsFailed, HaveFailedThere}
 use Rattle.md_copy.specs.Listing.{HasFailedSlot}
 use Rattle.md_copy.specs.Rebuilt.{KeepStates, ListsGrow, failed_of}
 
@@ -69,12 +69,13 @@ pub record IsBesideLacking (a : ArrayView) (m : MemberView) (at n : ℕ) : Type 
   pub to : at + n ≤ 512 * (m.superblock.data_offset + m.superblock.data_size)
   pub beside : IsBesideMissing a m at n
 
--- No pass was planned, and the target is what it was.
+-- No pass was planned, and the target is what it was. Its superblock is to say no more of what it has than before.
 pub record IsAsBefore (s : Ending) (now : MemberView) : Type 0 where
   pub listed : s.listed ≡ []
   pub last : s.last ≡ []
   pub state : now.state ≡ s.member.state
-  pub offset : now.superblock.recovery_offset ≡ s.member.superblock.recovery_offset
+  pub offset : now.offset ≡ s.member.offset
+  pub sure : now.superblock.recovery_offset ≤ s.member.superblock.recovery_offset
 
 -- No pass was planned. The target was a spare, and is recovering from the start.
 pub record IsAdmitted (s : Ending) (now : MemberView) : Type 0 where
@@ -82,24 +83,26 @@ pub record IsAdmitted (s : Ending) (now : MemberView) : Type 0 where
   pub last : s.last ≡ []
   pub spare : is_spare s.member.state ≡ true
   pub recovering : is_recovering now.state ≡ true
-  pub offset : now.superblock.recovery_offset ≡ 0
+  pub offset : now.offset ≡ 0
+  pub sure : now.superblock.recovery_offset ≡ 0
 
 -- How far a member was rebuilt: one that is not recovering, not at all.
 abbrev pub rebuilt_offset : MemberView → ℕ
-rebuilt_offset m = cond (is_recovering m.state) m.superblock.recovery_offset 0
+rebuilt_offset m = cond (is_recovering m.state) m.offset 0
 
 -- How far a member is rebuilt, of which these chunks were copied: as far as it was, or up to the first chunk
 -- that it lacked and that was not copied, or of which it lists a sector, or to the end, whichever is the
--- furthest.
-pub record IsRebuiltTo (a : ArrayView) (m : MemberView) (copied : Bitmap) (offset : ℕ) : Type 0 where
+-- furthest. Its superblock is to say no more than that it has what is before the first such chunk.
+pub record IsRebuiltTo (a : ArrayView) (m : MemberView) (copied : Bitmap) (offset sure : ℕ) : Type 0 where
   pub from : rebuilt_offset m ≤ offset
   pub below : (c : ℕ) → c < a.marks.chunks → EndsCheckpoint a m copied c → offset ≤ max (rebuilt_offset m) (c * a.chunks.sectors)
   pub upto : (a.chunks.size ≤ offset) ⊎ ((c : ℕ) × (c < a.marks.chunks) × EndsCheckpoint a m copied c × (c * a.chunks.sectors ≤ offset))
+  pub surely : (c : ℕ) → c < a.marks.chunks → EndsCheckpoint a m copied c → sure ≤ c * a.chunks.sectors
 
 -- Passes might be made. The target is recovering, and rebuilt as far as they came.
 pub record IsRebuiltSoFar (a : ArrayView) (s : Ending) (now : MemberView) : Type 0 where
   pub recovering : is_recovering now.state ≡ true
-  pub to : IsRebuiltTo a s.member s.copied now.superblock.recovery_offset
+  pub to : IsRebuiltTo a s.member s.copied now.offset now.superblock.recovery_offset
 
 -- What counts as copied: all that those passes copied of which the failed slots are listed, and at most what
 -- the last pass copied or was to copy, too.
@@ -289,7 +292,7 @@ StatesStay target fault old new =
 
 -- Whatever the fault is: the target is in the state in which it was, or it was a spare and is recovering. How far it is rebuilt is no less than before,
 -- its list is as before, and so are its data beside what it lacked. The data of all other members are as before, their lists grew by slots that
--- failed alone, which the devices have counted, and their states are as before, but for the one that the fault names where a write to it failed. A mirror
+-- failed alone, in whose chunks a read of their source failed in this call, which the devices have counted, and their states are as before, but for the one that the fault names where a write to it failed. A mirror
 -- that was halted on the way is spoken of as it is. The marks in memory are as before.
 pub record HasEnded (target : ℕ) (fault : RebuildFault) (old new : MirrorView) : Type 0 where
   pub ending : Ending
@@ -297,7 +300,7 @@ pub record HasEnded (target : ℕ) (fault : RebuildFault) (old new : MirrorView)
   pub now : MemberView
   pub there : IsMember new.array target now
   pub state : (now.state ≡ ending.member.state) ⊎ ((is_spare ending.member.state ≡ true) × (is_recovering now.state ≡ true))
-  pub offset : is_recovering ending.member.state ≡ true → ending.member.superblock.recovery_offset ≤ now.superblock.recovery_offset
+  pub offset : is_recovering ending.member.state ≡ true → ending.member.offset ≤ now.offset
   pub list : now.bad ≡ ending.member.bad
   pub beside : (d e : Disk) → slice_get old.disks target ≡ Some d → slice_get new.disks target ≡ Some e
       → (at n : ℕ) → IsBesideLacking old.array ending.member at n → part e.content at n ≡ part d.content at n
@@ -305,6 +308,7 @@ pub record HasEnded (target : ℕ) (fault : RebuildFault) (old new : MirrorView)
   pub made : HasMade ending old.array
   pub lists : ListsGrow target (failed_of ending.listed ++ ending.noted) old.array new.array
   pub counted : CountsFailed (failed_of (ending.listed ++ ending.last)) old new
+  pub failed_there : HaveFailedThere (failed_of (ending.listed ++ ending.last)) old new
   pub states : KeepStates target (failed_of (ending.listed ++ ending.last)) old new
   pub still : StatesStay target fault old.array new.array
   pub marks : new.array.marks ≡ old.array.marks

@@ -4,6 +4,8 @@
 //! copy, and why a member is not rebuilt, is in `md_rebuild_table`. What holds of a rebuild that is done is
 //! `HasRebuilt` in `specs/Rebuilt.antt`.
 //!
+//! `pass_laws/`: the passes of a rebuild, as plans one after another.
+//!
 //! ```
 //! let rebuilt = rebuild(rt, alloc, &mut mirror, 1, &gate)?;
 //! ```
@@ -16,6 +18,7 @@ mod leave;
 mod list_failed;
 mod next_table;
 mod one_pass;
+mod pass_laws;
 mod passes;
 mod readying;
 mod rebuilt;
@@ -25,5 +28,6 @@ mod until_done;
 mod whole_rebuild;
 
 pub use md_pass::Gate;
+pub use pass_laws::{copies_add, lists_add, passes_end, passes_go_on};
 pub use rebuilt::Rebuilt;
 pub use whole_rebuild::rebuild;

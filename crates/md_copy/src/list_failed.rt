@@ -6,7 +6,7 @@ ghost use Rattle.md_assembly.specs.States.{is_in_sync_as};
 ghost use Rattle.md_kept_members.specs.Enrolling.{HasRoomFor};
 ghost use Rattle.md_kept_members.specs.View.{MemberView};
 ghost use Rattle.md_pass.specs.Copied.{failed_slots, is_failed_slot};
-ghost use Rattle.md_passes.specs.Listed.{ServesAs};
+ghost use Rattle.md_copy.specs.PassLaws.Listed.{ServesAs};
 ghost use Rattle.md_state.specs.Members.{AllInSync, IsMember};
 ghost use Rattle.md_state.specs.Steps.Rise.{HasSpentEvents};
 ghost use Rattle.md_state.specs.Steps.WriteMember.{IsNotDue};

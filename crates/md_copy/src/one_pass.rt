@@ -5,7 +5,7 @@ ghost use Rattle.md_collect.specs.Collecting.{ArePlanned};
 ghost use Rattle.md_collect.specs.Places.{HasRoom};
 ghost use Rattle.md_pass.specs.Beside.{KeepsBeside};
 ghost use Rattle.md_pass.specs.Copied.{AreUncopied, BreaksOff, EndsPass, pass_state};
-ghost use Rattle.md_workers.specs.Queues.{AreOnlyRead};
+ghost use Rattle.md_collect.specs.Workers.Queues.{AreOnlyRead};
 ghost use Rattle.md_pass.specs.Sources.{MayRead, copy_of};
 
 use md_bitmap::{Chunks, Marks};

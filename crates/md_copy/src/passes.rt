@@ -7,7 +7,7 @@ ghost use Rattle.md_cert.specs.Plans.{IsCertified, SlotsRise};
 ghost use Rattle.md_cert.specs.Tables.{orphans_of};
 ghost use Rattle.md_kept_members.specs.View.{MemberView};
 ghost use Rattle.md_pass.specs.Copied.{failed_slots};
-ghost use Rattle.md_passes.specs.Listed.{ServesAs};
+ghost use Rattle.md_copy.specs.PassLaws.Listed.{ServesAs};
 ghost use Rattle.md_state.specs.Members.{IsMember};
 ghost use Rattle.md_rebuild_table.specs.Orphans.{IsSetOf};
 ghost use Rattle.md_rebuild_table.specs.Sources.{IsTableIn};

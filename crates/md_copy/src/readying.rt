@@ -8,13 +8,32 @@ ghost use Rattle.md_array.specs.Steps.Admit.{Admits};
 ghost use Rattle.md_array.specs.Consistency.{IsConsistent};
 ghost use Rattle.md_rebuild_table.specs.Beginning.{MayBeginRebuild};
 ghost use Rattle.md_rebuild_table.specs.Targets.{IsTarget};
-ghost use Rattle.md_copy.specs.Readying.{Readies, RefusesAdmission, RefusesToReady};
+ghost use Rattle.md_rebuild_table.specs.Orphans.{IsSetOf};
+ghost use Rattle.md_copy.specs.Readying.{LowersTarget, Readies, RefusesAdmission, RefusesToReady};
 
 use crate::storing::store_first;
 use md_array::{AdmitFault, Mirror};
+use md_bitmap::Marks;
 use md_device::Device;
 use md_rebuild_table::RebuildFault;
 use std::alloc::Global;
+
+/// The target, if it is recovering, is to say no more that it has what it lacks, which the passes fill: its superblock is due, if it says
+/// so. These are no chunks: none is copied yet. In memory alone.
+pub(crate) fn lower_target<D: Device + Drop>(mirror: &mut Mirror<D>, target: usize, none: &Marks)
+    requires within { target < length mirror.old.array.members }
+    requires sound { IsConsistent mirror.old }
+    requires running { mirror.old.array.halted ≡ false }
+    requires none { IsSetOf mirror.old.array (λ c. false) none.now }
+    ensures gives { LowersTarget target none.now mirror.old mirror.new }
+    ensures sound { IsConsistent mirror.new }
+{
+    if !mirror.state(target).is_recovering() {
+        return;
+    }
+    let end = mirror.checkpoint_end(target, none);
+    mirror.lower_offset(target, end);
+}
 
 /// Stores what is due. A spare is then admitted, and what that makes due is stored. Where a member fails at that,
 /// how far the target is rebuilt is not recorded: no chunk is copied yet, and the others may not have stored that

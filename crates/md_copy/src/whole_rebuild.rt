@@ -13,7 +13,7 @@ ghost use Rattle.md_copy.specs.Refused.{HasEnded};
 use crate::enrol_filled::enrol_copied;
 use crate::leave::leave;
 use crate::passes::copy_passes;
-use crate::readying::make_ready;
+use crate::readying::{lower_target, make_ready};
 use crate::rebuilt::Rebuilt;
 use crate::until_done::store_until_done;
 use md_array::Mirror;
@@ -66,6 +66,7 @@ fn rebuild_by_steps<D: Device + Drop + Send, G: Gate + Sync, R: Threads + Wait +
         Ok(copied) => copied,
         Err(_) => return Err(RebuildFault::NoMemory),
     };
+    lower_target(mirror, target, &copied);
     make_ready(alloc, mirror, target)?;
     match rebuild_readied(rt, alloc, mirror, target, gate, &mut copied) {
         Ok(told) => Ok(told),

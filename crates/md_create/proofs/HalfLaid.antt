@@ -9,11 +9,11 @@ use Rattle.md_super.specs.Encoding.{super_bytes}
 use Rattle.md_create.specs.Layout.{IsHalfLaidOut, empty_log, others_of, bitmap_sectors_of, super_write_of, wipe, writes_of}
 use Rattle.md_create.specs.declared.params.NewMember.{NewMember}
 use Rattle.md_create.proofs.Laid.{bitmap_keeps, few_sectors, keeps_then, log_keeps, super_keeps}
-use Rattle.md_device_writes.specs.Bitmaps.{bitmap_writes}
-use Rattle.md_device_writes.specs.Writes.{IsCutShort, IsNextMixed, Write, after}
-use Rattle.md_device_writes.proofs.Frames.{outside_around}
-use Rattle.md_device_writes.proofs.Runs.{after-append, cut_last}
-use Rattle.md_device_writes.proofs.Stored.{part-part, stored_all, stored_cut}
+use Rattle.md_members.specs.DeviceWrites.Bitmaps.{bitmap_writes}
+use Rattle.md_members.specs.DeviceWrites.Writes.{IsCutShort, IsNextMixed, Write, after}
+use Rattle.md_members.proofs.DeviceWriteLemmas.Frames.{outside_around}
+use Rattle.md_members.proofs.DeviceWriteLemmas.Runs.{after-append, cut_last}
+use Rattle.md_members.proofs.DeviceWriteLemmas.Stored.{part-part, stored_all, stored_cut}
 
 -- the first of these writes was cut short, or it was done
 cut_first : (old left : List ℕ) (w : Write) (ws : List Write) → IsCutShort old (w ∷ ws) left → IsMixed w.sector w.bytes old left ⊎ IsCutShort (written old w.sector w.bytes) ws left

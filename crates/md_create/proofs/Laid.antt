@@ -7,11 +7,11 @@ use Rattle.md_super.specs.Encoding.{super_bytes}
 use Rattle.md_bitmap.specs.Sectors.{bitmap_sector}
 use Rattle.md_create.specs.Layout.{IsLaidOutAs, KeepsOthers, empty_log, bitmap_sectors_of, super_write_of, wipe, writes_of}
 use Rattle.md_create.specs.declared.params.NewMember.{NewMember}
-use Rattle.md_device_writes.specs.Bitmaps.{bitmap_writes}
-use Rattle.md_device_writes.specs.Writes.{after}
-use Rattle.md_device_writes.proofs.Frames.{outside_around, outside_then}
-use Rattle.md_device_writes.proofs.Runs.{after-append}
-use Rattle.md_device_writes.proofs.Stored.{AreStored, stored_all}
+use Rattle.md_members.specs.DeviceWrites.Bitmaps.{bitmap_writes}
+use Rattle.md_members.specs.DeviceWrites.Writes.{after}
+use Rattle.md_members.proofs.DeviceWriteLemmas.Frames.{outside_around, outside_then}
+use Rattle.md_members.proofs.DeviceWriteLemmas.Runs.{after-append}
+use Rattle.md_members.proofs.DeviceWriteLemmas.Stored.{AreStored, stored_all}
 
 pub few_sectors : (member : NewMember) → bitmap_sectors_of member ≤ 257
 few_sectors member =

@@ -105,9 +105,9 @@ early_bitmap bitmap_fault.TooManyChunks = omega arith
 module _ (member : NewMember) (old new : List ℕ) (spelled : IsSuper (super_bytes member.superblock) (sealed member.superblock)) (sound : NoSuperFault (super_bytes member.superblock))
     (header_is : IsHeader (header_bytes member.header) member.header) (header_sound : NoneStands (header_bytes member.header)) (long : length (header_bytes member.header) ≡ 256)
     (laid : IsLaidOutAs old member new) (room : 512 * (2048 + member.superblock.data_size) ≤ length new) where
-  super_refused : (fault : MemberFault) → RefusesSuper new true ⊥ fault → fault ≡ NoMemory
+  super_refused : (fault : MemberFault) → RefusesSuper new true (λ _. ⊥) fault → fault ≡ NoMemory
   super_refused TooShort refused = absurd (omega arith)
-  super_refused ReadFault refused = absurd (refused.1 refl)
+  super_refused ReadFault refused = absurd refused.1
   super_refused (Super f) refused =
       let bytes : refused.0.bytes ≡ super_bytes member.superblock = refused.0.read.from_device refl ∙ laid.superblock in
       let first = subst (λ (bs : List ℕ). IsFirstSuperFault bs f) bytes refused.0.first in
@@ -121,8 +121,11 @@ module _ (member : NewMember) (old new : List ℕ) (spelled : IsSuper (super_byt
     placed_in : (width : ℕ) → width ≤ 2016 → AreAreasPlaced (sectors_in new) v width
     placed_in width few = rw (super_read member old new spelled header_is long laid v read) (new_placed (sealed member.superblock) (sealed_places member) (sectors_in new) width few (omega arith))
 
-    bitmap_refused : (fault : MemberFault) → RefusesBitmap new true ⊥ (sectors_in new) v fault → fault ≡ NoMemory
-    bitmap_refused ReadFault refused = absurd (refused refl)
+    bitmap_refused : (fault : MemberFault) → RefusesBitmap new true (λ _. ⊥) (sectors_in new) v fault → fault ≡ NoMemory
+    bitmap_refused ReadFault refused = elim refused.failed [
+      | inl first ↦ absurd first
+      | inr rest ↦ absurd rest.2
+    ]
     bitmap_refused (Bitmap f) (inl spoiled) =
         let front = front_read member old new spelled header_is long laid v read spoiled.start spoiled.sector spoiled.at spoiled.read in
         let first = subst (λ (bytes : List ℕ). IsFirst (BitmapFaultStands bytes) bitmap_place f) front spoiled.first in
@@ -140,11 +143,11 @@ module _ (member : NewMember) (old new : List ℕ) (spelled : IsSuper (super_byt
     bitmap_refused (Super f) refused = absurd refused
     bitmap_refused (Log f) refused = absurd refused
 
-  rest_refused : (v : Superblock) → ReadsSuper new true v → (fault : MemberFault) → RefusesRest new true ⊥ v fault → fault ≡ NoMemory
+  rest_refused : (v : Superblock) → ReadsSuper new true v → (fault : MemberFault) → RefusesRest new true (λ _. ⊥) v fault → fault ≡ NoMemory
   rest_refused v read fault (by_place is none) = absurd (none (placed_in v read 1 (omega arith)))
   rest_refused v read fault (by_bitmap placed has refused) = bitmap_refused v read fault refused
   rest_refused v read fault (by_log placed h m has listed refused) = let none = no_log member old new spelled header_is long laid v read in absurd cc
 
-  pub only_memory : (fault : MemberFault) → RefusesMember new true ⊥ fault → fault ≡ NoMemory
+  pub only_memory : (fault : MemberFault) → RefusesMember new true (λ _. ⊥) fault → fault ≡ NoMemory
   only_memory fault (inl refused) = super_refused fault refused
   only_memory fault (inr rest) = rest_refused rest.0 rest.1 fault rest.2

@@ -7,8 +7,8 @@ use Rattle.md_super.specs.declared.superblock.Superblock.{Superblock}
 use Rattle.md_super.specs.Encoding.{super_bytes}
 use Rattle.md_bitmap.specs.Sectors.{bitmap_sector, bitmap_sectors}
 use Rattle.md_create.specs.declared.params.NewMember.{NewMember}
-use Rattle.md_device_writes.specs.Bitmaps.{bitmap_writes}
-use Rattle.md_device_writes.specs.Writes.{Write, after}
+use Rattle.md_members.specs.DeviceWrites.Bitmaps.{bitmap_writes}
+use Rattle.md_members.specs.DeviceWrites.Writes.{Write, after}
 
 -- zeros in place of a superblock, so that no crash leaves an old one over an emptied log
 abbrev pub wipe : Write

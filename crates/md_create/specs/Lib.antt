@@ -1,4 +1,4 @@
-pub use Rattle.md_device_writes.specs.Writes
+pub use Rattle.md_members.specs.DeviceWrites.Writes
 -- Where the parts of a new member stand on its device, in sectors.
 pub mod Places
 -- What a new array demands of its devices (this project's own limits).

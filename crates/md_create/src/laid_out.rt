@@ -1,14 +1,14 @@
 // Laying a new member out on its device.
 ghost use Rattle.std.specs.Prelude.{◌≡◌, ◌≤◌, ◌*◌, length, true, OnOk};
 ghost use Rattle.md_device.specs.Crashes.{LeavesMore};
-ghost use Rattle.md_device_writes.specs.Writes.{MakesWrites};
+ghost use Rattle.md_members.specs.DeviceWrites.Writes.{MakesWrites};
 ghost use Rattle.md_create.specs.Layout.{IsHalfLaidOut, IsLaidOutAs, KeepsOthers, writes_of};
 ghost use Rattle.md_create.specs.ReadBack.{IsReadBack};
 
 use crate::params::NewMember;
 use crate::places::{BITMAP_SECTOR, LOG_SECTOR};
 use md_device::{Device, WriteFault};
-use md_device_writes::{put, store_bitmap};
+use md_members::{put, store_bitmap};
 use md_super::SUPER_SECTOR;
 
 /// Writes a member's bitmap and superblock to a device of at least 2048 sectors, and an empty bad

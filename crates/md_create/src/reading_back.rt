@@ -15,7 +15,7 @@ use md_bitmap::HEADER_BYTES;
 /// refuses it only where memory ran out. This function does nothing.
 pub fn reads_back(member: &NewMember)
     ensures same { (old new : List ℕ) (info : MemberInfo) → IsLaidOutAs old member.now new → IsReadMember new true info → ReadsBack member.now info }
-    ensures taken { (old new : List ℕ) (fault : MemberFault) → IsLaidOutAs old member.now new → 512 * (2048 + member.now.superblock.data_size) ≤ length new → RefusesMember new true ⊥ fault → fault ≡ NoMemory }
+    ensures taken { (old new : List ℕ) (fault : MemberFault) → IsLaidOutAs old member.now new → 512 * (2048 + member.now.superblock.data_size) ≤ length new → RefusesMember new true (λ _. ⊥) fault → fault ≡ NoMemory }
 {
     let mut block = [0; 4096];
     member.superblock.encode(&mut block);

@@ -1,22 +1,23 @@
 // A device that keeps in memory what is written to it, over one that stays as it is.
-ghost use Rattle.std.specs.Prelude.{◌≡◌, ◌+◌, ◌*◌, ◌/◌, ◌%◌, ◌^◌, ◌<◌, ◌≤◌, ◌⊎◌, ℕ, [], length, slice_index, true, Some, OnOk, OnErr};
+ghost use Rattle.std.specs.Prelude.{◌≡◌, ◌+◌, ◌*◌, ◌/◌, ◌%◌, ◌^◌, ◌<◌, ◌≤◌, ◌⊎◌, ◌++◌, ◌∷◌, ℕ, [], length, slice_index, true, Some, OnOk, OnErr, refl};
 ghost use Rattle.std.specs.BTreeMap.{get};
 ghost use Rattle.std.specs.Option.{option_map, unwrap_or};
 ghost use Rattle.std.specs.Ordering.{nat_cmp};
 ghost use Rattle.md_device.specs.Splice.{SameOutside, part};
 ghost use Rattle.md_device.specs.Device.{held, written};
 ghost use Rattle.md_device.specs.Crashes.{LeavesMore};
+ghost use Rattle.md_device.specs.Failing.{AddsItself, failed_read, failed_write};
 ghost use Rattle.md_device.specs.Overlay.{byte_over};
 
-use crate::count::Count;
 use crate::device::{Device, ReadFault, WriteFault};
+use crate::fault_list::{Fault, FaultList};
 use std::alloc::{AllocError, Global};
 use std::collections::BTreeMap;
 use std::marker::Model;
 
 /// A device over another one that is only read: what is written to it is kept in memory, and read
-/// again from there. Contracts see it as the device below, the bytes that reads see, and how many
-/// writes have failed.
+/// again from there. Contracts see it as the device below, the bytes that reads see, and the calls that
+/// have failed.
 ///
 /// It takes memory for each sector that is written for the first time, and none to read. A write for
 /// which there is no memory fails. What is written is gone with the device: a crash leaves none of it.
@@ -25,7 +26,7 @@ pub struct OverlayDevice<D: Device> {
     inner: D,
     sectors: u64,
     blocks: BTreeMap<u64, [u8; 512]>,
-    refused: Count,
+    faults: FaultList,
 }
 
 impl<D: Device> Model for OverlayDevice<D> {
@@ -36,7 +37,7 @@ impl<D: Device> Model for OverlayDevice<D> {
 
     ghost coded = { overlay_code D.code };
 
-    ghost view = { λ d. record { inner = d.inner; content = laid_over d.blocks (D.content d.inner); refused = d.refused.number } };
+    ghost view = { λ d. record { inner = d.inner; content = laid_over d.blocks (D.content d.inner); faults = d.faults.list } };
 
     ghost invariant = { λ d. (length (D.content d.inner) ≡ 512 * d.sectors) × (d.sectors ≤ 2 ^ 54) };
 }
@@ -45,13 +46,13 @@ impl<D: Device> Model for OverlayDevice<D> {
 impl<D: Device> OverlayDevice<D> {
     /// A device that shows what stands on the one below. Takes no memory.
     pub fn new(alloc: Global, inner: D) -> OverlayDevice<D>
-        ensures { result ≡ record { inner = inner; content = D.content inner; refused = 0 } }
+        ensures { result ≡ record { inner = inner; content = D.content inner; faults = [] } }
     {
         OverlayDevice {
             sectors: inner.sectors(),
             inner,
             blocks: BTreeMap::new(alloc),
-            refused: Count::zero(),
+            faults: FaultList::empty(),
         }
     }
 
@@ -69,7 +70,11 @@ impl<D: Device> Device for OverlayDevice<D> {
 
     ghost honest = { λ d. D.honest d.inner };
 
-    ghost failures = { λ d. d.refused + D.failures d.inner };
+    ghost faults = { λ d. d.faults };
+
+    ghost failures = { λ d. length d.faults };
+
+    ghost counts = { λ _. refl };
 
     // What is in memory is not left by a crash, so nothing is promised of one.
     ghost crashes = { λ _. [] };
@@ -83,18 +88,20 @@ impl<D: Device> Device for OverlayDevice<D> {
         requires within { 512 * sector + length buf.old ≤ length self.old.content }
 
         ensures kept { self.new.content ≡ self.old.content }
-        ensures refused { self.new.refused ≡ self.old.refused }
         ensures honest { D.honest self.new.inner ≡ D.honest self.old.inner }
         ensures ok { OnOk result (D.honest self.old.inner ≡ true → buf.new ≡ held self.old.content sector (length buf.old)) }
-        ensures err { OnErr result (D.honest self.old.inner ≡ true → D.failures self.old.inner < D.failures self.new.inner) }
-        ensures counted { D.failures self.old.inner ≤ D.failures self.new.inner }
-        ensures unfailing { OnOk result (D.failures self.new.inner ≡ D.failures self.old.inner) }
+        ensures err { OnErr result (self.new.faults ≡ self.old.faults ++ failed_read sector (length buf.old) ∷ []) }
+        ensures unfailing { OnOk result (self.new.faults ≡ self.old.faults) }
 
-        // The device below is read, and a crash leaves what stood on it.
+        // The device below is read, and a crash leaves what stood on it. No read fails but by that device.
         ensures below { D.content self.new.inner ≡ D.content self.old.inner }
+        ensures below_faults { AddsItself result (failed_read sector (length buf.old)) (D.faults self.old.inner) (D.faults self.new.inner) }
         ensures below_within { D.honest self.old.inner ≡ true → LeavesMore (D.crashes self.old.inner) (D.crashes self.new.inner) (λ left. left ≡ D.content self.old.inner) }
     {
-        self.inner.read(sector, buf)?;
+        if self.inner.read(sector, buf).is_err() {
+            self.faults = self.faults.with_fault(&Fault::read(sector, buf.len()));
+            return Err(ReadFault);
+        }
         lay_over(&self.blocks, sector, buf);
         Ok(())
     }
@@ -107,11 +114,11 @@ impl<D: Device> Device for OverlayDevice<D> {
         ensures below { self.new.inner ≡ self.old.inner }
         ensures ok { OnOk result (self.new.content ≡ written self.old.content sector bytes.now) }
         ensures outside { SameOutside (512 * sector) (length bytes.now) self.old.content self.new.content }
-        ensures unfailing { OnOk result (self.new.refused ≡ self.old.refused) }
-        ensures err { OnErr result (self.new.refused ≡ self.old.refused + 1) }
+        ensures unfailing { OnOk result (self.new.faults ≡ self.old.faults) }
+        ensures err { OnErr result (self.new.faults ≡ self.old.faults ++ failed_write sector (length bytes.now) ∷ []) }
     {
         if keep(&mut self.blocks, sector, bytes).is_err() {
-            self.refused = self.refused.next();
+            self.faults = self.faults.with_fault(&Fault::write(sector, bytes.len()));
             return Err(WriteFault);
         }
         Ok(())

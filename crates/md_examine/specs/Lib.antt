@@ -12,3 +12,5 @@ pub mod SuperblockReport
 pub mod BitmapReport
 -- The report of a member's bad blocks, as text: a line for each maximal run, in a form of this project's own.
 pub mod BadblocksReport
+-- How a name is shown on standard error.
+pub mod ShownNames

@@ -3,6 +3,8 @@
 //! Start with `examine`. A report goes to a `Sink`: an `Output` is one over a writer of std, and a `Buffered`
 //! passes on larger pieces. What stands on a device though it may be refused is shown by `md_raw_reports`.
 //!
+//! `shown_names/`: how a name is shown on standard error.
+//!
 //! ```
 //! let mut out = Buffered::new(alloc, Output::new(writer));
 //! examine(&mut out, &superblock)?;
@@ -15,6 +17,7 @@ mod bitmap_report;
 mod buffered;
 mod columns;
 mod lines;
+mod shown_names;
 mod sink;
 mod superblock_report;
 mod values;
@@ -27,6 +30,7 @@ pub use lines::{
     decimal_line, hex_line, hex8_line, line, marks_line, name_line, sectors_line, three_part_line,
     two_part_line, unit_line, uuid_line,
 };
+pub use shown_names::{hides, is_hidden, put_name};
 pub use sink::{Output, Sink, SinkFault};
 pub use superblock_report::{cleanness, examine, state_letters};
 pub use values::{hex_digits, name_len, shown_bytes};

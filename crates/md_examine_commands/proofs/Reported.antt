@@ -1,8 +1,9 @@
 -- A report that was put out, an output that failed under it, and a part that was not read.
 use Rattle.std.proofs.Common.{◌≡◌, ℕ, Bool, List, Result, Ok, Err, IfOk, subst, sym}
+use Rattle.md_device.specs.declared.fault_list.Fault.{Fault}
 use Rattle.md_examine.specs.declared.sink.Sink.{Ghosts}
-use Rattle.md_raw_members.specs.declared.fault.RawFault.{RawFault}
-use Rattle.md_raw_members.specs.declared.fault.RawFault.TheVariants.{NoBitmap, Region, TooShort}
+use Rattle.md_raw_reports.specs.declared.raw_members.fault.RawFault.{RawFault}
+use Rattle.md_raw_reports.specs.declared.raw_members.fault.RawFault.TheVariants.{NoBitmap, Region, TooShort}
 use Rattle.md_words.specs.Asks.{Ask}
 use Rattle.md_commands.specs.Output.{ShowsText}
 use Rattle.md_commands.specs.declared.fault.CommandFault.{CommandFault}
@@ -27,6 +28,6 @@ module _ {S : Type 0} (s : Ghosts S) (Shown : List ℕ → Type 0) (Refused : Co
       subst (λ (e : CommandFault). RefusesOrFails s Shown Refused old new e) (sym is) (by_fault f same refused)
 
 -- what a command gives is what its words ask for
-module _ {S : Type 0} (s : Ghosts S) (content : List ℕ) (honest : Bool) (Failed : Type 0) (old new : S) (result : Result (Unit {0}) CommandFault) where
+module _ {S : Type 0} (s : Ghosts S) (content : List ℕ) (honest : Bool) (Failed : (Fault → Type 0) → Type 0) (old new : S) (result : Result (Unit {0}) CommandFault) where
   pub as_asked : {asked ask : Ask} → asked ≡ ask → Examines ask s content honest Failed old new result → Examines asked s content honest Failed old new result
   as_asked e h = subst (λ (a : Ask). Examines a s content honest Failed old new result) (sym e) h

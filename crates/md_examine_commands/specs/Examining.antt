@@ -1,13 +1,14 @@
 -- What the commands that show one image give.
 use Rattle.md_device.specs.declared.device.Device.{Ghosts}
-use Rattle.std.specs.Prelude.{◌≡◌, ◌≢◌, ◌⊎◌, ℕ, ◌<◌, Bool, true, false, List, Option, Some, None, Result, Err, MatchResult, take}
+use Rattle.md_device.specs.declared.fault_list.Fault.{Fault}
+use Rattle.std.specs.Prelude.{◌≡◌, ◌≢◌, ◌⊎◌, ℕ, Bool, true, false, List, Option, Some, None, Result, Err, MatchResult, take}
 use Rattle.md_badblocks.specs.declared.run.Run.{Run}
 use Rattle.md_super.specs.declared.superblock.Superblock.{Superblock as SuperblockValue}
 use Rattle.md_bitmap.specs.declared.header.BitmapHeader.{BitmapHeader}
 use Rattle.md_bitmap.specs.Marks.{Bitmap as BitmapValue}
 use Rattle.md_members.specs.declared.info.MemberInfo.{MemberInfo}
 use Rattle.md_members.specs.declared.fault.MemberFault.TheVariants as member
-use Rattle.md_members.specs.Reading.{ReadsSuper, RefusesSuper}
+use Rattle.md_members.specs.Reading.{CallFails, ReadsSuper, RefusesSuper}
 use Rattle.md_members.specs.Members.{IsReadMember, RefusesMember}
 use Rattle.md_examine.specs.declared.sink.Sink.{Ghosts as SinkGhosts}
 use Rattle.md_examine.specs.SuperblockReport.{examine_text}
@@ -18,18 +19,18 @@ use Rattle.md_raw_reports.specs.BitmapFields.{bitmap_all_text}
 use Rattle.md_raw_reports.specs.LogFields.{log_all_text}
 use Rattle.md_raw_reports.specs.declared.raw_bitmap.RawBitmap.{RawBitmap}
 use Rattle.md_raw_reports.specs.declared.super_fields.Found.{Found}
-use Rattle.md_json.specs.BadblocksObject.{badblocks_object}
-use Rattle.md_json.specs.BitmapObject.{bitmap_object}
-use Rattle.md_json.specs.Objects.{object_line}
-use Rattle.md_raw_json.specs.RawBitmap.{raw_bitmap_object}
-use Rattle.md_raw_json.specs.RawLog.{raw_log_object}
-use Rattle.md_raw_json.specs.RawSuper.{raw_super_object}
-use Rattle.md_json.specs.SuperblockObject.{superblock_object}
-use Rattle.md_raw_members.specs.Elsewhere.{FindsElsewhere}
-use Rattle.md_raw_members.specs.Raw.{ReadsRawBitmap, ReadsFront, ReadsRawLog, RefusesRawBitmap, RefusesRawSuper, RefusesRawLog}
-use Rattle.md_raw_members.specs.declared.fault.RawFault.{RawFault}
-use Rattle.md_raw_members.specs.declared.fault.RawFault.TheVariants as raw
-use Rattle.md_raw_members.specs.declared.read_parts.RawLog.{RawLog}
+use Rattle.md_report.specs.AsJson.BadblocksObject.{badblocks_object}
+use Rattle.md_report.specs.AsJson.BitmapObject.{bitmap_object}
+use Rattle.md_report.specs.AsJson.Objects.{object_line}
+use Rattle.md_raw_reports.specs.RawJson.RawBitmap.{raw_bitmap_object}
+use Rattle.md_raw_reports.specs.RawJson.RawLog.{raw_log_object}
+use Rattle.md_raw_reports.specs.RawJson.RawSuper.{raw_super_object}
+use Rattle.md_report.specs.AsJson.SuperblockObject.{superblock_object}
+use Rattle.md_raw_reports.specs.RawMembers.Elsewhere.{FindsElsewhere}
+use Rattle.md_raw_reports.specs.RawMembers.Raw.{ReadsRawBitmap, ReadsFront, ReadsRawLog, RefusesRawBitmap, RefusesRawSuper, RefusesRawLog}
+use Rattle.md_raw_reports.specs.declared.raw_members.fault.RawFault.{RawFault}
+use Rattle.md_raw_reports.specs.declared.raw_members.fault.RawFault.TheVariants as raw
+use Rattle.md_raw_reports.specs.declared.raw_members.read_parts.RawLog.{RawLog}
 use Rattle.md_words.specs.Asks.{Ask, examines, examines_badblocks, examines_bitmap}
 use Rattle.md_words.specs.declared.form.ImageForm.TheVariants as form
 use Rattle.md_images.specs.declared.image_fault.ImageFault.{ImageFault}
@@ -86,8 +87,9 @@ abbrev pub raw_log_shown : Bool → ℕ → List ℕ → Option ℕ → List ℕ
 raw_log_shown true sectors superblock lost area = object_line (raw_log_object sectors superblock lost area)
 raw_log_shown false sectors superblock lost area = log_all_text sectors superblock lost area
 
--- A text of what stands on a device of this content, as far as it was read. `Failed` says that a call on it failed.
-module _ (content : List ℕ) (honest : Bool) (Failed : Type 0) (json : Bool) (text : List ℕ) where
+-- A text of what stands on a device of this content, as far as it was read. `Failed P` says that a call on it failed that has P.
+module _ (content : List ℕ) (honest : Bool) (Failed : (Fault → Type 0) → Type 0) (json : Bool)
+    (text : List ℕ) where
   pub record ShowsSuper : Type 0 where
     pub sectors : ℕ
     pub bytes : List ℕ
@@ -113,8 +115,8 @@ module _ (content : List ℕ) (honest : Bool) (Failed : Type 0) (json : Bool) (t
     pub placed : ReadsRawLog content honest Failed sectors superblock area log
     pub is : text ≡ raw_log_shown json sectors superblock log.lost (take log.len area)
 
--- the text that a device of this content is shown by, where `Failed` says that a call on it failed
-abbrev pub ShownBy : Ask → List ℕ → Bool → Type 0 → List ℕ → Type 0
+-- the text that a device of this content is shown by, where `Failed P` says that a call on it failed that has P
+abbrev pub ShownBy : Ask → List ℕ → Bool → ((Fault → Type 0) → Type 0) → List ℕ → Type 0
 ShownBy (examines form.Text) content honest Failed text = IsSuperblockText content honest false text
 ShownBy (examines form.Json) content honest Failed text = IsSuperblockText content honest true text
 ShownBy (examines form.Raw) content honest Failed text = ShowsSuper content honest Failed false text
@@ -132,7 +134,7 @@ ShownBy (examines_badblocks form.RawJson) content honest Failed text =
 ShownBy _ content honest Failed text = ⊥
 
 -- ---- Why an image is not shown.
-module _ (content : List ℕ) (honest : Bool) (Failed : Type 0) where
+module _ (content : List ℕ) (honest : Bool) (Failed : (Fault → Type 0) → Type 0) where
   abbrev pub IsSuperblockRefusal : CommandFault → Type 0
   IsSuperblockRefusal (Member f) = RefusesSuper content honest Failed f
   IsSuperblockRefusal fault = ⊥
@@ -156,7 +158,7 @@ of_raw raw.Region = Member member.Region
 abbrev pub IsRaw : (RawFault → Type 0) → CommandFault → Type 0
 IsRaw Refuses fault = (f : RawFault) × (fault ≡ of_raw f) × Refuses f
 
-abbrev pub RefusedBy : Ask → List ℕ → Bool → Type 0 → CommandFault → Type 0
+abbrev pub RefusedBy : Ask → List ℕ → Bool → ((Fault → Type 0) → Type 0) → CommandFault → Type 0
 RefusedBy (examines form.Text) content honest Failed fault = IsSuperblockRefusal content honest Failed fault
 RefusedBy (examines form.Json) content honest Failed fault = IsSuperblockRefusal content honest Failed fault
 RefusedBy (examines form.Raw) content honest Failed fault = IsRaw (RefusesRawSuper content) fault
@@ -195,7 +197,7 @@ module _ {S : Type 0} (s : SinkGhosts S) where
       (RefusesOrFails Shown Refused old new)
 
 -- what a command gives on a device of this content
-abbrev pub Examines : {S : Type 0} → Ask → SinkGhosts S → List ℕ → Bool → Type 0 → S → S
+abbrev pub Examines : {S : Type 0} → Ask → SinkGhosts S → List ℕ → Bool → ((Fault → Type 0) → Type 0) → S → S
     → Result (Unit {0}) CommandFault → Type 0
 Examines ask s content honest Failed old new result =
     Reports s (ShownBy ask content honest Failed) (RefusedBy ask content honest Failed) old new result
@@ -217,8 +219,7 @@ pub record ExaminesDevice {D S : Type 0} (ask : Ask) (g : Ghosts D) (s : SinkGho
   pub others : known ≡ true → OthersStay before after name
   pub kept : g.content given ≡ g.content taken
   pub stays_honest : g.honest given ≡ g.honest taken
-  pub gives : Examines ask s (g.content taken) (g.honest taken) (g.failures taken < g.failures given) old new
-      result
+  pub gives : Examines ask s (g.content taken) (g.honest taken) (CallFails g taken given) old new result
 
 -- the image can't be opened
 pub record RefusesImage {D S : Type 0} (known : Bool) (before after : List ℕ → Option D) (name : List ℕ)

@@ -1,5 +1,6 @@
 // The commands that show one image.
-ghost use Rattle.std.specs.Prelude.{◌≡◌, ◌≢◌, ◌<◌, ℕ, Err, IfOk, List, [], ◌∷◌, length, map, true};
+ghost use Rattle.std.specs.Prelude.{◌≡◌, ◌≢◌, ℕ, Err, IfOk, List, [], ◌∷◌, length, map, true};
+ghost use Rattle.md_members.specs.Reading.{CallFails};
 ghost use Rattle.md_words.specs.Asks.{ask_of};
 ghost use Rattle.md_examine_commands.specs.Examining.{Examines, ExaminesOne, IsBadblocksRefusal, IsBadblocksText, IsBitmapRefusal, IsBitmapText, IsSuperblockRefusal, IsSuperblockText, Reports, examines_image};
 
@@ -24,7 +25,7 @@ fn show_superblock<D: Device, S: Sink>(
     ensures honest { D.honest device.new ≡ D.honest device.old }
     ensures gives { Reports S.Sink (IsSuperblockText (D.content device.old) (D.honest device.old) json)
         (IsSuperblockRefusal (D.content device.old) (D.honest device.old)
-        (D.failures device.old < D.failures device.new)) out.old out.new result }
+        (CallFails D.Device device.old device.new)) out.old out.new result }
 {
     let v = read_super(alloc, device).map_err(CommandFault::Member)?;
     put_superblock(out, json, &v)
@@ -41,7 +42,7 @@ fn show_bitmap<D: Device, S: Sink>(
     ensures honest { D.honest device.new ≡ D.honest device.old }
     ensures gives { Reports S.Sink (IsBitmapText (D.content device.old) (D.honest device.old) json)
         (IsBitmapRefusal (D.content device.old) (D.honest device.old)
-        (D.failures device.old < D.failures device.new)) out.old out.new result }
+        (CallFails D.Device device.old device.new)) out.old out.new result }
 {
     let member = read_member(alloc, device).map_err(CommandFault::Member)?;
     let Some(header) = &member.header else {
@@ -64,7 +65,7 @@ fn show_badblocks<D: Device, S: Sink>(
     ensures honest { D.honest device.new ≡ D.honest device.old }
     ensures gives { Reports S.Sink (IsBadblocksText (D.content device.old) (D.honest device.old) json)
         (IsBadblocksRefusal (D.content device.old) (D.honest device.old)
-        (D.failures device.old < D.failures device.new)) out.old out.new result }
+        (CallFails D.Device device.old device.new)) out.old out.new result }
 {
     let member = read_member(alloc, device).map_err(CommandFault::Member)?;
     put_badblocks(out, json, &member.bad)
@@ -80,7 +81,7 @@ fn show<D: Device, S: Sink>(
     ensures kept { D.content device.new ≡ D.content device.old }
     ensures honest { D.honest device.new ≡ D.honest device.old }
     ensures gives { Examines (ask_of command.entry) S.Sink (D.content device.old) (D.honest device.old)
-        (D.failures device.old < D.failures device.new) out.old out.new result }
+        (CallFails D.Device device.old device.new) out.old out.new result }
 {
     match command {
         Command::Examine { form } => match form {

@@ -3,7 +3,7 @@
 //! Start with `examine_images` (`src/examining.rt`). Each command has a report, as text or as JSON, of what is read and
 //! taken, and with `--all` one of what stands there though it may be refused (`src/raw_examining.rt`). By which text an
 //! image is shown is `ShownBy` in `specs/Examining.antt`, and why it is not `RefusedBy`. The texts are those of
-//! `md_examine` and `md_json`, and of what may be refused those of `md_raw_reports` and `md_raw_json`.
+//! `md_examine` and `md_report`, and of what may be refused those of `md_raw_reports`.
 //!
 //! ```
 //! let command = Command::ExamineBadblocks { form };

@@ -1,6 +1,7 @@
 // What stands in one image is shown, though it may be refused.
-ghost use Rattle.std.specs.Prelude.{◌≡◌, ◌<◌};
-ghost use Rattle.md_raw_members.specs.Raw.{RefusesRawBitmap, RefusesRawSuper, RefusesRawLog};
+ghost use Rattle.std.specs.Prelude.{◌≡◌};
+ghost use Rattle.md_members.specs.Reading.{CallFails};
+ghost use Rattle.md_raw_reports.specs.RawMembers.Raw.{RefusesRawBitmap, RefusesRawSuper, RefusesRawLog};
 ghost use Rattle.md_examine_commands.specs.Examining.{IsRaw, Reports, ShowsBitmap, ShowsLog, ShowsSuper, of_raw};
 
 use crate::reports::{put_raw_badblocks, put_raw_bitmap, put_raw_superblock};
@@ -8,7 +9,7 @@ use md_commands::CommandFault;
 use md_device::Device;
 use md_examine::Sink;
 use md_members::MemberFault;
-use md_raw_members::{RawFault, read_raw_bitmap, read_raw_log, read_raw_super};
+use md_raw_reports::{RawFault, read_raw_bitmap, read_raw_log, read_raw_super};
 
 // Why the bytes of a part are not read, as a command says it.
 fn refusal(fault: RawFault) -> CommandFault
@@ -30,7 +31,7 @@ pub(crate) fn show_raw_superblock<D: Device, S: Sink>(
     ensures kept { D.content device.new ≡ D.content device.old }
     ensures honest { D.honest device.new ≡ D.honest device.old }
     ensures gives { Reports S.Sink (ShowsSuper (D.content device.old) (D.honest device.old)
-        (D.failures device.old < D.failures device.new) json) (IsRaw (RefusesRawSuper (D.content device.old)))
+        (CallFails D.Device device.old device.new) json) (IsRaw (RefusesRawSuper (D.content device.old)))
         out.old out.new result }
 {
     let mut bytes = [0; 4096];
@@ -52,8 +53,8 @@ pub(crate) fn show_raw_bitmap<D: Device, S: Sink>(
     ensures kept { D.content device.new ≡ D.content device.old }
     ensures honest { D.honest device.new ≡ D.honest device.old }
     ensures gives { Reports S.Sink (ShowsBitmap (D.content device.old) (D.honest device.old)
-        (D.failures device.old < D.failures device.new) json) (IsRaw (RefusesRawBitmap (D.content device.old)
-        (D.honest device.old) (D.failures device.old < D.failures device.new))) out.old out.new result }
+        (CallFails D.Device device.old device.new) json) (IsRaw (RefusesRawBitmap (D.content device.old)
+        (D.honest device.old) (CallFails D.Device device.old device.new))) out.old out.new result }
 {
     let mut superblock = [0; 4096];
     match read_raw_bitmap(device, &mut superblock) {
@@ -71,8 +72,8 @@ pub(crate) fn show_raw_badblocks<D: Device, S: Sink>(
     ensures kept { D.content device.new ≡ D.content device.old }
     ensures honest { D.honest device.new ≡ D.honest device.old }
     ensures gives { Reports S.Sink (ShowsLog (D.content device.old) (D.honest device.old)
-        (D.failures device.old < D.failures device.new) json) (IsRaw (RefusesRawLog (D.content device.old)
-        (D.honest device.old) (D.failures device.old < D.failures device.new))) out.old out.new result }
+        (CallFails D.Device device.old device.new) json) (IsRaw (RefusesRawLog (D.content device.old)
+        (D.honest device.old) (CallFails D.Device device.old device.new))) out.old out.new result }
 {
     let mut superblock = [0; 4096];
     let mut area = [0; 4096];

@@ -7,9 +7,11 @@ use md_badblocks::BadSet;
 use md_bitmap::{BitmapHeader, Marks};
 use md_commands::CommandFault;
 use md_examine::{Sink, examine, examine_badblocks, examine_bitmap};
-use md_json::{badblocks_json, bitmap_json, superblock_json};
-use md_raw_json::{raw_bitmap_json, raw_log_json, raw_super_json};
-use md_raw_reports::{Found, RawBitmap, examine_all, examine_badblocks_all, examine_bitmap_all};
+use md_raw_reports::{
+    Found, RawBitmap, examine_all, examine_badblocks_all, examine_bitmap_all, raw_bitmap_json,
+    raw_log_json, raw_super_json,
+};
+use md_report::{badblocks_json, bitmap_json, superblock_json};
 use md_super::Superblock;
 
 pub(crate) fn put_superblock<S: Sink>(

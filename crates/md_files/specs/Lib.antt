@@ -1,2 +1,4 @@
 -- A device in a file, as contracts see it.
 pub mod File
+-- A sink into a new file in which blocks of zeros become holes, and why such a file is not made.
+pub mod Sparse

@@ -1,10 +1,13 @@
 // A device in a file or a block device.
-ghost use Rattle.std.specs.Prelude.{◌≡◌, ◌≢◌, ◌+◌, ◌*◌, ◌^◌, ◌≤◌, ◌↔◌, ◌⊎◌, [], length, true, false, replicate, None, Ok, IfOk, IsErr, IsErrOf, OnOk, OnErr, IsTrue};
+ghost use Rattle.std.specs.Prelude.{◌≡◌, ◌≢◌, ◌+◌, ◌*◌, ◌^◌, ◌≤◌, ◌↔◌, ◌⊎◌, [], length, true, false, replicate, None, Ok, IfOk, IsErr, IsErrOf, OnOk, OnErr, IsTrue, refl};
 ghost use Rattle.std.specs.Fs.{file_type, IsDir, IsFile};
+ghost use Rattle.md_device.specs.Failing.{AddsItself, failed_read, failed_write};
 ghost use Rattle.md_images.specs.declared.access.Access.TheVariants.{Look, Change};
 
-use crate::block_device::{BlockDevice, backs_device_in_use, is_swap_file};
-use md_device::{Device, ReadFault, WriteFault};
+use crate::backing::Backing;
+use crate::block_device::BlockDevice;
+use crate::in_use::check_unused;
+use md_device::{Device, Fault, FaultList, ReadFault, WriteFault};
 use md_images::{Access, ImageFault};
 use std::fs::{File, Files, Metadata, OpenOptions, TryLockError};
 use std::io::{ErrorKind, Seek, SeekFrom};
@@ -13,7 +16,7 @@ use std::os::unix::fs::{FileExt, FileTypeExt};
 use std::{fs, io};
 
 /// A device whose sectors are those of a regular file or of a block device. Contracts see its number
-/// of sectors, whether it can be written, and whether it has failed for good.
+/// of sectors, whether it can be written, whether it has failed for good, and which of its calls failed.
 ///
 /// Nothing is known of a file: no clause says which bytes a read gives, what a write leaves, or when
 /// either fails. So it is a device that is not honest, and zeros stand for its content. What they
@@ -26,9 +29,11 @@ pub struct FileDevice {
     file: File,
     // The lock that all nodes of a block device share. It is here to be held.
     _lock: Option<File>,
+    backing: Backing,
     sectors: u64,
     writable: bool,
     sync_failed: bool,
+    faults: FaultList,
 }
 
 impl Model for FileDevice {
@@ -37,7 +42,7 @@ impl Model for FileDevice {
 
     ghost Value = { Opened };
 
-    ghost view = { λ device. record { sectors = device.sectors; writable = device.writable; sync_failed = device.sync_failed } };
+    ghost view = { λ device. record { sectors = device.sectors; writable = device.writable; sync_failed = device.sync_failed; faults = device.faults.list } };
 
     ghost invariant = { λ device. device.sectors ≤ 2 ^ 54 };
 }
@@ -55,17 +60,23 @@ impl FileDevice {
     /// file have a lock each, and so have two nodes where there is no /sys. Where the file system
     /// can't lock it answers `Io`: without the lock nothing would stop two writers.
     ///
+    /// What was written to an image before, as by a program that was killed, may be in the system's memory alone. An
+    /// image that is opened to be changed is synced once, after its lock and before anything of it is read. That the
+    /// system's answer means stable storage is neither proved nor tested.
+    ///
     /// A block device that the system uses is not opened to be changed, nor is a file that it swaps on, nor what lies
-    /// below a loop device that it uses, its backing file or that of a loop device between, as far as /proc and /sys
-    /// tell: what they
-    /// don't tell, as where they are absent, counts as not in use. They tell of the mounts of this process's own
-    /// mount namespace, and of a backing file by the path at which it was opened.
+    /// below a loop device that it uses, its backing file or that of a loop device between. That is what /proc and /sys
+    /// tell: the mounts that any process has which can be read, in whatever mount namespace, the swaps, the holders, and the
+    /// file systems of the kinds that tell in /sys what they have mounted. Of a backing file they tell by the path at which
+    /// it was opened. Where /proc or /sys is not there, a block device is not opened to be changed, and neither is a file
+    /// that a loop device may stand over.
     ///
     /// It doesn't wait for the other end of a pipe: what kind of file a path names is asked before
     /// it is opened, and again of what was opened.
     ///
     /// Each variant of `ImageFault` but the last comes where its message says. `Io` has the system's
-    /// words for what else went wrong. To look, an image is never refused as `NotWritable` or `InUse`.
+    /// words for what else went wrong. To look, an image is never refused as `NotWritable`, `InUse`,
+    /// `NoProc` or `NoSys`. `NamedBefore` never comes: who opens several compares what `backing` gives.
     /// It takes memory to find whether an image is in use, and for a block device; where that runs out it
     /// answers `Io`.
     pub fn open<R: Files<File = File> + AllocGlobal>(
@@ -82,10 +93,20 @@ impl FileDevice {
             Access::Look => open_to_look(rt, path),
             Access::Change => open_to_change(rt, path),
             Access::ChangeOrLook => match open_to_change(rt, path) {
-                Err(ImageFault::NotWritable | ImageFault::InUse) => open_to_look(rt, path),
+                Err(
+                    ImageFault::NotWritable
+                    | ImageFault::InUse
+                    | ImageFault::NoProc
+                    | ImageFault::NoSys,
+                ) => open_to_look(rt, path),
                 opened => opened,
             },
         }
+    }
+
+    /// Where it lies, whatever it is called.
+    pub fn backing(&self) -> Backing {
+        self.backing
     }
 
     /// Whether it was opened to be written. Where not, each write of one sector or more answers
@@ -126,7 +147,11 @@ impl Device for FileDevice {
 
     ghost honest = { λ _. false };
 
-    ghost failures = { λ _. 0 };
+    ghost faults = { λ device. device.faults };
+
+    ghost failures = { λ device. length device.faults };
+
+    ghost counts = { λ _. refl };
 
     ghost crashes = { λ _. [] };
 
@@ -136,8 +161,38 @@ impl Device for FileDevice {
 
     fn read(&mut self, sector: u64, buf: &mut [u8]) -> Result<(), ReadFault>
         requires within { 512 * sector + length buf.old ≤ 512 * self.old.sectors }
-        ensures same { self.new ≡ self.old }
+        ensures same { self.new ≡ record self.old { faults = self.new.faults } }
         ensures refused { self.old.sync_failed ≡ true → IsErr result }
+        ensures faults { AddsItself result (failed_read sector (length buf.old)) self.old.faults self.new.faults }
+    {
+        let outcome = self.try_read(sector, buf);
+        if outcome.is_err() {
+            self.faults = self.faults.with_fault(&Fault::read(sector, buf.len()));
+        }
+        outcome
+    }
+
+    fn write(&mut self, sector: u64, bytes: &[u8]) -> Result<(), WriteFault>
+        requires within { 512 * sector + length bytes.now ≤ 512 * self.old.sectors }
+        ensures same { self.new ≡ record self.old { sync_failed = self.new.sync_failed; faults = self.new.faults } }
+        ensures refused { self.old.sync_failed ≡ true → IsErr result × (self.new.sync_failed ≡ true) }
+        ensures read_only { self.old.writable ≡ false → bytes.now ≢ [] → IsErr result }
+        ensures faults { AddsItself result (failed_write sector (length bytes.now)) self.old.faults self.new.faults }
+    {
+        let outcome = self.try_write(sector, bytes);
+        if outcome.is_err() {
+            self.faults = self.faults.with_fault(&Fault::write(sector, bytes.len()));
+        }
+        outcome
+    }
+}
+
+impl FileDevice {
+    // Reads from the file.
+    fn try_read(&self, sector: u64, buf: &mut [u8]) -> Result<(), ReadFault>
+        requires within { 512 * sector + length buf.old ≤ 512 * self.now.sectors }
+        ensures refused { self.now.sync_failed ≡ true → IsErr result }
+        ensures size { length buf.new ≡ length buf.old }
     {
         if self.sync_failed {
             return Err(ReadFault);
@@ -149,7 +204,8 @@ impl Device for FileDevice {
         file.read_exact_at(buf, 512 * sector).map_err(|_| ReadFault)
     }
 
-    fn write(&mut self, sector: u64, bytes: &[u8]) -> Result<(), WriteFault>
+    // Writes to the file.
+    fn try_write(&mut self, sector: u64, bytes: &[u8]) -> Result<(), WriteFault>
         requires within { 512 * sector + length bytes.now ≤ 512 * self.old.sectors }
         ensures same { self.new ≡ record self.old { sync_failed = self.new.sync_failed } }
         ensures refused { self.old.sync_failed ≡ true → IsErr result × (self.new ≡ self.old) }
@@ -225,18 +281,15 @@ fn open_to_change<R: Files<File = File> + AllocGlobal>(
     let block_device = check_kind(&metadata)?;
 
     // Before it is opened, since closing what could be written is an event to udev.
-    if let Some(device) = block_device {
-        check_unused(rt, device)?;
-    }
-    if is_swap_file(rt, &metadata).map_err(ImageFault::Io)?
-        || backs_device_in_use(rt, &metadata).map_err(ImageFault::Io)?
-    {
-        return Err(ImageFault::InUse);
-    }
+    check_writable(rt, block_device)?;
+    check_unused(rt, &metadata)?;
     match OpenOptions::new().read(true).write(true).open(rt, path) {
         Ok(file) => {
             file.try_lock().map_err(lock_fault)?;
-            device_of(rt, file, block_device, true)
+            let device = device_of(rt, file, block_device, true)?;
+            // What a killed program wrote may be in the system's memory alone. What is read is trusted, and built on.
+            device.file.sync_data().map_err(ImageFault::Io)?;
+            Ok(device)
         }
         Err(error) if is_write_refused(error.kind()) => {
             // What can't be read either is refused as such.
@@ -247,15 +300,17 @@ fn open_to_change<R: Files<File = File> + AllocGlobal>(
     }
 }
 
-// Refuses a block device that is read-only or that the system uses.
-fn check_unused<R: Files + AllocGlobal>(rt: &R, device: BlockDevice) -> Result<(), ImageFault> {
-    if device.is_read_only(rt).map_err(ImageFault::Io)? {
-        return Err(ImageFault::NotWritable);
+// Refuses a block device that the system lets nobody write to.
+fn check_writable<R: Files + AllocGlobal>(
+    rt: &R,
+    block_device: Option<BlockDevice>,
+) -> Result<(), ImageFault> {
+    match block_device {
+        Some(device) if device.is_read_only(rt).map_err(ImageFault::Io)? => {
+            Err(ImageFault::NotWritable)
+        }
+        _ => Ok(()),
     }
-    if device.is_in_use(rt).map_err(ImageFault::Io)? {
-        return Err(ImageFault::InUse);
-    }
-    Ok(())
 }
 
 // The device in a file that was opened and locked.
@@ -267,7 +322,8 @@ fn device_of<R: Files<File = File> + AllocGlobal>(
 ) -> Result<FileDevice, ImageFault>
     ensures { IfOk result (λ device. (device.sectors ≤ 2 ^ 54) × (device.writable ≡ writable) × (device.sync_failed ≡ false)) }
 {
-    if check_kind(&file.metadata().map_err(fault_of)?)? != block_device {
+    let metadata = file.metadata().map_err(fault_of)?;
+    if check_kind(&metadata)? != block_device {
         let message = "another file took its place while it was opened";
         return Err(ImageFault::Io(io::Error::new(ErrorKind::Other, message)));
     }
@@ -276,14 +332,18 @@ fn device_of<R: Files<File = File> + AllocGlobal>(
         None => None,
     };
 
+    let backing = Backing::of_file(rt, &metadata).map_err(ImageFault::Io)?;
+
     // A block device says its length only so: its metadata has 0.
     let len = file.seek(SeekFrom::End(0)).map_err(fault_of)?;
     Ok(FileDevice {
         file,
         _lock: lock,
+        backing,
         sectors: (len / 512).min(1 << 54),
         writable,
         sync_failed: false,
+        faults: FaultList::empty(),
     })
 }
 

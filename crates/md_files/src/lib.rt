@@ -3,6 +3,8 @@
 //! Start with `FileDevice::open`. The file is locked then, and what the system itself uses can only be looked
 //! at.
 //!
+//! `sparse/`: a sink into a new file in which blocks of zeros become holes, and why such a file is not made.
+//!
 //! ```
 //! let mut device = FileDevice::open(rt, "sda.img", Access::Look)?;
 //! let sectors = device.sectors();
@@ -10,7 +12,14 @@
 //! ```
 #![tactic(auto)]
 
+mod backing;
 mod block_device;
 mod file;
+mod in_use;
+mod mounts;
+mod sparse;
+mod told;
 
+pub use backing::Backing;
 pub use file::FileDevice;
+pub use sparse::{HoleFile, OutputFileFault, Sparse, output_file_advice};

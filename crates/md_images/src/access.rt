@@ -10,6 +10,6 @@ pub enum Access {
     Change,
     /// To be read and written where that may be; else to be read alone. It may not be where writing is
     /// not permitted, where the file system or the block device is read-only, and where the system
-    /// itself uses the block device.
+    /// itself uses the block device, or doesn't tell whether it does.
     ChangeOrLook,
 }

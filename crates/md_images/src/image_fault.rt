@@ -25,6 +25,17 @@ pub enum ImageFault {
     /// is, or whose whole disk is; or the backing file of a loop device that is.
     #[error("in use by the system: unmount it or the loop device over it, end swapping on it, or stop what holds it")]
     InUse,
+    /// Whether the system uses a block device, or a file that a loop device may stand over, is not told without /proc, which
+    /// has what is mounted and swapped on.
+    #[error("whether the system uses it can't be told, as /proc is not there: mount it, or only look at the image")]
+    NoProc,
+    /// It is not told without /sys, which has what holds a device, and over what a loop device stands.
+    #[error("whether the system uses it can't be told, as /sys is not there: mount it, or only look at the image")]
+    NoSys,
+    /// A loop device and the file or the device below it, or two loop devices over the same part of one, or a disk and its
+    /// partition, or two links to a file.
+    #[error("it was named before, by another name of the same disk: name it once")]
+    NamedBefore,
     #[error("in use by another program, or named twice: close it there, or name it once")]
     Locked,
     #[error("{0}")]

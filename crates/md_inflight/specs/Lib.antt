@@ -15,3 +15,5 @@ pub mod Linked
 pub mod Kept
 -- What a list ends as, where a `&mut` to one of its items is returned.
 pub mod Lends
+-- A request that writes to an array, while it is in flight.
+pub mod Requests

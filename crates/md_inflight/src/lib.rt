@@ -4,6 +4,8 @@
 //! Start with `Inflight`. It is a linked list over raw pointers, which contracts see as a list of numbers and
 //! items.
 //!
+//! `requests/`: a request that writes to an array, while it is in flight.
+//!
 //! ```
 //! let mut list = Inflight::new(alloc);
 //! let ticket = list.push_back('a')?;
@@ -20,12 +22,14 @@ mod inflight;
 mod iter;
 mod node;
 mod place;
+mod requests;
 mod span;
 mod ticket;
 
 pub use fault::{PushFault, Refused};
 pub use inflight::Inflight;
 pub use iter::Iter;
+pub use requests::{Extent, Pending, no_requests, note_written, pending_of, ticket_of};
 pub use span::Span;
 pub use ticket::Ticket;
 // A crate can name a list in a contract only if the types of its fields are exported.

@@ -6,3 +6,7 @@ pub mod ChunksListed
 pub mod Kept
 -- Members by their indices, and what is found by going through them.
 pub mod Members
+-- What an array's superblock and its members say of device numbers and roles.
+pub mod MembershipLemmas
+-- All of a member but its data, stored on its device.
+pub mod OnDeviceLemmas

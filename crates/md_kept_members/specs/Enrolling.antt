@@ -119,3 +119,5 @@ pub record ComesIntoSync (role : ℕ) (list : List Run) (marks : Bitmap) (m n : 
   pub bad : n.bad ≡ list
   pub state : n.state ≡ InSync role
   pub due : n.due ≡ false
+  pub offset : n.offset ≡ 0
+  pub stored_offset : n.stored_offset ≡ 0

@@ -16,7 +16,11 @@ abbrev pub known_offset : ℕ → MemberState → Superblock → ℕ
 known_offset cleared state v = cond (is_recovering state && nat_lt v.events cleared) 0 v.recovery_offset
 
 abbrev pub with_known_offset : ℕ → MemberView → MemberView
-with_known_offset cleared m = record m { superblock = record m.superblock { recovery_offset = known_offset cleared m.state m.superblock } }
+with_known_offset cleared m =
+    record m {
+      superblock = record m.superblock { recovery_offset = known_offset cleared m.state m.superblock };
+      offset = known_offset cleared m.state m.superblock;
+    }
 
 -- What is kept of a member in this state, of an array at these events, in which marks were last cleared at those. Where its bitmap
 -- counts as all marks, all are stored.
@@ -26,6 +30,8 @@ pub record IsKept (events cleared : ℕ) (info : MemberInfo) (state : MemberStat
   pub bad : m.bad ≡ info.bad
   pub state_is : m.state ≡ state
   pub due : m.due ≡ is_recorded state && nat_lt info.superblock.events events
+  pub offset : m.offset ≡ known_offset cleared state info.superblock
+  pub stored_offset : m.stored_offset ≡ info.superblock.recovery_offset
   pub chunks : m.stored.chunks ≡ chunk_count info.superblock.size m.header.chunksize
   pub all_marks : NeedsMarks m → (c : ℕ) → is_set m.stored.bytes c ≡ nat_lt c m.stored.chunks
   pub its_marks : (NeedsMarks m → ⊥) → info.marks ≡ Some m.stored

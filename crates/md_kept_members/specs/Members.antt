@@ -1,5 +1,5 @@
 -- Facts of the members that are kept, of one or of a list.
-use Rattle.std.specs.Prelude.{◌≡◌, ◌≢◌, ℕ, true, ◌||◌, List, slice_get, Some}
+use Rattle.std.specs.Prelude.{◌≡◌, ◌≢◌, ℕ, true, false, ◌||◌, List, slice_get, Some}
 use Rattle.md_members.specs.Members.{IsAccepted}
 use Rattle.md_assembly.specs.States.{is_in_sync, is_recorded}
 use Rattle.md_kept_members.specs.View.{MemberView}
@@ -12,6 +12,10 @@ pub record NeedsMarks (m : MemberView) : Type 0 where
 -- a member's superblock has to be stored, if it is kept up to date
 abbrev pub made_due : MemberView → MemberView
 made_due m = record m { due = is_recorded m.state || m.due }
+
+-- a member's superblock is stored as it is kept
+abbrev pub recorded_member : MemberView → MemberView
+recorded_member m = record m { due = false; stored_offset = m.superblock.recovery_offset }
 
 -- a member other than k is in sync
 pub record HasOtherInSync (members : List MemberView) (k : ℕ) : Type 0 where

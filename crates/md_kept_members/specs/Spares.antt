@@ -9,7 +9,7 @@ use Rattle.md_kept_members.specs.View.{MemberView}
 
 -- A spare as it was laid out: its superblock is not due, and it lists nothing.
 abbrev pub kept_spare : Superblock → BitmapHeader → Bitmap → MemberView
-kept_spare v h marks = record { superblock = v; header = h; stored = marks; bad = []; state = Spare; due = false }
+kept_spare v h marks = record { superblock = v; header = h; stored = marks; bad = []; state = Spare; due = false; offset = v.recovery_offset; stored_offset = v.recovery_offset }
 
 abbrev pub superblocks_kept : List MemberView → List Superblock
 superblocks_kept members = map (λ m. m.superblock) members

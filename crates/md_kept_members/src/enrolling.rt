@@ -28,6 +28,8 @@ pub fn in_sync(
         bad: list,
         state: MemberState::InSync(role),
         due: false,
+        offset: 0,
+        stored_offset: 0,
     })
 }
 

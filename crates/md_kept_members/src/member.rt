@@ -9,7 +9,8 @@ use std::marker::Model;
 /// next; those of the array are shared.
 #[derive(Debug, Drop)]
 pub struct Member {
-    /// As it is stored next, but for the array's fields.
+    /// As it is stored next, but for the array's fields. Its recovery_offset is the sure offset: of a recovering member, every
+    /// sector of the array before it that the member does not list holds what the array holds, whether its chunk is marked or not.
     pub superblock: Superblock,
     /// Its bitmap's header, as it was read.
     pub header: BitmapHeader,
@@ -20,6 +21,10 @@ pub struct Member {
     pub state: MemberState,
     /// Its superblock has to be stored.
     pub due: bool,
+    /// In sectors of the array, up to where it is rebuilt: a recovering member lacks what is marked, and what this has not passed.
+    pub offset: u64,
+    /// The recovery_offset on its device, as far as is known.
+    pub stored_offset: u64,
 }
 
 impl Model for Member {
@@ -34,5 +39,7 @@ impl Model for Member {
       bad = m.bad;
       state = m.state;
       due = m.due;
+      offset = m.offset;
+      stored_offset = m.stored_offset;
     } };
 }

@@ -1,7 +1,7 @@
 // How far members are rebuilt.
 ghost use Rattle.std.specs.Prelude.{◌≡◌, IfOk, map};
 ghost use Rattle.md_kept_members.specs.Kept.{known_offset, with_known_offset};
-ghost use Rattle.md_kept_members.specs.TakingBack.{admitted_member, recovering, with_recovery_offset};
+ghost use Rattle.md_kept_members.specs.TakingBack.{admitted_member, lowered_member, recovering, member_says_of, with_offsets};
 
 use crate::member::Member;
 use crate::taking_back::recovering;
@@ -22,23 +22,52 @@ fn drop_old_offset(member: &mut Member, cleared: u64)
     ensures { member.new ≡ with_known_offset cleared member.old }
 {
     let offset = known_offset(member.state, &member.superblock, cleared);
-    set_offset(&mut member.superblock, offset);
+    member.offset = offset;
+    set_sure_offset(&mut member.superblock, offset);
 }
 
-fn set_offset(own: &mut Superblock, offset: u64)
+fn set_sure_offset(own: &mut Superblock, offset: u64)
     ensures { own.new ≡ record own.old { recovery_offset = offset } }
 {
     own.recovery_offset = offset;
 }
 
-/// The member has another offset. It gives the one that it had.
-pub fn with_offset(member: &mut Member, offset: u64) -> u64
-    ensures had { result ≡ member.old.superblock.recovery_offset }
-    ensures has { member.new ≡ with_recovery_offset offset member.old }
+/// The member is rebuilt up to `offset`, and its superblock is to have the offset `sure`.
+pub fn set_offsets(member: &mut Member, offset: u64, sure: u64)
+    ensures { member.new ≡ with_offsets offset sure member.old }
 {
-    let had = member.superblock.recovery_offset;
-    set_offset(&mut member.superblock, offset);
-    had
+    member.offset = offset;
+    set_sure_offset(&mut member.superblock, sure);
+}
+
+/// Whether the member is recovering and its superblock says that it has this sector of the array: as md_p.h has it, all before
+/// recovery_offset is recovered, marked or not.
+pub fn says_of(member: &Member, sector: u64) -> bool
+    ensures { result ≡ member_says_of sector member.now }
+{
+    member.state.is_recovering() && sector < member.stored_offset
+}
+
+/// Data of the array are about to change from this sector on, and no recovering member's superblock is to say any more that it has
+/// them: see `lower_offset`.
+pub fn lower_offsets(members: &mut [Member], sector: u64)
+    ensures { members.new ≡ map (lowered_member sector) members.old }
+{
+    for member in members.iter_mut() {
+        lower_offset(member, sector);
+    }
+}
+
+/// Data of the array are about to change from this sector on: a recovering member surely has no more than what is before
+/// it. Where the superblock on its device says more, this has to be stored first.
+pub fn lower_offset(member: &mut Member, sector: u64)
+    ensures { member.new ≡ lowered_member sector member.old }
+{
+    if member.state.is_recovering() {
+        member.due = says_of(member, sector) || member.due;
+        let sure = member.superblock.recovery_offset.min(sector);
+        set_sure_offset(&mut member.superblock, sure);
+    }
 }
 
 fn known_offset(state: MemberState, own: &Superblock, cleared: u64) -> u64
@@ -67,4 +96,6 @@ pub fn note_admitted(member: &mut Member, role: u16, own: Superblock)
     member.superblock = own;
     member.state = MemberState::Recovering(role);
     member.due = false;
+    member.offset = 0;
+    member.stored_offset = 0;
 }

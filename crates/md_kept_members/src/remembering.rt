@@ -58,6 +58,7 @@ fn member_of(
         ..
     } = info;
     let due = is_due(state, superblock.events, events);
+    let offset = superblock.recovery_offset;
     let mut member = Member {
         superblock: stored_next(superblock, &bad),
         header: header.unwrap(),
@@ -65,6 +66,8 @@ fn member_of(
         bad,
         state,
         due,
+        offset,
+        stored_offset: offset,
     };
     if !needs_marks(&member) {
         return Ok(member);

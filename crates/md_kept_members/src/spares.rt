@@ -18,6 +18,7 @@ pub fn kept_spare(
 ) -> Member
     ensures { result ≡ kept_spare superblock header marks }
 {
+    let offset = superblock.recovery_offset;
     Member {
         superblock,
         header,
@@ -25,5 +26,7 @@ pub fn kept_spare(
         bad: BadSet::new(alloc),
         state: MemberState::Spare,
         due: false,
+        offset,
+        stored_offset: offset,
     }
 }

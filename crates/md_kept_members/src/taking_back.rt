@@ -10,10 +10,10 @@ use md_members::MemberInfo;
 use md_super::{FEATURE_RECOVERY_OFFSET, Superblock};
 
 /// What is kept of a device that was read, and is taken back in the role that its own superblock gives it.
-/// Its superblock is to have this offset.
-pub fn taken_back(info: MemberInfo, offset: u64) -> Member
+/// It is rebuilt up to `offset`, and its superblock is to have the offset `sure`.
+pub fn taken_back(info: MemberInfo, offset: u64, sure: u64) -> Member
     requires { IsWhole info }
-    ensures { IsKeptTakenBack offset info result }
+    ensures { IsKeptTakenBack offset sure info result }
 {
     let MemberInfo {
         superblock,
@@ -24,12 +24,14 @@ pub fn taken_back(info: MemberInfo, offset: u64) -> Member
     } = info;
     let role = superblock.role_of(superblock.dev_number);
     Member {
-        superblock: recovering(stored_next(superblock, &bad), offset),
+        superblock: recovering(stored_next(superblock, &bad), sure),
         header: header.unwrap(),
         stored: marks.unwrap(),
         bad,
         state: MemberState::Recovering(role),
         due: false,
+        offset,
+        stored_offset: sure,
     }
 }
 

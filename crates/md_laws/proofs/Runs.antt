@@ -28,5 +28,7 @@ pub mod Recovering
 pub mod Rests
 -- An opening with devices that come back before any data was let through is a start.
 pub mod Returned
+-- What superblocks of recovering members say that they have, they have, at each moment of each life.
+pub mod SureRuns
 -- A mirror of one member that is opened, has a run of two events and is opened again has a life.
 pub mod SmallLife

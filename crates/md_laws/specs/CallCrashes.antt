@@ -54,11 +54,11 @@ IsLeftWhole (Event.StoreLog k listed) old new left = (m : MemberView) → IsMemb
 IsLeftWhole (Event.Copy from k s) old new left = IsBesideEvent (Event.Copy from k s) old new left
 IsLeftWhole (Event.Remove k) old new left = IsBesideEvent (Event.Remove k) old new left
 IsLeftWhole (Event.Add number device) old new left = IsBesideEvent (Event.Add number device) old new left
-IsLeftWhole (Event.ReAdd own device after) old new left = IsBesideEvent (Event.ReAdd own device after) old new left
+IsLeftWhole (Event.ReAdd own offset device after) old new left = IsBesideEvent (Event.ReAdd own offset device after) old new left
 IsLeftWhole (Event.SpoilTarget k) old new left = IsBesideEvent (Event.SpoilTarget k) old new left
 IsLeftWhole (Event.Enrol k role listed) old new left = IsBesideEvent (Event.Enrol k role listed) old new left
 IsLeftWhole (Event.Admit k role listed) old new left = IsBesideEvent (Event.Admit k role listed) old new left
-IsLeftWhole (Event.Checkpoint k offset listed) old new left = IsBesideEvent (Event.Checkpoint k offset listed) old new left
+IsLeftWhole (Event.Checkpoint k sure listed) old new left = IsBesideEvent (Event.Checkpoint k sure listed) old new left
 IsLeftWhole e old new left = Unit {0}
 
 -- The crash came within one of the events that lead on.
@@ -147,7 +147,7 @@ abbrev pub IsToldOf : Event → Type 0
 IsToldOf (Event.Copy from k s) = ⊥
 IsToldOf (Event.Remove k) = ⊥
 IsToldOf (Event.Add number device) = ⊥
-IsToldOf (Event.ReAdd own device after) = ⊥
+IsToldOf (Event.ReAdd own offset device after) = ⊥
 IsToldOf (Event.SpoilTarget k) = ⊥
 IsToldOf (Event.Enrol k role listed) = ⊥
 IsToldOf e = Unit {0}

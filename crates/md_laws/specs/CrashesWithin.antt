@@ -5,7 +5,7 @@ use Rattle.md_badblocks.specs.Log.{log_bytes}
 use Rattle.md_bitmap.specs.Marks.{Bitmap}
 use Rattle.md_device.specs.Device.{held, written}
 use Rattle.md_create.specs.Layout.{IsHalfLaidOut}
-use Rattle.md_device_writes.specs.Writes.{IsAnyIn, IsCutShort, Write, after as content_after}
+use Rattle.md_members.specs.DeviceWrites.Writes.{IsAnyIn, IsCutShort, Write, after as content_after}
 use Rattle.md_model.specs.Events.{Event}
 use Rattle.md_faults.specs.declared.add_fault.AddFault.{AddFault}
 use Rattle.md_faults.specs.declared.add_fault.AddFault.TheVariants.{WriteFault}
@@ -14,9 +14,9 @@ use Rattle.md_faults.specs.declared.re_add_fault.ReAddFault.TheVariants as re_ad
 use Rattle.md_kept_members.specs.Enrolling.{log_room}
 use Rattle.md_kept_members.specs.TakingBack.{own_role}
 use Rattle.md_kept_members.specs.View.{MemberView}
-use Rattle.md_membership.specs.Joining.{joined_shared}
-use Rattle.md_stored_members.specs.Superblocks.{write_of}
-use Rattle.md_stored_members.specs.Storing.{sector_from_super}
+use Rattle.md_kept_members.specs.Membership.Joining.{joined_shared}
+use Rattle.md_kept_members.specs.OnDevices.Superblocks.{write_of}
+use Rattle.md_kept_members.specs.OnDevices.Storing.{sector_from_super}
 use Rattle.md_state.specs.View.{Disk, MirrorView}
 use Rattle.md_state.specs.DiskWrites.{IsFailed, IsTried, IsWritten}
 use Rattle.md_state.specs.Steps.Remove.{Removes}
@@ -24,7 +24,7 @@ use Rattle.md_state.specs.Trying.{FailsWriting}
 use Rattle.md_array.specs.Steps.Add.{Adds, FailsToAdd, RefusesAdd}
 use Rattle.md_array.specs.Steps.Enrol.{Enrols, FailsToEnrol}
 use Rattle.md_array.specs.Steps.EnrolEvents.{Prepares}
-use Rattle.md_array.specs.Events.{ComesLast, IsSameBesideMarks, IsSameBesideMissing, WritesOnce}
+use Rattle.md_array.specs.Events.{ComesLast, IsSameBesideMarks, IsSameBesideUnsaid, WritesOnce}
 use Rattle.md_array.specs.Steps.GiveBack.{Fills}
 use Rattle.md_array.specs.Steps.StoreLog.{StoresLog}
 use Rattle.md_array.specs.Steps.ReAdd.{FailsToReAdd, ReAdds, RefusesReAdd}
@@ -186,7 +186,7 @@ CrashesUndivided =
 abbrev pub MayBeLeftBy : (e : Event) (before after : List Disk) → WritesOnce e before after → List (List ℕ) → Type 0
 MayBeLeftBy (Event.Remove k) before after w left = MayAllBeLeft before (insert after k w.was) left
 MayBeLeftBy (Event.Add number new) before after w left = MayAllBeLeft (before ++ w.was ∷ []) after left
-MayBeLeftBy (Event.ReAdd own device new) before after w left = MayAllBeLeft (before ++ w.was ∷ []) after left
+MayBeLeftBy (Event.ReAdd own offset device new) before after w left = MayAllBeLeft (before ++ w.was ∷ []) after left
 MayBeLeftBy e before after w left = MayAllBeLeft before after left
 
 -- The new device is left with some first of its writes done and the next one cut short.
@@ -208,20 +208,21 @@ IsLeftBy Event.Resynced before after w left = left ≡ map (λ d. d.content) bef
 IsLeftBy Event.Unresynced before after w left = left ≡ map (λ d. d.content) before
 IsLeftBy (Event.Remove k) before after w left = left ≡ map (λ d. d.content) before
 IsLeftBy (Event.Add number new) before after w left = IsLeftJoining before after w left
-IsLeftBy (Event.ReAdd own device new) before after w left =
+IsLeftBy (Event.ReAdd own offset device new) before after w left =
     IsLeftBut (length before) (λ was c. IsCutShort was (w.write ∷ []) c) (before ++ w.was ∷ []) left
 IsLeftBy Event.MakeClean before after w left = left ≡ map (λ d. d.content) before
 IsLeftBy (Event.Begin n p) before after w left = left ≡ map (λ d. d.content) before
 IsLeftBy (Event.Finish n) before after w left = left ≡ map (λ d. d.content) before
 IsLeftBy (Event.ClearIdle c) before after w left = left ≡ map (λ d. d.content) before
 IsLeftBy (Event.Fail k) before after w left = left ≡ map (λ d. d.content) before
-IsLeftBy (Event.Fill k) before after once left = IsLeftBut k (IsSameBesideMissing once.0 once.1) before left
+IsLeftBy (Event.Fill k) before after once left = IsLeftBut k (IsSameBesideUnsaid once.0 once.1) before left
 IsLeftBy (Event.Prepare k) before after once left = IsLeftBut k (IsSameBesideMarks once.0) before left
 IsLeftBy (Event.RecordTargetFails k) before after once left = (w : Write) × IsFailed k w before after × IsLeftBut k (IsAnyIn w) before left
 IsLeftBy (Event.SpoilTarget k) before after w left = Unit {0}
 IsLeftBy (Event.Enrol k role listed) before after w left = Unit {0}
 IsLeftBy (Event.Admit k role listed) before after once left = (w : Write) × IsWritten k w before after × IsLeftBut k (λ old c. IsCutShort old (w ∷ []) c) before left
-IsLeftBy (Event.Checkpoint k offset listed) before after once left = (w : Write) × IsWritten k w before after × IsLeftBut k (λ old c. IsCutShort old (w ∷ []) c) before left
+IsLeftBy (Event.Checkpoint k sure listed) before after once left = (w : Write) × IsWritten k w before after × IsLeftBut k (λ old c. IsCutShort old (w ∷ []) c) before left
+IsLeftBy (Event.LowerOffset k s) before after w left = left ≡ map (λ d. d.content) before
 IsLeftBy (Event.NoteBad k c) before after w left = left ≡ map (λ d. d.content) before
 IsLeftBy (Event.StoreLog k listed) before after once left =
     (left ≡ map (λ d. d.content) before) ⊎ ((w : Write) × IsWritten k w before after × IsLeftBut k (λ old c. IsCutShort old (w ∷ []) c) before left)

@@ -1,7 +1,7 @@
 -- What an interrupted open leaves: a crash came within it, or one of its writes failed. Its own contract says what that may be.
 use Rattle.std.specs.Prelude.{◌≡◌, ◌⊎◌, ℕ, List, map, slice_get, Some}
 use Rattle.md_kept_members.specs.View.{MemberView}
-use Rattle.md_stored_members.specs.Storing.{sector_from_super}
+use Rattle.md_kept_members.specs.OnDevices.Storing.{sector_from_super}
 use Rattle.md_state.specs.View.{Disk, ArrayView}
 use Rattle.md_array.specs.Open.Marks.{AreMarksOnDisks, EndsAtMember}
 use Rattle.md_array.specs.Worlds.{header_on}

@@ -7,7 +7,7 @@ use Rattle.md_device.specs.Device.{written}
 use Rattle.md_device.specs.Crashes.{IsMixed}
 use Rattle.md_members.specs.Areas.{bitmap_sectors}
 use Rattle.md_model.specs.Events.{Event}
-use Rattle.md_device_writes.specs.Writes.{Write}
+use Rattle.md_members.specs.DeviceWrites.Writes.{Write}
 use Rattle.md_state.specs.Steps.CopyData.{HaltsCopying}
 use Rattle.md_state.specs.Steps.StoreMarks.{HaltsStoringMarks, StoresMarkSector}
 use Rattle.md_state.specs.View.{Disk, MirrorView}

@@ -6,7 +6,7 @@ use Rattle.md_assembly.specs.States.{is_recorded}
 use Rattle.md_bitmap.specs.Marks.{Bitmap}
 use Rattle.md_members.specs.Areas.{bitmap_sectors}
 use Rattle.md_model.specs.Worlds.{Request}
-use Rattle.md_requests.specs.Pending.{PendingView}
+use Rattle.md_inflight.specs.Requests.Pending.{PendingView}
 use Rattle.md_kept_members.specs.View.{MemberView}
 use Rattle.md_state.specs.View.{Disk, MirrorView}
 use Rattle.md_state.specs.DiskWrites.{AtDevice}

@@ -12,7 +12,7 @@ use Rattle.md_model.specs.Recovering.{JoinsBehind}
 use Rattle.md_model.specs.Sectors.{Geometry}
 use Rattle.md_model.specs.Worlds.{Request}
 use Rattle.md_kept_members.specs.View.{MemberView}
-use Rattle.md_stored_members.specs.Storing.{sector_from_super}
+use Rattle.md_kept_members.specs.OnDevices.Storing.{sector_from_super}
 use Rattle.md_state.specs.Members.{IsInSync, IsMember, is_degraded}
 use Rattle.md_state.specs.View.{Disk, MirrorView, geometry_of}
 use Rattle.md_array.specs.Steps.ReAdd.{ReAdds, re_add_event}

@@ -27,7 +27,7 @@ abbrev pub IsNoFailedRecord : Event → Type 0
 IsNoFailedRecord (Event.WriteFails k MemberPart.Superblock) = ⊥
 IsNoFailedRecord (Event.RecordTargetFails k) = ⊥
 IsNoFailedRecord (Event.Enrol k role listed) = ⊥
-IsNoFailedRecord (Event.Checkpoint k offset listed) = ⊥
+IsNoFailedRecord (Event.Checkpoint k sure listed) = ⊥
 IsNoFailedRecord (Event.StoreLog k listed) = ⊥
 IsNoFailedRecord (Event.WriteFails k MemberPart.Log) = ⊥
 IsNoFailedRecord e = Unit {0}

@@ -1,6 +1,6 @@
 -- What the recovering members of a mirror hold of the array's content, over its life: by this a member that was taken back, or a rebuild that
 -- was interrupted, is rebuilt in the chunks that it lacks alone.
-use Rattle.std.specs.Prelude.{◌≡◌, ◌⊎◌, ℕ, ◌≤◌, true, false, List, [], ◌∷◌, slice_get, Some}
+use Rattle.std.specs.Prelude.{◌≡◌, ◌⊎◌, ℕ, ◌<◌, ◌≤◌, true, false, List, [], ◌∷◌, slice_get, Some}
 use Rattle.md_model.specs.Behind.{IsBehind}
 use Rattle.md_model.specs.Content.{Content, Becomes, BecomesAtOpening, Holds}
 use Rattle.md_model.specs.Devices.{Stored, Super}
@@ -9,12 +9,14 @@ use Rattle.md_model.specs.Rebuilding.{MayFill, is_target}
 use Rattle.md_model.specs.Sectors.{Geometry}
 use Rattle.md_model.specs.Recovering.{IsAsPrepared, IsAsStored, JoinsBehind, RecoveringHolds, recovered}
 use Rattle.md_model.specs.States.{is_recovering}
-use Rattle.md_model.specs.Worlds.{World}
+use Rattle.md_model.specs.Steps.{says_of}
+use Rattle.md_model.specs.SureOffsets.{IsHeldAt, KnowsStored, ListsSaid, SureHolds}
+use Rattle.md_model.specs.Worlds.{World, IsInSync}
 use Rattle.md_state.specs.View.{Disk, MirrorView, geometry_of}
 use Rattle.md_array.specs.Worlds.{none_in_flight, stored_on, world_of}
 use Rattle.md_laws.specs.Left.{IsLeftByCrash, IsStoringOwn}
 use Rattle.md_laws.specs.Lives.{IsReopened, MirrorLife, MirrorLifeWith}
-use Rattle.md_laws.specs.Runs.{IsStart, MirrorRun, MirrorRunWith, Moment, opened_as, then_as}
+use Rattle.md_laws.specs.Runs.{IsStart, MirrorRun, MirrorRunWith, Moment, history_of, opened_as, then_as}
 
 -- Each `re_add` of a run is told: its device lies behind the content by what is marked, or its offset is 0 (`laws::leaving_members`, clauses
 -- `failed_joins` and `missing_joins`).
@@ -132,3 +134,42 @@ ContentGoesAlong =
     → RecoveringHolds (geometry_of m.array) a (world_of m none_in_flight)
     → (es : List Event) (rest : List (List Event)) (final : MirrorView) (last : Moment) (life : MirrorLife m es rest final last)
     → MirrorLifeTells m a es rest final last life → (b : Content) × MirrorLifeWith m a es rest final last b
+
+-- ---- what superblocks say
+-- Of the sectors that its superblock says that it has, what a crash left of the device of member k lists what the list in memory has.
+abbrev pub ListsWhatIsSaid : Moment → List Disk → ℕ → Type 0
+ListsWhatIsSaid t left k =
+    ListsSaid (geometry_of t.mirror.array) (world_of t.mirror t.requests) k (stored_on t.mirror.array (slice_get t.mirror.array.members k) (slice_get left k))
+
+-- What a crash left of a device lists what is said where its log is known, and the crash did not come while that was being stored.
+abbrev pub ListsWhereKnown : Type 0
+ListsWhereKnown =
+    (before : List Disk) (m : MirrorView) → IsStart before m → (es : List Event) (t : Moment) → MirrorRun (opened_as m) es t → (left : List Disk) (is : IsLeftByCrash t left)
+    → (k : ℕ) → is_target ((world_of t.mirror t.requests).state k) ≡ true → t.log_unknown k ≡ false → (IsStoringOwn t left is k → ⊥) → ListsWhatIsSaid t left k
+
+-- A recovering member of the next mirror has a device that was left, and that lists what it did. Or it is told what it has, as of one that
+-- was left out before.
+abbrev pub MirrorOpensSure : (opened : MirrorView) (t : Moment) (next : MirrorView) → IsReopened opened t next → Content → Type 0
+MirrorOpensSure opened t next again b =
+    (j : ℕ) → is_recovering ((world_of next none_in_flight).state j) ≡ true
+    → ((k : ℕ) × (again.devices.from j ≡ Some k) × ListsWhatIsSaid t again.devices.left k)
+    ⊎ ((s : ℕ) → s < next.array.chunks.size → says_of (world_of next none_in_flight) s j ≡ true → (world_of next none_in_flight).bad j s ≡ false
+    → IsHeldAt (world_of next none_in_flight).stored (IsInSync (world_of next none_in_flight)) b j s)
+
+abbrev pub MirrorLifeOpensSure : (m : MirrorView) (a : Content) (es : List Event) (rest : List (List Event)) (final : MirrorView) (last : Moment) (b : Content)
+    → MirrorLifeWith m a es rest final last b → Type 0
+MirrorLifeOpensSure m a es [] final last b life = Unit {0}
+MirrorLifeOpensSure m a es (more ∷ rest) final last b life =
+    MirrorOpensSure m life.0 life.1 life.5 life.3 × MirrorLifeOpensSure life.1 life.3 more rest final last b life.7
+
+-- At each moment of a life that is told what its recovering members have, each of these holds the content in every sector that its
+-- superblock says that it has, marked or not, and that its list in memory does not have; and so do the members in sync that do not list it.
+-- No superblock of theirs says more than the mirror knows of, unless it is spoiled. Right after an opening, its superblock is what the crash
+-- before left: so the law is of that, too.
+abbrev pub MirrorKeepsSure : Type 0
+MirrorKeepsSure =
+    (before : List Disk) (m : MirrorView) (a : Content) → IsStart before m → Holds (geometry_of m.array) a (world_of m none_in_flight)
+    → RecoveringHolds (geometry_of m.array) a (world_of m none_in_flight) → SureHolds (geometry_of m.array) a (world_of m none_in_flight)
+    → (es : List Event) (rest : List (List Event)) (final : MirrorView) (last : Moment) (b : Content) (life : MirrorLifeWith m a es rest final last b)
+    → MirrorLifeJoins m a es rest final last b life → MirrorLifeOpensSure m a es rest final last b life
+    → SureHolds (geometry_of m.array) b (world_of last.mirror last.requests) × KnowsStored (history_of last)

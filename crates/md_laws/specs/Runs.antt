@@ -8,7 +8,7 @@ use Rattle.md_model.specs.Worlds.{Request, World, IsInSync}
 use Rattle.md_model.specs.Content.{Content, Becomes, Holds, TellsAtEnrolment}
 use Rattle.md_model.specs.Events.{Event}
 use Rattle.md_model.specs.Runs.{History, away_after, failed_after, spoiled_after, tried_after}
-use Rattle.md_membership.specs.Numbers.{has_number}
+use Rattle.md_kept_members.specs.Membership.Numbers.{has_number}
 use Rattle.md_state.specs.View.{Disk, MirrorView, geometry_of}
 use Rattle.md_state.specs.Rests.{Rests}
 use Rattle.md_array.specs.Open.Opened.{IsOpenedFrom}
@@ -33,7 +33,7 @@ log_unknown_after (Event.SpoilTarget k) w before = put k true before
 log_unknown_after (Event.Enrol k role listed) w before = put k false before
 log_unknown_after (Event.Remove k) w before = λ j. before (skip k j)
 log_unknown_after (Event.Add number left) w before = put w.members false before
-log_unknown_after (Event.ReAdd own device left) w before = put w.members false before
+log_unknown_after (Event.ReAdd own offset device left) w before = put w.members false before
 log_unknown_after e w before = before
 
 -- What the model's laws speak of at a moment: the mirror's world and its past.

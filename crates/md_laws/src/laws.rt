@@ -16,7 +16,7 @@ ghost use Rattle.md_array.specs.Worlds.{AreHonest, none_in_flight, super_of, wor
 ghost use Rattle.md_laws.specs.Fresh.{StartsFresh, StaysFresh};
 ghost use Rattle.md_laws.specs.LeftBehind.{FailedJoins, LiesBehind, LogJoins, LogLiesBehind, MissingJoins, MissingLiesBehind};
 ghost use Rattle.md_laws.specs.Lives.{AtEachMoment, ContentGoesAlongTold, FindsAll, FindsInSync, FindsOut, FitsWhenThere, IsReadAsKeptInLives, KeepsContent, KeepsGeometry, StaysAsLeft};
-ghost use Rattle.md_laws.specs.Recovering.{ContentGoesAlong, KeepsRecovering, OffsetsAreKept, SaysNoMoreWhenOpened, SaysNoMoreWhereKnown, SaysNoMoreWithoutList};
+ghost use Rattle.md_laws.specs.Recovering.{ContentGoesAlong, KeepsRecovering, ListsWhereKnown, MirrorKeepsSure, OffsetsAreKept, SaysNoMoreWhenOpened, SaysNoMoreWhereKnown, SaysNoMoreWithoutList};
 ghost use Rattle.md_laws.specs.Returning.{StartsAgain};
 ghost use Rattle.md_laws.specs.Runs.{HasContent};
 ghost use Rattle.md_laws.specs.Spoiled.{CrashesAsSpoiled, CrashesAtEnrolAsSpoiled, CrashesAtFailedEnrolAsSpoiled};
@@ -58,7 +58,7 @@ pub fn opening()
 /// counts as left only where it is as after the call. Of one that comes back it is enough that its superblock reads so. A member that is
 /// rebuilt counts as left at any moment of its filling, and of `enrol` where its superblock stands as before or as after. One within a write of
 /// marks, of a copy or of a log that fails is one after that failure, over other bytes (`whole_calls::call_crashes`). One
-/// within an `enrol` that fails before its superblock is a matter of rebuilds (`unfinished_enrols` of `md_rebuild_laws`).
+/// within an `enrol` that fails before its superblock is a matter of rebuilds (`unfinished_enrols` of `md_call_laws`).
 ///
 /// A member that is rebuilt is spoiled where `enrol`, `admit` or `checkpoint` could not write its superblock, whatever stands there then, or
 /// where a crash came within that write (`SpoilTarget`, `crashes_at_steps`). Its mirror goes on. It is spoiled until its superblock is stored, and
@@ -167,6 +167,12 @@ pub fn recovering_members()
     ensures offsets { OffsetsAreKept }
     ensures known { SaysNoMoreWhereKnown }
     ensures unlisted { SaysNoMoreWithoutList }
+
+    // What its superblock says that it has, before its recovery_offset, it has: there it holds the content in marked chunks too, so that
+    // whoever goes on from it, as a kernel, need not ask the marks. It is asked that the first opening is told of the members that it
+    // finds recovering, and each later one that their lists are known (`lists`), or of what further devices have.
+    ensures sure { MirrorKeepsSure }
+    ensures lists { ListsWhereKnown }
 {}
 
 /// An interrupted open of a mirror's devices, at any moment of its life, leaves each as it was left, so that

@@ -33,7 +33,7 @@ pub fn joining_calls()
 /// A rebuild is in the list: what its worker gives to one member while the devices are lent, a superblock of that member that
 /// could not be stored, and `enrol`, which is two events: the member is prepared, and comes into sync by the write of its
 /// superblock. Where that write fails, it is prepared and spoiled, so that the next opening has to leave it out. Of an `enrol` that
-/// fails by a write of the bitmap or the log `md_rebuild_laws` speaks (`unfinished_enrols`).
+/// fails by a write of the bitmap or the log `md_call_laws` speaks (`unfinished_enrols`).
 pub fn rebuilding_calls()
     ensures fill { FillIsACall }
     ensures target { TargetFailureIsACall }

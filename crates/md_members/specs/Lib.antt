@@ -4,3 +4,5 @@ pub mod Areas
 pub mod Members
 -- What reading a member of a device gives.
 pub mod Reading
+-- Writes to a device in their order, as of a bitmap and a superblock.
+pub mod DeviceWrites

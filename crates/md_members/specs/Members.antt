@@ -1,6 +1,7 @@
 -- What reading a whole member gives (super_1_load and the bitmap's reading in the kernel's md driver; the limits and the
 -- order of refusals are this project's own).
 use Rattle.std.specs.Prelude.{◌≡◌, ◌⊎◌, ℕ, ◌+◌, ◌*◌, ◌/◌, ◌&&◌, Bool, true, false, List, [], length, Option, Some, None, Result, MatchResult}
+use Rattle.md_device.specs.declared.fault_list.Fault.{Fault}
 use Rattle.md_super.specs.declared.superblock.Superblock.{Superblock}
 use Rattle.md_super.specs.Log.{has_bad_block_log}
 use Rattle.md_bitmap.specs.declared.header.BitmapHeader.{BitmapHeader}
@@ -38,19 +39,19 @@ pub record IsReadMember (content : List ℕ) (honest : Bool) (info : MemberInfo)
   pub bitmap : HasBitmap content honest info.superblock info.header info.marks
   pub bad : HasBadSet content honest info.superblock info.bad
 
--- why the rest of a member is refused, whose superblock was read
-pub data RefusesRest (content : List ℕ) (honest : Bool) (Failed : Type 0) (v : Superblock) (fault : MemberFault) : Type 0 where
+-- why the rest of a member is refused, whose superblock was read, where `Failed P` says that a call on the device failed that has P
+pub data RefusesRest (content : List ℕ) (honest : Bool) (Failed : (Fault → Type 0) → Type 0) (v : Superblock) (fault : MemberFault) : Type 0 where
   by_place : fault ≡ Region → (AreAreasPlaced (sectors_of_device content) v 1 → ⊥) → RefusesRest content honest Failed v fault
   by_bitmap : AreAreasPlaced (sectors_of_device content) v 1 → has_bitmap v ≡ true → RefusesBitmap content honest Failed (sectors_of_device content) v fault → RefusesRest content honest Failed v fault
-  by_log : AreAreasPlaced (sectors_of_device content) v 1 → (h : Option BitmapHeader) (m : Option Bitmap) → HasBitmap content honest v h m → reads_log v ≡ true → RefusesLog honest Failed v fault → RefusesRest content honest Failed v fault
+  by_log : AreAreasPlaced (sectors_of_device content) v 1 → (h : Option BitmapHeader) (m : Option Bitmap) → HasBitmap content honest v h m → reads_log v ≡ true → RefusesLog Failed v fault → RefusesRest content honest Failed v fault
 
 -- the superblock is refused, or the rest of a member whose superblock was read
-abbrev pub RefusesMember : List ℕ → Bool → Type 0 → MemberFault → Type 0
+abbrev pub RefusesMember : List ℕ → Bool → ((Fault → Type 0) → Type 0) → MemberFault → Type 0
 RefusesMember content honest Failed fault =
     RefusesSuper content honest Failed fault
     ⊎ (v : Superblock) × ReadsSuper content honest v × RefusesRest content honest Failed v fault
 
-abbrev pub GivesMember : List ℕ → Bool → Type 0 → Result MemberInfo MemberFault → Type 0
+abbrev pub GivesMember : List ℕ → Bool → ((Fault → Type 0) → Type 0) → Result MemberInfo MemberFault → Type 0
 GivesMember content honest Failed result = MatchResult result (IsReadMember content honest) (RefusesMember content honest Failed)
 
 -- the bitmap tells of the array whose superblock it stands beside: its uuid and size are the array's, its state is 0, and

@@ -1,8 +1,9 @@
 // The bitmap of a member.
-ghost use Rattle.std.specs.Prelude.{◌≡◌, ◌<◌, ◌≤◌, ◌+◌, ◌*◌, ◌/◌, ◌^◌, length, true, IfOk};
+ghost use Rattle.std.specs.Prelude.{◌≡◌, ◌≤◌, ◌+◌, ◌*◌, ◌/◌, ◌^◌, length, true, IfOk};
 ghost use Rattle.md_device.specs.Crashes.{LeavesMore};
+ghost use Rattle.md_device.specs.Failing.{OnlyReadsFailed};
 ghost use Rattle.md_members.specs.Areas.{AreAreasPlaced, bitmap_sectors, has_bitmap};
-ghost use Rattle.md_members.specs.Reading.{BitmapStartsAt, GivesBitmap, GivesMarks, UnlessReadFault};
+ghost use Rattle.md_members.specs.Reading.{BitmapStartsAt, CallFails, GivesBitmap, GivesMarks, UnlessReadFault};
 
 use crate::fault::MemberFault;
 use crate::placing::is_placed;
@@ -14,6 +15,7 @@ use md_super::{SUPER_SECTOR, Superblock};
 use std::alloc::{AllocError, Global};
 
 /// Reads the bitmap's header in its first sector, and then its whole area, each once.
+#[tactic(auto, using(md_device::proofs::Failing::fails_none, md_device::proofs::Failing::fails_then, md_device::proofs::Failing::fails_call))]
 pub(crate) fn read_bitmap<D: Device>(
     alloc: Global,
     device: &mut D,
@@ -24,9 +26,10 @@ pub(crate) fn read_bitmap<D: Device>(
     ensures kept { D.content device.new ≡ D.content device.old }
     ensures honest { D.honest device.new ≡ D.honest device.old }
     ensures counted { D.failures device.old ≤ D.failures device.new }
+    ensures grown { OnlyReadsFailed (D.faults device.old) (D.faults device.new) }
     ensures unfailing { UnlessReadFault result (D.failures device.new ≡ D.failures device.old) }
     ensures within { D.honest device.old ≡ true → LeavesMore (D.crashes device.old) (D.crashes device.new) (λ left. left ≡ D.content device.old) }
-    ensures reads { GivesBitmap (D.content device.old) (D.honest device.old) (D.failures device.old < D.failures device.new) (length (D.content device.old) / 512) v.now result }
+    ensures reads { GivesBitmap (D.content device.old) (D.honest device.old) (CallFails D.Device device.old device.new) (length (D.content device.old) / 512) v.now result }
 {
     let device_sectors = device.sectors();
     let start = start_of_bitmap(v, device_sectors);
@@ -57,6 +60,7 @@ fn start_of_bitmap(v: &Superblock, sectors: u64) -> u64
 }
 
 // The marks in the bitmap's area.
+#[tactic(auto, using(md_device::proofs::Failing::fails_none, md_device::proofs::Failing::fails_then, md_device::proofs::Failing::fails_call))]
 fn read_marks<D: Device>(
     alloc: Global,
     device: &mut D,
@@ -70,9 +74,10 @@ fn read_marks<D: Device>(
     ensures kept { D.content device.new ≡ D.content device.old }
     ensures honest { D.honest device.new ≡ D.honest device.old }
     ensures counted { D.failures device.old ≤ D.failures device.new }
+    ensures grown { OnlyReadsFailed (D.faults device.old) (D.faults device.new) }
     ensures unfailing { UnlessReadFault result (D.failures device.new ≡ D.failures device.old) }
     ensures within { D.honest device.old ≡ true → LeavesMore (D.crashes device.old) (D.crashes device.new) (λ left. left ≡ D.content device.old) }
-    ensures reads { GivesMarks (D.content device.old) (D.honest device.old) (D.failures device.old < D.failures device.new) start chunks sectors result }
+    ensures reads { GivesMarks (D.content device.old) (D.honest device.old) (CallFails D.Device device.old device.new) start chunks sectors result }
 {
     let Ok(mut area) = zeros(alloc, 512 * sectors as usize) else {
         return Err(MemberFault::NoMemory);

@@ -3,6 +3,8 @@
 //! Start with `read_member`, which reads a superblock, its bitmap and its bad block log; `read_super` reads
 //! the first alone. Whether the bitmap tells of the array is `accepted`.
 //!
+//! `device_writes/`: writes to a device in their order, as of a bitmap and a superblock.
+//!
 //! ```
 //! let info = read_member(alloc, &mut device)?;
 //! let events = info.superblock.events;
@@ -12,6 +14,7 @@
 
 mod area;
 mod bitmap;
+mod device_writes;
 mod fault;
 mod info;
 mod log;
@@ -19,6 +22,7 @@ mod member;
 mod placing;
 mod super_read;
 
+pub use device_writes::{put, store_bitmap, store_bitmap_sector};
 pub use fault::MemberFault;
 pub use info::MemberInfo;
 pub use member::{accepted, read_member};

@@ -1,8 +1,9 @@
 // The bad block log of a member.
-ghost use Rattle.std.specs.Prelude.{◌≡◌, ◌<◌, ◌≤◌, ◌+◌, ◌*◌, ◌/◌, ◌^◌, length, true};
+ghost use Rattle.std.specs.Prelude.{◌≡◌, ◌≤◌, ◌+◌, ◌*◌, ◌/◌, ◌^◌, length, true};
 ghost use Rattle.md_device.specs.Crashes.{LeavesMore};
+ghost use Rattle.md_device.specs.Failing.{OnlyReadsFailed};
 ghost use Rattle.md_members.specs.Areas.{AreAreasPlaced, has_bad_blocks};
-ghost use Rattle.md_members.specs.Reading.{GivesLog, LogStartsAt, UnlessReadFault};
+ghost use Rattle.md_members.specs.Reading.{CallFails, GivesLog, LogStartsAt, UnlessReadFault};
 ghost use Rattle.md_super.specs.Log.{has_bad_block_log};
 
 use crate::fault::MemberFault;
@@ -16,6 +17,7 @@ use std::alloc::Global;
 const MOST_BYTES: usize = 4096;
 
 /// Reads the log's area, once.
+#[tactic(auto, using(md_device::proofs::Failing::fails_none, md_device::proofs::Failing::fails_then, md_device::proofs::Failing::fails_call))]
 pub(crate) fn read_log<D: Device>(
     alloc: Global,
     device: &mut D,
@@ -26,9 +28,10 @@ pub(crate) fn read_log<D: Device>(
     ensures kept { D.content device.new ≡ D.content device.old }
     ensures honest { D.honest device.new ≡ D.honest device.old }
     ensures counted { D.failures device.old ≤ D.failures device.new }
+    ensures grown { OnlyReadsFailed (D.faults device.old) (D.faults device.new) }
     ensures unfailing { UnlessReadFault result (D.failures device.new ≡ D.failures device.old) }
     ensures within { D.honest device.old ≡ true → LeavesMore (D.crashes device.old) (D.crashes device.new) (λ left. left ≡ D.content device.old) }
-    ensures reads { GivesLog (D.content device.old) (D.honest device.old) (D.failures device.old < D.failures device.new) v.now result }
+    ensures reads { GivesLog (D.content device.old) (D.honest device.old) (CallFails D.Device device.old device.new) v.now result }
 {
     let start = start_of_log(v, device.sectors());
     let mut buffer = [0; MOST_BYTES];

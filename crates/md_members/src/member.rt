@@ -1,8 +1,9 @@
 // A member, read whole.
-ghost use Rattle.std.specs.Prelude.{◌≡◌, ◌<◌, ◌≤◌, ◌↔◌, true, IsTrue, MatchResult};
+ghost use Rattle.std.specs.Prelude.{◌≡◌, ◌≤◌, ◌↔◌, true, IsTrue, MatchResult};
 ghost use Rattle.md_device.specs.Crashes.{LeavesMore};
+ghost use Rattle.md_device.specs.Failing.{OnlyReadsFailed};
 ghost use Rattle.md_members.specs.Areas.{AreAreasPlaced, has_bitmap};
-ghost use Rattle.md_members.specs.Reading.{RefusesBitmap, RefusesLog, UnlessReadFault};
+ghost use Rattle.md_members.specs.Reading.{CallFails, RefusesBitmap, RefusesLog, UnlessReadFault};
 ghost use Rattle.md_members.specs.Members.{GivesMember, HasBadSet, HasBitmap, IsAccepted, reads_log, sectors_of_device};
 
 use crate::bitmap::read_bitmap;
@@ -19,13 +20,15 @@ use std::alloc::Global;
 
 /// Reads a member: the superblock, the bitmap's first sector, the bitmap's area and the log's area,
 /// each once and nothing else.
+#[tactic(auto, using(md_device::proofs::Failing::fails_none, md_device::proofs::Failing::fails_then, crate::proofs::Failed::reads_alone))]
 pub fn read_member<D: Device>(alloc: Global, device: &mut D) -> Result<MemberInfo, MemberFault>
     ensures kept { D.content device.new ≡ D.content device.old }
     ensures honest { D.honest device.new ≡ D.honest device.old }
     ensures counted { D.failures device.old ≤ D.failures device.new }
+    ensures grown { OnlyReadsFailed (D.faults device.old) (D.faults device.new) }
     ensures unfailing { UnlessReadFault result (D.failures device.new ≡ D.failures device.old) }
     ensures within { D.honest device.old ≡ true → LeavesMore (D.crashes device.old) (D.crashes device.new) (λ left. left ≡ D.content device.old) }
-    ensures reads { GivesMember (D.content device.old) (D.honest device.old) (D.failures device.old < D.failures device.new) result }
+    ensures reads { GivesMember (D.content device.old) (D.honest device.old) (CallFails D.Device device.old device.new) result }
 {
     let superblock = read_super(alloc, device)?;
     let sectors = device.sectors();
@@ -43,6 +46,7 @@ pub fn read_member<D: Device>(alloc: Global, device: &mut D) -> Result<MemberInf
     })
 }
 
+#[tactic(auto, using(md_device::proofs::Failing::fails_none, md_device::proofs::Failing::fails_then, md_device::proofs::Failing::fails_call))]
 fn read_any_bitmap<D: Device>(
     alloc: Global,
     device: &mut D,
@@ -52,10 +56,11 @@ fn read_any_bitmap<D: Device>(
     ensures kept { D.content device.new ≡ D.content device.old }
     ensures honest { D.honest device.new ≡ D.honest device.old }
     ensures counted { D.failures device.old ≤ D.failures device.new }
+    ensures grown { OnlyReadsFailed (D.faults device.old) (D.faults device.new) }
     ensures unfailing { UnlessReadFault result (D.failures device.new ≡ D.failures device.old) }
     ensures within { D.honest device.old ≡ true → LeavesMore (D.crashes device.old) (D.crashes device.new) (λ left. left ≡ D.content device.old) }
     ensures reads { MatchResult result (λ b. HasBitmap (D.content device.old) (D.honest device.old) v.now b.0 b.1)
-        (λ f. (has_bitmap v.now ≡ true) × RefusesBitmap (D.content device.old) (D.honest device.old) (D.failures device.old < D.failures device.new) (sectors_of_device (D.content device.old)) v.now f) }
+        (λ f. (has_bitmap v.now ≡ true) × RefusesBitmap (D.content device.old) (D.honest device.old) (CallFails D.Device device.old device.new) (sectors_of_device (D.content device.old)) v.now f) }
 {
     if !has_a_bitmap(v) {
         return Ok((None, None));
@@ -64,6 +69,7 @@ fn read_any_bitmap<D: Device>(
     Ok((Some(header), Some(marks)))
 }
 
+#[tactic(auto, using(md_device::proofs::Failing::fails_none, md_device::proofs::Failing::fails_then, md_device::proofs::Failing::fails_call))]
 fn read_bad_set<D: Device>(
     alloc: Global,
     device: &mut D,
@@ -73,10 +79,11 @@ fn read_bad_set<D: Device>(
     ensures kept { D.content device.new ≡ D.content device.old }
     ensures honest { D.honest device.new ≡ D.honest device.old }
     ensures counted { D.failures device.old ≤ D.failures device.new }
+    ensures grown { OnlyReadsFailed (D.faults device.old) (D.faults device.new) }
     ensures unfailing { UnlessReadFault result (D.failures device.new ≡ D.failures device.old) }
     ensures within { D.honest device.old ≡ true → LeavesMore (D.crashes device.old) (D.crashes device.new) (λ left. left ≡ D.content device.old) }
     ensures reads { MatchResult result (λ bad. HasBadSet (D.content device.old) (D.honest device.old) v.now bad)
-        (λ f. (reads_log v.now ≡ true) × RefusesLog (D.honest device.old) (D.failures device.old < D.failures device.new) v.now f) }
+        (λ f. (reads_log v.now ≡ true) × RefusesLog (CallFails D.Device device.old device.new) v.now f) }
 {
     if !lists_bad_blocks(v) {
         return Ok(BadSet::new(alloc));

@@ -1,7 +1,8 @@
 // Reading a device's sectors, and its superblock.
-ghost use Rattle.std.specs.Prelude.{◌≡◌, ◌<◌, ◌≤◌, ◌+◌, ◌*◌, ◌%◌, true, length, IfErr, OnOk};
+ghost use Rattle.std.specs.Prelude.{◌≡◌, ◌≤◌, ◌+◌, ◌*◌, ◌%◌, true, length, IfErr, OnOk};
 ghost use Rattle.md_device.specs.Crashes.{LeavesMore};
-ghost use Rattle.md_members.specs.Reading.{GivesSuper, IsRead, UnlessReadFault};
+ghost use Rattle.md_device.specs.Failing.{AddsItself, EachNewFault, failed_read};
+ghost use Rattle.md_members.specs.Reading.{CallFails, GivesSuper, IsRead, IsReadOf, UnlessReadFault};
 
 use crate::fault::MemberFault;
 use md_device::Device;
@@ -12,13 +13,15 @@ use std::alloc::Global;
 const LEAST_SECTORS: u64 = 16;
 
 /// Reads sectors 8 to 15 of a device, once, and nothing else.
+#[tactic(auto, using(md_device::proofs::Failing::fails_none, md_device::proofs::Failing::fails_then, md_device::proofs::Failing::fails_call))]
 pub fn read_super<D: Device>(alloc: Global, device: &mut D) -> Result<Superblock, MemberFault>
     ensures kept { D.content device.new ≡ D.content device.old }
     ensures honest { D.honest device.new ≡ D.honest device.old }
     ensures counted { D.failures device.old ≤ D.failures device.new }
+    ensures grown { EachNewFault (D.faults device.old) (D.faults device.new) (IsReadOf 8 4096) }
     ensures unfailing { UnlessReadFault result (D.failures device.new ≡ D.failures device.old) }
     ensures within { D.honest device.old ≡ true → LeavesMore (D.crashes device.old) (D.crashes device.new) (λ left. left ≡ D.content device.old) }
-    ensures reads { GivesSuper (D.content device.old) (D.honest device.old) (D.failures device.old < D.failures device.new) result }
+    ensures reads { GivesSuper (D.content device.old) (D.honest device.old) (CallFails D.Device device.old device.new) result }
 {
     if device.sectors() < LEAST_SECTORS {
         return Err(MemberFault::TooShort);
@@ -35,6 +38,7 @@ pub fn read_super<D: Device>(alloc: Global, device: &mut D) -> Result<Superblock
 }
 
 // Fills `buf` with the bytes from `sector` on, by one read.
+#[tactic(auto, using(md_device::proofs::Failing::fails_none, md_device::proofs::Failing::fails_then, md_device::proofs::Failing::fails_call))]
 pub(crate) fn read_sectors<D: Device>(
     device: &mut D,
     sector: u64,
@@ -45,10 +49,11 @@ pub(crate) fn read_sectors<D: Device>(
     ensures kept { D.content device.new ≡ D.content device.old }
     ensures honest { D.honest device.new ≡ D.honest device.old }
     ensures counted { D.failures device.old ≤ D.failures device.new }
+    ensures faults { AddsItself result (failed_read sector (length buf.old)) (D.faults device.old) (D.faults device.new) }
     ensures unfailing { OnOk result (D.failures device.new ≡ D.failures device.old) }
     ensures within { D.honest device.old ≡ true → LeavesMore (D.crashes device.old) (D.crashes device.new) (λ left. left ≡ D.content device.old) }
     ensures ok { OnOk result (IsRead (D.content device.old) (D.honest device.old) sector (length buf.old) buf.new) }
-    ensures failed { IfErr result (λ fault. (fault ≡ MemberFault.ReadFault) × (D.honest device.old ≡ true → D.failures device.old < D.failures device.new)) }
+    ensures failed { IfErr result (λ fault. (fault ≡ MemberFault.ReadFault) × CallFails D.Device device.old device.new (IsReadOf sector (length buf.old))) }
 {
     match device.read(sector, buf) {
         Ok(()) => Ok(()),

@@ -3,9 +3,9 @@ use Rattle.std.specs.Prelude.{◌≡◌, ◌≢◌, ℕ, Bool, true, List, [], O
 use Rattle.std.specs.List.{list_any}
 use Rattle.md_notices.specs.Belonging.{IsForgotten}
 use Rattle.md_notices.specs.Parting.{WasApart}
-use Rattle.md_held.specs.declared.held.Held.{Held}
-use Rattle.md_held.specs.declared.held.Held.TheVariants.{Member}
-use Rattle.md_held.specs.Holding.{LooksAtEach, LooksAtOne, needs_telling}
+use Rattle.md_notices.specs.declared.held.held.Held.{Held}
+use Rattle.md_notices.specs.declared.held.held.Held.TheVariants.{Member}
+use Rattle.md_notices.specs.Held.Holding.{LooksAtEach, LooksAtOne, needs_telling}
 use Rattle.md_state.specs.View.{ArrayView, Disk}
 use Rattle.md_super.specs.declared.superblock.Superblock.{Superblock}
 use Rattle.md_words.specs.declared.overwritten.Overwritten.{Overwritten}

@@ -11,8 +11,8 @@ use Rattle.md_words.specs.Asks.{Ask, failing_of, leaving_of, overwritten_by, tel
 use Rattle.md_words.specs.declared.overwritten.Overwritten.{Overwritten}
 use Rattle.md_words.specs.declared.overwritten.Overwritten.TheVariants as overwritten
 use Rattle.md_messages.specs.declared.notices.Notices.{Notices}
-use Rattle.md_held.specs.declared.held.Held.TheVariants.{Nothing}
-use Rattle.md_held.specs.Holding.{is_unseen, needs_telling}
+use Rattle.md_notices.specs.declared.held.held.Held.TheVariants.{Nothing}
+use Rattle.md_notices.specs.Held.Holding.{is_unseen, needs_telling}
 use Rattle.md_messages.specs.Holding.{IsJoining, IsOwn, one_needs_telling}
 
 -- nothing is noticed

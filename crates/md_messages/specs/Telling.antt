@@ -9,12 +9,12 @@ use Rattle.md_commands.specs.declared.fault.CommandFault.{CommandFault}
 use Rattle.md_commands.specs.declared.fault.CommandFault.TheVariants as fault
 use Rattle.md_examine.specs.Sink.{Puts}
 use Rattle.md_examine.specs.declared.sink.Sink.{Ghosts}
-use Rattle.md_held.specs.declared.held.Held.{Held}
-use Rattle.md_held.specs.declared.held.Held.TheVariants.{Nothing, Unseen, Unread, Member, Signed}
-use Rattle.md_held.specs.Holding.{is_unseen}
+use Rattle.md_notices.specs.declared.held.held.Held.{Held}
+use Rattle.md_notices.specs.declared.held.held.Held.TheVariants.{Nothing, Unseen, Unread, Member, Signed}
+use Rattle.md_notices.specs.Held.Holding.{is_unseen}
 use Rattle.md_images.specs.Taking.{is_missing_word}
 use Rattle.md_notices.specs.Lines.{dropped_text, forgotten_text, held_text, lost_text, marked_line_text, parted_text, identity_text, uncompared_text, unnamed_text, unread_text, unseen_text}
-use Rattle.md_signatures.specs.Texts.{text_of}
+use Rattle.md_notices.specs.Signatures.Texts.{text_of}
 use Rattle.md_words.specs.Asks.{Ask, adds, checks, device_to_add, overwritten_by}
 use Rattle.md_words.specs.declared.overwritten.Overwritten.{Overwritten}
 use Rattle.md_words.specs.declared.overwritten.Overwritten.TheVariants as overwritten

@@ -1,5 +1,5 @@
 -- What a terminal is shown and asked, and what counts as a yes.
-use Rattle.std.specs.Prelude.{◌≡◌, ◌⊎◌, ℕ, ◌||◌, Bool, true, false, List, ◌++◌, codes, length, take}
+use Rattle.std.specs.Prelude.{◌≡◌, ◌⊎◌, ℕ, ◌&&◌, ◌||◌, Bool, true, false, List, ◌++◌, codes, if◌then◌else◌, length, not, take}
 use Rattle.std.specs.Str.{bytes_eq}
 use Rattle.md_commands.specs.Source.{GivesToBuffer}
 use Rattle.md_commands.specs.declared.source.Source.{Ghosts as SourceGhosts}
@@ -9,12 +9,12 @@ use Rattle.md_messages.specs.declared.terminal.Questions.{Questions}
 use Rattle.md_messages.specs.declared.terminal.Questions.TheVariants.{Silent, Shown, Asked}
 use Rattle.md_messages.specs.Telling.{PutsTold}
 
--- What is done where standard error is a terminal or not, where standard input is one or not, and where it was said that nothing is
--- to be asked (`--run`), or not.
-abbrev pub questions_of : Bool → Bool → Bool → Questions
-questions_of true true false = Asked
-questions_of true is_answered is_run = Shown
-questions_of false is_answered is_run = Silent
+-- What is done where standard error is a terminal or not, where standard input is one or not, where there is another one to ask on (the
+-- terminal that controls the program) or not, and where it was said that nothing is to be asked (`--run`), or not.
+abbrev pub questions_of : Bool → Bool → Bool → Bool → Questions
+questions_of is_shown is_answered has_other is_run =
+    if not is_run && (has_other || is_shown && is_answered) then Asked
+    else if is_shown then Shown else Silent
 
 abbrev pub are_shown : Questions → Bool
 are_shown Silent = false

@@ -6,6 +6,9 @@ pub trait Asker {
     /// Whether lines are shown to anybody.
     ghost shows: { Self → Bool };
 
+    /// Whether they are shown where standard error goes, which is told of them no more after the command.
+    ghost told_first: { Self → Bool };
+
     /// What was answered where these lines were shown: whether the command goes on. Only `goes_on` says it, so that a call
     /// of which a contract says what was answered has asked.
     ghost answered: { Self → List ℕ → Bool → Type 0 };
@@ -13,6 +16,10 @@ pub trait Asker {
     /// Whether lines are shown to anybody. Where not, whatever they are, the command goes on.
     fn is_there(&self) -> bool
         ensures { result ≡ shows self.now };
+
+    /// Whether they are shown where standard error goes.
+    fn is_told_first(&self) -> bool
+        ensures { result ≡ told_first self.now };
 
     /// Shows these lines, and asks whether to go on. Where nobody can be asked, or is to be, the answer is yes.
     fn goes_on(&self, lines: &[u8]) -> bool

@@ -7,6 +7,8 @@
 //! `Questions` (`src/terminal.rt`). The rules by which a member gets a line, and the text of each line, are those of
 //! `md_notices`.
 //!
+//! `advice/`: what a terminal's second line says of a command that is refused.
+//!
 //! ```
 //! let mut notices = Notices::none();
 //! notices.note_held(alloc, &mut device);
@@ -15,6 +17,7 @@
 //! ```
 #![tactic(auto)]
 
+mod advice;
 mod asker;
 mod messages;
 mod missing;
@@ -23,6 +26,7 @@ mod question;
 mod telling;
 mod terminal;
 
+pub use advice::advise;
 pub use asker::Asker;
 pub use messages::{Audience, Messages};
 pub use missing::put_missing_lines;

@@ -24,7 +24,7 @@ impl Messages {
     }
 }
 
-/// Who reads standard error: how much it is told, and whether what a command is asked of was shown before it was done.
+/// Who reads standard error: how much it is told, and whether it was shown what a command is asked of before that was done.
 #[derive(Clone, Copy)]
 pub struct Audience {
     pub messages: Messages,

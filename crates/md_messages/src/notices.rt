@@ -9,10 +9,10 @@ ghost use Rattle.md_messages.specs.Noticed.{NotesOpening, asked_of, asks_first, 
 use md_array::Mirror;
 use md_assembly::MemberState;
 use md_device::Device;
-use md_held::{Held, held_on, held_on_each};
 use md_notices::{
-    Asked, MAX_MEMBERS, MAX_ROLES, first_in_sync, in_sync_count, is_forgotten, members_dropped,
-    members_marked, members_parted, roles_unnamed, states_of, was_apart,
+    Asked, Held, MAX_MEMBERS, MAX_ROLES, first_in_sync, held_on, held_on_each, in_sync_count,
+    is_forgotten, members_dropped, members_marked, members_parted, roles_unnamed, states_of,
+    was_apart,
 };
 use md_super::Superblock;
 use md_words::{Command, Overwritten};

@@ -10,10 +10,9 @@ use crate::messages::Audience;
 use crate::notices::Notices;
 use md_commands::CommandFault;
 use md_examine::{Sink, SinkFault};
-use md_held::Held;
 use md_images::is_missing;
 use md_notices::{
-    MAX_MEMBERS, MAX_ROLES, dropped_line, forgotten_line, held_line, lost_line, marked_line,
+    Held, MAX_MEMBERS, MAX_ROLES, dropped_line, forgotten_line, held_line, lost_line, marked_line,
     parted_line, standing_line, uncompared_line, unnamed_line, unread_line, unseen_line,
 };
 use md_words::{Command, Overwritten};

@@ -16,25 +16,26 @@ const ANSWER_BYTES: usize = 16;
 pub enum Questions {
     /// Nothing is shown, and nobody is asked: there is no terminal.
     Silent,
-    /// It is shown, and nobody is asked: that was said, or there is no terminal to answer on.
+    /// It is shown on standard error, and nobody is asked: that was said, or there is no terminal to answer on.
     Shown,
-    /// It is shown, and asked.
+    /// It is shown, and asked: on standard error, or on another terminal.
     Asked,
 }
 
 impl Questions {
-    /// What is done where standard error is a terminal or not, where standard input is one or not, and where it was said
-    /// that nothing is to be asked, or not.
-    pub fn of(is_shown: bool, is_answered: bool, is_run: bool) -> Questions
-        ensures { result ≡ questions_of is_shown is_answered is_run }
+    /// What is done where standard error is a terminal or not, where standard input is one or not, where there is another
+    /// one to ask on or not, and where it was said that nothing is to be asked, or not.
+    pub fn of(is_shown: bool, is_answered: bool, has_other: bool, is_run: bool) -> Questions
+        ensures { result ≡ questions_of is_shown is_answered has_other is_run }
     {
-        if !is_shown {
-            return Questions::Silent;
+        if !is_run && (has_other || is_shown && is_answered) {
+            return Questions::Asked;
         }
-        if is_run || !is_answered {
-            return Questions::Shown;
+        if is_shown {
+            Questions::Shown
+        } else {
+            Questions::Silent
         }
-        Questions::Asked
     }
 
     /// Whether anything is shown.

@@ -1,12 +1,13 @@
 -- Parts of a call, one after another.
-use Rattle.std.proofs.Common.{◌≡◌, ℕ, ◌<◌, true, List, Option, [], ◌∷◌, ◌++◌, Some, refl, sym, ap, ◌∙◌, subst, arith}
+use Rattle.std.proofs.Common.{◌≡◌, ℕ, ◌<◌, true, List, Option, [], ◌∷◌, ◌++◌, Some, refl, sym, ap, ◌∙◌, subst, arith, inl, inr}
 use Rattle.std.proofs.lemmas.List.{append_assoc}
 use Rattle.md_model.specs.Events.{Event, MemberPart}
 use Rattle.md_bitmap.specs.Marks.{Bitmap, is_set}
 use Rattle.md_inflight.specs.Inflight.{InflightList, lookup}
-use Rattle.md_requests.specs.declared.extent.Extent.{Extent}
-use Rattle.md_requests.specs.Pending.{PendingView}
+use Rattle.md_inflight.specs.declared.requests.extent.Extent.{Extent}
+use Rattle.md_inflight.specs.Requests.Pending.{PendingView}
 use Rattle.md_assembly.specs.States.{is_in_sync, is_recorded}
+use Rattle.md_super.specs.declared.superblock.Superblock.{Superblock}
 use Rattle.md_kept_members.specs.View.{MemberView}
 use Rattle.md_state.specs.Members.{IsInSync, IsMember}
 use Rattle.md_state.specs.View.{ArrayView, MirrorView}
@@ -17,7 +18,7 @@ use Rattle.md_array.proofs.StepLemmas.Turns.{all_on, all_such, turn_on, turn_the
 use Rattle.md_metadata.specs.declared.fault.PartFault.{PartFault}
 use Rattle.md_metadata.specs.declared.fault.PartFault.TheVariants.{Halted, MemberFailed}
 use Rattle.md_metadata.specs.Going.{GoesOn, HaltsAfter, IsFaulty, IsSameArray, LosesSomeMember, StepsBy, only_others, recorded_count}
-use Rattle.md_metadata.specs.Storing.{AllStayReady, FailsAtLast, FailsInSync, HaltsAtWrite, HaltsStoring, IsFailureOf, IsMarking, IsNoFailure, IsRecording, IsSector, IsStoring, IsUpToDate, LosesStoring, SectorFails, StaysReady, Stores, StoresAll, StoringFails}
+use Rattle.md_metadata.specs.Storing.{AllStayReady, FailsAtLast, FailsInSync, HaltsAtWrite, HaltsStoring, IsFailureOf, IsMarking, IsNoFailure, IsRecording, IsSector, IsStoring, IsToldAs, IsUpToDate, LosesStoring, SectorFails, StaysReady, Stores, StoresAll, StoringFails}
 
 pub same_refl : (a : ArrayView) → IsSameArray a a
 same_refl a = record { chunks = refl; marks = refl; as_many = refl; requests = refl; resynced = refl; fewer = omega arith }
@@ -124,10 +125,15 @@ halts_on F G H IsOf old mid new g h = record {
 -- ---- marks and records
 pub ready_refl : (a : ArrayView) → AllStayReady a a
 ready_refl a = record {
-  each = λ k n at. record { before = n; member = at; same = refl; marked = λ c was. was; recorded = λ x. x };
+  each = λ k n at. record { before = n; member = at; same = refl; marked = λ c was. was; recorded = λ x. x; told = inl (refl, refl) };
   others = refl;
   halted = refl;
 }
+
+told_on : (before mid n : MemberView) → n.superblock ≡ mid.superblock → IsToldAs before mid → IsToldAs mid n → IsToldAs before n
+told_on before mid n own early (inr stored) = inr stored
+told_on before mid n own (inl was) (inl same) = inl (same.0 ∙ was.0, same.1 ∙ was.1)
+told_on before mid n own (inr stored) (inl same) = inr (same.0 ∙ stored.0, same.1 ∙ stored.1 ∙ sym (ap (λ (v : Superblock). v.recovery_offset) own))
 
 pub ready_on : (a b c : ArrayView) → b.marks ≡ a.marks → AllStayReady a b → AllStayReady b c → AllStayReady a c
 ready_on a b c same g h = record {
@@ -138,9 +144,10 @@ ready_on a b c same g h = record {
       record {
         before = early.before;
         member = early.member;
-        same = late.same ∙ ap (λ (x : MemberView). record x { stored = n.stored; due = n.due }) early.same;
+        same = late.same ∙ ap (λ (x : MemberView). record x { stored = n.stored; due = n.due; stored_offset = n.stored_offset }) early.same;
         marked = λ x was. late.marked x (early.marked x was ∙ sym (bit x)) ∙ bit x;
         recorded = λ x. late.recorded (early.recorded x);
+        told = told_on early.before late.before n (ap (λ (x : MemberView). x.superblock) late.same) early.told late.told;
       };
   others = h.others ∙ ap (λ (x : ArrayView). record x { members = c.members }) g.others;
   halted = h.halted ∙ g.halted;

@@ -2,8 +2,8 @@
 use Rattle.std.proofs.Common.{◌≡◌, Option, [], ◌∷◌, ◌++◌, refl, sym, ap, ◌∙◌, subst}
 use Rattle.md_inflight.specs.Inflight.{InflightList, lookup}
 use Rattle.md_model.specs.Events.{Event}
-use Rattle.md_requests.specs.Pending.{PendingView}
-use Rattle.md_requests.specs.declared.extent.Extent.{Extent}
+use Rattle.md_inflight.specs.Requests.Pending.{PendingView}
+use Rattle.md_inflight.specs.declared.requests.extent.Extent.{Extent}
 use Rattle.md_state.specs.View.{MirrorView}
 use Rattle.md_state.specs.Requests.{AreInFlight, IsPending}
 use Rattle.md_array.specs.Consistency.{IsConsistent}

@@ -1,6 +1,7 @@
 pub mod Counts
 pub mod Going
 pub mod Leading
+pub mod Lowered
 pub mod ClearedMarks
 pub mod Steps
 pub mod StoredMembers
@@ -8,3 +9,5 @@ pub mod StoredSectors
 pub mod StoredRecords
 pub mod StoredLists
 pub mod Stopped
+pub mod StaleFlag
+pub mod ComingBack

@@ -7,7 +7,8 @@ use Rattle.md_model.specs.Events.{Event, MemberPart}
 use Rattle.md_model.specs.Sectors.{block_of}
 use Rattle.md_bitmap.specs.Marks.{is_set}
 use Rattle.md_assembly.specs.States.{is_in_sync, is_recorded}
-use Rattle.md_requests.specs.Pending.{PendingView}
+use Rattle.md_inflight.specs.Requests.Pending.{PendingView}
+use Rattle.md_kept_members.specs.Members.{recorded_member}
 use Rattle.md_kept_members.specs.View.{MemberView}
 use Rattle.md_kept_members.specs.Members.{made_due}
 use Rattle.md_faults.specs.declared.step_fault.StoreFault.TheVariants.{Halted, NotActive, MemberFailed}
@@ -28,7 +29,7 @@ use Rattle.md_array.proofs.General.Indices.{at_set_same}
 use Rattle.md_array.proofs.Worlds.States.{in_sync_recorded}
 use Rattle.md_metadata.specs.declared.fault.PartFault.TheVariants as part
 use Rattle.md_metadata.specs.Going.{IsFaulty, IsSameArray, LosesSomeMember, StepsBy, only_others, recorded_count}
-use Rattle.md_metadata.specs.Storing.{AllStayReady, HaltsRecordingOn, HaltsStoring, IsRecording, IsSector, RecordingFails, RecordsOn, SectorFails, StoresOn}
+use Rattle.md_metadata.specs.Storing.{AllStayReady, HaltsRecordingOn, HaltsStoring, IsRecording, IsSector, IsToldAs, RecordingFails, RecordsOn, SectorFails, StoresOn}
 use Rattle.md_metadata.proofs.Counts.{count_map, set_alike, set_fewer}
 use Rattle.md_metadata.proofs.Going.{goes_step, halts_first, step_loses}
 
@@ -52,22 +53,23 @@ module _ (a b : ArrayView) (k : ℕ) (m n : MemberView) (at : IsMember a k m) (i
       of_set a.members k k n x (ap (λ (y : ArrayView). slice_get y.members k) (sym is) ∙ there)
       (λ same it. it) (λ apart other. absurd (apart refl))
 
-module _ (a b : ArrayView) (k : ℕ) (m n : MemberView) (at : IsMember a k m) (like : n ≡ record m { stored = n.stored; due = n.due }) (is : b ≡ record a { members = set a.members k n }) where
+module _ (a b : ArrayView) (k : ℕ) (m n : MemberView) (at : IsMember a k m) (like : n ≡ record m { stored = n.stored; due = n.due; stored_offset = n.stored_offset }) (is : b ≡ record a { members = set a.members k n }) where
   pub same_array : IsSameArray a b
   same_array = same_but a b k m n at is (ap (λ (x : MemberView). x.state) like)
 
-  pub stay_ready : ((c : ℕ) → is_set m.stored.bytes c ≡ is_set a.marks.bytes c → is_set n.stored.bytes c ≡ is_set a.marks.bytes c) → (IsNotDue m → IsNotDue n) → AllStayReady a b
-  stay_ready marks due = record {
+  pub stay_ready : ((c : ℕ) → is_set m.stored.bytes c ≡ is_set a.marks.bytes c → is_set n.stored.bytes c ≡ is_set a.marks.bytes c) → (IsNotDue m → IsNotDue n) → IsToldAs m n → AllStayReady a b
+  stay_ready marks due told = record {
     each = λ j x there.
         of_set a.members k j n x (ap (λ (y : ArrayView). slice_get y.members j) (sym is) ∙ there)
         (λ same it. record {
           before = m;
           member = ap (slice_get a.members) same ∙ at;
-          same = subst (λ (y : MemberView). y ≡ record m { stored = y.stored; due = y.due }) (sym it) like;
+          same = subst (λ (y : MemberView). y ≡ record m { stored = y.stored; due = y.due; stored_offset = y.stored_offset }) (sym it) like;
           marked = λ c was. ap (λ (y : MemberView). is_set y.stored.bytes c) it ∙ marks c was;
           recorded = λ not_due. ap (λ (y : MemberView). y.due) it ∙ due not_due;
+          told = subst (IsToldAs m) (sym it) told;
         })
-        (λ apart other. record { before = x; member = other; same = refl; marked = λ c was. was; recorded = λ not_due. not_due });
+        (λ apart other. record { before = x; member = other; same = refl; marked = λ c was. was; recorded = λ not_due. not_due; told = inl (refl, refl) });
     others = is ∙ ap (λ (xs : List MemberView). record a { members = xs }) (sym (ap (λ (x : ArrayView). x.members) is));
     halted = ap (λ (x : ArrayView). x.halted) is;
   }
@@ -155,7 +157,7 @@ module _ (old new : MirrorView) (k block : ℕ) (sound : IsConsistent new) (pend
           pending = pending;
         };
         ready = stay_ready old.array new.array k r.member n r.may.in_sync.member refl r.array
-            (λ c was. r.has_stored.bits c ∙ either (eqb (block_of c) block && nat_lt c r.member.stored.chunks) _ _ was) (λ x. x);
+            (λ c was. r.has_stored.bits c ∙ either (eqb (block_of c) block && nat_lt c r.member.stored.chunks) _ _ was) (λ x. x) (inl (refl, refl));
         gives = r;
       }
 
@@ -186,7 +188,7 @@ sector_refused old new k block is r = absurd (let yes = is r.reason.member r.rea
 module _ (old new : MirrorView) (k : ℕ) (sound : IsConsistent new) (pending : (o : PendingView) → IsPending old.array o → IsPending new.array o) where
   pub record_stored : Records k old new → Happens old (Event.Record k) new → RecordsOn k old new
   record_stored r happens =
-      let n = record r.member { due = false } in
+      let n = recorded_member r.member in
       record {
         step = record {
           of = tt;
@@ -196,7 +198,7 @@ module _ (old new : MirrorView) (k : ℕ) (sound : IsConsistent new) (pending : 
           sound = sound;
           pending = pending;
         };
-        ready = stay_ready old.array new.array k r.member n r.may.at refl r.array (λ c was. was) (λ x. refl);
+        ready = stay_ready old.array new.array k r.member n r.may.at refl r.array (λ c was. was) (λ x. refl) (inr (refl, refl));
         done = λ m there. ap (λ (y : MemberView). y.due) (now_at old.array new.array k r.member n r.may.at refl r.array m there);
       }
 

@@ -4,9 +4,10 @@ use Rattle.std.specs.Prelude.{Result, Ok, Err, MatchResult}
 use Rattle.md_model.specs.Events.{Event, MemberPart}
 use Rattle.md_bitmap.specs.Marks.{is_set}
 use Rattle.md_assembly.specs.States.{is_in_sync, is_recorded}
+use Rattle.md_kept_members.specs.Members.{recorded_member}
 use Rattle.md_kept_members.specs.View.{MemberView}
 use Rattle.md_faults.specs.declared.step_fault.StoreFault.TheVariants.{Halted, MemberFailed}
-use Rattle.md_requests.specs.Pending.{PendingView}
+use Rattle.md_inflight.specs.Requests.Pending.{PendingView}
 use Rattle.md_state.specs.Members.{IsInSync, IsMember}
 use Rattle.md_state.specs.Steps.StoreLog.{logged}
 use Rattle.md_state.specs.Requests.{IsPending}
@@ -138,18 +139,18 @@ module _ (k : ℕ) (a b : MirrorView) (l : LogsOn k a b) where
     module _ (d : MirrorView) (due : IsRecordDue (Some (Event.StoreMarks k 0)) c.array k) where
       stored_of : Records k c d → StoresListOf k a.array d.array
       stored_of r =
-          let n : MemberView = record (logged m) { stored = s.gives.stored; due = false } in
+          let n : MemberView = record (logged m) { stored = s.gives.stored; due = false; stored_offset = m.superblock.recovery_offset } in
           let early : s.gives.member ≡ logged m = is_logged s.gives.member s.gives.may.in_sync.member in
           let late : r.member ≡ marked = is_now b.array c.array k s.gives.member marked s.gives.may.in_sync.member s.gives.array r.member r.may.at in
-          let is : record r.member { due = false } ≡ n =
-          ap (λ (x : MemberView). record x { due = false }) late ∙ ap (λ (x : MemberView). record x { stored = s.gives.stored; due = false }) early in
+          let is : recorded_member r.member ≡ n =
+          ap recorded_member late ∙ ap (λ (x : MemberView). recorded_member (record x { stored = s.gives.stored })) early in
           record {
             before = m;
             in_sync = l.gives.in_sync;
             after = n;
             has = record { same = refl; marked = marks_stay };
-            array = set_twice a.array b.array d.array k (logged m) (record r.member { due = false }) l.gives.array
-                (set_twice b.array c.array d.array k marked (record r.member { due = false }) s.gives.array r.array)
+            array = set_twice a.array b.array d.array k (logged m) (recorded_member r.member) l.gives.array
+                (set_twice b.array c.array d.array k marked (recorded_member r.member) s.gives.array r.array)
                 ∙ ap (λ (x : MemberView). record a.array { members = set a.array.members k x }) is;
           }
 

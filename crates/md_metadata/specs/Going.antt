@@ -2,7 +2,7 @@
 use Rattle.std.specs.Prelude.{◌≡◌, ℕ, ◌<◌, ◌≤◌, List, length, count_by, Option}
 use Rattle.md_model.specs.Events.{Event}
 use Rattle.md_assembly.specs.declared.state.MemberState.TheVariants.{Faulty}
-use Rattle.md_requests.specs.Pending.{PendingView}
+use Rattle.md_inflight.specs.Requests.Pending.{PendingView}
 use Rattle.md_kept_members.specs.View.{MemberView}
 use Rattle.md_assembly.specs.States.{is_recorded}
 use Rattle.md_state.specs.Members.{IsMember}

@@ -6,5 +6,9 @@ pub mod Storing
 pub mod StoringLists
 -- Marks go from memory, one after another.
 pub mod Clearing
+-- A device that left comes back, and lacks what was marked since, or all.
+pub mod ComingBack
 -- A whole stop.
 pub mod Stopping
+-- Recovering members are to say no more that they have data which are about to change, one after another.
+pub mod Lowering

@@ -1,5 +1,5 @@
 -- Marks and superblocks are stored on the members, whatever requests are in flight.
-use Rattle.std.specs.Prelude.{◌≡◌, ℕ, ◌<◌, true, List, [], ◌∷◌, ◌++◌}
+use Rattle.std.specs.Prelude.{◌≡◌, ◌⊎◌, ℕ, ◌<◌, true, false, List, [], ◌∷◌, ◌++◌}
 use Rattle.md_model.specs.Events.{Event, MemberPart}
 use Rattle.md_bitmap.specs.Marks.{Bitmap, is_set}
 use Rattle.md_kept_members.specs.View.{MemberView}
@@ -63,14 +63,19 @@ pub record FailsAtLast (k : ℕ) (events : List Event) : Type 0 where
   pub list : events ≡ before ++ failing ∷ []
 
 -- ---- what is stored, and what stays
+-- A member's superblock is due and stored as it was, or was stored as it is kept.
+abbrev pub IsToldAs : MemberView → MemberView → Type 0
+IsToldAs before n = ((n.due ≡ before.due) × (n.stored_offset ≡ before.stored_offset)) ⊎ ((n.due ≡ false) × (n.stored_offset ≡ n.superblock.recovery_offset))
+
 -- A member is what it was, but for what is stored. What is stored of its marks as they are in memory stays so, and its superblock is
 -- not due anew.
 pub record StaysReady (old new : ArrayView) (k : ℕ) (n : MemberView) : Type 0 where
   pub before : MemberView
   pub member : IsMember old k before
-  pub same : n ≡ record before { stored = n.stored; due = n.due }
+  pub same : n ≡ record before { stored = n.stored; due = n.due; stored_offset = n.stored_offset }
   pub marked : (c : ℕ) → is_set before.stored.bytes c ≡ is_set old.marks.bytes c → is_set n.stored.bytes c ≡ is_set old.marks.bytes c
   pub recorded : IsNotDue before → IsNotDue n
+  pub told : IsToldAs before n
 
 -- nothing failed
 pub record AllStayReady (old new : ArrayView) : Type 0 where

@@ -32,7 +32,7 @@ list_events k listed = Event.StoreLog k listed ∷ Event.StoreMarks k 0 ∷ Even
 -- A member's superblock tells of its list and is not due. What was stored of its marks as they are in memory
 -- is so still.
 pub record HasStoredList (marks : Bitmap) (m n : MemberView) : Type 0 where
-  pub same : n ≡ record m { superblock = logged_superblock m.bad m.superblock; stored = n.stored; due = false }
+  pub same : n ≡ record m { superblock = logged_superblock m.bad m.superblock; stored = n.stored; due = false; stored_offset = m.superblock.recovery_offset }
   pub marked : (c : ℕ) → is_set m.stored.bytes c ≡ is_set marks.bytes c → is_set n.stored.bytes c ≡ is_set marks.bytes c
 
 -- Member k, which is in sync, has its list stored, and nothing else changes.

@@ -1,5 +1,5 @@
 //! `stop`, and the parts of whole calls that store what the members have to know of an array, marks and
-//! superblocks: by the steps alone.
+//! superblocks: by the steps alone. And `come_back`, which has a device that comes back lack all of its data.
 //!
 //! The contract of each part says which events it does, and what holds after them; where a member fails on
 //! the way, the caller chooses whether to begin again.
@@ -15,18 +15,22 @@
 #![tactic(auto)]
 
 mod all_marks;
+mod coming_back;
 mod fault;
 mod idle_marks;
 mod lists;
+mod offsets;
 mod records;
 mod sectors;
 mod stop_fault;
 mod whole_stop;
 
 pub use all_marks::store_all_marks;
+pub use coming_back::{RebuildExtent, come_back};
 pub use fault::PartFault;
 pub use idle_marks::clear_marks;
 pub use lists::store_list;
+pub use offsets::lower_offsets;
 pub use records::{store_other_records, store_record, store_records};
 pub use sectors::store_sector;
 pub use stop_fault::StopFault;

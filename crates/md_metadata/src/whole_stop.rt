@@ -1,6 +1,6 @@
 // Stopping an array.
 ghost use Rattle.std.specs.Prelude.{◌≡◌, MatchResult, true, false};
-ghost use Rattle.md_requests.specs.Pending.{PendingView};
+ghost use Rattle.md_inflight.specs.Requests.Pending.{PendingView};
 ghost use Rattle.md_state.specs.Steps.MakeClean.{IsIdle};
 ghost use Rattle.md_state.specs.Requests.{IsPending};
 ghost use Rattle.md_state.specs.Steps.Rise.{HasSpentEvents};

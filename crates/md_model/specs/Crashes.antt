@@ -1,7 +1,7 @@
 -- A crash, and what the next opening may find (this project's own).
 use Rattle.std.specs.Prelude.{◌≡◌, ◌≢◌, ℕ, ◌+◌, ◌<◌, ◌≤◌, ◌⊎◌, Bool, true, false, Some, None}
 use Rattle.md_model.specs.Sectors.{Geometry, chunk_of}
-use Rattle.md_model.specs.States.{is_in_sync}
+use Rattle.md_model.specs.States.{is_in_sync, is_recovering}
 use Rattle.md_model.specs.Devices.{Super, Stored, is_marked, Covered}
 use Rattle.md_model.specs.Worlds.{Request, touches, World, IsInSync}
 use Rattle.md_model.specs.Assembly.{state_by, IsFound}
@@ -80,6 +80,16 @@ KeepsOut g opened h =
     → (absent : Super) → IsAbsent opened h.away absent
     → (first : Super) → IsFreshestWithAbsent opened left first → IsFit opened first h.failed_at
     → is_in_sync (state_by g first absent) ≡ false
+
+-- Once data was tried, a device that was absent is not found recovering beside a member that was in sync: so what its superblock says need
+-- not be so any more, and no opening goes by that.
+abbrev pub KeepsRecoveringOut : Geometry → Super → History → Type 0
+KeepsRecoveringOut g opened h =
+    WasTried g h → (left : ℕ → Stored) → IsLeftByCrash g h left
+    → (k : ℕ) (own : Super) → IsInSync h.now k → (left k).super ≡ Some own
+    → (absent : Super) → IsAbsent opened h.away absent
+    → (first : Super) → IsFreshestWithAbsent opened left first → IsFit opened first h.failed_at
+    → is_recovering (state_by g first absent) ≡ false
 
 -- A device that the superblock of an opening calls out of sync stays so, with data tried since or not.
 abbrev pub StaysOut : Geometry → Super → History → Type 0

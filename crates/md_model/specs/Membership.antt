@@ -30,6 +30,8 @@ taken_out w k =
       known = λ j. w.known (skip k j);
       bad = λ j. w.bad (skip k j);
       offset = λ j. w.offset (skip k j);
+      sure_offset = λ j. w.sure_offset (skip k j);
+      stored_offset = λ j. w.stored_offset (skip k j);
       recovering = λ j. w.recovering (skip k j);
       present = λ d. w.present d && not (eqb d (w.number k));
     }
@@ -58,7 +60,8 @@ pub record Newcomer : Type 0 where
   pub role : ℕ
   pub state : State
   pub recovering : Bool  -- RECOVERY_OFFSET of its feature map
-  pub offset : ℕ  -- its recovery_offset
+  pub offset : ℕ
+  pub sure_offset : ℕ  -- its recovery_offset, which its superblock has by then
   pub device : Stored  -- as its laying out or its record leaves it
 
 abbrev pub joined : World → Newcomer → World
@@ -72,6 +75,8 @@ joined w n =
       known = put w.members n.device.bits w.known;
       bad = put w.members n.device.listed w.bad;
       offset = put w.members n.offset w.offset;
+      sure_offset = put w.members n.sure_offset w.sure_offset;
+      stored_offset = put w.members n.sure_offset w.stored_offset;
       recovering = put w.members n.recovering w.recovering;
       role = put n.number n.role w.role;
       entries = grown w n.number;
@@ -106,7 +111,7 @@ pub record MayAdd (g : Geometry) (w : World) (d : ℕ) : Type 0 where
   pub number : IsNumber g w d
 
 abbrev pub new_member : ℕ → Stored → Newcomer
-new_member d left = record { number = d; role = 65535; state = Spare; recovering = false; offset = 0; device = left }
+new_member d left = record { number = d; role = 65535; state = Spare; recovering = false; offset = 0; sure_offset = 0; device = left }
 
 abbrev pub added : Geometry → World → ℕ → Stored → Bool → World
 added g w d left full = joined (risen g w full) (new_member d left)
@@ -126,17 +131,20 @@ pub record MayReAdd (g : Geometry) (w : World) (own : Super) : Type 0 where
 abbrev pub HasNoOtherMarks : Geometry → World → Stored → Type 0
 HasNoOtherMarks g w device = (s : ℕ) → s < g.size → is_marked device (chunk_of g s) ≡ true → w.marks (chunk_of g s) ≡ true
 
--- The device's superblock is written, with RECOVERY_OFFSET and an offset, and nothing else. With the array's
--- size as offset it lacks the marked chunks alone. One that was used elsewhere since it left has the offset
--- 0, and lacks every chunk.
-pub record IsTakenBack (g : Geometry) (w : World) (own : Super) (device left : Stored) : Type 0 where
+-- The device's superblock is written, with RECOVERY_OFFSET and the sure offset, and nothing else. With the array's
+-- size as offset it lacks the marked chunks alone, so that it surely has what is before the first of them. One that was used
+-- elsewhere since it left has the offset 0, and lacks every chunk.
+pub record IsTakenBack (g : Geometry) (w : World) (own : Super) (offset : ℕ) (device left : Stored) : Type 0 where
   pub was : device.super ≡ Some own
-  pub offset : ℕ
   pub passes : ((offset ≡ g.size) × HasNoOtherMarks g w device) ⊎ (offset ≡ 0)
-  pub rest : left ≡ record device { super = Some (joined_super w own.number (own.role own.number) true offset) }
+  pub sure_offset : ℕ
+  pub within : sure_offset ≤ offset
+  pub unmarked : (s : ℕ) → s < g.size → s < sure_offset → w.marks (chunk_of g s) ≡ false
+  pub rest : left ≡ record device { super = Some (joined_super w own.number (own.role own.number) true sure_offset) }
 
-abbrev pub former_member : Super → Stored → Newcomer
-former_member own left = record { number = own.number; role = own.role own.number; state = Recovering; recovering = true; offset = offset_of left; device = left }
+abbrev pub former_member : Super → ℕ → Stored → Newcomer
+former_member own offset left =
+    record { number = own.number; role = own.role own.number; state = Recovering; recovering = true; offset = offset; sure_offset = offset_of left; device = left }
 
-abbrev pub re_added : Geometry → World → Super → Stored → Bool → World
-re_added g w own left full = joined (risen g w full) (former_member own left)
+abbrev pub re_added : Geometry → World → Super → ℕ → Stored → Bool → World
+re_added g w own offset left full = joined (risen g w full) (former_member own offset left)

@@ -1,6 +1,6 @@
 -- A member is rebuilt, and comes into sync (raid1_sync_request, raid1_spare_active and super_1_sync in the kernel's md driver; what
 -- each asks, and in what order a member's parts are stored, are this project's own).
-use Rattle.std.specs.Prelude.{◌≡◌, ◌≢◌, ℕ, ◌+◌, ◌<◌, ◌≤◌, ◌⊎◌, ◌&&◌, ◌||◌, not, Bool, true, false, Some}
+use Rattle.std.specs.Prelude.{◌≡◌, ◌≢◌, ℕ, ◌+◌, ◌<◌, ◌≤◌, ◌&&◌, ◌||◌, not, Bool, true, false, max, Some}
 use Rattle.md_model.specs.Sectors.{Geometry, chunk_of, is_passed, put}
 use Rattle.md_model.specs.States.{State, is_active, is_in_sync, is_recovering}
 use Rattle.md_model.specs.States.State.{InSync, Recovering, Stale, Spare, Faulty}
@@ -8,7 +8,7 @@ use Rattle.md_model.specs.Devices.{Stored, AgreeAt}
 use Rattle.md_model.specs.Worlds.{World, IsInSync}
 use Rattle.md_model.specs.Counts.{risen}
 use Rattle.md_model.specs.Resyncing.{IsIdle}
-use Rattle.md_model.specs.Steps.{recorded}
+use Rattle.md_model.specs.Steps.{recorded, says_of}
 use Rattle.md_model.specs.Membership.{grown, is_spare, joined_super}
 
 -- a spare or a recovering member: it may be rebuilt
@@ -34,7 +34,8 @@ pub record MayRebuild (w : World) (k : ℕ) : Type 0 where
 
 -- Fill: its data changes in chunks that it lacks, in any way. A chunk may be copied, or its copy may fail or be cut short: a crash
 -- within the write leaves what some filling leaves. A recovering member may lack a chunk by its mark alone: so each member in sync has
--- to have the marks of memory stored by then, or an opening without the one that has it would not know.
+-- to have the marks of memory stored by then, or an opening without the one that has it would not know. What its superblock says that
+-- it has stays as it is.
 pub record MayFill (w : World) (k : ℕ) : Type 0 where
   pub rebuild : MayRebuild w k
   pub noted : is_recovering (w.state k) ≡ true → (i c : ℕ) → IsInSync w i → w.marks c ≡ true → w.known i c ≡ true
@@ -43,6 +44,7 @@ pub record LeftByFilling (g : Geometry) (w : World) (k : ℕ) (left : Stored) : 
   pub rest : left ≡ record (w.stored k) { content = left.content }
   pub outside : (s : ℕ) → is_missing g w k (chunk_of g s) ≡ false → left.content s ≡ (w.stored k).content s
   pub past : (s : ℕ) → g.size ≤ s → left.content s ≡ (w.stored k).content s
+  pub said : (s : ℕ) → says_of w s k ≡ true → left.content s ≡ (w.stored k).content s
 
 -- Prepare: its bitmap and its log are stored, or a write of theirs fails or is cut short. Its superblock is as it was, and by that
 -- alone an opening tells whether it is in sync.
@@ -72,6 +74,8 @@ with_role_taken w k t =
       known = put k t.known w.known;
       bad = put k t.bad w.bad;
       offset = put k t.offset w.offset;
+      sure_offset = put k t.offset w.sure_offset;
+      stored_offset = put k t.offset w.stored_offset;
       recovering = put k t.recovering w.recovering;
       role = put (w.number k) t.role w.role;
       entries = grown w (w.number k);
@@ -114,8 +118,7 @@ pub record MayEnrol (g : Geometry) (w : World) (k role : ℕ) (listed : ℕ → 
   pub unlisted : (s : ℕ) → s < g.size → w.bad k s ≡ true → listed s ≡ false → (j : ℕ) × IsInSync w j × ((w.stored j).listed s ≡ false)
 
 -- Admit: a spare takes a free role, and is recovering from then on, with RECOVERY_OFFSET and the offset 0.
--- Its superblock says so before any other one tells of the role: else it would be found in sync by them
--- (`NeededGuards`, `AdmitsLast`).
+-- Its superblock says so before any other one tells of the role.
 abbrev pub as_recovering : World → ℕ → ℕ → (ℕ → Bool) → Taking
 as_recovering w k role listed = record { role = role; state = Recovering; recovering = true; offset = 0; listed = listed; known = w.known k; bad = w.bad k }
 
@@ -128,14 +131,13 @@ pub record MayAdmit (g : Geometry) (w : World) (k role : ℕ) : Type 0 where
   pub free : (j : ℕ) → is_active (w.state j) ≡ true → w.role (w.number j) ≢ role
   pub small : w.number k < 1920
 
--- Checkpoint: a recovering member records that it lacks nothing up to an offset but what is marked. Each chunk that this has passed was
--- not missing, marked or not; or it was copied: some member in sync holds the same in each of its sectors, and lists none. Or the offset
--- before had passed it too, and each member in sync has its mark stored: it is missing by that alone, and stays so.
+-- Checkpoint: a recovering member records that it lacks nothing before a sector, marked or not. Each sector before it was in no missing
+-- chunk; or it was copied: some member in sync holds the same there, and does not list it. Its offset never falls.
 abbrev pub with_offset : World → ℕ → ℕ → World
-with_offset w k offset = record w { offset = put k offset w.offset }
+with_offset w k sure = record w { offset = put k (max (w.offset k) sure) w.offset; sure_offset = put k sure w.sure_offset }
 
 abbrev pub checkpointed : World → ℕ → ℕ → (ℕ → Bool) → World
-checkpointed w k offset listed = recorded (with_offset w k offset) k listed
+checkpointed w k sure listed = recorded (with_offset w k sure) k listed
 
 pub record IsCopiedAt (w : World) (k s : ℕ) : Type 0 where
   pub from : ℕ
@@ -143,13 +145,8 @@ pub record IsCopiedAt (w : World) (k s : ℕ) : Type 0 where
   pub unlisted : (w.stored from).listed s ≡ false
   pub same : (w.stored k).content s ≡ (w.stored from).content s
 
-pub record IsStillMarked (g : Geometry) (w : World) (k c : ℕ) : Type 0 where
-  pub passed : is_passed g (w.offset k) c ≡ true
-  pub noted : (i : ℕ) → IsInSync w i → w.known i c ≡ true
-
-pub record MayCheckpoint (g : Geometry) (w : World) (k offset : ℕ) : Type 0 where
+pub record MayCheckpoint (g : Geometry) (w : World) (k sure : ℕ) : Type 0 where
   pub idle : IsIdle w
   pub recovering : is_recovering (w.state k) ≡ true
   pub resynced : w.resynced ≡ true
-  pub copied : (s : ℕ) → s < g.size → is_missing g w k (chunk_of g s) ≡ true → is_passed g offset (chunk_of g s) ≡ true
-      → IsCopiedAt w k s ⊎ IsStillMarked g w k (chunk_of g s)
+  pub copied : (s : ℕ) → s < g.size → is_missing g w k (chunk_of g s) ≡ true → s < sure → IsCopiedAt w k s

@@ -1,1 +1,5 @@
 pub mod Members
+-- Signatures on a device.
+pub mod SignatureLemmas
+-- What a device holds before `create` or `add` overwrites it, for the warning.
+pub mod HeldLemmas

@@ -10,3 +10,7 @@ pub mod Dropping
 pub mod Lines
 -- What is noticed of all members and roles of an array.
 pub mod Noticing
+-- Signatures on a device.
+pub mod Signatures
+-- What a device holds before `create` or `add` overwrites it, for the warning.
+pub mod Held

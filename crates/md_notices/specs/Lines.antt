@@ -1,6 +1,7 @@
--- The lines that say what was noticed: forms of this project's own.
+-- The lines that say what was noticed: forms of this project's own. Names stand in them as they are shown.
 use Rattle.std.specs.Prelude.{ℕ, List, [], ◌++◌, codes, decimal}
 use Rattle.uuid.specs.Text.{hyphenated_text, lower}
+use Rattle.md_examine.specs.ShownNames.Shown.{shown}
 use Rattle.md_super.specs.declared.superblock.Superblock.{Superblock}
 use Rattle.md_assembly.specs.declared.state.MemberState.{MemberState}
 use Rattle.md_assembly.specs.declared.state.MemberState.TheVariants.{InSync, Recovering, Stale, Spare, Faulty}
@@ -8,12 +9,12 @@ use Rattle.md_assembly.specs.States.{state_of}
 
 unfoldable pub parted_text : List ℕ → List ℕ → List ℕ
 parted_text name other =
-    codes "mdcli: " ++ name ++ codes ": was used without " ++ other
+    codes "mdcli: " ++ shown name ++ codes ": was used without " ++ shown other
     ++ codes " since they parted: what was written to it alone is not in this array\n"
 
 unfoldable pub dropped_text : List ℕ → ℕ → ℕ → List ℕ
 dropped_text name in_sync raid_disks =
-    codes "mdcli: " ++ name
+    codes "mdcli: " ++ shown name
     ++ (codes ": a write failed; it is faulty now, and the array has " ++ decimal in_sync)
     ++ (codes " of " ++ decimal raid_disks) ++ codes "\n"
 
@@ -24,28 +25,31 @@ unnamed_text number role =
 
 unfoldable pub forgotten_text : List ℕ → List ℕ
 forgotten_text name =
-    codes "mdcli: " ++ name ++ codes ": is in sync in this very array, and is not among the images\n"
+    codes "mdcli: " ++ shown name
+    ++ codes ": is in sync in this very array, and is not among the images\n"
 
 unfoldable pub held_text : List ℕ → List ℕ → List ℕ
-held_text name what = codes "mdcli: " ++ name ++ codes ": holds " ++ what ++ codes "\n"
+held_text name what = codes "mdcli: " ++ shown name ++ codes ": holds " ++ what ++ codes "\n"
 
 unfoldable pub unseen_text : List ℕ → List ℕ
-unseen_text name = codes "mdcli: " ++ name ++ codes ": there was no memory to look at it: it may hold data\n"
+unseen_text name =
+    codes "mdcli: " ++ shown name ++ codes ": there was no memory to look at it: it may hold data\n"
 
 unfoldable pub unread_text : List ℕ → List ℕ
-unread_text name = codes "mdcli: " ++ name ++ codes ": a read of it failed: it may hold data\n"
+unread_text name = codes "mdcli: " ++ shown name ++ codes ": a read of it failed: it may hold data\n"
 
 unfoldable pub marked_line_text : List ℕ → List ℕ
 marked_line_text name =
-    codes "mdcli: " ++ name
+    codes "mdcli: " ++ shown name
     ++ codes ": its bitmap did not tell of the array, so all chunks are marked in it now\n"
 
 unfoldable pub uncompared_text : List ℕ → List ℕ
 uncompared_text name =
-    codes "mdcli: " ++ name ++ codes ": no other member is in sync, so nothing was compared\n"
+    codes "mdcli: " ++ shown name ++ codes ": no other member is in sync, so nothing was compared\n"
 
 unfoldable pub lost_text : List ℕ → List ℕ
-lost_text name = codes "mdcli: " ++ name ++ codes ": what it held is lost: it is a spare of the array now\n"
+lost_text name =
+    codes "mdcli: " ++ shown name ++ codes ": what it held is lost: it is a spare of the array now\n"
 
 -- the role of a member, where it has one
 abbrev pub state_role_text : MemberState → List ℕ
@@ -66,6 +70,6 @@ there_text Faulty = codes ", faulty there\n"
 -- of which array the device is, and what it is there by its own superblock
 unfoldable pub identity_text : List ℕ → Superblock → List ℕ
 identity_text name own =
-    codes "mdcli: " ++ name ++ (codes ": is device " ++ decimal own.dev_number)
+    codes "mdcli: " ++ shown name ++ (codes ": is device " ++ decimal own.dev_number)
     ++ state_role_text (state_of own own)
     ++ codes " of array " ++ hyphenated_text lower own.set_uuid ++ there_text (state_of own own)

@@ -5,7 +5,7 @@ use Rattle.std.specs.List.{list_all, list_any}
 use Rattle.md_super.specs.declared.superblock.Superblock.{Superblock}
 use Rattle.md_assembly.specs.declared.state.MemberState.{MemberState}
 use Rattle.md_assembly.specs.declared.state.MemberState.TheVariants.{InSync, Recovering, Stale, Spare, Faulty}
-use Rattle.md_assembly.specs.States.{is_in_sync, role_in, state_of}
+use Rattle.md_assembly.specs.States.{bears, is_in_sync, role_in, state_of}
 use Rattle.md_kept_members.specs.View.{MemberView}
 use Rattle.md_state.specs.View.{ArrayView}
 
@@ -14,12 +14,15 @@ abbrev pub has_role_below : Superblock → ℕ → ℕ → Bool
 has_role_below v number role = list_any (λ other. other == role) (take number v.roles)
 
 -- By the superblock the device with this number, which is in sync in this role, was not in use any more. It had failed: 0xfffe. Or
--- it has no role, which the kernel writes of a device that is missing, and no device of a lower number has its role: of one that
--- came into the role later the superblock still has the device that had it before. A device that comes later has a higher number,
+-- it has another role, so that this number is another disk's by it. Or it has no role, which the kernel writes of a device that is
+-- missing, and no device of a lower number has its role: of one that came into the role later the superblock still has the device
+-- that had it before. A device that comes later has a higher number,
 -- but where it gets that of one that left (bind_rdev_to_array in the kernel's md driver).
 abbrev pub was_without : Superblock → ℕ → ℕ → Bool
 was_without v number role =
-    role_in v number == 0xfffe || nat_le v.raid_disks (role_in v number) && not (has_role_below v number role)
+    role_in v number == 0xfffe
+    || nat_lt (role_in v number) v.raid_disks && not (role_in v number == role)
+    || nat_le v.raid_disks (role_in v number) && not (has_role_below v number role)
 
 -- a member of this number and state is not in sync, or was not in use any more by the superblock
 abbrev pub is_left_by : Superblock → ℕ → MemberState → Bool
@@ -39,23 +42,23 @@ abbrev pub is_apart : List MemberView → Superblock → Bool
 is_apart members v =
     is_active_by_own v && list_all (λ other. is_left_by v other.superblock.dev_number other.state) members
 
--- The array has the device in no role any more. One that it has in a role, with fewer events, is an older copy of that device: what
--- was written to it then is in the array.
-abbrev pub is_out : MemberState → Bool
-is_out (InSync role) = false
-is_out (Recovering role) = false
-is_out (Stale role) = false
-is_out Spare = true
-is_out Faulty = true
+-- The array has the device in no role any more, or in another than its own superblock does. One that it has in its role, with fewer
+-- events, is an older copy of that device: what was written to it then is in the array.
+abbrev pub is_out : MemberState → Superblock → Bool
+is_out (InSync role) v = false
+is_out (Recovering role) v = false
+is_out (Stale role) v = not (bears v role)
+is_out Spare v = true
+is_out Faulty v = true
 
 -- the array goes on without the member, which was used without the members that are in sync
 abbrev pub is_parted : List MemberView → MemberView → Bool
-is_parted members m = is_out m.state && is_apart members m.superblock
+is_parted members m = is_out m.state m.superblock && is_apart members m.superblock
 
 -- a device that is no member is of the array, which goes on without it, and was used without the members that are in sync
 pub record WasApart (a : ArrayView) (own : Superblock) : Type 0 where
   pub set : own.set_uuid ≡ a.shared.set_uuid
-  pub out : is_out (state_of a.shared own) ≡ true
+  pub out : is_out (state_of a.shared own) own ≡ true
   pub apart : is_apart a.members own ≡ true
 
 -- none of the first n members is in sync

@@ -1,9 +1,12 @@
 //! What is noticed of an array and its images, and the lines that say it: which image was used without the others,
-//! which member dropped out, which device was not named, and what an image holds that is to be overwritten. No
-//! function takes memory, and none uses a device.
+//! which member dropped out, which device was not named, and what an image holds that is to be overwritten. But
+//! for what looks at images (`held/`, `signatures/`) no function takes memory, and none uses a device.
 //!
 //! Start with `members_parted` and `members_dropped` (`noticing.rt`), which tell of each member, and with the
 //! lines, which `lines.rt` has.
+//!
+//! `signatures/`: signatures on a device.
+//! `held/`: what a device holds before `create` or `add` overwrites it, for the warning.
 //!
 //! ```
 //! let parted = members_parted(&mirror);
@@ -15,14 +18,17 @@
 
 mod belonging;
 mod dropping_out;
+mod held;
 mod lines;
 mod noticing;
 mod parting;
+mod signatures;
 mod standing_lines;
 mod unnamed;
 
 pub use belonging::{is_forgotten, standing};
 pub use dropping_out::dropped_out;
+pub use held::{Held, held_on, held_on_each};
 pub use lines::{
     dropped_line, forgotten_line, held_line, lost_line, marked_line, parted_line, uncompared_line,
     unnamed_line, unread_line, unseen_line,
@@ -32,5 +38,6 @@ pub use noticing::{
     roles_unnamed, states_of,
 };
 pub use parting::{first_in_sync, is_parted, was_apart};
+pub use signatures::{Look, SIGNATURES, Signature, find_signatures};
 pub use standing_lines::standing_line;
 pub use unnamed::unnamed_in;

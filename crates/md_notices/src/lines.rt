@@ -3,7 +3,7 @@ ghost use Rattle.std.specs.Prelude.{◌≡◌};
 ghost use Rattle.md_examine.specs.Sink.{PutsOrFails};
 ghost use Rattle.md_notices.specs.Lines.{dropped_text, forgotten_text, held_text, lost_text, marked_line_text, parted_text, uncompared_text, unnamed_text, unread_text, unseen_text};
 
-use md_examine::{Sink, SinkFault, number_after};
+use md_examine::{Sink, SinkFault, number_after, put_name};
 
 /// Says that an image was used without another one. It takes no memory, as no line does, and fails only where the
 /// sink has failed.
@@ -11,9 +11,9 @@ pub fn parted_line<S: Sink>(out: &mut S, name: &str, other: &str) -> Result<(), 
     ensures { PutsOrFails S.contents S.failed out.old out.new (parted_text name.now other.now) result }
 {
     out.put(b"mdcli: ")?;
-    out.put(name.as_bytes())?;
+    put_name(out, name)?;
     out.put(b": was used without ")?;
-    out.put(other.as_bytes())?;
+    put_name(out, other)?;
     out.put(b" since they parted: what was written to it alone is not in this array\n")?;
     Ok(())
 }
@@ -30,7 +30,7 @@ pub fn dropped_line<S: Sink>(
         result }
 {
     out.put(b"mdcli: ")?;
-    out.put(name.as_bytes())?;
+    put_name(out, name)?;
     number_after(
         out,
         b": a write failed; it is faulty now, and the array has ",
@@ -58,7 +58,7 @@ pub fn forgotten_line<S: Sink>(out: &mut S, name: &str) -> Result<(), SinkFault>
     ensures { PutsOrFails S.contents S.failed out.old out.new (forgotten_text name.now) result }
 {
     out.put(b"mdcli: ")?;
-    out.put(name.as_bytes())?;
+    put_name(out, name)?;
     out.put(b": is in sync in this very array, and is not among the images\n")?;
     Ok(())
 }
@@ -69,7 +69,7 @@ pub fn held_line<S: Sink>(out: &mut S, name: &str, what: &str) -> Result<(), Sin
     ensures { PutsOrFails S.contents S.failed out.old out.new (held_text name.now what.now) result }
 {
     out.put(b"mdcli: ")?;
-    out.put(name.as_bytes())?;
+    put_name(out, name)?;
     out.put(b": holds ")?;
     out.put(what.as_bytes())?;
     out.put(b"\n")?;
@@ -81,7 +81,7 @@ pub fn unseen_line<S: Sink>(out: &mut S, name: &str) -> Result<(), SinkFault>
     ensures { PutsOrFails S.contents S.failed out.old out.new (unseen_text name.now) result }
 {
     out.put(b"mdcli: ")?;
-    out.put(name.as_bytes())?;
+    put_name(out, name)?;
     out.put(b": there was no memory to look at it: it may hold data\n")?;
     Ok(())
 }
@@ -91,7 +91,7 @@ pub fn unread_line<S: Sink>(out: &mut S, name: &str) -> Result<(), SinkFault>
     ensures { PutsOrFails S.contents S.failed out.old out.new (unread_text name.now) result }
 {
     out.put(b"mdcli: ")?;
-    out.put(name.as_bytes())?;
+    put_name(out, name)?;
     out.put(b": a read of it failed: it may hold data\n")?;
     Ok(())
 }
@@ -101,7 +101,7 @@ pub fn marked_line<S: Sink>(out: &mut S, name: &str) -> Result<(), SinkFault>
     ensures { PutsOrFails S.contents S.failed out.old out.new (marked_line_text name.now) result }
 {
     out.put(b"mdcli: ")?;
-    out.put(name.as_bytes())?;
+    put_name(out, name)?;
     out.put(b": its bitmap did not tell of the array, so all chunks are marked in it now\n")?;
     Ok(())
 }
@@ -112,7 +112,7 @@ pub fn uncompared_line<S: Sink>(out: &mut S, name: &str) -> Result<(), SinkFault
     ensures { PutsOrFails S.contents S.failed out.old out.new (uncompared_text name.now) result }
 {
     out.put(b"mdcli: ")?;
-    out.put(name.as_bytes())?;
+    put_name(out, name)?;
     out.put(b": no other member is in sync, so nothing was compared\n")?;
     Ok(())
 }
@@ -123,7 +123,7 @@ pub fn lost_line<S: Sink>(out: &mut S, name: &str) -> Result<(), SinkFault>
     ensures { PutsOrFails S.contents S.failed out.old out.new (lost_text name.now) result }
 {
     out.put(b"mdcli: ")?;
-    out.put(name.as_bytes())?;
+    put_name(out, name)?;
     out.put(b": what it held is lost: it is a spare of the array now\n")?;
     Ok(())
 }

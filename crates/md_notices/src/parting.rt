@@ -38,7 +38,11 @@ fn was_without(v: &Superblock, number: u32, role: u16) -> bool
     if other == FAULTY {
         return true;
     }
-    u32::from(other) >= v.raid_disks && !has_role_below(v, number, role)
+    if u32::from(other) < v.raid_disks {
+        // By it this number is another disk's.
+        return other != role;
+    }
+    !has_role_below(v, number, role)
 }
 
 // Whether a member is not in sync, or by the superblock was not in use any more.
@@ -74,26 +78,30 @@ fn is_apart<D: Device + Drop>(mirror: &Mirror<D>, v: &Superblock) -> bool
     left_all(mirror, v)
 }
 
-// Whether the array has a device in this state in no role any more.
-fn is_out(state: MemberState) -> bool
-    ensures { result ≡ is_out state }
+// Whether the array has a device in this state in no role any more, or in another than its own superblock does.
+fn is_out(state: MemberState, own: &Superblock) -> bool
+    ensures { result ≡ is_out state own.now }
 {
-    matches!(state, MemberState::Spare | MemberState::Faulty)
+    match state {
+        MemberState::InSync(_) | MemberState::Recovering(_) => false,
+        MemberState::Stale(role) => own.role_of(own.dev_number) != role,
+        MemberState::Spare | MemberState::Faulty => true,
+    }
 }
 
 /// Whether member k, without which the array goes on, was used without all members that are in sync: its own superblock
-/// has it in a role and has them as failed, or in no role, which no device of a lower number has either. Ask it before
+/// has it in a role and has them as failed, in another role, or in none, which no device of a lower number has either. Ask it before
 /// any step, since a step may change its superblock. It takes no memory.
 pub fn is_parted<D: Device + Drop>(mirror: &Mirror<D>, k: usize) -> bool
     requires { k < length mirror.now.array.members }
     ensures { (m : MemberView) → IsMember mirror.now.array k m
         → result ≡ is_parted mirror.now.array.members m }
 {
-    let state = mirror.state(k);
-    if !is_out(state) {
+    let own = mirror.own(k);
+    if !is_out(mirror.state(k), own) {
         return false;
     }
-    is_apart(mirror, mirror.own(k))
+    is_apart(mirror, own)
 }
 
 /// Whether a device with this superblock, which is to come back to the array, was used without all members that are in
@@ -102,7 +110,7 @@ pub fn was_apart<D: Device + Drop>(mirror: &Mirror<D>, own: &Superblock) -> bool
     ensures { IsTrue result ↔ WasApart mirror.now.array own.now }
 {
     own.set_uuid == mirror.shared().set_uuid
-        && is_out(state_of(mirror.shared(), own))
+        && is_out(state_of(mirror.shared(), own), own)
         && is_apart(mirror, own)
 }
 

@@ -6,7 +6,7 @@ ghost use Rattle.md_notices.specs.Lines.{state_role_text, identity_text, there_t
 
 use crate::belonging::standing;
 use md_assembly::MemberState;
-use md_examine::{Sink, SinkFault, number_after};
+use md_examine::{Sink, SinkFault, number_after, put_name};
 use md_super::Superblock;
 use uuid::Uuid;
 
@@ -48,7 +48,7 @@ pub fn standing_line<S: Sink>(out: &mut S, name: &str, own: &Superblock) -> Resu
 {
     let state = standing(own);
     out.put(b"mdcli: ")?;
-    out.put(name.as_bytes())?;
+    put_name(out, name)?;
     number_after(out, b": is device ", own.dev_number)?;
     role(out, state)?;
     out.put(b" of array ")?;

@@ -1,5 +1,5 @@
 -- A pass ends: devices are back in their list.
-use Rattle.std.proofs.Common.{◌≡◌, ℕ, suc, ◌+◌, ◌<◌, ◌≤◌, Bool, true, false, inl, inr, [], ◌∷◌, List, length, map, count_by, sum_by, get_or, slice_index, Contains, refl, ap, sym, ◌∙◌, arith, subst}
+use Rattle.std.proofs.Common.{◌≡◌, ℕ, suc, ◌+◌, ◌<◌, ◌≤◌, ◌⊎◌, Bool, true, false, inl, inr, [], ◌∷◌, List, length, map, count_by, sum_by, get_or, slice_index, Contains, refl, ap, sym, ◌∙◌, arith, subst}
 use Rattle.std.specs.List.{All, Any}
 use Rattle.std.proofs.lemmas.List.{get_or-map, length-map}
 use Rattle.std.proofs.lemmas.List.Sums.{sum_by-cons}
@@ -10,12 +10,15 @@ use Rattle.md_cert.specs.declared.slots.Slot.{Slot}
 use Rattle.md_device.specs.declared.device.Device.{Ghosts}
 use Rattle.md_bitmap.specs.Marks.{Bitmap, is_set}
 use Rattle.md_collect.specs.Places.{chunk_on}
+use Rattle.md_collect.specs.Reading.{FailsInChunk}
 use Rattle.md_collect.specs.Collecting.{CollectorView, copying}
-use Rattle.md_collect.specs.Reports.{Copying}
-use Rattle.md_workers.specs.declared.queue.Queue.{Queue}
-use Rattle.md_workers.specs.Queues.{OnlyRead, AreOnlyRead, is_failed}
-use Rattle.md_workers.proofs.OnlyReads.{not_read}
-use Rattle.md_workers.proofs.Workers.{chunks_kept}
+use Rattle.md_collect.specs.Reports.{Copying, is_planned}
+use Rattle.md_device.specs.Failing.{EachNewFault}
+use Rattle.md_device.proofs.Failing.{fails_weaker}
+use Rattle.md_collect.specs.declared.workers.queue.Queue.{Queue}
+use Rattle.md_collect.specs.Workers.Queues.{OnlyRead, AreOnlyRead, IsOfWaiting, is_failed}
+use Rattle.md_collect.proofs.WorkerLemmas.OnlyReads.{not_read}
+use Rattle.md_collect.proofs.WorkerLemmas.Workers.{chunks_kept}
 use Rattle.md_pass.specs.declared.fault.PassFault.{PassFault}
 use Rattle.md_pass.specs.declared.fault.PassFault.TheVariants.{NoMemory, TargetFault}
 use Rattle.md_pass.specs.declared.preparing.Preparation.{Preparation}
@@ -25,10 +28,10 @@ use Rattle.md_pass.specs.Beside.{has_chunk}
 use Rattle.md_pass.specs.Places.{AreInTurn, AreTaken}
 use Rattle.md_pass.specs.Readings.{IsQueueOf, IsOrderOf, is_of, slot_count_of}
 use Rattle.md_pass.specs.TakingReports.{Books, books}
-use Rattle.md_pass.specs.Copied.{AreJoined, CountFailed, HasCopied, OnFault, PassState, failed_slots, is_failed_slot, pass_state}
+use Rattle.md_pass.specs.Copied.{AreJoined, CountFailed, FailOnlyThere, FailThere, HasCopied, IsOfFailedSlot, OnFault, PassState, failed_slots, is_failed_slot, pass_state}
 use Rattle.md_pass.specs.Preparing.{CanCopy}
 use Rattle.md_pass.specs.Sources.{MayRead}
-use Rattle.md_pass.specs.Passes.{HasLanded, IsPassing, IsUnderWay, QueuesOnlyRead, count_left, is_left}
+use Rattle.md_pass.specs.Passes.{HasLanded, IsOfTaken, IsPassing, IsUnderWay, QueuesOnlyRead, count_left, is_left}
 use Rattle.md_pass.proofs.Departures.{related}
 use Rattle.md_pass.proofs.Orders.{order_covers}
 use Rattle.md_pass.proofs.PassStarts.{all_fit, device_at, in_turn, reading_like, source_at}
@@ -207,6 +210,91 @@ module _ {D L M : Type 0} {g : Ghosts D} where
           let a = ap g.failures old in
           let b = ap g.failures new in
           omega (arith, up, zero, all, a, b)
+
+  -- a slot of source k whose chunk was not copied
+  slot_failed : {th : Bool} {start now : Books} {devices rest : List D} {places : List ℕ} {rs : List Reading} {firsts queues : List (Queue D L M)} → HaveLeft g start devices rest places rs firsts → IsPassing g th firsts queues start now → All (λ queue. (queue.done ≡ length queue.chunks.items) × (queue.reports ≡ [])) queues
+      → (slot : Slot) → Contains start.collector.slots slot → is_set now.copied.bytes slot.chunk ≡ false → (k : ℕ) (s : Source) (d : Queue D L M) → k < length rs → (get_or (map (λ (r : Reading). r.source) rs) k s).role ≡ slot.source
+      → FailsInChunk g (get_or firsts k d).device (get_or queues k d).device (get_or firsts k d).offset now.collector.chunks slot.chunk
+  slot_failed {now = now} {rs = rs} {firsts = firsts} {queues = queues} t p done slot there unset k s d below role =
+      let r = get_or rs k (reading_like d) in
+      let is : r.source.role ≡ slot.source = ap (λ (x : Source). x.role) (sym (source_at rs k (reading_like d) s below)) ∙ role in
+      let (j, within, at) = order_covers (t.orders k (reading_like d) below) slot there (sym is) in
+      let chunks : (get_or firsts k d).chunks ≡ r.chunks = (t.are k (reading_like d) d below).chunks in
+      let here : k < length firsts = omega (arith, t.same, below) in
+      let way = p.each k d here in
+      let short : j < length (get_or firsts k d).chunks.items = rw chunks within in
+      let whole : (get_or queues k d).done ≡ length (get_or firsts k d).chunks.items = (done k d (omega (arith, p.as_many, here))).0 ∙ ap (λ (v : _). length v.items) (chunks_kept way.read) in
+      let place : slice_index (get_or firsts k d).chunks.items j ≡ slot.chunk = ap (λ (v : _). slice_index v.items j) chunks ∙ at in
+      subst (λ c. FailsInChunk g (get_or firsts k d).device (get_or queues k d).device (get_or firsts k d).offset now.collector.chunks c) place
+      (way.failed j (omega (arith, short, whole)) (ap (is_set now.copied.bytes) place ∙ unset))
+
+  -- the devices failed reads there
+  pub fail_there : {th : Bool} {start now : Books} {devices rest : List D} {places : List ℕ} {rs : List Reading} {firsts queues : List (Queue D L M)} → HaveLeft g start devices rest places rs firsts → IsPassing g th firsts queues start now → All (λ queue. (queue.done ≡ length queue.chunks.items) × (queue.reports ≡ [])) queues
+      → (news : List D) → length news ≡ length devices → AreTaken news places (map (λ (l : Queue D L M). l.device) queues) rest
+      → FailThere g (copying start.collector) now.copied (map (λ (r : Reading). r.source) rs) devices news
+  fail_there {start = start} {now = now} {devices = devices} {rest = rest} {places = places} {rs = rs} {firsts = firsts} {queues = queues} t p done news long taken' i slot wi unset k s wk role e = by firsts refl
+    where
+      by : (ls : List (Queue D L M)) → firsts ≡ ls
+          → FailsInChunk g (get_or devices (get_or (map (λ (r : Reading). r.source) rs) k s).place e) (get_or news (get_or (map (λ (r : Reading). r.source) rs) k s).place e)
+          (get_or (map (λ (r : Reading). r.source) rs) k s).offset start.collector.chunks (get_or start.collector.slots i slot).chunk
+      by [] none = absurd (let n = length-map rs (λ (r : Reading). r.source) in let z = ap length none in omega (arith, wk, n, t.same, z))
+      by (f ∷ fs) some =
+          let n = length-map rs (λ (r : Reading). r.source) in
+          let below : k < length rs = omega (arith, wk, n) in
+          let here : k < length firsts = omega (arith, t.same, below) in
+          let old = first_device t k f e s below in
+          let new : (get_or queues k f).device ≡ get_or news (get_or (map (λ (r : Reading). r.source) rs) k s).place e
+          = sym (get_or-map (λ (l : Queue D L M). l.device) queues k f e (omega (arith, here, p.as_many))) ∙ device_at devices news (map (λ (l : Queue D L M). l.device) queues) rest rs places t.may t.turn long taken' k e e s below in
+          let offset : (get_or firsts k f).offset ≡ (get_or (map (λ (r : Reading). r.source) rs) k s).offset = (t.are k (reading_like f) f below).offset ∙ ap (λ (x : Source). x.offset) (sym (source_at rs k (reading_like f) s below)) in
+          let chunks : now.collector.chunks ≡ start.collector.chunks = ap (λ (c : Copying). c.chunks) p.books.same_copy in
+          rw (← old, ← new, ← offset, ← chunks) (slot_failed t p done (get_or start.collector.slots i slot) (Contains-get_or start.collector.slots i slot wi) unset k s f below role)
+
+  -- of the device of source k no other call failed
+  queue_only : {th : Bool} {start now : Books} {devices rest : List D} {places : List ℕ} {rs : List Reading} {firsts queues : List (Queue D L M)} → HaveLeft g start devices rest places rs firsts → IsPassing g th firsts queues start now → All (λ queue. (queue.done ≡ length queue.chunks.items) × (queue.reports ≡ [])) queues
+      → All (λ queue. queue.starved ≡ false) queues → (k : ℕ) (d : Queue D L M) (s : Source) → k < length rs
+      → EachNewFault (g.faults (get_or firsts k d).device) (g.faults (get_or queues k d).device) (IsOfFailedSlot (copying start.collector) now.copied (get_or (map (λ (r : Reading). r.source) rs) k s))
+  queue_only {start = start} {now = now} {rs = rs} {firsts = firsts} {queues = queues} t p done fed k d s below =
+      let first = get_or firsts k d in
+      let queue = get_or queues k d in
+      let source = get_or (map (λ (r : Reading). r.source) rs) k s in
+      let here : k < length firsts = omega (arith, t.same, below) in
+      let there : k < length queues = omega (arith, p.as_many, here) in
+      let way = p.each k d here in
+      let is = t.are k (reading_like d) d below in
+      let from = source_at rs k (reading_like d) s below in
+      let role : first.role ≡ source.role = is.role ∙ ap (λ (x : Source). x.role) (sym from) in
+      let offset : first.offset ≡ source.offset = is.offset ∙ ap (λ (x : Source). x.offset) (sym from) in
+      let chunks : now.collector.chunks ≡ start.collector.chunks = ap (λ (c : Copying). c.chunks) p.books.same_copy in
+      fails_weaker (g.faults first.device) (g.faults queue.device) (λ f. IsOfTaken now first queue f ⊎ IsOfWaiting now.collector.chunks queue f) (IsOfFailedSlot (copying start.collector) now.copied source)
+      (λ f h. elim h [
+        | inl x ↦ record {
+          chunk = slice_index first.chunks.items x.slot;
+          planned = subst (λ n. is_planned start.collector.slots (slice_index first.chunks.items x.slot) n ≡ true) role ((p.begins k d here).planned x.slot (let w = way.read.within in let b = x.taken in omega (arith, w, b)));
+          uncopied = x.uncopied;
+          there = rw (← offset, ← chunks) x.there;
+        }
+        | inr w ↦ absurd (let n = ap length (done k d there).1 in let b = w.waits in omega (arith, n, b))
+      ]) (way.only (fed k d there))
+
+  pub fail_only_there : {th : Bool} {start now : Books} {devices rest : List D} {places : List ℕ} {rs : List Reading} {firsts queues : List (Queue D L M)} → HaveLeft g start devices rest places rs firsts → IsPassing g th firsts queues start now → All (λ queue. (queue.done ≡ length queue.chunks.items) × (queue.reports ≡ [])) queues
+      → All (λ queue. queue.starved ≡ false) queues → (news : List D) → length news ≡ length devices → AreTaken news places (map (λ (l : Queue D L M). l.device) queues) rest
+      → FailOnlyThere g (copying start.collector) now.copied (map (λ (r : Reading). r.source) rs) devices news
+  fail_only_there {start = start} {now = now} {devices = devices} {rest = rest} {places = places} {rs = rs} {firsts = firsts} {queues = queues} t p done fed news long taken' k s wk has e = by firsts refl
+    where
+      by : (ls : List (Queue D L M)) → firsts ≡ ls
+          → EachNewFault (g.faults (get_or devices (get_or (map (λ (r : Reading). r.source) rs) k s).place e)) (g.faults (get_or news (get_or (map (λ (r : Reading). r.source) rs) k s).place e))
+          (IsOfFailedSlot (copying start.collector) now.copied (get_or (map (λ (r : Reading). r.source) rs) k s))
+      by [] none = absurd (let n = length-map rs (λ (r : Reading). r.source) in let z = ap length none in omega (arith, wk, n, t.same, z))
+      by (f ∷ fs) some =
+          let n = length-map rs (λ (r : Reading). r.source) in
+          let below : k < length rs = omega (arith, wk, n) in
+          let here : k < length firsts = omega (arith, t.same, below) in
+          let P = IsOfFailedSlot (copying start.collector) now.copied (get_or (map (λ (r : Reading). r.source) rs) k s) in
+          let old = first_device t k f e s below in
+          let new : (get_or queues k f).device ≡ get_or news (get_or (map (λ (r : Reading). r.source) rs) k s).place e
+          = sym (get_or-map (λ (l : Queue D L M). l.device) queues k f e (omega (arith, here, p.as_many))) ∙ device_at devices news (map (λ (l : Queue D L M). l.device) queues) rest rs places t.may t.turn long taken' k e e s below in
+          subst (λ x. EachNewFault (g.faults x) (g.faults (get_or news (get_or (map (λ (r : Reading). r.source) rs) k s).place e)) P) old
+          (subst (λ x. EachNewFault (g.faults (get_or firsts k f).device) (g.faults x) P) new (queue_only t p done fed k f s below))
 
   -- the shares of queues that are done
   pub none_left : {th : Bool} {start now : Books} {devices rest : List D} {places : List ℕ} {rs : List Reading} {firsts queues : List (Queue D L M)} → HaveLeft g start devices rest places rs firsts → IsPassing g th firsts queues start now → All (λ queue. (queue.done ≡ length queue.chunks.items) × (queue.reports ≡ [])) queues

@@ -12,8 +12,10 @@ use Rattle.std.proofs.lemmas.List.Folds.{list_any-from_Any}
 use Rattle.std.proofs.lemmas.List.Kept.{AllPairs-filter}
 use Rattle.md_cert.specs.declared.slots.Slot.{Slot}
 use Rattle.md_device.specs.declared.device.Device.{Ghosts}
+use Rattle.md_device.specs.Failing.{EachNewFault}
 use Rattle.md_collect.specs.Places.{HasRoom}
 use Rattle.md_collect.specs.Collecting.{ArePlanned}
+use Rattle.md_collect.specs.Reading.{FailsInChunk}
 use Rattle.md_collect.specs.Reports.{Copying}
 use Rattle.md_pass.specs.declared.fault.PassFault.{PassFault}
 use Rattle.md_pass.specs.declared.fault.PassFault.TheVariants.{NoMemory, TargetFault}
@@ -21,13 +23,13 @@ use Rattle.md_pass.specs.declared.pass.BoardCounts.{BoardCounts}
 use Rattle.md_pass.specs.declared.preparing.Preparation.{Preparation}
 use Rattle.md_pass.specs.declared.source.Source.{Source}
 use Rattle.md_pass.specs.Readings.{has_slot, is_of}
-use Rattle.md_workers.specs.Queues.{AreOnlyRead}
-use Rattle.md_pass.specs.Copied.{AreCopied, AreUncopied, BreaksOff, CountFailed, EndsPass, HasCopied, HoldsChunkOf, PassState, WritesPlanned, failed_slots, is_failed_slot}
+use Rattle.md_collect.specs.Workers.Queues.{AreOnlyRead}
+use Rattle.md_pass.specs.Copied.{AreCopied, AreUncopied, BreaksOff, CountFailed, EndsPass, FailOnlyThere, FailThere, HasCopied, HoldsChunkOf, IsOfFailedSlot, PassState, WritesPlanned, failed_slots, is_failed_slot}
 use Rattle.md_pass.specs.Preparing.{CanCopy, IsPreparedFor}
 use Rattle.md_pass.specs.Sources.{MayRead}
 use Rattle.md_pass.proofs.Besides.{none_copied}
 use Rattle.md_pass.proofs.FilteredLists.{all_that_pass, any_that_passes}
-use Rattle.md_workers.proofs.OnlyReads.{not_read}
+use Rattle.md_collect.proofs.WorkerLemmas.OnlyReads.{not_read}
 
 -- those of the sources that have a slot
 abbrev pub with_slots : List Slot → List Source → List Source
@@ -67,6 +69,15 @@ module _ {D : Type 0} (g : Ghosts D) where
   copied_of_all copy copied sources devices old new are i slot below mark k s within role =
       let among = all_that_pass (λ x. has_slot copy.slots x.role) (λ x. x.role ≡ (get_or copy.slots i slot).source → HoldsChunkOf g copy devices old new (get_or copy.slots i slot).chunk x) sources (are i slot below mark) in
       among k s within (slot_of copy.slots i slot (λ none. absurd (omega (arith, below, none))) below (get_or sources k s).role role) role
+
+  there_of_all : (copy : Copying) (copied : _) (sources : List Source) (olds news : List D) → FailThere g copy copied (with_slots copy.slots sources) olds news → FailThere g copy copied sources olds news
+  there_of_all copy copied sources olds news fail i slot below unset k s within role =
+      let among = all_that_pass (λ x. has_slot copy.slots x.role) (λ x. x.role ≡ (get_or copy.slots i slot).source → (d : D) → FailsInChunk g (get_or olds x.place d) (get_or news x.place d) x.offset copy.chunks (get_or copy.slots i slot).chunk) sources (fail i slot below unset) in
+      among k s within (slot_of copy.slots i slot (λ none. absurd (omega (arith, below, none))) below (get_or sources k s).role role) role
+
+  only_of_all : (copy : Copying) (copied : _) (sources : List Source) (olds news : List D) → FailOnlyThere g copy copied (with_slots copy.slots sources) olds news → FailOnlyThere g copy copied sources olds news
+  only_of_all copy copied sources olds news only k s within has e =
+      all_that_pass (λ x. has_slot copy.slots x.role) (λ x. has_slot copy.slots x.role ≡ true → (d : D) → EachNewFault (g.faults (get_or olds x.place d)) (g.faults (get_or news x.place d)) (IsOfFailedSlot copy copied x)) sources only k s within has has e
 
   -- a source without slots has none that failed
   failed_of_all : (slots : List Slot) (copied : _) (sources : List Source) (olds news : List D) → AreOnlyRead g olds news → All (λ (s : Source). s.place < length olds) sources → CountFailed g slots copied (with_slots slots sources) olds news → CountFailed g slots copied sources olds news
@@ -109,6 +120,8 @@ module _ {D : Type 0} (g : Ghosts D) where
     none_left = gives.none_left;
     failed = gives.failed;
     counted = failed_of_all copy.slots new.copied sources old.devices new.devices read within gives.counted;
+    there = there_of_all copy new.copied sources old.devices new.devices gives.there;
+    only_there = only_of_all copy new.copied sources old.devices new.devices gives.only_there;
   }
   gives_of_all copy sources old new (Err NoMemory) read within gives = has_of_all copy sources old new gives
   gives_of_all copy sources old new (Err TargetFault) read within gives = gives

@@ -1,5 +1,5 @@
 -- A pass begins: devices have left for queues.
-use Rattle.std.proofs.Common.{◌≡◌, ℕ, ◌<◌, ◌≤◌, Bool, true, false, inl, inr, [], List, length, map, get_or, slice_index, refl, ap, sym, ◌∙◌, arith, subst}
+use Rattle.std.proofs.Common.{◌≡◌, ℕ, ◌<◌, ◌≤◌, ◌⊎◌, Bool, true, false, inl, inr, [], List, length, map, get_or, slice_index, refl, ap, sym, ◌∙◌, arith, subst}
 use Rattle.std.specs.List.{All}
 use Rattle.std.specs.Int.{div_ceil}
 use Rattle.std.proofs.lemmas.Bool.{cases_lt}
@@ -10,9 +10,10 @@ use Rattle.md_device.specs.declared.device.Device.{Ghosts}
 use Rattle.md_bitmap.specs.Marks.{is_set}
 use Rattle.md_collect.specs.Places.{HasRoom}
 use Rattle.md_collect.specs.Collecting.{ArePlanned, IsUnreported}
-use Rattle.md_workers.specs.declared.queue.Queue.{Queue}
-use Rattle.md_workers.specs.Queues.{HasRead}
-use Rattle.md_workers.proofs.Workers.{none_read}
+use Rattle.md_collect.specs.declared.workers.queue.Queue.{Queue}
+use Rattle.md_device.proofs.Failing.{fails_none}
+use Rattle.md_collect.specs.Workers.Queues.{HasRead, IsOfWaiting}
+use Rattle.md_collect.proofs.WorkerLemmas.Workers.{none_read}
 use Rattle.md_pass.specs.declared.preparing.Preparation.{Preparation}
 use Rattle.md_pass.specs.declared.source_reading.Reading.{Reading}
 use Rattle.md_pass.specs.declared.source.Source.{Source}
@@ -21,7 +22,7 @@ use Rattle.md_pass.specs.Readings.{IsQueueOf, IsOrderOf}
 use Rattle.md_pass.specs.TakingReports.{Books}
 use Rattle.md_pass.specs.Preparing.{IsOrdered}
 use Rattle.md_pass.specs.Sources.{MayRead}
-use Rattle.md_pass.specs.Passes.{HasBooks, IsAtStart, IsUnderWay, IsPassing, count_left}
+use Rattle.md_pass.specs.Passes.{HasBooks, IsAtStart, IsOfTaken, IsUnderWay, IsPassing, count_left}
 use Rattle.md_pass.proofs.InTurn.{taken_at, turns_fit}
 use Rattle.md_pass.proofs.Orders.{one_slot, order_apart, order_chunk, order_planned, slot_at}
 use Rattle.md_pass.proofs.Rounds.{first_goes}
@@ -107,6 +108,8 @@ module _ {D L M : Type 0} {g : Ghosts D} where
   begun th start queue first = record {
     read = subst (λ n. HasRead g start.collector.chunks (count_left start.copied queue.chunks.items n) queue queue) (sym first.none_done) (none_read queue (record { goes = first_goes start start.collector.chunks queue first refl; none_waits = first.none_waits }));
     landed = λ j below. absurd (let z = first.none_done in omega (arith, z, below));
+    failed = λ j below. absurd (let z = first.none_done in omega (arith, z, below));
+    only = λ fed. fails_none (g.faults queue.device) (λ f. IsOfTaken start queue queue f ⊎ IsOfWaiting start.collector.chunks queue f);
     waiting = λ j from below. first.unreported j below;
   }
 
@@ -120,6 +123,7 @@ module _ {D L M : Type 0} {g : Ghosts D} where
     uncopied = rw is.chunks (λ j below. let at = slot_at order j below in subst (λ c. is_set start.copied.bytes c ≡ false) at.chunk_is (All-contains (λ (s : _). is_set start.copied.bytes s.chunk ≡ false) start.collector.slots at.slot uncopied at.there));
     none_done = is.none_done;
     none_waits = is.none_waits;
+    fed = is.fed;
     left = is.left ∙ ap (λ (v : _). length v.items) (sym is.chunks);
     none_failed = is.none_failed;
   }

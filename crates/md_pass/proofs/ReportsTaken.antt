@@ -1,5 +1,5 @@
 -- What it does to a pass that a report is taken.
-use Rattle.std.proofs.Common.{◌≡◌, ◌≢◌, ℕ, suc, ◌+◌, ◌<◌, ◌||◌, ◌&&◌, ◌==◌, ◌∷◌, Bool, true, false, not, ◌⊎◌, inl, inr, List, length, Option, Some, None, is_none, cond, count_by, get_or, slice_index, refl, ap, sym, ◌∙◌, arith, subst}
+use Rattle.std.proofs.Common.{◌≡◌, ◌≢◌, ℕ, suc, zero, ◌+◌, ◌<◌, ◌||◌, ◌&&◌, ◌==◌, ◌∷◌, Bool, true, false, not, ◌⊎◌, inl, inr, List, length, Option, Some, None, is_none, cond, count_by, get_or, slice_index, refl, ap, sym, ◌∙◌, arith, subst}
 use Rattle.std.proofs.lemmas.List.Sums.{sum_by-cons}
 use Rattle.std.proofs.lemmas.Bool.{cases_lt, eqb-true}
 use Rattle.std.proofs.lemmas.List.{get_or_default}
@@ -8,18 +8,22 @@ use Rattle.md_device.specs.declared.device.Device.{Ghosts}
 use Rattle.md_bitmap.specs.declared.chunks.Chunks.{Chunks}
 use Rattle.md_bitmap.specs.Marks.{is_set}
 use Rattle.md_collect.specs.Places.{IsChunk, HasRoom, bytes_of_chunk, chunk_on, with_chunk}
+use Rattle.md_device.specs.declared.fault_list.Fault.{Fault}
+use Rattle.md_device.specs.Failing.{EachNewFault}
+use Rattle.md_device.proofs.Failing.{fails_weaker}
+use Rattle.md_collect.specs.Reading.{FailsInChunk, IsReadOfChunk}
 use Rattle.md_collect.specs.Reports.{ReportView, Copying, is_planned, has_length, with_report}
 use Rattle.md_collect.specs.Collecting.{CollectorView, copying}
 use Rattle.md_collect.specs.Targets.{ChangesChunk}
-use Rattle.md_workers.specs.declared.queue.Queue.{Queue}
+use Rattle.md_collect.specs.declared.workers.queue.Queue.{Queue}
 use Rattle.md_pass.specs.Beside.{LiesBesideChunk, has_chunk}
 use Rattle.md_pass.specs.TakingReports.{Books, IsAllowed, IsReportTaken}
-use Rattle.md_workers.specs.Queues.{HasRead, IsReport, is_failed, slots_read}
-use Rattle.md_pass.specs.Passes.{HasBooks, IsAtStart, HasLanded, IsUnderWay, count_left, is_left}
-use Rattle.md_workers.proofs.Tests.{has_new, has_old, has_either, has_neither, same_number, other_number, or_right}
+use Rattle.md_collect.specs.Workers.Queues.{HasRead, IsOfWaiting, IsReport, is_failed, slots_read}
+use Rattle.md_pass.specs.Passes.{HasBooks, IsAtStart, HasLanded, IsOfTaken, IsUnderWay, count_left, is_left}
+use Rattle.md_collect.proofs.WorkerLemmas.Tests.{has_new, has_old, has_either, has_neither, same_number, other_number, or_right}
 use Rattle.md_pass.proofs.ChunkPlaces.{chunk_beside, chunk_written, chunk_fits, part_beside}
 use Rattle.md_pass.proofs.Besides.{planned_has}
-use Rattle.md_workers.proofs.Workers.{chunks_kept}
+use Rattle.md_collect.proofs.WorkerLemmas.Workers.{chunks_kept, none_given, offset_kept}
 use Rattle.md_pass.proofs.Lefts.{count_more, same_counts}
 
 whole_length : (chunks : Chunks) (r : ReportView) → ((bytes : List ℕ) → r.bytes ≡ Some bytes → length bytes ≡ bytes_of_chunk chunks r.chunk) → has_length chunks r ≡ true
@@ -193,6 +197,12 @@ module _ {D L M : Type 0} {g : Ghosts D} {th : Bool} where
         record {
           read = rw (same_chunks is, left) way.read;
           landed = λ j below. landed_stays is out first _ (apart j (let w = way.read.within in omega (arith, w))) (way.landed j below);
+          failed = λ j below unset. rw (same_chunks is) (way.failed j below (sym (other_mark is _ (apart j (let w = way.read.within in omega (arith, w)))) ∙ unset));
+          only = λ fed. fails_weaker (g.faults first.device) (g.faults queue.device) (λ f. IsOfTaken old first queue f ⊎ IsOfWaiting old.collector.chunks queue f) (λ f. IsOfTaken new first queue f ⊎ IsOfWaiting new.collector.chunks queue f)
+              (λ f h. elim h [
+                | inl t ↦ inl (record { slot = t.slot; taken = t.taken; uncopied = other_mark is _ (apart t.slot (let w = way.read.within in let b = t.taken in omega (arith, w, b))) ∙ t.uncopied; there = rw (same_chunks is) t.there })
+                | inr w ↦ inr (rw (same_chunks is) w)
+              ]) (way.only fed);
           waiting = λ j from below. has_neither (is_set new.collector.reported.bytes) (is_set old.collector.reported.bytes) r.chunk is.counted.reported _ (apart j below) (way.waiting j from below);
         }
 
@@ -240,6 +250,33 @@ module _ {D L M : Type 0} {g : Ghosts D} {th : Bool} where
             subst (λ k. IsReport g first.device taken.device first.offset old.collector.chunks (slice_index first.chunks.items k) first.role (get_or rest i x)) next
             (subst (λ rs. IsReport g first.device taken.device first.offset old.collector.chunks (slice_index first.chunks.items (taken.done + suc i)) first.role (get_or rs (suc i) x)) e (read.each (suc i) x (omega (arith, n, below))))
 
+    -- of the report that was taken, and of the others
+    waits_on : {lost : ℕ} (first : Queue D L M) → IsReportTaken th old new taken taken' r rest → is_set old.copied.bytes r.chunk ≡ false → taken.reports ≡ r ∷ rest → HasRead g old.collector.chunks lost first taken
+        → IsReport g first.device taken.device first.offset old.collector.chunks (slice_index first.chunks.items taken.done) first.role r → taken'.done ≡ taken.done + 1
+        → (f : Fault) (w : IsOfWaiting old.collector.chunks taken f) (p : ℕ) → w.place ≡ p → IsOfTaken new first taken' f ⊎ IsOfWaiting new.collector.chunks taken' f
+    waits_on first is none e read a done f w zero at =
+        let failed : is_failed r ≡ true = ap (λ rs. is_failed (get_or rs 0 r)) (sym e) ∙ ap (λ n. is_failed (get_or taken.reports n r)) (sym at) ∙ w.failed r in
+        let here : taken.done + w.place ≡ taken.done = omega (arith, at) in
+        inl (record {
+          slot = taken.done;
+          taken = omega (arith, done);
+          uncopied = ap (is_set new.copied.bytes) (sym a.chunk_is) ∙ own_mark is none ∙ ap not failed;
+          there = rw (same_chunks is, ← offset_kept read, ← chunks_kept read) (subst (λ n. IsReadOfChunk taken.offset old.collector.chunks (slice_index taken.chunks.items n) f) here w.there);
+        })
+    waits_on first is none e read a done f w (suc i) at =
+        let reports : taken'.reports ≡ rest = ap (λ (l : Queue D L M). l.reports) is.kept in
+        let offset : taken'.offset ≡ taken.offset = ap (λ (l : Queue D L M). l.offset) is.kept in
+        let chunks : taken'.chunks ≡ taken.chunks = ap (λ (l : Queue D L M). l.chunks) is.kept in
+        let n : length taken.reports ≡ suc (length rest) = ap length e in
+        let long : length taken'.reports ≡ length rest = ap length reports in
+        let here : taken.done + w.place ≡ taken.done + 1 + i = omega (arith, at) in
+        inr (record {
+          place = i;
+          waits = (let b = w.waits in omega (arith, b, n, long, at));
+          failed = λ x. ap (λ rs. is_failed (get_or rs i x)) reports ∙ ap (λ rs. is_failed (get_or rs (suc i) x)) (sym e) ∙ ap (λ m. is_failed (get_or taken.reports m x)) (sym at) ∙ w.failed x;
+          there = rw (same_chunks is, offset, chunks, done) (subst (λ m. IsReadOfChunk taken.offset old.collector.chunks (slice_index taken.chunks.items m) f) here w.there);
+        })
+
     -- and so does the queue itself
     pub same_stays : (first : Queue D L M) → IsReportTaken th old new taken taken' r rest → Changes old new r.chunk → is_set old.copied.bytes r.chunk ≡ false
         → ((i j : ℕ) → i < length first.chunks.items → j < length first.chunks.items → slice_index first.chunks.items i ≡ slice_index first.chunks.items j → i ≡ j)
@@ -249,6 +286,7 @@ module _ {D L M : Type 0} {g : Ghosts D} {th : Bool} where
     same_stays first is out none apart room chunk e way =
         let (some, a) = first_waits r rest way e in
         let done : taken'.done ≡ taken.done + 1 = ap (λ (l : Queue D L M). l.done) is.kept in
+        let same_device : taken'.device ≡ taken.device = ap (λ (l : Queue D L M). l.device) is.kept in
         let other : (j : ℕ) → j < length first.chunks.items → j ≢ taken.done → slice_index first.chunks.items j ≢ r.chunk = λ j within other e. other (apart j taken.done within some (e ∙ a.chunk_is)) in
         let own : is_left new.copied (slice_index first.chunks.items taken.done) ≡ is_failed r = ap (is_left new.copied) (sym a.chunk_is) ∙ ap not (own_mark is none) ∙ twice (is_failed r) in
         let before : count_left new.copied first.chunks.items taken.done ≡ count_left old.copied first.chunks.items taken.done = same_left first.chunks.items taken.done is (λ j below within. other j within (λ same. absurd (omega (arith, below, same)))) in
@@ -263,9 +301,27 @@ module _ {D L M : Type 0} {g : Ghosts D} {th : Bool} where
                     let last : taken.done ≡ j = omega (arith, done) in
                     subst (λ c. HasLanded g th new first c) (ap (slice_index first.chunks.items) last) (more_landed is none first (slice_index first.chunks.items taken.done) a room (subst (IsChunk old.collector.chunks) a.chunk_is chunk))
               ];
+          failed = λ j below unset.
+              elim (cases_lt j taken.done) [
+                | inl before ↦ rw (same_chunks is, same_device) (way.failed j before (sym (other_mark is _ (other j (omega (arith, before, some)) (λ e. absurd (omega arith)))) ∙ unset))
+                | inr from ↦
+                    let last : taken.done ≡ j = omega (arith, done) in
+                    rw (same_chunks is, same_device) (subst (λ i. FailsInChunk g first.device taken.device first.offset old.collector.chunks (slice_index first.chunks.items i)) last
+                    (a.failed_there (none_given r (failed_then (is_failed r) (sym (own_mark is none) ∙ ap (is_set new.copied.bytes) a.chunk_is ∙ ap (λ i. is_set new.copied.bytes (slice_index first.chunks.items i)) last ∙ unset)))))
+              ];
+          only = λ fed. subst (λ x. EachNewFault (g.faults first.device) (g.faults x) (λ f. IsOfTaken new first taken' f ⊎ IsOfWaiting new.collector.chunks taken' f)) (sym same_device)
+              (fails_weaker (g.faults first.device) (g.faults taken.device) (λ f. IsOfTaken old first taken f ⊎ IsOfWaiting old.collector.chunks taken f) (λ f. IsOfTaken new first taken' f ⊎ IsOfWaiting new.collector.chunks taken' f)
+              (λ f h. elim h [
+                | inl t ↦ inl (record { slot = t.slot; taken = (let b = t.taken in omega (arith, b, done)); uncopied = other_mark is _ (other t.slot (let w = way.read.within in let b = t.taken in omega (arith, w, b)) (let b = t.taken in λ e. absurd (omega (arith, b, e)))) ∙ t.uncopied; there = rw (same_chunks is) t.there })
+                | inr w ↦ waits_on first is none e way.read a done f w w.place refl
+              ]) (way.only (sym (ap (λ (l : Queue D L M). l.starved) is.kept) ∙ fed)));
           waiting = λ j from below. has_neither (is_set new.collector.reported.bytes) (is_set old.collector.reported.bytes) r.chunk is.counted.reported _ (other j below (λ e. absurd (omega (arith, done)))) (way.waiting j (omega (arith, done)) below);
         }
       where
         twice : (b : Bool) → not (not b) ≡ b
         twice true = refl
         twice false = refl
+
+        failed_then : (b : Bool) → not b ≡ false → b ≡ true
+        failed_then true e = refl
+        failed_then false e = sym e

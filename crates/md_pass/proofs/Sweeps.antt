@@ -5,7 +5,7 @@ use Rattle.std.proofs.lemmas.Bool.{cases_lt}
 use Rattle.md_device.specs.declared.device.Device.{Ghosts}
 use Rattle.md_collect.specs.Places.{IsChunk, HasRoom}
 use Rattle.md_collect.specs.Reports.{ReportView, Copying}
-use Rattle.md_workers.specs.declared.queue.Queue.{Queue}
+use Rattle.md_collect.specs.declared.workers.queue.Queue.{Queue}
 use Rattle.md_pass.specs.TakingReports.{Books, IsAllowed, IsReportTaken, AreReportsTaken}
 use Rattle.md_pass.specs.Passes.{Goes, HaveTakenReports, IsUnderWay, IsPassing, SameDevices}
 use Rattle.md_pass.proofs.Besides.{planned_has}

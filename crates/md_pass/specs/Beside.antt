@@ -6,6 +6,7 @@ use Rattle.md_bitmap.specs.declared.chunks.Chunks.{Chunks}
 use Rattle.md_bitmap.specs.Marks.{Bitmap, is_set}
 use Rattle.md_device.specs.Splice.{part}
 use Rattle.md_device.specs.Crashes.{LeavesMore}
+use Rattle.md_device.specs.Failing.{OnlyWritesFailed}
 use Rattle.md_device.specs.declared.device.Device.{Ghosts}
 use Rattle.md_collect.specs.Places.{start_of, bytes_of_chunk}
 use Rattle.md_collect.specs.Reports.{Copying}
@@ -29,6 +30,7 @@ pub record KeepsBeside {D : Type 0} (g : Ghosts D) (copy : Copying) (old new : D
   pub same : SameBeside copy (g.content old) (g.content new)
   pub honest_kept : g.honest new ≡ g.honest old
   pub counted : g.failures old ≤ g.failures new
+  pub writes_alone : OnlyWritesFailed (g.faults old) (g.faults new)
   pub crashes : g.honest old ≡ true → LeavesMore (g.crashes old) (g.crashes new) (SameBeside copy (g.content old))
 
 -- a collector and its target before and after it took reports

@@ -2,17 +2,19 @@
 use Rattle.std.specs.Prelude.{◌≡◌, ℕ, ◌+◌, ◌≤◌, Bool, true, false, not, List, length, filter, count_by, slice_index_or, All}
 use Rattle.md_cert.specs.declared.slots.Slot.{Slot}
 use Rattle.md_device.specs.declared.device.Device.{Ghosts}
+use Rattle.md_device.specs.declared.fault_list.Fault.{Fault}
+use Rattle.md_device.specs.Failing.{EachNewFault}
 use Rattle.md_bitmap.specs.Marks.{Bitmap, is_set}
 use Rattle.md_collect.specs.Places.{chunk_on}
-use Rattle.md_collect.specs.Reading.{CountsFailure}
-use Rattle.md_collect.specs.Reports.{Copying}
+use Rattle.md_collect.specs.Reading.{CountsFailure, FailsInChunk, IsReadOfChunk}
+use Rattle.md_collect.specs.Reports.{Copying, is_planned}
 use Rattle.md_pass.specs.declared.fault.PassFault.{PassFault}
 use Rattle.md_pass.specs.declared.fault.PassFault.TheVariants.{NoMemory, TargetFault}
 use Rattle.md_pass.specs.declared.pass.BoardCounts.{BoardCounts}
 use Rattle.md_pass.specs.declared.source.Source.{Source}
 use Rattle.md_pass.specs.Beside.{KeepsBeside, SameBesideCopied, has_chunk}
-use Rattle.md_workers.specs.Queues.{AreOnlyRead}
-use Rattle.md_pass.specs.Readings.{is_of}
+use Rattle.md_collect.specs.Workers.Queues.{AreOnlyRead}
+use Rattle.md_pass.specs.Readings.{has_slot, is_of}
 
 -- no chunk of the plan was copied
 abbrev pub AreUncopied : List Slot → Bitmap → Type 0
@@ -36,6 +38,13 @@ pub record AreJoined (slots : List Slot) (old new : Bitmap) : Type 0 where
 abbrev pub OnFault : Type 0 → Type 0 → PassFault → Type 0
 OnFault refused unwritten NoMemory = refused
 OnFault refused unwritten TargetFault = unwritten
+
+-- a read of nothing but bytes of the chunk of a slot of the source, which failed
+pub record IsOfFailedSlot (copy : Copying) (copied : Bitmap) (s : Source) (f : Fault) : Type 0 where
+  pub chunk : ℕ
+  pub planned : is_planned copy.slots chunk s.role ≡ true
+  pub uncopied : is_set copied.bytes chunk ≡ false
+  pub there : IsReadOfChunk s.offset copy.chunks chunk f
 
 -- what a pass works on: the devices that it reads, the one that it fills, and the set of the chunks that were copied
 pub record PassState (D : Type 0) : Type 0 where
@@ -64,6 +73,17 @@ module _ {D : Type 0} (g : Ghosts D) where
       All (λ s. (d : D) → g.honest (slice_index_or olds s.place d) ≡ true
       → g.failures (slice_index_or olds s.place d) + count_by (is_of s.role) (failed_slots slots copied) ≤ g.failures (slice_index_or news s.place d)) sources
 
+  -- a source's device failed a read of the chunk of each of its slots that failed
+  abbrev pub FailThere : Copying → Bitmap → List Source → List D → List D → Type 0
+  FailThere copy copied sources olds news =
+      All (λ slot. is_set copied.bytes slot.chunk ≡ false
+      → All (λ s. s.role ≡ slot.source → (d : D) → FailsInChunk g (slice_index_or olds s.place d) (slice_index_or news s.place d) s.offset copy.chunks slot.chunk) sources) copy.slots
+
+  -- of a source that has slots no other call failed
+  abbrev pub FailOnlyThere : Copying → Bitmap → List Source → List D → List D → Type 0
+  FailOnlyThere copy copied sources olds news =
+      All (λ s. has_slot copy.slots s.role ≡ true → (d : D) → EachNewFault (g.faults (slice_index_or olds s.place d)) (g.faults (slice_index_or news s.place d)) (IsOfFailedSlot copy copied s)) sources
+
   -- Chunks of the plan were copied, as many as it came to: the marks tell which. Beside them the target is as it was.
   pub record HasCopied (copy : Copying) (sources : List Source) (old new : PassState D) : Type 0 where
     pub joined : AreJoined copy.slots old.copied new.copied
@@ -71,11 +91,14 @@ module _ {D : Type 0} (g : Ghosts D) where
     pub beside : SameBesideCopied copy.chunks copy.offset old.copied new.copied (g.content old.target) (g.content new.target)
 
   -- All slots were read and noted: those as failed whose chunk was not copied, and no more of a source than its device counted.
+  -- Its device failed a read of nothing but bytes of that chunk, and no other call of it failed.
   pub record EndsPass (copy : Copying) (sources : List Source) (old new : PassState D) (counts : BoardCounts) : Type 0 where
     pub copied : HasCopied copy sources old new
     pub none_left : counts.left ≡ 0
     pub failed : counts.failed ≡ length (failed_slots copy.slots new.copied)
     pub counted : CountFailed copy.slots new.copied sources old.devices new.devices
+    pub there : FailThere copy new.copied sources old.devices new.devices
+    pub only_there : FailOnlyThere copy new.copied sources old.devices new.devices
 
   -- The pass was broken off. Where the target could not be written, nothing is said of what was copied.
   abbrev pub BreaksOff : Copying → List Source → PassState D → PassState D → PassFault → Type 0

@@ -1,13 +1,16 @@
 -- A pass: its queues and its books, as it began and now.
-use Rattle.std.specs.Prelude.{◌≡◌, ℕ, ◌<◌, ◌≤◌, Bool, true, false, [], List, length, slice_index, slice_index_or, count_by, take, not}
+use Rattle.std.specs.Prelude.{◌≡◌, ◌⊎◌, ℕ, ◌<◌, ◌≤◌, Bool, true, false, [], List, length, slice_index, slice_index_or, count_by, take, not}
 use Rattle.md_device.specs.declared.device.Device.{Ghosts}
+use Rattle.md_device.specs.declared.fault_list.Fault.{Fault}
+use Rattle.md_device.specs.Failing.{EachNewFault}
 use Rattle.md_bitmap.specs.Marks.{Bitmap, is_set}
 use Rattle.md_collect.specs.Places.{IsChunk, HasRoom, chunk_on}
+use Rattle.md_collect.specs.Reading.{FailsInChunk, IsReadOfChunk}
 use Rattle.md_collect.specs.Reports.{is_planned}
 use Rattle.md_collect.specs.Collecting.{copying}
-use Rattle.md_workers.specs.declared.queue.Queue.{Queue}
+use Rattle.md_collect.specs.declared.workers.queue.Queue.{Queue}
 use Rattle.md_pass.specs.Beside.{SameBesideCopied, has_chunk}
-use Rattle.md_workers.specs.Queues.{HasRead, OnlyRead, slots_read}
+use Rattle.md_collect.specs.Workers.Queues.{HasRead, IsOfWaiting, OnlyRead, slots_read}
 use Rattle.md_pass.specs.TakingReports.{Books}
 
 -- The chunk was not copied.
@@ -37,6 +40,13 @@ module _ {D L M : Type 0} where
       → i < length (slice_index_or queues k d).chunks.items → j < length (slice_index_or queues m d).chunks.items
       → slice_index (slice_index_or queues k d).chunks.items i ≡ slice_index (slice_index_or queues m d).chunks.items j → (k ≡ m) × (i ≡ j)
 
+-- a read of nothing but bytes of a slot's chunk, whose report was taken and which was not copied
+pub record IsOfTaken {D L M : Type 0} (now : Books) (first queue : Queue D L M) (f : Fault) : Type 0 where
+  pub slot : ℕ
+  pub taken : slot < queue.done
+  pub uncopied : is_set now.copied.bytes (slice_index first.chunks.items slot) ≡ false
+  pub there : IsReadOfChunk first.offset now.collector.chunks (slice_index first.chunks.items slot) f
+
 module _ {D L M : Type 0} (g : Ghosts D) where
   -- a queue as a pass begins
   pub record IsAtStart (first : Books) (queue : Queue D L M) : Type 0 where
@@ -47,6 +57,7 @@ module _ {D L M : Type 0} (g : Ghosts D) where
     pub uncopied : (j : ℕ) → j < length queue.chunks.items → is_set first.copied.bytes (slice_index queue.chunks.items j) ≡ false
     pub none_done : queue.done ≡ 0
     pub none_waits : queue.reports ≡ []
+    pub fed : queue.starved ≡ false
     pub left : queue.share.left ≡ length queue.chunks.items
     pub none_failed : queue.share.failed ≡ 0
 
@@ -60,6 +71,9 @@ module _ {D L M : Type 0} (g : Ghosts D) where
   pub record IsUnderWay (honest : Bool) (now : Books) (first queue : Queue D L M) : Type 0 where
     pub read : HasRead g now.collector.chunks (count_left now.copied first.chunks.items queue.done) first queue
     pub landed : (j : ℕ) → j < queue.done → HasLanded honest now first (slice_index first.chunks.items j)
+    pub failed : (j : ℕ) → j < queue.done → is_set now.copied.bytes (slice_index first.chunks.items j) ≡ false
+        → FailsInChunk g first.device queue.device first.offset now.collector.chunks (slice_index first.chunks.items j)
+    pub only : queue.starved ≡ false → EachNewFault (g.faults first.device) (g.faults queue.device) (λ f. IsOfTaken now first queue f ⊎ IsOfWaiting now.collector.chunks queue f)
     pub waiting : (j : ℕ) → queue.done ≤ j → j < length first.chunks.items → is_set now.collector.reported.bytes (slice_index first.chunks.items j) ≡ false
 
   -- a pass as it began, and now

@@ -5,9 +5,9 @@ use Rattle.md_collect.specs.Places.{with_chunk}
 use Rattle.md_collect.specs.Reports.{ReportView}
 use Rattle.md_collect.specs.Collecting.{CollectorView, report_refusal, IsCounted}
 use Rattle.md_collect.specs.Targets.{ChangesChunk}
-use Rattle.md_workers.specs.declared.queue.Queue.{Queue}
+use Rattle.md_collect.specs.declared.workers.queue.Queue.{Queue}
 use Rattle.md_pass.specs.Beside.{has_chunk}
-use Rattle.md_workers.specs.Queues.{is_failed, slots_read}
+use Rattle.md_collect.specs.Workers.Queues.{is_failed, slots_read}
 
 -- the collector, what stands on the target, and the chunks that were copied
 pub record Books : Type 0 where

@@ -8,9 +8,8 @@ ghost use Rattle.md_pass.specs.TakingReports.{Books, books, IsAllowed, AreReport
 ghost use Rattle.md_pass.specs.Passes.{HaveTakenReports, IsPassing, SameDevices};
 
 use md_bitmap::Marks;
-use md_collect::Collector;
+use md_collect::{Collector, Queue};
 use md_device::{Device, WriteFault};
-use md_workers::Queue;
 use std::sync::ledger::Ledger;
 
 /// The collector takes the report that waits first in the queue, if one waits. The chunk is marked as copied

@@ -11,9 +11,8 @@ ghost use Rattle.md_pass.specs.Passes.{IsPassing, QueuesOnlyRead};
 use crate::fault::PassFault;
 use crate::take_report::take_reports;
 use md_bitmap::{Chunks, Marks};
-use md_collect::Collector;
+use md_collect::{Board, Collector, Gate, Queue, turn};
 use md_device::Device;
-use md_workers::{Board, Gate, Queue, turn};
 use std::alloc::Global;
 use std::sync::ledger::Ledger;
 use std::sync::{Mutex, Wait};
@@ -49,6 +48,7 @@ pub(crate) fn run_turns<
         (books collector.old (D.content target.old) copied.old) (books collector.new (D.content target.new) copied.new)) }
     ensures done { OnOk result (All (λ queue. (queue.done ≡ length queue.chunks.items) × (queue.reports ≡ []))
         queues.new.items) }
+    ensures fed { OnOk result (All (λ queue. queue.starved ≡ false) queues.new.items) }
     ensures broken { IfErr result (OnFault
         (IsPassing D.Device (D.honest target.old) queues.old.items queues.new.items
         (books collector.old (D.content target.old) copied.old) (books collector.new (D.content target.new) copied.new))

@@ -8,3 +8,7 @@ pub mod SuperFields
 pub mod BitmapFields
 -- The report of a bad block log as it stands, though it may be refused: its entries by their places.
 pub mod LogFields
+-- The bytes of a device where a member's superblock, bitmap and bad block log stand, as they are.
+pub mod RawMembers
+-- What stands on a device though it may be refused, as JSON.
+pub mod RawJson

@@ -1,5 +1,5 @@
 -- What is known of the members, and of one role.
-use Rattle.std.proofs.Common.{◌≡◌, ◌↔◌, ℕ, ◌+◌, ◌-◌, ◌/◌, ◌^◌, ◌<◌, ◌≤◌, Bool, true, false, List, length, slice_get, Some, sym, ap, ◌∙◌, subst, arith, inr}
+use Rattle.std.proofs.Common.{◌≡◌, ◌↔◌, ℕ, ◌+◌, ◌-◌, ◌*◌, ◌/◌, ◌^◌, ◌<◌, ◌≤◌, Bool, true, false, List, length, slice_get, Some, sym, ap, ◌∙◌, subst, arith, inr}
 use Rattle.std.specs.Prelude.{option_map}
 use Rattle.std.proofs.lemmas.Option.{same_Some, slice_get_within}
 use Rattle.md_badblocks.specs.Runs.{IsBad, RisesFrom}
@@ -13,13 +13,14 @@ use Rattle.md_kept_members.specs.OwnFields.{is_write_mostly}
 use Rattle.md_kept_members.specs.View.{MemberView}
 use Rattle.md_kept_members.proofs.Members.Roles.{bad_below, none_bad}
 use Rattle.md_state.specs.Steps.CopyData.{Lists}
-use Rattle.md_state.specs.DiskWrites.{AtDevice}
 use Rattle.md_state.specs.Members.{IsMember}
 use Rattle.md_state.specs.Steps.ReadData.{FailsToRead, ReadsData}
 use Rattle.md_state.specs.View.{ArrayView, MirrorView}
 use Rattle.md_state.proofs.Members.At.{told}
 use Rattle.md_device.specs.Device.{held}
-use Rattle.md_read.specs.Reading.{GivesInGroup, HasRole, IsInRole, IsListedInPart, ListedIn, NotGivenIn}
+use Rattle.md_device.specs.Failing.{failed_read}
+use Rattle.md_device.proofs.Failing.{fails_just}
+use Rattle.md_read.specs.Reading.{GivesInGroup, HasReadFailed, HasRole, IsInRole, IsReadOfMember, IsListedInPart, ListedIn, NotGivenIn}
 
 -- ---- what is listed
 
@@ -95,6 +96,14 @@ pub only_one : (v : MirrorView) → IsConsistent v → (role k j : ℕ) → IsIn
 only_one v sound role k j is m at as_role =
     sound.roles.one_each j k role m is.member at is.at (in_sync_as role m.state as_role).1 (in_sync_as role is.member.state is.in_sync).1
 
+-- a read that failed, of these sectors
+pub failed_of : (k sector n sectors : ℕ) (old new : MirrorView) → FailsToRead k sector n old new → n ≡ 512 * sectors → HasReadFailed k sector sectors old new
+failed_of k sector n sectors old new fails all d e was at_e = (
+  fails.failed d e was at_e,
+  λ x x_at. fails_just d.faults e.faults (failed_read (x.superblock.data_offset + sector) n) (IsReadOfMember x sector sectors) (fails.there d e was at_e x x_at)
+      (ap (failed_read (x.superblock.data_offset + sector)) all),
+)
+
 -- ---- what came of it
 module _ (old : MirrorView) (sound : IsConsistent old) (mostly : Bool) (role k sector sectors : ℕ) (is : IsInRole old.array role k) where
   -- it is the one in the role
@@ -114,10 +123,10 @@ module _ (old : MirrorView) (sound : IsConsistent old) (mostly : Bool) (role k s
       subst (λ (x : MemberView). Lists x s) (sym (the_one j m at as_role)) (all s from below)
 
   -- its read failed
-  pub read_failed : (new : MirrorView) → FailsToRead k old new → (s : ℕ) → NotGivenIn mostly role s old new
-  read_failed new fails s j m at as_role flag =
+  pub read_failed : (new : MirrorView) (n : ℕ) → FailsToRead k sector n old new → n ≡ 512 * sectors → (s : ℕ) → NotGivenIn mostly role s sector sectors old new
+  read_failed new n fails all s j m at as_role flag =
       let same : j ≡ k = only_one old sound role k j is m at as_role in
-      inr (subst (λ (i : ℕ). AtDevice i old.disks new.disks (λ d e. d.honest ≡ true → d.failures < e.failures)) (sym same) fails.failed)
+      inr (subst (λ (i : ℕ). HasReadFailed i sector sectors old new) (sym same) (failed_of k sector n sectors old new fails all))
 
   -- it gave them
   pub gives_in : (new : MirrorView) (bytes : List ℕ) → length bytes / 512 ≡ sectors → is_write_mostly is.member.superblock ≡ mostly → (ListsSome is.member sector sectors → ⊥) → ReadsData k sector bytes old new → GivesInGroup mostly role sector bytes old new

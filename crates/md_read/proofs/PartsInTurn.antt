@@ -1,15 +1,17 @@
 -- Parts that are given one after another.
-use Rattle.std.proofs.Common.{◌≡◌, ◌∙◌, ℕ, ◌+◌, ◌/◌, ◌%◌, List, [], ◌∷◌, ◌++◌, length, refl, sym, ap, subst, arith, inl, inr, length-append, append-nil}
+use Rattle.std.proofs.Common.{slice_get, ◌≡◌, ◌∙◌, ℕ, ◌+◌, ◌/◌, ◌%◌, List, [], ◌∷◌, ◌++◌, length, refl, sym, ap, subst, arith, inl, inr, length-append, append-nil}
 use Rattle.std.specs.List.{concat}
 use Rattle.std.proofs.lemmas.Option.{slice_get_within}
 use Rattle.std.proofs.lemmas.List.Folds.{concat-append}
 use Rattle.md_assembly.proofs.Indices.{got_within}
+use Rattle.std.specs.Prelude.{⊤}
+use Rattle.md_device.proofs.Failing.{fails_since}
 use Rattle.md_state.specs.Steps.CopyData.{IsSource, Lists}
 use Rattle.md_state.specs.Members.{AllInSync}
 use Rattle.md_state.specs.Rests.{Rests}
 use Rattle.md_state.specs.View.{ArrayView, MirrorView}
 use Rattle.md_laws.proofs.Runs.Rests.{rests_same, rests_then}
-use Rattle.md_read.specs.Reading.{HasReadFailed}
+use Rattle.md_read.specs.Reading.{HasReadFailed, IsReadOfMember}
 use Rattle.md_read.specs.Unresynced.{EndsPart, GivesNoPart, GivesPart, GivesParts, IsSectorMarked, IsUnmarkedAt, NoneGivesPart, PartsInTurn}
 use Rattle.md_read.specs.declared.unresynced_fault.UnresyncedFault.{UnresyncedFault}
 use Rattle.md_read.specs.declared.unresynced_fault.UnresyncedFault.TheVariants.{Halted, OutOfRange, ReadFault, Unreadable}
@@ -34,15 +36,16 @@ module _ (old mid new : MirrorView) (first : Rests old mid) where
   source_earlier : (k s : ℕ) → IsSource k s mid.array → IsSource k s old.array
   source_earlier k s source = subst (λ (a : ArrayView). IsSource k s a) first.array source
 
-  failed_earlier : (k : ℕ) → HasReadFailed k mid new → HasReadFailed k old new
-  failed_earlier k failed d f was is honest =
+  failed_earlier : (k sector sectors : ℕ) → HasReadFailed k sector sectors mid new → HasReadFailed k sector sectors old new
+  failed_earlier k sector sectors failed d f was is =
       let low = slice_get_within old.disks k d was in
       let many = first.disks.same.as_many in
       let e = got_within mid.disks k (omega arith) in
       let stays = first.disks.same.honest k d e.0 was e.1 in
-      let counted = stays.counted in
-      let rose = failed e.0 f e.1 is (stays.honest ∙ honest) in
-      omega arith
+      let told = failed e.0 f e.1 is in (
+        λ honest. (let rose = told.0 (stays.honest ∙ honest) in let counted = stays.counted in omega arith),
+        λ m at. fails_since d.faults e.0.faults f.faults (IsReadOfMember m sector sectors) (λ _. ⊤) stays.grown (told.1 m (ap (λ (a : ArrayView). slice_get a.members k) first.array ∙ at)),
+      )
 
   pub part_earlier : (sector : ℕ) (run : List ℕ) → GivesPart sector run mid new → GivesPart sector run old new
   part_earlier sector run (inl given) = inl (record {
@@ -68,7 +71,7 @@ module _ (old mid new : MirrorView) (first : Rests old mid) where
   ends_earlier at (Unreadable s) second ends = (ends.0, none_gives_part_earlier s second ends.1)
   ends_earlier at (ReadFault k s) second ends = (
     ends.0,
-    record { marked = marked_earlier s ends.1.marked; source = source_earlier k s ends.1.source; failed = failed_earlier k ends.1.failed },
+    record { marked = marked_earlier s ends.1.marked; source = source_earlier k s ends.1.source; failed = failed_earlier k s 1 ends.1.failed },
   )
 
   pub no_part_earlier : (at : ℕ) (reason : UnresyncedFault) → GivesNoPart at mid new reason → GivesNoPart at old new reason

@@ -2,7 +2,9 @@
 use Rattle.std.proofs.Common.{◌≡◌, ◌⊎◌, ℕ, ◌+◌, ◌/◌, ◌%◌, ◌<◌, ◌≤◌, Bool, true, false, List, length, slice_get, refl, sym, ap, ◌∙◌, subst, arith, inl, inr}
 use Rattle.std.proofs.lemmas.Bool.{cases_Bool, eqb-true}
 use Rattle.std.proofs.lemmas.Option.{slice_get_within}
+use Rattle.std.specs.Prelude.{⊤}
 use Rattle.md_device.specs.Device.{held}
+use Rattle.md_device.proofs.Failing.{fails_since, fails_still}
 use Rattle.md_model.proofs.Puts.{by_same}
 use Rattle.md_kept_members.specs.OwnFields.{is_write_mostly}
 use Rattle.md_kept_members.specs.View.{MemberView}
@@ -15,7 +17,7 @@ use Rattle.md_array.proofs.Worlds.SectorCopied.{has_role, in_sync_as}
 use Rattle.md_laws.proofs.Runs.Rests.{rests_same, rests_then}
 use Rattle.md_read.specs.declared.roles.Answer.{Answer}
 use Rattle.md_read.specs.declared.roles.Answer.TheVariants as answer
-use Rattle.md_read.specs.Reading.{AllOfGroupList, GivesFirst, GivesIn, GivesInGroup, GivesRun, HasNotGiven, IsAskedBefore, IsBefore, IsCutFrom, IsInRole, IsListedInPart, ListedIn, MayGiveFewer, NoneGives, NoneOfGroupGives, NotGivenIn, TriesGroup, TriesRoles, all_listed, gives_none}
+use Rattle.md_read.specs.Reading.{AllOfGroupList, GivesFirst, GivesIn, GivesInGroup, GivesRun, HasNotGiven, IsAskedBefore, IsBefore, IsCutFrom, IsInRole, IsListedInPart, ListedIn, MayGiveFewer, NoneGives, NoneGivesOf, NoneOfGroupGives, NotGivenIn, TriesGroup, TriesRoles, all_listed, gives_none, IsReadOfMember}
 use Rattle.md_assembly.proofs.Indices.{got_within}
 use Rattle.md_assembly.specs.States.{is_in_sync_as}
 use Rattle.md_assembly.specs.declared.state.MemberState.{MemberState}
@@ -39,29 +41,32 @@ module _ (old mid : MirrorView) (first : Rests old mid) where
       (holds e.0 m e.1 (ap (λ (a : ArrayView). slice_get a.members k) first.array ∙ there) (stays.honest ∙ honest))
 
 module _ (old mid new : MirrorView) (first : Rests old mid) (second : Rests mid new) where
-  pub has_not_given_later : (k : ℕ) (m : MemberView) (s : ℕ) → HasNotGiven k m s old mid → HasNotGiven k m s old new
-  has_not_given_later k m s none = elim none [
+  pub has_not_given_later : (k : ℕ) (m : MemberView) (s sector sectors : ℕ) → HasNotGiven k m s sector sectors old mid → HasNotGiven k m s sector sectors old new
+  has_not_given_later k m s sector sectors none = elim none [
     | inl lists ↦ inl lists
-    | inr failed ↦ inr (λ d f was is honest.
+    | inr failed ↦ inr (λ d f was is.
         let low = slice_get_within old.disks k d was in
         let many = first.disks.same.as_many in
         let e = got_within mid.disks k (omega arith) in
-        let rose = failed d e.0 was e.1 honest in
-        let counted = (second.disks.same.honest k e.0 f e.1 is).counted in
-        omega arith)
+        let told = failed d e.0 was e.1 in
+        let stays = second.disks.same.honest k e.0 f e.1 is in (
+          λ honest. (let rose = told.0 honest in let counted = stays.counted in omega arith),
+          λ m at. fails_still d.faults e.0.faults f.faults (IsReadOfMember m sector sectors) (λ _. ⊤) (told.1 m at) stays.grown,
+        ))
   ]
 
-  pub has_not_given_earlier : (k : ℕ) (m : MemberView) (s : ℕ) → HasNotGiven k m s mid new → HasNotGiven k m s old new
-  has_not_given_earlier k m s none = elim none [
+  pub has_not_given_earlier : (k : ℕ) (m : MemberView) (s sector sectors : ℕ) → HasNotGiven k m s sector sectors mid new → HasNotGiven k m s sector sectors old new
+  has_not_given_earlier k m s sector sectors none = elim none [
     | inl lists ↦ inl lists
-    | inr failed ↦ inr (λ d f was is honest.
+    | inr failed ↦ inr (λ d f was is.
         let low = slice_get_within old.disks k d was in
         let many = first.disks.same.as_many in
         let e = got_within mid.disks k (omega arith) in
         let stays = first.disks.same.honest k d e.0 was e.1 in
-        let counted = stays.counted in
-        let rose = failed e.0 f e.1 is (stays.honest ∙ honest) in
-        omega arith)
+        let told = failed e.0 f e.1 is in (
+          λ honest. (let rose = told.0 (stays.honest ∙ honest) in let counted = stays.counted in omega arith),
+          λ m' at. fails_since d.faults e.0.faults f.faults (IsReadOfMember m' sector sectors) (λ _. ⊤) stays.grown (told.1 m' (ap (λ (a : ArrayView). slice_get a.members k) first.array ∙ at)),
+        ))
   ]
 
   -- a member is the same before
@@ -71,20 +76,23 @@ module _ (old mid new : MirrorView) (first : Rests old mid) (second : Rests mid 
   abbrev in_sync_later : (k : ℕ) (m : MemberView) → IsInSync old.array k m → IsInSync mid.array k m
   in_sync_later k m on = record { member = at_earlier k m on.member; in_sync = on.in_sync }
 
-  pub not_given_later : (mostly : Bool) (role s : ℕ) → NotGivenIn mostly role s old mid → NotGivenIn mostly role s old new
-  not_given_later mostly role s none k m at as_role flag = has_not_given_later k m s (none k m at as_role flag)
+  pub not_given_later : (mostly : Bool) (role s sector sectors : ℕ) → NotGivenIn mostly role s sector sectors old mid → NotGivenIn mostly role s sector sectors old new
+  not_given_later mostly role s sector sectors none k m at as_role flag = has_not_given_later k m s sector sectors (none k m at as_role flag)
 
-  pub not_given_earlier : (mostly : Bool) (role s : ℕ) → NotGivenIn mostly role s mid new → NotGivenIn mostly role s old new
-  not_given_earlier mostly role s none k m at as_role flag = has_not_given_earlier k m s (none k m (at_earlier k m at) as_role flag)
+  pub not_given_earlier : (mostly : Bool) (role s sector sectors : ℕ) → NotGivenIn mostly role s sector sectors mid new → NotGivenIn mostly role s sector sectors old new
+  not_given_earlier mostly role s sector sectors none k m at as_role flag = has_not_given_earlier k m s sector sectors (none k m (at_earlier k m at) as_role flag)
+
+  none_of_earlier : (s sector sectors : ℕ) → NoneGivesOf s sector sectors mid new → NoneGivesOf s sector sectors old new
+  none_of_earlier s sector sectors none k m on = has_not_given_earlier k m s sector sectors (none k m (in_sync_later k m on))
 
   pub none_gives_earlier : (s : ℕ) → NoneGives s mid new → NoneGives s old new
-  none_gives_earlier s none k m on = has_not_given_earlier k m s (none k m (in_sync_later k m on))
+  none_gives_earlier s none = none_of_earlier s s 1 none
 
   pub group_later : (mostly : Bool) (sector sectors : ℕ) → NoneOfGroupGives mostly sector sectors old mid → NoneOfGroupGives mostly sector sectors old new
-  group_later mostly sector sectors none s from below k m on flag = has_not_given_later k m s (none s from below k m on flag)
+  group_later mostly sector sectors none s from below k m on flag = has_not_given_later k m s sector sectors (none s from below k m on flag)
 
   pub group_earlier : (mostly : Bool) (sector sectors : ℕ) → NoneOfGroupGives mostly sector sectors mid new → NoneOfGroupGives mostly sector sectors old new
-  group_earlier mostly sector sectors none s from below k m on flag = has_not_given_earlier k m s (none s from below k m (in_sync_later k m on) flag)
+  group_earlier mostly sector sectors none s from below k m on flag = has_not_given_earlier k m s sector sectors (none s from below k m (in_sync_later k m on) flag)
 
   pub gives_earlier : (role sector : ℕ) (bytes : List ℕ) → GivesIn role sector bytes mid new → GivesIn role sector bytes old new
   gives_earlier role sector bytes g = record {
@@ -102,20 +110,20 @@ module _ (old mid new : MirrorView) (first : Rests old mid) (second : Rests mid 
   first_earlier mostly sector bytes run = record {
     role = run.role;
     given = in_group_earlier mostly run.role sector bytes run.given;
-    lowest = λ lower low s from below. not_given_earlier mostly lower s (run.lowest lower low s from below);
+    lowest = λ lower low s from below. not_given_earlier mostly lower s sector (length bytes / 512) (run.lowest lower low s from below);
   }
 
   -- why fewer may be given
   pub fewer_earlier : (sector sectors : ℕ) → MayGiveFewer sector sectors mid new → MayGiveFewer sector sectors old new
   fewer_earlier sector sectors why = elim why [
     | inl part ↦ inl (in_part_earlier old mid first sector sectors part)
-    | inr none ↦ inr (λ s from below. none_gives_earlier s (none s from below))
+    | inr none ↦ inr (λ s from below. none_of_earlier s sector sectors (none s from below))
   ]
 
   fewer_later : (sector sectors : ℕ) → MayGiveFewer sector sectors old mid → MayGiveFewer sector sectors old new
   fewer_later sector sectors why = elim why [
     | inl part ↦ inl part
-    | inr none ↦ inr (λ s from below k m on. has_not_given_later k m s (none s from below k m on))
+    | inr none ↦ inr (λ s from below k m on. has_not_given_later k m s sector sectors (none s from below k m on))
   ]
 
   pub cut_later : (sector sectors all : ℕ) → IsCutFrom sector sectors all old mid → IsCutFrom sector sectors all old new
@@ -129,13 +137,13 @@ module _ (old mid new : MirrorView) (first : Rests old mid) (second : Rests mid 
     whole = given.whole;
     role = given.role;
     gives = gives_earlier given.role sector run given.gives;
-    earlier = λ k m at before s from below. has_not_given_earlier k m s (given.earlier k m (at_earlier k m at) before s from below);
+    earlier = λ k m at before s from below. has_not_given_earlier k m s sector (length run / 512) (given.earlier k m (at_earlier k m at) before s from below);
   }
 
 -- in the roles below this one nobody of the group gave these sectors
 pub record NoneBelow (mostly : Bool) (role sector sectors : ℕ) (old new : MirrorView) : Type 0 where
   pub rests : Rests old new
-  pub none : (lower : ℕ) → lower < role → (s : ℕ) → sector ≤ s → s < sector + sectors → NotGivenIn mostly lower s old new
+  pub none : (lower : ℕ) → lower < role → (s : ℕ) → sector ≤ s → s < sector + sectors → NotGivenIn mostly lower s sector sectors old new
 
 pub none_first : (mostly : Bool) (sector sectors : ℕ) (m : MirrorView) → NoneBelow mostly 0 sector sectors m m
 none_first mostly sector sectors m = record { rests = rests_same m; none = λ lower low s from below. absurd (omega arith) }
@@ -173,24 +181,24 @@ listed_in_any mostly old sound last sector sectors all so_far s from below k m o
     so_far.lists as_role.0 (omega arith) s from below k m on.member as_role.1 flag
 
 -- who lists a sector does not give it
-pub listed_not_given : (mostly : Bool) (role s : ℕ) (old new : MirrorView) → ListedIn mostly role s old.array → NotGivenIn mostly role s old new
-listed_not_given mostly role s old new lists k m at as_role flag = inl (lists k m at as_role flag)
+pub listed_not_given : (mostly : Bool) (role s sector sectors : ℕ) (old new : MirrorView) → ListedIn mostly role s old.array → NotGivenIn mostly role s sector sectors old new
+listed_not_given mostly role s sector sectors old new lists k m at as_role flag = inl (lists k m at as_role flag)
 
 module _ (mostly : Bool) (role sector : ℕ) (old mid new : MirrorView) where
-  pub none_more : (sectors : ℕ) → NoneBelow mostly role sector sectors old mid → Rests mid new → ((s : ℕ) → sector ≤ s → s < sector + sectors → NotGivenIn mostly role s mid new) → NoneBelow mostly (role + 1) sector sectors old new
+  pub none_more : (sectors : ℕ) → NoneBelow mostly role sector sectors old mid → Rests mid new → ((s : ℕ) → sector ≤ s → s < sector + sectors → NotGivenIn mostly role s sector sectors mid new) → NoneBelow mostly (role + 1) sector sectors old new
   none_more sectors before rests none = record {
     rests = rests_then old mid new before.rests rests;
     none = λ lower low s from below.
         by_same lower role
-        (λ same. subst (λ (r : ℕ). NotGivenIn mostly r s old new) (sym same) (not_given_earlier old mid new before.rests rests mostly role s (none s from below)))
-        (λ apart. not_given_later old mid new before.rests rests mostly lower s (before.none lower (omega arith) s from below));
+        (λ same. subst (λ (r : ℕ). NotGivenIn mostly r s sector sectors old new) (sym same) (not_given_earlier old mid new before.rests rests mostly role s sector sectors (none s from below)))
+        (λ apart. not_given_later old mid new before.rests rests mostly lower s sector sectors (before.none lower (omega arith) s from below));
   }
 
   pub given_first : (bytes : List ℕ) → NoneBelow mostly role sector (length bytes / 512) old mid → Rests mid new → GivesInGroup mostly role sector bytes mid new → GivesFirst mostly sector bytes old new
   given_first bytes before rests gives = record {
     role = role;
     given = in_group_earlier old mid new before.rests rests mostly role sector bytes gives;
-    lowest = λ lower low s from below. not_given_later old mid new before.rests rests mostly lower s (before.none lower low s from below);
+    lowest = λ lower low s from below. not_given_later old mid new before.rests rests mostly lower s sector (length bytes / 512) (before.none lower low s from below);
   }
 
 -- ---- both groups, one after the other
@@ -211,7 +219,7 @@ asked_before false true earlier role none = absurd none
 
 module _ (mostly : Bool) (sector : ℕ) (run : List ℕ) (old new : MirrorView) (given : GivesFirst mostly sector run old new) where
   module _ (others : mostly ≡ true → NoneOfGroupGives false sector (length run / 512) old new) where
-    none_before : (k : ℕ) (m : MemberView) → IsMember old.array k m → IsBefore m given.given.gives.is.member → (s : ℕ) → sector ≤ s → s < sector + length run / 512 → HasNotGiven k m s old new
+    none_before : (k : ℕ) (m : MemberView) → IsMember old.array k m → IsBefore m given.given.gives.is.member → (s : ℕ) → sector ≤ s → s < sector + length run / 512 → HasNotGiven k m s sector (length run / 512) old new
     none_before k m at before s from below =
         let own : Bool = is_write_mostly m.superblock in
         let asked = subst (λ b. IsAskedBefore own before.role b before.other) given.given.flag before.asked_before in
@@ -283,21 +291,25 @@ module _ (sector : ℕ) (was : List ℕ) (whole : length was % 512 ≡ 0) (left 
 
     -- neither group gave any of them
     module _ (bytes : List ℕ) (second : Answer) (also : gives_none second ≡ true) (tried_also : TriesGroup true sector left bytes mid new second) where
-      after : Rests mid new × NoneOfGroupGives true sector (length left / 512) mid new
-      after = none_given sector left (omega arith) true bytes mid new second also tried_also
+      after : Rests mid new × NoneOfGroupGives true sector (length was / 512) mid new
+      after =
+          let none = none_given sector left (omega arith) true bytes mid new second also tried_also in
+          (none.0, subst (λ (n : ℕ). NoneOfGroupGives true sector (n / 512) mid new) long none.1)
 
       both_rest : Rests old new
       both_rest = rests_then old mid new before.0 after.0
 
-      neither : (s : ℕ) → sector ≤ s → s < sector + length was / 512 → NoneGives s old new
+      neither : (s : ℕ) → sector ≤ s → s < sector + length was / 512 → NoneGivesOf s sector (length was / 512) old new
       neither s from below k m on = elim (cases_Bool (is_write_mostly m.superblock)) [
-        | inl mostly ↦ group_earlier old mid new before.0 after.0 true sector (length left / 512) after.1 s from (omega arith) k m on mostly
+        | inl mostly ↦ group_earlier old mid new before.0 after.0 true sector (length was / 512) after.1 s from below k m on mostly
         | inr other ↦ first_none after.0 s from below k m on other
       ]
 
       -- a read of one sector alone failed
       pub one_failed : length was ≡ 512 → TriesRoles sector was bytes old new answer.Failed
-      one_failed one = (both_rest, omega arith, neither sector (omega arith) (omega arith))
+      one_failed one =
+          let alone : length was / 512 ≡ 1 = omega (arith, one) in
+          (both_rest, alone, subst (λ (n : ℕ). NoneGivesOf sector sector n old new) alone (neither sector (omega arith) (omega (arith, alone))))
 
       -- of several some may be given
       pub some_perhaps : 1 < length was / 512 → TriesRoles sector was bytes old new answer.Perhaps

@@ -4,6 +4,8 @@ use Rattle.std.specs.Prelude.{◌≡◌, ◌⊎◌, ⊤, ℕ, ◌+◌, ◌*◌, 
 use Rattle.std.specs.List.{concat}
 use Rattle.md_badblocks.specs.declared.run.Run.{Run}
 use Rattle.md_device.specs.Device.{held}
+use Rattle.md_device.specs.declared.fault_list.Fault.{Fault}
+use Rattle.md_device.specs.Failing.{SomeNewFault, failed_read}
 use Rattle.md_model.specs.Content.{Content, HoldsAtRest}
 use Rattle.md_model.specs.Worlds.{IsQuiet, Request}
 use Rattle.md_kept_members.specs.OwnFields.{is_write_mostly}
@@ -32,17 +34,27 @@ pub record IsInRole (a : ArrayView) (role k : ℕ) : Type 0 where
 abbrev pub HasRole : ArrayView → ℕ → Type 0
 HasRole a role = (k : ℕ) × IsInRole a role k
 
--- A read of member k's device failed.
-abbrev pub HasReadFailed : ℕ → MirrorView → MirrorView → Type 0
-HasReadFailed k old new = AtDevice k old.disks new.disks (λ d e. d.honest ≡ true → d.failures < e.failures)
+-- a read of these sectors of the array on the device of this member, and of no others
+abbrev pub IsReadOfMember : MemberView → ℕ → ℕ → Fault → Type 0
+IsReadOfMember m sector sectors f = f ≡ failed_read (m.superblock.data_offset + sector) (512 * sectors)
 
--- Member k, which is m, did not give the sector: it lists it, or failed.
-abbrev pub HasNotGiven : ℕ → MemberView → ℕ → MirrorView → MirrorView → Type 0
-HasNotGiven k m s old new = Lists m s ⊎ HasReadFailed k old new
+-- A read of member k's device failed, which was of these sectors of the array.
+abbrev pub HasReadFailed : ℕ → ℕ → ℕ → MirrorView → MirrorView → Type 0
+HasReadFailed k sector sectors old new =
+    AtDevice k old.disks new.disks (λ d e. (d.honest ≡ true → d.failures < e.failures)
+    × ((m : MemberView) → IsMember old.array k m → SomeNewFault d.faults e.faults (IsReadOfMember m sector sectors)))
 
--- No member in sync gave the sector.
+-- Member k, which is m, did not give the sector s when it was asked for so many sectors from another on: it lists s, or their read failed.
+abbrev pub HasNotGiven : ℕ → MemberView → ℕ → ℕ → ℕ → MirrorView → MirrorView → Type 0
+HasNotGiven k m s sector sectors old new = Lists m s ⊎ HasReadFailed k sector sectors old new
+
+-- No member in sync gave the sector s when these were asked for.
+abbrev pub NoneGivesOf : ℕ → ℕ → ℕ → MirrorView → MirrorView → Type 0
+NoneGivesOf s sector sectors old new = (k : ℕ) (m : MemberView) → IsInSync old.array k m → HasNotGiven k m s sector sectors old new
+
+-- No member in sync gave the sector: each lists it, or a read of it alone failed.
 abbrev pub NoneGives : ℕ → MirrorView → MirrorView → Type 0
-NoneGives s old new = (k : ℕ) (m : MemberView) → IsInSync old.array k m → HasNotGiven k m s old new
+NoneGives s old new = NoneGivesOf s s 1 old new
 
 -- The order of reading, by whether members are write-mostly, and by role: those that are not come first, and in each group the lowest role.
 abbrev pub IsAskedBefore : Bool → ℕ → Bool → ℕ → Type 0
@@ -75,7 +87,7 @@ pub record GivesRun (sector : ℕ) (run : List ℕ) (old new : MirrorView) : Typ
   pub role : ℕ
   pub gives : GivesIn role sector run old new
   pub earlier : (k : ℕ) (m : MemberView) → IsMember old.array k m → IsBefore m gives.is.member
-      → (s : ℕ) → sector ≤ s → s < sector + length run / 512 → HasNotGiven k m s old new
+      → (s : ℕ) → sector ≤ s → s < sector + length run / 512 → HasNotGiven k m s sector (length run / 512) old new
 
 -- Runs one after another: a read that failed for one of them is none that failed for another.
 abbrev pub GivesInTurn : ℕ → List (List ℕ) → MirrorView → MirrorView → Type 0
@@ -135,10 +147,10 @@ abbrev pub has_all : ℕ → ℕ → Run → Bool
 has_all start len run = nat_le run.start start && (nat_le len run.len && nat_le (start - run.start) (run.len - len))
 
 -- Members are asked in two groups: those that are not write-mostly, and those that are.
--- whoever of the group is in sync in the role did not give the sector
-abbrev pub NotGivenIn : Bool → ℕ → ℕ → MirrorView → MirrorView → Type 0
-NotGivenIn mostly role s old new =
-    (k : ℕ) (m : MemberView) → IsMember old.array k m → is_in_sync_as role m.state ≡ true → is_write_mostly m.superblock ≡ mostly → HasNotGiven k m s old new
+-- whoever of the group is in sync in the role did not give the sector s when these were asked for
+abbrev pub NotGivenIn : Bool → ℕ → ℕ → ℕ → ℕ → MirrorView → MirrorView → Type 0
+NotGivenIn mostly role s sector sectors old new =
+    (k : ℕ) (m : MemberView) → IsMember old.array k m → is_in_sync_as role m.state ≡ true → is_write_mostly m.superblock ≡ mostly → HasNotGiven k m s sector sectors old new
 
 -- whoever of the group is in sync in the role lists the sector
 abbrev pub ListedIn : Bool → ℕ → ℕ → ArrayView → Type 0
@@ -164,7 +176,7 @@ pub record IsListedInPart (sector sectors : ℕ) (a : ArrayView) : Type 0 where
 abbrev pub TriesRole : Bool → ℕ → ℕ → List ℕ → List ℕ → MirrorView → MirrorView → Answer → Type 0
 TriesRole mostly role sector was bytes old new answer.All = Rests old new × GivesInGroup mostly role sector bytes old new
 TriesRole mostly role sector was bytes old new answer.Nothing = Rests old new × ((s : ℕ) → sector ≤ s → s < sector + length was / 512 → ListedIn mostly role s old.array)
-TriesRole mostly role sector was bytes old new answer.Failed = Rests old new × ((s : ℕ) → sector ≤ s → s < sector + length was / 512 → NotGivenIn mostly role s old new)
+TriesRole mostly role sector was bytes old new answer.Failed = Rests old new × ((s : ℕ) → sector ≤ s → s < sector + length was / 512 → NotGivenIn mostly role s sector (length was / 512) old new)
 TriesRole mostly role sector was bytes old new answer.Perhaps = Rests old new × (1 < length was / 512) × IsListedInPart sector (length was / 512) old.array
 
 -- ---- one group
@@ -173,7 +185,7 @@ TriesRole mostly role sector was bytes old new answer.Perhaps = Rests old new ×
 abbrev pub NoneOfGroupGives : Bool → ℕ → ℕ → MirrorView → MirrorView → Type 0
 NoneOfGroupGives mostly sector sectors old new =
     (s : ℕ) → sector ≤ s → s < sector + sectors
-    → (k : ℕ) (m : MemberView) → IsInSync old.array k m → is_write_mostly m.superblock ≡ mostly → HasNotGiven k m s old new
+    → (k : ℕ) (m : MemberView) → IsInSync old.array k m → is_write_mostly m.superblock ≡ mostly → HasNotGiven k m s sector sectors old new
 
 -- All members in sync of a group, those that are write-mostly or the others, list all of these sectors.
 abbrev pub AllOfGroupList : Bool → ℕ → ℕ → ArrayView → Type 0
@@ -186,7 +198,7 @@ AllOfGroupList mostly sector sectors a =
 pub record GivesFirst (mostly : Bool) (sector : ℕ) (bytes : List ℕ) (old new : MirrorView) : Type 0 where
   pub role : ℕ
   pub given : GivesInGroup mostly role sector bytes old new
-  pub lowest : (lower : ℕ) → lower < role → (s : ℕ) → sector ≤ s → s < sector + length bytes / 512 → NotGivenIn mostly lower s old new
+  pub lowest : (lower : ℕ) → lower < role → (s : ℕ) → sector ≤ s → s < sector + length bytes / 512 → NotGivenIn mostly lower s sector (length bytes / 512) old new
 
 abbrev pub TriesGroup : Bool → ℕ → List ℕ → List ℕ → MirrorView → MirrorView → Answer → Type 0
 TriesGroup mostly sector was bytes old new answer.All = Rests old new × GivesFirst mostly sector bytes old new
@@ -212,7 +224,7 @@ all_listed answer.Perhaps = false
 -- Why fewer of these sectors may be given: a member in sync lists a part of them, or none gave them, of which each was asked that does not
 -- list them. So where no list meets a run, no part of it is asked of a member before the others were asked for the whole.
 abbrev pub MayGiveFewer : ℕ → ℕ → MirrorView → MirrorView → Type 0
-MayGiveFewer sector sectors old new = IsListedInPart sector sectors old.array ⊎ ((s : ℕ) → sector ≤ s → s < sector + sectors → NoneGives s old new)
+MayGiveFewer sector sectors old new = IsListedInPart sector sectors old.array ⊎ ((s : ℕ) → sector ≤ s → s < sector + sectors → NoneGivesOf s sector sectors old new)
 
 -- Only of one sector alone a failed read says that nobody gives it: of several that were read at once some may be given yet.
 abbrev pub TriesRoles : ℕ → List ℕ → List ℕ → MirrorView → MirrorView → Answer → Type 0

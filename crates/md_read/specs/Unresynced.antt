@@ -80,7 +80,7 @@ NoneGivesPart s old new = (IsSectorMarked old.array s × AllInSync old.array (λ
 pub record SourceFails (k s : ℕ) (old new : MirrorView) : Type 0 where
   pub marked : IsSectorMarked old.array s
   pub source : IsSource k s old.array
-  pub failed : HasReadFailed k old new
+  pub failed : HasReadFailed k s 1 old new
 
 abbrev pub EndsPart : ℕ → UnresyncedFault → MirrorView → MirrorView → Type 0
 EndsPart at fault.Halted old new = ⊥
@@ -129,7 +129,7 @@ TriesSource sector was bytes old new answer.All =
     Rests old new × ((from : ℕ) × AllFrom sector (length was / 512) (λ s. IsSource from s old.array) × HoldsData old from sector bytes)
 TriesSource sector was bytes old new answer.Nothing = Rests old new × AllFrom sector (length was / 512) (λ s. AllInSync old.array (λ m. Lists m s))
 TriesSource sector was bytes old new (answer.Failed k) =
-    Rests old new × (length was / 512 ≡ 1) × AllFrom sector (length was / 512) (λ s. IsSource k s old.array) × HasReadFailed k old new
+    Rests old new × (length was / 512 ≡ 1) × AllFrom sector (length was / 512) (λ s. IsSource k s old.array) × HasReadFailed k sector 1 old new
 TriesSource sector was bytes old new answer.Several = Rests old new × (1 < length was / 512)
 
 -- ---- the front of a part

@@ -53,6 +53,7 @@ fn source_of<D: Device + Drop>(mirror: &Mirror<D>, sector: u64, sectors: u64) ->
 }
 
 // Reads these sectors from it. Where a read of several failed, the first of them may be given yet.
+#[tactic(auto, using(md_laws::proofs::Runs::Rests::rests_same))]
 fn read_source<D: Device + Drop>(
     mirror: &mut Mirror<D>,
     sector: u64,

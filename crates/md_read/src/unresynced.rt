@@ -1,6 +1,6 @@
 // Reading an array that is not resynced as a resync would leave it.
 ghost use Rattle.std.specs.Prelude.{◌≡◌, ◌+◌, ◌*◌, ◌/◌, ◌%◌, ◌^◌, ◌<◌, ◌≤◌, ℕ, IfOk, MatchResult, length};
-ghost use Rattle.md_requests.specs.Pending.{PendingView};
+ghost use Rattle.md_inflight.specs.Requests.Pending.{PendingView};
 ghost use Rattle.md_state.specs.Requests.{IsPending};
 ghost use Rattle.md_array.specs.Consistency.{IsConsistent};
 ghost use Rattle.md_read.specs.Unresynced.{AllFrom, GivesNoPart, GivesPartFront, GivesParts, IsEndedBy, MayReadSectors, ReadsUnresynced, RefusesUnresynced};

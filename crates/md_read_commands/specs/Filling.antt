@@ -1,6 +1,5 @@
 -- Sectors of the array are read and put out with zeros in the place of those that are not given: that nobody gives or, of an array that is
 -- not resynced, that the member from which a resync would copy them does not give.
-use Rattle.std.specs.List.{slice_get}
 use Rattle.std.specs.Prelude.{◌≡◌, ◌⊎◌, ◌↔◌, ℕ, ◌+◌, ◌*◌, ◌-◌, ◌/◌, ◌%◌, ◌<◌, ◌≤◌, Bool, true, List, [], length, replicate, take, Option, Some, None, Result, Ok, Err, MatchResult}
 use Rattle.md_badblocks.specs.declared.run.Run.{Run}
 use Rattle.md_badblocks.specs.Runs.{IsBad}
@@ -11,15 +10,14 @@ use Rattle.md_examine.specs.declared.sink.Sink.{Ghosts}
 use Rattle.md_examine.specs.Sink.{Puts}
 use Rattle.md_read.specs.declared.fault.UnreadFault.{UnreadFault}
 use Rattle.md_read.specs.declared.fault.UnreadFault.TheVariants.{Halted, NotResynced, OutOfRange, Unreadable}
-use Rattle.md_read.specs.Reading.{NoneGives}
+use Rattle.md_read.specs.Reading.{HasReadFailed, NoneGives}
 use Rattle.md_read.specs.Unresynced.{NoneGivesPart, SourceFails}
 use Rattle.md_kept_members.specs.View.{MemberView}
 use Rattle.md_state.specs.Steps.CopyData.{Lists}
-use Rattle.md_state.specs.DiskWrites.{AtDevice}
 use Rattle.md_state.specs.Members.{IsInSync}
 use Rattle.md_state.specs.Requests.{AreInFlight}
 use Rattle.md_state.specs.Rests.{Rests}
-use Rattle.md_state.specs.View.{Disk, MirrorView, geometry_of}
+use Rattle.md_state.specs.View.{MirrorView, geometry_of}
 use Rattle.md_array.specs.Worlds.{AreHonest, world_of}
 use Rattle.md_commands.specs.declared.fault.CommandFault.{CommandFault}
 use Rattle.md_commands.specs.declared.fault.CommandFault.TheVariants.{NoPieceMemory, OutputFault, Read, Resync}
@@ -96,17 +94,15 @@ FillsContent =
     → IsQuiet (world_of old requests) (sector + i)
     → held bytes i 512 ≡ a (sector + i)
 
--- Which sectors are missing: where devices do what they answer, and none of member k's calls failed while one
--- of them was asked for, its own list has it. So a sector is missing only where each member in sync lists it,
--- or failed as it was asked for.
+-- Which sectors are missing: each member in sync lists them, or a read of that very sector failed on its device as it was asked
+-- for. This is so of any devices, also of those that don't do what they answer.
 abbrev pub MissesUnserved : Type 0
 MissesUnserved =
     (sector : ℕ) (bytes : List ℕ) (missing : List Run) (old new : MirrorView)
-    → (fills : FillsSectors Resynced sector bytes missing old new) → AreHonest old.disks
+    → (fills : FillsSectors Resynced sector bytes missing old new)
     → (i : ℕ) → i < length bytes / 512 → IsBad missing (sector + i)
-    → (k : ℕ) (m : MemberView) → IsInSync old.array k m → (d : Disk) → slice_get old.disks k ≡ Some d
-    → AtDevice k (fills.asked i).disks (fills.over i).disks (λ d e. e.failures ≡ d.failures)
-    → Lists m (sector + i)
+    → (k : ℕ) (m : MemberView) → IsInSync old.array k m
+    → Lists m (sector + i) ⊎ HasReadFailed k (sector + i) 1 (fills.asked i) (fills.over i)
 
 -- ---- a part of a longer range
 -- no sector from this one on is missing yet

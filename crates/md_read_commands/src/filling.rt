@@ -1,6 +1,6 @@
 // Sectors of the array are read and put out piece by piece, with zeros in the place of those that are not given.
 ghost use Rattle.std.specs.Prelude.{◌≡◌, ◌+◌, ◌*◌, ◌/◌, ◌%◌, ◌^◌, ◌<◌, ◌≤◌, [], IfOk, MatchResult, length, min};
-ghost use Rattle.md_requests.specs.Pending.{PendingView};
+ghost use Rattle.md_inflight.specs.Requests.Pending.{PendingView};
 ghost use Rattle.md_state.specs.Requests.{IsPending};
 ghost use Rattle.md_array.specs.Consistency.{IsConsistent};
 ghost use Rattle.md_read_commands.specs.Filling.{FillsFront, FillsMore, FillsUntilUnnoted, IsClear, NotesNone, PutsFilled, PutsFilledPiece, RefusesFilled, RefusesFilledPiece};

@@ -1,6 +1,6 @@
 // How sectors of an array are read: of one that is resynced, and of one that is not.
 ghost use Rattle.std.specs.Prelude.{◌≡◌, ◌%◌, ◌/◌, MatchResult, length};
-ghost use Rattle.md_requests.specs.Pending.{PendingView};
+ghost use Rattle.md_inflight.specs.Requests.Pending.{PendingView};
 ghost use Rattle.md_state.specs.Requests.{IsPending};
 ghost use Rattle.md_array.specs.Consistency.{IsConsistent};
 ghost use Rattle.md_read_commands.specs.declared.way.Way.TheVariants.{Resynced, Unresynced};

@@ -1,1 +1,3 @@
 pub mod Members
+-- Reports as JSON.
+pub mod JsonLemmas

@@ -8,3 +8,5 @@ pub mod PlanReport
 pub mod RebuiltReport
 -- The report of a check, as text, in a form of this project's own.
 pub mod CheckReport
+-- Reports as JSON.
+pub mod AsJson

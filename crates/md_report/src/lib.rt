@@ -3,12 +3,15 @@
 //!
 //! Start with `summary` and `detail`, which are given an opened mirror.
 //!
+//! `as_json/`: reports as JSON.
+//!
 //! ```
 //! summary(&mut out, &mirror)?;
 //! detail(&mut out, &mirror)?;
 //! ```
 #![tactic(auto)]
 
+pub mod as_json;
 mod check_line;
 mod detail_report;
 mod member_lines;
@@ -16,6 +19,10 @@ mod plan_lines;
 mod rebuilt_lines;
 mod summary_report;
 
+pub use as_json::{
+    badblocks_json, bitmap_json, check_json, detail_json, plan_json, put_quoted, summary_json,
+    superblock_json,
+};
 pub use check_line::{check_list_report, check_report};
 pub use detail_report::detail;
 pub use plan_lines::plan_report;

@@ -1,18 +1,18 @@
 -- A resync goes on by its events while nothing is in flight, and how it ends.
-use Rattle.std.proofs.Common.{◌≡◌, ℕ, ◌<◌, Bool, true, false, List, [], ◌∷◌, ◌++◌, length, slice_get, Option, None, refl, sym, ap, ◌∙◌, subst, arith, inr}
+use Rattle.std.proofs.Common.{◌+◌, ◌≡◌, ℕ, ◌<◌, Bool, true, false, List, [], ◌∷◌, ◌++◌, length, slice_get, Option, None, refl, sym, ap, ◌∙◌, subst, arith, inr}
 use Rattle.std.proofs.lemmas.Option.{none-some, slice_get_within}
 use Rattle.md_assembly.specs.States.{is_in_sync, is_recorded}
 use Rattle.md_assembly.proofs.Indices.{got_within}
 use Rattle.md_bitmap.specs.Marks.{Bitmap}
 use Rattle.md_model.specs.Events.{Event}
-use Rattle.md_requests.specs.Pending.{PendingView, extent_of}
+use Rattle.md_inflight.specs.Requests.Pending.{PendingView, extent_of}
 use Rattle.md_kept_members.specs.View.{MemberView}
 use Rattle.md_state.specs.DeviceChanges.{IsUntouched}
 use Rattle.md_state.specs.DiskWrites.{AtDevice}
 use Rattle.md_state.specs.View.{ArrayView, Disk, MirrorView}
 use Rattle.md_state.specs.Steps.MakeClean.{IsIdle, first_number}
 use Rattle.md_state.specs.Requests.{AreInFlight, IsPending}
-use Rattle.md_state.specs.Members.{AllInSync, IsAlone, IsInSync}
+use Rattle.md_state.specs.Members.{IsMember, AllInSync, IsAlone, IsInSync}
 use Rattle.md_array.specs.Consistency.{IsConsistent}
 use Rattle.md_array.specs.InTurn.{InTurn, Leads, Requests}
 use Rattle.md_array.specs.Steps.NoteResynced.{AllAgreeAt, IsHonestMember}
@@ -29,6 +29,7 @@ use Rattle.md_resync.specs.declared.fault.ResyncFault.{ResyncFault}
 use Rattle.md_resync.specs.declared.fault.ResyncFault.TheVariants.{Halted, InFlight, MemberFailed, NoMemory, ReadFault}
 use Rattle.md_resync.specs.Resyncing.{ResyncAdvances, EndsUnresynced, FailsToAgree, FailsAtWrite, GivesUp, ResyncGoesOn, GoesUnresynced, HaltsResync, HasSameMembers, IdleFails, IsOfResync, LeavesMarks, LosesMember, ReadingFails, RefusesResync, Unresyncs}
 use Rattle.md_resync.proofs.StepsOn.{by_none, by_on, by_singles}
+use Rattle.md_device.specs.Failing.{failed_read}
 
 -- ---- nothing is in flight, before or after
 pub none_flies : (a b : ArrayView) → IsIdle a → (requests : Requests) → AreInFlight a requests → AreInFlight b requests
@@ -197,6 +198,9 @@ module _ (old mid new : MirrorView) (idle : IsIdle old.array) (u : Unresyncs mid
     in_sync = f.in_sync;
     unwritten = subst (IsUntouched f.mid.disks) (sym u.marks.disks) f.fails.rests.disks;
     failed = subst (λ (disks : List Disk). AtDevice k f.mid.disks disks (λ d e. d.honest ≡ true → d.failures < e.failures)) (sym u.marks.disks) f.fails.failed;
+    size = f.size;
+    of_chunk = f.of_chunk;
+    there = subst (λ (disks : List Disk). AtDevice k f.mid.disks disks (λ d e. (m : MemberView) → IsMember f.mid.array k m → e.faults ≡ d.faults ++ failed_read (m.superblock.data_offset + f.sector) f.size ∷ [])) (sym u.marks.disks) f.fails.there;
   }
 
   pub loses_member : (k : ℕ) → FailsAtWrite k old mid → LosesMember k old new

@@ -8,7 +8,7 @@ use Rattle.md_device.specs.Splice.{part}
 use Rattle.md_device.proofs.Splices.{part_after, part_before, part-spliced, part_part}
 use Rattle.md_model.specs.Events.{Event, MemberPart}
 use Rattle.md_model.proofs.Puts.{by_same}
-use Rattle.md_device_writes.specs.Writes.{Write}
+use Rattle.md_members.specs.DeviceWrites.Writes.{Write}
 use Rattle.md_kept_members.specs.View.{MemberView}
 use Rattle.md_state.specs.View.{ArrayView, Disk, MirrorView}
 use Rattle.md_state.specs.Steps.CopyData.{CopiesTo, IsCopy, RefusesCopy, copies_of, run_write}
@@ -39,6 +39,7 @@ use Rattle.md_metadata.proofs.Going.{fails_after}
 use Rattle.md_metadata.proofs.Steps.{faulty_after}
 use Rattle.md_resync.specs.Copying.{CopiesOnly, CopyingGoesOn, GivesTo, GivesWhereUnlike, CopyingHalts, IsAmong, IsBesideSectors, IsBetween, IsCopyIn, IsCopying, IsRun, IsUnlike, LosesCopying}
 use Rattle.md_resync.proofs.StepsOn.{by_none, by_on, by_run, by_singles}
+use Rattle.md_state.proofs.Stays.{stays_same}
 
 -- ---- devices, each as honest as it was
 
@@ -47,7 +48,7 @@ tried_same k w before after tried = record {
   as_many = tried.as_many;
   honest = λ j d e was is. by_same j k
       (λ here. tried.stays d e (sym (ap (slice_get before) here) ∙ was) (sym (ap (slice_get after) here) ∙ is))
-      (λ apart. let same = got_same after j e d is (tried.others j apart ∙ was) in subst (StaysHonest d) (sym same) (record { honest = refl; counted = omega arith }));
+      (λ apart. let same = got_same after j e d is (tried.others j apart ∙ was) in subst (StaysHonest d) (sym same) (stays_same d));
 }
 
 -- ---- events, one after another

@@ -1,6 +1,6 @@
 // A whole resync.
 ghost use Rattle.std.specs.Prelude.{◌≡◌, ◌≤◌, MatchResult, length};
-ghost use Rattle.md_requests.specs.Pending.{PendingView};
+ghost use Rattle.md_inflight.specs.Requests.Pending.{PendingView};
 ghost use Rattle.md_state.specs.Steps.MakeClean.{IsIdle};
 ghost use Rattle.md_state.specs.Requests.{IsPending};
 ghost use Rattle.md_array.specs.Consistency.{IsConsistent};

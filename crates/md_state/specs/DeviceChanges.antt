@@ -1,6 +1,7 @@
 -- Devices before and after a call.
-use Rattle.std.specs.Prelude.{◌≡◌, ℕ, ◌<◌, ◌≤◌, true, List, length, slice_get, Some}
+use Rattle.std.specs.Prelude.{◌≡◌, ⊤, ℕ, ◌≤◌, true, List, length, slice_get, Some}
 use Rattle.md_device.specs.Crashes.{LeavesMore}
+use Rattle.md_device.specs.Failing.{EachNewFault}
 use Rattle.md_state.specs.View.{Disk}
 
 -- A device is what it was.
@@ -19,10 +20,11 @@ LeavesAsWas d e = d.honest ≡ true → LeavesOn (λ left. left ≡ d.content) d
 abbrev pub IsLeftAlone : Disk → Disk → Type 0
 IsLeftAlone d e = IsUnchanged d e × LeavesAsWas d e
 
--- A device stays honest or not, and its failures are counted.
+-- A device stays honest or not, and its failures are counted: none is forgotten.
 pub record StaysHonest (old new : Disk) : Type 0 where
   pub honest : new.honest ≡ old.honest
   pub counted : old.failures ≤ new.failures
+  pub grown : EachNewFault old.faults new.faults (λ _. ⊤)
 
 -- of each device before and after
 abbrev pub EachPair : (ℕ → Disk → Disk → Type 0) → List Disk → List Disk → Type 0
@@ -38,7 +40,3 @@ pub record IsUntouched (before after : List Disk) : Type 0 where
   pub same : AreSame before after
   pub content : EachPair (λ _. IsUnchanged) before after
   pub within : EachPair (λ _. LeavesAsWas) before after
-
--- a call on device k failed
-abbrev pub FailsAt : List Disk → List Disk → ℕ → Type 0
-FailsAt before after k = (d e : Disk) → slice_get before k ≡ Some d → slice_get after k ≡ Some e → d.failures < e.failures

@@ -1,8 +1,9 @@
 -- One write to one of a mirror's devices.
-use Rattle.std.specs.Prelude.{◌≡◌, ◌≢◌, ℕ, ◌*◌, ◌<◌, true, List, [], ◌∷◌, length, slice_get, Some}
+use Rattle.std.specs.Prelude.{◌≡◌, ◌≢◌, ℕ, ◌*◌, ◌<◌, true, List, [], ◌∷◌, ◌++◌, length, slice_get, Some}
 use Rattle.md_device.specs.Splice.{SameOutside}
 use Rattle.md_device.specs.Device.{written}
-use Rattle.md_device_writes.specs.Writes.{IsAnyIn, IsCutShort, Write}
+use Rattle.md_device.specs.Failing.{failed_write}
+use Rattle.md_members.specs.DeviceWrites.Writes.{IsAnyIn, IsCutShort, Write}
 use Rattle.md_state.specs.View.{Disk}
 use Rattle.md_state.specs.DeviceChanges.{LeavesOn, StaysHonest}
 
@@ -23,8 +24,13 @@ pub record IsWritten (k : ℕ) (w : Write) (before after : List Disk) : Type 0 w
   pub done : AtDevice k before after (λ d e. d.honest ≡ true → e.content ≡ written d.content w.sector w.bytes)
   pub within : AtDevice k before after (λ d e. d.honest ≡ true → LeavesOn (IsCutShort d.content (w ∷ [])) d e)
 
+-- Of the device's calls this write has failed, and no other: so no read of it that failed is called a failed write.
+abbrev pub HasThisFailed : Write → Disk → Disk → Type 0
+HasThisFailed w d e = e.faults ≡ d.faults ++ failed_write w.sector (length w.bytes) ∷ []
+
 -- The write failed: any bytes may stand in its range, and a crash within it leaves so.
 pub record IsFailed (k : ℕ) (w : Write) (before after : List Disk) : Type 0 where
   pub tried : IsTried k w before after
   pub failed : AtDevice k before after (λ d e. d.honest ≡ true → d.failures < e.failures)
+  pub there : AtDevice k before after (HasThisFailed w)
   pub within : AtDevice k before after (λ d e. d.honest ≡ true → LeavesOn (IsAnyIn w d.content) d e)

@@ -9,9 +9,9 @@ use Rattle.md_bitmap.specs.Marks.{Bitmap, is_set}
 use Rattle.md_kept_members.specs.View.{MemberView}
 use Rattle.md_state.specs.View.{ArrayView, geometry_of}
 
--- the offset of a member has passed a chunk: none of its sectors is at recovery_offset or past it
+-- the offset of a member has passed a chunk: none of its sectors is at the offset or past it
 abbrev pub has_passed : ArrayView → MemberView → ℕ → Bool
-has_passed a m chunk = is_passed (geometry_of a) m.superblock.recovery_offset chunk
+has_passed a m chunk = is_passed (geometry_of a) m.offset chunk
 
 -- Of a recovering member those that are marked, and those that its offset has not passed. Of the others, one in sync lacks none, and any
 -- other lacks each chunk.
@@ -20,7 +20,7 @@ is_missing a m chunk = lacks (is_in_sync m.state) (is_recovering m.state) (is_se
 
 -- A member is recovering, and lacks the marked chunks alone: it was taken back, or is rebuilt up to the end.
 abbrev pub is_re_added : ArrayView → MemberView → Bool
-is_re_added a m = is_recovering m.state && leb a.chunks.size m.superblock.recovery_offset
+is_re_added a m = is_recovering m.state && leb a.chunks.size m.offset
 
 -- these are the chunks that it lacks
 pub record AreMissing (a : ArrayView) (m : MemberView) (missing : Bitmap) : Type 0 where

@@ -5,8 +5,8 @@ use Rattle.md_model.specs.Worlds.{Request}
 use Rattle.md_device.specs.Splice.{part}
 use Rattle.md_inflight.specs.Inflight.{BelongsTo, lookup}
 use Rattle.md_assembly.specs.States.{is_in_sync}
-use Rattle.md_requests.specs.Pending.{PendingView, extent_of, has_written, request_sectors}
-use Rattle.md_requests.specs.declared.extent.Extent.{Extent}
+use Rattle.md_inflight.specs.Requests.Pending.{PendingView, extent_of, has_written, request_sectors}
+use Rattle.md_inflight.specs.declared.requests.extent.Extent.{Extent}
 use Rattle.md_kept_members.specs.View.{MemberView}
 use Rattle.md_state.specs.View.{ArrayView}
 

@@ -19,6 +19,8 @@ pub mod Enrol
 pub mod Fail
 -- A request that each member in sync has is no longer in flight.
 pub mod Finish
+-- Data are about to change of which a recovering member's superblock says that it has them.
+pub mod LowerOffset
 -- An active array becomes clean, as at a `stop`.
 pub mod MakeClean
 -- A chunk in which a member could not be read is listed as bad, in memory alone (rdev_set_badblocks of the kernel's md driver; that

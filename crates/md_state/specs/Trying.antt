@@ -1,6 +1,6 @@
 -- What steps have in common: a refusal, and a write to a member that fails.
 use Rattle.std.specs.Prelude.{◌≡◌, ℕ, true}
-use Rattle.md_device_writes.specs.Writes.{Write}
+use Rattle.md_members.specs.DeviceWrites.Writes.{Write}
 use Rattle.md_state.specs.View.{MirrorView}
 use Rattle.md_state.specs.DiskWrites.{IsFailed}
 use Rattle.md_state.specs.Steps.Rise.{Fails, Halts}

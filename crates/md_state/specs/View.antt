@@ -2,27 +2,29 @@
 use Rattle.std.specs.Prelude.{ℕ, Bool, List}
 use Rattle.md_model.specs.Sectors.{Geometry}
 use Rattle.md_device.specs.declared.device.Device.{Ghosts}
+use Rattle.md_device.specs.declared.fault_list.Fault.{Fault}
 use Rattle.md_super.specs.declared.superblock.Superblock.{Superblock}
 use Rattle.md_bitmap.specs.declared.chunks.Chunks.{Chunks}
 use Rattle.md_bitmap.specs.Marks.{Bitmap}
 use Rattle.md_inflight.specs.Inflight.{InflightList}
-use Rattle.md_requests.specs.declared.extent.Extent.{Extent}
+use Rattle.md_inflight.specs.declared.requests.extent.Extent.{Extent}
 use Rattle.md_kept_members.specs.View.{MemberView}
 
--- a device: what stands on it, whether it does what it answers, how many of its calls have failed, and what crashes within its
--- calls might have left
+-- a device: what stands on it, whether it does what it answers, which of its calls have failed and how many, and what crashes
+-- within its calls might have left
 pub record Disk : Type 0 where
   pub content : List ℕ
   pub honest : Bool
+  pub faults : List Fault
   pub failures : ℕ
   pub crashes : List (List ℕ)
 
 abbrev pub disk_of : {D : Type 0} → Ghosts D → D → Disk
-disk_of g d = record { content = g.content d; honest = g.honest d; failures = g.failures d; crashes = g.crashes d }
+disk_of g d = record { content = g.content d; honest = g.honest d; faults = g.faults d; failures = g.failures d; crashes = g.crashes d }
 
 -- a disk is its own view
 abbrev pub of_disks : Ghosts Disk
-of_disks = record { content = λ d. d.content; honest = λ d. d.honest; failures = λ d. d.failures; crashes = λ d. d.crashes }
+of_disks = record { content = λ d. d.content; honest = λ d. d.honest; faults = λ d. d.faults; failures = λ d. d.failures; crashes = λ d. d.crashes }
 
 -- all that is kept in memory
 pub record ArrayView : Type 0 where

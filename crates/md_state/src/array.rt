@@ -19,13 +19,12 @@ ghost use Rattle.md_state.specs.View.{geometry_of};
 
 use md_assembly::Assembly;
 use md_bitmap::{Chunks, Marks};
-use md_inflight::Inflight;
+use md_inflight::{Extent, Inflight, Pending, no_requests};
 use md_kept_members::{
     Member, chunking_of, drop_old_offsets, is_resynced, last_cleared, members_of, permitted_roles,
     united_marks,
 };
 use md_members::MemberInfo;
-use md_requests::{Extent, Pending, no_requests};
 use md_super::Superblock;
 use std::alloc::{AllocError, Global};
 use std::marker::Model;
@@ -191,10 +190,7 @@ impl Array {
             return Marks::all(alloc, self.marks.chunks());
         }
         let mut missing = copy_of(alloc, &self.marks)?;
-        missing.mark_range(
-            self.first_unpassed(member.superblock.recovery_offset),
-            self.marks.chunks(),
-        );
+        missing.mark_range(self.first_unpassed(member.offset), self.marks.chunks());
         Ok(missing)
     }
 
@@ -211,7 +207,7 @@ impl Array {
         if !member.state.is_recovering() {
             return true;
         }
-        self.marks.is_marked(chunk) || !self.has_passed(member.superblock.recovery_offset, chunk)
+        self.marks.is_marked(chunk) || !self.has_passed(member.offset, chunk)
     }
 
     /// Whether member k is recovering and lacks the marked chunks alone.
@@ -220,7 +216,7 @@ impl Array {
         ensures { (m : MemberView) → IsMember self.now k m → result ≡ is_re_added self.now m }
     {
         let member = &self.members[k];
-        member.state.is_recovering() && self.chunks.size <= member.superblock.recovery_offset
+        member.state.is_recovering() && self.chunks.size <= member.offset
     }
 
     // The first chunk that this offset has not passed.

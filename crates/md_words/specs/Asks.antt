@@ -42,7 +42,7 @@ pub data Ask : Type 0 where
   fails : ℕ → Ask  -- the member with this index
   removes : ℕ → Ask  -- it leaves the array
   adds : Text → Ask  -- the image under this name joins it
-  re_adds : Text → Ask  -- the image under this name, which left it, comes back and gets what it lacks
+  re_adds : Text → Bool → Ask  -- the image under this name, which left it, comes back and gets what it lacks; whether that is all of it
   rebuilds : ℕ → Ask  -- the member with this index gets what it lacks
 
 -- whether no image may be changed, by a command that else might change some
@@ -87,7 +87,7 @@ fills _ = false
 -- the image that is to join it
 abbrev pub device_to_add : Ask → Option Text
 device_to_add (adds name) = Some name
-device_to_add (re_adds name) = Some name
+device_to_add (re_adds name full) = Some name
 device_to_add _ = None
 
 -- the member that it names
@@ -113,7 +113,7 @@ abbrev pub tells_parted : Ask → Bool
 tells_parted (assembles json readonly) = true
 tells_parted (details json readonly) = true
 tells_parted (plans k json readonly) = true
-tells_parted (re_adds name) = true
+tells_parted (re_adds name full) = true
 tells_parted (rebuilds k) = true
 tells_parted _ = false
 
@@ -121,7 +121,7 @@ tells_parted _ = false
 abbrev pub overwritten_by : Ask → Overwritten
 overwritten_by (creates o) = overwritten.Images
 overwritten_by (adds name) = overwritten.NewDevice
-overwritten_by (re_adds name) = overwritten.ReturningDevice
+overwritten_by (re_adds name full) = overwritten.ReturningDevice
 overwritten_by (rebuilds k) = overwritten.Member k
 overwritten_by _ = overwritten.Nothing
 
@@ -135,7 +135,7 @@ abbrev pub long_task_of : Ask → Option LongTask
 long_task_of (reads sector count fill readonly) = Some (long.Read count)
 long_task_of (checks form readonly) = Some long.Check
 long_task_of resyncs = Some long.Resync
-long_task_of (re_adds name) = Some long.Rebuild
+long_task_of (re_adds name full) = Some long.Rebuild
 long_task_of (rebuilds k) = Some long.Rebuild
 long_task_of _ = None
 
@@ -169,5 +169,5 @@ ask_of command.Stop = stops
 ask_of (command.Fail k) = fails k
 ask_of (command.Remove k) = removes k
 ask_of (command.Add device) = adds device.now
-ask_of (command.ReAdd device) = re_adds device.now
+ask_of (command.ReAdd device full) = re_adds device.now full
 ask_of (command.Rebuild k) = rebuilds k

@@ -79,6 +79,10 @@ check_form_in rows =
 abbrev pub fill_in : List Row → Bool
 fill_in rows = bytes_eq (text_in (codes "fill") rows) (codes "true")
 
+-- whether a member that comes back gets all of its data
+abbrev pub full_in : List Row → Bool
+full_in rows = bytes_eq (text_in (codes "full") rows) (codes "true")
+
 -- the images that a command names
 abbrev pub images_in : List Row → List Text
 images_in rows = unwrap_or (all_of (codes "image") rows) []
@@ -146,7 +150,7 @@ ask_to_change name rows =
     else if bytes_eq name (codes "fail") then fails (member_in rows)
     else if bytes_eq name (codes "remove") then removes (member_in rows)
     else if bytes_eq name (codes "add") then adds (text_in (codes "device") rows)
-    else if bytes_eq name (codes "re-add") then re_adds (text_in (codes "device") rows)
+    else if bytes_eq name (codes "re-add") then re_adds (text_in (codes "device") rows) (full_in rows)
     else if bytes_eq name (codes "rebuild") then rebuilds (member_in rows)
     else examines (image_form_in rows)
 

@@ -59,16 +59,14 @@ with_readonly a = with_rule a (flag_rule (codes "readonly"))
 abbrev pub with_json : App → App
 with_json a = with_rule a (flag_rule (codes "json"))
 
--- A command that shows an image, and may show it as it stands.
+-- A command that shows an image, and may show it as it stands. It changes none in any case.
 abbrev pub examine_app : Text → App
-examine_app name = completed (with_json (with_rule (new_app name) (flag_rule (codes "all"))))
+examine_app name =
+    completed (with_readonly (with_json (with_rule (new_app name) (flag_rule (codes "all")))))
 
 -- A command that shows an array, the plan of a rebuild, or sectors, or compares the members.
 abbrev pub with_images : App → App
 with_images a = completed (with_map (with_readonly a))
-
-abbrev pub assemble_app : App
-assemble_app = completed (with_readonly (with_json (new_app (codes "assemble"))))
 
 abbrev pub array_app : Text → App
 array_app name = with_images (with_json (new_app name))
@@ -100,9 +98,14 @@ with_device_option a = with_rule a (required (value_rule (codes "device")))
 abbrev pub with_run : App → App
 with_run a = with_rule a (flag_rule (codes "run"))
 
--- a command by which a device joins an array
-abbrev pub device_app : Text → App
-device_app name = completed (with_run (with_device_option (new_app name)))
+-- the commands by which a device joins an array: one that is new to it, and one that comes back, which may get all of its data
+abbrev pub add_app : App
+add_app = completed (with_run (with_device_option (new_app (codes "add"))))
+
+abbrev pub re_add_app : App
+re_add_app =
+    completed
+    (with_run (with_rule (with_device_option (new_app (codes "re-add"))) (flag_rule (codes "full"))))
 
 -- A command by which a member gets the data that it lacks.
 abbrev pub rebuild_app : App
@@ -168,7 +171,7 @@ abbrev pub with_array_commands : App → App
 with_array_commands a =
     with_subcommand
     (with_subcommand
-    (with_subcommand (with_subcommand a create_app.top) assemble_app.top)
+    (with_subcommand (with_subcommand a create_app.top) (array_app (codes "assemble")).top)
     (array_app (codes "detail")).top)
     plan_app.top
 
@@ -184,12 +187,12 @@ abbrev pub with_member_commands : App → App
 with_member_commands a =
     with_subcommand
     (with_subcommand (with_subcommand a (member_app (codes "fail")).top) (member_app (codes "remove")).top)
-    (device_app (codes "add")).top
+    add_app.top
 
 -- the commands by which a member gets the data that it lacks
 abbrev pub with_rebuild_commands : App → App
 with_rebuild_commands a =
-    with_subcommand (with_subcommand a (device_app (codes "re-add")).top) rebuild_app.top
+    with_subcommand (with_subcommand a re_add_app.top) rebuild_app.top
 
 -- the whole command line
 unfoldable pub mdcli : App

@@ -74,10 +74,11 @@ pub enum Command<'a> {
     Add {
         device: &'a str,
     },
-    /// The image under this name, which is none of those listed, left it. It comes back, and gets what it lacks; the
-    /// array is stopped then.
+    /// The image under this name, which is none of those listed, left it. It comes back, and gets what it lacks, which with
+    /// `full` is all of it, whatever is marked; the array is stopped then.
     ReAdd {
         device: &'a str,
+        full: bool,
     },
     /// The member with this index gets what it lacks. The array is stopped then.
     Rebuild {
@@ -196,7 +197,7 @@ impl<'a> Command<'a> {
     {
         match self {
             Command::Add { device } => Some(device),
-            Command::ReAdd { device } => Some(device),
+            Command::ReAdd { device, .. } => Some(device),
             Command::Examine { .. }
             | Command::ExamineBitmap { .. }
             | Command::ExamineBadblocks { .. }

@@ -86,6 +86,15 @@ const DEVICE: OptionWords = OptionWords {
     default: None,
 };
 
+const FULL: OptionWords = OptionWords {
+    name: "full",
+    value: "",
+    help: "Rebuilds all of it, whatever its bitmap says",
+    kind: Kind::Flag,
+    required: false,
+    default: None,
+};
+
 const SECTOR: OptionWords = OptionWords {
     name: "sector",
     value: "S",
@@ -236,19 +245,19 @@ pub(crate) const EXAMINE_COMMANDS: [CommandWords; 3] = [
         name: "examine",
         about: "Shows the superblock of a member's image",
         after_help: help::EXAMINE,
-        options: &[ALL, JSON],
+        options: &[ALL, JSON, READONLY],
     },
     CommandWords {
         name: "examine-bitmap",
         about: "Shows the write-intent bitmap of a member's image",
         after_help: help::EXAMINE,
-        options: &[ALL, JSON],
+        options: &[ALL, JSON, READONLY],
     },
     CommandWords {
         name: "examine-badblocks",
         about: "Shows the bad block log of a member's image",
         after_help: help::EXAMINE,
-        options: &[ALL, JSON],
+        options: &[ALL, JSON, READONLY],
     },
 ];
 
@@ -275,7 +284,7 @@ pub(crate) const ARRAY_COMMANDS: [CommandWords; 4] = [
         name: "assemble",
         about: "Shows in a line what array the images make; may store marks",
         after_help: help::ARRAY,
-        options: &[JSON, READONLY],
+        options: &[JSON, READONLY, MAP],
     },
     CommandWords {
         name: "detail",
@@ -353,7 +362,7 @@ pub(crate) const REBUILD_COMMANDS: [CommandWords; 2] = [
         name: "re-add",
         about: "Takes an image back that left the array, rebuilds what it lacks, and stops the array",
         after_help: help::RE_ADD,
-        options: &[DEVICE, RUN],
+        options: &[DEVICE, FULL, RUN],
     },
     CommandWords {
         name: "rebuild",

@@ -3,7 +3,7 @@ ghost use Rattle.std.specs.Prelude.{◌≡◌, IfOk, [], codes, map, option_map,
 ghost use Rattle.std.specs.Str.{bytes_eq};
 ghost use Rattle.clap.specs.Words.{FailsBy, fault_of, first_of, found_of, matched_of, raw_values, rows_of, subcommand_of, subcommand_rows_of};
 ghost use Rattle.md_words.specs.Words.{mdcli};
-ghost use Rattle.md_words.specs.Parsing.{all_in, ask_found, ask_named, ask_to_change, asked, check_form_in, command_fault, fill_in, image_form_in, image_words, images_found, is_verbose, json_in, list_in, map_out_fault, map_out_found, map_out_in, map_out_word, map_words, maps_found, member_at, member_fault, member_in, member_named, names_map_alone, names_no_member, number_in, number_or_zero, options_in, output_found, output_in, output_word, place_in, readonly_in, run_found, run_in, runs, text_in, verbose_found, verbose_in, words_fault};
+ghost use Rattle.md_words.specs.Parsing.{all_in, ask_found, ask_named, ask_to_change, asked, check_form_in, command_fault, fill_in, full_in, image_form_in, image_words, images_found, is_verbose, json_in, list_in, map_out_fault, map_out_found, map_out_in, map_out_word, map_words, maps_found, member_at, member_fault, member_in, member_named, names_map_alone, names_no_member, number_in, number_or_zero, options_in, output_found, output_in, output_word, place_in, readonly_in, run_found, run_in, runs, text_in, verbose_found, verbose_in, words_fault};
 ghost use Rattle.md_words.specs.Asks.{ask_of, options_of};
 
 use crate::command::Command;
@@ -134,6 +134,12 @@ fn is_fill(found: &ArgMatches<'_>) -> bool
     ensures { result ≡ fill_in (rows_of (found_of found.now)) }
 {
     text_in(found, "fill") == "true"
+}
+
+fn is_full(found: &ArgMatches<'_>) -> bool
+    ensures { result ≡ full_in (rows_of (found_of found.now)) }
+{
+    text_in(found, "full") == "true"
 }
 
 // The file that is to be made.
@@ -295,6 +301,7 @@ fn command_that_changes<'a>(name: &str, found: &ArgMatches<'a>) -> Command<'a>
     } else if name == "re-add" {
         Command::ReAdd {
             device: text_in(found, "device"),
+            full: is_full(found),
         }
     } else if name == "rebuild" {
         Command::Rebuild {

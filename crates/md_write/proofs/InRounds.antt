@@ -3,6 +3,7 @@ use Rattle.std.proofs.Common.{ℕ, suc, List, [], ◌∷◌, ◌++◌, refl, sym
 use Rattle.std.proofs.lemmas.List.{append-nil, append_assoc}
 use Rattle.md_model.specs.Events.{Event, MemberPart}
 use Rattle.md_array.specs.InTurn.{AllOf}
+use Rattle.md_metadata.specs.Lowering.{IsLowering}
 use Rattle.md_metadata.specs.Storing.{FailsAtLast, IsFailureOf, IsRecording}
 use Rattle.md_write.specs.Progress.{InRounds, IsMarkingOf, LeavesRoundsAt, Part}
 
@@ -11,6 +12,7 @@ pub after_bytes : (part : Part) (es : List Event) → InRounds Part.Bytes es →
 after_bytes part [] r = tt
 after_bytes part (Event.StoreMarks k b ∷ es) (inl r) = absurd (let no = r.0 in cc)
 after_bytes part (Event.StoreMarks k b ∷ es) (inr r) = absurd r.1
+after_bytes part (Event.LowerOffset k s ∷ es) r = absurd (let no = r.0 in cc)
 after_bytes part (Event.Record k ∷ es) r = absurd r.0
 after_bytes part (Event.WriteMember n k ∷ es) r = r
 after_bytes part (Event.WriteFails k (MemberPart.BitmapSector b) ∷ es) (inl r, rest) = absurd cc
@@ -23,6 +25,7 @@ pub after_records : (es : List Event) → InRounds Part.Records es → InRounds 
 after_records [] r = tt
 after_records (Event.StoreMarks k b ∷ es) (inl r) = absurd (let no = r.0 in cc)
 after_records (Event.StoreMarks k b ∷ es) (inr r) = inr r
+after_records (Event.LowerOffset k s ∷ es) r = absurd (let no = r.0 in cc)
 after_records (Event.Record k ∷ es) r = r
 after_records (Event.WriteMember n k ∷ es) r = r
 after_records (Event.WriteFails k (MemberPart.BitmapSector b) ∷ es) r = (inl refl, r.1)
@@ -36,6 +39,11 @@ marks_leave first end [] all after r = r
 marks_leave first end (Event.StoreMarks k b ∷ es) all after r = inl (refl, marks_leave first end es all.1 after r)
 marks_leave first end (Event.WriteFails k (MemberPart.BitmapSector b) ∷ es) all after r = (inl refl, marks_leave first end es all.1 after r)
 marks_leave first end (e ∷ es) all after r = absurd all.0
+
+pub lowering_leaves : (sector : ℕ) (es : List Event) → AllOf (IsLowering sector) es → LeavesRoundsAt Part.Marks Part.Marks es
+lowering_leaves sector [] all after r = r
+lowering_leaves sector (Event.LowerOffset k s ∷ es) all after r = (refl, lowering_leaves sector es all.1 after r)
+lowering_leaves sector (e ∷ es) all after r = absurd all.0
 
 records_leave : (es : List Event) → AllOf IsRecording es → LeavesRoundsAt Part.Records Part.Records es
 records_leave [] all after r = r
@@ -74,6 +82,7 @@ after_last : (part : Part) (k : ℕ) (es : List Event) (e : Event) → IsFailure
 after_last part k [] e is r after rest = after_failing part k e is r after rest
 after_last part k (Event.StoreMarks j b ∷ es) e is (inl r) after rest = inl (r.0, after_last Part.Marks k es e is r.1 after rest)
 after_last part k (Event.StoreMarks j b ∷ es) e is (inr r) after rest = inr (r.0, r.1, after_last Part.Records k es e is r.2 after rest)
+after_last part k (Event.LowerOffset j s ∷ es) e is r after rest = (r.0, after_last Part.Marks k es e is r.1 after rest)
 after_last part k (Event.Record j ∷ es) e is r after rest = (r.0, after_last Part.Records k es e is r.1 after rest)
 after_last part k (Event.WriteMember n j ∷ es) e is r after rest = after_last Part.Bytes k es e is r after rest
 after_last part k (Event.WriteFails j (MemberPart.BitmapSector b) ∷ es) e is r after rest = (r.0, after_last Part.Marks k es e is r.1 after rest)

@@ -2,6 +2,7 @@ pub mod InRounds
 pub mod Advancing
 pub mod StoredMarks
 pub mod WrittenData
+pub mod LoweredFirst
 pub mod Received
 pub mod Entries
 pub mod Whole

@@ -94,6 +94,8 @@ module _ (n : ℕ) (p : Request) (first w : World) (is : IsReceiving n p first w
 
   pub receives_step : (g : Geometry) (low high : ℕ) (e : Event) (u : World) → IsEventOf n low high e → Step g w e u → IsReceiving n p first u
   receives_step g low high (Event.Record k) u of step = subst (IsReceiving n p first) (sym step.1.3) (receives_record k step.1.0)
+  receives_step g low high (Event.LowerOffset k s) u of step =
+      subst (IsReceiving n p first) (sym step.1.1) (record { request = is.request; written = is.written; others = is.others; distinct = is.distinct })
   receives_step g low high (Event.StoreMarks k b) u of step = subst (IsReceiving n p first) (sym step.1.1) (receives_marks k b)
   receives_step g low high (Event.WriteMember m k) u of step =
       let may = step.1.1 in

@@ -13,8 +13,8 @@ use Rattle.md_bitmap.specs.Marks.{is_set}
 use Rattle.md_bitmap.specs.declared.chunks.Chunks.{Chunks}
 use Rattle.md_bitmap.proofs.Limits.{div-lt-div_ceil}
 use Rattle.md_inflight.specs.Inflight.{InflightList, lookup, entries_without}
-use Rattle.md_requests.specs.declared.extent.Extent.{Extent}
-use Rattle.md_requests.specs.Pending.{PendingView}
+use Rattle.md_inflight.specs.declared.requests.extent.Extent.{Extent}
+use Rattle.md_inflight.specs.Requests.Pending.{PendingView}
 use Rattle.md_faults.specs.declared.step_fault.BeginFault.{BeginFault}
 use Rattle.md_faults.specs.declared.step_fault.BeginFault.TheVariants as begin
 use Rattle.md_state.specs.View.{ArrayView, MirrorView, geometry_of}
@@ -60,6 +60,7 @@ pub record IsOn (g : Geometry) (n : ℕ) (r : Request) (first : World) (m : Mirr
 
 becomes_same : (n low high : ℕ) (e : Event) → IsEventOf n low high e → (g : Geometry) (w : World) (a : Content) → Becomes g e w a a
 becomes_same n low high (Event.Record k) of g w a = refl
+becomes_same n low high (Event.LowerOffset k s) of g w a = refl
 becomes_same n low high (Event.StoreMarks k b) of g w a = refl
 becomes_same n low high (Event.WriteMember m k) of g w a = refl
 becomes_same n low high (Event.WriteFails k part) of g w a = refl

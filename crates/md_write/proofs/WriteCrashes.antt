@@ -4,7 +4,7 @@ use Rattle.std.proofs.lemmas.List.{append-nil}
 use Rattle.std.proofs.lemmas.Option.{none-some}
 use Rattle.md_inflight.specs.Inflight.{lookup}
 use Rattle.md_model.specs.Events.{Event, MemberPart}
-use Rattle.md_requests.specs.Pending.{PendingView}
+use Rattle.md_inflight.specs.Requests.Pending.{PendingView}
 use Rattle.md_state.specs.Steps.Begin.{Begins}
 use Rattle.md_state.specs.Requests.{AreInFlight, among, request_of}
 use Rattle.md_state.specs.View.{MirrorView}
@@ -29,6 +29,7 @@ written_alone n first end (Event.WriteMember m k) es of rest = record { alone = 
 written_alone n first end (Event.WriteFails k (MemberPart.RequestData m)) es of rest = record { alone = λ j w. elim w [ inl here ↦ sym here ∙ of | inr later ↦ rest.alone j later ]; begun = (tt, rest.begun) }
 written_alone n first end (Event.Record k) es of rest = record { alone = rest.alone; begun = (tt, rest.begun) }
 written_alone n first end (Event.WriteFails k MemberPart.Superblock) es of rest = record { alone = rest.alone; begun = (tt, rest.begun) }
+written_alone n first end (Event.LowerOffset k s) es of rest = record { alone = rest.alone; begun = (tt, rest.begun) }
 written_alone n first end (Event.StoreMarks k b) es of rest = record { alone = rest.alone; begun = (tt, rest.begun) }
 written_alone n first end (Event.WriteFails k (MemberPart.BitmapSector b)) es of rest = record { alone = rest.alone; begun = (tt, rest.begun) }
 written_alone n first end e es of rest = absurd of

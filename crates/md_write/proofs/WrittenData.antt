@@ -1,20 +1,25 @@
 -- A request's bytes are written to the members.
-use Rattle.std.proofs.Common.{◌≡◌, ◌≢◌, ℕ, ◌+◌, ◌-◌, ◌/◌, ◌≤◌, Bool, true, false, ◌||◌, eqb, List, [], ◌∷◌, ◌++◌, length, Some, refl, sym, ap, ◌∙◌, subst, arith, inl, inr, eq-eqb}
+use Rattle.std.proofs.Common.{◌≡◌, ◌≢◌, ℕ, ◌+◌, ◌-◌, ◌*◌, ◌/◌, ◌≤◌, Bool, true, false, ◌&&◌, ◌||◌, eqb, nat_lt, List, [], ◌∷◌, ◌++◌, length, Some, refl, sym, ap, ◌∙◌, subst, arith, inl, inr, eq-eqb, true≢false}
 use Rattle.std.specs.List.{list_any}
 use Rattle.std.specs.Prelude.{Result, Ok, Err, MatchResult}
 use Rattle.std.proofs.lemmas.Bool.{or_right}
 use Rattle.std.proofs.lemmas.Option.{same_Some, slice_get_within}
 use Rattle.md_model.specs.Events.{Event, MemberPart}
 use Rattle.md_model.specs.Sectors.{block_of}
+use Rattle.md_model.proofs.Cases.{by_test, not_below-nat_lt}
 use Rattle.md_model.proofs.Puts.{by_same, put-hit, put-miss}
 use Rattle.md_bitmap.specs.declared.chunks.Chunks.{Chunks}
-use Rattle.md_assembly.specs.States.{is_in_sync}
-use Rattle.md_requests.specs.Pending.{PendingView, has_written}
+use Rattle.md_assembly.specs.States.{is_in_sync, is_recorded, is_recovering}
+use Rattle.md_assembly.specs.declared.state.MemberState.{MemberState}
+use Rattle.md_assembly.specs.declared.state.MemberState.TheVariants.{InSync, Recovering, Stale, Spare, Faulty}
+use Rattle.md_kept_members.specs.TakingBack.{member_says_of}
+use Rattle.md_inflight.specs.Requests.Pending.{PendingView, has_written}
 use Rattle.md_kept_members.specs.View.{MemberView}
 use Rattle.md_faults.specs.declared.step_fault.WriteMemberFault.TheVariants.{Halted, NotActive, NotMarked, NotRecorded, AlreadyWritten, MemberFailed}
 use Rattle.md_state.specs.View.{ArrayView, MirrorView}
 use Rattle.md_state.specs.Members.{AllInSync, IsInSync, IsMember}
 use Rattle.md_state.specs.Requests.{IsPending, among, request_of}
+use Rattle.md_state.specs.Steps.Begin.{first_sector}
 use Rattle.md_state.specs.Steps.Finish.{HasBytesOf}
 use Rattle.md_state.specs.Steps.WriteMember.{HasMarksFrom, HasRequestMarks, IsNotDue, RefusesWriteMember, WritesTo}
 use Rattle.md_state.proofs.Changes.RequestChunks.{div_mono}
@@ -24,11 +29,12 @@ use Rattle.md_array.specs.InTurn.{IsPut, IsUnder, Requests}
 use Rattle.md_array.proofs.Worlds.States.{in_sync_recorded}
 use Rattle.md_metadata.specs.declared.fault.PartFault.{PartFault}
 use Rattle.md_metadata.specs.Going.{IsSameArray}
-use Rattle.md_metadata.specs.Storing.{AllRecorded, IsRecording, RecordsAll, Stores, StoresAll, StoringFails}
+use Rattle.md_metadata.specs.Lowering.{IsLowering}
+use Rattle.md_metadata.specs.Storing.{AllRecorded, IsRecorded, IsRecording, IsToldAs, RecordsAll, StaysReady, Stores, StoresAll, StoringFails}
 use Rattle.md_metadata.proofs.Going.{same_refl, stores_as, stores_on}
 use Rattle.md_metadata.proofs.StoredMembers.{last_on, records_last}
 use Rattle.md_metadata.proofs.Steps.{failure_step, fewer_after, halted_after, in_use_there, never_halted}
-use Rattle.md_write.specs.Progress.{AdvancesRequest, AreChunksOf, HaltsOn, IsLater, IsMarkingOf, IsOfRequest, IsReadyToFinish, LosesOn, Part, WritingFails, WritesAt, WritesBelow, WritesOn, WritesToAll, end_chunk, first_chunk}
+use Rattle.md_write.specs.Progress.{AdvancesRequest, AllLowered, AllUnsaid, AreChunksOf, HaltsOn, IsLater, IsMarkingOf, IsLowered, IsOfRequest, IsReadyToFinish, LosesOn, Part, WritingFails, WritesAt, WritesBelow, WritesOn, WritesToAll, end_chunk, first_chunk}
 use Rattle.md_write.proofs.InRounds.{first_records_leave, marks_leave, other_records_leave}
 use Rattle.md_write.proofs.Advancing.{advances_on, later_refl, stays, steps_once, stops_later, stored_beside, storing_stops}
 use Rattle.md_write.proofs.StoredMarks.{marked_still, marks_last}
@@ -156,8 +162,11 @@ module _ (old new : MirrorView) (k : ℕ) (p q : PendingView) (before : IsConsis
   pub data_unmarked : {P : Type 0} (j : ℕ) → RefusesWriteMember k old new p q (NotMarked j) → AllInSync old.array (HasRequestMarks old.array p) → P
   data_unmarked j r marked = absurd (r.0.reason.first.lacks (marked j r.0.reason.first.member r.0.reason.first.in_sync))
 
-  pub data_unrecorded : {P : Type 0} (j : ℕ) → RefusesWriteMember k old new p q (NotRecorded j) → AllInSync old.array IsNotDue → P
-  data_unrecorded j r recorded = absurd (r.0.reason.first.lacks (recorded j r.0.reason.first.member r.0.reason.first.in_sync))
+  pub data_unrecorded : {P : Type 0} (j : ℕ) → RefusesWriteMember k old new p q (NotRecorded j) → AllInSync old.array IsNotDue → AllUnsaid old.array p → P
+  data_unrecorded j r recorded unsaid = elim r.0.reason.first [
+    | inl due ↦ absurd (due.lacks (recorded j due.member due.in_sync))
+    | inr says ↦ absurd (let yes = says.1.says in let no = unsaid j says.1.member says.1.at in cc)
+  ]
 
 -- ---- the members, one after another
 module _ (p q : PendingView) (old new : MirrorView) (w : WritesOn p q old new) where
@@ -168,6 +177,11 @@ module _ (p q : PendingView) (old new : MirrorView) (w : WritesOn p q old new) w
 
   pub recorded_on : AllInSync old.array IsNotDue → AllInSync new.array IsNotDue
   recorded_on all i m in_sync = all i m (subst (λ (x : ArrayView). IsInSync x i m) w.array in_sync)
+
+  pub unsaid_on : AllUnsaid old.array p → AllUnsaid new.array q
+  unsaid_on all =
+      subst (λ (x : ArrayView). AllUnsaid x q) (sym w.array)
+      (subst (λ (x : PendingView). AllUnsaid old.array x) (sym w.advances.later.request) (λ i m at. all i m at))
 
   pub running_on : old.array.halted ≡ false → new.array.halted ≡ false
   running_on run = ap (λ (x : ArrayView). x.halted) w.array ∙ run
@@ -209,6 +223,10 @@ recording_is chunks p (Event.StoreMarks k b) is = inl is
 recording_is chunks p (Event.WriteFails k MemberPart.Superblock) is = tt
 recording_is chunks p (Event.WriteFails k (MemberPart.BitmapSector b)) is = inl is
 recording_is chunks p e is = absurd is
+
+pub lowering_is : (chunks : Chunks) (p : PendingView) (sector : ℕ) (e : Event) → IsLowering sector e → IsOfRequest chunks p e
+lowering_is chunks p sector (Event.LowerOffset k s) is = tt
+lowering_is chunks p sector e is = absurd is
 
 module _ (p : PendingView) (first end : ℕ) (a : MirrorView) (chunks : AreChunksOf a.array p first end) where
   -- the events of this request
@@ -256,6 +274,39 @@ module _ (p : PendingView) (first end : ℕ) (a : MirrorView) (chunks : AreChunk
             advances_on p p p a c d Part.Marks Part.Records recorded Part.Bytes
             (stored_beside IsRecording p c d (y.goes.pending p (x.goes.pending p is)) (recording_is c.array.chunks p) Part.Records Part.Bytes other_records_leave z.goes)
 
+recovering_recorded : (s : MemberState) → is_recovering s ≡ true → is_recorded s ≡ true
+recovering_recorded (InSync role) e = refl
+recovering_recorded (Recovering role) e = refl
+recovering_recorded (Stale role) e = absurd (true≢false (sym e))
+recovering_recorded Spare e = refl
+recovering_recorded Faulty e = absurd (true≢false (sym e))
+
+-- a member that was lowered, and is recorded
+unsaid_of : (sector : ℕ) (before n : MemberView) → n ≡ record before { stored = n.stored; due = n.due; stored_offset = n.stored_offset }
+    → (is_recovering before.state ≡ true → before.superblock.recovery_offset ≤ sector) → (member_says_of sector before ≡ true → before.due ≡ true) → IsToldAs before n → IsRecorded n
+    → member_says_of sector n ≡ false
+unsaid_of sector before n same sure due told recorded = by_test (is_recovering n.state)
+    (λ on. ap (λ b. b && nat_lt sector n.stored_offset) on ∙ at_most on told)
+    (λ off. ap (λ b. b && nat_lt sector n.stored_offset) off)
+  where
+    was_on : is_recovering n.state ≡ true → is_recovering before.state ≡ true
+    was_on on = sym (ap (λ (x : MemberView). is_recovering x.state) same) ∙ on
+
+    at_most : is_recovering n.state ≡ true → IsToldAs before n → nat_lt sector n.stored_offset ≡ false
+    at_most on (inr stored) =
+        let own : n.superblock.recovery_offset ≡ before.superblock.recovery_offset = ap (λ (x : MemberView). x.superblock.recovery_offset) same in
+        let low = sure (was_on on) in
+        let is = stored.1 in
+        not_below-nat_lt sector n.stored_offset (omega arith)
+    at_most on (inl still) = by_test (nat_lt sector n.stored_offset)
+        (λ above.
+        let said : member_says_of sector before ≡ true =
+        ap (λ b. b && nat_lt sector before.stored_offset) (was_on on) ∙ sym (ap (nat_lt sector) still.1) ∙ above in
+        let yes = still.0 ∙ due said in
+        let no = recorded (recovering_recorded n.state on) in
+        absurd cc)
+        (λ not_above. not_above)
+
 -- the chunks of the request, later on
 pub chunks_later : (a b : ArrayView) (p q : PendingView) (first end : ℕ) → IsSameArray a b → IsLater p q → AreChunksOf a p first end → AreChunksOf b q first end
 chunks_later a b p q first end same later c =
@@ -287,6 +338,14 @@ module _ (p q : PendingView) (first end : ℕ) (a b c d e : MirrorView) (is : Is
 
   pub recorded_then : AllInSync d.array IsNotDue
   recorded_then = last_on IsRecording IsNotDue b c d (records_last b.array.marks) y.stores.goes.array.marks y.done others.stores
+
+  -- no superblock says any more that a recovering member has its chunks
+  pub unsaid_then : AllLowered a.array p → AllUnsaid d.array p
+  unsaid_then lowered i m at =
+      let s : StaysReady a.array d.array i m = all.ready.each i m at in
+      let was : IsLowered a.array p s.before = lowered i s.before s.member in
+      let width : first_sector d.array p.sector ≡ first_sector a.array p.sector = ap (λ (x : Chunks). (p.sector / x.sectors) * x.sectors) all.goes.array.chunks in
+      subst (λ (x : ℕ). member_says_of x m ≡ false) (sym width) (unsaid_of (first_sector a.array p.sector) s.before m s.same was.sure was.due s.told (others.done i m at))
 
   abbrev stored : AdvancesRequest Part.Marks Part.Bytes p p a d
   stored = all_stored p first end a chunks b is c x.stores d y.stores others.stores

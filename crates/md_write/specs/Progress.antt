@@ -4,12 +4,16 @@ use Rattle.md_model.specs.Sectors.{block_of}
 use Rattle.md_model.specs.Events.{Event, MemberPart}
 use Rattle.md_bitmap.specs.Marks.{is_set}
 use Rattle.md_bitmap.specs.declared.chunks.Chunks.{Chunks}
-use Rattle.md_requests.specs.Pending.{PendingView, has_written, request_sectors}
+use Rattle.md_inflight.specs.Requests.Pending.{PendingView, has_written, request_sectors}
+use Rattle.md_assembly.specs.States.{is_recovering}
+use Rattle.md_kept_members.specs.TakingBack.{member_says_of}
 use Rattle.md_kept_members.specs.View.{MemberView}
 use Rattle.md_state.specs.View.{ArrayView, MirrorView}
 use Rattle.md_state.specs.Requests.{IsPending, among}
-use Rattle.md_state.specs.Members.{IsInSync}
+use Rattle.md_state.specs.Members.{IsInSync, IsMember}
+use Rattle.md_state.specs.Steps.Begin.{first_sector}
 use Rattle.md_state.specs.Steps.Finish.{HasBytesOf, MayFinish}
+use Rattle.md_state.specs.Steps.WriteMember.{IsUnsaid}
 use Rattle.md_metadata.specs.declared.fault.PartFault.{PartFault}
 use Rattle.md_metadata.specs.declared.fault.PartFault.TheVariants.{Halted, MemberFailed}
 use Rattle.md_metadata.specs.Going.{GoesOn, HaltsAfter, recorded_count}
@@ -29,6 +33,7 @@ IsMarkingOf first end e = ⊥
 -- Of the request of this number, with these chunks, between its begin and its end: of a bitmap only those sectors are stored that have
 -- their bits, and the first, which goes with the superblock.
 abbrev pub IsEventOf : ℕ → ℕ → ℕ → Event → Type 0
+IsEventOf n first end (Event.LowerOffset k s) = Unit {0}
 IsEventOf n first end (Event.Record k) = Unit {0}
 IsEventOf n first end (Event.StoreMarks k b) = (b ≡ 0) ⊎ HasBitsOf first end b
 IsEventOf n first end (Event.WriteMember m k) = m ≡ n
@@ -59,10 +64,11 @@ abbrev pub IsBeforeBytes : Part → Type 0
 IsBeforeBytes Part.Bytes = ⊥
 IsBeforeBytes part = Unit {0}
 
--- The list goes on in rounds, from this part of one: marks are stored, then superblocks, with the first sectors of bitmaps, then bytes.
--- After a failure another round may follow.
+-- The list goes on in rounds, from this part of one: sure offsets are lowered in memory and marks are stored, then superblocks, with the
+-- first sectors of bitmaps, then bytes. After a failure another round may follow.
 abbrev pub InRounds : Part → List Event → Type 0
 InRounds part [] = Unit {0}
+InRounds part (Event.LowerOffset k s ∷ es) = (part ≡ Part.Marks) × InRounds Part.Marks es
 InRounds part (Event.StoreMarks k b ∷ es) = ((part ≡ Part.Marks) × InRounds Part.Marks es) ⊎ ((b ≡ 0) × IsBeforeBytes part × InRounds Part.Records es)
 InRounds part (Event.Record k ∷ es) = IsBeforeBytes part × InRounds Part.Records es
 InRounds part (Event.WriteMember n k ∷ es) = InRounds Part.Bytes es
@@ -97,6 +103,18 @@ pub record AreChunksOf (a : ArrayView) (p : PendingView) (first end : ℕ) : Typ
 pub record IsLater (p q : PendingView) : Type 0 where
   pub request : q ≡ record p { written = q.written }
   pub more : (d : ℕ) → has_written p d ≡ true → has_written q d ≡ true
+
+-- No recovering member's superblock says that it has the request's chunks.
+abbrev pub AllUnsaid : ArrayView → PendingView → Type 0
+AllUnsaid a p = (i : ℕ) (m : MemberView) → IsMember a i m → IsUnsaid a p m
+
+-- None surely has them, and where a superblock says so it has to be stored.
+pub record IsLowered (a : ArrayView) (p : PendingView) (m : MemberView) : Type 0 where
+  pub sure : is_recovering m.state ≡ true → m.superblock.recovery_offset ≤ first_sector a p.sector
+  pub due : member_says_of (first_sector a p.sector) m ≡ true → m.due ≡ true
+
+abbrev pub AllLowered : ArrayView → PendingView → Type 0
+AllLowered a p = (i : ℕ) (m : MemberView) → IsMember a i m → IsLowered a p m
 
 -- A request goes on by its events, from one part of a round to another.
 pub record AdvancesRequest (from to : Part) (p q : PendingView) (old new : MirrorView) : Type 0 where

@@ -3,7 +3,7 @@ use Rattle.std.specs.Prelude.{◌≡◌, ◌⊎◌, ℕ, ◌/◌, true, false, L
 use Rattle.md_model.specs.Content.{Content, HoldsBetween, with_request}
 use Rattle.md_model.specs.Worlds.{Request, touches, IsInSync}
 use Rattle.md_model.specs.Events.{Event}
-use Rattle.md_requests.specs.Pending.{PendingView}
+use Rattle.md_inflight.specs.Requests.Pending.{PendingView}
 use Rattle.md_faults.specs.declared.step_fault.BeginFault.{BeginFault}
 use Rattle.md_faults.specs.declared.step_fault.BeginFault.TheVariants.{Halted}
 use Rattle.md_state.specs.View.{MirrorView, geometry_of}

@@ -4,7 +4,7 @@ ghost use Rattle.md_state.specs.Members.{AllInSync};
 ghost use Rattle.md_state.specs.Requests.{IsPending};
 ghost use Rattle.md_state.specs.Steps.WriteMember.{HasRequestMarks, IsNotDue};
 ghost use Rattle.md_array.specs.Consistency.{IsConsistent};
-ghost use Rattle.md_write.specs.Progress.{Part, WritingFails, WritesAt, WritesToAll};
+ghost use Rattle.md_write.specs.Progress.{AllUnsaid, Part, WritingFails, WritesAt, WritesToAll};
 
 use md_array::{Mirror, Pending, WriteMemberFault};
 use md_device::Device;
@@ -22,6 +22,7 @@ fn write_to<D: Device + Drop>(
     requires running { mirror.old.array.halted ≡ false }
     requires marked { AllInSync mirror.old.array (HasRequestMarks mirror.old.array pending.old) }
     requires recorded { AllInSync mirror.old.array IsNotDue }
+    requires unsaid { AllUnsaid mirror.old.array pending.old }
     ensures { MatchResult result (λ _. WritesAt k pending.old pending.new mirror.old mirror.new) (WritingFails Part.Bytes pending.old pending.new mirror.old mirror.new) }
 {
     if !mirror.state(k).is_in_sync() {
@@ -32,7 +33,7 @@ fn write_to<D: Device + Drop>(
         Err(WriteMemberFault::AlreadyWritten) => Ok(()),
         Err(WriteMemberFault::MemberFailed(j)) => Err(PartFault::MemberFailed(j)),
         Err(WriteMemberFault::Halted) => Err(PartFault::Halted),
-        // The member is in sync, and the marks and records are stored.
+        // The member is in sync, the marks and records are stored, and no superblock says that a recovering member has the sectors.
         Err(WriteMemberFault::NotActive)
         | Err(WriteMemberFault::NotMarked(_))
         | Err(WriteMemberFault::NotRecorded(_)) => unreachable!(),
@@ -49,6 +50,7 @@ pub(crate) fn write_to_members<D: Device + Drop>(
     requires running { mirror.old.array.halted ≡ false }
     requires marked { AllInSync mirror.old.array (HasRequestMarks mirror.old.array pending.old) }
     requires recorded { AllInSync mirror.old.array IsNotDue }
+    requires unsaid { AllUnsaid mirror.old.array pending.old }
     ensures { MatchResult result (λ _. WritesToAll pending.old pending.new mirror.old mirror.new) (WritingFails Part.Bytes pending.old pending.new mirror.old mirror.new) }
 {
     for k in 0..mirror.members() {

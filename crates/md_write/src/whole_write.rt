@@ -1,18 +1,19 @@
 // Writing to the array.
 ghost use Rattle.std.specs.Prelude.{◌≡◌, ◌%◌, MatchResult, length, false};
-ghost use Rattle.md_requests.specs.Pending.{PendingView};
+ghost use Rattle.md_inflight.specs.Requests.Pending.{PendingView};
 ghost use Rattle.md_state.specs.Requests.{IsPending};
 ghost use Rattle.md_array.specs.Consistency.{IsConsistent};
-ghost use Rattle.md_write.specs.Progress.{AreChunksOf, HaltsOn, IsReadyToFinish, Part, WritingFails};
+ghost use Rattle.md_write.specs.Progress.{AllLowered, AreChunksOf, HaltsOn, IsReadyToFinish, Part, WritingFails};
 ghost use Rattle.md_write.specs.Writing.{RefusesWrite, Writes};
 
 use crate::data::write_to_members;
 use crate::marks::store_marks_of_chunks;
 use md_array::{BeginFault, Mirror, Pending};
 use md_device::Device;
-use md_metadata::{PartFault, store_other_records, store_records};
+use md_metadata::{PartFault, lower_offsets, store_other_records, store_records};
 
-// Stores the marks of a request's chunks and what is due, and writes its bytes, until a member fails.
+// Makes a round of the request, until a member fails. That recovering members surely have none of its chunks `begin` has seen to; each
+// round does so by itself, which changes nothing more.
 fn write_once<D: Device + Drop>(
     mirror: &mut Mirror<D>,
     pending: &mut Pending<'_>,
@@ -23,6 +24,25 @@ fn write_once<D: Device + Drop>(
     requires pending { IsPending mirror.old.array pending.old }
     requires running { mirror.old.array.halted ≡ false }
     requires chunks { AreChunksOf mirror.old.array pending.old first end }
+    ensures { MatchResult result (λ _. IsReadyToFinish pending.old pending.new mirror.old mirror.new) (WritingFails Part.Marks pending.old pending.new mirror.old mirror.new) }
+{
+    let sectors = mirror.chunks().sectors;
+    lower_offsets(mirror, u64::from(first) * u64::from(sectors));
+    store_and_write(mirror, pending, first, end)
+}
+
+// Stores the marks of a request's chunks and what is due, and writes its bytes, until a member fails.
+fn store_and_write<D: Device + Drop>(
+    mirror: &mut Mirror<D>,
+    pending: &mut Pending<'_>,
+    first: u32,
+    end: u32,
+) -> Result<(), PartFault>
+    requires sound { IsConsistent mirror.old }
+    requires pending { IsPending mirror.old.array pending.old }
+    requires running { mirror.old.array.halted ≡ false }
+    requires chunks { AreChunksOf mirror.old.array pending.old first end }
+    requires lowered { AllLowered mirror.old.array pending.old }
     ensures { MatchResult result (λ _. IsReadyToFinish pending.old pending.new mirror.old mirror.new) (WritingFails Part.Marks pending.old pending.new mirror.old mirror.new) }
 {
     store_marks_of_chunks(mirror, first, end)?;

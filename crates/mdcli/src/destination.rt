@@ -4,7 +4,7 @@ ghost use Rattle.std.specs.Prelude.{None, ⊤};
 use crate::cleared::Cleared;
 use crate::new_file::NewFile;
 use md_examine::{Output, Sink, SinkFault};
-use md_sparse::Sparse;
+use md_files::Sparse;
 use std::io::Write;
 
 #[derive(Drop)]

@@ -3,19 +3,42 @@ ghost use Rattle.std.specs.Prelude.{false, None};
 
 use crate::progress::Progress;
 use crate::watched::WatchedFile;
-use md_files::FileDevice;
+use md_files::{Backing, FileDevice};
 use md_images::{Access, ImageFault, Images};
 
-/// Images under their paths, whose reads and writes are counted. A device that is put back is closed.
+// So many members an array may have. Where more images are named, the command is refused for that.
+const MOST: usize = 64;
+
+/// Images under their paths, whose reads and writes are counted. A device that is put back is closed. No two that are out have a
+/// part of a disk in common, by whatever paths.
 #[derive(Drop)]
 pub struct FileImages<'a> {
     rt: &'a HostRuntime,
     progress: &'a Progress<'a>,
+    // Where the images lie that are out.
+    out: [Option<Backing>; MOST],
 }
 
 impl<'a> FileImages<'a> {
     pub fn new(rt: &'a HostRuntime, progress: &'a Progress<'a>) -> FileImages<'a> {
-        FileImages { rt, progress }
+        FileImages {
+            rt,
+            progress,
+            out: [None; MOST],
+        }
+    }
+
+    fn is_out(&self, backing: Backing) -> bool {
+        self.out.iter().flatten().any(|out| out.overlaps(backing))
+    }
+
+    fn note(&mut self, backing: Backing) {
+        for place in &mut self.out {
+            if place.is_none() {
+                *place = Some(backing);
+                return;
+            }
+        }
     }
 }
 
@@ -34,8 +57,20 @@ impl<'a> Images for FileImages<'a> {
 
     fn get(&mut self, name: &str, access: Access) -> Result<WatchedFile<'a>, ImageFault> {
         let device = FileDevice::open(self.rt, name, access)?;
+        let backing = device.backing();
+        if self.is_out(backing) {
+            return Err(ImageFault::NamedBefore);
+        }
+        self.note(backing);
         Ok(WatchedFile::new(device, self.progress))
     }
 
-    fn put(&mut self, _name: &str, _device: WatchedFile<'a>) {}
+    fn put(&mut self, _name: &str, device: WatchedFile<'a>) {
+        let backing = device.backing();
+        for place in &mut self.out {
+            if *place == Some(backing) {
+                *place = None;
+            }
+        }
+    }
 }

@@ -9,33 +9,41 @@
 //! ```
 #![tactic(auto)]
 
+mod arguments;
 mod cleared;
+mod coded_json;
+mod coded_text;
 mod comparing;
 mod copying;
 mod destination;
 mod files;
+mod made_file;
 mod map_out;
 mod maps;
 mod new_file;
 mod output_file;
 mod pace;
+mod person;
 mod progress;
 mod standard_input;
 mod watched;
 
+use crate::arguments::arguments;
 use crate::cleared::Cleared;
+use crate::coded_json::CodedJson;
 use crate::files::FileImages;
-use crate::map_out::{MapOut, is_map_begun, is_map_made};
+use crate::map_out::{MapOut, begun_map, is_map_made};
 use crate::maps::{masked_images, tell_refusal};
 use crate::output_file::{destination_of, is_file_ended, output_of};
+use crate::person::Person;
 use crate::progress::Progress;
 use crate::standard_input::bytes_left_if_taken;
 use md_cli::{Session, run};
 use md_commands::Input;
 use md_examine::Buffered;
-use md_masked_images::MaskedImages;
-use md_messages::{Messages, Questions};
-use md_words::parse;
+use md_masks::MaskedImages;
+use md_messages::Messages;
+use md_words::{CheckForm, Command, ImageForm, Request, parse};
 use std::alloc::{AllocError, Global};
 use std::fs::File;
 use std::io::{self, IsTerminal};
@@ -49,43 +57,44 @@ const REFUSED: u8 = 1;
 
 fn main(rt: HostRuntime) -> ExitCode {
     let _standard_streams = filled_streams(&rt);
-    let Ok(args) = std::env::args(&rt) else {
-        let _ = eprintln!(rt; "mdcli: an argument is not UTF-8 text");
-        return ExitCode::from(WORDS_NOT_TAKEN);
+    let args = match arguments(&rt) {
+        Ok(args) => args,
+        Err(fault) => {
+            let _ = eprintln!(rt; "mdcli: {fault}");
+            return ExitCode::from(WORDS_NOT_TAKEN);
+        }
     };
-    let Ok(args) = args.collect(rt.alloc()) else {
-        let _ = eprintln!(rt; "mdcli: NoMemory");
-        return ExitCode::from(WORDS_NOT_TAKEN);
-    };
-    let args: Vec<String> = args;
     let Ok(words) = word_list(rt.alloc(), &args) else {
         let _ = eprintln!(rt; "mdcli: NoMemory");
         return ExitCode::from(WORDS_NOT_TAKEN);
     };
     let words = words.as_slice();
     let parsed = parse(rt.alloc(), words);
-    let (task, is_verbose, is_run) = match &parsed {
-        Ok(request) => (request.command.long_task(), request.verbose, request.run),
-        Err(_) => (None, false, false),
+    let (task, is_verbose) = match &parsed {
+        Ok(request) => (request.command.long_task(), request.verbose),
+        Err(_) => (None, false),
     };
     let map_out = MapOut::of_parsed(&parsed);
-    let err = rt.stderr();
-    let is_terminal = err.is_terminal();
+    let person = Person::of_parsed(&rt, &parsed);
+    let is_terminal = person.is_err_shown();
     let task = if is_terminal { task } else { None };
     let messages = if is_terminal || is_verbose {
         Messages::WithAdvice
     } else {
         Messages::Plain
     };
-    let questions = Questions::of(is_terminal, rt.stdin().is_terminal(), is_run);
-    let progress = Progress::new(&rt, task, questions);
+    let progress = Progress::new(&rt, task, person);
     // Output that goes elsewhere leaves the line as it is.
     let is_beside = rt.stdout().is_terminal();
     let standard = Cleared::new(io::writer(&rt), &progress, is_beside);
-    let mut err = Cleared::new(err, &progress, true);
+    let mut err = Cleared::new(rt.stderr(), &progress, true);
+    if parsed.is_err() {
+        // The parser's text has the words as they are.
+        err.code_text();
+    }
     let files = FileImages::new(&rt, &progress);
     let masked = match &parsed {
-        Ok(request) => masked_images(&rt, request, files),
+        Ok(request) => masked_images(&rt, request, files, &mut err),
         Err(_) => Ok(MaskedImages::new(rt.alloc(), files)),
     };
     let mut images = match masked {
@@ -101,28 +110,47 @@ fn main(rt: HostRuntime) -> ExitCode {
     let Some(out) = destination_of(&rt, output, standard, messages, &mut err) else {
         return ExitCode::from(REFUSED);
     };
-    if !is_map_begun(&rt, map_out, messages, &mut err) {
+    let Some(map) = begun_map(&rt, map_out, messages, &mut err) else {
         let _ = is_file_ended(out, output, messages, &mut err);
         return ExitCode::from(REFUSED);
-    }
+    };
     let told = bytes_left_if_taken(&rt, &parsed);
     let mut session = Session {
         rt: &rt,
         alloc: rt.alloc(),
         input: Input::of_length(rt.stdin(), told),
-        out: Buffered::new(rt.alloc(), out),
+        out: CodedJson::new(Buffered::new(rt.alloc(), out), is_json(&parsed)),
         watch: &progress,
         missing: None,
     };
     let status = run(&mut session, words, parsed, &mut images, &mut err, messages);
     progress.clear();
     let Session { out, missing, .. } = session;
-    let is_ended = is_file_ended(out.into_inner(), output, messages, &mut err);
-    let is_map_made = is_map_made(&rt, map_out, missing, messages, &mut err);
+    let is_ended = is_file_ended(out.into_inner().into_inner(), output, messages, &mut err);
+    let is_map_made = is_map_made(&rt, map, missing, messages, &mut err);
     if !is_ended || !is_map_made {
         return ExitCode::from(REFUSED);
     }
     ExitCode::from(status)
+}
+
+// Whether the report is a JSON object.
+fn is_json<E>(parsed: &Result<Request<'_>, E>) -> bool {
+    let Ok(request) = parsed else {
+        return false;
+    };
+    match request.command {
+        Command::Examine { form }
+        | Command::ExamineBitmap { form }
+        | Command::ExamineBadblocks { form } => {
+            matches!(form, ImageForm::Json | ImageForm::RawJson)
+        }
+        Command::Assemble { json, .. }
+        | Command::Detail { json, .. }
+        | Command::Plan { json, .. } => json,
+        Command::Check { form, .. } => matches!(form, CheckForm::Json),
+        _ => false,
+    }
 }
 
 fn word_list(alloc: Global, args: &[String]) -> Result<Vec<&str>, AllocError> {

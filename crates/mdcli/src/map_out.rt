@@ -1,11 +1,11 @@
 // The map that a read makes.
+use crate::made_file::MadeFile;
 use md_badblocks::BadSet;
-use md_maps::write_map_of_read;
-use md_masked_images::{MapOutFault, map_out_advice};
+use md_examine::{Sink, put_name};
+use md_masks::{MapOutFault, map_out_advice, write_map_of_read};
 use md_messages::Messages;
 use md_words::{Command, Request};
-use std::fs::{self, File, OpenOptions};
-use std::io::{self, ErrorKind, Write};
+use std::io::{ErrorKind, Write};
 
 /// A file that a read makes: ddrescue's map of the array, up to the last sector that is read.
 #[derive(Clone, Copy)]
@@ -37,85 +37,88 @@ impl<'a> MapOut<'a> {
     }
 
     // Makes the file, empty, before any image is opened to be changed. Nothing that is there is overwritten: it may be one of them.
-    fn begin(&self, rt: &HostRuntime) -> Result<(), MapOutFault> {
-        match File::create_new(rt, self.path) {
-            Ok(_) => Ok(()),
+    fn begin(&self, rt: &HostRuntime) -> Result<MadeFile, MapOutFault> {
+        match MadeFile::make(rt, self.path) {
+            Ok(file) => Ok(file),
             Err(error) if error.kind() == ErrorKind::AlreadyExists => Err(MapOutFault::Exists),
             Err(error) => Err(MapOutFault::Unwritten(error)),
         }
     }
 
     // Writes it once all sectors are put out, of which these are missing.
-    fn write(&self, rt: &HostRuntime, missing: BadSet) -> Result<(), MapOutFault> {
+    fn write(&self, rt: &HostRuntime, file: &MadeFile, missing: BadSet) -> Result<(), MapOutFault> {
         let Ok(text) = write_map_of_read(rt.alloc(), self.sector, self.count, missing) else {
             return Err(MapOutFault::NoMemory);
         };
-        match write_into(rt, self.path, text.as_bytes()) {
+        match file.write_whole(text.as_bytes()) {
             Ok(()) => Ok(()),
             Err(error) => Err(MapOutFault::Unwritten(error)),
         }
     }
 
     // Says why it is not made, as `run` says why a command is refused.
-    fn tell<E: Write>(&self, fault: MapOutFault, messages: Messages, err: &mut E) {
+    fn tell<E: Write + Sink>(&self, fault: MapOutFault, messages: Messages, err: &mut E) {
         let _ = writeln!(err, "mdcli: {fault}");
         if !messages.has_advice() {
             return;
         }
+        let _ = put_name(err, self.path);
         let what_to_do = map_out_advice(&fault);
         let _ = match fault {
-            MapOutFault::Unwritten(error) => writeln!(err, "{}: {error}; {what_to_do}", self.path),
-            _ => writeln!(err, "{}: {what_to_do}", self.path),
+            MapOutFault::Unwritten(error) => writeln!(err, ": {error}; {what_to_do}"),
+            _ => writeln!(err, ": {what_to_do}"),
         };
     }
 }
 
+/// A map that was begun, if one is asked for. Its file stays open until it is made.
+#[derive(Drop)]
+pub struct BegunMap<'a> {
+    begun: Option<(MapOut<'a>, MadeFile)>,
+}
+
 /// Makes the file of a map, where one is asked for, before any image is read or changed. Says on `err` why it can't.
-pub fn is_map_begun<E: Write>(
+pub fn begun_map<'a, E: Write + Sink>(
     rt: &HostRuntime,
-    map: Option<MapOut<'_>>,
+    map: Option<MapOut<'a>>,
     messages: Messages,
     err: &mut E,
-) -> bool {
+) -> Option<BegunMap<'a>> {
     let Some(map) = map else {
-        return true;
+        return Some(BegunMap { begun: None });
     };
     match map.begin(rt) {
-        Ok(()) => true,
+        Ok(file) => Some(BegunMap {
+            begun: Some((map, file)),
+        }),
         Err(fault) => {
             map.tell(fault, messages, err);
-            false
+            None
         }
     }
 }
 
 /// Writes the map, where one was begun and all sectors are put out; else there is none. Says on `err` why it can't.
-pub fn is_map_made<E: Write>(
+pub fn is_map_made<E: Write + Sink>(
     rt: &HostRuntime,
-    map: Option<MapOut<'_>>,
+    map: BegunMap<'_>,
     missing: Option<BadSet>,
     messages: Messages,
     err: &mut E,
 ) -> bool {
-    let Some(map) = map else {
+    let Some((map, file)) = map.begun else {
         return true;
     };
     let Some(missing) = missing else {
-        let _ = fs::remove_file(rt, map.path);
+        file.take_away(rt, map.path);
         return true;
     };
-    match map.write(rt, missing) {
+    match map.write(rt, &file, missing) {
         Ok(()) => true,
         Err(fault) => {
             map.tell(fault, messages, err);
-            let _ = fs::remove_file(rt, map.path);
+            file.take_away(rt, map.path);
             false
         }
     }
-}
-
-fn write_into(rt: &HostRuntime, path: &str, bytes: &[u8]) -> io::Result<()> {
-    let mut file = OpenOptions::new().write(true).open(rt, path)?;
-    file.write_all(bytes)?;
-    file.sync_data()
 }

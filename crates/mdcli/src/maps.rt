@@ -1,11 +1,12 @@
 // Images under the maps that words name.
 use crate::files::FileImages;
-use md_advice::advise;
 use md_commands::CommandFault;
-use md_masked_images::{
+use md_examine::{Sink, put_name};
+use md_masks::{
     MapRefusal, MapText, MapWord, MapsFault, MaskedImages, map_advice, map_list, mask_images,
+    strange_command,
 };
-use md_messages::Messages;
+use md_messages::{Messages, advise};
 use md_words::Request;
 use std::alloc::{AllocError, Global};
 use std::fs::File;
@@ -14,18 +15,44 @@ use std::io::{self, ErrorKind, Read, Write};
 // No map of a disk has so many bytes: each block of it takes some 40.
 const LIMIT: u64 = 64 << 20;
 
-/// The images that a command names, under the maps that it names: a map is read before any image is opened to be changed.
-pub fn masked_images<'a>(
+// So much of a map's own line is shown.
+const SHOWN: usize = 400;
+
+/// The images that a command names, under the maps that it names: a map is read before any image is opened to be changed. Says on
+/// `err` where a map's own line names another copy than the one for which it is given.
+pub fn masked_images<'a, E: Write>(
     rt: &HostRuntime,
     request: &Request<'_>,
     images: FileImages<'a>,
+    err: &mut E,
 ) -> Result<MaskedImages<FileImages<'a>>, MapsFault> {
     let Ok(names) = names_of(rt.alloc(), request) else {
         return Err(MapsFault::NoMemory);
     };
     let words = map_list(rt.alloc(), &request.images, &request.maps)?;
     let texts = map_texts(rt, &words)?;
-    mask_images(rt.alloc(), images, &names, &texts)
+    let masked = mask_images(rt.alloc(), images, &names, &texts)?;
+    for (word, text) in request.maps.iter().zip(&texts) {
+        if let Some(command) = strange_command(&names, text) {
+            let _ = tell_strange(word, command, err);
+        }
+    }
+    Ok(masked)
+}
+
+// The copy may have another name since, or the map be another's: who gave it knows.
+fn tell_strange<E: Write>(word: &str, command: &[u8], err: &mut E) -> io::Result<()> {
+    write!(
+        err,
+        "mdcli: {word}: the map's own line does not name this copy: "
+    )?;
+    for byte in &command[..command.len().min(SHOWN)] {
+        match byte {
+            b' '..=b'~' => err.write_all(&[*byte])?,
+            _ => write!(err, "\\x{byte:02X}")?,
+        }
+    }
+    writeln!(err)
 }
 
 // The images that are listed, and then the one that joins.
@@ -71,7 +98,7 @@ fn unread(place: usize, error: io::Error) -> MapsFault {
 }
 
 /// Says why the maps are refused, as `run` says why a command is.
-pub fn tell_refusal<E: Write>(
+pub fn tell_refusal<E: Write + Sink>(
     fault: MapsFault,
     request: &Request<'_>,
     messages: Messages,
@@ -84,7 +111,8 @@ pub fn tell_refusal<E: Write>(
     match fault {
         MapsFault::BadMap(place, refusal) => {
             if let Some(word) = request.maps.get(place) {
-                let _ = write!(err, "{word}: ");
+                let _ = put_name(err, word);
+                let _ = write!(err, ": ");
             }
             let what_to_do = map_advice(&refusal);
             let _ = match refusal {

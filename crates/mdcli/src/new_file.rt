@@ -1,9 +1,9 @@
 // A new file that gets what is put out.
 ghost use Rattle.std.specs.Prelude.{◌≡◌, None, is_some, true, ⊤};
 
+use crate::made_file::MadeFile;
 use md_examine::SinkFault;
-use md_sparse::{HoleFile, OutputFileFault};
-use std::fs::{self, File};
+use md_files::{HoleFile, OutputFileFault};
 use std::io::{self, ErrorKind};
 use std::os::unix::fs::FileExt;
 
@@ -11,7 +11,7 @@ use std::os::unix::fs::FileExt;
 #[derive(Drop)]
 pub struct NewFile<'a> {
     rt: &'a HostRuntime,
-    file: File,
+    made: MadeFile,
     // How far it is written.
     at: u64,
     // Why it could not be written any more: the first reason.
@@ -21,10 +21,10 @@ pub struct NewFile<'a> {
 impl<'a> NewFile<'a> {
     /// Makes the file, empty. Nothing that is there is overwritten: it may be an image.
     pub fn make(rt: &'a HostRuntime, path: &str) -> Result<NewFile<'a>, OutputFileFault> {
-        match File::create_new(rt, path) {
-            Ok(file) => Ok(NewFile {
+        match MadeFile::make(rt, path) {
+            Ok(made) => Ok(NewFile {
                 rt,
-                file,
+                made,
                 at: 0,
                 fault: None,
             }),
@@ -33,24 +33,24 @@ impl<'a> NewFile<'a> {
         }
     }
 
-    /// Ends the file, which has this name: where nothing was written it is taken away, and else it is as long as what was
-    /// written, and on its disk. Says why it is not, or why it was not written any more.
+    /// Ends the file, which was made under this name: where nothing was written it is taken away, and else it is as long as what was written, and on its
+    /// disk. Says why it is not, or why it was not written any more.
     pub fn end(self, path: &str) -> Result<(), OutputFileFault> {
         let NewFile {
             rt,
-            file,
+            made,
             at,
             fault,
         } = self;
         if at == 0 {
-            let _ = fs::remove_file(rt, path);
+            made.take_away(rt, path);
             return match fault {
                 Some(error) => Err(OutputFileFault::Unwritten(error)),
                 None => Ok(()),
             };
         }
-        let length = file.set_len(at);
-        if let Err(error) = file.sync_data() {
+        let length = made.file().set_len(at);
+        if let Err(error) = made.file().sync_data() {
             return Err(OutputFileFault::Unwritten(error));
         }
         match fault.or(length.err()) {
@@ -78,7 +78,8 @@ impl<'a> HoleFile for NewFile<'a> {
     ghost is_whole = { λ _. ⊤ };
 
     fn write(&mut self, bytes: &[u8]) -> Result<(), SinkFault> {
-        if let Err(error) = self.file.write_all_at(bytes, self.at) {
+        let written = self.made.file().write_all_at(bytes, self.at);
+        if let Err(error) = written {
             return Err(self.fail(error));
         }
         self.at = self.at.saturating_add(bytes.len() as u64);
@@ -91,7 +92,8 @@ impl<'a> HoleFile for NewFile<'a> {
     }
 
     fn finish(&mut self) -> Result<(), SinkFault> {
-        if let Err(error) = self.file.set_len(self.at) {
+        let lengthened = self.made.file().set_len(self.at);
+        if let Err(error) = lengthened {
             return Err(self.fail(error));
         }
         Ok(())

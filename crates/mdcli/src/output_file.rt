@@ -2,8 +2,9 @@
 use crate::cleared::Cleared;
 use crate::destination::Destination;
 use crate::new_file::NewFile;
+use md_examine::{Sink, put_name};
+use md_files::{OutputFileFault, output_file_advice};
 use md_messages::Messages;
-use md_sparse::{OutputFileFault, output_file_advice};
 use md_words::Request;
 use std::io::Write;
 
@@ -17,7 +18,7 @@ pub fn output_of<'a, E>(parsed: &Result<Request<'a>, E>) -> Option<&'a str> {
 
 /// Where a command puts out: to this writer, or to a new file where one is asked for, which is made before anything is read.
 /// Says on `err` why it can't be.
-pub fn destination_of<'a, W: Write + Drop, E: Write>(
+pub fn destination_of<'a, W: Write + Drop, E: Write + Sink>(
     rt: &'a HostRuntime,
     path: Option<&str>,
     standard: Cleared<'a, W>,
@@ -37,16 +38,16 @@ pub fn destination_of<'a, W: Write + Drop, E: Write>(
 }
 
 /// Ends the file that was asked for, if one was. Says on `err` why it can't, or why it was not written any more.
-pub fn is_file_ended<'a, W: Write + Drop, E: Write>(
+pub fn is_file_ended<'a, W: Write + Drop, E: Write + Sink>(
     destination: Destination<'a, W>,
     path: Option<&str>,
     messages: Messages,
     err: &mut E,
 ) -> bool {
-    let Some(file) = destination.into_file() else {
+    let Some(path) = path else {
         return true;
     };
-    let Some(path) = path else {
+    let Some(file) = destination.into_file() else {
         return true;
     };
     match file.end(path) {
@@ -59,16 +60,17 @@ pub fn is_file_ended<'a, W: Write + Drop, E: Write>(
 }
 
 // Says why there is no file, or not all of it, as `run` says why a command is refused.
-fn tell<E: Write>(fault: OutputFileFault, path: &str, messages: Messages, err: &mut E) {
+fn tell<E: Write + Sink>(fault: OutputFileFault, path: &str, messages: Messages, err: &mut E) {
     let _ = writeln!(err, "mdcli: {fault}");
     if !messages.has_advice() {
         return;
     }
+    let _ = put_name(err, path);
     let what_to_do = output_file_advice(&fault);
     let _ = match fault {
         OutputFileFault::Cut(error) | OutputFileFault::Unwritten(error) => {
-            writeln!(err, "{path}: {error}; {what_to_do}")
+            writeln!(err, ": {error}; {what_to_do}")
         }
-        OutputFileFault::Exists => writeln!(err, "{path}: {what_to_do}"),
+        OutputFileFault::Exists => writeln!(err, ": {what_to_do}"),
     };
 }

@@ -4,9 +4,9 @@ ghost use Rattle.md_messages.specs.Terminal.{are_asked, are_shown};
 
 use crate::comparing::Comparing;
 use crate::copying::Copying;
-use md_commands::{Gate, Input, Watch};
-use md_examine::Output;
-use md_messages::{Asker, Questions};
+use crate::person::Person;
+use md_commands::{Gate, Watch};
+use md_messages::Asker;
 use md_words::LongTask;
 use std::alloc::AllocError;
 use std::io::Write;
@@ -29,7 +29,7 @@ pub struct Progress<'a> {
     rt: &'a HostRuntime,
     // Nothing is drawn where there is none.
     task: Option<LongTask>,
-    questions: Questions,
+    person: Person,
     began: Option<Instant>,
     read: AtomicU64,
     written: AtomicU64,
@@ -41,11 +41,11 @@ pub struct Progress<'a> {
 }
 
 impl<'a> Progress<'a> {
-    pub fn new(rt: &'a HostRuntime, task: Option<LongTask>, questions: Questions) -> Progress<'a> {
+    pub fn new(rt: &'a HostRuntime, task: Option<LongTask>, person: Person) -> Progress<'a> {
         Progress {
             rt,
             task,
-            questions,
+            person,
             began: Instant::now(rt).ok(),
             read: AtomicU64::new(0),
             written: AtomicU64::new(0),
@@ -174,20 +174,24 @@ impl<'a> Gate for Progress<'a> {
 }
 
 impl<'a> Asker for Progress<'a> {
-    ghost shows = { λ p. are_shown p.questions };
+    ghost shows = { λ p. are_shown p.person.questions };
+
+    ghost told_first = { λ p. p.person.is_err_shown };
 
     // No contract says what a terminal gives; but where nobody is asked, the answer is yes.
-    ghost answered = { λ p _ goes_on. are_asked p.questions ≡ false → goes_on ≡ true };
+    ghost answered = { λ p _ goes_on. are_asked p.person.questions ≡ false → goes_on ≡ true };
 
     fn is_there(&self) -> bool {
-        self.questions.are_shown()
+        self.person.are_shown()
+    }
+
+    fn is_told_first(&self) -> bool {
+        self.person.is_err_shown()
     }
 
     fn goes_on(&self, lines: &[u8]) -> bool {
         self.clear();
-        let mut err = Output::new(self.rt.stderr());
-        let mut input = Input::new(self.rt.stdin());
-        self.questions.go_on(lines, &mut err, &mut input)
+        self.person.goes_on(self.rt, lines)
     }
 }
 

@@ -1,9 +1,9 @@
 // A device in a file whose reads and writes are counted.
-ghost use Rattle.std.specs.Prelude.{◌≡◌, ◌+◌, ◌*◌, ◌%◌, ◌^◌, ◌≤◌, [], false, length, replicate};
+ghost use Rattle.std.specs.Prelude.{◌≡◌, ◌+◌, ◌*◌, ◌%◌, ◌^◌, ◌≤◌, [], false, length, refl, replicate};
 
 use crate::progress::Progress;
-use md_device::{Device, ReadFault, WriteFault};
-use md_files::FileDevice;
+use md_device::{Device, Fault, FaultList, ReadFault, WriteFault};
+use md_files::{Backing, FileDevice};
 use md_images::SharedRead;
 use std::sync::Mutex;
 
@@ -17,18 +17,27 @@ pub struct WatchedFile<'a> {
     // A file can be read while it is shared, though its device asks for a reference of its own. A worker has a
     // device to itself, so that the lock is always free.
     device: Mutex<FileDevice>,
+    backing: Backing,
     sectors: u64,
     progress: &'a Progress<'a>,
+    faults: FaultList,
     ghost limit: { sectors ≤ 2 ^ 54 },
 }
 
 impl<'a> WatchedFile<'a> {
     pub fn new(device: FileDevice, progress: &'a Progress<'a>) -> WatchedFile<'a> {
         WatchedFile {
+            backing: device.backing(),
             sectors: device.sectors(),
             device: Mutex::new(device),
             progress,
+            faults: FaultList::empty(),
         }
+    }
+
+    /// Where it lies, whatever it is called.
+    pub fn backing(&self) -> Backing {
+        self.backing
     }
 }
 
@@ -37,7 +46,11 @@ impl<'a> Device for WatchedFile<'a> {
 
     ghost honest = { λ _. false };
 
-    ghost failures = { λ _. 0 };
+    ghost faults = { λ d. d.faults.list };
+
+    ghost failures = { λ d. length d.faults.list };
+
+    ghost counts = { λ _. refl };
 
     ghost crashes = { λ _. [] };
 
@@ -46,10 +59,30 @@ impl<'a> Device for WatchedFile<'a> {
     }
 
     fn read(&mut self, sector: u64, buf: &mut [u8]) -> Result<(), ReadFault> {
-        self.read_shared(sector, buf)
+        let outcome = self.read_shared(sector, buf);
+        if outcome.is_err() {
+            self.faults = self.faults.with_fault(&Fault::read(sector, buf.len()));
+        }
+        outcome
     }
 
     fn write(&mut self, sector: u64, bytes: &[u8]) -> Result<(), WriteFault> {
+        let outcome = self.write_through(sector, bytes);
+        if outcome.is_err() {
+            self.faults = self.faults.with_fault(&Fault::write(sector, bytes.len()));
+        }
+        outcome
+    }
+}
+
+impl<'a> WatchedFile<'a> {
+    // Writes to the file, and counts what was written.
+    fn write_through(&mut self, sector: u64, bytes: &[u8]) -> Result<(), WriteFault>
+        requires whole { length bytes.now % 512 ≡ 0 }
+        requires within { 512 * sector + length bytes.now ≤ 512 * self.old.sectors }
+        ensures sectors { self.new.sectors ≡ self.old.sectors }
+        ensures faults { self.new.faults ≡ self.old.faults }
+    {
         let device = self.device.get_mut();
         if device.sectors() != self.sectors {
             return Err(WriteFault);

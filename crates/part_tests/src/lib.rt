@@ -1,5 +1,5 @@
-//! Tests of what stands below the mirror: superblocks, bitmaps, bad block logs, requests in flight, plans and
-//! their checker, what a collector takes, and image files.
+//! Tests of what stands below or beside the mirror: superblocks, bitmaps, bad block logs, requests in flight, plans and
+//! their checker, what a collector takes, image files, and messages of NBD clients.
 //!
 //! Start with the file of what is tested, as `bad_block_logs.rt`. A comparison is a call of `checks.rt`.
 //!
@@ -19,6 +19,10 @@ mod checks;
 mod collector_reports;
 #[cfg(test)]
 mod image_files;
+#[cfg(test)]
+mod nbd_messages;
+#[cfg(test)]
+mod nbd_sessions;
 #[cfg(test)]
 mod plans;
 #[cfg(test)]

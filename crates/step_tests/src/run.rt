@@ -1,7 +1,7 @@
 // A mirror on which steps are made. Each `Run` is consistent, and its requests are in flight.
 ghost use Rattle.std.specs.Prelude.{◌≡◌, ◌%◌, ◌<◌, length, IfOk};
 ghost use Rattle.md_array.specs.Consistency.{IsConsistent};
-ghost use Rattle.md_requests.specs.Pending.{PendingView};
+ghost use Rattle.md_inflight.specs.Requests.Pending.{PendingView};
 ghost use Rattle.md_state.specs.Requests.{IsPending};
 
 use crate::images::{Image, Testing, device_of, new_device, used_device};

@@ -30,8 +30,10 @@
 #![tactic(auto)]
 
 // Devices.
-pub use md_device::{Device, FaultDevice, MemDevice, OverlayDevice, ReadFault, WriteFault};
-pub use md_files::FileDevice;
+pub use md_device::{
+    Device, Fault, FaultDevice, FaultList, MemDevice, OverlayDevice, ReadFault, WriteFault,
+};
+pub use md_files::{Backing, FileDevice};
 pub use md_images::{Access, ImageFault};
 
 // What stands on a member.
@@ -54,7 +56,7 @@ pub use md_inflight::{Inflight, PushFault, Refused, Span, Ticket};
 
 // Whole calls.
 pub use md_check::{CheckFault, check_array};
-pub use md_metadata::{StopFault, stop};
+pub use md_metadata::{RebuildExtent, StopFault, come_back, stop};
 pub use md_read::{UnreadFault, UnresyncedFault, read, read_unresynced};
 pub use md_resync::{ResyncFault, resync};
 pub use md_write::write;
@@ -63,11 +65,10 @@ pub use md_write::write;
 pub use md_cert::{
     Certificate, ChunkList, NoMemory, Plan, Row, Slot, Slots, Table, Verdict, check,
 };
-pub use md_collect::{Collector, Refusal, Report, read_chunk};
+pub use md_collect::{Board, Collector, Refusal, Report, Share, read_chunk};
 pub use md_copy::{Gate, Rebuilt, rebuild};
 pub use md_plan::{Planned, plan};
 pub use md_rebuild_table::{RebuildFault, table};
-pub use md_workers::{Board, Share};
 
 // Reports.
 pub use md_examine::{Output, Sink, SinkFault, examine, examine_badblocks, examine_bitmap};

@@ -2,7 +2,7 @@
 use Rattle.std.proofs.Common.{◌≡◌, ℕ, List, slice_get, Some, sym, ap, ◌∙◌, arith}
 use Rattle.std.proofs.lemmas.Option.{slice_get_within}
 use Rattle.md_model.proofs.Puts.{by_same}
-use Rattle.md_device_writes.specs.Writes.{Write}
+use Rattle.md_members.specs.DeviceWrites.Writes.{Write}
 use Rattle.md_state.specs.DeviceChanges.{AreSame}
 use Rattle.md_state.specs.DiskWrites.{IsTried}
 use Rattle.md_state.specs.View.{Disk, MirrorView}

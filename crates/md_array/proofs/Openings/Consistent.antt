@@ -14,7 +14,7 @@ use Rattle.md_assembly.specs.States.{is_in_sync, role_in, state_of, takes_role}
 use Rattle.md_assembly.proofs.Indices.{got_within, got_same}
 use Rattle.md_inflight.specs.Inflight.{InflightList, lookup}
 use Rattle.md_model.proofs.Cases.{by_test, none_some}
-use Rattle.md_requests.specs.declared.extent.Extent.{Extent}
+use Rattle.md_inflight.specs.declared.requests.extent.Extent.{Extent}
 use Rattle.md_kept_members.specs.View.{MemberView}
 use Rattle.md_kept_members.specs.Kept.{IsKept}
 use Rattle.md_state.specs.View.{ArrayView, Disk, MirrorView}

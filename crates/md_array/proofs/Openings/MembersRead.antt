@@ -10,10 +10,13 @@ use Rattle.md_members.specs.declared.fault.MemberFault.{MemberFault}
 use Rattle.md_members.specs.declared.fault.MemberFault.TheVariants.{TooShort, ReadFault, Super, Region, Bitmap, Log, NoMemory}
 use Rattle.md_members.specs.declared.info.MemberInfo.{MemberInfo}
 use Rattle.md_members.specs.Members.{IsReadMember, RefusesMember, RefusesRest, by_place, by_bitmap, by_log, sectors_of_device}
-use Rattle.md_members.specs.Reading.{RefusesSuper, RefusesBitmap, RefusesLog}
-use Rattle.md_state.specs.View.{Disk}
-use Rattle.md_state.specs.DeviceChanges.{FailsAt, IsUntouched}
-use Rattle.md_array.specs.Open.Members.{RefusesDeviceRead as RefusesMemberAt, RefusesReading, open_fault_of}
+use Rattle.md_members.specs.Reading.{CallFails, RefusesSuper, RefusesBitmap, RefusesLog}
+use Rattle.std.specs.Prelude.{⊤}
+use Rattle.md_device.specs.declared.fault_list.Fault.{Fault}
+use Rattle.md_members.proofs.Failed.{fails_later}
+use Rattle.md_state.specs.View.{Disk, of_disks}
+use Rattle.md_state.specs.DeviceChanges.{IsUntouched}
+use Rattle.md_array.specs.Open.Members.{CallFailsAt, RefusesDeviceRead as RefusesMemberAt, RefusesReading, open_fault_of}
 use Rattle.md_array.proofs.Openings.DevicesInTurn.{at_push_before, at_push_last, same_place}
 use Rattle.md_array.proofs.General.Indices.{at_set_same}
 
@@ -25,40 +28,44 @@ AreReadSoFar disks infos = (k : ℕ) (d : Disk) (info : MemberInfo) → slice_ge
 pub member_on : (d a : Disk) (info : MemberInfo) → d.content ≡ a.content → d.honest ≡ a.honest → IsReadMember d.content d.honest info → IsReadMember a.content a.honest info
 member_on d a info content honest is = subst (λ (h : Bool). IsReadMember a.content h info) honest (subst (λ (c : List ℕ). IsReadMember c d.honest info) content is)
 
+-- what is said of each failed call, said of another moment
+abbrev Moves : ((Fault → Type 0) → Type 0) → ((Fault → Type 0) → Type 0) → Type 1
+Moves F G = (P : Fault → Type 0) → F P → G P
+
 -- a refusal for which a call failed, where the same says that another did
-super_more : (content : List ℕ) (honest : Bool) {F G : Type 0} (fault : MemberFault) → (F → G) → RefusesSuper content honest F fault → RefusesSuper content honest G fault
+super_more : (content : List ℕ) (honest : Bool) {F G : (Fault → Type 0) → Type 0} (fault : MemberFault) → Moves F G → RefusesSuper content honest F fault → RefusesSuper content honest G fault
 super_more content honest TooShort f r = r
-super_more content honest ReadFault f r = (r.0, λ h. f (r.1 h))
+super_more content honest ReadFault f r = (r.0, f _ r.1)
 super_more content honest (Super e) f r = r
 super_more content honest Region f r = r
 super_more content honest (Bitmap e) f r = r
 super_more content honest (Log e) f r = r
 super_more content honest NoMemory f r = r
 
-bitmap_more : (content : List ℕ) (honest : Bool) {F G : Type 0} (sectors : ℕ) (v : Superblock) (fault : MemberFault) → (F → G) → RefusesBitmap content honest F sectors v fault → RefusesBitmap content honest G sectors v fault
+bitmap_more : (content : List ℕ) (honest : Bool) {F G : (Fault → Type 0) → Type 0} (sectors : ℕ) (v : Superblock) (fault : MemberFault) → Moves F G → RefusesBitmap content honest F sectors v fault → RefusesBitmap content honest G sectors v fault
 bitmap_more content honest sectors v TooShort f r = r
-bitmap_more content honest sectors v ReadFault f r = λ h. f (r h)
+bitmap_more content honest sectors v ReadFault f r = record { start = r.start; at = r.at; failed = ⊎_map (f _) (λ x. (x.0, x.1, f _ x.2)) r.failed }
 bitmap_more content honest sectors v (Super e) f r = r
 bitmap_more content honest sectors v Region f r = r
 bitmap_more content honest sectors v (Bitmap e) f r = r
 bitmap_more content honest sectors v (Log e) f r = r
 bitmap_more content honest sectors v NoMemory f r = r
 
-log_more : (honest : Bool) {F G : Type 0} (v : Superblock) (fault : MemberFault) → (F → G) → RefusesLog honest F v fault → RefusesLog honest G v fault
-log_more honest v TooShort f r = r
-log_more honest v ReadFault f r = λ h. f (r h)
-log_more honest v (Super e) f r = r
-log_more honest v Region f r = r
-log_more honest v (Bitmap e) f r = r
-log_more honest v (Log e) f r = r
-log_more honest v NoMemory f r = r
+log_more : {F G : (Fault → Type 0) → Type 0} (v : Superblock) (fault : MemberFault) → Moves F G → RefusesLog F v fault → RefusesLog G v fault
+log_more v TooShort f r = r
+log_more v ReadFault f r = (r.0, r.1, f _ r.2)
+log_more v (Super e) f r = r
+log_more v Region f r = r
+log_more v (Bitmap e) f r = r
+log_more v (Log e) f r = r
+log_more v NoMemory f r = r
 
-rest_more : (content : List ℕ) (honest : Bool) {F G : Type 0} (v : Superblock) (fault : MemberFault) → (F → G) → RefusesRest content honest F v fault → RefusesRest content honest G v fault
+rest_more : (content : List ℕ) (honest : Bool) {F G : (Fault → Type 0) → Type 0} (v : Superblock) (fault : MemberFault) → Moves F G → RefusesRest content honest F v fault → RefusesRest content honest G v fault
 rest_more content honest v fault f (by_place is unplaced) = by_place is unplaced
 rest_more content honest v fault f (by_bitmap placed has r) = by_bitmap placed has (bitmap_more content honest (sectors_of_device content) v fault f r)
-rest_more content honest v fault f (by_log placed h m has reads r) = by_log placed h m has reads (log_more honest v fault f r)
+rest_more content honest v fault f (by_log placed h m has reads r) = by_log placed h m has reads (log_more v fault f r)
 
-refuses_more : (content : List ℕ) (honest : Bool) {F G : Type 0} (fault : MemberFault) → (F → G) → RefusesMember content honest F fault → RefusesMember content honest G fault
+refuses_more : (content : List ℕ) (honest : Bool) {F G : (Fault → Type 0) → Type 0} (fault : MemberFault) → Moves F G → RefusesMember content honest F fault → RefusesMember content honest G fault
 refuses_more content honest fault f r =
     ⊎_map (super_more content honest fault f) (λ rest. (rest.0, rest.1, rest_more content honest rest.0 fault f rest.2)) r
 
@@ -90,16 +97,16 @@ short_more before now k d here untouched short earlier j a below was =
 
 -- device k is refused, and those before it were read
 refused_member : (before now : List Disk) (infos : List MemberInfo) (k : ℕ) (d e : Disk) (fault : MemberFault) → length infos ≡ k → slice_get now k ≡ Some d → IsUntouched before now
-    → AreReadSoFar before infos → RefusesMember d.content d.honest (d.failures < e.failures) fault → fault ≢ NoMemory → RefusesMemberAt before (set now k e) k fault
+    → AreReadSoFar before infos → RefusesMember d.content d.honest (CallFails of_disks d e) fault → fault ≢ NoMemory → RefusesMemberAt before (set now k e) k fault
 refused_member before now infos k d e fault count here untouched read refused memory =
     let was : slice_get before k ≡ Some (get_or before k d) = same_place before now k d untouched.same.as_many here d in
     let a = get_or before k d in
     let stayed = untouched.same.honest k a d was here in
-    let Fails = FailsAt before (set now k e) k in
-    let fails : d.failures < e.failures → Fails = λ more x y is_x is_y.
+    let Fails = CallFailsAt before (set now k e) k in
+    let fails : Moves (CallFails of_disks d e) Fails = λ P more x y is_x is_y.
     let x_is = same_Some a x (sym was ∙ is_x) in
     let y_is = same_Some e y (sym (at_set_same now k e (slice_get_within now k d here)) ∙ is_y) in
-    rw (sym x_is, sym y_is) (omega (arith, stayed.counted, more)) in
+    rw (sym x_is, sym y_is) (fails_later of_disks a d e P (λ _. ⊤) stayed.counted stayed.grown more) in
     record {
       disk = a;
       is = was;
@@ -113,7 +120,7 @@ refused_member before now infos k d e fault count here untouched read refused me
     }
 
 pub refused_at : (before now : List Disk) (infos : List MemberInfo) (k : ℕ) (d e : Disk) (fault : MemberFault) → length infos ≡ k → slice_get now k ≡ Some d → IsUntouched before now
-    → AreReadSoFar before infos → RefusesMember d.content d.honest (d.failures < e.failures) fault → RefusesReading before (set now k e) (open_fault_of k fault)
+    → AreReadSoFar before infos → RefusesMember d.content d.honest (CallFails of_disks d e) fault → RefusesReading before (set now k e) (open_fault_of k fault)
 refused_at before now infos k d e TooShort count here untouched read refused = refused_member before now infos k d e TooShort count here untouched read refused (λ same. cc)
 refused_at before now infos k d e ReadFault count here untouched read refused = refused_member before now infos k d e ReadFault count here untouched read refused (λ same. cc)
 refused_at before now infos k d e (Super f) count here untouched read refused = refused_member before now infos k d e (Super f) count here untouched read refused (λ same. cc)

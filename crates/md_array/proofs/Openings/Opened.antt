@@ -1,8 +1,10 @@
 -- Devices are opened: the members are read, assembled and remembered, and then marks are stored.
 use Rattle.std.proofs.Common.{◌≡◌, ◌⊎◌, inl, ℕ, ◌*◌, ◌≤◌, true, List, [], ◌∷◌, length, refl, sym, ap, ◌∙◌, arith, subst, get_or, ◌^◌}
-use Rattle.std.specs.Prelude.{slice_get, Some}
+use Rattle.std.specs.Prelude.{⊤, slice_get, Some}
 use Rattle.md_device.specs.Splice.{SameOutside}
 use Rattle.md_device.specs.Crashes.{IsMixed}
+use Rattle.md_device.specs.Failing.{failed_write}
+use Rattle.md_device.proofs.Failing.{fails_since}
 use Rattle.md_device.proofs.Leaving.{leaves_less, leaves_then, mixed_none}
 use Rattle.md_members.specs.Areas.{AreAreasPlaced, bitmap_sectors}
 use Rattle.md_members.specs.Members.{sectors_of_device}
@@ -10,7 +12,7 @@ use Rattle.md_members.specs.declared.info.MemberInfo.{MemberInfo}
 use Rattle.md_assembly.specs.declared.fault.AssembleFault.{AssembleFault}
 use Rattle.md_assembly.specs.declared.fault.AssembleFault.TheVariants.{Empty, TooMany, Stranger, DoubleNumber, NoBitmap, Geometry, DoubleRole, NotEnough, NoMemory as NoMemoryOfAssembly}
 use Rattle.md_assembly.specs.Faults.{IsFirstAssembleFault}
-use Rattle.md_device_writes.specs.Writes.{IsAnyIn, IsCutShort, Write, after}
+use Rattle.md_members.specs.DeviceWrites.Writes.{IsAnyIn, IsCutShort, Write, after}
 use Rattle.md_kept_members.specs.View.{MemberView}
 use Rattle.md_state.specs.View.{Disk, ArrayView}
 use Rattle.md_state.specs.DeviceChanges.{AreSame, EachPair, IsLeftAlone, IsUntouched, LeavesAsWas, LeavesOn, StaysHonest}
@@ -22,6 +24,7 @@ use Rattle.md_array.specs.Open.Members.{AreRead, RefusesReading}
 use Rattle.md_array.specs.Open.Refusals.{RefusesArray, RefusesOpen, assembly_refusal_of}
 use Rattle.md_array.specs.Open.Marks.{AreMarksOnDisks, FailsToStore, AreMarksOnDisk, IsMarkedBy, RefusesStoringMarks, EndsAtMember, StoresMarksOn}
 use Rattle.md_array.proofs.Openings.DevicesInTurn.{same_place}
+use Rattle.md_state.proofs.Stays.{stays_then}
 
 -- what holds of each pair, in two steps
 each_through : (P Q R : ℕ → Disk → Disk → Type 0) (before mid end : List Disk) → length mid ≡ length before → EachPair P before mid → EachPair Q mid end
@@ -34,7 +37,7 @@ pub same_through : (before mid end : List Disk) → AreSame before mid → AreSa
 same_through before mid end first second = record {
   as_many = second.as_many ∙ first.as_many;
   honest = each_through (λ _. StaysHonest) (λ _. StaysHonest) (λ _. StaysHonest) before mid end first.as_many first.honest second.honest
-      (λ k d x e p q. record { honest = q.honest ∙ p.honest; counted = omega (arith, p.counted, q.counted) });
+      (λ k d x e p q. stays_then d x e p q);
 }
 
 -- what was there before writes are made, they may leave
@@ -70,6 +73,7 @@ module _ (a : ArrayView) (m : MemberView) (d x e : Disk) (stays : StaysHonest d 
     tried = f.tried;
     rest = f.rest;
     order = f.order;
+    there = fails_since d.faults x.faults e.faults (λ call. call ≡ failed_write f.tried.sector (length f.tried.bytes)) (λ _. ⊤) stays.grown f.there;
     stopped = λ h. subst (λ (c : List ℕ). IsAnyIn f.tried (after c f.made) e.content) content (f.stopped (stays.honest ∙ h));
     within = leaves_from (λ old left. IsCutShort old f.made left ⊎ IsAnyIn f.tried (after old f.made) left) (λ old left same. inl (cut_before old left f.made same)) f.within;
     outside = subst (λ (c : List ℕ). SameOutside (512 * f.start) (512 * bitmap_sectors m.stored.chunks) c e.content) content f.outside;

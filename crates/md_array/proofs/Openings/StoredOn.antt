@@ -1,12 +1,16 @@
 -- A member's marks are stored by the writes of its bitmap.
-use Rattle.std.proofs.Common.{ℕ, ◌*◌, Result, Ok, Err, OnOk, OnErr, refl}
+use Rattle.std.proofs.Common.{◌≡◌, ℕ, ◌*◌, List, length, Result, Ok, Err, OnOk, OnErr, refl}
 use Rattle.md_device.specs.declared.device.Device.{Ghosts}
+use Rattle.md_device.specs.Failing.{failed_write}
 use Rattle.md_device.specs.Splice.{SameOutside}
+use Rattle.md_device.proofs.Failing.{fails_just}
 use Rattle.md_bitmap.specs.declared.header.BitmapHeader.{BitmapHeader}
 use Rattle.md_members.specs.Areas.{bitmap_sectors}
 use Rattle.md_members.specs.Reading.{BitmapStartsAt}
-use Rattle.md_device_writes.specs.Bitmaps.{bitmap_writes}
-use Rattle.md_device_writes.specs.Writes.{MakesWrites}
+use Rattle.md_members.specs.DeviceWrites.Bitmaps.{bitmap_writes}
+use Rattle.md_members.specs.DeviceWrites.Writes.{MakesWrites, Write}
+use Rattle.md_state.specs.DeviceChanges.{StaysHonest}
+use Rattle.md_state.proofs.Stays.{stays_written}
 use Rattle.md_kept_members.specs.View.{MemberView}
 use Rattle.md_state.specs.View.{ArrayView, disk_of}
 use Rattle.md_state.specs.Headers.{IsHeaderFor}
@@ -34,7 +38,13 @@ module _ {D : Type 0} (g : Ghosts D) (a : ArrayView) (m : MemberView) (start : �
     tried = stops.tried;
     rest = stops.rest;
     order = stops.order;
+    there = fails_just (g.faults old) (g.faults new) (failed_write stops.tried.sector (length stops.tried.bytes)) (λ f. f ≡ failed_write stops.tried.sector (length stops.tried.bytes)) stops.tried_alone_failed refl;
     stopped = stops.outside;
     within = stops.within;
     outside = outside;
   }
+
+-- whatever came of its writes
+pub stays_made : {D : Type 0} (g : Ghosts D) (writes : List Write) (old new : D) {T E : Type 0} (result : Result T E) → MakesWrites g writes old new result → StaysHonest (disk_of g old) (disk_of g new)
+stays_made g writes old new (Ok x) does = stays_written g old new does.kept
+stays_made g writes old new (Err e) stops = stays_written g old new stops.kept

@@ -6,9 +6,9 @@ use Rattle.md_assembly.specs.States.{is_spare}
 use Rattle.md_kept_members.specs.Members.{made_due}
 use Rattle.md_kept_members.specs.TakingBack.{admitted_member, recovering}
 use Rattle.md_kept_members.specs.View.{MemberView}
-use Rattle.md_requests.specs.Pending.{PendingView}
-use Rattle.md_membership.specs.Joining.{joined_shared}
-use Rattle.md_stored_members.specs.Superblocks.{IsReadable, own_write}
+use Rattle.md_inflight.specs.Requests.Pending.{PendingView}
+use Rattle.md_kept_members.specs.Membership.Joining.{joined_shared}
+use Rattle.md_kept_members.specs.OnDevices.Superblocks.{IsReadable, own_write}
 use Rattle.md_state.specs.Steps.Admit.{MayAdmit, admitted}
 use Rattle.md_state.specs.DiskWrites.{IsFailed, IsWritten}
 use Rattle.md_state.specs.Missing.{is_rebuilt}

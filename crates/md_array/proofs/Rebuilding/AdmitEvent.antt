@@ -28,10 +28,10 @@ use Rattle.md_model.specs.States as states
 use Rattle.md_model.specs.Worlds.{Request, World}
 use Rattle.md_model.proofs.Puts.{put-at, put-miss, put-self}
 use Rattle.md_model.proofs.Steps.Between.{between_step, in_flight_step}
-use Rattle.md_requests.specs.Pending.{PendingView}
-use Rattle.md_membership.specs.Numbers.{is_absent}
-use Rattle.md_stored_members.specs.Superblocks.{IsReadable}
-use Rattle.md_stored_members.specs.Storing.{sector_from_super}
+use Rattle.md_inflight.specs.Requests.Pending.{PendingView}
+use Rattle.md_kept_members.specs.Membership.Numbers.{is_absent}
+use Rattle.md_kept_members.specs.OnDevices.Superblocks.{IsReadable}
+use Rattle.md_kept_members.specs.OnDevices.Storing.{sector_from_super}
 use Rattle.md_state.specs.Steps.Admit.{admitted}
 use Rattle.md_state.specs.Members.{IsInSync, IsMember}
 use Rattle.md_state.specs.Missing.{is_rebuilt}
@@ -325,7 +325,9 @@ module _ (k : ℕ) (old new : MirrorView) (c : IsConsistent old) (r : Admits k o
           ∙ ap (λ (f : ℕ → ℕ → Bool). f j x) (sym known_put)) i;
       bad = λ j x. (read_kept (λ o. unwrap_or (option_map (λ (y : MemberView). lists_of a y x) o) false) up.members k (made_due m) n up_at refl j
           ∙ ap (λ (f : ℕ → ℕ → Bool). f j x) (sym bad_put)) i;
-      offset = λ j. read_changed (λ o. unwrap_or (option_map (λ (x : MemberView). x.superblock.recovery_offset) o) 0) up.members k (made_due m) n up_at j i;
+      offset = λ j. read_changed (λ o. unwrap_or (option_map (λ (x : MemberView). x.offset) o) 0) up.members k (made_due m) n up_at j i;
+      sure_offset = λ j. read_changed (λ o. unwrap_or (option_map (λ (x : MemberView). x.superblock.recovery_offset) o) 0) up.members k (made_due m) n up_at j i;
+      stored_offset = λ j. read_changed (λ o. unwrap_or (option_map (λ (x : MemberView). x.stored_offset) o) 0) up.members k (made_due m) n up_at j i;
       recovering = λ j. (read_changed (λ o. unwrap_or (option_map (λ (x : MemberView). has_recovery_offset x.superblock) o) false) up.members k (made_due m) n up_at j
           ∙ ap (λ t. put k t u.recovering j) bit) i;
       role = λ x. role_is x i;

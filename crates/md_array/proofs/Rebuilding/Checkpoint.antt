@@ -1,24 +1,24 @@
 -- What `checkpoint` answers, by what the calls in it do.
-use Rattle.std.proofs.Common.{◌≡◌, ℕ, true, length, length-set, List, slice_get, sym, ap, ◌∙◌, subst}
+use Rattle.std.proofs.Common.{◌≡◌, ℕ, true, length, length-set, max, List, slice_get, sym, ap, ◌∙◌, subst}
 use Rattle.std.proofs.lemmas.Option.{same_Some, slice_get_within}
 use Rattle.md_assembly.specs.States.{is_recovering}
 use Rattle.md_assembly.proofs.Indices.{got_same}
 use Rattle.md_bitmap.specs.Marks.{Bitmap}
 use Rattle.md_faults.specs.declared.enrol_fault.TargetFault.{TargetFault as TargetFaults}
 use Rattle.md_faults.specs.declared.enrol_fault.TargetFault.TheVariants.{Halted, TargetFault}
-use Rattle.md_kept_members.specs.TakingBack.{with_recovery_offset}
+use Rattle.md_kept_members.specs.TakingBack.{with_offsets}
 use Rattle.md_kept_members.specs.View.{MemberView}
 use Rattle.md_model.specs.Content.{Content}
 use Rattle.md_model.specs.Events.{Event}
-use Rattle.md_stored_members.specs.Superblocks.{IsReadable}
-use Rattle.md_state.specs.Steps.Checkpoint.{IsNextOffset, with_offset_of}
+use Rattle.md_kept_members.specs.OnDevices.Superblocks.{IsReadable}
+use Rattle.md_state.specs.Steps.Checkpoint.{IsFirstEnd, checked, with_member_at}
 use Rattle.md_state.specs.DiskWrites.{IsFailed}
 use Rattle.md_state.specs.Members.{IsMember}
 use Rattle.md_state.specs.Missing.{is_rebuilt}
 use Rattle.md_state.specs.View.{ArrayView, Disk, MirrorView}
 use Rattle.md_super.specs.Merge.{merged}
 use Rattle.md_array.specs.Steps.Admit.{FailsAsTarget}
-use Rattle.md_array.specs.Steps.Checkpoint.{Checkpoints, FailsToCheckpoint, IfCheckpointFailed, MayCheckpoint, MovesOffset, RefusesCheckpoint}
+use Rattle.md_array.specs.Steps.Checkpoint.{Checkpoints, FailsToCheckpoint, IfCheckpointFailed, MayCheckpoint, MovesOffsets, RefusesCheckpoint}
 use Rattle.md_array.specs.Consistency.{IsConsistent}
 use Rattle.md_array.specs.Steps.Enrol.{HoldsContent}
 use Rattle.md_array.specs.Events.{Happens, listed_on}
@@ -31,8 +31,8 @@ use Rattle.md_array.proofs.Rebuilding.OffsetMoved.{moved_back}
 use Rattle.md_array.proofs.Rebuilding.TargetLeft.{left_as_target, left_spoils}
 use Rattle.md_array.specs.Spoiling.{SpoilsTarget}
 
-module _ (k : ℕ) (copied : Bitmap) (had : ℕ) (old mid : MirrorView) (c : IsConsistent old) (may : MayCheckpoint k copied old) (offset : ℕ)
-    (next : (m : MemberView) → IsMember old.array k m → IsNextOffset old.array m copied offset) (moves : MovesOffset k offset had old mid) where
+module _ (k : ℕ) (copied : Bitmap) (old mid : MirrorView) (c : IsConsistent old) (may : MayCheckpoint k copied old) (sure : ℕ)
+    (first : IsFirstEnd old.array may.member copied sure) (moves : MovesOffsets k (max may.member.offset sure) sure old mid) where
   abbrev a : ArrayView
   a = old.array
 
@@ -40,16 +40,19 @@ module _ (k : ℕ) (copied : Bitmap) (had : ℕ) (old mid : MirrorView) (c : IsC
   m = may.member
 
   abbrev n : MemberView
-  n = with_recovery_offset offset m
+  n = checked sure m
 
   its : moves.member ≡ m
   its = got_same a.members k moves.member m moves.at may.at
 
-  mid_array : mid.array ≡ with_offset_of a k m offset
-  mid_array = ap (λ (v : MirrorView). v.array) moves.moved ∙ ap (λ (x : MemberView). with_offset_of a k x offset) its
+  mid_is : mid ≡ record old { array = with_member_at a k n }
+  mid_is = moves.moved ∙ ap (λ (x : MemberView). record old { array = with_member_at a k (with_offsets (max m.offset sure) sure x) }) its
+
+  mid_array : mid.array ≡ with_member_at a k n
+  mid_array = ap (λ (v : MirrorView). v.array) mid_is
 
   mid_disks : mid.disks ≡ old.disks
-  mid_disks = ap (λ (v : MirrorView). v.disks) moves.moved
+  mid_disks = ap (λ (v : MirrorView). v.disks) mid_is
 
   -- the member is recovering still
   member_is : (x : MemberView) → IsMember mid.array k x → x ≡ n
@@ -68,19 +71,19 @@ module _ (k : ℕ) (copied : Bitmap) (had : ℕ) (old mid : MirrorView) (c : IsC
   -- ---- it was stored
   module _ (new : MirrorView) (r : Records k mid new) (sound : IsConsistent new) (happens : Happens mid (Event.Record k) new) where
     pub checkpointed : Checkpoints k copied old new
-    checkpointed = event.checkpoints k copied had old mid new c may offset (next m may.at) moves r sound happens
+    checkpointed = event.checkpoints k copied old mid new c may sure first mid_is r sound happens
 
     pub checkpoint_ends : (o : ℕ) × ((content : Content) → HoldsContent old.disks a content → Happens old (Event.Checkpoint k o (listed_on new k)) new)
-    checkpoint_ends = (offset, λ content has. event.checkpoint_happens k copied had old mid new c may offset (next m may.at) moves r sound happens content has)
+    checkpoint_ends = (sure, λ content has. event.checkpoint_happens k copied old mid new c may sure first mid_is r sound happens content has)
 
-  -- ---- it was not, and the offset is the one before
-  module _ (again : ℕ) (late new : MirrorView) (back : MovesOffset k had again late new) where
+  -- ---- it was not, and the offsets are those before
+  module _ (late new : MirrorView) (back : MovesOffsets k m.offset m.superblock.recovery_offset late new) where
     late_disks : new.disks ≡ late.disks
     late_disks = ap (λ (v : MirrorView). v.disks) back.moved
 
     module _ (same : late.array ≡ mid.array) where
       array_back : new.array ≡ a
-      array_back = moved_back k offset had again old mid late new moves same back
+      array_back = moved_back k n.offset sure old mid late new m may.at mid_array same back
 
     failed : LeavesUnrecorded k mid late → FailsToCheckpoint k copied old new
     failed left =
@@ -88,8 +91,8 @@ module _ (k : ℕ) (copied : Bitmap) (had : ℕ) (old mid : MirrorView) (c : IsC
         record {
           member = m;
           at = may.at;
-          offset = offset;
-          next = next m may.at;
+          sure = sure;
+          first = first;
           running = sym (ap (λ (v : ArrayView). v.halted) mid_array) ∙ left.may.running;
           array = array_back left.array;
           readable = subst (λ (x : MemberView). IsReadable (merged a.shared x.superblock)) is (subst (λ (v : ArrayView). IsReadable (merged v.shared left.member.superblock)) mid_array left.may.readable);
@@ -117,9 +120,9 @@ module _ (k : ℕ) (copied : Bitmap) (had : ℕ) (old mid : MirrorView) (c : IsC
         let f = failed left in
         let its = got_same a.members k f.member m f.at may.at in
         let recovers : is_recovering f.member.state ≡ true = ap (λ (x : MemberView). is_recovering x.state) its ∙ may.recovering in
-        left_as_target k old new c f.running f.member f.at (recovers_rebuilt f.member.state recovers) f.array a.shared (with_recovery_offset f.offset f.member).superblock f.readable f.disks
+        left_as_target k old new c f.running f.member f.at (recovers_rebuilt f.member.state recovers) f.array a.shared (checked f.sure f.member).superblock f.readable f.disks
 
 -- such a write that failed spoils the member
 pub checkpoint_spoils : (k : ℕ) (copied : Bitmap) (old new : MirrorView) → IsConsistent old → (f : FailsToCheckpoint k copied old new) → is_recovering f.member.state ≡ true → SpoilsTarget k old new
 checkpoint_spoils k copied old new c f recovers =
-    left_spoils k old new c f.running f.member f.at (recovers_rebuilt f.member.state recovers) f.array old.array.shared (with_recovery_offset f.offset f.member).superblock f.readable f.disks
+    left_spoils k old new c f.running f.member f.at (recovers_rebuilt f.member.state recovers) f.array old.array.shared (checked f.sure f.member).superblock f.readable f.disks

@@ -11,15 +11,15 @@ use Rattle.md_device.proofs.Leaving.{in_three, three_same}
 use Rattle.md_kept_members.specs.Enrolling.{log_room}
 use Rattle.md_kept_members.specs.View.{MemberView}
 use Rattle.md_members.specs.Areas.{bitmap_sectors}
-use Rattle.md_stored_members.specs.Storing.{log_writes, sector_from_super}
-use Rattle.md_stored_members.specs.Superblocks.{write_of}
+use Rattle.md_kept_members.specs.OnDevices.Storing.{log_writes, sector_from_super}
+use Rattle.md_kept_members.specs.OnDevices.Superblocks.{write_of}
 use Rattle.md_state.specs.View.{Disk, MirrorView}
 use Rattle.md_super.specs.Log.{has_bad_block_log}
-use Rattle.md_device_writes.specs.Bitmaps.{bitmap_writes}
-use Rattle.md_device_writes.specs.Writes.{IsCutShort, Write, after}
-use Rattle.md_device_writes.proofs.Frames.{outside_around}
-use Rattle.md_device_writes.proofs.Runs.{after-append, cut_last}
-use Rattle.md_device_writes.proofs.Stored.{stored_cut}
+use Rattle.md_members.specs.DeviceWrites.Bitmaps.{bitmap_writes}
+use Rattle.md_members.specs.DeviceWrites.Writes.{IsCutShort, Write, after}
+use Rattle.md_members.proofs.DeviceWriteLemmas.Frames.{outside_around}
+use Rattle.md_members.proofs.DeviceWriteLemmas.Runs.{after-append, cut_last}
+use Rattle.md_members.proofs.DeviceWriteLemmas.Stored.{stored_cut}
 use Rattle.md_array.specs.Consistency.{IsConsistent}
 use Rattle.md_array.specs.Steps.Enrol.{Enrols}
 use Rattle.md_array.specs.Events.{IsBesideArea, IsBesideMarks, IsSameBesideMarks}

@@ -9,14 +9,14 @@ use Rattle.md_bitmap.specs.declared.header.BitmapHeader.{BitmapHeader}
 use Rattle.md_bitmap.specs.Marks.{Bitmap}
 use Rattle.md_bitmap.specs.Sound.{IsSoundHeader}
 use Rattle.md_members.specs.Reading.{BitmapStartsAt}
-use Rattle.md_device_writes.specs.Writes.{DoesWrites, FailsInWrites, IsKeptByWrites, Write}
+use Rattle.md_members.specs.DeviceWrites.Writes.{DoesWrites, FailsInWrites, IsKeptByWrites, Write}
 use Rattle.md_assembly.proofs.Indices.{got_within}
 use Rattle.md_kept_members.specs.Enrolling.{HasRoomFor}
 use Rattle.md_kept_members.specs.Members.{made_due}
 use Rattle.md_kept_members.specs.View.{MemberView}
-use Rattle.md_membership.specs.Joining.{joined_shared}
-use Rattle.md_stored_members.specs.Storing.{IsStorable, member_writes}
-use Rattle.md_stored_members.specs.Superblocks.{IsReadable}
+use Rattle.md_kept_members.specs.Membership.Joining.{joined_shared}
+use Rattle.md_kept_members.specs.OnDevices.Storing.{IsStorable, member_writes}
+use Rattle.md_kept_members.specs.OnDevices.Superblocks.{IsReadable}
 use Rattle.md_state.specs.Steps.Enrol.{ComesWith, MayTakeRole, enrolled, is_full_with}
 use Rattle.md_state.specs.Headers.{IsHeaderFor}
 use Rattle.md_state.specs.View.{ArrayView, Disk, MirrorView, disk_of, of_disks}
@@ -89,15 +89,15 @@ module _ {D : Type 0} (g : Ghosts D) (devices : List D) (k : ℕ) (was : D) (rea
       })
 
   seen : IsKeptByWrites g was now → IsKeptByWrites of_disks (disk_of g was) (disk_of g now)
-  seen stays = record { size = stays.size; honest_kept = stays.honest_kept; counted = stays.counted }
+  seen stays = record { size = stays.size; honest_kept = stays.honest_kept; counted = stays.counted; grown = stays.grown }
 
   pub stored_alone : (writes : List Write) → DoesWrites g writes was now → IsUsedAlone k before after (λ d e. DoesWrites of_disks writes d e × KeepsData n d e)
   stored_alone writes does = used_alone (λ d e. DoesWrites of_disks writes d e × KeepsData n d e)
-      (record { kept = seen does.kept; unfailing = does.unfailing; all_done = does.all_done; within = does.within }, kept)
+      (record { kept = seen does.kept; unfailing = does.unfailing; none_failed = does.none_failed; all_done = does.all_done; within = does.within }, kept)
 
   pub failed_alone : (writes : List Write) → FailsInWrites g writes was now → IsUsedAlone k before after (λ d e. FailsInWrites of_disks writes d e × KeepsData n d e)
   failed_alone writes stops = used_alone (λ d e. FailsInWrites of_disks writes d e × KeepsData n d e)
-      (record { kept = seen stops.kept; failed = stops.failed; done = stops.done; tried = stops.tried; rest = stops.rest; order = stops.order; outside = stops.outside; within = stops.within }, kept)
+      (record { kept = seen stops.kept; failed = stops.failed; done = stops.done; tried = stops.tried; rest = stops.rest; order = stops.order; tried_alone_failed = stops.tried_alone_failed; outside = stops.outside; within = stops.within }, kept)
 
 -- ---- the answers
 module _ (k role : ℕ) (copied orphans : Bitmap) (old new : MirrorView) (n : MemberView) (may : MayTakeRole k old.array role) (comes : ComesWith k role copied orphans old.array n)

@@ -2,15 +2,15 @@
 use Rattle.std.proofs.Common.{◌≡◌, ◌≢◌, ℕ, ◌+◌, ◌*◌, ◌/◌, ◌<◌, inl, inr, Bool, true, false, true≢false, cond, ◌&&◌, nat_lt, List, [], ◌∷◌, length, map, set, slice_get, Option, Some, refl, sym, ap, ◌∙◌, subst, arith, eq-eqb, length-set}
 use Rattle.std.proofs.lemmas.Bool.{cases_lt, and_parts}
 use Rattle.std.proofs.lemmas.Option.{slice_get_within}
-use Rattle.md_stored_members.specs.Superblocks.{IsReadable, write_of}
-use Rattle.md_stored_members.specs.Storing.{sector_from_super}
+use Rattle.md_kept_members.specs.OnDevices.Superblocks.{IsReadable, write_of}
+use Rattle.md_kept_members.specs.OnDevices.Storing.{sector_from_super}
 use Rattle.md_state.specs.Missing.{is_missing}
 use Rattle.md_state.specs.Steps.CopyData.{IsDone}
 use Rattle.md_state.specs.DeviceChanges.{StaysHonest}
 use Rattle.md_state.specs.Steps.Enrol.{enrolled}
 use Rattle.md_state.specs.Members.{IsInSync, IsMember}
 use Rattle.md_state.specs.Requests.{AreInFlight}
-use Rattle.md_state.specs.View.{ArrayView, Disk, MirrorView, geometry_of}
+use Rattle.md_state.specs.View.{ArrayView, Disk, MirrorView, geometry_of, of_disks}
 use Rattle.md_badblocks.specs.Runs.{IsBad}
 use Rattle.md_assembly.proofs.Indices.{got_same, got_within}
 use Rattle.md_assembly.specs.declared.state.MemberState.TheVariants.{Recovering}
@@ -58,6 +58,7 @@ use Rattle.md_array.proofs.Worlds.Bad.{bad_from_test}
 use Rattle.md_array.proofs.Worlds.InSync.{in_sync_is, in_sync_there}
 use Rattle.md_array.proofs.Worlds.Member.{header_fits_there}
 use Rattle.md_array.proofs.Worlds.PartsApart.{header_beside_super}
+use Rattle.md_state.proofs.Stays.{stays_written}
 use Rattle.md_array.proofs.Worlds.ReadAsKept.{IsSameArray, kept_in, own_written}
 use Rattle.md_array.proofs.Worlds.Risen.{past_is_high}
 use Rattle.md_array.proofs.Worlds.Shown.{at_is, at_past, by_member}
@@ -326,7 +327,7 @@ module _ (k : ℕ) (copied orphans : Bitmap) (old new : MirrorView) (c : IsConsi
           tried = record {
             as_many = r.disks.as_many ∙ sym (length-set old.disks k then);
             others = λ j apart. r.disks.others j apart ∙ sym (got_other old.disks k j then apart);
-            stays = λ x y before after. subst (λ (z : Disk). StaysHonest z y) (is_then x before) (subst (λ (z : Disk). StaysHonest then z) (is_new y after) (record { honest = does.kept.honest_kept; counted = does.kept.counted }));
+            stays = λ x y before after. subst (λ (z : Disk). StaysHonest z y) (is_then x before) (subst (λ (z : Disk). StaysHonest then z) (is_new y after) (let s = stays_written of_disks d e does.kept in record { honest = s.honest; counted = s.counted; grown = s.grown }));
             outside = λ x y before after. subst (λ (z : Disk). SameOutside (512 * 8) (length (write_of new.array.shared n).bytes) z.content y.content) (is_then x before)
                 (subst (λ (z : Disk). SameOutside (512 * 8) (length (write_of new.array.shared n).bytes) then.content z.content) (is_new y after)
                 (subst (λ (l : ℕ). SameOutside (512 * 8) l then.content e.content) (sym r.readable.size) world));

@@ -10,16 +10,16 @@ use Rattle.md_kept_members.specs.View.{MemberView}
 use Rattle.md_members.specs.Areas.{bitmap_sectors}
 use Rattle.md_model.specs.Events.{Event}
 use Rattle.md_model.proofs.Cases.{by_test}
-use Rattle.md_stored_members.specs.Storing.{IsStorable, log_writes}
-use Rattle.md_stored_members.specs.Superblocks.{write_of}
+use Rattle.md_kept_members.specs.OnDevices.Storing.{IsStorable, log_writes}
+use Rattle.md_kept_members.specs.OnDevices.Superblocks.{write_of}
 use Rattle.md_state.specs.DeviceChanges.{StaysHonest}
 use Rattle.md_state.specs.Steps.Enrol.{enrolled}
 use Rattle.md_state.specs.Missing.{is_rebuilt}
 use Rattle.md_state.specs.Requests.{AreInFlight}
 use Rattle.md_state.specs.View.{ArrayView, Disk, MirrorView, of_disks}
-use Rattle.md_device_writes.specs.Bitmaps.{bitmap_writes}
-use Rattle.md_device_writes.proofs.Frames.{outside_none}
-use Rattle.md_device_writes.specs.Writes.{DoesWrites, FailsInWrites, IsAnyIn, IsCutShort, Write, after}
+use Rattle.md_members.specs.DeviceWrites.Bitmaps.{bitmap_writes}
+use Rattle.md_members.proofs.DeviceWriteLemmas.Frames.{outside_none}
+use Rattle.md_members.specs.DeviceWrites.Writes.{DoesWrites, FailsInWrites, IsAnyIn, IsCutShort, Write, after}
 use Rattle.md_array.specs.Consistency.{IsConsistent}
 use Rattle.md_array.specs.Steps.Enrol.{Enrols, FailsToEnrol, KeepsData, MayEnrol}
 use Rattle.md_array.specs.Steps.EnrolEvents.{FailsAtSuper, Prepares, before_last, prepared_only, with_first, writes_before}
@@ -34,6 +34,8 @@ use Rattle.md_array.proofs.Rebuilding.OneDevice.{changed_only, only_is_consisten
 use Rattle.md_array.proofs.Rebuilding.PreparedEvent.{prepare_happens}
 use Rattle.md_array.proofs.Rebuilding.SpoiledEvent.{spoil_happens}
 use Rattle.md_array.proofs.StepLemmas.OneWrite.{at_device}
+use Rattle.md_device.proofs.Failing.{fails_none}
+use Rattle.md_state.proofs.Stays.{stays_written}
 
 -- two lists that are the same end alike
 not_empty : (ws : List Write) (w : Write) → ws ++ w ∷ [] ≢ []
@@ -88,8 +90,9 @@ module _ (k : ℕ) (copied orphans : Bitmap) (old new : MirrorView) (c : IsConsi
 
     pub done_writes : DoesWrites of_disks f.writes d done
     done_writes = record {
-      kept = record { size = done_long; honest_kept = refl; counted = omega arith };
+      kept = record { size = done_long; honest_kept = refl; counted = omega arith; grown = fails_none d.faults (λ f. f.writes ≡ true) };
       unfailing = refl;
+      none_failed = refl;
       all_done = λ _. refl;
       within = λ _. leaves_none d.crashes (IsCutShort d.content f.writes);
     }
@@ -194,7 +197,7 @@ module _ (k : ℕ) (copied orphans : Bitmap) (old new : MirrorView) (c : IsConsi
         tried = record {
           as_many = f.disks.as_many ∙ sym (length-set old.disks k then);
           others = λ j apart. f.disks.others j apart ∙ sym (got_other old.disks k j then apart);
-          stays = at_both StaysHonest (record { honest = fails.kept.honest_kept; counted = fails.kept.counted });
+          stays = at_both StaysHonest (let s = stays_written of_disks d e fails.kept in record { honest = s.honest; counted = s.counted; grown = s.grown });
           outside = at_both (λ x y. SameOutside (512 * 8) (length write.bytes) x.content y.content) left_any;
         };
         failed = at_both (λ x y. x.honest ≡ true → x.failures < y.failures) fails.failed;

@@ -5,8 +5,8 @@ use Rattle.std.proofs.lemmas.Bool.Decides.{nat_tests}
 use Rattle.std.proofs.lemmas.List.{get_or_past}
 use Rattle.std.proofs.lemmas.List.FromFn.{length-map-range_with_len}
 use Rattle.std.proofs.lemmas.Option.{slice_get_within}
-use Rattle.md_stored_members.specs.Storing.{IsStorable, sector_from_super}
-use Rattle.md_stored_members.specs.Superblocks.{IsReadable}
+use Rattle.md_kept_members.specs.OnDevices.Storing.{IsStorable, sector_from_super}
+use Rattle.md_kept_members.specs.OnDevices.Superblocks.{IsReadable}
 use Rattle.md_array.proofs.StepLemmas.OneMember.{HasPlacesOf}
 use Rattle.md_array.specs.Consistency.{HasPlaces, HasSuper, IsConsistent}
 use Rattle.md_array.specs.Fits.{Fits}
@@ -34,7 +34,7 @@ use Rattle.md_assembly.specs.States.{is_in_sync, takes_role}
 use Rattle.md_kept_members.specs.Enrolling.{HasRoomFor, in_sync_superblock, log_room}
 use Rattle.md_kept_members.specs.Members.{made_due}
 use Rattle.md_kept_members.specs.View.{MemberView}
-use Rattle.md_membership.specs.Joining.{entries_with, joined_roles, role_after}
+use Rattle.md_kept_members.specs.Membership.Joining.{entries_with, joined_roles, role_after}
 use Rattle.md_state.specs.Steps.Enrol.{enrolled}
 use Rattle.md_state.specs.InMemory.{HasMarksOfSize, HasRoles}
 use Rattle.md_state.specs.Members.{IsMember}

@@ -5,8 +5,8 @@ use Rattle.std.specs.List.{list_any, range_with_len}
 use Rattle.std.proofs.lemmas.List.FromFn.{length-map-range_with_len}
 use Rattle.std.proofs.lemmas.Nat.{and_assoc}
 use Rattle.std.proofs.lemmas.Option.{slice_get_within}
-use Rattle.md_stored_members.specs.Storing.{log_writes}
-use Rattle.md_stored_members.specs.Superblocks.{write_of}
+use Rattle.md_kept_members.specs.OnDevices.Storing.{log_writes}
+use Rattle.md_kept_members.specs.OnDevices.Superblocks.{write_of}
 use Rattle.md_array.proofs.Rebuilding.MemberEnrolled.{lists_now}
 use Rattle.md_array.specs.Consistency.{IsConsistent}
 use Rattle.md_array.specs.Steps.Enrol.{Enrols}
@@ -41,7 +41,7 @@ use Rattle.md_model.specs.States as states
 use Rattle.md_model.specs.Worlds.{Request, World}
 use Rattle.md_model.proofs.Cases.{is_below}
 use Rattle.md_model.proofs.Puts.{put-at}
-use Rattle.md_membership.specs.Numbers.{is_absent}
+use Rattle.md_kept_members.specs.Membership.Numbers.{is_absent}
 use Rattle.md_state.proofs.Members.Filled.{filled_with}
 use Rattle.md_state.specs.Steps.Enrol.{enrolled, is_full_with}
 use Rattle.md_state.specs.Members.{IsMember, is_degraded, is_filled}
@@ -49,9 +49,9 @@ use Rattle.md_state.specs.Steps.Rise.{risen}
 use Rattle.md_state.specs.View.{ArrayView, Disk, MirrorView, of_disks, geometry_of}
 use Rattle.md_super.specs.declared.superblock.Superblock.{Superblock}
 use Rattle.md_super.specs.Merge.{merged}
-use Rattle.md_device_writes.specs.Bitmaps.{bitmap_writes}
-use Rattle.md_device_writes.specs.Writes.{DoesWrites, Write, after}
-use Rattle.md_device_writes.proofs.Runs.{after-append}
+use Rattle.md_members.specs.DeviceWrites.Bitmaps.{bitmap_writes}
+use Rattle.md_members.specs.DeviceWrites.Writes.{DoesWrites, Write, after}
+use Rattle.md_members.proofs.DeviceWriteLemmas.Runs.{after-append}
 
 module _ (k : ℕ) (copied orphans : Bitmap) (old new : MirrorView) (c : IsConsistent old) (sound : IsConsistent new) (r : Enrols k copied orphans old new)
     (out : is_in_sync r.comes.member.state ≡ false) (small : r.member.superblock.dev_number < 1920)
@@ -232,8 +232,12 @@ module _ (k : ℕ) (copied orphans : Bitmap) (old new : MirrorView) (c : IsConsi
           ∙ ap (λ t. put k t u.due j) r.comes.comes.due) i;
       known = λ j x. known_put j x i;
       bad = λ j x. bad_put j x i;
-      offset = λ j. (read_changed (λ o. unwrap_or (option_map (λ (x : MemberView). x.superblock.recovery_offset) o) 0) up.members k (made_due it) n up_at j
-          ∙ ap (λ t. put k t u.offset j) none_left) i;
+      offset = λ j. (read_changed (λ o. unwrap_or (option_map (λ (x : MemberView). x.offset) o) 0) up.members k (made_due it) n up_at j
+          ∙ ap (λ t. put k t u.offset j) r.comes.comes.offset) i;
+      sure_offset = λ j. (read_changed (λ o. unwrap_or (option_map (λ (x : MemberView). x.superblock.recovery_offset) o) 0) up.members k (made_due it) n up_at j
+          ∙ ap (λ t. put k t u.sure_offset j) none_left) i;
+      stored_offset = λ j. (read_changed (λ o. unwrap_or (option_map (λ (x : MemberView). x.stored_offset) o) 0) up.members k (made_due it) n up_at j
+          ∙ ap (λ t. put k t u.stored_offset j) r.comes.comes.stored_offset) i;
       recovering = λ j. (read_changed (λ o. unwrap_or (option_map (λ (x : MemberView). has_recovery_offset x.superblock) o) false) up.members k (made_due it) n up_at j
           ∙ ap (λ t. put k t u.recovering j) bit) i;
       role = λ x. role_is x i;

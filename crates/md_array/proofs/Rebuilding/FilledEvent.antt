@@ -1,23 +1,24 @@
 -- A member that is rebuilt gets data in chunks that it lacks: that is the model's event.
-use Rattle.std.proofs.Common.{◌≡◌, ◌≢◌, ℕ, ◌+◌, ◌*◌, ◌/◌, ◌<◌, ◌≤◌, inl, inr, true, false, true≢false, cond, ◌&&◌, nat_lt, List, [], drop, length, slice_get, Option, Some, refl, sym, ap, ◌∙◌, subst, arith, get_or-drop}
-use Rattle.std.proofs.lemmas.Bool.{cases_lt}
+use Rattle.std.proofs.Common.{◌≡◌, ◌≢◌, ℕ, ◌+◌, ◌*◌, ◌/◌, ◌<◌, ◌≤◌, ◌⊎◌, inl, inr, true, false, true≢false, cond, ◌&&◌, nat_lt, List, [], drop, length, slice_get, Option, Some, refl, sym, ap, ◌∙◌, subst, arith, get_or-drop}
+use Rattle.std.proofs.lemmas.Bool.{and_from, and_parts, cases_lt}
 use Rattle.std.proofs.lemmas.Nat.{div_below, le-div}
 use Rattle.std.proofs.lemmas.Option.{same_Some, slice_get_within}
-use Rattle.std.proofs.Math.Nat.{add-mul}
+use Rattle.std.proofs.Math.Nat.{add-mul, div-mul-le_self}
 use Rattle.md_model.specs.Sectors.{is_passed}
 use Rattle.md_model.specs.Devices.{Stored}
 use Rattle.md_model.specs.Events.{Event, Step}
 use Rattle.md_model.specs.Rebuilding as model
 use Rattle.md_model.specs.States as states
+use Rattle.md_model.specs.Steps as steps
 use Rattle.md_model.specs.Worlds.{Request, World}
 use Rattle.md_model.proofs.Cases.{below-nat_lt, by_option, is_below, not_below-nat_lt}
 use Rattle.md_model.proofs.Puts.{by_same}
-use Rattle.md_stored_members.specs.Storing.{sector_from_super}
-use Rattle.md_stored_members.proofs.Beside.{sector_at_is}
+use Rattle.md_kept_members.specs.OnDevices.Storing.{sector_from_super}
+use Rattle.md_kept_members.proofs.OnDeviceLemmas.Beside.{sector_at_is}
 use Rattle.md_array.proofs.Worlds.States.{same_in_sync, same_recovering}
 use Rattle.md_array.proofs.Worlds.Noted.{noted_there}
 use Rattle.md_array.specs.Consistency.{IsConsistent}
-use Rattle.md_array.specs.Events.{Happens, IsSameBesideMissing}
+use Rattle.md_array.specs.Events.{Happens, IsSameBesideUnsaid}
 use Rattle.md_array.specs.Steps.GiveBack.{Fills, MayRebuild}
 use Rattle.md_array.specs.Steps.Lend.{AreBack, ComesBackFromLoan, IsBesideChunk}
 use Rattle.md_array.specs.Worlds.{AreHonest, header_fits, kind_of, stored_of, super_in, world_of}
@@ -38,6 +39,7 @@ use Rattle.md_bitmap.specs.declared.chunks.Chunks.{Chunks}
 use Rattle.md_bitmap.specs.Marks.{is_set}
 use Rattle.md_device.specs.Splice.{part}
 use Rattle.md_format.specs.Fields.{number_at}
+use Rattle.md_kept_members.specs.TakingBack.{member_says_of}
 use Rattle.md_kept_members.specs.View.{MemberView}
 use Rattle.md_members.specs.Areas.{bitmap_area, bitmap_sectors}
 use Rattle.md_state.specs.Members.{IsMember}
@@ -89,8 +91,8 @@ module _ (k : ℕ) (v : MirrorView) (requests : ℕ → Option Request) (may : M
   pub recovering_is : states.is_recovering ((world_of v requests).state k) ≡ is_recovering target.state
   recovering_is = ap states.is_recovering state_is ∙ same_recovering target.state
 
-  offset_is : (world_of v requests).offset k ≡ target.superblock.recovery_offset
-  offset_is = member_there v.array k target 0 (λ x. x.superblock.recovery_offset) may.at
+  offset_is : (world_of v requests).offset k ≡ target.offset
+  offset_is = member_there v.array k target 0 (λ x. x.offset) may.at
 
   pub same_missing : (c : ℕ) → c < v.array.marks.chunks → model.is_missing (geometry_of v.array) (world_of v requests) k c ≡ is_missing v.array target c
   same_missing c low =
@@ -151,7 +153,7 @@ module _ (k : ℕ) (old new : MirrorView) (c : IsConsistent old) (f : Fills k ol
       subst (λ (x : MemberView). ComesBackFromLoan a x d e) (sym same) (record {
         stays = f.disks.stays d e was_k is_k;
         size = changed.size;
-        beside = changed.beside;
+        beside = λ at n h. changed.beside at n (λ x low missing _. h x low missing);
         others = λ h. absurd (true≢false (sym f.may.rebuilt ∙ h));
       }))
       (λ apart. let o = f.disks.others j apart d e was is in record {
@@ -165,7 +167,7 @@ module _ (k : ℕ) (old new : MirrorView) (c : IsConsistent old) (f : Fills k ol
   fills_back = record { consistent = c; idle = f.may.idle; back = record { as_many = f.disks.as_many; each = back_at } }
 
   only : IsOnlyAt k old.disks new.disks
-  only = changed_only k (IsSameBesideMissing a m) old.disks new.disks f.disks
+  only = changed_only k (IsSameBesideUnsaid a m) old.disks new.disks f.disks
 
   module _ (requests : ℕ → Option Request) (in_flight : AreInFlight a requests) (d e : Disk) (was : slice_get old.disks k ≡ Some d) (is : slice_get new.disks k ≡ Some e) where
     abbrev w : World
@@ -183,25 +185,46 @@ module _ (k : ℕ) (old new : MirrorView) (c : IsConsistent old) (f : Fills k ol
     is_stored : left ≡ stored_of a m e.content
     is_stored = stored_there new.disks a k m e f.may.at is
 
-    -- a sector of a chunk that it does not lack stays
-    sector_stays : (s : ℕ) → model.is_missing (geometry_of a) w k (s / a.chunks.sectors) ≡ false → part e.content (512 * (m.superblock.data_offset + s)) 512 ≡ part d.content (512 * (m.superblock.data_offset + s)) 512
+    -- a sector of a chunk that it does not lack stays, and one of a chunk that its superblock says that it has
+    sector_stays : (s : ℕ) → (model.is_missing (geometry_of a) w k (s / a.chunks.sectors) ≡ false) ⊎ (member_says_of (s / a.chunks.sectors * a.chunks.sectors) m ≡ true)
+        → part e.content (512 * (m.superblock.data_offset + s)) 512 ≡ part d.content (512 * (m.superblock.data_offset + s)) 512
     sector_stays s has = (f.disks.changed d e was is (honest k d was)).beside (512 * (m.superblock.data_offset + s)) 512
-        (λ x low missing. other_chunk a.chunks m.superblock.data_offset s x c.chunks.wide
-        (λ same. true≢false (sym missing ∙ sym (same_missing k old requests f.may x low) ∙ sym (ap (model.is_missing (geometry_of a) w k) same) ∙ has)))
+        (λ x low missing unsaid. other_chunk a.chunks m.superblock.data_offset s x c.chunks.wide
+        (λ same. elim has [
+          | inl here ↦ true≢false (sym missing ∙ sym (same_missing k old requests f.may x low) ∙ sym (ap (model.is_missing (geometry_of a) w k) same) ∙ here)
+          | inr said ↦ true≢false (sym said ∙ ap (λ (b : ℕ). member_says_of (b * a.chunks.sectors) m) same ∙ unsaid)
+        ]))
+
+    content_stays : (s : ℕ) → (model.is_missing (geometry_of a) w k (s / a.chunks.sectors) ≡ false) ⊎ (member_says_of (s / a.chunks.sectors * a.chunks.sectors) m ≡ true)
+        → left.content s ≡ (w.stored k).content s
+    content_stays s has =
+        ap (λ (x : Stored). x.content s) is_stored
+        ∙ ap (λ (x : List ℕ). cond (nat_lt s a.chunks.size) x []) (sector_stays s has)
+        ∙ sym (ap (λ (x : Stored). x.content s) was_stored)
+
+    -- whose superblock says that it has a sector says so of the chunk's start
+    said_start : (s : ℕ) → steps.says_of w s k ≡ true → member_says_of (s / a.chunks.sectors * a.chunks.sectors) m ≡ true
+    said_start s on =
+        let parts = and_parts (states.is_recovering (w.state k)) (nat_lt s (w.stored_offset k)) on in
+        let stored : w.stored_offset k ≡ m.stored_offset = member_there a k m 0 (λ x. x.stored_offset) f.may.at in
+        let low = is_below s (w.stored_offset k) parts.1 in
+        let start = div-mul-le_self s a.chunks.sectors in
+        and_from (is_recovering m.state) (nat_lt (s / a.chunks.sectors * a.chunks.sectors) m.stored_offset)
+        (sym (recovering_is k old requests f.may) ∙ parts.0)
+        (below-nat_lt (s / a.chunks.sectors * a.chunks.sectors) m.stored_offset (omega (arith, start, low, stored)))
 
     by_filling : model.LeftByFilling (geometry_of a) w k left
     by_filling = record {
       rest = is_stored ∙ data_back old old.disks new.disks fills_back m d e (back_at k d e m was is f.may.at) parts
           ∙ (λ i. record (sym was_stored i) { content = ap (λ (x : Stored). x.content) (sym is_stored) i });
-      outside = λ s has. ap (λ (x : Stored). x.content s) is_stored
-          ∙ ap (λ (x : List ℕ). cond (nat_lt s a.chunks.size) x []) (sector_stays s has)
-          ∙ sym (ap (λ (x : Stored). x.content s) was_stored);
+      outside = λ s has. content_stays s (inl has);
       past = λ s past.
           let none : nat_lt s a.chunks.size ≡ false = not_below-nat_lt s a.chunks.size past in
           ap (λ (x : Stored). x.content s) is_stored
           ∙ ap (λ b. cond b (part e.content (512 * (m.superblock.data_offset + s)) 512) []) none
           ∙ sym (ap (λ b. cond b (part d.content (512 * (m.superblock.data_offset + s)) 512) []) none)
           ∙ sym (ap (λ (x : Stored). x.content s) was_stored);
+      said = λ s on. content_stays s (inr (said_start s on));
     }
 
     may_fill : model.MayFill w k

@@ -1,5 +1,6 @@
 -- The mirror in the midst of an enrolment: marks and log are stored, and the superblock is not. No caller sees it.
 use Rattle.std.proofs.Common.{◌≡◌, ◌+◌, ℕ, ◌*◌, ◌<◌, ◌≤◌, inl, inr, true, List, length, length-set, set, slice_get, Option, Some, refl, sym, ap, ◌∙◌, subst, arith}
+use Rattle.std.specs.Prelude.{⊤}
 use Rattle.std.proofs.lemmas.Option.{same_Some, slice_get_within}
 use Rattle.md_assembly.specs.States.{is_recovering}
 use Rattle.md_assembly.specs.declared.state.MemberState.TheVariants.{InSync, Recovering, Stale, Spare, Faulty}
@@ -14,17 +15,17 @@ use Rattle.md_device.proofs.Splices.{part_after, part_before, spliced_outside}
 use Rattle.md_kept_members.specs.Enrolling.{HasRoomFor, in_sync_superblock, log_room}
 use Rattle.md_kept_members.specs.View.{MemberView}
 use Rattle.md_members.specs.Areas.{bitmap_sectors}
-use Rattle.md_stored_members.specs.Storing.{IsStorable, log_writes, sector_from_super}
-use Rattle.md_stored_members.specs.Superblocks.{write_of}
+use Rattle.md_kept_members.specs.OnDevices.Storing.{IsStorable, log_writes, sector_from_super}
+use Rattle.md_kept_members.specs.OnDevices.Superblocks.{write_of}
 use Rattle.md_state.specs.DeviceChanges.{IsLeftAlone, LeavesOn, StaysHonest}
 use Rattle.md_state.specs.Missing.{is_rebuilt}
 use Rattle.md_state.specs.View.{ArrayView, Disk, MirrorView}
 use Rattle.md_super.specs.declared.superblock.Superblock.{Superblock}
 use Rattle.md_super.specs.Log.{has_bad_block_log}
-use Rattle.md_device_writes.specs.Bitmaps.{bitmap_writes}
-use Rattle.md_device_writes.specs.Writes.{after}
-use Rattle.md_device_writes.proofs.Frames.{outside_around}
-use Rattle.md_device_writes.proofs.Runs.{after-append}
+use Rattle.md_members.specs.DeviceWrites.Bitmaps.{bitmap_writes}
+use Rattle.md_members.specs.DeviceWrites.Writes.{after}
+use Rattle.md_members.proofs.DeviceWriteLemmas.Frames.{outside_around}
+use Rattle.md_members.proofs.DeviceWriteLemmas.Runs.{after-append}
 use Rattle.md_array.specs.Consistency.{IsConsistent}
 use Rattle.md_array.specs.Steps.Enrol.{Enrols, MayEnrol}
 use Rattle.md_array.specs.Steps.EnrolEvents.{Prepares, first_writes, prepared, with_writes}
@@ -36,6 +37,8 @@ use Rattle.md_array.proofs.Rebuilding.MemberStored as stored
 use Rattle.md_array.proofs.Worlds.Outside.{starts_at}
 use Rattle.md_array.proofs.Worlds.Writes.{HoldsBitmap}
 use Rattle.md_array.proofs.StepLemmas.OneWrite.{at_device}
+use Rattle.md_device.proofs.Failing.{fails_none}
+use Rattle.md_state.proofs.Stays.{stays_same}
 
 -- bytes that lie beside an area are as they were where that alone was written
 pub beside_area : (start sectors : ℕ) (old new : List ℕ) → SameOutside (512 * start) (512 * sectors) old new → (at n : ℕ) → IsBesideArea start sectors at n → part new at n ≡ part old at n
@@ -59,8 +62,8 @@ set_alone k disks d was content Related long related =
       others = λ j apart x y before after.
           let same : y ≡ x = same_Some y x (sym after ∙ got_other disks k j then apart ∙ before) in
           subst (λ (z : Disk). StaysHonest x z × IsLeftAlone x z) (sym same)
-          (record { honest = refl; counted = omega arith }, (refl, λ _. leaves_none x.crashes (λ left. left ≡ x.content)));
-      stays = at_device disks k d then StaysHonest was (record { honest = refl; counted = omega arith });
+          (stays_same x, (refl, λ _. leaves_none x.crashes (λ left. left ≡ x.content)));
+      stays = at_device disks k d then StaysHonest was (record { honest = refl; counted = omega arith; grown = fails_none d.faults (λ _. ⊤) });
       size = at_device disks k d then (λ x y. length y.content ≡ length x.content) was long;
       changed = at_device disks k d then (λ x y. x.honest ≡ true → Related x.content y.content) was related;
       within = at_device disks k d then (λ x y. x.honest ≡ true → LeavesOn (Related x.content) x y) was (λ _. leaves_none d.crashes (Related d.content));

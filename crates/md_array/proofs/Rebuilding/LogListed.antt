@@ -13,7 +13,7 @@ use Rattle.md_members.specs.Areas.{has_bad_blocks}
 use Rattle.md_members.specs.Members.{reads_log}
 use Rattle.md_model.proofs.Cases.{by_test}
 use Rattle.md_kept_members.specs.Enrolling.{HasRoomFor, in_sync_superblock, log_room, logged_superblock}
-use Rattle.md_stored_members.specs.Storing.{sector_from_super}
+use Rattle.md_kept_members.specs.OnDevices.Storing.{sector_from_super}
 use Rattle.md_array.specs.Worlds.{is_listed_next, is_logged, lies_in}
 use Rattle.md_array.proofs.Openings.OwnFields as own_fields
 use Rattle.md_array.proofs.Worlds.Bad.{bad_from_test, test_from_bad}

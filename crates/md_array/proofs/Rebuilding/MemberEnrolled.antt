@@ -1,7 +1,7 @@
 -- A member that was rebuilt comes into sync: the mirror stays consistent, and an opening reads what is kept.
 use Rattle.std.proofs.Common.{◌≡◌, ℕ, ◌+◌, ◌/◌, inl, true, not, map, slice_get, Some, refl, sym, ap, ◌∙◌, subst, arith, ◌↔◌, Bool, false}
 use Rattle.std.proofs.lemmas.Option.{slice_get_within}
-use Rattle.md_stored_members.specs.Superblocks.{IsReadable}
+use Rattle.md_kept_members.specs.OnDevices.Superblocks.{IsReadable}
 use Rattle.md_array.proofs.Rebuilding.RoleTaken.{TakesRole}
 use Rattle.md_array.specs.Consistency.{HasSuper, IsConsistent}
 use Rattle.md_array.specs.Steps.Enrol.{AreEnrolWrites, Enrols}
@@ -22,11 +22,11 @@ use Rattle.md_bitmap.specs.declared.header.BitmapHeader.{BitmapHeader}
 use Rattle.md_bitmap.specs.Marks.{Bitmap}
 use Rattle.md_model.proofs.Puts.{by_same, put-miss}
 use Rattle.md_model.specs.Sectors.{put}
-use Rattle.md_device_writes.specs.Writes.{after}
+use Rattle.md_members.specs.DeviceWrites.Writes.{after}
 use Rattle.md_kept_members.specs.Enrolling.{HasRoomFor}
 use Rattle.md_kept_members.specs.Members.{made_due}
 use Rattle.md_kept_members.specs.View.{MemberView}
-use Rattle.md_membership.specs.Joining.{entries_with, joined_roles}
+use Rattle.md_kept_members.specs.Membership.Joining.{entries_with, joined_roles}
 use Rattle.md_state.specs.Steps.Enrol.{enrolled}
 use Rattle.md_state.specs.Members.{is_degraded}
 use Rattle.md_state.specs.View.{ArrayView, Disk, MirrorView}

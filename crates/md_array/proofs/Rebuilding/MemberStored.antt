@@ -22,16 +22,16 @@ use Rattle.md_members.specs.declared.area.Area.{Area}
 use Rattle.md_members.specs.Areas.{AreApart, BitmapIsPlaced, AreAreasPlaced, LogIsPlaced, bitmap_area, bitmap_sectors, has_bad_blocks, has_bitmap, log_area, super_area}
 use Rattle.md_members.specs.Members.{sectors_of_device}
 use Rattle.md_members.specs.Reading.{BitmapStartsAt}
-use Rattle.md_device_writes.specs.Bitmaps.{bitmap_writes}
-use Rattle.md_device_writes.specs.Writes.{after}
-use Rattle.md_device_writes.proofs.Runs.{after-append}
-use Rattle.md_device_writes.proofs.Stored.{AreStored, stored_all}
-use Rattle.md_device_writes.proofs.Frames.{outside_around}
+use Rattle.md_members.specs.DeviceWrites.Bitmaps.{bitmap_writes}
+use Rattle.md_members.specs.DeviceWrites.Writes.{after}
+use Rattle.md_members.proofs.DeviceWriteLemmas.Runs.{after-append}
+use Rattle.md_members.proofs.DeviceWriteLemmas.Stored.{AreStored, stored_all}
+use Rattle.md_members.proofs.DeviceWriteLemmas.Frames.{outside_around}
 use Rattle.md_kept_members.specs.Enrolling.{HasRoomFor, in_sync_superblock, log_room, whole-supported}
 use Rattle.md_kept_members.specs.View.{MemberView}
-use Rattle.md_stored_members.specs.Storing.{IsStorable, KeepsDataOn, log_writes, member_writes, sector_from_super}
-use Rattle.md_stored_members.specs.Superblocks.{IsReadable, write_of}
-use Rattle.md_stored_members.proofs.Beside.{apart_either_way, data_beside_bitmap, data_beside_log, data_beside_super, data_then, sector_at_is}
+use Rattle.md_kept_members.specs.OnDevices.Storing.{IsStorable, KeepsDataOn, log_writes, member_writes, sector_from_super}
+use Rattle.md_kept_members.specs.OnDevices.Superblocks.{IsReadable, write_of}
+use Rattle.md_kept_members.proofs.OnDeviceLemmas.Beside.{apart_either_way, data_beside_bitmap, data_beside_log, data_beside_super, data_then, sector_at_is}
 use Rattle.md_state.specs.Headers.{IsHeaderFor}
 use Rattle.md_state.specs.View.{ArrayView}
 use Rattle.md_array.specs.Worlds.{block_on}

@@ -18,7 +18,7 @@ use Rattle.md_model.specs.Worlds.{Request, World}
 use Rattle.md_model.proofs.Cases.{is_below}
 use Rattle.md_model.proofs.Puts.{put-self}
 use Rattle.md_model.proofs.Steps.Between.{between_step, in_flight_step}
-use Rattle.md_requests.specs.Pending.{PendingView}
+use Rattle.md_inflight.specs.Requests.Pending.{PendingView}
 use Rattle.md_state.specs.Members.{IsMember}
 use Rattle.md_state.specs.Steps.NoteBad.{NotesBad, RefusesNote}
 use Rattle.md_state.specs.Requests.{IsPending}
@@ -164,12 +164,15 @@ module _ (k chunk : ℕ) (old new : MirrorView) (c : IsConsistent old) (r : Note
         let due : put k m.due w.due ≡ w.due = ap (λ b. put k b w.due) (sym (member_there a k m false (λ x. x.due) r.notes.may.at)) ∙ put-self k w.due in
         let known : put k (λ s. nat_lt s a.marks.chunks && is_set m.stored.bytes s) w.known ≡ w.known =
         ap (λ (f : ℕ → Bool). put k f w.known) (λ i s. sym (member_there a k m false (λ x. nat_lt s a.marks.chunks && is_set x.stored.bytes s) r.notes.may.at) i) ∙ put-self k w.known in
-        let offset : put k m.superblock.recovery_offset w.offset ≡ w.offset =
-        ap (λ o. put k o w.offset) (sym (member_there a k m 0 (λ x. x.superblock.recovery_offset) r.notes.may.at)) ∙ put-self k w.offset in
+        let offset : put k m.offset w.offset ≡ w.offset = ap (λ o. put k o w.offset) (sym (member_there a k m 0 (λ x. x.offset) r.notes.may.at)) ∙ put-self k w.offset in
+        let sure : put k m.superblock.recovery_offset w.sure_offset ≡ w.sure_offset =
+        ap (λ o. put k o w.sure_offset) (sym (member_there a k m 0 (λ x. x.superblock.recovery_offset) r.notes.may.at)) ∙ put-self k w.sure_offset in
+        let told : put k m.stored_offset w.stored_offset ≡ w.stored_offset =
+        ap (λ o. put k o w.stored_offset) (sym (member_there a k m 0 (λ x. x.stored_offset) r.notes.may.at)) ∙ put-self k w.stored_offset in
         let recovering : put k (has_recovery_offset m.superblock) w.recovering ≡ w.recovering =
         ap (λ b. put k b w.recovering) (sym (member_there a k m false (λ x. has_recovery_offset x.superblock) r.notes.may.at)) ∙ put-self k w.recovering in
         own_world k m n nothing old new changes d.0 there requests
-        ∙ (λ i. record w { stored = stored i; due = due i; known = known i; bad = put k (λ s. lists s i) w.bad; offset = offset i; recovering = recovering i })
+        ∙ (λ i. record w { stored = stored i; due = due i; known = known i; bad = put k (λ s. lists s i) w.bad; offset = offset i; sure_offset = sure i; stored_offset = told i; recovering = recovering i })
 
     step : Step (geometry_of a) w (Event.NoteBad k chunk) (world_of new requests)
     step = (r.notes.may.running, (record { in_sync = in_sync_there old.disks a requests k m (record { member = r.notes.may.at; in_sync = in_sync }); resynced = resynced }, world_noted))

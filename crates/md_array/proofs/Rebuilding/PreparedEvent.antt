@@ -13,8 +13,8 @@ use Rattle.md_model.specs.Events.{Event, Step}
 use Rattle.md_model.specs.Rebuilding as model
 use Rattle.md_model.specs.Worlds.{Request}
 use Rattle.md_model.proofs.Cases.{is_below}
-use Rattle.md_stored_members.specs.Storing.{sector_from_super}
-use Rattle.md_stored_members.proofs.Beside.{apart, sector_at_is}
+use Rattle.md_kept_members.specs.OnDevices.Storing.{sector_from_super}
+use Rattle.md_kept_members.proofs.OnDeviceLemmas.Beside.{apart, sector_at_is}
 use Rattle.md_state.specs.Requests.{AreInFlight}
 use Rattle.md_state.specs.View.{ArrayView, Disk, MirrorView, geometry_of}
 use Rattle.md_super.specs.declared.superblock.Superblock.{Superblock}

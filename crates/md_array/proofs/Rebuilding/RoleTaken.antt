@@ -16,7 +16,7 @@ use Rattle.md_assembly.specs.States.{is_in_sync, role_in, takes_role}
 use Rattle.md_assembly.proofs.Indices.{got_within}
 use Rattle.md_kept_members.specs.Members.{made_due}
 use Rattle.md_kept_members.specs.View.{MemberView}
-use Rattle.md_membership.specs.Joining.{joined_shared}
+use Rattle.md_kept_members.specs.Membership.Joining.{joined_shared}
 use Rattle.md_state.specs.InMemory.{HasMarksOfSize, HasRoles}
 use Rattle.md_state.specs.Members.{IsMember, is_degraded, IsInSync}
 use Rattle.md_state.specs.Steps.Rise.{risen}

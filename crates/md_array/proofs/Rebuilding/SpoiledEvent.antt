@@ -12,7 +12,7 @@ use Rattle.md_model.specs.Worlds.{Request}
 use Rattle.md_model.proofs.Puts.{put-hit, put-miss}
 use Rattle.md_state.specs.DiskWrites.{IsFailed}
 use Rattle.md_state.specs.View.{ArrayView, Disk, MirrorView, geometry_of}
-use Rattle.md_device_writes.specs.Writes.{Write}
+use Rattle.md_members.specs.DeviceWrites.Writes.{Write}
 use Rattle.md_array.specs.Consistency.{IsConsistent}
 use Rattle.md_array.specs.Events.{Happens, HasWriteFailed}
 use Rattle.md_array.specs.ReadAsKept.{IsReadAsKept}

@@ -26,11 +26,11 @@ use Rattle.md_model.specs.Worlds.{Request, World}
 use Rattle.md_model.proofs.Cases.{by_test}
 use Rattle.md_model.proofs.Puts.{put-self}
 use Rattle.md_model.proofs.Steps.Between.{between_step, in_flight_step}
-use Rattle.md_requests.specs.Pending.{PendingView}
+use Rattle.md_inflight.specs.Requests.Pending.{PendingView}
 use Rattle.md_faults.specs.declared.step_fault.StoreFault.{StoreFault}
 use Rattle.md_faults.specs.declared.step_fault.StoreFault.TheVariants.{Halted, NotActive, MemberFailed}
-use Rattle.md_stored_members.specs.Storing.{log_writes, sector_from_super}
-use Rattle.md_stored_members.proofs.Beside.{sector_at_is}
+use Rattle.md_kept_members.specs.OnDevices.Storing.{log_writes, sector_from_super}
+use Rattle.md_kept_members.proofs.OnDeviceLemmas.Beside.{sector_at_is}
 use Rattle.md_state.specs.DiskWrites.{IsFailed, IsTried, IsWritten}
 use Rattle.md_state.specs.Steps.Fail.{AnswersStore}
 use Rattle.md_state.specs.Members.{IsInSync, IsMember}
@@ -39,7 +39,7 @@ use Rattle.md_state.specs.Requests.{IsPending}
 use Rattle.md_state.specs.View.{ArrayView, Disk, MirrorView, disk_of, geometry_of}
 use Rattle.md_super.specs.declared.superblock.Superblock.{Superblock}
 use Rattle.md_super.specs.Log.{has_bad_block_log}
-use Rattle.md_device_writes.specs.Writes.{DoesWrites, FailsInWrites, Write}
+use Rattle.md_members.specs.DeviceWrites.Writes.{DoesWrites, FailsInWrites, Write}
 use Rattle.md_array.specs.Consistency.{HasPlaces, HasSuper, IsConsistent}
 use Rattle.md_array.specs.Events.{Happens, listed_on}
 use Rattle.md_array.specs.Steps.StoreLog.{AreWritten, FailsToStoreLog, HasNoShift, IfLogFailed, RefusesStoreLog, StoresLog}
@@ -267,12 +267,15 @@ module _ (k : ℕ) (old new : MirrorView) (c : IsConsistent old) (r : StoresLog 
             ap (λ (f : ℕ → Bool). put k f w.known) (λ i s. sym (member_there a k m false (λ x. nat_lt s a.marks.chunks && is_set x.stored.bytes s) at) i) ∙ put-self k w.known in
             let bad : put k (lists_of a n) w.bad ≡ w.bad =
             ap (λ (f : ℕ → Bool). put k f w.bad) (λ i s. sym (member_there a k m false (λ x. lists_of a x s) at) i) ∙ put-self k w.bad in
-            let offset : put k own.recovery_offset w.offset ≡ w.offset =
-            ap (λ o. put k o w.offset) (sym (member_there a k m 0 (λ x. x.superblock.recovery_offset) at)) ∙ put-self k w.offset in
+            let offset : put k m.offset w.offset ≡ w.offset = ap (λ o. put k o w.offset) (sym (member_there a k m 0 (λ x. x.offset) at)) ∙ put-self k w.offset in
+            let sure : put k own.recovery_offset w.sure_offset ≡ w.sure_offset =
+            ap (λ o. put k o w.sure_offset) (sym (member_there a k m 0 (λ x. x.superblock.recovery_offset) at)) ∙ put-self k w.sure_offset in
+            let told : put k m.stored_offset w.stored_offset ≡ w.stored_offset =
+            ap (λ o. put k o w.stored_offset) (sym (member_there a k m 0 (λ x. x.stored_offset) at)) ∙ put-self k w.stored_offset in
             let recovering : put k (has_recovery_offset n.superblock) w.recovering ≡ w.recovering =
             ap (λ b. put k b w.recovering) (own_fields.recovery_same m.bad own ∙ sym (member_there a k m false (λ x. has_recovery_offset x.superblock) at)) ∙ put-self k w.recovering in
             own_world k m n write.0 old new changes e is requests
-            ∙ (λ i. record w { stored = put k (stored_is i) w.stored; due = put k true w.due; known = known i; bad = bad i; offset = offset i; recovering = recovering i })
+            ∙ (λ i. record w { stored = put k (stored_is i) w.stored; due = put k true w.due; known = known i; bad = bad i; offset = offset i; sure_offset = sure i; stored_offset = told i; recovering = recovering i })
 
         same_listed : listed_on new k ≡ listed
         same_listed =

@@ -11,8 +11,8 @@ use Rattle.md_model.specs.Rebuilding as model
 use Rattle.md_model.specs.States as states
 use Rattle.md_model.specs.Worlds.{Request}
 use Rattle.md_model.proofs.Cases.{none_some}
-use Rattle.md_requests.specs.Pending.{PendingView}
-use Rattle.md_stored_members.specs.Superblocks.{IsReadable, own_write}
+use Rattle.md_inflight.specs.Requests.Pending.{PendingView}
+use Rattle.md_kept_members.specs.OnDevices.Superblocks.{IsReadable, own_write}
 use Rattle.md_state.specs.DiskWrites.{IsFailed}
 use Rattle.md_state.specs.Members.{IsMember}
 use Rattle.md_state.specs.Missing.{is_rebuilt}
@@ -20,7 +20,7 @@ use Rattle.md_state.specs.Requests.{IsPending}
 use Rattle.md_state.specs.View.{ArrayView, Disk, MirrorView, geometry_of}
 use Rattle.md_super.specs.declared.superblock.Superblock.{Superblock}
 use Rattle.md_super.specs.Merge.{merged}
-use Rattle.md_device_writes.specs.Writes.{Write}
+use Rattle.md_members.specs.DeviceWrites.Writes.{Write}
 use Rattle.md_array.specs.Steps.Admit.{FailsAsTarget, FailsOnTargetAlone, IsOldOrNone}
 use Rattle.md_array.specs.Consistency.{IsConsistent}
 use Rattle.md_array.specs.Events.{ListsStill}

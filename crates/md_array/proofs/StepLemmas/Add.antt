@@ -17,18 +17,18 @@ use Rattle.md_create.specs.Layout.{IsHalfLaidOut, IsLaidOutAs, KeepsOthers, writ
 use Rattle.md_create.specs.ReadBack.{IsReadBack}
 use Rattle.md_create.proofs.Laid.{few_sectors}
 use Rattle.md_create.proofs.Taken.{new_placed}
-use Rattle.md_device_writes.specs.Writes.{DoesWrites, IsKeptByWrites, FailsInWrites}
-use Rattle.md_requests.specs.Pending.{PendingView}
+use Rattle.md_members.specs.DeviceWrites.Writes.{DoesWrites, IsKeptByWrites, FailsInWrites}
+use Rattle.md_inflight.specs.Requests.Pending.{PendingView}
 use Rattle.md_kept_members.specs.View.{MemberView}
 use Rattle.md_faults.specs.declared.add_fault.AddFault.{AddFault}
 use Rattle.md_faults.specs.declared.add_fault.AddFault.TheVariants as fault
-use Rattle.md_membership.specs.Numbers.{has_number, spare_role}
+use Rattle.md_kept_members.specs.Membership.Numbers.{has_number, spare_role}
 use Rattle.md_state.specs.Steps.Add.{IsSpareOf, MayAdd, RefusesToAdd, added}
 use Rattle.md_state.specs.InMemory.{HasMarksOfSize}
 use Rattle.md_state.specs.Requests.{IsPending, lacks}
 use Rattle.md_state.specs.Steps.Rise.{risen}
 use Rattle.md_state.specs.View.{ArrayView, Disk, MirrorView, disk_of, of_disks}
-use Rattle.md_membership.proofs.NumbersUsed.{number_is_small, number_is_unused}
+use Rattle.md_kept_members.proofs.MembershipLemmas.NumbersUsed.{number_is_small, number_is_unused}
 use Rattle.md_array.specs.Steps.Add.{Adds, FailsToLayOut, LaysOutLast, RefusesAdd, RefusesToLayOut, RefusesUnwritten, kept_of}
 use Rattle.md_array.specs.Consistency.{IsConsistent}
 use Rattle.md_array.specs.Fits.{FitsMember}
@@ -178,7 +178,7 @@ module _ {D : Type 0} (of : D → Disk) (device : Disk) (old new : MirrorView) (
 -- ---- what is done once it has a number
 module _ {D : Type 0} (g : Ghosts D) (was now : D) where
   seen : IsKeptByWrites g was now → IsKeptByWrites of_disks (disk_of g was) (disk_of g now)
-  seen kept = record { size = kept.size; honest_kept = kept.honest_kept; counted = kept.counted }
+  seen kept = record { size = kept.size; honest_kept = kept.honest_kept; counted = kept.counted; grown = kept.grown }
 
   pub laid_last : (a b : ArrayView) (number k : ℕ) (laid : NewMember) (devices devices_now : List D) → sectors_of_device (g.content was) ≤ 2 ^ 54 → IsSpareOf a number (sectors_of_device (g.content was)) laid → IsReadBack laid.superblock
       → DoesWrites g (writes_of laid) was now → KeepsOthers laid (g.content was) (g.content now) → (g.honest was ≡ true → IsLaidOutAs (g.content was) laid (g.content now))
@@ -191,7 +191,7 @@ module _ {D : Type 0} (g : Ghosts D) (was now : D) where
     spare = spare;
     readable = readable;
     now = disk_of g now;
-    writes = record { kept = seen does.kept; unfailing = does.unfailing; all_done = does.all_done; within = does.within };
+    writes = record { kept = seen does.kept; unfailing = does.unfailing; none_failed = does.none_failed; all_done = does.all_done; within = does.within };
     outside = outside;
     laid_out = done;
     within = within;
@@ -205,7 +205,7 @@ module _ {D : Type 0} (g : Ghosts D) (was now : D) where
     unchanged = unchanged;
     laid = laid;
     spare = spare;
-    writes = record { kept = seen stops.kept; failed = stops.failed; done = stops.done; tried = stops.tried; rest = stops.rest; order = stops.order; outside = stops.outside; within = stops.within };
+    writes = record { kept = seen stops.kept; failed = stops.failed; done = stops.done; tried = stops.tried; rest = stops.rest; order = stops.order; tried_alone_failed = stops.tried_alone_failed; outside = stops.outside; within = stops.within };
     outside = outside;
   }
 

@@ -19,8 +19,8 @@ use Rattle.md_model.proofs.Steps.Between.{between_step, in_flight_step}
 use Rattle.md_kept_members.specs.Members.{made_due}
 use Rattle.md_kept_members.specs.View.{MemberView}
 use Rattle.md_faults.specs.declared.add_fault.AddFault.{AddFault}
-use Rattle.md_membership.specs.Joining.{joined_roles}
-use Rattle.md_membership.specs.Numbers.{IsFree, IsNumber, spare_role}
+use Rattle.md_kept_members.specs.Membership.Joining.{joined_roles}
+use Rattle.md_kept_members.specs.Membership.Numbers.{IsFree, IsNumber, spare_role}
 use Rattle.md_state.specs.Steps.Add.{added}
 use Rattle.md_state.specs.Members.{IsMember, is_degraded}
 use Rattle.md_state.specs.Requests.{AreInFlight}
@@ -155,14 +155,14 @@ module _ (k : ℕ) (device : Disk) (old new : MirrorView) (c : IsConsistent old)
     lists s = and_false (nat_lt s old.array.chunks.size) ∙ sym (laid_out.listed s)
 
     its_newcomer : newcomer old.array m spare_role low_number now.content
-        ≡ record { number = r.number; role = 65535; state = model.State.Spare; recovering = false; offset = 0; device = stored_of b m now.content }
-    its_newcomer = λ i. record { number = is_number i; role = 65535; state = model.State.Spare; recovering = bit i; offset = none_done i; device = stored_of b m now.content }
+        ≡ record { number = r.number; role = 65535; state = model.State.Spare; recovering = false; offset = 0; sure_offset = 0; device = stored_of b m now.content }
+    its_newcomer = λ i. record { number = is_number i; role = 65535; state = model.State.Spare; recovering = bit i; offset = none_done i; sure_offset = none_done i; device = stored_of b m now.content }
 
     world_added : world_of new requests ≡ membership.added (g old requests) (w old requests) r.number (stored_of b m now.content) full
     unfolding after
     world_added =
         ap (λ (v : MirrorView). world_of v requests) (is_after k device old new c r)
-        ∙ world_joined old.array m spare_role low_number old.disks now requests c.fits.as_many refl known lists
+        ∙ world_joined old.array m spare_role low_number old.disks now requests c.fits.as_many refl refl known lists
         ∙ ap (λ (n : membership.Newcomer). membership.joined (counts.risen (g old requests) (w old requests) full) n) its_newcomer
 
     still_full : is_degraded new.array ≡ is_degraded old.array

@@ -8,25 +8,27 @@ use Rattle.md_model.specs.Worlds as worlds
 use Rattle.md_model.specs.Worlds.{touches}
 use Rattle.md_model.specs.Counts as counts
 use Rattle.md_model.specs.Events.{Event, Step}
-use Rattle.md_model.specs.Steps.{begun, entered, touches_chunk, MayBegin}
+use Rattle.md_model.specs.Steps.{begun, entered, lowered, touches_chunk, MayBegin}
 use Rattle.md_model.proofs.Steps.Between.{between_step, in_flight_step}
 use Rattle.md_model.proofs.Cases.{by_option, by_test, is_at_most}
 use Rattle.md_inflight.specs.Inflight.{InflightList, lookup}
 use Rattle.md_bitmap.specs.Marks.{Bitmap, is_set}
 use Rattle.md_bitmap.proofs.Limits.{div-lt-div_ceil}
-use Rattle.md_requests.specs.Pending.{PendingView, extent_of}
-use Rattle.md_requests.specs.declared.extent.Extent.{Extent}
+use Rattle.md_inflight.specs.Requests.Pending.{PendingView, extent_of}
+use Rattle.md_inflight.specs.declared.requests.extent.Extent.{Extent}
 use Rattle.md_state.specs.View.{Disk, ArrayView, MirrorView, geometry_of}
 use Rattle.md_state.specs.Members.{clean_offset, is_degraded}
 use Rattle.md_state.specs.Requests.{AreInFlight, AreInside, IsPending, among, lacks, request_of}
-use Rattle.md_state.specs.Steps.Begin.{Begins, HasMarked, IsInRange, active_offset, array_after_rise, has_sector_of, has_to_rise, with_request}
+use Rattle.md_state.specs.Steps.Begin.{Begins, HasMarked, IsInRange, active_offset, array_after_rise, first_sector, has_sector_of, has_to_rise, with_offsets_lowered, with_request}
 use Rattle.md_array.specs.Consistency.{IsConsistent}
 use Rattle.md_array.specs.Events.{BeginHappens}
+use Rattle.md_array.specs.ReadAsKept.{AreReadAsKept}
 use Rattle.md_array.specs.Worlds.{AreHonest, world_of, world_on}
 use Rattle.md_array.proofs.Worlds.ReadAsKept.{IsSameArray, counted_like, unwritten_read}
 use Rattle.md_array.proofs.StepLemmas.CountedAtBegin.{counted_is_consistent, counted_keeps_pending, marked_counted, range_counted, rises_as_told, same_if, world_counted}
 use Rattle.md_array.proofs.StepLemmas.InFlight.{found_either, found_last, found_with_last, is_touched, none_touches}
 use Rattle.md_array.proofs.StepLemmas.RemarkedWorlds.{remarked_is_consistent, same_mirror, world_remarked}
+use Rattle.md_array.proofs.Worlds.Lowered.{degraded_lowered, lowered_is_consistent, lowered_keeps_pending, lowered_read, world_lowered}
 use Rattle.md_array.proofs.Worlds.Risen.{full_as_told, same_degraded}
 use Rattle.md_array.proofs.General.Tests.{true_unless_false}
 
@@ -134,48 +136,59 @@ module _ (sector : ℕ) (bytes : List ℕ) (old new : MirrorView) (c : IsConsist
   abbrev number : ℕ
   number = a.requests.next
 
+  -- where the request's first chunk begins
+  abbrev start : ℕ
+  start = first_sector a sector
+
+  abbrev counted : ArrayView
+  counted = array_after_rise a
+
+  -- the array as the request finds it
+  abbrev ready : ArrayView
+  ready = with_offsets_lowered start counted
+
   -- the request as its caller gets it
   abbrev begun_request : PendingView
   begun_request = record { ticket = record { name = a.requests.name; number = number }; sector = sector; bytes = bytes; written = [] }
 
   module _ (p : PendingView) (begins : Begins sector bytes old new p) where
-    range : IsInRange (array_after_rise a) sector sectors
-    range = range_counted a full sector sectors (has_to_rise a) begins.may.range
+    range : IsInRange ready sector sectors
+    range = let r = range_counted a full sector sectors (has_to_rise a) begins.may.range in record { some = r.some; inside = r.inside }
 
-    marked : HasMarked (array_after_rise a) sector sectors new.array.marks
-    marked = marked_counted a full sector sectors new.array.marks (has_to_rise a) begins.marked
+    marked : HasMarked ready sector sectors new.array.marks
+    marked = let m = marked_counted a full sector sectors new.array.marks (has_to_rise a) begins.marked in record { chunks = m.chunks; bits = m.bits }
 
-    counted_consistent : IsConsistent (record { disks = old.disks; array = array_after_rise a })
-    counted_consistent = counted_is_consistent a full old.disks (has_to_rise a) c
+    ready_is_consistent : IsConsistent (record { disks = old.disks; array = ready })
+    ready_is_consistent = lowered_is_consistent counted start old.disks (counted_is_consistent a full old.disks (has_to_rise a) c)
 
     abbrev after : MirrorView
-    after = record { disks = old.disks; array = with_request (array_after_rise a) sector sectors new.array.marks }
+    after = record { disks = old.disks; array = with_request ready sector sectors new.array.marks }
 
     is_after : new ≡ after
-    is_after = same_mirror new old.disks (with_request (array_after_rise a) sector sectors new.array.marks) begins.disks begins.array
+    is_after = same_mirror new old.disks (with_request ready sector sectors new.array.marks) begins.disks begins.array
 
     pub begun_is_consistent : IsConsistent new
-    begun_is_consistent = subst IsConsistent (sym is_after) (entered_is_consistent old.disks (array_after_rise a) counted_consistent sector sectors new.array.marks range marked)
+    begun_is_consistent = subst IsConsistent (sym is_after) (entered_is_consistent old.disks ready ready_is_consistent sector sectors new.array.marks range marked)
 
     pub begun_keeps_pending : (q : PendingView) → IsPending a q → IsPending new.array q
     begun_keeps_pending q is = subst (λ (x : ArrayView). IsPending x q) (sym begins.array)
-        (entered_keeps_pending old.disks (array_after_rise a) counted_consistent sector sectors new.array.marks range marked q (counted_keeps_pending a full q (has_to_rise a) is))
+        (entered_keeps_pending old.disks ready ready_is_consistent sector sectors new.array.marks range marked q (lowered_keeps_pending counted start q (counted_keeps_pending a full q (has_to_rise a) is)))
 
-    same_requests : (array_after_rise a).requests ≡ a.requests
+    same_requests : ready.requests ≡ a.requests
     same_requests = same_if a full (λ x. x.requests) refl (has_to_rise a)
 
-    same_number : number ≡ (array_after_rise a).requests.next
+    same_number : number ≡ ready.requests.next
     same_number = ap (λ (x : InflightList Extent). x.next) (sym same_requests)
 
-    same_name : a.requests.name ≡ (array_after_rise a).requests.name
+    same_name : a.requests.name ≡ ready.requests.name
     same_name = ap (λ (x : InflightList Extent). x.name) (sym same_requests)
 
-    counted_fresh : lookup (array_after_rise a).requests.entries (array_after_rise a).requests.next ≡ None
-    counted_fresh = subst (λ (x : InflightList Extent). lookup x.entries x.next ≡ None) (sym same_requests) begins.fresh
+    ready_fresh : lookup ready.requests.entries ready.requests.next ≡ None
+    ready_fresh = subst (λ (x : InflightList Extent). lookup x.entries x.next ≡ None) (sym same_requests) begins.fresh
 
-    found_there : lookup (with_request (array_after_rise a) sector sectors new.array.marks).requests.entries number ≡ Some (record { start = sector; sectors = sectors })
-    found_there = ap (λ x. lookup (with_request (array_after_rise a) sector sectors new.array.marks).requests.entries x) same_number
-        ∙ found_last (array_after_rise a).requests.next (record { start = sector; sectors = sectors }) (array_after_rise a).requests.entries counted_fresh
+    found_there : lookup (with_request ready sector sectors new.array.marks).requests.entries number ≡ Some (record { start = sector; sectors = sectors })
+    found_there = ap (λ x. lookup (with_request ready sector sectors new.array.marks).requests.entries x) same_number
+        ∙ found_last ready.requests.next (record { start = sector; sectors = sectors }) ready.requests.entries ready_fresh
 
     pub begun_is_pending : length bytes % 512 ≡ 0 → IsPending new.array p
     begun_is_pending whole = subst (IsPending new.array) (sym begins.pending) (subst (λ (x : ArrayView). IsPending x begun_request) (sym begins.array) (record {
@@ -183,8 +196,8 @@ module _ (sector : ℕ) (bytes : List ℕ) (old new : MirrorView) (c : IsConsist
       extent = found_there;
       whole = whole;
       room =
-          let least = count_by-le-length (lacks begun_request) (array_after_rise a).members in
-          let few = counted_consistent.roles.few in
+          let least = count_by-le-length (lacks begun_request) ready.members in
+          let few = ready_is_consistent.roles.few in
           omega arith;
     }))
 
@@ -205,7 +218,7 @@ module _ (sector : ℕ) (bytes : List ℕ) (old new : MirrorView) (c : IsConsist
         unwritten = λ d. refl;
       }
 
-      same_geometry : geometry_of (array_after_rise a) ≡ geometry_of a
+      same_geometry : geometry_of ready ≡ geometry_of a
       same_geometry = same_if a full geometry_of refl (has_to_rise a)
 
       new_geometry : geometry_of new.array ≡ geometry_of a
@@ -214,11 +227,12 @@ module _ (sector : ℕ) (bytes : List ℕ) (old new : MirrorView) (c : IsConsist
       world_begun : world_of new (among begun_request others) ≡ begun (geometry_of a) (world_of old others) number r (has_to_rise a) full
       world_begun =
           ap (λ (v : MirrorView). world_of v (among begun_request others)) is_after
-          ∙ world_entered old.disks (array_after_rise a) counted_consistent sector sectors new.array.marks range marked number r refl refl others
-          ∙ (λ i. entered (same_geometry i) (world_counted a full old.disks others (has_to_rise a) i) number r)
+          ∙ world_entered old.disks ready ready_is_consistent sector sectors new.array.marks range marked number r refl refl others
+          ∙ (λ i. entered (same_geometry i) ((world_lowered counted start old.disks others
+          ∙ ap (λ (w : worlds.World). lowered w start) (world_counted a full old.disks others (has_to_rise a))) i) number r)
 
       still_full : is_degraded new.array ≡ is_degraded a
-      still_full = ap is_degraded begins.array ∙ same_if a full is_degraded (same_degraded a full) (has_to_rise a)
+      still_full = ap is_degraded begins.array ∙ degraded_lowered counted start ∙ same_if a full is_degraded (same_degraded a full) (has_to_rise a)
 
       full_after : (full ≡ true) ↔ counts.IsFull (geometry_of a) (world_of new (among begun_request others))
       full_after =
@@ -231,13 +245,18 @@ module _ (sector : ℕ) (bytes : List ℕ) (old new : MirrorView) (c : IsConsist
 
       in_flight_after : AreInFlight new.array (among begun_request others)
       in_flight_after = subst (λ (x : ArrayView). AreInFlight x (among begun_request others)) (sym begins.array)
-          (entered_in_flight old.disks (array_after_rise a) counted_consistent sector sectors new.array.marks range marked number r refl refl others same_number counted_fresh
+          (entered_in_flight old.disks ready ready_is_consistent sector sectors new.array.marks range marked number r refl refl others same_number ready_fresh
           (subst (λ (x : InflightList Extent). (n : ℕ) (q : worlds.Request) → others n ≡ Some q → lookup x.entries n ≡ Some (record { start = q.start; sectors = q.sectors })) (sym same_requests) listed))
 
-    same_begun : IsSameArray a new.array
-    same_begun =
-        let like = (counted_like a full (has_to_rise a)).0 in
-        subst (IsSameArray a) (sym begins.array) (record { set_uuid = like.set_uuid; size = like.size; raid_disks = like.raid_disks; sectors = like.sectors; events = like.events })
+    begun_read : (failed_at : ℕ) (spoiled : ℕ → Bool) → AreReadAsKept old failed_at spoiled → AreReadAsKept new failed_at spoiled
+    begun_read failed_at spoiled are =
+        let like = counted_like a full (has_to_rise a) in
+        let mid : MirrorView = record { disks = old.disks; array = ready } in
+        unwritten_read mid new failed_at spoiled begins.disks
+        (subst (IsSameArray ready) (sym begins.array) (record { set_uuid = refl; size = refl; raid_disks = refl; sectors = refl; events = omega arith }))
+        (λ j m is. (m, sym (ap (λ (x : ArrayView). slice_get x.members j) begins.array) ∙ is, record { superblock = refl; state = refl }))
+        (lowered_read counted start old.disks failed_at spoiled
+        (unwritten_read old (record { disks = old.disks; array = counted }) failed_at spoiled refl like.0 like.1 are))
 
     pub begin_happens : BeginHappens old new p
     begin_happens = subst (BeginHappens old new) (sym begins.pending) (λ honest others listed. record {
@@ -250,6 +269,5 @@ module _ (sector : ℕ) (bytes : List ℕ) (old new : MirrorView) (c : IsConsist
       written = in_flight_step (geometry_of a) (world_of old others) (Event.Begin number (request_of begun_request)) (world_of new (among begun_request others)) (step others listed);
       sound = begun_is_consistent;
       lists = tt;
-      read = λ failed_at spoiled. unwritten_read old new failed_at spoiled begins.disks same_begun
-          (λ j m is. (counted_like a full (has_to_rise a)).1 j m (sym (ap (λ (x : ArrayView). slice_get x.members j) begins.array) ∙ is));
+      read = begun_read;
     })

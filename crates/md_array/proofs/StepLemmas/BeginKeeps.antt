@@ -1,7 +1,7 @@
 -- What `begin` and `clear_idle` keep, and which events they are, whatever they answer.
 use Rattle.std.proofs.Common.{◌≡◌, ◌%◌, ◌/◌, ℕ, List, length, sym, subst}
 use Rattle.std.specs.Prelude.{IfOk, MatchResult, Result, Ok, Err}
-use Rattle.md_requests.specs.Pending.{PendingView}
+use Rattle.md_inflight.specs.Requests.Pending.{PendingView}
 use Rattle.md_faults.specs.declared.step_fault.BeginFault.{BeginFault}
 use Rattle.md_faults.specs.declared.step_fault.BeginFault.TheVariants.{Halted, OutOfRange, Overlaps, NotResynced, EventsFull, NumbersSpent, NoMemory}
 use Rattle.md_faults.specs.declared.step_fault.ClearFault.{ClearFault}

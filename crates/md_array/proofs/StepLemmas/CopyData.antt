@@ -4,7 +4,7 @@ use Rattle.std.specs.Prelude.{option_map, slice_get}
 use Rattle.std.proofs.lemmas.Option.{same_Some}
 use Rattle.md_model.specs.Events.{Event}
 use Rattle.md_super.specs.declared.superblock.Superblock.{Superblock}
-use Rattle.md_requests.specs.Pending.{PendingView}
+use Rattle.md_inflight.specs.Requests.Pending.{PendingView}
 use Rattle.md_kept_members.specs.View.{MemberView}
 use Rattle.md_state.specs.View.{ArrayView, Disk, MirrorView}
 use Rattle.md_state.specs.Steps.CopyData.{AnswersCopy, CopiesTo, IsCopy, IsDone, MayCopy, RefusesCopy, copies_of, run_write}

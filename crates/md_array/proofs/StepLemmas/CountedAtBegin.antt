@@ -8,9 +8,9 @@ use Rattle.md_model.specs.Counts as counts
 use Rattle.md_model.proofs.Cases.{below-nat_lt, is_below, never}
 use Rattle.md_bitmap.specs.Marks.{Bitmap}
 use Rattle.md_assembly.specs.States.{role_in}
-use Rattle.md_requests.specs.Pending.{PendingView}
+use Rattle.md_inflight.specs.Requests.Pending.{PendingView}
 use Rattle.md_kept_members.specs.Members.{made_due}
-use Rattle.md_membership.specs.Numbers.{has_number, is_absent}
+use Rattle.md_kept_members.specs.Membership.Numbers.{has_number, is_absent}
 use Rattle.md_state.specs.View.{Disk, ArrayView, geometry_of}
 use Rattle.md_state.specs.Steps.Rise.{risen}
 use Rattle.md_state.specs.Members.{clean_offset}

@@ -5,8 +5,8 @@ use Rattle.md_model.specs.Devices.{Stored}
 use Rattle.md_model.specs.Worlds.{Request}
 use Rattle.md_model.specs.Failures.{LeftByData}
 use Rattle.md_model.specs.Events.{Event, MemberPart}
-use Rattle.md_device_writes.specs.Writes.{Write}
-use Rattle.md_requests.specs.Pending.{PendingView, request_sectors}
+use Rattle.md_members.specs.DeviceWrites.Writes.{Write}
+use Rattle.md_inflight.specs.Requests.Pending.{PendingView, request_sectors}
 use Rattle.md_kept_members.specs.View.{MemberView}
 use Rattle.md_state.specs.View.{ArrayView, MirrorView}
 use Rattle.md_state.specs.Requests.{IsPending, among, request_of}

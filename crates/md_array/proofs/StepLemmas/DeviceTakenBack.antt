@@ -2,8 +2,8 @@
 use Rattle.std.proofs.Common.{◌≡◌, ℕ, ◌+◌, ◌*◌, ◌/◌, ◌<◌, true, not, ◌&&◌, ◌==◌, nat_lt, List, drop, inl, Option, Some, None, refl, sym, ap, ◌∙◌, subst, Bool}
 use Rattle.std.proofs.lemmas.Nat.{and_or_apart}
 use Rattle.std.proofs.lemmas.Option.{same_Some}
-use Rattle.md_stored_members.specs.Superblocks.{IsReadable}
-use Rattle.md_stored_members.specs.Storing.{sector_from_super}
+use Rattle.md_kept_members.specs.OnDevices.Superblocks.{IsReadable}
+use Rattle.md_kept_members.specs.OnDevices.Storing.{sector_from_super}
 use Rattle.md_array.proofs.Worlds.Member.{accepted_by}
 use Rattle.md_array.specs.ReadAsKept.{HasWidth, IsReadAsKept, chunk_size_on}
 use Rattle.md_array.specs.Steps.Record.{super_write}
@@ -59,7 +59,7 @@ module _ (offset : ℕ) (v : Superblock) (content : List ℕ) (sector : ℕ) whe
   next_recovering = ap (λ b. (b && has_bad_block_log v) && is_logged content (sector_from_super v.bblog_offset) v.bblog_size v.bblog_shift sector) same_bad_blocks
 
 -- ---- as it was read
-module _ (content : List ℕ) (offset : ℕ) (info : MemberInfo) (m : MemberView) (taken : IsKeptTakenBack offset info m) (read : members.IsReadMember content true info) where
+module _ (content : List ℕ) (offset sure : ℕ) (info : MemberInfo) (m : MemberView) (taken : IsKeptTakenBack offset sure info m) (read : members.IsReadMember content true info) where
   abbrev kept : Superblock
   kept = kept_superblock info
 
@@ -73,11 +73,11 @@ module _ (content : List ℕ) (offset : ℕ) (info : MemberInfo) (m : MemberView
       let fields = block_spells content v read.superblock in
       let sound = subst NoSuperFault (read.superblock.read.from_device refl) read.superblock.sound in
       ap (λ (own : Superblock). is_listed own content sector) taken.superblock
-      ∙ listed_recovering offset kept content sector
+      ∙ listed_recovering sure kept content sector
       ∙ listed_kept_of content v info.bad fields sound sector
       ∙ listed_as_next v v content fields sound refl sector
       ∙ sym (bad.same_listed content v info.bad sector read.bad)
-      ∙ sym (next_recovering offset kept content sector)
+      ∙ sym (next_recovering sure kept content sector)
       ∙ sym (ap (λ (own : Superblock). is_listed_next own content sector) taken.superblock)
 
   has_read : HasRead content kept m.header info.marks
@@ -107,7 +107,7 @@ module _ (content : List ℕ) (offset : ℕ) (info : MemberInfo) (m : MemberView
       let sound = subst NoSuperFault (read.superblock.read.from_device refl) read.superblock.sound in
       let as_read = bad.listed_as_read content v info.bad sector read.bad in
       ap (λ (own : Superblock). is_listed own content sector) taken.superblock
-      ∙ listed_recovering offset kept content sector
+      ∙ listed_recovering sure kept content sector
       ∙ listed_kept_of content v info.bad fields sound sector
       ∙ listed_as_next v v content fields sound refl sector
       ∙ bad.same_test (is_listed_next v content sector) (lies_in info.bad sector) as_read (bad.bad_from_test info.bad sector, bad.test_from_bad info.bad sector)

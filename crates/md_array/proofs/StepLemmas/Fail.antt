@@ -1,5 +1,5 @@
 -- A member that is failed by a call is the model's failed one, and the mirror stays consistent: no device is used.
-use Rattle.std.proofs.Common.{◌≡◌, ℕ, ◌↔◌, Bool, true, not, List, [], Option, refl, sym, ap, ◌∙◌, subst, arith}
+use Rattle.std.proofs.Common.{◌≡◌, ℕ, ◌↔◌, Bool, true, not, List, [], Option, refl, sym, ap, ◌∙◌, subst}
 use Rattle.std.specs.Prelude.{MatchResult, Result, Ok, Err}
 use Rattle.std.specs.List.{list_any, range_with_len}
 use Rattle.std.proofs.lemmas.List.{map-set}
@@ -17,8 +17,8 @@ use Rattle.md_model.proofs.Puts.{put-self}
 use Rattle.md_assembly.specs.declared.state.MemberState.{MemberState}
 use Rattle.md_assembly.specs.declared.state.MemberState.TheVariants.{InSync, Recovering, Stale, Spare, Faulty}
 use Rattle.md_assembly.specs.States.{is_active, is_in_sync_as, is_recorded}
-use Rattle.md_device_writes.specs.Writes.{Write}
-use Rattle.md_requests.specs.Pending.{PendingView}
+use Rattle.md_members.specs.DeviceWrites.Writes.{Write}
+use Rattle.md_inflight.specs.Requests.Pending.{PendingView}
 use Rattle.md_kept_members.specs.View.{MemberView}
 use Rattle.md_kept_members.specs.Members.{made_due}
 use Rattle.md_faults.specs.declared.step_fault.FailFault.{FailFault}
@@ -44,6 +44,7 @@ use Rattle.md_array.proofs.Worlds.Risen.{full_as_told, risen_is_consistent, same
 use Rattle.md_array.proofs.Worlds.Shown.{at_is}
 use Rattle.md_array.proofs.Worlds.States.{same_recorded, same_active}
 use Rattle.md_array.proofs.Worlds.Without.{world_without}
+use Rattle.md_state.proofs.Stays.{stays_same}
 
 -- ---- a write of nothing, which leaves each device as it was
 at_itself : (Related : Disk → Disk → Type 0) (k : ℕ) (disks : List Disk) → ((d : Disk) → Related d d) → AtDevice k disks disks Related
@@ -56,7 +57,7 @@ untried : (k : ℕ) (disks : List Disk) → IsTried k no_write disks disks
 untried k disks = record {
   as_many = refl;
   others = λ j apart. refl;
-  stays = at_itself StaysHonest k disks (λ d. record { honest = refl; counted = omega arith });
+  stays = at_itself StaysHonest k disks stays_same;
   outside = at_itself (λ d e. SameOutside 0 0 d.content e.content) k disks (λ d. record { size = refl; before = refl; after = refl });
 }
 

@@ -1,7 +1,7 @@
 -- A write of a part of a member failed, and made its member faulty or halted the mirror: which write it was, whatever the part.
 use Rattle.std.proofs.Common.{◌≡◌, ℕ, true, ap}
 use Rattle.md_model.specs.Events.{Event, MemberPart}
-use Rattle.md_device_writes.specs.Writes.{Write}
+use Rattle.md_members.specs.DeviceWrites.Writes.{Write}
 use Rattle.md_kept_members.specs.View.{MemberView}
 use Rattle.md_state.specs.View.{ArrayView, MirrorView}
 use Rattle.md_state.specs.Members.{IsMember}

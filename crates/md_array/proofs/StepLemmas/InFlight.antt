@@ -9,7 +9,7 @@ use Rattle.md_model.proofs.Cases.{by_test, is_above, is_at_most, is_below, not_b
 use Rattle.md_model.proofs.Puts.{by_same, put-hit, put-miss}
 use Rattle.md_inflight.specs.Inflight.{lookup}
 use Rattle.md_inflight.specs.Spans.{meets}
-use Rattle.md_requests.specs.Pending.{PendingView, extent_of, request_sectors}
+use Rattle.md_inflight.specs.Requests.Pending.{PendingView, extent_of, request_sectors}
 use Rattle.md_state.specs.View.{ArrayView, MirrorView}
 use Rattle.md_state.specs.Requests.{AreInFlight, IsPending, among, request_of}
 use Rattle.md_state.specs.Steps.ClearIdle.{first_in_flight}

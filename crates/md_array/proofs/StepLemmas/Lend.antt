@@ -17,8 +17,8 @@ use Rattle.md_assembly.specs.declared.state.MemberState.TheVariants.{InSync, Rec
 use Rattle.md_assembly.specs.States.{is_in_sync}
 use Rattle.md_assembly.proofs.Indices.{got_within}
 use Rattle.md_kept_members.specs.View.{MemberView}
-use Rattle.md_stored_members.specs.Storing.{sector_from_super}
-use Rattle.md_stored_members.proofs.Beside.{apart_either_way, sector_at_is}
+use Rattle.md_kept_members.specs.OnDevices.Storing.{sector_from_super}
+use Rattle.md_kept_members.proofs.OnDeviceLemmas.Beside.{apart_either_way, sector_at_is}
 use Rattle.md_state.specs.Missing.{is_rebuilt}
 use Rattle.md_state.specs.View.{ArrayView, Disk, MirrorView}
 use Rattle.md_array.specs.Consistency.{HasPlaces, HasSuper, IsConsistent}

@@ -10,8 +10,8 @@ use Rattle.md_model.specs.Resyncing as model
 use Rattle.md_model.specs.Worlds as worlds
 use Rattle.md_model.proofs.Steps.Between.{between_step, in_flight_step}
 use Rattle.md_model.proofs.Cases.{by_option}
-use Rattle.md_requests.specs.declared.extent.Extent.{Extent}
-use Rattle.md_requests.specs.Pending.{PendingView}
+use Rattle.md_inflight.specs.declared.requests.extent.Extent.{Extent}
+use Rattle.md_inflight.specs.Requests.Pending.{PendingView}
 use Rattle.md_faults.specs.declared.step_fault.CleanFault.{CleanFault}
 use Rattle.md_faults.specs.declared.step_fault.CleanFault.TheVariants as clean
 use Rattle.md_state.specs.View.{ArrayView, MirrorView, geometry_of}

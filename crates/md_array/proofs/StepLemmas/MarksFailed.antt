@@ -7,9 +7,9 @@ use Rattle.md_model.specs.Devices.{Stored}
 use Rattle.md_model.specs.Worlds.{Request}
 use Rattle.md_model.specs.Failures.{LeftByMarks}
 use Rattle.md_model.specs.Events.{Event, MemberPart}
-use Rattle.md_device_writes.specs.Writes.{Write}
+use Rattle.md_members.specs.DeviceWrites.Writes.{Write}
 use Rattle.md_kept_members.specs.View.{MemberView}
-use Rattle.md_stored_members.specs.Storing.{sector_from_super}
+use Rattle.md_kept_members.specs.OnDevices.Storing.{sector_from_super}
 use Rattle.md_state.specs.View.{ArrayView, Disk, MirrorView}
 use Rattle.md_state.specs.Members.{IsMember}
 use Rattle.md_state.specs.Steps.StoreMarks.{FailsToStoreMarks}

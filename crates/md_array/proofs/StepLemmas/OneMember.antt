@@ -17,8 +17,8 @@ use Rattle.md_model.specs.Sectors.{put}
 use Rattle.md_model.specs.States as model
 use Rattle.md_model.specs.Worlds.{Request, World}
 use Rattle.md_model.proofs.Puts.{by_same, put-at, put-self}
-use Rattle.md_device_writes.specs.Writes.{Write}
-use Rattle.md_requests.specs.Pending.{PendingView}
+use Rattle.md_members.specs.DeviceWrites.Writes.{Write}
+use Rattle.md_inflight.specs.Requests.Pending.{PendingView}
 use Rattle.md_kept_members.specs.View.{MemberView}
 use Rattle.md_state.specs.View.{ArrayView, Disk, MirrorView}
 use Rattle.md_state.specs.Members.{IsInSync, IsMember}
@@ -49,16 +49,17 @@ pub record IsNear (m n : MemberView) : Type 0 where
 near_itself : (m : MemberView) → IsNear m m
 near_itself m = record { places = record { number = refl; size = refl; has = refl; placed = λ _ _ p. p; header = refl; chunks = refl; told = λ tells. tells }; state = refl }
 
--- two members have the same superblock, list and header, as many chunks, and one state
+-- two members have the same superblock, list, header and offset, as many chunks, and one state
 pub record IsLike (m n : MemberView) : Type 0 where
   pub superblock : n.superblock ≡ m.superblock
   pub bad : n.bad ≡ m.bad
+  pub offset : n.offset ≡ m.offset
   pub header : n.header ≡ m.header
   pub chunks : n.stored.chunks ≡ m.stored.chunks
   pub state : n.state ≡ m.state
 
 pub like_itself : (m : MemberView) → IsLike m m
-like_itself m = record { superblock = refl; bad = refl; header = refl; chunks = refl; state = refl }
+like_itself m = record { superblock = refl; bad = refl; offset = refl; header = refl; chunks = refl; state = refl }
 
 near_like : (m n : MemberView) → IsLike m n → IsNear m n
 near_like m n like = record {
@@ -275,7 +276,9 @@ module _ (k : ℕ) (m n : MemberView) (w : Write) (old new : MirrorView) (c : Ch
           due = put k n.due before.due;
           known = put k (λ s. nat_lt s a.marks.chunks && is_set n.stored.bytes s) before.known;
           bad = put k (lists_of a n) before.bad;
-          offset = put k n.superblock.recovery_offset before.offset;
+          offset = put k n.offset before.offset;
+          sure_offset = put k n.superblock.recovery_offset before.sure_offset;
+          stored_offset = put k n.stored_offset before.stored_offset;
           recovering = put k (has_recovery_offset n.superblock) before.recovering;
         }
 
@@ -300,7 +303,9 @@ module _ (k : ℕ) (m n : MemberView) (w : Write) (old new : MirrorView) (c : Ch
       due = λ j. put_in false (λ x. x.due) j i;
       known = λ j s. put_known j s i;
       bad = λ j s. put_bad j s i;
-      offset = λ j. put_in 0 (λ x. x.superblock.recovery_offset) j i;
+      offset = λ j. put_in 0 (λ x. x.offset) j i;
+      sure_offset = λ j. put_in 0 (λ x. x.superblock.recovery_offset) j i;
+      stored_offset = λ j. put_in 0 (λ x. x.stored_offset) j i;
       recovering = λ j. put_in false (λ x. has_recovery_offset x.superblock) j i;
       role = before.role;
       entries = before.entries;
@@ -336,12 +341,13 @@ module _ (k : ℕ) (m n : MemberView) (w : Write) (old new : MirrorView) (c : Ch
     earlier = world_on old.disks old.array requests
 
     -- no more than the member's own is changed
-    abbrev pub with_member : World
-    with_member =
+    abbrev pub with_member_at : World
+    with_member_at =
         record earlier {
           stored = put k (stored_of old.array n e.content) earlier.stored;
           due = put k n.due earlier.due;
           known = put k (λ s. nat_lt s old.array.marks.chunks && is_set n.stored.bytes s) earlier.known;
+          stored_offset = put k n.stored_offset earlier.stored_offset;
         }
 
     same_bad : put k (lists_of old.array n) earlier.bad ≡ earlier.bad
@@ -351,17 +357,20 @@ module _ (k : ℕ) (m n : MemberView) (w : Write) (old new : MirrorView) (c : Ch
         ∙ ap (λ (f : ℕ → Bool). put k f earlier.bad) (λ i s. sym (member_there old.array k m false (λ x. lists_of old.array x s) c.at) i)
         ∙ put-self k earlier.bad
 
-    same_offset : put k n.superblock.recovery_offset earlier.offset ≡ earlier.offset
-    same_offset =
-        ap (λ x. put k x earlier.offset) (ap (λ (v : Superblock). v.recovery_offset) c.like.superblock ∙ sym (member_there old.array k m 0 (λ x. x.superblock.recovery_offset) c.at))
-        ∙ put-self k earlier.offset
+    same_offset : put k n.offset earlier.offset ≡ earlier.offset
+    same_offset = ap (λ x. put k x earlier.offset) (c.like.offset ∙ sym (member_there old.array k m 0 (λ x. x.offset) c.at)) ∙ put-self k earlier.offset
+
+    same_sure : put k n.superblock.recovery_offset earlier.sure_offset ≡ earlier.sure_offset
+    same_sure =
+        ap (λ x. put k x earlier.sure_offset) (ap (λ (v : Superblock). v.recovery_offset) c.like.superblock ∙ sym (member_there old.array k m 0 (λ x. x.superblock.recovery_offset) c.at))
+        ∙ put-self k earlier.sure_offset
 
     same_recovering : put k (has_recovery_offset n.superblock) earlier.recovering ≡ earlier.recovering
     same_recovering =
         ap (λ b. put k b earlier.recovering) (ap has_recovery_offset c.like.superblock ∙ sym (member_there old.array k m false (λ x. has_recovery_offset x.superblock) c.at))
         ∙ put-self k earlier.recovering
 
-    pub changed_world : world_of new requests ≡ with_member
+    pub changed_world : world_of new requests ≡ with_member_at
     changed_world =
         own_world k m n w old new as_own e there requests
-        ∙ (λ i. record with_member { bad = same_bad i; offset = same_offset i; recovering = same_recovering i })
+        ∙ (λ i. record with_member_at { bad = same_bad i; offset = same_offset i; sure_offset = same_sure i; recovering = same_recovering i })

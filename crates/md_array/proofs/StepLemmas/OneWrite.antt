@@ -7,19 +7,20 @@ use Rattle.std.proofs.lemmas.Option.{slice_get_within}
 use Rattle.md_device.specs.Device.{written}
 use Rattle.md_device.specs.Splice.{SameOutside}
 use Rattle.md_device.specs.declared.device.Device.{Ghosts}
-use Rattle.md_device_writes.specs.Writes.{DoesWrites, IsAnyIn, IsCutShort, FailsInWrites, Write}
-use Rattle.md_device_writes.proofs.Runs.{stops_in_one}
+use Rattle.md_members.specs.DeviceWrites.Writes.{DoesWrites, IsAnyIn, IsCutShort, FailsInWrites, Write}
+use Rattle.md_members.proofs.DeviceWriteLemmas.Runs.{failed_in_one, stops_in_one}
 use Rattle.md_kept_members.specs.View.{MemberView}
-use Rattle.md_stored_members.specs.OneOfMany.{WritesAlone}
+use Rattle.md_kept_members.specs.OnDevices.OneOfMany.{WritesAlone}
 use Rattle.md_state.specs.View.{ArrayView, Disk, MirrorView, disk_of}
 use Rattle.md_state.specs.Members.{IsMember}
 use Rattle.md_state.specs.DeviceChanges.{LeavesOn, StaysHonest}
-use Rattle.md_state.specs.DiskWrites.{AtDevice, IsFailed, IsTried, IsWritten}
+use Rattle.md_state.specs.DiskWrites.{AtDevice, HasThisFailed, IsFailed, IsTried, IsWritten}
 use Rattle.md_array.specs.Consistency.{IsConsistent}
 use Rattle.md_array.specs.Fits.{Fits, FitsMember}
 use Rattle.md_array.proofs.Openings.DevicesInTurn.{disk_at}
 use Rattle.md_array.proofs.General.Indices.{at_set_same, got_other}
 use Rattle.md_assembly.proofs.Indices.{got_same}
+use Rattle.md_state.proofs.Stays.{stays_written}
 
 -- what holds of the device at k before and after
 pub at_device : (before : List Disk) (k : ℕ) (d e : Disk) (Related : Disk → Disk → Type 0) → slice_get before k ≡ Some d → Related d e → AtDevice k before (set before k e) Related
@@ -53,7 +54,7 @@ module _ {D : Type 0} (g : Ghosts D) (devices : List D) (k : ℕ) (was : D) (rea
         let d = disk_of g was in
         let e = disk_of g new in
         rw (map-set (disk_of g) devices k new) (record {
-          tried = tried before k d e w (here within) (record { honest = does.kept.honest_kept; counted = does.kept.counted }) outside;
+          tried = tried before k d e w (here within) (stays_written g was new does.kept) outside;
           done = at_device before k d e (λ a b. a.honest ≡ true → b.content ≡ written a.content w.sector w.bytes) (here within) does.all_done;
           within = at_device before k d e (λ a b. a.honest ≡ true → LeavesOn (IsCutShort a.content (w ∷ [])) a b) (here within) does.within;
         })
@@ -65,8 +66,9 @@ module _ {D : Type 0} (g : Ghosts D) (devices : List D) (k : ℕ) (was : D) (rea
         let d = disk_of g was in
         let e = disk_of g new in
         rw (map-set (disk_of g) devices k new) (record {
-          tried = tried before k d e w (here within) (record { honest = stops.kept.honest_kept; counted = stops.kept.counted }) outside;
+          tried = tried before k d e w (here within) (stays_written g was new stops.kept) outside;
           failed = at_device before k d e (λ a b. a.honest ≡ true → a.failures < b.failures) (here within) stops.failed;
+          there = at_device before k d e (HasThisFailed w) (here within) (failed_in_one g w was new stops);
           within = at_device before k d e (λ a b. a.honest ≡ true → LeavesOn (IsAnyIn w a.content) a b) (here within) (stops_in_one g w was new stops);
         })
 

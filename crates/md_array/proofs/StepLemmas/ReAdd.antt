@@ -22,7 +22,7 @@ use Rattle.md_bitmap.specs.declared.header.BitmapHeader.{BitmapHeader}
 use Rattle.md_bitmap.specs.Marks.{Bitmap}
 use Rattle.md_bitmap.specs.Sound.{chunk_count}
 use Rattle.md_bitmap.proofs.Limits.{div_ceil-sectors}
-use Rattle.md_members.specs.Reading.{UnlessReadFault}
+use Rattle.md_members.specs.Reading.{CallFails, UnlessReadFault}
 use Rattle.md_members.specs.declared.fault.MemberFault.{MemberFault}
 use Rattle.md_members.specs.declared.fault.MemberFault.TheVariants as member_fault
 use Rattle.md_members.specs.declared.info.MemberInfo.{MemberInfo}
@@ -31,20 +31,20 @@ use Rattle.md_members.specs.Areas.{BitmapIsPlaced, AreAreasPlaced, LogIsPlaced, 
 use Rattle.md_members.specs.Members.{HasBitmap, reads_log, sectors_of_device}
 use Rattle.md_assembly.specs.declared.state.MemberState.{MemberState}
 use Rattle.md_assembly.specs.States.{is_in_sync}
-use Rattle.md_device_writes.specs.Writes.{DoesWrites, FailsInWrites}
-use Rattle.md_requests.specs.Pending.{PendingView, has_written}
+use Rattle.md_members.specs.DeviceWrites.Writes.{DoesWrites, FailsInWrites}
+use Rattle.md_inflight.specs.Requests.Pending.{PendingView, has_written}
 use Rattle.md_faults.specs.declared.re_add_fault.ReAddFault.{ReAddFault}
 use Rattle.md_faults.specs.declared.re_add_fault.ReAddFault.TheVariants as fault
-use Rattle.md_membership.specs.Joining.{joined_shared}
-use Rattle.md_membership.specs.Numbers.{has_number}
-use Rattle.md_stored_members.specs.Superblocks.{IsReadable, write_of}
+use Rattle.md_kept_members.specs.Membership.Joining.{joined_shared}
+use Rattle.md_kept_members.specs.Membership.Numbers.{has_number}
+use Rattle.md_kept_members.specs.OnDevices.Superblocks.{IsReadable, write_of}
 use Rattle.md_state.specs.DiskWrites.{IsFailed, IsWritten}
 use Rattle.md_state.specs.Steps.NoteJoined.{joined}
 use Rattle.md_state.specs.Members.{is_degraded}
-use Rattle.md_state.specs.Steps.ReAdd.{MayReAdd, RefusesToTakeBack, IsOffsetBack, IsReAddable}
+use Rattle.md_state.specs.Steps.ReAdd.{MayReAdd, RefusesToTakeBack, IsOffsetBack, IsReAddable, IsSureBack}
 use Rattle.md_state.specs.Requests.{IsPending, lacks}
 use Rattle.md_state.specs.Steps.Rise.{risen}
-use Rattle.md_state.specs.View.{ArrayView, Disk, MirrorView, disk_of}
+use Rattle.md_state.specs.View.{ArrayView, Disk, MirrorView, disk_of, of_disks}
 use Rattle.md_array.specs.Consistency.{IsConsistent}
 use Rattle.md_array.specs.Fits.{FitsMember}
 use Rattle.md_array.specs.Steps.ReAdd.{FailsToRecordLast, IsOnlyRead, ReAdds, RecordsLast, RefusesDevice, RefusesInfo, RefusesReAdd, RefusesToRecordLast, unread_as}
@@ -112,7 +112,7 @@ reads_of content honest info m (Some g) None header stored b = absurd b
 reads_of content honest info m None (Some s) header stored b = absurd b
 reads_of content honest info m None None header stored b = absurd (none-some m.header header)
 
-module _ (a : ArrayView) (offset : ℕ) (info : MemberInfo) (m : MemberView) (taken : IsKeptTakenBack offset info m) (may : MayReAdd a info) (content : List ℕ) (honest : Bool) (read : members.IsReadMember content honest info) where
+module _ (a : ArrayView) (offset sure : ℕ) (info : MemberInfo) (m : MemberView) (taken : IsKeptTakenBack offset sure info m) (may : MayReAdd a info) (content : List ℕ) (honest : Bool) (read : members.IsReadMember content honest info) where
   reads : ReadsBitmapOf content info m
   reads = reads_of content honest info m info.header info.marks taken.header taken.stored read.bitmap
 
@@ -144,12 +144,12 @@ module _ (a : ArrayView) (offset : ℕ) (info : MemberInfo) (m : MemberView) (ta
       record {
         long = omega arith;
         short = omega arith;
-        has = ap has_bitmap taken.superblock ∙ recovering_bitmap offset v ∙ bitmap_same info.bad info.superblock ∙ reads.has;
-        placed = rw (taken.superblock, reads.counted, ← as_long) (recovering_placed offset v _ _ (placed_next info.bad info.superblock.recovery_offset info.superblock _ _ reads.placed));
+        has = ap has_bitmap taken.superblock ∙ recovering_bitmap sure v ∙ bitmap_same info.bad info.superblock ∙ reads.has;
+        placed = rw (taken.superblock, reads.counted, ← as_long) (recovering_placed sure v _ _ (placed_next info.bad info.superblock.recovery_offset info.superblock _ _ reads.placed));
         few_chunks = rw reads.counted reads.few;
         sound = record { chunk_size = m.header.sound.chunk_size; few_chunks = subst (λ n. chunk_count n m.header.chunksize ≤ 1048576) size_there reads.few };
         told = λ _ sector bad.
-            ap reads_log taken.superblock ∙ recovering_log_bit offset v
+            ap reads_log taken.superblock ∙ recovering_log_bit sure v
             ∙ told_next content honest info.superblock info.bad read.bad sector (sym (ap (λ (runs : List Run). lies_in runs sector) taken.bad) ∙ bad);
       }
 
@@ -184,7 +184,10 @@ module _ (k : ℕ) (device : Disk) (old new : MirrorView) (c : IsConsistent old)
   abbrev offset : ℕ
   offset = r.recorded.takes.offset
 
-  abbrev taken : IsKeptTakenBack offset info m
+  abbrev sure : ℕ
+  sure = r.recorded.takes.sure
+
+  abbrev taken : IsKeptTakenBack offset sure info m
   taken = r.recorded.takes.taken
 
   abbrev may : MayReAdd a info
@@ -212,25 +215,25 @@ module _ (k : ℕ) (device : Disk) (old new : MirrorView) (c : IsConsistent old)
   small =
       let low = may.fits.role.has_role in
       let few = a.shared.in_profile.few_disks in
-      rw (number_there a offset info m taken may device.content device.honest r.read)
+      rw (number_there a offset sure info m taken may device.content device.honest r.read)
       (small_number a.shared.raid_disks device.content device.honest info few r.read low)
 
   pub room : length a.members < 64
   room = elim (cases_lt (length a.members) 64) [ inl low ↦ low | inr full ↦ absurd (may.room full) ]
 
   pub absent : has_number a.members m.superblock.dev_number ≡ false
-  absent = ap (has_number a.members) (number_there a offset info m taken may device.content device.honest r.read) ∙ may.fits.role.absent
+  absent = ap (has_number a.members) (number_there a offset sure info m taken may device.content device.honest r.read) ∙ may.fits.role.absent
 
   pub taken_back_is_consistent : IsConsistent new
   unfolding after
   taken_back_is_consistent =
       subst IsConsistent (sym is_after)
       (joined_is_consistent a m role small absent room (recovers_alone a m role taken.state may.free may.fits.role.has_role)
-      (size_kept a offset info m taken may device.content device.honest r.read)
-      (width_kept a offset info m taken may device.content device.honest r.read)
-      (count_kept a offset info m taken may device.content device.honest r.read c.chunks.size c.chunks.count)
+      (size_kept a offset sure info m taken may device.content device.honest r.read)
+      (width_kept a offset sure info m taken may device.content device.honest r.read)
+      (count_kept a offset sure info m taken may device.content device.honest r.read c.chunks.size c.chunks.count)
       old.disks r.recorded.now
-      (fits_taken a offset info m taken may device.content device.honest r.read r.recorded.now as_long short_device)
+      (fits_taken a offset sure info m taken may device.content device.honest r.read r.recorded.now as_long short_device)
       c)
 
   pub taken_back_keeps_pending : (p : PendingView) → IsPending old.array p → IsPending new.array p
@@ -258,11 +261,11 @@ re_add_unchanged device given old new fault.NoMemory r = r.unchanged
 -- ---- it is refused
 -- it is not read as a member
 module _ (device given : Disk) (v : MirrorView) (running : v.array.halted ≡ false) (only_read : IsOnlyRead device given) where
-  unread : (f : MemberFault) → members.RefusesMember device.content device.honest (device.failures < given.failures) f → (f ≢ member_fault.ReadFault → given.failures ≡ device.failures)
+  unread : (f : MemberFault) → members.RefusesMember device.content device.honest (CallFails of_disks device given) f → (f ≢ member_fault.ReadFault → given.failures ≡ device.failures)
       → f ≢ member_fault.NoMemory → RefusesDevice device given v v f
   unread f refused unfailing memory = record { running = running; unchanged = refl; only_read = only_read; unfailing = unfailing; refused = refused; memory = memory }
 
-  pub refused_device : (f : MemberFault) → members.RefusesMember device.content device.honest (device.failures < given.failures) f
+  pub refused_device : (f : MemberFault) → members.RefusesMember device.content device.honest (CallFails of_disks device given) f
       → UnlessReadFault {T = MemberInfo} (Err f) (given.failures ≡ device.failures) → RefusesReAdd device given v v (unread_as f)
   refused_device member_fault.TooShort r same = unread member_fault.TooShort r (λ _. same) (λ is. cc)
   refused_device member_fault.ReadFault r _ = unread member_fault.ReadFault r (λ other. absurd (other refl)) (λ is. cc)
@@ -298,7 +301,7 @@ joined_is a b m v full number role shared same told due is =
     ∙ (λ i. record (joined a m role) { members = map made_due a.members ++ record m { due = sym due i } ∷ [] })
 
 -- on its device, by the contract of the write
-module _ {D : Type 0} (g : Ghosts D) (was now : D) (a : ArrayView) (offset : ℕ) (info : MemberInfo) (m : MemberView) (offset_is : IsOffsetBack a info offset) (taken : IsKeptTakenBack offset info m) (v : Superblock)
+module _ {D : Type 0} (g : Ghosts D) (was now : D) (a : ArrayView) (offset sure : ℕ) (info : MemberInfo) (m : MemberView) (offset_is : IsOffsetBack a info offset) (sure_is : IsSureBack a offset sure) (taken : IsKeptTakenBack offset sure info m) (v : Superblock)
     (shared : v ≡ joined_shared a.shared a.members info.superblock.dev_number (own_role info.superblock)) (outside : SameOutside (512 * 8) (length (write_of v m).bytes) (g.content was) (g.content now)) where
   number_kept : m.superblock.dev_number ≡ info.superblock.dev_number
   number_kept = ap (λ (x : Superblock). x.dev_number) taken.superblock
@@ -314,7 +317,7 @@ module _ {D : Type 0} (g : Ghosts D) (was now : D) (a : ArrayView) (offset : ℕ
       record {
         last = last;
         short = short;
-        takes = record { may = may; member = m; offset = offset; offset_is = offset_is; taken = taken; array = array };
+        takes = record { may = may; member = m; offset = offset; offset_is = offset_is; sure = sure; sure_is = sure_is; taken = taken; array = array };
         readable = subst (λ (x : Superblock). IsReadable (merged x m.superblock)) same readable;
         now = disk_of g now;
         written = subst (λ (x : Superblock). IsWritten 0 (write_of x m) (disk_of g was ∷ []) (disk_of g now ∷ [])) same
@@ -328,6 +331,8 @@ module _ {D : Type 0} (g : Ghosts D) (was now : D) (a : ArrayView) (offset : ℕ
     member = m;
     offset = offset;
     offset_is = subst (λ (x : ArrayView). IsOffsetBack x info offset) (sym array) offset_is;
+    sure = sure;
+    sure_is = subst (λ (x : ArrayView). IsSureBack x offset sure) (sym array) sure_is;
     taken = taken;
     failed = subst (λ (x : ArrayView). IsFailed 0 (write_of (joined_shared x.shared x.members m.superblock.dev_number (own_role info.superblock)) m) (disk_of g was ∷ []) (disk_of g now ∷ [])) (sym array)
         (subst (λ (x : Superblock). IsFailed 0 (write_of x m) (disk_of g was ∷ []) (disk_of g now ∷ [])) shared_kept

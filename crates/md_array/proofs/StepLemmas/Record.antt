@@ -1,7 +1,7 @@
 -- A member's superblock that is stored is the model's event, and the mirror stays consistent.
 use Rattle.std.proofs.Common.{◌≡◌, ℕ, ◌+◌, ◌*◌, ◌/◌, inl, inr, Bool, true, false, true≢false, ◌&&◌, nat_lt, List, slice_get, Option, Some, refl, sym, ap, ◌∙◌, subst, arith}
 use Rattle.std.proofs.lemmas.Option.{slice_get_within}
-use Rattle.md_stored_members.specs.Superblocks.{IsReadable}
+use Rattle.md_kept_members.specs.OnDevices.Superblocks.{IsReadable}
 use Rattle.md_array.proofs.StepLemmas.ListGrown.{grows_by}
 use Rattle.md_array.specs.Consistency.{HasPlaces, HasSuper, IsConsistent}
 use Rattle.md_array.specs.ReadAsKept.{IsReadAsKept}
@@ -35,7 +35,8 @@ use Rattle.md_model.specs.Steps.{KeepsList, recorded, recorded_device, super_for
 use Rattle.md_model.specs.Events.{Event, Step}
 use Rattle.md_model.proofs.Steps.Between.{between_step, in_flight_step}
 use Rattle.md_model.proofs.Puts.{put-miss, put-self}
-use Rattle.md_requests.specs.Pending.{PendingView}
+use Rattle.md_inflight.specs.Requests.Pending.{PendingView}
+use Rattle.md_kept_members.specs.Members.{recorded_member}
 use Rattle.md_kept_members.specs.View.{MemberView}
 use Rattle.md_state.specs.View.{ArrayView, Disk, MirrorView, geometry_of}
 use Rattle.md_state.specs.Members.{IsMember}
@@ -80,7 +81,7 @@ module _ (k : ℕ) (old new : MirrorView) (is : IsConsistent old) (r : Records k
   m = r.member
 
   abbrev n : MemberView
-  n = record r.member { due = false }
+  n = recorded_member r.member
 
   abbrev a : ArrayView
   a = old.array
@@ -91,7 +92,7 @@ module _ (k : ℕ) (old new : MirrorView) (is : IsConsistent old) (r : Records k
   changes : ChangesMember k m n (super_write a m) old new
   changes = record {
     at = r.may.at;
-    like = record { superblock = refl; bad = refl; header = refl; chunks = refl; state = refl };
+    like = record { superblock = refl; bad = refl; offset = refl; header = refl; chunks = refl; state = refl };
     disks = r.disks.tried;
     array = r.array;
   }
@@ -181,8 +182,10 @@ module _ (k : ℕ) (old new : MirrorView) (is : IsConsistent old) (r : Records k
     world_recorded =
         let known : put k (λ s. nat_lt s a.marks.chunks && is_set m.stored.bytes s) w.known ≡ w.known =
         ap (λ (f : ℕ → Bool). put k f w.known) (λ i s. sym (member_there a k m false (λ x. nat_lt s a.marks.chunks && is_set x.stored.bytes s) r.may.at) i) ∙ put-self k w.known in
+        let told : put k m.superblock.recovery_offset w.stored_offset ≡ put k (w.sure_offset k) w.stored_offset =
+        ap (λ o. put k o w.stored_offset) (sym (member_there a k m 0 (λ x. x.superblock.recovery_offset) r.may.at)) in
         changed_world k m n (super_write a m) old new changes e after requests
-        ∙ (λ i. record w { stored = put k (stored_recorded i) w.stored; due = put k false w.due; known = known i })
+        ∙ (λ i. record w { stored = put k (stored_recorded i) w.stored; due = put k false w.due; known = known i; stored_offset = told i })
 
     step : Step (geometry_of a) w (Event.Record k) (world_of new requests)
     step =

@@ -4,7 +4,7 @@ use Rattle.md_assembly.specs.declared.state.MemberState.{MemberState}
 use Rattle.md_assembly.specs.declared.state.MemberState.TheVariants.{InSync, Recovering, Stale, Spare, Faulty}
 use Rattle.md_assembly.specs.States.{is_recorded}
 use Rattle.md_kept_members.specs.View.{MemberView}
-use Rattle.md_requests.specs.Pending.{PendingView}
+use Rattle.md_inflight.specs.Requests.Pending.{PendingView}
 use Rattle.md_state.specs.Missing.{is_rebuilt}
 use Rattle.md_state.specs.Requests.{IsPending}
 use Rattle.md_state.specs.View.{ArrayView, MirrorView}

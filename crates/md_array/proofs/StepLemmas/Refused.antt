@@ -1,6 +1,6 @@
 -- Storing something on a member is refused, or its write fails.
 use Rattle.std.proofs.Common.{ℕ, refl, inl, inr}
-use Rattle.md_device_writes.specs.Writes.{Write}
+use Rattle.md_members.specs.DeviceWrites.Writes.{Write}
 use Rattle.md_kept_members.specs.View.{MemberView}
 use Rattle.md_faults.specs.declared.step_fault.StoreFault.{StoreFault}
 use Rattle.md_faults.specs.declared.step_fault.StoreFault.TheVariants.{Halted, NotActive, MemberFailed}

@@ -3,7 +3,7 @@ use Rattle.std.proofs.Common.{◌≡◌, ℕ, ◌-◌, ◌^◌, ◌≤◌, false
 use Rattle.md_bitmap.specs.Marks.{Bitmap, is_set}
 use Rattle.md_inflight.specs.Inflight.{InflightList}
 use Rattle.md_model.specs.Worlds as worlds
-use Rattle.md_requests.specs.declared.extent.Extent.{Extent}
+use Rattle.md_inflight.specs.declared.requests.extent.Extent.{Extent}
 use Rattle.md_state.specs.View.{Disk, ArrayView, MirrorView}
 use Rattle.md_state.specs.InMemory.{HasMarksOfSize, HasRoles}
 use Rattle.md_state.specs.Requests.{AreInside}

@@ -14,8 +14,8 @@ use Rattle.md_create.specs.declared.params.NewMember.{NewMember}
 use Rattle.md_create.specs.Layout.{IsLaidOutAs}
 use Rattle.md_create.specs.ReadBack.{IsReadBack, sealed}
 use Rattle.md_create.proofs.Laid.{few_sectors}
-use Rattle.md_device_writes.proofs.Frames.{outside_none}
-use Rattle.md_stored_members.specs.Storing.{sector_from_super}
+use Rattle.md_members.proofs.DeviceWriteLemmas.Frames.{outside_none}
+use Rattle.md_kept_members.specs.OnDevices.Storing.{sector_from_super}
 use Rattle.md_state.specs.Steps.Add.{IsSpareOf, added}
 use Rattle.md_state.specs.View.{ArrayView}
 use Rattle.md_array.specs.Steps.Add.{kept_of}

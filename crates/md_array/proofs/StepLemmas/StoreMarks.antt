@@ -15,7 +15,7 @@ use Rattle.md_bitmap.proofs.Padded.{length-padded, slice_index-padded}
 use Rattle.md_bitmap.specs.Sectors.{bitmap_sector}
 use Rattle.md_bitmap.proofs.Blocks.{length-bitmap_sector}
 use Rattle.md_members.specs.Areas.{bitmap_sectors}
-use Rattle.md_device_writes.specs.Writes.{Write}
+use Rattle.md_members.specs.DeviceWrites.Writes.{Write}
 use Rattle.md_model.specs.Sectors.{block_of, put}
 use Rattle.md_model.specs.States as model
 use Rattle.md_model.specs.Devices.{Stored}
@@ -26,10 +26,10 @@ use Rattle.md_model.proofs.Steps.Between.{between_step, in_flight_step}
 use Rattle.md_model.proofs.Puts.{by_same, put-at, put-self}
 use Rattle.md_assembly.specs.States.{is_in_sync}
 use Rattle.md_assembly.proofs.Indices.{got_within}
-use Rattle.md_requests.specs.Pending.{PendingView}
+use Rattle.md_inflight.specs.Requests.Pending.{PendingView}
 use Rattle.md_kept_members.specs.View.{MemberView}
-use Rattle.md_stored_members.specs.Storing.{sector_from_super}
-use Rattle.md_stored_members.proofs.Beside.{sector_at_is}
+use Rattle.md_kept_members.specs.OnDevices.Storing.{sector_from_super}
+use Rattle.md_kept_members.proofs.OnDeviceLemmas.Beside.{sector_at_is}
 use Rattle.md_state.specs.View.{ArrayView, Disk, MirrorView, geometry_of}
 use Rattle.md_state.specs.Steps.StoreMarks.{StoresMarkSector}
 use Rattle.md_state.specs.Requests.{IsPending}
@@ -122,7 +122,7 @@ module _ (k block : ℕ) (old new : MirrorView) (is : IsConsistent old) (low : b
   changes : ChangesMember k m n r.write old new
   changes = record {
     at = r.may.in_sync.member;
-    like = record { superblock = refl; bad = refl; header = refl; chunks = r.has_stored.chunks; state = refl };
+    like = record { superblock = refl; bad = refl; offset = refl; header = refl; chunks = r.has_stored.chunks; state = refl };
     disks = r.disks.tried;
     array = r.array;
   }
@@ -237,8 +237,10 @@ module _ (k block : ℕ) (old new : MirrorView) (is : IsConsistent old) (low : b
     world_marked : world_of new requests ≡ marks_stored w k block
     world_marked =
         let due : put k m.due w.due ≡ w.due = ap (λ (b : Bool). put k b w.due) (sym (member_there a k m false (λ x. x.due) r.may.in_sync.member)) ∙ put-self k w.due in
+        let told : put k m.stored_offset w.stored_offset ≡ w.stored_offset =
+        ap (λ o. put k o w.stored_offset) (sym (member_there a k m 0 (λ x. x.stored_offset) r.may.in_sync.member)) ∙ put-self k w.stored_offset in
         changed_world k m n r.write old new changes e after requests
-        ∙ (λ i. record w { stored = put k (stored_marked i) w.stored; due = due i; known = put k (λ c. known_marked c i) w.known })
+        ∙ (λ i. record w { stored = put k (stored_marked i) w.stored; due = due i; known = put k (λ c. known_marked c i) w.known; stored_offset = told i })
 
     step : Step (geometry_of a) w (Event.StoreMarks k block) (world_of new requests)
     step =

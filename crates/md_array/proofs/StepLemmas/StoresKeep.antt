@@ -3,7 +3,7 @@
 use Rattle.std.proofs.Common.{◌<◌, ℕ, inl, inr, sym, subst}
 use Rattle.md_members.specs.Areas.{bitmap_sectors}
 use Rattle.md_model.specs.Events.{Event, MemberPart}
-use Rattle.md_requests.specs.Pending.{PendingView}
+use Rattle.md_inflight.specs.Requests.Pending.{PendingView}
 use Rattle.md_faults.specs.declared.step_fault.StoreFault.{StoreFault}
 use Rattle.md_faults.specs.declared.step_fault.StoreFault.TheVariants.{Halted, NotActive, MemberFailed}
 use Rattle.md_state.specs.View.{MirrorView}

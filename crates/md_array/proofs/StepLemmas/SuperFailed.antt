@@ -24,7 +24,7 @@ use Rattle.md_array.proofs.Worlds.InSync.{in_sync_of}
 use Rattle.md_array.proofs.Worlds.Supers.{super_shown}
 use Rattle.md_device.specs.Splice.{SameOutside}
 use Rattle.md_assembly.specs.States.{is_in_sync}
-use Rattle.md_device_writes.specs.Writes.{Write}
+use Rattle.md_members.specs.DeviceWrites.Writes.{Write}
 use Rattle.md_kept_members.specs.View.{MemberView}
 use Rattle.md_state.specs.View.{ArrayView, Disk, MirrorView}
 

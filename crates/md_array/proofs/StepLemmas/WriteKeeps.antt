@@ -1,7 +1,7 @@
 -- What `write_member` and `finish` keep, and which events they are, whatever they answer.
 use Rattle.std.proofs.Common.{◌≡◌, ◌≢◌, ℕ, inl, inr, sym, subst}
 use Rattle.std.specs.Prelude.{IfErr, MatchResult, OnOk, Result, Ok, Err}
-use Rattle.md_requests.specs.Pending.{PendingView}
+use Rattle.md_inflight.specs.Requests.Pending.{PendingView}
 use Rattle.md_faults.specs.declared.step_fault.FinishFault.{FinishFault}
 use Rattle.md_faults.specs.declared.step_fault.FinishFault.TheVariants as finish
 use Rattle.md_faults.specs.declared.step_fault.WriteMemberFault.{WriteMemberFault}

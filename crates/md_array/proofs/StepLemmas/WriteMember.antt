@@ -13,19 +13,21 @@ use Rattle.md_assembly.proofs.Indices.{got_within}
 use Rattle.md_model.specs.Sectors.{put}
 use Rattle.md_model.specs.Devices.{Stored}
 use Rattle.md_model.specs.Events.{Event, Step}
+use Rattle.md_model.specs.States as model
 use Rattle.md_model.specs.Steps as steps
 use Rattle.md_model.specs.Worlds.{Request, World, touches}
 use Rattle.md_model.proofs.Steps.Between.{between_step, in_flight_step}
 use Rattle.md_model.proofs.Cases.{below-nat_lt, by_test}
 use Rattle.md_model.proofs.Puts.{put-hit, put-self, put-twice}
-use Rattle.md_requests.specs.Pending.{PendingView, has_written, request_sectors}
+use Rattle.md_inflight.specs.Requests.Pending.{PendingView, has_written, request_sectors}
 use Rattle.md_kept_members.specs.View.{MemberView}
 use Rattle.md_state.specs.Requests.{AreInFlight, IsPending, among, lacks, request_of}
 use Rattle.md_state.specs.View.{ArrayView, Disk, MirrorView, geometry_of}
+use Rattle.md_state.specs.Steps.Begin.{first_sector}
 use Rattle.md_state.specs.Steps.WriteMember.{MayWrite, WritesTo, data_write}
 use Rattle.md_array.specs.Consistency.{HasPlaces, HasSuper, IsConsistent}
 use Rattle.md_array.specs.Events.{HappensAmong}
-use Rattle.md_array.specs.Worlds.{stored_of, super_in, world_of}
+use Rattle.md_array.specs.Worlds.{kind_of, stored_of, super_in, world_of}
 use Rattle.md_array.proofs.General.Honesty.{tried_honest}
 use Rattle.md_array.proofs.StepLemmas.InFlight.{among_in_flight, inside_of, is_touched, not_touched, whole_of}
 use Rattle.md_array.proofs.Worlds.Listed.{still_next, still_known}
@@ -33,6 +35,8 @@ use Rattle.md_array.proofs.StepLemmas.OneMember.{ChangesMember, changed_is_consi
 use Rattle.md_array.proofs.Worlds.PartsApart.{HasParts, block_beside_data, data_alone, data_elsewhere, log_beside_data, parts_of}
 use Rattle.md_array.proofs.Worlds.ReadAsKept.{changed_read, read_beside_data}
 use Rattle.md_array.proofs.Worlds.InSync.{in_sync_is, in_sync_there, number_at}
+use Rattle.md_array.proofs.Worlds.Shown.{at_is, at_past, by_member}
+use Rattle.md_array.proofs.Worlds.States.{same_recovering}
 use Rattle.md_array.proofs.General.Indices.{one_fewer, set_itself}
 
 -- ---- the numbers of those that have it
@@ -60,6 +64,9 @@ part-spliced_within xs at ys i n low fits =
 
 -- ---- what a member's write asks is what the model asks
 module _ (k : ℕ) (v : MirrorView) (p : PendingView) (c : IsConsistent v) (pending : IsPending v.array p) (m : MemberView) (may : MayWrite k v.array p m) (others : ℕ → Option Request) where
+  abbrev start : ℕ
+  start = first_sector v.array p.sector
+
   pub may_write : steps.MayWrite (geometry_of v.array) (world_of v (among p others)) p.ticket.number (request_of p) k
   may_write = record {
     in_flight = put-hit p.ticket.number (Some (request_of p)) others;
@@ -75,6 +82,11 @@ module _ (k : ℕ) (v : MirrorView) (p : PendingView) (c : IsConsistent v) (pend
         (subst (λ (y : ℕ). s / v.array.chunks.sectors < y) (sym c.chunks.count) (div-lt-div_ceil v.array.chunks.size v.array.chunks.sectors s c.chunks.wide (omega arith))))
         (may.intent.marked j x.0 x.1 s there.0 there.1);
     recorded = λ j on. let x = in_sync_is v.disks v.array (among p others) j on in member_there v.array j x.0 false (λ y. y.due) x.1.member ∙ may.intent.recorded j x.0 x.1;
+    unsaid = λ j. by_member v.array j
+        (λ x is. (λ i. model.is_recovering (at_is v.array j model.State.Faulty (λ y. kind_of y.state) x is i) && nat_lt start (at_is v.array j 0 (λ y. y.stored_offset) x is i))
+        ∙ ap (λ b. b && nat_lt start x.stored_offset) (same_recovering x.state)
+        ∙ may.intent.unsaid j x is)
+        (λ past. ap (λ s. model.is_recovering s && nat_lt start ((world_of v (among p others)).stored_offset j)) (at_past v.array j model.State.Faulty (λ y. kind_of y.state) past));
     unwritten = ap (has_written p) (number_at v.disks v.array (among p others) k m may.intent.in_sync.member) ∙ may.unwritten;
   }
 
@@ -107,7 +119,7 @@ module _ (k : ℕ) (old new : MirrorView) (p q : PendingView) (c : IsConsistent 
   changes : ChangesMember k m m (data_write m p) old new
   changes = record {
     at = t.may.intent.in_sync.member;
-    like = record { superblock = refl; bad = refl; header = refl; chunks = refl; state = refl };
+    like = record { superblock = refl; bad = refl; offset = refl; header = refl; chunks = refl; state = refl };
     disks = t.disks.tried;
     array = t.array ∙ (λ i. record old.array { members = sym (set_itself a.members k m t.may.intent.in_sync.member) i });
   }
@@ -221,8 +233,10 @@ module _ (k : ℕ) (old new : MirrorView) (p q : PendingView) (c : IsConsistent 
         ap (λ (b : Bool). put k b w.due) (sym (member_there a k m false (λ x. x.due) is)) ∙ put-self k w.due in
         let known : put k (λ s. nat_lt s a.marks.chunks && is_set m.stored.bytes s) w.known ≡ w.known =
         ap (λ (f : ℕ → Bool). put k f w.known) (λ i s. sym (member_there a k m false (λ x. nat_lt s a.marks.chunks && is_set x.stored.bytes s) is) i) ∙ put-self k w.known in
+        let told : put k m.stored_offset w.stored_offset ≡ w.stored_offset =
+        ap (λ o. put k o w.stored_offset) (sym (member_there a k m 0 (λ x. x.stored_offset) is)) ∙ put-self k w.stored_offset in
         changed_world k m m (data_write m p) old new changes e after (among q others)
-        ∙ (λ i. record w { stored = put k (stored_written i) w.stored; due = due i; known = known i; request = requests_then i })
+        ∙ (λ i. record w { stored = put k (stored_written i) w.stored; due = due i; known = known i; request = requests_then i; stored_offset = told i })
 
     step : Step (geometry_of a) w (Event.WriteMember p.ticket.number k) (world_of new (among q others))
     step = (t.may.intent.running, (r, may_write k old p c pending m t.may others, world_written))

@@ -1,12 +1,12 @@
 -- A device that is read, written once, and then stands behind the others.
-use Rattle.std.proofs.Common.{◌≡◌, ◌∙◌, ℕ, ◌*◌, inl, inr, true, List, [], ◌∷◌, ◌++◌, length, sym, ap, refl, subst, arith}
+use Rattle.std.proofs.Common.{◌≡◌, ◌∙◌, ℕ, ◌*◌, inl, inr, true, List, [], ◌∷◌, ◌++◌, length, sym, ap, refl, subst}
 use Rattle.std.proofs.lemmas.List.{length_push}
 use Rattle.std.proofs.lemmas.Option.{same_Some}
 use Rattle.md_device.specs.Device.{written}
 use Rattle.md_device.specs.Splice.{SameOutside}
 use Rattle.md_device.specs.Crashes.{LeavesMore}
 use Rattle.md_device.proofs.Leaving.{leaves_less, leaves_then, mixed_none}
-use Rattle.md_device_writes.specs.Writes.{IsCutShort, Write}
+use Rattle.md_members.specs.DeviceWrites.Writes.{IsCutShort, Write}
 use Rattle.md_kept_members.proofs.Members.Indices.{listed_push}
 use Rattle.md_state.specs.DeviceChanges.{LeavesOn, StaysHonest}
 use Rattle.md_state.specs.DiskWrites.{AtDevice, IsWritten}
@@ -14,6 +14,7 @@ use Rattle.md_state.specs.View.{Disk}
 use Rattle.md_array.specs.Steps.ReAdd.{IsOnlyRead}
 use Rattle.md_array.specs.Worlds.{AreHonest}
 use Rattle.md_array.proofs.General.Appended.{got_beside, got_last}
+use Rattle.md_state.proofs.Stays.{stays_then}
 
 -- what holds of the last device
 at_last : (ds : List Disk) (d e : Disk) (Related : Disk → Disk → Type 0) → Related d e → AtDevice (length ds) (ds ++ d ∷ []) (ds ++ e ∷ []) Related
@@ -27,13 +28,11 @@ pub written_last : (ds : List Disk) (d e f : Disk) (w : Write) → IsOnlyRead d 
 written_last ds d e f w only done =
     let same : e.content ≡ d.content = only.0.0 in
     let stays = done.tried.stays e f refl refl in
-    let counted = stays.counted in
-    let read_counted = only.1.counted in
     record {
       tried = record {
         as_many = length_push ds f ∙ sym (length_push ds d);
         others = λ j other. got_beside ds d f j other;
-        stays = at_last ds d f StaysHonest (record { honest = stays.honest ∙ only.1.honest; counted = omega arith });
+        stays = at_last ds d f StaysHonest (stays_then d e f only.1 stays);
         outside = at_last ds d f (λ a b. SameOutside (512 * w.sector) (length w.bytes) a.content b.content)
             (subst (λ (x : List ℕ). SameOutside (512 * w.sector) (length w.bytes) x f.content) same (done.tried.outside e f refl refl));
       };

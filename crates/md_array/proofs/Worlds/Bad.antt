@@ -12,7 +12,7 @@ use Rattle.md_members.specs.Areas.{has_bad_blocks}
 use Rattle.md_members.specs.Members.{HasBadSet, reads_log}
 use Rattle.md_members.specs.Reading.{ReadsLog}
 use Rattle.md_kept_members.specs.OwnFields.{kept_shift, stored_next}
-use Rattle.md_stored_members.specs.Storing.{sector_from_super, sector_at}
+use Rattle.md_kept_members.specs.OnDevices.Storing.{sector_from_super, sector_at}
 use Rattle.md_array.specs.Worlds.{is_listed_next, is_logged, lies_in}
 use Rattle.md_model.proofs.Cases.{by_test, never}
 use Rattle.md_array.proofs.Openings.OwnFields.{none_listed, some_listed}

@@ -7,8 +7,8 @@ use Rattle.md_model.specs.Events.{Event, MemberPart}
 use Rattle.md_model.specs.Failures.{LeftByCopy}
 use Rattle.md_model.specs.Resyncing.{MayCopyChunk}
 use Rattle.md_model.specs.Worlds.{Request}
-use Rattle.md_device_writes.specs.Writes.{Write}
-use Rattle.md_requests.specs.Pending.{PendingView}
+use Rattle.md_members.specs.DeviceWrites.Writes.{Write}
+use Rattle.md_inflight.specs.Requests.Pending.{PendingView}
 use Rattle.md_kept_members.specs.View.{MemberView}
 use Rattle.md_faults.specs.declared.copy_fault.CopyFault.{CopyFault}
 use Rattle.md_faults.specs.declared.copy_fault.CopyFault.TheVariants.{Halted, MemberFailed}

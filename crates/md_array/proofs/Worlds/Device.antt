@@ -20,7 +20,7 @@ use Rattle.md_assembly.specs.States.{is_in_sync, state_of}
 use Rattle.md_badblocks.specs.Runs.{IsBad}
 use Rattle.md_model.specs.Devices.{is_accepted}
 use Rattle.md_model.proofs.Cases.{by_test}
-use Rattle.md_stored_members.specs.Storing.{sector_from_super}
+use Rattle.md_kept_members.specs.OnDevices.Storing.{sector_from_super}
 use Rattle.md_state.specs.View.{Disk, ArrayView}
 use Rattle.md_state.specs.DeviceChanges.{IsUnchanged}
 use Rattle.md_array.specs.Consistency.{HasPlaces}
@@ -39,8 +39,8 @@ use Rattle.md_array.proofs.Worlds.Read.{HasRead, holds_read, uuid_long, name_lon
 use Rattle.md_array.proofs.Worlds.States.{in_sync_up_to_date}
 use Rattle.md_array.proofs.Worlds.Supers.{block_spells}
 use Rattle.md_array.proofs.Worlds.Writes.{HoldsBitmap, holds_written}
-use Rattle.md_device_writes.specs.Bitmaps.{bitmap_writes}
-use Rattle.md_device_writes.specs.Writes.{after}
+use Rattle.md_members.specs.DeviceWrites.Bitmaps.{bitmap_writes}
+use Rattle.md_members.specs.DeviceWrites.Writes.{after}
 
 -- what a member was opened from
 pub record IsOpenedMember (a : ArrayView) (m : MemberView) (info : MemberInfo) (old new : Disk) : Type 0 where

@@ -14,7 +14,7 @@ use Rattle.md_model.specs.Events as events
 use Rattle.md_model.specs.Events.{Event, Step}
 use Rattle.md_model.specs.Runs.{failed_after, spoiled_after}
 use Rattle.md_model.proofs.Steps.Between.{between_step, in_flight_step}
-use Rattle.md_device_writes.specs.Writes.{Write}
+use Rattle.md_members.specs.DeviceWrites.Writes.{Write}
 use Rattle.md_kept_members.specs.View.{MemberView}
 use Rattle.md_kept_members.specs.Members.{made_due}
 use Rattle.md_assembly.specs.States.{is_in_sync_as, is_recorded}

@@ -20,9 +20,9 @@ use Rattle.md_assembly.specs.States.{has_recovery_offset, is_in_sync, is_in_sync
 use Rattle.md_kept_members.specs.View.{MemberView}
 use Rattle.md_kept_members.specs.Members.{made_due}
 use Rattle.md_kept_members.proofs.Members.Indices.{listed_push}
-use Rattle.md_membership.specs.Joining.{entries_with, joined_roles, role_after}
-use Rattle.md_membership.specs.Numbers.{has_number, is_absent, roles_at_rise}
-use Rattle.md_membership.specs.Roles.{is_taken}
+use Rattle.md_kept_members.specs.Membership.Joining.{entries_with, joined_roles, role_after}
+use Rattle.md_kept_members.specs.Membership.Numbers.{has_number, is_absent, roles_at_rise}
+use Rattle.md_kept_members.specs.Membership.Roles.{is_taken}
 use Rattle.md_state.specs.InMemory.{HasMarksOfSize, HasRoles}
 use Rattle.md_state.specs.Steps.NoteJoined.{joined}
 use Rattle.md_state.specs.Members.{IsMember, is_degraded, is_filled}
@@ -252,7 +252,7 @@ module _ (a : ArrayView) (m : MemberView) (role : ℕ) (small : m.superblock.dev
 
   -- ---- the world
   abbrev pub newcomer : List ℕ → membership.Newcomer
-  newcomer content = record { number = number; role = role; state = kind_of m.state; recovering = has_recovery_offset m.superblock; offset = m.superblock.recovery_offset; device = stored_of b m content }
+  newcomer content = record { number = number; role = role; state = kind_of m.state; recovering = has_recovery_offset m.superblock; offset = m.offset; sure_offset = m.superblock.recovery_offset; device = stored_of b m content }
 
   stored_joined : (o : Option MemberView) (d : Option Disk) → stored_on b o d ≡ stored_on up o d
   stored_joined None d = refl
@@ -269,7 +269,7 @@ module _ (a : ArrayView) (m : MemberView) (role : ℕ) (small : m.superblock.dev
   shows x y f true c same = same
   shows x y f false c same = refl
 
-  module _ (disks : List Disk) (d : Disk) (requests : ℕ → Option worlds.Request) (many : length disks ≡ length a.members) (due : m.due ≡ false)
+  module _ (disks : List Disk) (d : Disk) (requests : ℕ → Option worlds.Request) (many : length disks ≡ length a.members) (due : m.due ≡ false) (told : m.stored_offset ≡ m.superblock.recovery_offset)
       (known : (c : ℕ) → (nat_lt c a.marks.chunks && is_set m.stored.bytes c) ≡ (stored_of b m d.content).bits c)
       (lists : (s : ℕ) → lists_of b m s ≡ (stored_of b m d.content).listed s) where
     abbrev u : worlds.World
@@ -299,7 +299,9 @@ module _ (a : ArrayView) (m : MemberView) (role : ℕ) (small : m.superblock.dev
           ∙ shows (λ e. nat_lt e a.marks.chunks && is_set m.stored.bytes e) (stored_of b m d.content).bits (u.known k) (eqb k n) c (known c)) i;
       bad = λ k s. (shown_appended (λ (x : MemberView). lists_of a x s) false up.members m k
           ∙ shows (lists_of b m) (stored_of b m d.content).listed (u.bad k) (eqb k n) s (lists s)) i;
-      offset = λ k. shown_appended (λ (x : MemberView). x.superblock.recovery_offset) 0 up.members m k i;
+      offset = λ k. shown_appended (λ (x : MemberView). x.offset) 0 up.members m k i;
+      sure_offset = λ k. shown_appended (λ (x : MemberView). x.superblock.recovery_offset) 0 up.members m k i;
+      stored_offset = λ k. (shown_appended (λ (x : MemberView). x.stored_offset) 0 up.members m k ∙ ap (λ o. put n o u.stored_offset k) told) i;
       recovering = λ k. shown_appended (λ (x : MemberView). has_recovery_offset x.superblock) false up.members m k i;
       role = λ e. role_joined e i;
       entries = (count_roles ∙ grew (length a.shared.roles) ∙ ap (λ j. cond (nat_lt number j || leb 1920 number) j (number + 1)) (sym roles_many)) i;

@@ -14,7 +14,7 @@ use Rattle.md_members.specs.Areas.{has_bad_blocks}
 use Rattle.md_members.specs.Members.{reads_log}
 use Rattle.md_model.specs.Devices.{Super}
 use Rattle.md_kept_members.specs.OwnFields.{kept_shift, stored_next}
-use Rattle.md_stored_members.specs.Storing.{sector_from_super}
+use Rattle.md_kept_members.specs.OnDevices.Storing.{sector_from_super}
 use Rattle.md_array.specs.Worlds.{block_on, is_listed, is_listed_next, is_logged, lies_in, list_bit, reads_log_on, super_in}
 use Rattle.md_array.proofs.Worlds.Supers.{super_shown}
 use Rattle.md_array.proofs.General.Tests.{and_same}

@@ -11,7 +11,7 @@ use Rattle.md_assembly.specs.States.{is_in_sync}
 use Rattle.md_model.specs.Devices.{Super, accepts, is_accepted}
 use Rattle.md_kept_members.specs.View.{MemberView}
 use Rattle.md_kept_members.specs.Members.{NeedsMarks}
-use Rattle.md_stored_members.specs.Storing.{sector_from_super}
+use Rattle.md_kept_members.specs.OnDevices.Storing.{sector_from_super}
 use Rattle.md_state.specs.View.{ArrayView}
 use Rattle.md_array.specs.Worlds.{block_on, header_fits, header_on, stored_of, super_in, super_of}
 use Rattle.md_model.proofs.Cases.{by_test}

@@ -8,8 +8,8 @@ use Rattle.md_bitmap.specs.Marks.{is_set}
 use Rattle.md_members.specs.declared.area.Area.{Area}
 use Rattle.md_members.specs.Areas.{AreApart, end_of_area, super_area, data_area, log_area}
 use Rattle.md_members.specs.Reading.{BitmapStartsAt}
-use Rattle.md_stored_members.specs.Storing.{sector_from_super, sector_at}
-use Rattle.md_stored_members.proofs.Beside.{apart, sector_at_is, stays}
+use Rattle.md_kept_members.specs.OnDevices.Storing.{sector_from_super, sector_at}
+use Rattle.md_kept_members.proofs.OnDeviceLemmas.Beside.{apart, sector_at_is, stays}
 use Rattle.md_array.specs.Worlds.{block_on, header_on}
 use Rattle.md_array.proofs.Worlds.Writes.{is_set-same}
 

@@ -16,8 +16,8 @@ use Rattle.md_model.specs.Sectors.{block_of}
 use Rattle.md_model.specs.Devices.{Stored}
 use Rattle.md_model.proofs.Cases.{is_below}
 use Rattle.md_kept_members.specs.View.{MemberView}
-use Rattle.md_stored_members.specs.Storing.{sector_from_super}
-use Rattle.md_stored_members.proofs.Beside.{apart_either_way, sector_at_is}
+use Rattle.md_kept_members.specs.OnDevices.Storing.{sector_from_super}
+use Rattle.md_kept_members.proofs.OnDeviceLemmas.Beside.{apart_either_way, sector_at_is}
 use Rattle.md_state.specs.View.{ArrayView, Disk, MirrorView}
 use Rattle.md_state.specs.Members.{IsMember}
 use Rattle.md_array.specs.Consistency.{IsConsistent}

@@ -10,13 +10,13 @@ use Rattle.md_super.specs.Format.{IsSuper}
 use Rattle.md_super.specs.Log.{has_bad_block_log}
 use Rattle.md_super.specs.Merge.{merged}
 use Rattle.md_bitmap.specs.declared.chunks.Chunks.{Chunks}
-use Rattle.md_device_writes.specs.Writes.{Write}
+use Rattle.md_members.specs.DeviceWrites.Writes.{Write}
 use Rattle.md_kept_members.specs.View.{MemberView}
 use Rattle.md_kept_members.specs.Members.{made_due}
 use Rattle.md_assembly.specs.States.{is_recorded}
 use Rattle.md_assembly.proofs.Indices.{got_within}
-use Rattle.md_stored_members.specs.Superblocks.{IsReadable}
-use Rattle.md_stored_members.specs.Storing.{sector_from_super}
+use Rattle.md_kept_members.specs.OnDevices.Superblocks.{IsReadable}
+use Rattle.md_kept_members.specs.OnDevices.Storing.{sector_from_super}
 use Rattle.md_state.specs.Members.{IsMember}
 use Rattle.md_state.specs.Missing.{is_rebuilt}
 use Rattle.md_state.specs.Steps.Rise.{failed, made_faulty, risen}

@@ -18,7 +18,7 @@ use Rattle.md_assembly.specs.States.{is_recorded, state_of}
 use Rattle.md_model.specs.Devices.{is_accepted, Super}
 use Rattle.md_kept_members.specs.View.{MemberView}
 use Rattle.md_kept_members.specs.Kept.{IsKept, known_offset}
-use Rattle.md_stored_members.specs.Storing.{sector_from_super}
+use Rattle.md_kept_members.specs.OnDevices.Storing.{sector_from_super}
 use Rattle.md_state.specs.View.{ArrayView}
 use Rattle.md_array.specs.ReadAsKept.{HasOwnSuper, HasWidth, chunk_size_on}
 use Rattle.md_array.specs.Worlds.{block_on, is_listed, stored_of, super_in, super_of}

@@ -22,7 +22,7 @@ use Rattle.md_model.specs.Worlds as worlds
 use Rattle.md_model.specs.Worlds.{Request, World}
 use Rattle.md_model.proofs.Steps.Between.{between_step, in_flight_step}
 use Rattle.md_model.proofs.Cases.{by_test, is_below}
-use Rattle.md_requests.specs.Pending.{PendingView}
+use Rattle.md_inflight.specs.Requests.Pending.{PendingView}
 use Rattle.md_kept_members.specs.View.{MemberView}
 use Rattle.md_state.specs.View.{ArrayView, Disk, MirrorView, geometry_of}
 use Rattle.md_state.specs.InMemory.{HasMarksOfSize, HasRoles}

@@ -16,7 +16,7 @@ use Rattle.md_assembly.specs.declared.state.MemberState.TheVariants.{InSync, Rec
 use Rattle.md_assembly.specs.States.{has_recovery_offset, is_in_sync, is_in_sync_as, role_in, takes_role}
 use Rattle.md_kept_members.specs.View.{MemberView}
 use Rattle.md_kept_members.specs.Members.{made_due}
-use Rattle.md_membership.specs.Numbers.{faulty_role, has_number, is_absent, roles_at_rise}
+use Rattle.md_kept_members.specs.Membership.Numbers.{faulty_role, has_number, is_absent, roles_at_rise}
 use Rattle.md_state.specs.Members.{IsMember, is_degraded, is_filled}
 use Rattle.md_state.specs.Steps.Rise.{risen}
 use Rattle.md_state.specs.View.{Disk, ArrayView, MirrorView, geometry_of}
@@ -65,7 +65,9 @@ module _ (a : ArrayView) (full : Bool) where
     due = λ k. (ap (λ o. unwrap_or (option_map (λ m. m.due) o) false) (slice_get-map made_due a.members k) ∙ due_mapped (slice_get a.members k)) i;
     known = λ k c. read_map made_due false (λ m. nat_lt c a.marks.chunks && is_set m.stored.bytes c) a.members k i;
     bad = λ k s. read_map made_due false (λ m. lists_of a m s) a.members k i;
-    offset = λ k. read_map made_due 0 (λ m. m.superblock.recovery_offset) a.members k i;
+    offset = λ k. read_map made_due 0 (λ m. m.offset) a.members k i;
+    sure_offset = λ k. read_map made_due 0 (λ m. m.superblock.recovery_offset) a.members k i;
+    stored_offset = λ k. read_map made_due 0 (λ m. m.stored_offset) a.members k i;
     recovering = λ k. read_map made_due false (λ m. has_recovery_offset m.superblock) a.members k i;
     role = λ d. risen_role d i;
     entries = length-map-range_with_len (λ d. cond (is_absent a.shared a.members d) faulty_role (role_in a.shared d)) 0 (length a.shared.roles) i;

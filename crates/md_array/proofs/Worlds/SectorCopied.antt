@@ -144,7 +144,7 @@ module _ (from k s : ℕ) (old new : MirrorView) (c : IsConsistent old) (t : Cop
   changes : ChangesMember k m m (run_write m s t.bytes) old new
   changes = record {
     at = at_k;
-    like = record { superblock = refl; bad = refl; header = refl; chunks = refl; state = refl };
+    like = record { superblock = refl; bad = refl; offset = refl; header = refl; chunks = refl; state = refl };
     disks = t.disks.tried;
     array = t.array ∙ (λ i. record old.array { members = sym (set_itself array.members k m at_k) i });
   }
@@ -223,8 +223,10 @@ module _ (from k s : ℕ) (old new : MirrorView) (c : IsConsistent old) (t : Cop
         ap (λ (b : _). put k b w.due) (sym (member_there array k m false (λ x. x.due) at_k)) ∙ put-self k w.due in
         let known : put k (λ x. nat_lt x array.marks.chunks && is_set m.stored.bytes x) w.known ≡ w.known =
         ap (λ (f : ℕ → _). put k f w.known) (λ i x. sym (member_there array k m false (λ y. nat_lt x array.marks.chunks && is_set y.stored.bytes x) at_k) i) ∙ put-self k w.known in
+        let told : put k m.stored_offset w.stored_offset ≡ w.stored_offset =
+        ap (λ o. put k o w.stored_offset) (sym (member_there array k m 0 (λ x. x.stored_offset) at_k)) ∙ put-self k w.stored_offset in
         changed_world k m m (run_write m s t.bytes) old new changes e after requests
-        ∙ (λ i. record w { stored = put k (stored_copied i) w.stored; due = due i; known = known i })
+        ∙ (λ i. record w { stored = put k (stored_copied i) w.stored; due = due i; known = known i; stored_offset = told i })
 
     step : Step (geometry_of array) w (Event.Copy from k s) (world_of new requests)
     step = (t.may.may.idle.running, (may_copy old c honest requests in_flight from k s t.may, world_copied))

@@ -111,7 +111,9 @@ module _ (a : ArrayView) (k : ℕ) (m : MemberView) (at : IsMember a k m) (low :
       due = λ j. ap (λ o. unwrap_or (option_map (λ (x : MemberView). x.due) o) false) (got_left a.members k j) i;
       known = λ j c. ap (λ o. unwrap_or (option_map (λ (x : MemberView). nat_lt c a.marks.chunks && is_set x.stored.bytes c) o) false) (got_left a.members k j) i;
       bad = λ j s. ap (λ o. unwrap_or (option_map (λ (x : MemberView). lists_of a x s) o) false) (got_left a.members k j) i;
-      offset = λ j. ap (λ o. unwrap_or (option_map (λ (x : MemberView). x.superblock.recovery_offset) o) 0) (got_left a.members k j) i;
+      offset = λ j. ap (λ o. unwrap_or (option_map (λ (x : MemberView). x.offset) o) 0) (got_left a.members k j) i;
+      sure_offset = λ j. ap (λ o. unwrap_or (option_map (λ (x : MemberView). x.superblock.recovery_offset) o) 0) (got_left a.members k j) i;
+      stored_offset = λ j. ap (λ o. unwrap_or (option_map (λ (x : MemberView). x.stored_offset) o) 0) (got_left a.members k j) i;
       recovering = λ j. ap (λ o. unwrap_or (option_map (λ (x : MemberView). has_recovery_offset x.superblock) o) false) (got_left a.members k j) i;
       present = λ d. (number_left (λ (x : MemberView). x.superblock.dev_number) a.members k m at r.numbers d
           ∙ ap (λ n. list_any (λ (x : MemberView). eqb x.superblock.dev_number d) a.members && not (eqb d n)) (sym number_here)) i;

@@ -10,7 +10,7 @@ use Rattle.md_model.proofs.Cases.{by_test, below-nat_lt, is_below}
 use Rattle.md_model.proofs.Puts.{by_same, put-hit, put-miss}
 use Rattle.md_assembly.specs.States.{has_recovery_offset, role_in}
 use Rattle.md_kept_members.specs.View.{MemberView}
-use Rattle.md_membership.specs.Numbers.{faulty_role, roles_without}
+use Rattle.md_kept_members.specs.Membership.Numbers.{faulty_role, roles_without}
 use Rattle.md_state.specs.View.{Disk, ArrayView}
 use Rattle.md_state.specs.Members.{IsMember, clean_offset}
 use Rattle.md_state.specs.Steps.Rise.{made_faulty, without}
@@ -74,7 +74,9 @@ world_without disks a requests k m is = λ i. record {
   due = λ j. read_changed (λ o. unwrap_or (option_map (λ (x : MemberView). x.due) o) false) a.members k m (made_faulty m) is j i;
   known = λ j c. read_kept (λ o. unwrap_or (option_map (λ (x : MemberView). nat_lt c a.marks.chunks && is_set x.stored.bytes c) o) false) a.members k m (made_faulty m) is refl j i;
   bad = λ j s. read_kept (λ o. unwrap_or (option_map (λ (x : MemberView). lists_of a x s) o) false) a.members k m (made_faulty m) is refl j i;
-  offset = λ j. read_kept (λ o. unwrap_or (option_map (λ (x : MemberView). x.superblock.recovery_offset) o) 0) a.members k m (made_faulty m) is refl j i;
+  offset = λ j. read_kept (λ o. unwrap_or (option_map (λ (x : MemberView). x.offset) o) 0) a.members k m (made_faulty m) is refl j i;
+  sure_offset = λ j. read_kept (λ o. unwrap_or (option_map (λ (x : MemberView). x.superblock.recovery_offset) o) 0) a.members k m (made_faulty m) is refl j i;
+  stored_offset = λ j. read_kept (λ o. unwrap_or (option_map (λ (x : MemberView). x.stored_offset) o) 0) a.members k m (made_faulty m) is refl j i;
   recovering = λ j. read_kept (λ o. unwrap_or (option_map (λ (x : MemberView). has_recovery_offset x.superblock) o) false) a.members k m (made_faulty m) is refl j i;
   role = λ d. (role_without m a.shared.roles d ∙ ap (λ n. cond (eqb d n && nat_lt d (length a.shared.roles)) 65534 (role_in a.shared d)) (sym number_here)) i;
   entries = length_without m a.shared.roles i;

@@ -9,10 +9,10 @@ use Rattle.md_bitmap.specs.Header.{IsHeader, header_bytes}
 use Rattle.md_bitmap.specs.Marks.{Bitmap, is_set}
 use Rattle.md_bitmap.proofs.Padded.{slice_index-padded}
 use Rattle.md_members.specs.Areas.{bitmap_sectors}
-use Rattle.md_device_writes.specs.Bitmaps.{bitmap_writes}
-use Rattle.md_device_writes.proofs.Stored.{AreStored, stored_all}
+use Rattle.md_members.specs.DeviceWrites.Bitmaps.{bitmap_writes}
+use Rattle.md_members.proofs.DeviceWriteLemmas.Stored.{AreStored, stored_all}
 use Rattle.md_array.specs.Worlds.{header_on}
-use Rattle.md_device_writes.specs.Writes.{after}
+use Rattle.md_members.specs.DeviceWrites.Writes.{after}
 
 -- the bitmap that starts at a sector of the device: its header, and the marks after it
 pub record HoldsBitmap (content : List ℕ) (start : ℕ) (h : BitmapHeader) (m : Bitmap) : Type 0 where

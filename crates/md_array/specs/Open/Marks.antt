@@ -1,13 +1,14 @@
 -- Marks are stored on members: which bytes are written, and what stands on the devices after it.
-use Rattle.std.specs.Prelude.{◌≡◌, ◌⊎◌, ℕ, ◌*◌, ◌<◌, true, List, ◌++◌, ◌∷◌, slice_get, Some}
+use Rattle.std.specs.Prelude.{◌≡◌, ◌⊎◌, ℕ, ◌*◌, ◌<◌, true, List, ◌++◌, ◌∷◌, length, slice_get, Some}
+use Rattle.md_device.specs.Failing.{SomeNewFault, failed_write}
 use Rattle.md_device.specs.Splice.{SameOutside}
 use Rattle.md_bitmap.specs.declared.header.BitmapHeader.{BitmapHeader}
 use Rattle.md_members.specs.Areas.{bitmap_sectors}
 use Rattle.md_members.specs.Reading.{BitmapStartsAt}
 use Rattle.md_array.specs.declared.fault.OpenFault.{OpenFault}
 use Rattle.md_array.specs.declared.fault.OpenFault.TheVariants.{MetadataFault}
-use Rattle.md_device_writes.specs.Bitmaps.{bitmap_writes}
-use Rattle.md_device_writes.specs.Writes.{Write, IsAnyIn, IsCutShort, after}
+use Rattle.md_members.specs.DeviceWrites.Bitmaps.{bitmap_writes}
+use Rattle.md_members.specs.DeviceWrites.Writes.{Write, IsAnyIn, IsCutShort, after}
 use Rattle.md_kept_members.specs.View.{MemberView}
 use Rattle.md_kept_members.specs.Members.{NeedsMarks}
 use Rattle.md_state.specs.Members.{IsMember}
@@ -47,6 +48,7 @@ pub record FailsToStore (a : ArrayView) (m : MemberView) (old new : Disk) : Type
   pub tried : Write
   pub rest : List Write
   pub order : writes ≡ made ++ tried ∷ rest
+  pub there : SomeNewFault old.faults new.faults (λ f. f ≡ failed_write tried.sector (length tried.bytes))
   pub stopped : old.honest ≡ true → IsAnyIn tried (after old.content made) new.content
   pub within : old.honest ≡ true → LeavesOn (λ left. IsCutShort old.content made left ⊎ IsAnyIn tried (after old.content made) left) old new
   pub outside : IsSameOutsideBitmap m start old new

@@ -5,7 +5,7 @@ use Rattle.md_create.specs.Layout.{IsHalfLaidOut, IsLaidOutAs, KeepsOthers, writ
 use Rattle.md_create.specs.ReadBack.{IsReadBack}
 use Rattle.md_members.specs.Members.{sectors_of_device}
 use Rattle.md_model.specs.Events.{Event}
-use Rattle.md_device_writes.specs.Writes.{DoesWrites, FailsInWrites}
+use Rattle.md_members.specs.DeviceWrites.Writes.{DoesWrites, FailsInWrites}
 use Rattle.md_kept_members.specs.Spares.{kept_spare}
 use Rattle.md_kept_members.specs.View.{MemberView}
 use Rattle.md_faults.specs.declared.add_fault.AddFault.{AddFault}

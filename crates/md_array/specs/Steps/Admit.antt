@@ -5,7 +5,7 @@ use Rattle.md_faults.specs.declared.admit_fault.AdmitFault.{AdmitFault}
 use Rattle.md_faults.specs.declared.admit_fault.AdmitFault.TheVariants.{Halted, NoRole, EventsFull, TargetFault, NoMemory}
 use Rattle.md_kept_members.specs.TakingBack.{admitted_member}
 use Rattle.md_model.specs.Events.{Event}
-use Rattle.md_stored_members.specs.Superblocks.{IsReadable}
+use Rattle.md_kept_members.specs.OnDevices.Superblocks.{IsReadable}
 use Rattle.md_state.specs.Steps.Admit.{MayAdmit, RefusesToAdmit, admitted}
 use Rattle.md_state.specs.DiskWrites.{AtDevice, IsFailed, IsWritten}
 use Rattle.md_state.specs.Trying.{Refuses}

@@ -9,7 +9,7 @@ use Rattle.md_bitmap.specs.Marks.{Bitmap, is_set}
 use Rattle.md_members.specs.Reading.{BitmapStartsAt}
 use Rattle.md_model.specs.Content.{Content}
 use Rattle.md_model.specs.Sectors.{put}
-use Rattle.md_device_writes.specs.Writes.{DoesWrites, FailsInWrites, Write}
+use Rattle.md_members.specs.DeviceWrites.Writes.{DoesWrites, FailsInWrites, Write}
 use Rattle.md_kept_members.specs.View.{MemberView}
 use Rattle.md_faults.specs.declared.enrol_fault.EnrolFault.{EnrolFault}
 use Rattle.md_faults.specs.declared.enrol_fault.EnrolFault.TheVariants.{Halted, EventsFull, LogFull, TargetFault, NoMemory}
@@ -22,8 +22,8 @@ use Rattle.md_state.specs.Missing.{is_missing}
 use Rattle.md_state.specs.Trying.{Refuses}
 use Rattle.md_state.specs.View.{ArrayView, Disk, MirrorView, of_disks}
 use Rattle.md_array.specs.ReadAsKept.{AreReadAsKept}
-use Rattle.md_stored_members.specs.Storing.{KeepsDataOn, member_writes}
-use Rattle.md_stored_members.specs.Superblocks.{IsReadable}
+use Rattle.md_kept_members.specs.OnDevices.Storing.{KeepsDataOn, member_writes}
+use Rattle.md_kept_members.specs.OnDevices.Superblocks.{IsReadable}
 use Rattle.md_array.specs.Worlds.{AreHonest, is_listed}
 
 -- ---- its conditions

@@ -7,7 +7,7 @@ use Rattle.md_state.specs.Steps.MakeClean.{IsIdle}
 use Rattle.md_state.specs.Members.{IsMember}
 use Rattle.md_state.specs.Missing.{is_rebuilt}
 use Rattle.md_state.specs.View.{ArrayView, Disk, MirrorView}
-use Rattle.md_array.specs.Events.{Happens, IsChangedAlone, IsSameBesideMissing}
+use Rattle.md_array.specs.Events.{Happens, IsChangedAlone, IsSameBesideUnsaid}
 use Rattle.md_array.specs.Steps.Lend.{AreBack}
 use Rattle.md_array.specs.Steps.NoteResynced.{AreNoted}
 
@@ -20,12 +20,12 @@ pub record MayRebuild (k : ℕ) (a : ArrayView) : Type 0 where
 
 -- Data changed in chunks that member k lacks, in any way, and nothing else did. The other devices may have been read. A recovering member
 -- may lack a chunk by its mark alone: so each member in sync has the marks of memory stored by then, or an opening without the one that has
--- it would not know.
+-- it would not know. No chunk changed of which its superblock says that it has it.
 pub record Fills (k : ℕ) (old new : MirrorView) : Type 0 where
   pub may : MayRebuild k old.array
   pub noted : is_recovering may.member.state ≡ true → AreNoted old.array
   pub array : new.array ≡ old.array
-  pub disks : IsChangedAlone k (IsSameBesideMissing old.array may.member) old.disks new.disks
+  pub disks : IsChangedAlone k (IsSameBesideUnsaid old.array may.member) old.disks new.disks
 
 -- give_back, where of the devices that were lent no other one was written: the event is from what they were then
 abbrev pub FillHappens : MirrorView → MirrorView → Type 0

@@ -2,6 +2,7 @@
 use Rattle.std.specs.Prelude.{◌≡◌, ℕ, ◌+◌, ◌-◌, ◌*◌, ◌<◌, ◌≤◌, ◌⊎◌, true, false, List, [], length, min, slice_get, Some}
 use Rattle.md_device.specs.Splice.{part}
 use Rattle.md_bitmap.specs.declared.chunks.Chunks.{Chunks}
+use Rattle.md_kept_members.specs.TakingBack.{member_says_of}
 use Rattle.md_kept_members.specs.View.{MemberView}
 use Rattle.md_state.specs.DeviceChanges.{StaysHonest}
 use Rattle.md_state.specs.Steps.MakeClean.{IsIdle}
@@ -23,6 +24,11 @@ IsBesideChunk chunks offset at n c =
 -- These bytes lie beside each chunk that the member lacks.
 abbrev pub IsBesideMissing : ArrayView → MemberView → ℕ → ℕ → Type 0
 IsBesideMissing a m at n = (c : ℕ) → c < a.marks.chunks → is_missing a m c ≡ true → IsBesideChunk a.chunks m.superblock.data_offset at n c
+
+-- These bytes lie beside each chunk that the member lacks, and of which its superblock does not say that it has it.
+abbrev pub IsBesideUnsaid : ArrayView → MemberView → ℕ → ℕ → Type 0
+IsBesideUnsaid a m at n = (c : ℕ) → c < a.marks.chunks → is_missing a m c ≡ true → member_says_of (c * a.chunks.sectors) m ≡ false
+    → IsBesideChunk a.chunks m.superblock.data_offset at n c
 
 -- A device as it was lent, and as it comes back. Of a member that is being rebuilt data in its missing chunks may differ; of any
 -- other nothing does.

@@ -4,6 +4,7 @@ use Rattle.md_members.specs.declared.fault.MemberFault.{MemberFault}
 use Rattle.md_members.specs.declared.fault.MemberFault.TheVariants as member_fault
 use Rattle.md_members.specs.declared.info.MemberInfo.{MemberInfo}
 use Rattle.md_members.specs.Members as members
+use Rattle.md_members.specs.Reading.{CallFails}
 use Rattle.md_super.specs.Merge.{merged}
 use Rattle.md_model.specs.Devices.{Super}
 use Rattle.md_model.specs.Events.{Event}
@@ -11,14 +12,14 @@ use Rattle.md_kept_members.specs.TakingBack.{IsKeptTakenBack, own_role}
 use Rattle.md_kept_members.specs.View.{MemberView}
 use Rattle.md_faults.specs.declared.re_add_fault.ReAddFault.{ReAddFault}
 use Rattle.md_faults.specs.declared.re_add_fault.ReAddFault.TheVariants.{Halted, Member, Full, NotReAddable, NoRole, EventsFull, WriteFault, NoMemory}
-use Rattle.md_membership.specs.Joining.{joined_shared}
-use Rattle.md_stored_members.specs.Superblocks.{IsReadable, write_of}
+use Rattle.md_kept_members.specs.Membership.Joining.{joined_shared}
+use Rattle.md_kept_members.specs.OnDevices.Superblocks.{IsReadable, write_of}
 use Rattle.md_state.specs.DeviceChanges.{IsLeftAlone, StaysHonest}
 use Rattle.md_state.specs.DiskWrites.{IsFailed, IsWritten}
 use Rattle.md_state.specs.Members.{IsMember}
-use Rattle.md_state.specs.Steps.ReAdd.{IsOffsetBack, MayReAdd, RefusesToTakeBack, TakesBack}
+use Rattle.md_state.specs.Steps.ReAdd.{IsOffsetBack, IsSureBack, MayReAdd, RefusesToTakeBack, TakesBack}
 use Rattle.md_state.specs.Trying.{Refuses}
-use Rattle.md_state.specs.View.{Disk, MirrorView}
+use Rattle.md_state.specs.View.{Disk, MirrorView, of_disks}
 use Rattle.md_array.specs.Events.{Happens}
 use Rattle.md_array.specs.Steps.Record.{super_write}
 use Rattle.md_array.specs.Worlds.{block_on, stored_of, super_in, super_of}
@@ -53,7 +54,9 @@ pub record FailsToRecordLast (device handed_back : Disk) (info : MemberInfo) (ol
   pub member : MemberView
   pub offset : ℕ
   pub offset_is : IsOffsetBack old.array info offset
-  pub taken : IsKeptTakenBack offset info member
+  pub sure : ℕ
+  pub sure_is : IsSureBack old.array offset sure
+  pub taken : IsKeptTakenBack offset sure info member
   pub failed : IsFailed 0 (write_of (joined_shared old.array.shared old.array.members member.superblock.dev_number (own_role info.superblock)) member) (device ∷ []) (handed_back ∷ [])
 
 abbrev pub RefusesToRecordLast : Disk → Disk → MemberInfo → MirrorView → MirrorView → ReAddFault → Type 0
@@ -82,7 +85,7 @@ pub record RefusesDevice (device handed_back : Disk) (old new : MirrorView) (fau
   pub unchanged : new ≡ old
   pub only_read : IsOnlyRead device handed_back
   pub unfailing : fault ≢ member_fault.ReadFault → handed_back.failures ≡ device.failures
-  pub refused : members.RefusesMember device.content device.honest (device.failures < handed_back.failures) fault
+  pub refused : members.RefusesMember device.content device.honest (CallFails of_disks device handed_back) fault
   pub memory : fault ≢ member_fault.NoMemory
 
 -- A device was read as a member that may not be taken back.
@@ -105,7 +108,7 @@ pub record LacksMemoryToReAdd (device handed_back : Disk) (old new : MirrorView)
   pub unchanged : new ≡ old
   pub only_read : IsOnlyRead device handed_back
   pub unfailing : handed_back.failures ≡ device.failures
-  pub reason : members.RefusesMember device.content device.honest (device.failures < handed_back.failures) member_fault.NoMemory ⊎ MayComeBack device old
+  pub reason : members.RefusesMember device.content device.honest (CallFails of_disks device handed_back) member_fault.NoMemory ⊎ MayComeBack device old
 
 -- The fault, and what it says of the device that is handed back.
 abbrev pub RefusesReAdd : Disk → Disk → MirrorView → MirrorView → ReAddFault → Type 0
@@ -122,7 +125,7 @@ RefusesReAdd device handed_back old new NoMemory = LacksMemoryToReAdd device han
 abbrev pub re_add_event : (k : ℕ) (device : Disk) (old new : MirrorView) → ReAdds k device old new → Event
 re_add_event k device old new r =
     let m : MemberView = r.recorded.takes.member in
-    Event.ReAdd (super_of r.info.superblock) (stored_of new.array m device.content) (stored_of new.array m r.recorded.now.content)
+    Event.ReAdd (super_of r.info.superblock) m.offset (stored_of new.array m device.content) (stored_of new.array m r.recorded.now.content)
 
 -- By the event the device comes in as it was read, with its superblock written and nothing else changed. What is said of its bytes is
 -- said of one that does what it answers.
@@ -133,7 +136,7 @@ pub record ComesBackReAdded (k : ℕ) (device : Disk) (old new : MirrorView) : T
   pub at : IsMember new.array k member
   pub now : Disk
   pub is : slice_get new.disks k ≡ Some now
-  pub happens : Happens old (Event.ReAdd own (stored_of new.array member device.content) (stored_of new.array member now.content)) new
+  pub happens : Happens old (Event.ReAdd own member.offset (stored_of new.array member device.content) (stored_of new.array member now.content)) new
 
 abbrev pub ReAddHappens : Disk → MirrorView → MirrorView → {E : Type 0} → Result ℕ E → Type 0
 ReAddHappens device old new result = MatchResult result (λ k. device.honest ≡ true → ComesBackReAdded k device old new) (λ _. ⊤)

@@ -1,13 +1,15 @@
 -- A member's superblock is stored.
-use Rattle.std.specs.Prelude.{◌≡◌, ◌⊎◌, ℕ, true, false, set}
+use Rattle.std.specs.Prelude.{◌≡◌, ◌⊎◌, ℕ, true, false}
 use Rattle.md_super.specs.Merge.{merged}
-use Rattle.md_device_writes.specs.Writes.{Write}
+use Rattle.md_members.specs.DeviceWrites.Writes.{Write}
+use Rattle.md_kept_members.specs.Members.{recorded_member}
 use Rattle.md_kept_members.specs.View.{MemberView}
-use Rattle.md_stored_members.specs.Superblocks.{IsReadable, write_of}
+use Rattle.md_kept_members.specs.OnDevices.Superblocks.{IsReadable, write_of}
 use Rattle.md_assembly.specs.States.{is_recorded}
 use Rattle.md_faults.specs.declared.step_fault.StoreFault.{StoreFault}
 use Rattle.md_faults.specs.declared.step_fault.StoreFault.TheVariants.{Halted, NotActive, MemberFailed}
 use Rattle.md_state.specs.Members.{IsMember}
+use Rattle.md_state.specs.Steps.Checkpoint.{with_member_at}
 use Rattle.md_state.specs.View.{ArrayView, MirrorView}
 use Rattle.md_state.specs.OutOfSync.{IsInactive}
 use Rattle.md_state.specs.DiskWrites.{IsWritten}
@@ -28,7 +30,7 @@ pub record Records (k : ℕ) (old new : MirrorView) : Type 0 where
   pub member : MemberView
   pub may : MayRecord k old.array member
   pub disks : IsWritten k (super_write old.array member) old.disks new.disks
-  pub array : new.array ≡ record old.array { members = set old.array.members k (record member { due = false }) }
+  pub array : new.array ≡ with_member_at old.array k (recorded_member member)
 
 pub record FailsToRecord (k : ℕ) (old new : MirrorView) : Type 0 where
   pub member : MemberView

@@ -1,9 +1,9 @@
 // Adding a new device as a spare.
 ghost use Rattle.std.specs.Prelude.{◌≡◌, IfOk, MatchResult};
 ghost use Rattle.md_members.specs.Members.{sectors_of_device};
-ghost use Rattle.md_requests.specs.Pending.{PendingView};
-ghost use Rattle.md_membership.specs.Joining.{joined_shared};
-ghost use Rattle.md_membership.specs.Numbers.{spare_role};
+ghost use Rattle.md_inflight.specs.Requests.Pending.{PendingView};
+ghost use Rattle.md_kept_members.specs.Membership.Joining.{joined_shared};
+ghost use Rattle.md_kept_members.specs.Membership.Numbers.{spare_role};
 ghost use Rattle.md_state.specs.Steps.Add.{IsSpareOf, MayAdd};
 ghost use Rattle.md_state.specs.Requests.{IsPending};
 ghost use Rattle.md_state.specs.View.{disk_of};

@@ -2,7 +2,7 @@
 ghost use Rattle.std.specs.Prelude.{◌≡◌, ◌<◌, MatchResult, length, true};
 ghost use Rattle.md_assembly.specs.States.{is_spare};
 ghost use Rattle.md_kept_members.specs.View.{MemberView};
-ghost use Rattle.md_requests.specs.Pending.{PendingView};
+ghost use Rattle.md_inflight.specs.Requests.Pending.{PendingView};
 ghost use Rattle.md_state.specs.Members.{IsMember};
 ghost use Rattle.md_state.specs.Requests.{IsPending};
 ghost use Rattle.md_array.specs.Steps.Admit.{AdmitHappens, Admits, RefusesAdmit};
@@ -11,8 +11,7 @@ ghost use Rattle.md_array.specs.Consistency.{IsConsistent};
 use crate::mirror::Mirror;
 use md_device::Device;
 use md_faults::AdmitFault;
-use md_kept_members::admitted_superblock;
-use md_stored_members::store_fields_on;
+use md_kept_members::{admitted_superblock, store_fields_on};
 use std::alloc::Global;
 
 impl<D: Device + Drop> Mirror<D> {

@@ -1,6 +1,6 @@
 // Beginning a request.
 ghost use Rattle.std.specs.Prelude.{◌≡◌, ◌+◌, ◌/◌, ◌%◌, IfOk, MatchResult, length};
-ghost use Rattle.md_requests.specs.Pending.{PendingView};
+ghost use Rattle.md_inflight.specs.Requests.Pending.{PendingView};
 ghost use Rattle.md_state.specs.Steps.Begin.{Begins, RefusesBegin};
 ghost use Rattle.md_state.specs.Requests.{IsPending};
 ghost use Rattle.md_array.specs.Consistency.{IsConsistent};
@@ -9,7 +9,7 @@ ghost use Rattle.md_array.specs.Events.{BeginHappens};
 use crate::mirror::Mirror;
 use md_device::Device;
 use md_faults::BeginFault;
-use md_requests::Pending;
+use md_inflight::Pending;
 
 impl<D: Device + Drop> Mirror<D> {
     /// Begins a request to write `bytes` from this sector of the array on: enters it in the list of

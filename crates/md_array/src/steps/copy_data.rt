@@ -1,6 +1,6 @@
 // Copying sectors to a member in sync.
 ghost use Rattle.std.specs.Prelude.{◌/◌, ◌<◌, MatchResult, length};
-ghost use Rattle.md_requests.specs.Pending.{PendingView};
+ghost use Rattle.md_inflight.specs.Requests.Pending.{PendingView};
 ghost use Rattle.md_state.specs.Steps.CopyData.{CopiesTo, IsCopy, RefusesCopy};
 ghost use Rattle.md_state.specs.Requests.{IsPending};
 ghost use Rattle.md_array.specs.Consistency.{IsConsistent};

@@ -2,14 +2,14 @@
 ghost use Rattle.std.specs.Prelude.{MatchResult};
 ghost use Rattle.md_array.specs.Consistency.{IsConsistent};
 ghost use Rattle.md_array.specs.Steps.Enrol.{EnrolReads, Enrols, MayEnrol, RefusesEnrol};
-ghost use Rattle.md_requests.specs.Pending.{PendingView};
+ghost use Rattle.md_inflight.specs.Requests.Pending.{PendingView};
 ghost use Rattle.md_state.specs.Requests.{IsPending};
 
 use crate::mirror::Mirror;
 use md_bitmap::Marks;
 use md_device::Device;
 use md_faults::EnrolFault;
-use md_stored_members::store_member;
+use md_kept_members::store_member;
 use std::alloc::Global;
 
 impl<D: Device + Drop> Mirror<D> {

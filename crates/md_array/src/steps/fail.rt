@@ -1,6 +1,6 @@
 // Failing a member by a call.
 ghost use Rattle.std.specs.Prelude.{◌<◌, MatchResult, length};
-ghost use Rattle.md_requests.specs.Pending.{PendingView};
+ghost use Rattle.md_inflight.specs.Requests.Pending.{PendingView};
 ghost use Rattle.md_state.specs.Steps.Fail.{FailsMember, RefusesFail};
 ghost use Rattle.md_state.specs.Requests.{IsPending};
 ghost use Rattle.md_array.specs.Consistency.{IsConsistent};

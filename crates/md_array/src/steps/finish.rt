@@ -1,6 +1,6 @@
 // Finishing a request.
 ghost use Rattle.std.specs.Prelude.{◌≡◌, ◌≢◌, IfErr, MatchResult, OnOk};
-ghost use Rattle.md_requests.specs.Pending.{PendingView};
+ghost use Rattle.md_inflight.specs.Requests.Pending.{PendingView};
 ghost use Rattle.md_state.specs.Steps.Finish.{Finishes, RefusesFinish};
 ghost use Rattle.md_state.specs.Requests.{IsPending};
 ghost use Rattle.md_array.specs.Consistency.{IsConsistent};
@@ -9,7 +9,7 @@ ghost use Rattle.md_array.specs.Events.{FinishHappens};
 use crate::mirror::Mirror;
 use md_device::Device;
 use md_faults::FinishFault;
-use md_requests::Pending;
+use md_inflight::Pending;
 
 impl<D: Device + Drop> Mirror<D> {
     /// Takes a request that every member in sync has out of those in flight, or gives it back with the

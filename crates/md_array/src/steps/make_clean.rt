@@ -1,6 +1,6 @@
 // Making an active array clean.
 ghost use Rattle.std.specs.Prelude.{MatchResult};
-ghost use Rattle.md_requests.specs.Pending.{PendingView};
+ghost use Rattle.md_inflight.specs.Requests.Pending.{PendingView};
 ghost use Rattle.md_state.specs.Steps.MakeClean.{MakesClean, RefusesClean};
 ghost use Rattle.md_state.specs.Requests.{IsPending};
 ghost use Rattle.md_array.specs.Consistency.{IsConsistent};

@@ -9,6 +9,7 @@ mod enrol;
 mod fail;
 mod finish;
 mod lend;
+mod lower_offset;
 mod make_clean;
 mod note_bad;
 mod note_resynced;

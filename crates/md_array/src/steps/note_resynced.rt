@@ -1,7 +1,7 @@
 // Noting whether the array is resynced.
 ghost use Rattle.std.specs.Prelude.{true, false};
 ghost use Rattle.md_model.specs.Events.{Event};
-ghost use Rattle.md_requests.specs.Pending.{PendingView};
+ghost use Rattle.md_inflight.specs.Requests.Pending.{PendingView};
 ghost use Rattle.md_state.specs.Steps.MakeClean.{IsIdle};
 ghost use Rattle.md_state.specs.Requests.{IsPending};
 ghost use Rattle.md_array.specs.Consistency.{IsConsistent};

@@ -2,7 +2,7 @@
 ghost use Rattle.std.specs.Prelude.{◌≡◌, ◌≤◌, MatchResult};
 ghost use Rattle.md_members.specs.Members.{sectors_of_device};
 ghost use Rattle.md_kept_members.specs.Remembering.{IsWhole};
-ghost use Rattle.md_requests.specs.Pending.{PendingView};
+ghost use Rattle.md_inflight.specs.Requests.Pending.{PendingView};
 ghost use Rattle.md_state.specs.Steps.ReAdd.{MayReAdd};
 ghost use Rattle.md_state.specs.Requests.{IsPending};
 ghost use Rattle.md_state.specs.View.{disk_of};
@@ -12,9 +12,8 @@ ghost use Rattle.md_array.specs.Steps.ReAdd.{ReAddHappens, ReAdds, RecordsLast, 
 use crate::mirror::Mirror;
 use md_device::Device;
 use md_faults::ReAddFault;
-use md_kept_members::taken_back;
+use md_kept_members::{store_superblock, taken_back};
 use md_members::{MemberFault, MemberInfo, read_member};
-use md_stored_members::store_superblock;
 use std::alloc::Global;
 
 impl<D: Device + Drop> Mirror<D> {
@@ -74,6 +73,7 @@ impl<D: Device + Drop> Mirror<D> {
         let role = info.superblock.role_of(number);
         let full = !self.array.is_degraded();
         let offset = self.array.offset_back(&info);
+        let sure = self.array.sure_offset_back(offset);
         let Ok(shared) = self.array.shared_with(alloc, number, role) else {
             return Err((device, ReAddFault::NoMemory));
         };
@@ -83,7 +83,7 @@ impl<D: Device + Drop> Mirror<D> {
         if self.devices.reserve(1).is_err() {
             return Err((device, ReAddFault::NoMemory));
         }
-        let member = taken_back(info, offset);
+        let member = taken_back(info, offset, sure);
         let mut device = device;
         if store_superblock(&mut device, &shared, &member).is_err() {
             return Err((device, ReAddFault::WriteFault));

@@ -1,7 +1,8 @@
 // Reading sectors of the array from a member.
-ghost use Rattle.std.specs.Prelude.{◌≡◌, ◌+◌, ◌*◌, ◌/◌, ◌%◌, ◌<◌, ◌≤◌, MatchResult, Some, length, map, slice_get, true};
+ghost use Rattle.std.specs.Prelude.{◌≡◌, ◌+◌, ◌*◌, ◌/◌, ◌%◌, ◌<◌, ◌≤◌, ◌++◌, ◌∷◌, [], MatchResult, Some, length, map, slice_get, true};
 ghost use Rattle.md_device.specs.Device.{held};
-ghost use Rattle.md_requests.specs.Pending.{PendingView};
+ghost use Rattle.md_device.specs.Failing.{failed_read};
+ghost use Rattle.md_inflight.specs.Requests.Pending.{PendingView};
 ghost use Rattle.md_state.specs.DeviceChanges.{IsUntouched};
 ghost use Rattle.md_state.specs.DiskWrites.{AtDevice};
 ghost use Rattle.md_state.specs.Steps.ReadData.{FailsToRead, ReadsData};
@@ -23,7 +24,7 @@ impl<D: Device + Drop> Mirror<D> {
         requires sound { IsConsistent self.old }
         requires whole { length buf.old % 512 ≡ 0 }
         requires inside { sector + length buf.old / 512 ≤ self.old.array.chunks.size }
-        ensures gives { MatchResult result (λ _. ReadsData k sector buf.new self.old self.new) (λ _. FailsToRead k self.old self.new) }
+        ensures gives { MatchResult result (λ _. ReadsData k sector buf.new self.old self.new) (λ _. FailsToRead k sector (length buf.old) self.old self.new) }
         ensures sound { IsConsistent self.new }
         ensures pending { (p : PendingView) → IsPending self.old.array p → IsPending self.new.array p }
     {
@@ -46,7 +47,7 @@ fn read_from<D: Device>(
     ensures untouched { IsUntouched (map (disk_of D.Device) devices.old) (map (disk_of D.Device) devices.new) }
     ensures read { MatchResult result
         (λ _. (d : Disk) → slice_get (map (disk_of D.Device) devices.old) k ≡ Some d → d.honest ≡ true → held d.content (data_offset + sector) (length buf.new) ≡ buf.new)
-        (λ _. AtDevice k (map (disk_of D.Device) devices.old) (map (disk_of D.Device) devices.new) (λ d e. d.honest ≡ true → d.failures < e.failures)) }
+        (λ _. AtDevice k (map (disk_of D.Device) devices.old) (map (disk_of D.Device) devices.new) (λ d e. (d.honest ≡ true → d.failures < e.failures) × (e.faults ≡ d.faults ++ failed_read (data_offset + sector) (length buf.old) ∷ []))) }
 {
     let device = &mut devices[k];
     let start = sector_on(device, data_offset, sector);

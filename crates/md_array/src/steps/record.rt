@@ -1,6 +1,6 @@
 // Storing a member's superblock.
 ghost use Rattle.std.specs.Prelude.{◌<◌, MatchResult, length};
-ghost use Rattle.md_requests.specs.Pending.{PendingView};
+ghost use Rattle.md_inflight.specs.Requests.Pending.{PendingView};
 ghost use Rattle.md_state.specs.Requests.{IsPending};
 ghost use Rattle.md_array.specs.Consistency.{IsConsistent};
 ghost use Rattle.md_array.specs.Events.{RecordHappens};
@@ -9,7 +9,7 @@ ghost use Rattle.md_array.specs.Steps.Record.{Records, RefusesRecord};
 use crate::mirror::Mirror;
 use md_device::Device;
 use md_faults::StoreFault;
-use md_stored_members::store_superblock;
+use md_kept_members::store_superblock;
 
 impl<D: Device + Drop> Mirror<D> {
     /// Writes member k's superblock: the array's fields, and its own. It takes no memory. The fault is

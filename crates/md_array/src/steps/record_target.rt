@@ -1,7 +1,7 @@
 // Storing the superblock of a member that is rebuilt.
 ghost use Rattle.std.specs.Prelude.{◌≡◌, ◌<◌, MatchResult, length, true};
 ghost use Rattle.md_kept_members.specs.View.{MemberView};
-ghost use Rattle.md_requests.specs.Pending.{PendingView};
+ghost use Rattle.md_inflight.specs.Requests.Pending.{PendingView};
 ghost use Rattle.md_state.specs.Members.{IsMember};
 ghost use Rattle.md_state.specs.Missing.{is_rebuilt};
 ghost use Rattle.md_state.specs.Requests.{IsPending};
@@ -12,7 +12,7 @@ ghost use Rattle.md_array.specs.Steps.RecordTarget.{RefusesTarget, TargetHappens
 use crate::mirror::Mirror;
 use md_device::Device;
 use md_faults::TargetFault;
-use md_stored_members::store_superblock;
+use md_kept_members::store_superblock;
 
 impl<D: Device + Drop> Mirror<D> {
     /// Writes the superblock of member k, a spare or recovering, as `record` does. Where the write fails

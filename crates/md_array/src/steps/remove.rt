@@ -1,6 +1,6 @@
 // Removing a member.
 ghost use Rattle.std.specs.Prelude.{◌<◌, MatchResult, length};
-ghost use Rattle.md_requests.specs.Pending.{PendingView};
+ghost use Rattle.md_inflight.specs.Requests.Pending.{PendingView};
 ghost use Rattle.md_state.specs.Steps.Remove.{RefusesRemove, Removes};
 ghost use Rattle.md_state.specs.Requests.{IsPending};
 ghost use Rattle.md_state.specs.View.{disk_of};

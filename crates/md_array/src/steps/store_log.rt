@@ -3,7 +3,7 @@ ghost use Rattle.std.specs.Prelude.{◌≡◌, ◌<◌, MatchResult, length, tru
 ghost use Rattle.md_assembly.specs.States.{is_in_sync};
 ghost use Rattle.md_kept_members.specs.Enrolling.{HasRoomFor};
 ghost use Rattle.md_kept_members.specs.View.{MemberView};
-ghost use Rattle.md_requests.specs.Pending.{PendingView};
+ghost use Rattle.md_inflight.specs.Requests.Pending.{PendingView};
 ghost use Rattle.md_state.specs.Members.{IsMember};
 ghost use Rattle.md_state.specs.Requests.{IsPending};
 ghost use Rattle.md_array.specs.Consistency.{IsConsistent};
@@ -12,7 +12,7 @@ ghost use Rattle.md_array.specs.Steps.StoreLog.{RefusesStoreLog, StoreLogHappens
 use crate::mirror::Mirror;
 use md_device::Device;
 use md_faults::StoreFault;
-use md_stored_members::store_log;
+use md_kept_members::store_log;
 
 impl<D: Device + Drop> Mirror<D> {
     /// Stores the list of member k, which is in sync, in its log, where its superblock names one. Its

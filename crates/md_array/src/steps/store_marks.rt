@@ -2,8 +2,8 @@
 ghost use Rattle.std.specs.Prelude.{◌<◌, ◌*◌, [], ◌∷◌, MatchResult, length};
 ghost use Rattle.md_device.specs.Splice.{SameOutside};
 ghost use Rattle.md_members.specs.Areas.{bitmap_sectors};
-ghost use Rattle.md_device_writes.specs.Writes.{MakesWrites, Write};
-ghost use Rattle.md_requests.specs.Pending.{PendingView};
+ghost use Rattle.md_members.specs.DeviceWrites.Writes.{MakesWrites, Write};
+ghost use Rattle.md_inflight.specs.Requests.Pending.{PendingView};
 ghost use Rattle.md_state.specs.Requests.{IsPending};
 ghost use Rattle.md_state.specs.Steps.StoreMarks.{IsMarkWrite, RefusesMarkSector, StoresMarkSector};
 ghost use Rattle.md_state.specs.View.{disk_of};
@@ -13,11 +13,10 @@ ghost use Rattle.md_array.specs.Events.{StoreMarksHappens};
 
 use crate::mirror::Mirror;
 use md_device::{Device, WriteFault};
-use md_device_writes::store_bitmap_sector;
 use md_faults::StoreFault;
-use md_kept_members::Member;
+use md_kept_members::{Member, bitmap_start};
+use md_members::store_bitmap_sector;
 use md_state::Array;
-use md_stored_members::bitmap_start;
 
 impl<D: Device + Drop> Mirror<D> {
     /// Writes sector `block` of member k's bitmap by the marks in memory. Sector 0 holds the header too.

@@ -1,6 +1,6 @@
 // Writing a request's bytes to a member.
 ghost use Rattle.std.specs.Prelude.{◌≡◌, ◌+◌, ◌*◌, ◌%◌, ◌<◌, ◌≤◌, Some, MatchResult, length, map, slice_get};
-ghost use Rattle.md_requests.specs.Pending.{PendingView};
+ghost use Rattle.md_inflight.specs.Requests.Pending.{PendingView};
 ghost use Rattle.md_state.specs.DiskWrites.{IsFailed, IsWritten};
 ghost use Rattle.md_state.specs.Requests.{IsPending};
 ghost use Rattle.md_state.specs.View.{Disk, disk_of};
@@ -10,9 +10,9 @@ ghost use Rattle.md_array.specs.Events.{WriteMemberHappens};
 
 use crate::mirror::Mirror;
 use md_device::{Device, WriteFault};
-use md_device_writes::put;
 use md_faults::WriteMemberFault;
-use md_requests::Pending;
+use md_inflight::Pending;
+use md_members::put;
 
 impl<D: Device + Drop> Mirror<D> {
     /// Writes a request's bytes to member k. The fault is the first in the order of

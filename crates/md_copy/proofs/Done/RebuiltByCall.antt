@@ -10,16 +10,18 @@ use Rattle.md_kept_members.specs.View.{MemberView}
 use Rattle.md_model.specs.Events.{Event}
 use Rattle.md_metadata.specs.Going.{GoesOn, only_others}
 use Rattle.md_metadata.specs.Storing.{IsFailureOf, IsRecording, IsStoring}
-use Rattle.md_passes.specs.Listed.{ArrayPasses, IsOfFailed, most_failures}
+use Rattle.md_copy.specs.PassLaws.Listed.{ArrayPasses, IsOfFailed, most_failures}
 use Rattle.md_state.specs.Members.{IsMember}
-use Rattle.md_state.specs.View.{ArrayView, MirrorView}
+use Rattle.md_state.specs.View.{ArrayView, MirrorView, of_disks}
+use Rattle.md_collect.specs.Reading.{FailsInChunk}
+use Rattle.md_copy.proofs.Failing.{there_since}
 use Rattle.md_array.specs.Consistency.{IsConsistent}
 use Rattle.md_array.specs.InTurn.{HaltsAt}
 use Rattle.md_array.proofs.StepLemmas.FailedParts.{halting_write}
 use Rattle.md_rebuild_table.specs.Orphans.{is_in}
 use Rattle.md_rebuild_table.specs.Sources.{missing_chunks}
 use Rattle.md_copy.specs.declared.rebuilt.Rebuilt.{Rebuilt}
-use Rattle.md_copy.specs.Filling.{CountsFailed}
+use Rattle.md_copy.specs.Filling.{CountsFailed, HaveFailedThere}
 use Rattle.md_copy.specs.Rebuilding.{Rebuilds, RebuildsReadied}
 use Rattle.md_copy.specs.Rebuilt.{HaltsFrom, HaltsTo, HasRebuilt, IsRebuilt, IsRebuiltInSync, ListsGrow, RunsOrHalts, failed_of}
 use Rattle.md_copy.specs.Storing.{StoresUntilDone}
@@ -27,10 +29,11 @@ use Rattle.md_copy.proofs.Ready.BegunAs.{permits_both, same_missing, serves_both
 use Rattle.md_copy.proofs.Listings.ListsKept.{own_stored_so, stored_so}
 use Rattle.md_copy.proofs.Passing.PassesTold.{HoldsSoFar, begins_holding}
 use Rattle.md_copy.proofs.Ready.Readied.{ready_of}
-use Rattle.md_copy.proofs.Done.RebuiltMember.{all_so, copied_so, counted_so, in_sync_now, lists_so, now_there, passes_so, rebuilt_so}
+use Rattle.md_copy.proofs.Done.RebuiltMember.{all_so, copied_so, counted_so, in_sync_now, lists_so, now_there, passes_so, rebuilt_so, there_so}
 use Rattle.md_copy.proofs.Ready.StartedAs.{IsAs, StartsAs, rebuilt_from}
 use Rattle.md_copy.proofs.Ready.StartsReadied.{starts_of}
-use Rattle.md_copy.proofs.Done.StatesKept.{so_readied, state_so}
+use Rattle.md_copy.proofs.Ready.Unsaid.{unsaid_begun}
+use Rattle.md_copy.proofs.Done.StatesKept.{so_begun, state_so}
 use Rattle.md_copy.proofs.Stored.StoringKeeps.{KeepsAll, keeps_none, settles_keep}
 
 -- ---- the end of the call, or what came right before a write that halted the mirror
@@ -78,7 +81,7 @@ module _ (target : ℕ) (told : Rebuilt) (old new : MirrorView) (h : Rebuilds ta
   starts = starts_of target old v h.none h.begins
 
   so : HoldsSoFar target v h.none (missing_chunks v.array m)
-  so = begins_holding target m h.none v (ready_of target old v h.none h.begins) h.begins.there h.begins.is_none.chunks h.begins.is_none.bits
+  so = begins_holding target m h.none v (ready_of target old v h.none h.begins) h.begins.there h.begins.is_none.chunks h.begins.is_none.bits (unsaid_begun target old v h.none h.begins)
 
   pub last : (y : MirrorView) × IsLast r.by.enrolled y new
   last = last_of r.by.enrolled new r.by.stores_until_done
@@ -133,6 +136,15 @@ module _ (target : ℕ) (told : Rebuilt) (old new : MirrorView) (h : Rebuilds ta
       let more = counted_so target m h.none v new told r at_m so h.begins.is_none.bits new settled.0 settled.1 k role z.0 z.1 (z.2.roles role ∙ in_role) w.0 e w.1 at_e (starts.honest k d w.0 at_d w.1 ∙ honest) in
       omega (arith, first, more)
 
+  failed_there : HaveFailedThere (failed_of r.passes) old new
+  failed_there slot has k n at_n in_role d e at_d at_e =
+      let z = starts.then k n at_n in
+      let w = starts.disk_then k d at_d in
+      there_since d w.0 e n.superblock.data_offset old.array.chunks slot.chunk (starts.grown k d w.0 at_d w.1)
+      (subst (λ (q : Chunks). FailsInChunk of_disks w.0 e n.superblock.data_offset q slot.chunk) starts.chunks
+      (subst (λ o. FailsInChunk of_disks w.0 e o v.array.chunks slot.chunk) z.2.offset
+      (there_so target m h.none v new told r at_m so h.begins.is_none.bits new settled.0 settled.1 slot has k z.0 z.1 (z.2.roles slot.source ∙ in_role) w.0 e w.1 at_e)))
+
   few : length r.passes ≤ most_failures old.array + 1
   few =
       (all_so target m h.none v new told r at_m so h.begins.is_none.bits new settled.0 settled.1).few (most_failures old.array) (serves_most target old v starts)
@@ -168,10 +180,11 @@ module _ (target : ℕ) (told : Rebuilt) (old new : MirrorView) (h : Rebuilds ta
       few = few;
       lists = lists;
       counted = counted;
+      there = failed_there;
     };
     states = λ k n z other at_n at_z.
         (let o = starts.then k n at_n in
-        let w = so_readied target h.begins.member old v h.begins.first k other o.0 o.1 in
+        let w = so_begun target old v h.none h.begins k other o.0 o.1 in
         let was : o.0.state ≡ n.state = w.2 ∙ ap (λ (x : MemberView). x.state) (same_Some w.0 n (sym w.1 ∙ at_n)) in
         elim (state_so target m h.none v new told r new settled.0 k other o.0 z o.1 at_z) [
           | inl same ↦ inl (same ∙ was)

@@ -15,7 +15,8 @@ use Rattle.md_badblocks.specs.Runs.{IsBad}
 use Rattle.md_bitmap.specs.declared.chunks.Chunks.{Chunks}
 use Rattle.md_bitmap.specs.Chunks.{InChunk}
 use Rattle.md_bitmap.specs.Marks.{Bitmap, is_set}
-use Rattle.md_collect.specs.Reading.{CountsFailure}
+use Rattle.md_cert.specs.declared.slots.Slot.{Slot}
+use Rattle.md_collect.specs.Reading.{CountsFailure, FailsInChunk}
 use Rattle.md_device.specs.Splice.{part}
 use Rattle.md_kept_members.specs.Enrolling.{IsListAfter, IsOf, IsOfChunk}
 use Rattle.md_kept_members.specs.Members.{made_due}
@@ -25,8 +26,8 @@ use Rattle.md_model.specs.Content.{Content}
 use Rattle.md_model.proofs.Cases.{by_test}
 use Rattle.md_pass.proofs.FilteredLists.{kept}
 use Rattle.md_pass.specs.Readings.{is_of}
-use Rattle.md_passes.proofs.ArrayPasses.{fewer, others, passes_end}
-use Rattle.md_passes.specs.Listed.{AreAllArrayPasses, AreCopiedBy, ArrayPasses, IsOfFailed, ListsFailed, ListsOwn, ServesAs}
+use Rattle.md_copy.proofs.PassLemmas.ArrayPasses.{fewer, others, passes_end}
+use Rattle.md_copy.specs.PassLaws.Listed.{AreAllArrayPasses, AreCopiedBy, ArrayPasses, IsOfFailed, ListsFailed, ListsOwn, ServesAs}
 use Rattle.md_state.specs.DiskWrites.{AtDevice}
 use Rattle.md_state.specs.Members.{IsInSync, IsMember}
 use Rattle.md_state.specs.Missing.{is_missing}
@@ -43,6 +44,7 @@ use Rattle.md_copy.specs.Held.{AreHeld}
 use Rattle.md_copy.specs.Ready.{IsReadyToCopy}
 use Rattle.md_copy.specs.Rebuilding.{RebuildsReadied}
 use Rattle.md_copy.specs.Rebuilt.{IsBesideCopied, IsRebuilt, IsServedThen, failed_of}
+use Rattle.md_copy.proofs.Failing.{HasGrown, there_still}
 use Rattle.md_copy.proofs.Held.EnrolSets.{is_uncopied, uncopied_is}
 use Rattle.md_copy.proofs.Held.HeldRecorded.{out_of_sync}
 use Rattle.md_copy.proofs.Passing.PassesKeep.{PassesKeep, all_keep, disk_then}
@@ -415,7 +417,7 @@ module _ (target : ℕ) (m : MemberView) (none : Bitmap) (v new : MirrorView) (t
 
   x_disk : (d : Disk) × (slice_get x.disks target ≡ Some d)
   x_disk =
-      let none_at : Disk = record { content = []; honest = true; failures = 0; crashes = [] } in
+      let none_at : Disk = record { content = []; honest = true; faults = []; failures = 0; crashes = [] } in
       let low = slice_get_within f.array.members target mf at_f in
       let fits = ready_f.sound.fits.as_many in
       let many = h.by.enrols.disks.as_many in
@@ -482,6 +484,16 @@ module _ (target : ℕ) (m : MemberView) (none : Bitmap) (v new : MirrorView) (t
       let first = keeps.fails k role n at_n in_role d z.0 at_d z.1 honest in
       let last = stored.counted k o.0 e o.1 at_e in
       omega (arith, first, failures, last)
+
+  pub there_so : (slot : Slot) → Contains (failed_of h.passes) slot → (k : ℕ) (n : MemberView) → IsMember a k n → is_in_sync_as slot.source n.state ≡ true
+      → AtDevice k v.disks y.disks (λ d e. FailsInChunk of_disks d e n.superblock.data_offset a.chunks slot.chunk)
+  there_so slot has k n at_n in_role d e at_d at_e =
+      let other = is_other k n (record { member = at_n; in_sync = in_sync_as slot.source n.state in_role }) in
+      let o = device_before x y stored k e at_e in
+      let z = disk_then v f keeps.as_many k d at_d in
+      let same : o.0 ≡ z.0 = same_Some o.0 z.0 (sym o.1 ∙ h.by.enrols.disks.others k other ∙ z.1) in
+      there_still d z.0 e n.superblock.data_offset a.chunks slot.chunk (keeps.there slot has k n at_n in_role d z.0 at_d z.1)
+      (subst (λ (w : Disk). HasGrown w e) same (stored.grown k o.0 e o.1 at_e))
 
   -- ---- the passes
   pub passes_so : ArrayPasses h.passes a (missing_chunks a m) h.by.fills.copies.now.array

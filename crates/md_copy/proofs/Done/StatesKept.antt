@@ -15,10 +15,11 @@ use Rattle.md_array.specs.Steps.Admit.{Admits}
 use Rattle.md_array.proofs.General.Indices.{at_map, got_in_map, got_other}
 use Rattle.md_copy.specs.declared.rebuilt.Rebuilt.{Rebuilt}
 use Rattle.md_copy.specs.Readying.{AdmitsFirst, Readies}
-use Rattle.md_copy.specs.Rebuilding.{RebuildsReadied}
+use Rattle.md_copy.specs.Rebuilding.{BeginsRebuild, RebuildsReadied}
 use Rattle.md_copy.specs.Rebuilt.{FailsWrite, failed_of}
 use Rattle.md_copy.specs.Storing.{StoresFirst}
 use Rattle.md_copy.proofs.Passing.PassesKeep.{all_keep, disk_then}
+use Rattle.md_copy.proofs.Ready.Lowered.{lowered_before}
 use Rattle.md_copy.proofs.Stored.StoringKeeps.{KeepsAll, device_then}
 
 -- ---- until passes may be made
@@ -43,6 +44,12 @@ so_readied target m old ready (inr h) k other n at =
     let b = so_admitted target x.after.stored x.admitted x.after.admits k other a.0 a.1 in
     let c = so_stored old x.after.stored x.after.first k b.0 b.1 in
     (c.0, c.1, a.2 ∙ b.2 ∙ c.2)
+
+pub so_begun : (target : ℕ) (old ready : MirrorView) (none : Bitmap) (b : BeginsRebuild target old ready none) → (k : ℕ) → k ≢ target → (n : MemberView) → IsMember ready.array k n → WasSo old k n
+so_begun target old ready none b k other n at =
+    let x = so_readied target b.then b.lowered ready b.first k other n at in
+    let y = lowered_before target none old b.lowered b.sound b.lowers k x.0 x.1 in
+    (y.0, y.1, x.2 ∙ ap (λ (z : MemberView). z.state) y.2.is)
 
 -- ---- from then on
 module _ (target : ℕ) (m : MemberView) (none : Bitmap) (v new : MirrorView) (told : Rebuilt) (h : RebuildsReadied target m none v new told) (y : MirrorView)

@@ -7,11 +7,11 @@ use Rattle.md_bitmap.specs.declared.chunks.Chunks.{Chunks}
 use Rattle.md_bitmap.specs.Marks.{Bitmap, is_set}
 use Rattle.md_cert.specs.declared.slots.Slot.{Slot}
 use Rattle.md_collect.specs.Places.{HasRoom, chunk_on}
-use Rattle.md_collect.specs.Reading.{CountsFailure}
+use Rattle.md_collect.specs.Reading.{CountsFailure, FailsInChunk}
 use Rattle.md_collect.specs.Reports.{Copying}
 use Rattle.md_device.specs.declared.device.Device.{Ghosts}
 use Rattle.md_pass.specs.Beside.{KeepsBeside, SameBesideCopied}
-use Rattle.md_workers.specs.Queues.{AreOnlyRead, OnlyRead}
+use Rattle.md_collect.specs.Workers.Queues.{AreOnlyRead, OnlyRead}
 use Rattle.md_pass.specs.Copied.{AreCopied}
 use Rattle.md_pass.specs.Sources.{MayRead, copy_of}
 use Rattle.md_pass.specs.declared.source.Source.{Source}
@@ -28,10 +28,10 @@ module _ {D : Type 0} (g : Ghosts D) where
 
   -- ---- one device
   read_seen : (d e : D) → OnlyRead g d e → OnlyRead of_disks (disk_of g d) (disk_of g e)
-  read_seen d e r = record { content_kept = r.content_kept; honest_kept = r.honest_kept; counted = r.counted; crashes = r.crashes }
+  read_seen d e r = record { content_kept = r.content_kept; honest_kept = r.honest_kept; counted = r.counted; reads_alone = r.reads_alone; crashes = r.crashes }
 
   kept_seen : (copy : Copying) (d e : D) → KeepsBeside g copy d e → KeepsBeside of_disks copy (disk_of g d) (disk_of g e)
-  kept_seen copy d e k = record { same = k.same; honest_kept = k.honest_kept; counted = k.counted; crashes = k.crashes }
+  kept_seen copy d e k = record { same = k.same; honest_kept = k.honest_kept; counted = k.counted; writes_alone = k.writes_alone; crashes = k.crashes }
 
   -- ---- what a pass may read
   pub may_read_of : (chunks : Chunks) (slots : List Slot) (sources : List Source) (devices : List D) (target : ℕ) → MayRead of_disks chunks slots sources (remove (seen devices) target)
@@ -110,6 +110,19 @@ module _ {D : Type 0} (g : Ghosts D) where
         let c = ap (λ (z : Disk). z.failures) x.is in
         let h = ap (λ (z : Disk). z.failures) y.is in
         omega (arith, up, a, b, c, h)
+
+    -- the device of a source failed a read of the chunk
+    pub other_there : (j offset chunk : ℕ) (chunks : Chunks) → j ≢ target
+        → ((d : D) → FailsInChunk g (slice_index_or (remove olds target) (place_beside target j) d) (slice_index_or (remove news target) (place_beside target j) d) offset chunks chunk)
+        → (d e : Disk) → slice_get (seen olds) j ≡ Some d → slice_get (seen news) j ≡ Some e → FailsInChunk of_disks d e offset chunks chunk
+    other_there j offset chunk chunks other fails d e at_d at_e =
+        let x = mapped_from (disk_of g) olds j d at_d in
+        let y = mapped_from (disk_of g) news j e at_e in
+        let old = beside_old j x.from other x.at x.from in
+        let new = beside_new j y.from other y.at x.from in
+        let both = subst (λ (z : D). FailsInChunk g x.from z offset chunks chunk) new
+        (subst (λ (z : D). FailsInChunk g z (slice_index_or (remove news target) (place_beside target j) x.from) offset chunks chunk) old (fails x.from)) in
+        subst (λ (z : Disk). FailsInChunk of_disks z e offset chunks chunk) x.is (subst (λ (z : Disk). FailsInChunk of_disks (disk_of g x.from) z offset chunks chunk) y.is both)
 
     -- a slot was copied
     module _ (v w : MirrorView) (v_is : v.disks ≡ seen olds) (w_is : w.disks ≡ seen news) (offset : ℕ) (slots : List Slot) (sources : List Source) (are : AreSources v target slots sources) where

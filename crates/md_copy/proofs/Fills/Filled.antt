@@ -1,21 +1,22 @@
 -- What a pass over the devices that were lent is for the mirror that has them back.
 use Rattle.std.proofs.Common.{◌≡◌, ◌≢◌, ◌∙◌, ℕ, ◌+◌, ◌<◌, ◌≤◌, ◌==◌, Bool, true, false, List, [], ◌∷◌, length, remove, count_by, get_or, slice_get, slice_index_or, Some, All, Result, Ok, Err, MatchResult, refl, sym, ap, subst, arith, inl, inr}
-use Rattle.std.specs.List.{list_any}
-use Rattle.std.proofs.lemmas.Bool.{both_ways, cases_Bool, eq-eqb, eqb-true}
-use Rattle.std.proofs.lemmas.List.Elements.{All-filter, All-head, All-tail}
+use Rattle.std.specs.List.{Any, Contains, list_any}
+use Rattle.std.proofs.lemmas.Bool.{both_ways, cases_Bool, eq-eqb, eqb-true, not-true}
+use Rattle.std.proofs.lemmas.List.Elements.{All-contains, All-contains_itself, All-filter, All-head, All-tail, filter_passes}
 use Rattle.std.proofs.lemmas.List.Folds.{Any-from_list_any, list_any_at}
 use Rattle.std.proofs.lemmas.Option.{same_Some}
 use Rattle.md_assembly.proofs.Indices.{got_within}
 use Rattle.md_assembly.specs.States.{is_in_sync, is_in_sync_as}
-use Rattle.md_bitmap.specs.Marks.{Bitmap}
+use Rattle.md_bitmap.specs.Marks.{Bitmap, is_set}
 use Rattle.md_cert.specs.declared.plan.Plan.{Plan}
 use Rattle.md_cert.specs.declared.slots.Slot.{Slot}
+use Rattle.md_collect.specs.Reading.{FailsInChunk}
 use Rattle.md_collect.specs.Reports.{Copying}
 use Rattle.md_device.specs.declared.device.Device.{Ghosts}
 use Rattle.md_kept_members.specs.View.{MemberView}
 use Rattle.md_pass.specs.Beside.{KeepsBeside}
-use Rattle.md_pass.specs.Copied.{BreaksOff, CountFailed, EndsPass, HasCopied, OnFault, PassState, failed_slots, is_failed_slot, pass_state}
-use Rattle.md_workers.specs.Queues.{AreOnlyRead}
+use Rattle.md_pass.specs.Copied.{BreaksOff, CountFailed, EndsPass, FailThere, HasCopied, OnFault, PassState, failed_slots, is_failed_slot, pass_state}
+use Rattle.md_collect.specs.Workers.Queues.{AreOnlyRead}
 use Rattle.md_pass.specs.Readings.{is_of}
 use Rattle.md_pass.specs.Sources.{copy_of}
 use Rattle.md_pass.specs.declared.fault.PassFault.{PassFault}
@@ -28,9 +29,9 @@ use Rattle.md_state.specs.Missing.{is_rebuilt}
 use Rattle.md_state.specs.View.{Disk, MirrorView}
 use Rattle.md_array.specs.Consistency.{IsConsistent}
 use Rattle.md_rebuild_table.proofs.Served.{in_sync_as}
-use Rattle.md_copy.specs.Filling.{CopiesChunks, CountsFailed, FailsOnWrite, FillsPass, IsFilling}
-use Rattle.md_copy.specs.RebuildSources.{AreSources, IsPlanOf, IsSourceAt}
-use Rattle.md_copy.proofs.Fills.Carried.{other_counts, seen, slot_copied, target_beside, target_fails}
+use Rattle.md_copy.specs.Filling.{CopiesChunks, CountsFailed, FailsOnWrite, FillsPass, HaveFailedThere, IsFilling}
+use Rattle.md_copy.specs.RebuildSources.{AreSources, IsPlanOf, IsServedBy, IsSourceAt, place_beside}
+use Rattle.md_copy.proofs.Fills.Carried.{other_counts, other_there, seen, slot_copied, target_beside, target_fails}
 use Rattle.md_copy.proofs.Fills.LentBack.{filling, rebuilt_out, within}
 use Rattle.md_copy.proofs.Plans.SourcesChosen.{takes_as}
 
@@ -126,9 +127,33 @@ module _ {D : Type 0} (g : Ghosts D) (v : MirrorView) (sound : IsConsistent v) (
             omega (arith, zero, up)
       ]
 
+  -- a source failed a read of the chunk of each of its slots that failed
+  failed_there : ((d : D) → FailThere g copy after sources (remove olds target) (remove news target)) → HaveFailedThere failed v w
+  failed_there fails slot has k m at_m in_role d e at_d at_e =
+      let of_slots = All-contains (Contains slots) failed slot (All-filter (is_failed_slot after) (Contains slots) slots (All-contains_itself slots)) has in
+      let unset = not-true (is_set after.bytes slot.chunk) (All-contains (λ (t : Slot). is_failed_slot after t ≡ true) failed slot (filter_passes (is_failed_slot after) slots) has) in
+      let by = All-contains (λ (t : Slot). Any (IsServedBy v target t) sources) slots slot are.served of_slots in
+      let s = by.1 in
+      let source = by.4.is in
+      let one : by.4.at ≡ k = sound.roles.one_each by.4.at k slot.source by.4.member m source.listed at_m
+      (takes_as slot.source by.4.member.state (subst (λ r. is_in_sync_as r by.4.member.state ≡ true) by.4.role source.in_sync)) (takes_as slot.source m.state in_role) in
+      let is : by.4.member ≡ m = same_Some by.4.member m (sym source.listed ∙ ap (slice_get v.array.members) one ∙ at_m) in
+      let offset : s.offset ≡ m.superblock.data_offset = source.offset ∙ ap (λ (z : MemberView). z.superblock.data_offset) is in
+      let place : s.place ≡ place_beside target k = source.place ∙ ap (place_beside target) one in
+      let role : (get_or sources by.0 s).role ≡ slot.source = ap (λ (t : Source). t.role) by.3 ∙ by.4.role in
+      let all = λ (x : D).
+      All-contains (λ (t : Slot). is_set after.bytes t.chunk ≡ false
+      → All (λ (z : Source). z.role ≡ t.source → (y : D) → FailsInChunk g (slice_index_or (remove olds target) z.place y) (slice_index_or (remove news target) z.place y) z.offset v.array.chunks t.chunk) sources)
+      slots slot (fails x) of_slots unset by.0 s by.2 role x in
+      let there_is = subst (λ (z : Source). (x : D) → FailsInChunk g (slice_index_or (remove olds target) z.place x) (slice_index_or (remove news target) z.place x) z.offset v.array.chunks slot.chunk) by.3 all in
+      other_there g olds news target there as_many k m.superblock.data_offset slot.chunk v.array.chunks (is_other k slot.source m at_m in_role)
+      (subst (λ n. (x : D) → FailsInChunk g (slice_index_or (remove olds target) n x) (slice_index_or (remove news target) n x) m.superblock.data_offset v.array.chunks slot.chunk) place
+      (subst (λ o. (x : D) → FailsInChunk g (slice_index_or (remove olds target) s.place x) (slice_index_or (remove news target) s.place x) o v.array.chunks slot.chunk) offset there_is))
+      d e (in_v k d at_d) (in_w k e at_e)
+
   -- ---- the whole answer
   pub passed : (result : Result BoardCounts PassFault) → ((d : D) → MatchResult result (EndsPass g copy sources (old d) (new d)) (BreaksOff g copy sources (old d) (new d)))
       → MatchResult result (λ counts. FillsPass target member slots before after v w counts.failed) (OnFault (CopiesChunks target member slots before after v w) (FailsOnWrite target member slots v w))
-  passed (Ok counts) h = record { copies = copies (λ d. (h d).copied); failed_are = (h some).failed; counted = counted (λ d. (h d).counted) }
+  passed (Ok counts) h = record { copies = copies (λ d. (h d).copied); failed_are = (h some).failed; counted = counted (λ d. (h d).counted); there = failed_there (λ d. (h d).there) }
   passed (Err NoMemory) h = copies h
   passed (Err TargetFault) h = record { filling = filled; failed = λ d e at_d at_e. target_fails g olds news target there as_many h d e (in_v target d at_d) (in_w target e at_e) }

@@ -14,12 +14,13 @@ use Rattle.md_device.specs.declared.device.Device.{Ghosts}
 use Rattle.md_kept_members.specs.View.{MemberView}
 use Rattle.md_pass.specs.Beside.{KeepsBeside, has_chunk}
 use Rattle.md_pass.specs.Sources.{copy_of}
-use Rattle.md_workers.specs.Queues.{AreOnlyRead, OnlyRead}
+use Rattle.md_collect.specs.Workers.Queues.{AreOnlyRead, OnlyRead}
 use Rattle.md_state.specs.Steps.MakeClean.{IsIdle}
 use Rattle.md_state.specs.Members.{IsMember}
 use Rattle.md_state.specs.Missing as state
 use Rattle.md_state.specs.Missing.{is_rebuilt}
 use Rattle.md_state.specs.View.{ArrayView, Disk, MirrorView, disk_of, of_disks}
+use Rattle.md_state.proofs.Stays.{stays_grown}
 use Rattle.md_array.specs.Consistency.{IsConsistent}
 use Rattle.md_array.specs.Steps.Lend.{AreBack, ComesBackFromLoan, lent}
 use Rattle.md_copy.specs.Filling.{IsFilling}
@@ -49,7 +50,7 @@ comes_target : (a : ArrayView) (m : MemberView) (slots : List Slot) (d e : Disk)
     → ((c : ℕ) → has_chunk slots c ≡ true → (c < a.marks.chunks) × (state.is_missing a m c ≡ true))
     → KeepsBeside of_disks (copy_of slots a.chunks m.superblock.data_offset) d e → ComesBackFromLoan a m d e
 comes_target a m slots d e is lacks k = record {
-  stays = record { honest = k.honest_kept; counted = k.counted };
+  stays = stays_grown d e (λ f. f.writes ≡ true) k.honest_kept k.counted k.writes_alone;
   size = k.same.size;
   beside = λ at n h. k.same.beside at n (λ c planned. let low = lacks c planned in h c low.0 low.1);
   others = λ no. absurd (let yes = is in cc);
@@ -57,7 +58,7 @@ comes_target a m slots d e is lacks k = record {
 
 comes_other : (a : ArrayView) (m : MemberView) (d e : Disk) → OnlyRead of_disks d e → ComesBackFromLoan a m d e
 comes_other a m d e r = record {
-  stays = record { honest = r.honest_kept; counted = r.counted };
+  stays = stays_grown d e (λ f. f.writes ≡ false) r.honest_kept r.counted r.reads_alone;
   size = ap length r.content_kept;
   beside = λ at n h. ap (λ content. part content at n) r.content_kept;
   others = λ no. r.content_kept;

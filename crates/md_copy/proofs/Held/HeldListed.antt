@@ -1,5 +1,5 @@
 -- What the target holds of the array it holds while chunks are listed that it has not: whoever serves one that it has serves it still.
-use Rattle.std.proofs.Common.{◌≡◌, ◌∙◌, ℕ, ◌+◌, ◌*◌, ◌<◌, ◌≤◌, ◌||◌, true, false, not, leb, length, List, Contains, get_or, slice_get, Some, refl, sym, ap, subst, arith, inl, inr}
+use Rattle.std.proofs.Common.{◌≡◌, ◌∙◌, ℕ, ◌+◌, ◌*◌, ◌<◌, ◌≤◌, ◌||◌, true, false, not, leb, length, List, Contains, get_or, slice_get, Some, sym, ap, subst, arith, inl, inr}
 use Rattle.std.proofs.lemmas.Bool.{both_ways}
 use Rattle.std.proofs.lemmas.Nat.{div_below, le-div}
 use Rattle.std.proofs.lemmas.Option.{same_Some, slice_get-get_or, slice_get_within}
@@ -12,9 +12,10 @@ use Rattle.md_cert.specs.declared.slots.Slot.{Slot}
 use Rattle.md_collect.specs.Places.{bytes_of_chunk, chunk_on, start_of}
 use Rattle.md_kept_members.specs.Permitting.{ListsAny}
 use Rattle.md_kept_members.specs.View.{MemberView}
-use Rattle.md_passes.specs.Listed.{ListsFailed, ListsOwn}
+use Rattle.md_copy.specs.PassLaws.Listed.{ListsFailed, ListsOwn}
 use Rattle.md_device.specs.Splice.{part}
 use Rattle.md_state.specs.DeviceChanges.{StaysHonest}
+use Rattle.md_state.proofs.Stays.{stays_same}
 use Rattle.md_state.specs.Members.{IsInSync, IsMember}
 use Rattle.md_state.specs.Missing.{has_passed, is_missing}
 use Rattle.md_state.specs.View.{ArrayView, Disk, MirrorView}
@@ -45,7 +46,7 @@ pub none_written : (v w : MirrorView) → w.disks ≡ v.disks → WritesMetadata
 none_written v w same = record {
   as_many = ap length same;
   others = λ k out. ap (λ xs. slice_get xs k) same;
-  stays = λ k d e at_d at_e. (let is = one k d e at_d at_e in subst (StaysHonest d) (sym is) (record { honest = refl; counted = omega arith }));
+  stays = λ k d e at_d at_e. (let is = one k d e at_d at_e in subst (StaysHonest d) (sym is) (stays_same d));
   size = λ k d e at_d at_e. ap (λ (x : Disk). length x.content) (one k d e at_d at_e);
   keeps = λ k m at d e at_d at_e i n from to. ap (λ (x : Disk). part x.content i n) (one k d e at_d at_e);
 }
@@ -60,7 +61,7 @@ missing_grown target failed v w g m at out x there recovers c =
     ap (λ (z : MemberView). is_missing w.array z c) (g.out target m x at there out)
     ∙ lacks_so w.array m c recovers
     ∙ ap (λ (b : Bitmap). is_set b.bytes c || not (has_passed w.array m c)) g.lists.marks
-    ∙ ap (λ (q : Chunks). is_set v.array.marks.bytes c || not (leb q.size m.superblock.recovery_offset || leb ((c + 1) * q.sectors) m.superblock.recovery_offset)) g.lists.chunks
+    ∙ ap (λ (q : Chunks). is_set v.array.marks.bytes c || not (leb q.size m.offset || leb ((c + 1) * q.sectors) m.offset)) g.lists.chunks
     ∙ sym (lacks_so v.array m c recovers)
 
 module _ (target : ℕ) (failed : List Slot) (copied : Bitmap) (v w : MirrorView) (sound : IsConsistent v) (g : GrowsOnly failed v w) (m : MemberView) (at : IsMember v.array target m) (out : is_in_sync m.state ≡ false)

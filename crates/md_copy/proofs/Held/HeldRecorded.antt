@@ -1,8 +1,9 @@
 -- What the target holds of the array it holds once how far it is rebuilt is recorded, and it lacks what it lacked, but for what was copied.
-use Rattle.std.proofs.Common.{◌≡◌, ◌≢◌, ◌∙◌, ℕ, ◌+◌, ◌*◌, ◌<◌, ◌≤◌, ◌||◌, Bool, true, false, not, leb, length, max, get_or, slice_get, Some, refl, sym, ap, subst, arith, inl, inr}
+use Rattle.std.proofs.Common.{◌≡◌, ◌≢◌, ◌∙◌, ℕ, ◌+◌, ◌*◌, ◌<◌, ◌≤◌, ◌||◌, ◌&&◌, Bool, true, false, nat_lt, not, leb, length, max, get_or, slice_get, Some, refl, sym, ap, subst, arith, inl, inr}
 use Rattle.std.proofs.lemmas.Bool.{both_ways, cases_Bool, cases_lt, or_right}
 use Rattle.std.proofs.lemmas.Bool.Decides.{nat_tests}
 use Rattle.std.proofs.lemmas.Nat.{mul-le}
+use Rattle.std.proofs.Math.Nat.{le-max_left}
 use Rattle.std.proofs.lemmas.Grind.{div_ceil_times}
 use Rattle.std.proofs.lemmas.Option.{same_Some, slice_get-get_or, slice_get_within}
 use Rattle.std.specs.Int.{div_ceil}
@@ -16,11 +17,12 @@ use Rattle.md_bitmap.specs.Marks.{Bitmap, is_set}
 use Rattle.md_collect.specs.Places.{bytes_of_chunk, chunk_on, start_of}
 use Rattle.md_device.specs.Splice.{SameOutside}
 use Rattle.md_kept_members.specs.Permitting.{ListsAny}
-use Rattle.md_kept_members.specs.TakingBack.{with_recovery_offset}
+use Rattle.md_kept_members.specs.Members.{recorded_member}
+use Rattle.md_kept_members.specs.TakingBack.{member_says_of}
 use Rattle.md_kept_members.specs.View.{MemberView}
 use Rattle.md_model.specs.Rebuilding.{lacks}
 use Rattle.md_model.specs.Sectors.{is_passed}
-use Rattle.md_state.specs.Steps.Checkpoint.{EndsCheckpoint}
+use Rattle.md_state.specs.Steps.Checkpoint.{EndsCheckpoint, IsFirstEnd, checked}
 use Rattle.md_state.specs.Members.{IsMember}
 use Rattle.md_state.specs.Missing.{has_passed, is_missing}
 use Rattle.md_state.specs.View.{ArrayView, Disk, MirrorView, geometry_of}
@@ -71,6 +73,22 @@ passed_below size width stop c some low passed =
           absurd (both_ways (leb size (stop * width) || leb ((c + 1) * width) (stop * width)) (grind (arith, nat_tests)) passed)
     ]
 
+-- the first chunk that stops a checkpoint comes before no other one that does
+pub first_low : (a : ArrayView) (n : MemberView) (copied : Bitmap) (stop c : ℕ) → IsFirstEnd a n copied stop → c < a.marks.chunks → EndsCheckpoint a n copied c → stop ≤ c * a.chunks.sectors
+first_low a n copied stop c (inl first) low stops = elim (cases_lt c first.0) [
+  | inl before ↦ absurd (first.3 c before stops)
+  | inr from ↦ let up = mul-le first.0 a.chunks.sectors c a.chunks.sectors from (omega arith) in let is = first.4 in omega (arith, up, is)
+]
+first_low a n copied stop c (inr none) low stops = absurd (none.0 c low stops)
+
+-- a superblock does not say that its member has what begins at its offset, or after it
+pub unsaid_from : (sector : ℕ) (m : MemberView) → m.stored_offset ≤ sector → member_says_of sector m ≡ false
+unsaid_from sector m low = both_false (is_recovering m.state) (nat_lt sector m.stored_offset) (grind (arith, nat_tests))
+  where
+    both_false : (a b : Bool) → b ≡ false → (a && b) ≡ false
+    both_false true b is = is
+    both_false false b is = refl
+
 -- where a chunk begins
 pub low_start : (v : MirrorView) → IsConsistent v → (c : ℕ) → c < v.array.marks.chunks → c * v.array.chunks.sectors ≤ v.array.chunks.size
 low_start v sound c low =
@@ -88,10 +106,14 @@ module _ (target : ℕ) (copied : Bitmap) (v w : MirrorView) (sound : IsConsiste
   m = r.may.member
 
   abbrev n : MemberView
-  n = record (with_recovery_offset r.offset m) { due = false }
+  n = recorded_member (checked r.sure m)
 
   abbrev a : ArrayView
   a = v.array
+
+  -- up to which it is rebuilt
+  abbrev after : ℕ
+  after = max m.offset r.sure
 
   target_low : target < length a.members
   target_low = slice_get_within a.members target m r.may.at
@@ -144,7 +166,7 @@ module _ (target : ℕ) (copied : Bitmap) (v w : MirrorView) (sound : IsConsiste
   pub lacks_before : (c : ℕ) → is_missing a m c ≡ (is_set a.marks.bytes c || not (has_passed a m c))
   lacks_before c = lacks_so a m c recovers
 
-  pub lacks_after : (x : MemberView) → IsMember w.array target x → (c : ℕ) → is_missing w.array x c ≡ (is_set a.marks.bytes c || not (is_passed (geometry_of a) r.offset c))
+  pub lacks_after : (x : MemberView) → IsMember w.array target x → (c : ℕ) → is_missing w.array x c ≡ (is_set a.marks.bytes c || not (is_passed (geometry_of a) after c))
   lacks_after x at c =
       ap (λ (z : MemberView). is_missing w.array z c) (target_same x at)
       ∙ ap (λ (b : ArrayView). is_missing b n c) r.array
@@ -154,9 +176,9 @@ module _ (target : ℕ) (copied : Bitmap) (v w : MirrorView) (sound : IsConsiste
   pub lacked : (x : MemberView) → IsMember w.array target x → (c : ℕ) → is_missing w.array x c ≡ true → is_missing a m c ≡ true
   lacked x at c missing = elim (cases_Bool (has_passed a m c)) [
     | inl passed ↦
-        let up : m.superblock.recovery_offset ≤ r.offset = (let is = r.next.is in omega (arith, is)) in
-        let still = passed_more a.chunks.size a.chunks.sectors m.superblock.recovery_offset r.offset c up passed in
-        lacks_before c ∙ marked_so (is_set a.marks.bytes c) (is_passed (geometry_of a) r.offset c) (has_passed a m c) still (sym (lacks_after x at c) ∙ missing)
+        let up : m.offset ≤ after = le-max_left m.offset r.sure in
+        let still = passed_more a.chunks.size a.chunks.sectors m.offset after c up passed in
+        lacks_before c ∙ marked_so (is_set a.marks.bytes c) (is_passed (geometry_of a) after c) (has_passed a m c) still (sym (lacks_after x at c) ∙ missing)
     | inr none ↦ lacks_before c ∙ ap (λ b. is_set a.marks.bytes c || not b) none ∙ or_right (is_set a.marks.bytes c) true refl
   ]
     where
@@ -168,12 +190,12 @@ module _ (target : ℕ) (copied : Bitmap) (v w : MirrorView) (sound : IsConsiste
   -- Where it does not lack a chunk any more, the new offset has passed it, and nothing stopped it there.
   no_stop : (x : MemberView) → IsMember w.array target x → (c : ℕ) → c < a.marks.chunks → is_missing a m c ≡ true → is_missing w.array x c ≡ false → EndsCheckpoint a m copied c → ⊥
   no_stop x at c low was now stops =
-      let after : (is_set a.marks.bytes c || not (is_passed (geometry_of a) r.offset c)) ≡ false = sym (lacks_after x at c) ∙ now in
+      let then : (is_set a.marks.bytes c || not (is_passed (geometry_of a) after c)) ≡ false = sym (lacks_after x at c) ∙ now in
       let before : (is_set a.marks.bytes c || not (has_passed a m c)) ≡ true = sym (lacks_before c) ∙ was in
-      let passed : is_passed (geometry_of a) r.offset c ≡ true = passed_then (is_set a.marks.bytes c) (is_passed (geometry_of a) r.offset c) after in
-      let unpassed : has_passed a m c ≡ false = unpassed_then (is_set a.marks.bytes c) (is_passed (geometry_of a) r.offset c) (has_passed a m c) after before in
-      let at_crash = passed_either a.chunks.size a.chunks.sectors m.superblock.recovery_offset r.next.stop c (subst (λ o. is_passed (geometry_of a) o c ≡ true) r.next.is passed) unpassed in
-      elim r.next.first [
+      let passed : is_passed (geometry_of a) after c ≡ true = passed_then (is_set a.marks.bytes c) (is_passed (geometry_of a) after c) then in
+      let unpassed : has_passed a m c ≡ false = unpassed_then (is_set a.marks.bytes c) (is_passed (geometry_of a) after c) (has_passed a m c) then before in
+      let at_crash = passed_either a.chunks.size a.chunks.sectors m.offset r.sure c passed unpassed in
+      elim r.first [
         | inl first ↦
             let below = passed_below a.chunks.size a.chunks.sectors first.0 c sound.chunks.wide (let early = first.1 in let count = sound.chunks.count in omega (arith, early, count))
             (subst (λ o. is_passed (geometry_of a) o c ≡ true) first.4 at_crash) in
@@ -190,6 +212,15 @@ module _ (target : ℕ) (copied : Bitmap) (v w : MirrorView) (sound : IsConsiste
       unpassed_then true then before is was = absurd cc
       unpassed_then false then true is was = absurd cc
       unpassed_then false then false is was = refl
+
+  -- Its superblock says of no chunk that it has it, which it lacks still and which was not copied.
+  pub unsaid_recorded : (x : MemberView) → IsMember w.array target x → (c : ℕ) → c < a.marks.chunks → is_missing w.array x c ≡ true → is_set copied.bytes c ≡ false
+      → member_says_of (c * w.array.chunks.sectors) x ≡ false
+  unsaid_recorded x at c low missing clear =
+      let first = first_low a m copied r.sure c r.first low (inl (lacked x at c missing, clear)) in
+      let stored = ap (λ (z : MemberView). z.stored_offset) (target_same x at) in
+      let width = ap (λ (k : Chunks). c * k.sectors) chunks_is in
+      unsaid_from (c * w.array.chunks.sectors) x (omega (arith, first, stored, width))
 
   -- what was not copied it lacks still
   pub lacks_still : (x : MemberView) → IsMember w.array target x → (c : ℕ) → c < a.marks.chunks → is_missing a m c ≡ true → is_set copied.bytes c ≡ false → is_missing w.array x c ≡ true

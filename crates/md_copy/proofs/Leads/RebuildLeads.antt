@@ -1,21 +1,23 @@
 -- A rebuild is a list of events of the array's model, one part after another.
-use Rattle.std.proofs.Common.{◌≡◌, ◌∙◌, ◌⊎◌, ℕ, ◌==◌, true, false, Option, List, [], ◌∷◌, ◌++◌, get_or, refl, sym, ap, subst, arith, inl, inr}
+use Rattle.std.proofs.Common.{◌≡◌, ◌∙◌, ◌⊎◌, ℕ, ◌<◌, ◌==◌, true, false, Option, List, [], ◌∷◌, ◌++◌, append_assoc, get_or, refl, sym, ap, subst, arith, inl, inr}
 use Rattle.std.proofs.lemmas.Bool.{eqb-true}
 use Rattle.std.proofs.lemmas.List.Elements.{All-contains, Contains-get_or}
 use Rattle.std.proofs.lemmas.List.Folds.{Any-from_list_any}
-use Rattle.md_bitmap.specs.Marks.{Bitmap}
+use Rattle.md_bitmap.specs.Marks.{Bitmap, is_set}
 use Rattle.md_cert.specs.declared.slots.Slot.{Slot}
+use Rattle.md_device.specs.Splice.{part}
 use Rattle.md_device.proofs.Leaving.{leaves_less}
 use Rattle.md_kept_members.specs.View.{MemberView}
 use Rattle.md_model.specs.Events.{Event, MemberPart}
 use Rattle.md_pass.specs.Beside.{SameBeside, has_chunk}
 use Rattle.md_pass.specs.Sources.{copy_of}
-use Rattle.md_passes.proofs.OnePass.{slot_within}
-use Rattle.md_passes.specs.Listed.{IsArrayPass}
-use Rattle.md_passes.specs.Passes.{PassView, failed_chunks, slots_of_pass}
+use Rattle.md_copy.proofs.PassLemmas.OnePass.{slot_within}
+use Rattle.md_copy.specs.PassLaws.Listed.{IsArrayPass}
+use Rattle.md_copy.specs.PassLaws.Passes.{PassView, failed_chunks, slots_of_pass}
 use Rattle.md_inflight.specs.Inflight.{InflightList, lookup}
-use Rattle.md_requests.specs.Pending.{PendingView}
-use Rattle.md_requests.specs.declared.extent.Extent.{Extent}
+use Rattle.md_inflight.specs.Requests.Pending.{PendingView}
+use Rattle.md_inflight.specs.declared.requests.extent.Extent.{Extent}
+use Rattle.md_state.proofs.Stays.{stays_grown}
 use Rattle.md_state.specs.Steps.MakeClean.{IsIdle}
 use Rattle.md_state.specs.Members.{IsMember}
 use Rattle.md_state.specs.Missing.{is_rebuilt}
@@ -26,7 +28,8 @@ use Rattle.md_array.specs.Steps.Checkpoint.{Checkpoints, checkpoint_event}
 use Rattle.md_array.specs.Consistency.{IsConsistent}
 use Rattle.md_array.specs.Steps.Enrol.{Enrols}
 use Rattle.md_array.specs.Steps.EnrolEvents.{enrol_event}
-use Rattle.md_array.specs.Events.{Does, IsChangedAlone, IsSameBesideMissing, listed_on}
+use Rattle.md_array.specs.Steps.Lend.{IsBesideMissing}
+use Rattle.md_array.specs.Events.{Does, IsChangedAlone, IsSameBesideUnsaid, listed_on}
 use Rattle.md_array.specs.Steps.GiveBack as array
 use Rattle.md_array.specs.InTurn.{AllOf, Did, InTurn, IsInOrder, Leads, LeftWhole, Requests}
 use Rattle.md_array.specs.Worlds.{AreHonest, lists_of}
@@ -35,6 +38,7 @@ use Rattle.md_array.proofs.Rebuilding.EnrolUnstored.{idle_pending}
 use Rattle.md_array.proofs.Rebuilding.EnrolEvent.{enrol_leads}
 use Rattle.md_array.proofs.Rebuilding.FilledEvent.{fill_happens}
 use Rattle.md_array.proofs.Rebuilding.InBetween.{recovers_rebuilt}
+use Rattle.md_array.proofs.StepLemmas.LowerOffset.{lower_happens, lowered_is_consistent, lowered_is_pending}
 use Rattle.md_array.proofs.StepLemmas.Turns.{all_on, all_such, turn_on, turn_then}
 use Rattle.md_metadata.specs.Going.{GoesOn, LeadsBy, only_others}
 use Rattle.md_metadata.proofs.Going.{recording_stores}
@@ -44,14 +48,15 @@ use Rattle.md_copy.specs.declared.rebuilt.Rebuilt.{Rebuilt}
 use Rattle.md_copy.specs.Filling.{IsFilling}
 use Rattle.md_copy.specs.Listing.{IsNoting, IsStoringList}
 use Rattle.md_copy.specs.Passing.{AreListedPasses, CopiesAll, ListsPass, RecordsPass}
-use Rattle.md_copy.specs.RebuildEvents.{AreOfAdmission, AreOfPasses, AreStored, HaltsIn, IsBeforeEnrol, IsOfRebuild, RebuildLeads}
+use Rattle.md_copy.specs.RebuildEvents.{AreOfAdmission, AreOfLowering, AreOfPasses, AreStored, HaltsIn, IsBeforeEnrol, IsOfRebuild, RebuildLeads}
 use Rattle.md_copy.specs.Rebuilding.{BeginsRebuild, EnrolsBy, FillsBy, Rebuilds}
 use Rattle.md_copy.specs.Rebuilt.{HaltsFrom}
-use Rattle.md_copy.specs.Readying.{AdmitsAfter, AdmitsFirst, Readies}
+use Rattle.md_copy.specs.Readying.{AdmitsAfter, AdmitsFirst, LowersTarget, Readies}
 use Rattle.md_copy.specs.Storing.{StoresFirst}
 use Rattle.md_copy.proofs.Stored.CheckpointDone.{checkpoint_done}
 use Rattle.md_copy.proofs.Passing.PassesTold.{HoldsSoFar, begins_holding, chain_holds, listed_holds}
 use Rattle.md_copy.proofs.Ready.Readied.{ready_of}
+use Rattle.md_copy.proofs.Ready.Unsaid.{unsaid_begun}
 use Rattle.md_copy.proofs.Done.RebuiltByCall.{IsLast, last_of}
 
 -- ---- kinds of events
@@ -211,9 +216,9 @@ module _ (target : ℕ) where
       })
 
 -- ---- a pass
--- Whatever became of it, data changed in chunks that the target lacks.
-module _ (target : ℕ) (v : MirrorView) (copied : Bitmap) (chunks : List ℕ) (so : HoldsSoFar target v copied chunks) (p : PassView) (is : IsArrayPass v.array chunks p) (m : MemberView) (at : IsMember v.array target m) (w : MirrorView)
-    (f : IsFilling target m (slots_of_pass p) v w) where
+-- Whatever became of it, data changed in chunks that the target lacks, and that were not copied before: its superblock does not say that it
+-- has them.
+module _ (target : ℕ) (v : MirrorView) (copied : Bitmap) (chunks : List ℕ) (so : HoldsSoFar target v copied chunks) (p : PassView) (is : IsArrayPass v.array chunks p) (m : MemberView) (at : IsMember v.array target m) where
   lacks : (c : ℕ) → has_chunk (slots_of_pass p) c ≡ true → LacksChunk v.array m c
   lacks c planned =
       let hit = Any-from_list_any (λ (s : Slot). s.chunk == c) (slots_of_pass p) planned in
@@ -221,43 +226,61 @@ module _ (target : ℕ) (v : MirrorView) (copied : Bitmap) (chunks : List ℕ) (
       let chunk : s.chunk ≡ c = ap (λ (x : Slot). x.chunk) hit.3 ∙ eqb-true hit.1.chunk c hit.4 in
       subst (LacksChunk v.array m) chunk (All-contains (LacksChunk v.array m) chunks s.chunk (so.lacking m at) (slot_within is s (Contains-get_or (slots_of_pass p) hit.0 hit.1 hit.2)))
 
-  pub same_beside : (was left : List ℕ) → SameBeside (copy_of (slots_of_pass p) v.array.chunks m.superblock.data_offset) was left → IsSameBesideMissing v.array m was left
-  same_beside was left same = record {
-    size = same.size;
-    beside = λ at n h. same.beside at n
-        (λ c planned.
-        (let lacking = lacks c planned in
-        let count = so.ready.sound.chunks.count in
-        let low = lacking.low in
-        h c (omega (arith, low, count)) lacking.missing));
-  }
+  -- beside what it lacks they are as they were
+  pub missing_beside : (was left : List ℕ) → SameBeside (copy_of (slots_of_pass p) v.array.chunks m.superblock.data_offset) was left → (at n : ℕ) → IsBesideMissing v.array m at n → part left at n ≡ part was at n
+  missing_beside was left same at n h =
+      same.beside at n
+      (λ c planned.
+      let lacking = lacks c planned in
+      let count = so.ready.sound.chunks.count in
+      let low = lacking.low in
+      h c (omega (arith, low, count)) lacking.missing)
 
-  changed_alone : IsChangedAlone target (IsSameBesideMissing v.array m) v.disks w.disks
-  changed_alone = record {
-    as_many = f.as_many;
-    others = λ j other d e at_d at_e.
-        let read = f.others j d e other at_d at_e in
-        (record { honest = read.honest_kept; counted = read.counted }, (read.content_kept, read.crashes));
-    stays = λ d e at_d at_e. let kept = f.on_target d e at_d at_e in record { honest = kept.honest_kept; counted = kept.counted };
-    size = λ d e at_d at_e. (f.on_target d e at_d at_e).same.size;
-    changed = λ d e at_d at_e honest. same_beside d.content e.content (f.on_target d e at_d at_e).same;
-    within = λ d e at_d at_e honest.
-        leaves_less d.crashes e.crashes (SameBeside (copy_of (slots_of_pass p) v.array.chunks m.superblock.data_offset) d.content) (IsSameBesideMissing v.array m d.content) (λ left. same_beside d.content left)
-        ((f.on_target d e at_d at_e).crashes honest);
-  }
+  module _ (w : MirrorView) (f : IsFilling target m (slots_of_pass p) v w) where
+    fresh : (c : ℕ) → has_chunk (slots_of_pass p) c ≡ true → is_set copied.bytes c ≡ false
+    fresh c planned =
+        let hit = Any-from_list_any (λ (s : Slot). s.chunk == c) (slots_of_pass p) planned in
+        let chunk : (get_or (slots_of_pass p) hit.0 hit.1).chunk ≡ c = ap (λ (x : Slot). x.chunk) hit.3 ∙ eqb-true hit.1.chunk c hit.4 in
+        subst (λ n. is_set copied.bytes n ≡ false) chunk (All-contains (λ n. is_set copied.bytes n ≡ false) chunks (get_or (slots_of_pass p) hit.0 hit.1).chunk so.fresh (slot_within is (get_or (slots_of_pass p) hit.0 hit.1) (Contains-get_or (slots_of_pass p) hit.0 hit.1 hit.2)))
 
-  pub filled : array.Fills target v w
-  filled = record {
-    may = record { idle = so.ready.goes.idle; member = m; at = at; rebuilt = recovers_rebuilt m.state (so.ready.recovering m at) };
-    noted = λ recovers. so.ready.noted;
-    array = f.array;
-    disks = changed_alone;
-  }
+    pub same_beside : (was left : List ℕ) → SameBeside (copy_of (slots_of_pass p) v.array.chunks m.superblock.data_offset) was left → IsSameBesideUnsaid v.array m was left
+    same_beside was left same = record {
+      size = same.size;
+      beside = λ i n h. same.beside i n
+          (λ c planned.
+          (let lacking = lacks c planned in
+          let count = so.ready.sound.chunks.count in
+          let low = lacking.low in
+          let within : c < v.array.marks.chunks = omega (arith, low, count) in
+          h c within lacking.missing (so.unsaid m at c within lacking.missing (fresh c planned))));
+    }
 
-  pub fill_leads : IsConsistent w → LeadsIn (IsBeforeEnrol target) (Event.Fill target ∷ []) v w
-  fill_leads sound =
-      one_leads (IsBeforeEnrol target) (Event.Fill target) v w refl (λ previous. tt) (λ others. (refl, filled))
-      (λ honest whole others in_flight. fill_happens target v w so.ready.sound filled honest others in_flight) f.array sound
+    changed_alone : IsChangedAlone target (IsSameBesideUnsaid v.array m) v.disks w.disks
+    changed_alone = record {
+      as_many = f.as_many;
+      others = λ j other d e at_d at_e.
+          let read = f.others j d e other at_d at_e in
+          (stays_grown d e (λ f. f.writes ≡ false) read.honest_kept read.counted read.reads_alone, (read.content_kept, read.crashes));
+      stays = λ d e at_d at_e. let kept = f.on_target d e at_d at_e in stays_grown d e (λ f. f.writes ≡ true) kept.honest_kept kept.counted kept.writes_alone;
+      size = λ d e at_d at_e. (f.on_target d e at_d at_e).same.size;
+      changed = λ d e at_d at_e honest. same_beside d.content e.content (f.on_target d e at_d at_e).same;
+      within = λ d e at_d at_e honest.
+          leaves_less d.crashes e.crashes (SameBeside (copy_of (slots_of_pass p) v.array.chunks m.superblock.data_offset) d.content) (IsSameBesideUnsaid v.array m d.content) (λ left. same_beside d.content left)
+          ((f.on_target d e at_d at_e).crashes honest);
+    }
+
+    pub filled : array.Fills target v w
+    filled = record {
+      may = record { idle = so.ready.goes.idle; member = m; at = at; rebuilt = recovers_rebuilt m.state (so.ready.recovering m at) };
+      noted = λ recovers. so.ready.noted;
+      array = f.array;
+      disks = changed_alone;
+    }
+
+    pub fill_leads : IsConsistent w → LeadsIn (IsBeforeEnrol target) (Event.Fill target ∷ []) v w
+    fill_leads sound =
+        one_leads (IsBeforeEnrol target) (Event.Fill target) v w refl (λ previous. tt) (λ others. (refl, filled))
+        (λ honest whole others in_flight. fill_happens target v w so.ready.sound filled honest others in_flight) f.array sound
 
 -- ---- a checkpoint
 pub checkpoint_leads : (target : ℕ) (copied : Bitmap) (v w : MirrorView) → IsConsistent v → (r : Checkpoints target copied v w) → IsConsistent w → LeadsIn (IsBeforeEnrol target) (checkpoint_event r ∷ []) v w
@@ -328,7 +351,7 @@ module _ (target : ℕ) where
   chain_list [] chunks left before after v w h = refl
   chain_list (p ∷ ps) chunks left before after v w h = (
     record {
-      offset = h.2.records.checkpoints.offset;
+      sure = h.2.records.checkpoints.sure;
       listed = listed_on h.2.recorded target;
       noted = h.2.lists.notes.goes.events;
       notes = h.2.lists.notes.goes.steps;
@@ -356,13 +379,40 @@ module _ (target : ℕ) where
         (chain_leads h.listed (missing_chunks v.array m) h.left before h.mid v h.now h.passed so) (last_leads so)
 
 -- ---- it begins
+-- a recovering target is to say no more that it has what it lacks
+module _ (target : ℕ) (none : Bitmap) (old mid : MirrorView) where
+  abbrev pub lowering_events : LowersTarget target none old mid → List Event
+  lowering_events (inl to) = Event.LowerOffset target to.sector ∷ []
+  lowering_events (inr same) = []
+
+  lowering_list : (h : LowersTarget target none old mid) → AreOfLowering target (lowering_events h)
+  lowering_list (inl to) = inr (to.sector, refl)
+  lowering_list (inr same) = inl refl
+
+  pub lowering_leads : IsConsistent old → old.array.halted ≡ false → (h : LowersTarget target none old mid) → LeadsIn (IsBeforeEnrol target) (lowering_events h) old mid
+  lowering_leads sound running (inl to) = record {
+    steps = (refl, tt);
+    leads = λ previous others in_flight. (
+      mid,
+      others,
+      tt,
+      (refl, to.lowers),
+      λ honest whole. lower_happens target to.sector old mid sound to.lowers running honest others in_flight,
+      (refl, refl),
+    );
+    requests = ap (λ (a : ArrayView). a.requests) to.lowers.lowers.array;
+    sound = lowered_is_consistent target to.sector old mid sound to.lowers;
+    pending = lowered_is_pending target to.sector old mid sound to.lowers;
+  }
+  lowering_leads sound running (inr same) = subst (λ (x : MirrorView). LeadsIn (IsBeforeEnrol target) [] old x) (sym same.0) (none_lead (IsBeforeEnrol target) old sound)
+
 abbrev pub readied_either : (target : ℕ) (m : MemberView) (old ready : MirrorView) → Readies target m old ready → StoresFirst old ready ⊎ AdmitsFirst target old ready
 readied_either target m old ready (inl h) = inl h.1
 readied_either target m old ready (inr h) = inr h.1
 
 module _ (target : ℕ) (old ready : MirrorView) (none : Bitmap) (b : BeginsRebuild target old ready none) where
   pub begin_holds : HoldsSoFar target ready none (missing_chunks ready.array b.now)
-  begin_holds = begins_holding target b.now none ready (ready_of target old ready none b) b.there b.is_none.chunks b.is_none.bits
+  begin_holds = begins_holding target b.now none ready (ready_of target old ready none b) b.there b.is_none.chunks b.is_none.bits (unsaid_begun target old ready none b)
 
   pub idle : IsIdle ready.array
   idle = begin_holds.ready.goes.idle
@@ -371,14 +421,20 @@ module _ (target : ℕ) (old ready : MirrorView) (none : Bitmap) (b : BeginsRebu
   now_rebuilt = recovers_rebuilt b.now.state (begin_holds.ready.recovering b.now b.there)
 
   -- what is stored, and a spare admitted
-  abbrev pub either : StoresFirst old ready ⊎ AdmitsFirst target old ready
-  either = readied_either target b.member old ready b.first
+  abbrev pub either : StoresFirst b.lowered ready ⊎ AdmitsFirst target b.lowered ready
+  either = readied_either target b.then b.lowered ready b.first
+
+  -- before that, in memory alone
+  abbrev pub lowering : List Event
+  lowering = lowering_events target none old b.lowered b.lowers
 
   abbrev pub begin_events : List Event
-  begin_events = events_either target either
+  begin_events = lowering ++ events_either target either
 
   pub begin_leads : LeadsIn (IsBeforeEnrol target) begin_events old ready
-  begin_leads = either_leads target old ready either
+  begin_leads =
+      both_lead (IsBeforeEnrol target) lowering (events_either target either) old b.lowered ready (lowering_leads target none old b.lowered b.sound b.may.idle.running b.lowers)
+      (either_leads target b.lowered ready either)
 
 -- ---- it comes into sync
 module _ (target : ℕ) (m : MemberView) (passes : List PassView) (none copied kept orphans : Bitmap) (chunks : List ℕ) (ready filled : MirrorView) (f : FillsBy target m passes none copied kept orphans chunks ready filled) where
@@ -414,6 +470,9 @@ module _ (target : ℕ) (told : Rebuilt) (old new : MirrorView) (h : Rebuilds ta
 
   abbrev pub opening_events : List Event
   opening_events = begin_events target old h.ready h.none h.begins
+
+  abbrev pub stored_events : List Event
+  stored_events = events_either target (either target old h.ready h.none h.begins)
 
   abbrev pub made_events : List Event
   made_events = copying_chain target m h.rebuilds.passes h.none h.rebuilds.copied h.ready by.filled c
@@ -462,18 +521,20 @@ module _ (target : ℕ) (told : Rebuilt) (old new : MirrorView) (h : Rebuilds ta
       leads = leads_by all_lead;
     };
     list = record {
-      before = opening_events;
-      first = either_list target old h.ready (either target old h.ready h.none h.begins);
+      lowering = lowering target old h.ready h.none h.begins;
+      lowers = lowering_list target h.none old h.begins.lowered h.begins.lowers;
+      before = stored_events;
+      first = either_list target h.begins.lowered h.ready (either target old h.ready h.none h.begins);
       parts = chain_parts target c.listed (missing_chunks h.ready.array m) c.left h.none c.mid h.ready c.now c.passed;
       passes = made_events;
       passes_are = chain_list target c.listed (missing_chunks h.ready.array m) c.left h.none c.mid h.ready c.now c.passed;
-      offset = c.records.checkpoints.offset;
+      sure = c.records.checkpoints.sure;
       recorded = listed_on by.filled target;
       role = by.enrols.role;
       listed = lists_of by.filled.array by.enrols.member;
       after = last.1.goes.events;
       last = last.1.goes.steps;
-      list = refl;
+      list = append_assoc (lowering target old h.ready h.none h.begins) stored_events (made_events ++ (made_last ++ (enrolling ++ last_events)));
     };
   }
     where

@@ -2,14 +2,13 @@
 use Rattle.std.proofs.Common.{◌≡◌, ◌≢◌, ◌∙◌, ◌⊎◌, ℕ, Bool, true, false, None, List, [], ◌∷◌, ◌++◌, append_assoc, slice_get, refl, sym, ap, subst, inl, inr}
 use Rattle.std.proofs.lemmas.Bool.{both_ways}
 use Rattle.std.proofs.lemmas.List.{append-nil}
-use Rattle.std.proofs.lemmas.Option.{same_Some}
 use Rattle.md_assembly.specs.States.{is_in_sync, is_recovering}
 use Rattle.md_bitmap.specs.Marks.{Bitmap}
-use Rattle.md_kept_members.specs.TakingBack.{admitted_member, with_recovery_offset}
+use Rattle.md_kept_members.specs.TakingBack.{admitted_member}
 use Rattle.md_kept_members.specs.View.{MemberView}
 use Rattle.md_model.specs.Events.{Event}
-use Rattle.md_passes.specs.Listed.{IsArrayPass}
-use Rattle.md_passes.specs.Passes.{PassView, slots_of_pass}
+use Rattle.md_copy.specs.PassLaws.Listed.{IsArrayPass}
+use Rattle.md_copy.specs.PassLaws.Passes.{PassView, slots_of_pass}
 use Rattle.md_state.specs.Steps.Admit.{admitted}
 use Rattle.md_state.specs.Members.{IsMember}
 use Rattle.md_state.specs.Missing.{is_rebuilt}
@@ -37,8 +36,8 @@ use Rattle.md_metadata.specs.Storing.{FailsAtLast, IsFailureOf}
 use Rattle.md_rebuild_table.specs.declared.fault.RebuildFault.{RebuildFault}
 use Rattle.md_rebuild_table.specs.declared.fault.RebuildFault.TheVariants.{Halted, NotSpare, Dirty, InFlight, LogFull, NoMemory, TargetFault, MetadataFault, EventsFull}
 use Rattle.md_rebuild_table.specs.Sources.{missing_chunks}
-use Rattle.md_rebuild_table.specs.Targets.{IsTarget}
 use Rattle.md_copy.specs.Filling.{IsFilling}
+use Rattle.md_state.specs.Steps.Checkpoint.{checked}
 use Rattle.md_copy.specs.Leaving.{RecordsAtEnd}
 use Rattle.md_copy.specs.Listing.{EndsNoting}
 use Rattle.md_copy.specs.Passing.{BreaksOffPass, CopiesAll, EndsBetween, FailsListing, FailsRecording}
@@ -51,9 +50,10 @@ use Rattle.md_copy.proofs.Steps.Answered.{with_set}
 use Rattle.md_copy.proofs.Held.HeldRecorded.{out_of_sync}
 use Rattle.md_copy.proofs.Passing.PassRecorded.{recorded_ready}
 use Rattle.md_copy.proofs.Passing.PassesTold.{HoldsSoFar, chain_holds, filled_ready}
+use Rattle.md_copy.proofs.Ready.Lowered.{lowered_but}
 use Rattle.md_copy.proofs.Ready.Readied.{recovering_admitted, spare_rebuilt}
 use Rattle.md_copy.proofs.Ready.ReadyStill.{list_recovers, ready_noted, storing_recovers}
-use Rattle.md_copy.proofs.Leads.RebuildLeads.{Before, LeadsIn, admission_events, admission_leads, as_such, begin_events, begin_holds, begin_leads, both_lead, chain_events, chain_leads, copying_events, copying_leads, fill_leads, leads_by, listing_before, listing_leads, none_lead, noting_leads, one_leads, recorded_events, recorded_leads, checkpoint_leads, storing_before, storing_leads}
+use Rattle.md_copy.proofs.Leads.RebuildLeads.{Before, LeadsIn, admission_events, admission_leads, as_such, begin_events, begin_holds, begin_leads, both_lead, chain_events, chain_leads, copying_events, copying_leads, fill_leads, leads_by, listing_before, listing_leads, lowering_events, lowering_leads, none_lead, noting_leads, one_leads, recorded_events, recorded_leads, checkpoint_leads, storing_before, storing_leads}
 use Rattle.md_copy.proofs.Stored.StoredFirst.{rebuilt_still}
 use Rattle.md_copy.proofs.Stored.TargetStates.{target_rebuilt}
 use Rattle.md_copy.proofs.Leads.UnfinishedEnrol.{fails_somewhere, prepares}
@@ -210,7 +210,7 @@ module _ (target : ℕ) where
   left_there : (copied : Bitmap) (old stopped new : MirrorView) → ComesTo old stopped → (left : RecordsAtEnd target copied stopped new) → IsConsistent new → LeadsTo old new (TellsLeaving left)
   left_there copied old stopped new c (inl same) sound = leads_there old new (λ events. Unit {0}) tt (subst (LeadsIn (Before target) c.events old) (sym same.1) c.leads)
   left_there copied old stopped new c (inr (inl r)) sound =
-      leads_there old new (λ events. (offset : ℕ) × (listed : ℕ → Bool) × EventsEndWith (Event.Checkpoint target offset listed) events) (r.offset, listed_on new target, (c.events, refl))
+      leads_there old new (λ events. (offset : ℕ) × (listed : ℕ → Bool) × EventsEndWith (Event.Checkpoint target offset listed) events) (r.sure, listed_on new target, (c.events, refl))
       (both_lead (Before target) c.events (checkpoint_event r ∷ []) old stopped new c.leads (checkpoint_leads target copied stopped new c.leads.sound r sound))
   left_there copied old stopped new c (inr (inr f)) sound =
       leads_spoiled old stopped new Spoils (c.events, refl) c.leads (checkpoint_spoils target copied stopped new c.leads.sound f (c.recovers f.running f.member f.at)) sound
@@ -221,7 +221,7 @@ module _ (target : ℕ) where
       leads_member k c.events [] old new last (inl refl)
       (subst (λ (es : List Event). LeadsIn (Before target) es old new) (sym (append-nil c.events)) (subst (LeadsIn (Before target) c.events old) (sym same.1) c.leads))
   left_member k copied old stopped new c last (inr (inl r)) sound =
-      leads_member k c.events (checkpoint_event r ∷ []) old new last (inr (inl (r.offset, listed_on new target, refl)))
+      leads_member k c.events (checkpoint_event r ∷ []) old new last (inr (inl (r.sure, listed_on new target, refl)))
       (both_lead (Before target) c.events (checkpoint_event r ∷ []) old stopped new c.leads (checkpoint_leads target copied stopped new c.leads.sound r sound))
   left_member k copied old stopped new c last (inr (inr f)) sound =
       member_spoiled k c.events old stopped new last c.leads (checkpoint_spoils target copied stopped new c.leads.sound f (c.recovers f.running f.member f.at)) sound
@@ -239,7 +239,7 @@ module _ (target : ℕ) where
     mid = mid;
     leads = leads_by g;
     fails = f;
-    event = left_happens target mid new g.sound f.running f.member f.at (recovers_rebuilt f.member.state recovers) f.array mid.array.shared (with_recovery_offset f.offset f.member).superblock f.readable f.disks;
+    event = left_happens target mid new g.sound f.running f.member f.at (recovers_rebuilt f.member.state recovers) f.array mid.array.shared (checked f.sure f.member).superblock f.readable f.disks;
   }
 
   left_unrecorded : (copied : Bitmap) (old stopped new : MirrorView) → ComesTo old stopped ⊎ HaltsAtEnd old stopped → (left : RecordsAtEnd target copied stopped new) → FailsLeaving left → LeadsUnrecorded target old new
@@ -287,37 +287,55 @@ module _ (target : ℕ) where
         )
   ]
 
-  stops : (k : ℕ) (old new : MirrorView) → EndsAtOther target k old new → LeadsMember k old new
-  stops k old new h = elim h.ends [
+  -- so, and the target may be a spare
+  stops : (es : List Event) (k : ℕ) (old mid new : MirrorView) → LeadsIn (Before target) es old mid → EndsAtOther target k mid new → LeadsMember k old new
+  stops es k old mid new before h = elim h.ends [
     | inl lost ↦
-        leads_member k lost.loses.goes.events [] old new (last_after k [] lost.loses.goes.events lost.last) (inl refl)
-        (subst (λ (es : List Event). LeadsIn (Before target) es old new) (sym (append-nil lost.loses.goes.events)) (storing_leads target old new lost.loses.goes))
+        leads_member k (es ++ lost.loses.goes.events) [] old new (last_after k es lost.loses.goes.events lost.last) (inl refl)
+        (subst (λ (fs : List Event). LeadsIn (Before target) fs old new) (sym (append-nil (es ++ lost.loses.goes.events)))
+        (both_lead (Before target) es lost.loses.goes.events old mid new before (storing_leads target mid new lost.loses.goes)))
     | inr at ↦
-        leads_halted k old at.mid new (storing_leads target old at.mid at.stores.goes) (record { failing = at.failing; of = storing_before target at.failing at.of; halts = at.halts }) at.named
+        leads_halted k old at.mid new (both_lead (Before target) es at.stores.goes.events old mid at.mid before (storing_leads target mid at.mid at.stores.goes)) (record { failing = at.failing; of = storing_before target at.failing at.of; halts = at.halts }) at.named
   ]
 
-  stops_admitted : (k : ℕ) (old stopped : MirrorView) → EndsAdmitted target k old stopped → StopsSo k old stopped
-  stops_admitted k old stopped h =
-      stops_after (admission_events target h.after) k old h.admitted stopped (admission_leads target old h.admitted h.after) h.ends (recovering_admitted target old h.admitted h.after)
+  stops_admitted : (es : List Event) (k : ℕ) (old mid stopped : MirrorView) → LeadsIn (Before target) es old mid → EndsAdmitted target k mid stopped → StopsSo k old stopped
+  stops_admitted es k old mid stopped before h =
+      stops_after (es ++ admission_events target h.after) k old h.admitted stopped
+      (both_lead (Before target) es (admission_events target h.after) old mid h.admitted before (admission_leads target mid h.admitted h.after)) h.ends (recovering_admitted target mid h.admitted h.after)
 
-  unrecorded : (old new : MirrorView) → EndsStoring target old (FailsToRecordTarget target old new) → LeadsTo old new (EventsEndWith (Event.RecordTargetFails target))
-  unrecorded old new e =
-      let h : FailsToRecordTarget target old new = e.why in
-      let was : (m : MemberView) → IsMember old.array target m → is_rebuilt m.state ≡ true =
-      λ m at. target_rebuilt old.array m (subst (IsTarget old.array) (same_Some e.member m (sym e.at ∙ at)) e.may.resynced_target.has_target.target) in
+  -- a recovering target is to say no more that it has what it lacks
+  module _ (old : MirrorView) (sound : IsConsistent old) {Why : MirrorView → Type 0} (e : EndsStoring target old Why) where
+    abbrev lowering_of : List Event
+    lowering_of = lowering_events target e.none old e.lowered e.lowers
+
+    lowering_there : LeadsIn (Before target) lowering_of old e.lowered
+    lowering_there = lowering_leads target e.none old e.lowered sound e.may.idle.running e.lowers
+
+    rebuilt_there : (m : MemberView) → IsMember e.lowered.array target m → is_rebuilt m.state ≡ true
+    rebuilt_there m at =
+        ap (λ (z : MemberView). is_rebuilt z.state) (lowered_but target e.none old e.lowered sound e.lowers target e.member m e.at at).is
+        ∙ target_rebuilt old.array e.member e.may.resynced_target.has_target.target
+
+  unrecorded : (old new : MirrorView) → IsConsistent old → EndsStoring target old (λ lowered. FailsToRecordTarget target lowered new) → LeadsTo old new (EventsEndWith (Event.RecordTargetFails target))
+  unrecorded old new sound e =
+      let es = lowering_of old sound e in
+      let mid = e.lowered in
+      let h : FailsToRecordTarget target mid new = e.why in
+      let was : (m : MemberView) → IsMember mid.array target m → is_rebuilt m.state ≡ true = rebuilt_there old sound e in
       let at = h.fails.may.at in
-      let fails : array_target.FailsOnTarget target h.mid new = record { leaves = h.fails; rebuilt = rebuilt_still target old.array h.mid.array h.stores.ready was h.fails.member at } in
-      leads_there old new (EventsEndWith (Event.RecordTargetFails target)) (h.stores.goes.events, refl)
-      (both_lead (Before target) h.stores.goes.events (Event.RecordTargetFails target ∷ []) old h.mid new (storing_leads target old h.mid h.stores.goes)
+      let fails : array_target.FailsOnTarget target h.mid new = record { leaves = h.fails; rebuilt = rebuilt_still target mid.array h.mid.array h.stores.ready was h.fails.member at } in
+      leads_there old new (EventsEndWith (Event.RecordTargetFails target)) (es ++ h.stores.goes.events, refl)
+      (both_lead (Before target) (es ++ h.stores.goes.events) (Event.RecordTargetFails target ∷ []) old h.mid new
+      (both_lead (Before target) es h.stores.goes.events old mid h.mid (lowering_there old sound e) (storing_leads target mid h.mid h.stores.goes))
       (one_leads (Before target) (Event.RecordTargetFails target) h.mid new refl (λ previous. tt) (λ others. (refl, fails))
       (λ honest whole others in_flight. target_fails_happens target h.mid new h.stores.goes.sound fails h.fails.member at (whole h.fails.member at) honest others in_flight)
       h.fails.array h.sound))
 
   -- the target was not admitted, and is spoiled
-  unadmitted : (old new : MirrorView) → FailsAdmission target old new → LeadsTo old new Spoils
-  unadmitted old new h =
+  unadmitted : (es : List Event) (old mid new : MirrorView) → LeadsIn (Before target) es old mid → FailsAdmission target mid new → LeadsTo old new Spoils
+  unadmitted es old mid new before h =
       let goes = h.first.stores.goes in
-      leads_spoiled old h.stored new Spoils (goes.events, refl) (storing_leads target old h.stored goes) (admit_spoils target h.stored new goes.sound h.fails h.spare) h.sound
+      leads_spoiled old h.stored new Spoils (es ++ goes.events, refl) (both_lead (Before target) es goes.events old mid h.stored before (storing_leads target mid h.stored goes)) (admit_spoils target h.stored new goes.sound h.fails h.spare) h.sound
 
   pub unadmitted_leads : (old new : MirrorView) → FailsAdmission target old new → LeadsUnadmitted target old new
   unadmitted_leads old new h =
@@ -546,27 +564,29 @@ module _ (target : ℕ) where
   refused_leads old new sound after Dirty h = as_told old new Dirty h (none old new sound h.unchanged)
   refused_leads old new sound after (InFlight number) h = as_told old new (InFlight number) h (none old new sound h.unchanged)
   refused_leads old new sound after EventsFull h = as_told old new EventsFull h (none old new sound h.unchanged)
-  refused_leads old new sound after (MetadataFault k) (inl h) = as_told old new (MetadataFault k) (inl h) (stops k old new h.why)
-  refused_leads old new sound after (MetadataFault k) (inr (inl h)) = as_told old new (MetadataFault k) (inr (inl h)) (stops_there k old new (stops_admitted k old new h.why))
+  refused_leads old new sound after (MetadataFault k) (inl h) = as_told old new (MetadataFault k) (inl h) (stops (lowering_of old sound h) k old h.lowered new (lowering_there old sound h) h.why)
+  refused_leads old new sound after (MetadataFault k) (inr (inl h)) = as_told old new (MetadataFault k) (inr (inl h)) (stops_there k old new (stops_admitted (lowering_of old sound h) k old h.lowered new (lowering_there old sound h) h.why))
   refused_leads old new sound after (MetadataFault k) (inr (inr h)) =
       let Why : MemberView → Bitmap → MirrorView → Type 0 = λ m none ready. LosesSource k target m none ready h.stopped in
       let e = h.why.1 in
       as_told old new (MetadataFault k) (inr (inr h))
       (left_leads k h.copied old h.stopped new (lost_stops e.begins.now e.none old e.ready (opening old Why e) (opens old Why e) (holds old Why e) k h.stopped e.why) h.leaves after)
-  refused_leads old new sound after TargetFault (inl h) = as_told old new TargetFault (inl h) (unrecorded old new h)
-  refused_leads old new sound after TargetFault (inr (inl h)) = as_told old new TargetFault (inr (inl h)) (unadmitted old new h.why)
+  refused_leads old new sound after TargetFault (inl h) = as_told old new TargetFault (inl h) (unrecorded old new sound h)
+  refused_leads old new sound after TargetFault (inr (inl h)) = as_told old new TargetFault (inr (inl h)) (unadmitted (lowering_of old sound h) old h.lowered new (lowering_there old sound h) h.why)
   refused_leads old new sound after TargetFault (inr (inr h)) =
       let Why : MemberView → Bitmap → MirrorView → Type 0 = λ m none ready. LosesTarget target m none ready new in
       as_told old new TargetFault (inr (inr h)) (loses_target h.begins.now h.none old h.ready (opening old Why h) (opens old Why h) (holds old Why h) new h.why after)
   refused_leads old new sound after NoMemory (inl h) =
-      as_told old new NoMemory (inl h)
-      (elim h.why [
-        | inl same ↦ nothing_more old new (λ events. events ≡ []) (none old new sound same)
-        | inr lacks ↦ nothing_more old new (λ events. Unit {0}) (leads_there old new (λ events. Unit {0}) tt (storing_leads target old new lacks.first.stores.goes))
-      ])
-  refused_leads old new sound after NoMemory (inr h) =
+      as_told old new NoMemory (inl h) (nothing_more old new (λ events. events ≡ []) (none old new sound h.unchanged))
+  refused_leads old new sound after NoMemory (inr (inl h)) =
+      let es = lowering_of old sound h in
+      let goes = h.why.first.stores.goes in
+      as_told old new NoMemory (inr (inl h))
+      (nothing_more old new (λ events. Unit {0})
+      (leads_there old new (λ events. Unit {0}) tt (both_lead (Before target) es goes.events old h.lowered new (lowering_there old sound h) (storing_leads target h.lowered new goes))))
+  refused_leads old new sound after NoMemory (inr (inr h)) =
       let Why : MemberView → Bitmap → MirrorView → Type 0 = λ m none ready. LacksMemoryToRebuild target m none h.copied ready h.stopped in
-      as_told old new NoMemory (inr h)
+      as_told old new NoMemory (inr (inr h))
       (left_there h.copied old h.stopped new (lacks_memory h.why.begins.now h.why.none old h.why.ready (opening old Why h.why) (opens old Why h.why) (holds old Why h.why) h.copied h.stopped h.why.why) h.leaves after)
   refused_leads old new sound after (LogFull k) h =
       let Why : MemberView → Bitmap → MirrorView → Type 0 = λ m none ready. LacksRoom k target m none h.copied ready h.stopped in
@@ -592,7 +612,8 @@ module _ (target : ℕ) where
       let Why : MemberView → Bitmap → MirrorView → Type 0 = λ m none ready. LosesTarget target m none ready new in
       pass_unrecorded h.begins.now h.none old h.ready (opening old Why h) (opens old Why h) (holds old Why h) new h.why fails
   unrecorded_leads old new NoMemory (inl h) fails = absurd fails
-  unrecorded_leads old new NoMemory (inr h) fails =
+  unrecorded_leads old new NoMemory (inr (inl h)) fails = absurd fails
+  unrecorded_leads old new NoMemory (inr (inr h)) fails =
       let Why : MemberView → Bitmap → MirrorView → Type 0 = λ m none ready. LacksMemoryToRebuild target m none h.copied ready h.stopped in
       left_unrecorded h.copied old h.stopped new
       (inl (lacks_memory h.why.begins.now h.why.none old h.why.ready (opening old Why h.why) (opens old Why h.why) (holds old Why h.why) h.copied h.stopped h.why.why)) h.leaves fails

@@ -14,20 +14,21 @@ use Rattle.md_device.proofs.Splices.{spliced_outside}
 use Rattle.md_kept_members.specs.Enrolling.{in_sync_superblock, log_room}
 use Rattle.md_kept_members.specs.View.{MemberView}
 use Rattle.md_members.specs.Areas.{bitmap_area, bitmap_sectors, log_area}
-use Rattle.md_stored_members.specs.Storing.{IsStorable, log_writes, sector_from_super}
-use Rattle.md_stored_members.specs.Superblocks.{write_of}
-use Rattle.md_stored_members.proofs.Beside.{sector_at_is}
+use Rattle.md_kept_members.specs.OnDevices.Storing.{IsStorable, log_writes, sector_from_super}
+use Rattle.md_kept_members.specs.OnDevices.Superblocks.{write_of}
+use Rattle.md_kept_members.proofs.OnDeviceLemmas.Beside.{sector_at_is}
 use Rattle.md_state.specs.DeviceChanges.{IsLeftAlone, LeavesOn, StaysHonest}
+use Rattle.md_state.proofs.Stays.{stays_grown, stays_same}
 use Rattle.md_state.specs.DiskWrites.{AtDevice}
 use Rattle.md_state.specs.Steps.Enrol.{enrolled}
 use Rattle.md_state.specs.Missing.{is_rebuilt}
 use Rattle.md_state.specs.View.{Disk, MirrorView, of_disks}
 use Rattle.md_super.specs.declared.superblock.Superblock.{Superblock}
 use Rattle.md_super.specs.Log.{has_bad_block_log}
-use Rattle.md_device_writes.specs.Bitmaps.{bitmap_runs, bitmap_write, bitmap_writes, runs_of}
-use Rattle.md_device_writes.specs.Writes.{FailsInWrites, IsAnyIn, IsCutShort, IsNextMixed, Write, after}
-use Rattle.md_device_writes.proofs.Frames.{outside_around, outside_none}
-use Rattle.md_device_writes.proofs.Sectors.{length-bitmap_run, runs_from}
+use Rattle.md_members.specs.DeviceWrites.Bitmaps.{bitmap_runs, bitmap_write, bitmap_writes, runs_of}
+use Rattle.md_members.specs.DeviceWrites.Writes.{FailsInWrites, IsAnyIn, IsCutShort, IsNextMixed, Write, after}
+use Rattle.md_members.proofs.DeviceWriteLemmas.Frames.{outside_around, outside_none}
+use Rattle.md_members.proofs.DeviceWriteLemmas.Sectors.{length-bitmap_run, runs_from}
 use Rattle.md_array.specs.Consistency.{IsConsistent}
 use Rattle.md_array.specs.Steps.Enrol.{FailsToEnrol, MayEnrol}
 use Rattle.md_array.specs.Steps.EnrolEvents.{FailsAtSuper, Prepares}
@@ -239,8 +240,8 @@ module _ (k : ℕ) (copied orphans : Bitmap) (old new : MirrorView) (c : IsConsi
         others = λ j apart x y before after.
             let same : y ≡ x = same_Some y x (sym after ∙ r.disks.others j apart ∙ before) in
             subst (λ (z : Disk). StaysHonest x z × IsLeftAlone x z) (sym same)
-            (record { honest = refl; counted = omega arith }, (refl, λ _. leaves_none x.crashes (λ left. left ≡ x.content)));
-        stays = at_both f StaysHonest (record { honest = fails.kept.honest_kept; counted = fails.kept.counted });
+            (stays_same x, (refl, λ _. leaves_none x.crashes (λ left. left ≡ x.content)));
+        stays = at_both f StaysHonest (stays_grown f.disk f.left (λ f. f.writes ≡ true) fails.kept.honest_kept fails.kept.counted fails.kept.grown);
         size = at_both f (λ x y. length y.content ≡ length x.content) fails.kept.size;
         changed = at_both f (λ x y. x.honest ≡ true → IsSameBesideMarks m x.content y.content)
             (λ honest. any_aside f.disk f.is f.left f.left_is f.more f.left.content (fails.outside honest));

@@ -1,5 +1,5 @@
 -- Where the list of a member in sync is stored, whatever fails, its data are as before, and of the others nothing changes but that they are due.
-use Rattle.std.proofs.Common.{◌≡◌, ◌≢◌, ◌∙◌, ℕ, ◌+◌, ◌*◌, ◌<◌, Bool, true, false, if◌then◌else◌, List, [], ◌∷◌, ◌++◌, length, length-set, map, set, slice_get, Option, Some, None, pos, refl, sym, ap, subst, arith, inl, inr}
+use Rattle.std.proofs.Common.{◌≡◌, ◌≢◌, ◌∙◌, ℕ, ◌+◌, ◌*◌, ◌<◌, Bool, true, if◌then◌else◌, List, [], ◌∷◌, ◌++◌, length, length-set, map, set, slice_get, Option, Some, None, pos, refl, sym, ap, subst, arith, inl, inr}
 use Rattle.std.proofs.lemmas.Bool.{cases_eq}
 use Rattle.std.proofs.lemmas.Int.{ints}
 use Rattle.std.proofs.lemmas.Option.{none-some, same_Some, slice_get_within}
@@ -9,7 +9,7 @@ use Rattle.md_bitmap.specs.Marks.{Bitmap}
 use Rattle.md_bitmap.proofs.Blocks.{length-bitmap_sector}
 use Rattle.md_device.specs.Splice.{SameOutside, part}
 use Rattle.md_kept_members.specs.Enrolling.{HasRoomFor}
-use Rattle.md_kept_members.specs.Members.{made_due}
+use Rattle.md_kept_members.specs.Members.{made_due, recorded_member}
 use Rattle.md_kept_members.specs.View.{MemberView}
 use Rattle.md_members.specs.declared.area.Area.{Area}
 use Rattle.md_members.specs.Areas.{AreApart, LogIsPlaced, bitmap_area, bitmap_sectors, data_area, log_area, super_area}
@@ -18,10 +18,11 @@ use Rattle.md_model.specs.Events.{Event, MemberPart}
 use Rattle.md_model.proofs.Cases.{by_test}
 use Rattle.md_super.specs.declared.superblock.Superblock.{Superblock}
 use Rattle.md_super.specs.Log.{has_bad_block_log}
-use Rattle.md_device_writes.specs.Writes.{Write}
-use Rattle.md_stored_members.specs.Storing.{log_writes, sector_from_super}
-use Rattle.md_stored_members.proofs.Beside.{apart_either_way, sector_at_is, stays}
+use Rattle.md_members.specs.DeviceWrites.Writes.{Write}
+use Rattle.md_kept_members.specs.OnDevices.Storing.{log_writes, sector_from_super}
+use Rattle.md_kept_members.proofs.OnDeviceLemmas.Beside.{apart_either_way, sector_at_is, stays}
 use Rattle.md_state.specs.DeviceChanges.{StaysHonest}
+use Rattle.md_state.proofs.Stays.{stays_same, stays_then}
 use Rattle.md_state.specs.DiskWrites.{AtDevice, IsTried, IsWritten}
 use Rattle.md_state.specs.Members.{IsInSync, IsMember}
 use Rattle.md_state.specs.Steps.StoreLog.{logged}
@@ -116,7 +117,7 @@ module _ (k : ℕ) (Kept : Disk → Disk → Type 0) where
   uses_none disks keeps = record {
     as_many = refl;
     others = λ j apart. refl;
-    stays = λ d e at_d at_e. subst (StaysHonest d) (same_Some d e (sym at_d ∙ at_e)) (record { honest = refl; counted = omega arith });
+    stays = λ d e at_d at_e. subst (StaysHonest d) (same_Some d e (sym at_d ∙ at_e)) (stays_same d);
     size = λ d e at_d at_e. ap (λ (x : Disk). length x.content) (same_Some e d (sym at_e ∙ at_d));
     keeps = λ d e at_d at_e. subst (Kept d) (same_Some d e (sym at_d ∙ at_e)) (keeps d);
   }
@@ -129,7 +130,7 @@ module _ (k : ℕ) (Kept : Disk → Disk → Type 0) where
         (let e = between d at_d in
         let first = x.stays d e.0 at_d e.1 in
         let second = y.stays e.0 f e.1 at_f in
-        record { honest = second.honest ∙ first.honest; counted = (let a = first.counted in let b = second.counted in omega arith) });
+        stays_then d e.0 f first second);
     size = λ d f at_d at_f. (let e = between d at_d in y.size e.0 f e.1 at_f ∙ x.size d e.0 at_d e.1);
     keeps = λ d f at_d at_f. (let e = between d at_d in on d e.0 f (x.keeps d e.0 at_d e.1) (y.keeps e.0 f e.1 at_f));
   }
@@ -332,9 +333,9 @@ module _ (old new : MirrorView) where
   leaves_event k before between (Event.Record j) of did =
       let r = did.1 in
       let m = r.member in
-      let near : IsNearOwn m (record m { due = false }) = record { bad = refl; offset = refl; size = refl; apart = λ was. was } in
+      let near : IsNearOwn m (recorded_member m) = record { bad = refl; offset = refl; size = refl; apart = λ was. was } in
       subst (λ i. LeavesBeside i old new) of
-      (super_event j m r.may.at r.may.readable.size r.disks.tried (set_changes j old.array new.array m (record m { due = false }) r.may.at near r.array))
+      (super_event j m r.may.at r.may.readable.size r.disks.tried (set_changes j old.array new.array m (recorded_member m) r.may.at near r.array))
   leaves_event k before between (Event.WriteFails j MemberPart.Superblock) of did =
       let f = did.1 in
       subst (λ i. LeavesBeside i old new) of (super_event j f.member f.may.at f.may.readable.size f.fails.disks.tried (fails_changes j old.array new.array f.fails.array))
@@ -446,7 +447,7 @@ fields_event k old new before between (Event.StoreLog j listed) of is did =
 fields_event k old new before between (Event.WriteFails j which) of is did = absurd is
 fields_event k old new before between (Event.StoreMarks j b) of is did =
     let r = did.1 in set_fields j old.array new.array r.member (record r.member { stored = r.stored }) r.may.in_sync.member refl r.array
-fields_event k old new before between (Event.Record j) of is did = let r = did.1 in set_fields j old.array new.array r.member (record r.member { due = false }) r.may.at refl r.array
+fields_event k old new before between (Event.Record j) of is did = let r = did.1 in set_fields j old.array new.array r.member (recorded_member r.member) r.may.at refl r.array
 fields_event k old new before between e of is did = absurd of
 
 fields_then : (a b c : ArrayView) → KeepsFields a b → KeepsFields b c → KeepsFields a c
@@ -478,7 +479,7 @@ pub writes_same : (old new : MirrorView) → new.disks ≡ old.disks → WritesM
 writes_same old new is = record {
   as_many = ap length is;
   others = λ k out. ap (λ (xs : List Disk). slice_get xs k) is;
-  stays = λ k d e at_d at_e. subst (StaysHonest d) (same d e k at_d at_e) (record { honest = refl; counted = omega arith });
+  stays = λ k d e at_d at_e. subst (StaysHonest d) (same d e k at_d at_e) (stays_same d);
   size = λ k d e at_d at_e. ap (λ (x : Disk). length x.content) (sym (same d e k at_d at_e));
   keeps = λ k m at d e at_d at_e i l from to. ap (λ (x : Disk). part x.content i l) (sym (same d e k at_d at_e));
 }
@@ -492,7 +493,7 @@ writes_one k old new sound m in_sync leaves = record {
   others = λ j out. uses.others j (λ here. out m (subst (λ i. IsInSync old.array i m) (sym here) in_sync));
   stays = λ j d e at_d at_e. elim (cases_eq j k) [
     | inl here ↦ uses.stays d e (sym (ap (slice_get old.disks) here) ∙ at_d) (sym (ap (slice_get new.disks) here) ∙ at_e)
-    | inr other ↦ subst (StaysHonest d) (same j other d e at_d at_e) (record { honest = refl; counted = omega arith })
+    | inr other ↦ subst (StaysHonest d) (same j other d e at_d at_e) (stays_same d)
   ];
   size = λ j d e at_d at_e. elim (cases_eq j k) [
     | inl here ↦ uses.size d e (sym (ap (slice_get old.disks) here) ∙ at_d) (sym (ap (slice_get new.disks) here) ∙ at_e)
@@ -530,7 +531,7 @@ writes_then old mid new places x y = record {
       (let e = between k d at_d in
       let first = x.stays k d e.0 at_d e.1 in
       let second = y.stays k e.0 f e.1 at_f in
-      record { honest = second.honest ∙ first.honest; counted = (let a = first.counted in let b = second.counted in omega arith) });
+      stays_then d e.0 f first second);
   size = λ k d f at_d at_f. (let e = between k d at_d in y.size k e.0 f e.1 at_f ∙ x.size k d e.0 at_d e.1);
   keeps = λ k m at d f at_d at_f i l from to.
       (let e = between k d at_d in

@@ -13,7 +13,7 @@ use Rattle.md_badblocks.specs.Log.{log_bytes}
 use Rattle.md_badblocks.specs.Runs.{IsBad, IsCanonical}
 use Rattle.md_bitmap.proofs.Blocks.{length-bitmap_sector}
 use Rattle.md_kept_members.specs.Enrolling.{log_room}
-use Rattle.md_kept_members.specs.Members.{made_due}
+use Rattle.md_kept_members.specs.Members.{made_due, recorded_member}
 use Rattle.md_kept_members.specs.View.{MemberView}
 use Rattle.md_members.specs.Areas.{bitmap_sectors, log_area}
 use Rattle.md_model.specs.Events.{Event}
@@ -24,10 +24,10 @@ use Rattle.md_super.specs.Faults.{NoSuperFault}
 use Rattle.md_super.specs.Format.{IsSuper}
 use Rattle.md_super.specs.Log.{has_bad_block_log}
 use Rattle.md_super.specs.Merge.{merged}
-use Rattle.md_device_writes.specs.Writes.{Write}
-use Rattle.md_stored_members.specs.Superblocks.{IsReadable}
-use Rattle.md_stored_members.specs.Storing.{sector_from_super}
-use Rattle.md_stored_members.proofs.Beside.{sector_at_is}
+use Rattle.md_members.specs.DeviceWrites.Writes.{Write}
+use Rattle.md_kept_members.specs.OnDevices.Superblocks.{IsReadable}
+use Rattle.md_kept_members.specs.OnDevices.Storing.{sector_from_super}
+use Rattle.md_kept_members.proofs.OnDeviceLemmas.Beside.{sector_at_is}
 use Rattle.md_state.specs.DiskWrites.{IsTried, IsWritten}
 use Rattle.md_state.specs.Members.{IsMember}
 use Rattle.md_state.specs.Steps.StoreLog.{logged}
@@ -425,7 +425,7 @@ module _ (j : ℕ) (listed : ℕ → Bool) (rest : List Event) (previous : Optio
   canonical_still i has =
       let marks = leads.5.3.1 in
       let super = leads.5.5.3.1 in
-      canonical_set leads.5.0.array leads.5.5.0.array j super.member (record super.member { due = false }) super.may.at refl (ap (λ (a : ArrayView). a.members) super.array) i
+      canonical_set leads.5.0.array leads.5.5.0.array j super.member (recorded_member super.member) super.may.at refl (ap (λ (a : ArrayView). a.members) super.array) i
       (canonical_set leads.0.array leads.5.0.array j marks.member (record marks.member { stored = marks.stored }) marks.may.in_sync.member refl (ap (λ (a : ArrayView). a.members) marks.array) i
       (canonical_set old.array leads.0.array j log.member (logged log.member) log.in_sync.member refl (ap (λ (a : ArrayView). a.members) log.array) i has))
 

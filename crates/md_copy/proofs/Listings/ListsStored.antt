@@ -38,7 +38,7 @@ use Rattle.md_metadata.specs.StoringLists.{HasStoredList, IsListing, ListFails, 
 use Rattle.md_metadata.proofs.Going.{GoesUnfailing, halts_as, stops_as, unfailing_as, unfailing_halts, unfailing_loses, unfailing_none, unfailing_on}
 use Rattle.md_metadata.proofs.Steps.{is_now}
 use Rattle.md_pass.specs.Copied.{failed_slots, is_failed_slot}
-use Rattle.md_passes.specs.Listed.{IsOfFailed, ListsFailed, ListsOwn}
+use Rattle.md_copy.specs.PassLaws.Listed.{IsOfFailed, ListsFailed, ListsOwn}
 use Rattle.md_rebuild_table.specs.declared.fault.RebuildFault.{RebuildFault}
 use Rattle.md_rebuild_table.specs.declared.fault.RebuildFault.TheVariants.{MetadataFault}
 use Rattle.md_rebuild_table.proofs.Served.{in_sync_as}

@@ -11,7 +11,7 @@ use Rattle.md_cert.specs.declared.slots.Slot.{Slot}
 use Rattle.md_faults.specs.declared.note_fault.NoteFault.TheVariants as note
 use Rattle.md_kept_members.specs.View.{MemberView}
 use Rattle.md_model.specs.Events.{Event}
-use Rattle.md_requests.specs.Pending.{PendingView}
+use Rattle.md_inflight.specs.Requests.Pending.{PendingView}
 use Rattle.md_state.specs.Members.{IsMember}
 use Rattle.md_state.specs.Requests.{IsPending}
 use Rattle.md_state.specs.View.{ArrayView, MirrorView}
@@ -23,8 +23,8 @@ use Rattle.md_metadata.specs.Going.{only_others}
 use Rattle.md_metadata.proofs.Going.{goes_nowhere, goes_on, goes_step}
 use Rattle.md_metadata.proofs.Steps.{same_but}
 use Rattle.md_pass.specs.Copied.{failed_slots, is_failed_slot}
-use Rattle.md_passes.specs.Listed.{IsSourceInRole}
-use Rattle.md_passes.proofs.Listing.{lists_add}
+use Rattle.md_copy.specs.PassLaws.Listed.{IsSourceInRole}
+use Rattle.md_copy.proofs.PassLemmas.Listing.{lists_add}
 use Rattle.md_rebuild_table.specs.declared.fault.RebuildFault.{RebuildFault}
 use Rattle.md_rebuild_table.specs.declared.fault.RebuildFault.TheVariants.{LogFull}
 use Rattle.md_rebuild_table.proofs.Served.{in_sync_as}

@@ -19,8 +19,8 @@ use Rattle.md_cert.proofs.Masks.{row_of}
 use Rattle.md_kept_members.specs.View.{MemberView}
 use Rattle.md_pass.specs.Beside.{has_chunk}
 use Rattle.md_pass.specs.Copied.{AreUncopied, failed_slots, is_failed_slot}
-use Rattle.md_passes.specs.Listed.{IsArrayPass, MayServe}
-use Rattle.md_passes.specs.Passes.{PassView}
+use Rattle.md_copy.specs.PassLaws.Listed.{IsArrayPass, MayServe}
+use Rattle.md_copy.specs.PassLaws.Passes.{PassView}
 use Rattle.md_plan.specs.declared.planner.Planned.{Planned}
 use Rattle.md_state.specs.Members.{IsMember}
 use Rattle.md_state.specs.Missing.{is_missing}
@@ -121,7 +121,7 @@ module _ (target : ℕ) (v : MirrorView) (ready : IsReadyToCopy target v) (withi
       makes failed fills =
           let at = got_within a.members target within in
           let f = fills at.0 at.1 in
-          record { is = is_pass after; member = at.0; at = at.1; uncopied = uncopied; copies = f.copies; failed = refl; counted = f.counted; sound = sound }
+          record { is = is_pass after; member = at.0; at = at.1; uncopied = uncopied; copies = f.copies; failed = refl; counted = f.counted; there = f.there; sound = sound }
 
       pub made_one : (failed : ℕ) → Fills failed → (x : MirrorView) → Checkpoints target after w x → IsConsistent x → (told : Passed) → told.planned ≡ planned → told.failed ≡ failed
           → MakesOne target rows before after v x told

@@ -11,15 +11,16 @@ use Rattle.md_badblocks.specs.Runs.{IsBad}
 use Rattle.md_bitmap.specs.declared.chunks.Chunks.{Chunks}
 use Rattle.md_bitmap.specs.Marks.{Bitmap, is_set}
 use Rattle.md_cert.specs.declared.slots.Slot.{Slot}
-use Rattle.md_kept_members.specs.TakingBack.{with_recovery_offset}
+use Rattle.md_kept_members.specs.Members.{recorded_member}
 use Rattle.md_kept_members.specs.View.{MemberView}
 use Rattle.md_pass.specs.Beside.{has_chunk}
 use Rattle.md_pass.specs.Copied.{is_failed_slot}
-use Rattle.md_passes.proofs.OnePass.{slot_within}
-use Rattle.md_passes.specs.Listed.{ListsFailed, ListsOwn}
-use Rattle.md_passes.specs.Passes.{PassView, slots_of_pass}
+use Rattle.md_copy.proofs.PassLemmas.OnePass.{slot_within}
+use Rattle.md_copy.specs.PassLaws.Listed.{ListsFailed, ListsOwn}
+use Rattle.md_copy.specs.PassLaws.Passes.{PassView, slots_of_pass}
 use Rattle.md_state.specs.Members.{IsMember}
 use Rattle.md_state.specs.Missing.{is_missing}
+use Rattle.md_state.specs.Steps.Checkpoint.{checked}
 use Rattle.md_state.specs.View.{ArrayView, MirrorView}
 use Rattle.md_array.specs.Steps.Checkpoint.{Checkpoints}
 use Rattle.md_array.specs.Consistency.{IsConsistent}
@@ -46,7 +47,7 @@ same_own chunks m n state offset flags bad = record {
 
 module _ (target : ℕ) (copied : Bitmap) (v w : MirrorView) (sound : IsConsistent v) (r : Checkpoints target copied v w) where
   abbrev n : MemberView
-  n = record (with_recovery_offset r.offset r.may.member) { due = false }
+  n = recorded_member (checked r.sure r.may.member)
 
   own_member : (m : MemberView) → IsMember v.array target m → r.may.member ≡ m
   own_member m at = same_Some r.may.member m (sym r.may.at ∙ at)

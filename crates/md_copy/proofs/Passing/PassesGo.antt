@@ -20,12 +20,12 @@ use Rattle.md_cert.specs.Tables.{chunks_of_rows}
 use Rattle.md_kept_members.specs.View.{MemberView}
 use Rattle.md_pass.specs.Beside.{has_chunk}
 use Rattle.md_pass.specs.Copied.{failed_slots, is_failed_slot}
-use Rattle.md_passes.proofs.ArrayPasses.{copies_add, others, passes_go_on, permits}
-use Rattle.md_passes.proofs.Kept.{From, mapped, mapped_from}
-use Rattle.md_passes.proofs.Listing.{lists_add}
-use Rattle.md_passes.proofs.OnePass.{slot_permitted, slot_within}
-use Rattle.md_passes.specs.Listed.{ListsFailed, MayServe, ServesAs, most_failures}
-use Rattle.md_passes.specs.Passes.{PassView, ServesAtMost, failed_chunks, slots_of_pass}
+use Rattle.md_copy.proofs.PassLemmas.ArrayPasses.{copies_add, others, passes_go_on, permits}
+use Rattle.md_copy.proofs.PassLemmas.Kept.{From, mapped, mapped_from}
+use Rattle.md_copy.proofs.PassLemmas.Listing.{lists_add}
+use Rattle.md_copy.proofs.PassLemmas.OnePass.{slot_permitted, slot_within}
+use Rattle.md_copy.specs.PassLaws.Listed.{ListsFailed, MayServe, ServesAs, most_failures}
+use Rattle.md_copy.specs.PassLaws.Passes.{PassView, ServesAtMost, failed_chunks, slots_of_pass}
 use Rattle.md_plan.specs.declared.planner.Planned.{Planned}
 use Rattle.md_state.specs.Members.{IsMember}
 use Rattle.md_state.specs.Missing.{is_missing}

@@ -3,7 +3,7 @@
 use Rattle.std.proofs.Common.{◌≡◌, ◌≢◌, ◌∙◌, ℕ, ◌+◌, ◌*◌, ◌≤◌, Bool, true, false, List, [], ◌∷◌, ◌++◌, append-nil, length, filter, count_by, get_or, slice_get, Some, refl, sym, ap, subst, arith, inl, inr}
 use Rattle.std.proofs.lemmas.Bool.{both_ways, cases_Bool, cases_eq}
 use Rattle.std.proofs.lemmas.List.{length-append}
-use Rattle.std.proofs.lemmas.List.Elements.{filter-append}
+use Rattle.std.proofs.lemmas.List.Elements.{Contains-append_cases, filter-append}
 use Rattle.std.proofs.lemmas.List.Sums.{length-filter}
 use Rattle.std.proofs.lemmas.Option.{same_Some, slice_get-get_or, slice_get_within}
 use Rattle.md_assembly.specs.States.{is_in_sync_as}
@@ -12,16 +12,19 @@ use Rattle.md_bitmap.specs.Marks.{Bitmap, is_set}
 use Rattle.md_cert.specs.declared.slots.Slot.{Slot}
 use Rattle.md_device.specs.Splice.{part}
 use Rattle.md_kept_members.specs.View.{MemberView}
+use Rattle.md_collect.specs.Reading.{FailsInChunk}
 use Rattle.md_pass.specs.Readings.{is_of}
-use Rattle.md_passes.proofs.Listing.{lists_add}
-use Rattle.md_passes.specs.Listed.{ListsFailed}
-use Rattle.md_passes.specs.Passes.{PassView, failed_chunks}
+use Rattle.md_copy.proofs.PassLemmas.Listing.{lists_add}
+use Rattle.md_copy.specs.PassLaws.Listed.{ListsFailed}
+use Rattle.md_copy.specs.PassLaws.Passes.{PassView, failed_chunks}
 use Rattle.md_state.specs.DiskWrites.{AtDevice}
 use Rattle.md_state.specs.Members.{IsMember}
-use Rattle.md_state.specs.View.{ArrayView, Disk, MirrorView}
+use Rattle.md_state.specs.View.{ArrayView, Disk, MirrorView, of_disks}
 use Rattle.md_array.specs.Steps.Enrol.{KeepsData}
 use Rattle.md_array.specs.Steps.Lend.{IsBesideChunk}
 use Rattle.md_rebuild_table.specs.Sources.{missing_chunks}
+use Rattle.md_copy.specs.Filling.{HaveFailedThere}
+use Rattle.md_copy.proofs.Failing.{HasGrown, grown_by, grown_same, grown_then, none_there, there_since, there_still}
 use Rattle.md_copy.specs.Passing.{AreListedPasses, CopiesAll, ListsPass, RecordsPass}
 use Rattle.md_copy.specs.Rebuilt.{failed_of}
 use Rattle.md_copy.proofs.Held.HeldRecorded.{data_kept, other_is, target_same}
@@ -44,8 +47,10 @@ pub record PassesKeep (target : ℕ) (listed failed : List Slot) (before after :
       → (i n : ℕ) → IsBesideSince old.array m before after i n → part e.content i n ≡ part d.content i n
   pub kept : (c : ℕ) → is_set before.bytes c ≡ true → is_set after.bytes c ≡ true
   pub counted : (k : ℕ) (d e : Disk) → slice_get old.disks k ≡ Some d → slice_get new.disks k ≡ Some e → d.failures ≤ e.failures
+  pub grown : (k : ℕ) (d e : Disk) → slice_get old.disks k ≡ Some d → slice_get new.disks k ≡ Some e → HasGrown d e
   pub fails : (k role : ℕ) (m : MemberView) → IsMember old.array k m → is_in_sync_as role m.state ≡ true
       → AtDevice k old.disks new.disks (λ d e. d.honest ≡ true → d.failures + count_by (is_of role) failed ≤ e.failures)
+  pub there : HaveFailedThere failed old new
 
 pub disk_then : (old new : MirrorView) → length new.disks ≡ length old.disks → (k : ℕ) (d : Disk) → slice_get old.disks k ≡ Some d → (e : Disk) × (slice_get new.disks k ≡ Some e)
 disk_then old new many k d at = (let low = slice_get_within old.disks k d at in (get_or new.disks k d, slice_get-get_or new.disks k d (omega (arith, low, many))))
@@ -69,7 +74,9 @@ keeps_none target copied v = record {
   beside = λ d e m at_d at_e at_m i n h. ap (λ (x : Disk). part x.content i n) (same_Some e d (sym at_e ∙ at_d));
   kept = λ c set. set;
   counted = λ k d e at_d at_e. (let same = ap (λ (x : Disk). x.failures) (same_Some e d (sym at_e ∙ at_d)) in omega (arith, same));
+  grown = λ k d e at_d at_e. grown_same d e (same_Some e d (sym at_e ∙ at_d));
   fails = λ k role m at in_role d e at_d at_e honest. (let same = ap (λ (x : Disk). x.failures) (same_Some e d (sym at_e ∙ at_d)) in omega (arith, same));
+  there = none_there v v;
 }
 
 pub keeps_on : (target : ℕ) (l1 l2 f1 f2 : List Slot) (x y z : Bitmap) (u v w : MirrorView) → PassesKeep target l1 f1 x y u v → PassesKeep target l2 f2 y z v w → PassesKeep target (l1 ++ l2) (f1 ++ f2) x z u w
@@ -102,6 +109,18 @@ keeps_on target l1 l2 f1 f2 x y z u v w one two = record {
       let second = two.fails k role o.0 o.1 (subst (λ s. is_in_sync_as role s ≡ true) (sym o.2.state) in_role) e.0 f e.1 at_f (one.honest k d e.0 at_d e.1 ∙ is_honest) in
       let both = count_append (is_of role) f1 f2 in
       omega (arith, first, second, both));
+  grown = λ k d f at_d at_f. (let e = disk_then u v one.as_many k d at_d in grown_then d e.0 f (one.grown k d e.0 at_d e.1) (two.grown k e.0 f e.1 at_f));
+  there = λ slot has k m at in_role d f at_d at_f.
+      (let e = disk_then u v one.as_many k d at_d in
+      elim (Contains-append_cases f1 f2 slot has) [
+        | inl first ↦ there_still d e.0 f m.superblock.data_offset u.array.chunks slot.chunk (one.there slot first k m at in_role d e.0 at_d e.1) (two.grown k e.0 f e.1 at_f)
+        | inr second ↦
+            let o = one.lists.after k m at in
+            there_since d e.0 f m.superblock.data_offset u.array.chunks slot.chunk (one.grown k d e.0 at_d e.1)
+            (subst (λ (q : Chunks). FailsInChunk of_disks e.0 f m.superblock.data_offset q slot.chunk) one.lists.chunks
+            (subst (λ p. FailsInChunk of_disks e.0 f p v.array.chunks slot.chunk) o.2.offset
+            (two.there slot second k o.0 o.1 (subst (λ s. is_in_sync_as slot.source s ≡ true) (sym o.2.state) in_role) e.0 f e.1 at_f)))
+      ]);
 }
   where
     clear_first : (c : ℕ) → is_set y.bytes c ≡ false → is_set x.bytes c ≡ false
@@ -144,7 +163,12 @@ module _ (target : ℕ) (chunks : List ℕ) (p : PassView) (before after : Bitma
           | inl here ↦ (f.on_target d e (ap (slice_get v.disks) (sym here) ∙ at_d) (ap (slice_get w.disks) (sym here) ∙ at_e)).counted
           | inr other ↦ (f.others k d e other at_d at_e).counted
         ];
+        grown = λ k d e at_d at_e. elim (cases_eq k target) [
+          | inl here ↦ grown_by d e (λ f. f.writes ≡ true) (f.on_target d e (ap (slice_get v.disks) (sym here) ∙ at_d) (ap (slice_get w.disks) (sym here) ∙ at_e)).writes_alone
+          | inr other ↦ grown_by d e (λ f. f.writes ≡ false) (f.others k d e other at_d at_e).reads_alone
+        ];
         fails = h.makes.counted;
+        there = h.makes.there;
       }
 
   same_disk : (k : ℕ) (d e : Disk) → k ≢ target → slice_get w.disks k ≡ Some d → slice_get x.disks k ≡ Some e → e ≡ d
@@ -177,6 +201,11 @@ module _ (target : ℕ) (chunks : List ℕ) (p : PassView) (before after : Bitma
           | inl here ↦ (t.stays d e (ap (slice_get w.disks) (sym here) ∙ at_d) (ap (slice_get x.disks) (sym here) ∙ at_e)).counted
           | inr other ↦ (let is = ap (λ (z : Disk). z.failures) (same_disk k d e other at_d at_e) in omega (arith, is))
         ];
+        grown = λ k d e at_d at_e. elim (cases_eq k target) [
+          | inl here ↦ (t.stays d e (ap (slice_get w.disks) (sym here) ∙ at_d) (ap (slice_get x.disks) (sym here) ∙ at_e)).grown
+          | inr other ↦ grown_same d e (same_disk k d e other at_d at_e)
+        ];
+        there = none_there w x;
         fails = λ k role m at in_role d e at_d at_e honest. elim (cases_eq k target) [
           | inl here ↦ (let up = (t.stays d e (ap (slice_get w.disks) (sym here) ∙ at_d) (ap (slice_get x.disks) (sym here) ∙ at_e)).counted in omega (arith, up))
           | inr other ↦ (let is = ap (λ (z : Disk). z.failures) (same_disk k d e other at_d at_e) in omega (arith, is))
@@ -199,6 +228,8 @@ lists_keep target chunks p before after v w h =
       beside = λ d e m at_d at_e at_m i n b. h.lists.writes.keeps target m at_m d e at_d at_e i n b.from b.to;
       kept = λ c set. set;
       counted = λ k d e at_d at_e. (h.lists.writes.stays k d e at_d at_e).counted;
+      grown = λ k d e at_d at_e. (h.lists.writes.stays k d e at_d at_e).grown;
+      there = none_there x w;
       fails = λ k role m at in_role d e at_d at_e honest. (let up = (h.lists.writes.stays k d e at_d at_e).counted in omega (arith, up));
     } in
     subst (λ fs. PassesKeep target p.failed fs before after v w) (append-nil p.failed) (keeps_on target [] p.failed p.failed [] before after after v x w (pass_keeps target chunks p before after v x h.records) listing)

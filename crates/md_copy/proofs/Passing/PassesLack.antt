@@ -8,11 +8,12 @@ use Rattle.md_assembly.specs.States.{is_recovering}
 use Rattle.std.proofs.lemmas.Option.{same_Some}
 use Rattle.md_bitmap.specs.declared.chunks.Chunks.{Chunks}
 use Rattle.md_bitmap.specs.Marks.{Bitmap, is_set}
-use Rattle.md_kept_members.specs.TakingBack.{with_recovery_offset}
+use Rattle.md_kept_members.specs.Members.{recorded_member}
 use Rattle.md_kept_members.specs.View.{MemberView}
-use Rattle.md_passes.specs.Passes.{PassView, failed_chunks}
+use Rattle.md_copy.specs.PassLaws.Passes.{PassView, failed_chunks}
 use Rattle.md_state.specs.Members.{IsMember}
 use Rattle.md_state.specs.Missing.{is_missing}
+use Rattle.md_state.specs.Steps.Checkpoint.{checked}
 use Rattle.md_state.specs.View.{ArrayView, MirrorView}
 use Rattle.md_rebuild_table.specs.Orphans.{uncopied_chunks}
 use Rattle.md_rebuild_table.specs.Sources.{missing_chunks}
@@ -80,7 +81,7 @@ module _ (target : ℕ) (chunks : List ℕ) (p : PassView) (before after : Bitma
     chunks = ap (λ (a : ArrayView). a.chunks) h.checkpoints.array ∙ ap (λ (a : ArrayView). a.chunks) same;
     marks = ap (λ (a : ArrayView). a.marks) h.checkpoints.array ∙ ap (λ (a : ArrayView). a.marks) same;
     kept = h.makes.copies.joined.kept;
-    there = λ m at. (record (with_recovery_offset h.checkpoints.offset h.checkpoints.may.member) { due = false }, recorded_is target after h.filled x h.makes.sound h.checkpoints);
+    there = λ m at. (recorded_member (checked h.checkpoints.sure h.checkpoints.may.member), recorded_is target after h.filled x h.makes.sound h.checkpoints);
     recovers = λ m n at_m at_n is. ap (λ (z : MemberView). is_recovering z.state) (target_same target after h.filled x h.makes.sound h.checkpoints n at_n) ∙ h.checkpoints.may.recovering;
     missing = λ m n at_m at_n recovers c low clear.
         (let low_w = subst (λ (a : ArrayView). c < a.marks.chunks) (sym same) low in

@@ -1,5 +1,5 @@
 -- What a list of passes over a mirror says: what the target holds after it, which chunks were copied, and that they are passes of the array.
-use Rattle.std.proofs.Common.{◌≡◌, ◌≢◌, ◌∙◌, ℕ, ◌<◌, false, List, [], ◌∷◌, ◌++◌, append-nil, append_assoc, Contains, All, get_or, sym, ap, subst}
+use Rattle.std.proofs.Common.{◌≡◌, ◌≢◌, ◌∙◌, ℕ, ◌*◌, ◌<◌, false, List, [], ◌∷◌, ◌++◌, append-nil, append_assoc, Contains, All, get_or, sym, ap, subst}
 use Rattle.std.specs.Int.{div_ceil}
 use Rattle.std.proofs.lemmas.Bool.{both_ways}
 use Rattle.std.proofs.lemmas.List.Elements.{All-map, Contains-get_or}
@@ -7,11 +7,12 @@ use Rattle.std.proofs.lemmas.Option.{same_Some}
 use Rattle.md_bitmap.specs.declared.chunks.Chunks.{Chunks}
 use Rattle.md_bitmap.specs.Marks.{Bitmap, is_set}
 use Rattle.md_cert.specs.declared.slots.Slot.{Slot}
+use Rattle.md_kept_members.specs.TakingBack.{member_says_of}
 use Rattle.md_kept_members.specs.View.{MemberView}
-use Rattle.md_passes.proofs.ArrayPasses.{copies_add}
-use Rattle.md_passes.proofs.Listing.{lists_add}
-use Rattle.md_passes.specs.Listed.{ArrayPasses, AreCopiedBy, IsArrayPass, ListsFailed}
-use Rattle.md_passes.specs.Passes.{PassView, failed_chunks}
+use Rattle.md_copy.proofs.PassLemmas.ArrayPasses.{copies_add}
+use Rattle.md_copy.proofs.PassLemmas.Listing.{lists_add}
+use Rattle.md_copy.specs.PassLaws.Listed.{ArrayPasses, AreCopiedBy, IsArrayPass, ListsFailed}
+use Rattle.md_copy.specs.PassLaws.Passes.{PassView, failed_chunks}
 use Rattle.md_state.specs.Members.{IsMember}
 use Rattle.md_state.specs.View.{ArrayView, MirrorView}
 use Rattle.md_rebuild_table.specs.Sources.{LacksChunk, missing_chunks}
@@ -19,19 +20,24 @@ use Rattle.md_copy.specs.Held.{AreHeld}
 use Rattle.md_copy.specs.Passing.{AreListedPasses, CopiesAll, ListsPass}
 use Rattle.md_copy.specs.Ready.{IsReadyToCopy}
 use Rattle.md_copy.proofs.Held.HeldListed.{GrowsOnly}
-use Rattle.md_copy.proofs.Passing.PassRecorded.{at_y, failed_lacks, grown_held, grown_missing, recorded_held, recorded_lists, recorded_ready, y}
+use Rattle.md_copy.proofs.Held.HeldRecorded.{marks_is, out_of_sync, unsaid_recorded}
+use Rattle.md_copy.proofs.Passing.PassRecorded.{at_y, clear_failed, failed_lacks, grown_held, grown_missing, recorded_held, recorded_lists, recorded_ready, y}
 use Rattle.md_copy.proofs.Plans.PlanChunks.{all_lacking}
 use Rattle.md_copy.proofs.Ready.ReadyStill.{ready_listed}
+use Rattle.md_copy.proofs.Ready.Unsaid.{AreUnsaid}
 
 -- ---- what the target holds
 abbrev pub AreLacking : ℕ → MirrorView → List ℕ → Type 0
 AreLacking target v chunks = (n : MemberView) → IsMember v.array target n → All (LacksChunk v.array n) chunks
 
--- The rebuild may go on, the target holds what was copied, and it lacks these chunks.
+-- The rebuild may go on, the target holds what was copied, and it lacks these chunks, of which none was copied. Of what
+-- it lacks and was not copied its superblock does not say that it has it.
 pub record HoldsSoFar (target : ℕ) (v : MirrorView) (copied : Bitmap) (left : List ℕ) : Type 0 where
   pub ready : IsReadyToCopy target v
   pub held : AreHeld v target copied
   pub lacking : AreLacking target v left
+  pub fresh : All (λ c. is_set copied.bytes c ≡ false) left
+  pub unsaid : AreUnsaid target v copied
 
 module _ (target : ℕ) (chunks : List ℕ) (p : PassView) (before after : Bitmap) (v w : MirrorView) (h : ListsPass target chunks p before after v w) (so : HoldsSoFar target v before chunks) where
   abbrev x : MirrorView
@@ -51,11 +57,27 @@ module _ (target : ℕ) (chunks : List ℕ) (p : PassView) (before after : Bitma
         missing = grown_missing target chunks p before after v x h.records so.ready so.held so.lacking p.failed w g (λ t is. is) u at_u s.chunk ∙ was.missing;
       }
 
+  -- the target is what it was when the pass was recorded
+  unsaid_listed : AreUnsaid target w after
+  unsaid_listed u at_u c low missing clear =
+      let z = y target chunks p before after v x h.records so.ready so.held so.lacking in
+      let at_z = at_y target chunks p before after v x h.records so.ready so.held so.lacking in
+      let recovers = (recorded_ready target chunks p before after v x h.records so.ready so.held so.lacking).recovering z at_z in
+      let same : u ≡ z = h.lists.out target z u at_z at_u (out_of_sync z.state recovers) in
+      let was = sym (grown_missing target chunks p before after v x h.records so.ready so.held so.lacking p.failed w g (λ t is. is) u at_u c) ∙ missing in
+      let low_x : c < x.array.marks.chunks = subst (λ (q : Bitmap). c < q.chunks) h.lists.lists.marks low in
+      let low_f : c < h.records.filled.array.marks.chunks = subst (λ (q : Bitmap). c < q.chunks) (marks_is target after h.records.filled x h.records.makes.sound h.records.checkpoints) low_x in
+      ap (λ (q : Chunks). member_says_of (c * q.sectors) u) h.lists.lists.chunks ∙ ap (member_says_of (c * x.array.chunks.sectors)) same
+      ∙ unsaid_recorded target after h.records.filled x h.records.makes.sound h.records.checkpoints z at_z c low_f was clear
+
   pub listed_holds : HoldsSoFar target w after (failed_chunks p)
   listed_holds = record {
     ready = ready_listed target p.failed x w h.lists (recorded_ready target chunks p before after v x h.records so.ready so.held so.lacking);
     held = grown_held target chunks p before after v x h.records so.ready so.held so.lacking p.failed w g (λ t is. is);
     lacking = λ u at_u. All-map (LacksChunk w.array u) (λ (s : Slot). s.chunk) p.failed (slot_left u at_u);
+    fresh = All-map (λ c. is_set after.bytes c ≡ false) (λ (s : Slot). s.chunk) p.failed
+        (λ k d below. clear_failed target chunks p before after v x h.records (get_or p.failed k d) (Contains-get_or p.failed k d below));
+    unsaid = unsaid_listed;
   }
 
 pub chain_holds : (target : ℕ) (passes : List PassView) (chunks left : List ℕ) (before after : Bitmap) (v w : MirrorView) → AreListedPasses target passes chunks left before after v w
@@ -102,8 +124,8 @@ chain_passes target (p ∷ ps) last chunks left before after v w h so is done =
 
 -- ---- all passes
 pub begins_holding : (target : ℕ) (m : MemberView) (none : Bitmap) (v : MirrorView) → IsReadyToCopy target v → IsMember v.array target m → none.chunks ≡ v.array.marks.chunks → ((c : ℕ) → is_set none.bytes c ≡ false)
-    → HoldsSoFar target v none (missing_chunks v.array m)
-begins_holding target m none v ready at count clear = record {
+    → AreUnsaid target v none → HoldsSoFar target v none (missing_chunks v.array m)
+begins_holding target m none v ready at count clear unsaid = record {
   ready = ready;
   held = record {
     chunks = count;
@@ -111,6 +133,8 @@ begins_holding target m none v ready at count clear = record {
     unlisted = λ n there c low set has lists. both_ways (is_set none.bytes c) (clear c) set;
   };
   lacking = λ n there. subst (λ (z : MemberView). All (LacksChunk v.array z) (missing_chunks v.array m)) (same_Some m n (sym at ∙ there)) (all_lacking v.array m);
+  fresh = λ k d below. clear (get_or (missing_chunks v.array m) k d);
+  unsaid = unsaid;
 }
 
 module _ (target : ℕ) (m : MemberView) (passes : List PassView) (none copied : Bitmap) (v w : MirrorView) (h : CopiesAll target m passes none copied v w) (so : HoldsSoFar target v none (missing_chunks v.array m)) where

@@ -7,9 +7,9 @@ use Rattle.md_badblocks.specs.Runs.{IsBad}
 use Rattle.md_bitmap.specs.declared.chunks.Chunks.{Chunks}
 use Rattle.md_bitmap.specs.Chunks.{InChunk}
 use Rattle.md_kept_members.specs.View.{MemberView}
-use Rattle.md_passes.proofs.ArrayPasses.{copies_add}
-use Rattle.md_passes.specs.Listed.{ListsFailed, MayServe, ServesAs, most_failures}
-use Rattle.md_passes.specs.Passes.{ServesAtMost}
+use Rattle.md_copy.proofs.PassLemmas.ArrayPasses.{copies_add}
+use Rattle.md_copy.specs.PassLaws.Listed.{ListsFailed, MayServe, ServesAs, most_failures}
+use Rattle.md_copy.specs.PassLaws.Passes.{ServesAtMost}
 use Rattle.md_state.specs.Members.{IsMember, IsServedPlainly, IsUnlisted}
 use Rattle.md_state.specs.Missing.{is_missing}
 use Rattle.md_state.specs.View.{MirrorView}

@@ -1,5 +1,5 @@
 -- What a rebuild is readied for: what is stored first and the admission of a spare leave it able to go on, and then its target is recovering.
-use Rattle.std.proofs.Common.{◌≡◌, ◌∙◌, ℕ, ◌+◌, ◌^◌, ◌<◌, ◌≤◌, true, false, refl, sym, ap, subst, arith, inl, inr}
+use Rattle.std.proofs.Common.{◌≡◌, ◌∙◌, ℕ, ◌+◌, ◌^◌, ◌<◌, ◌≤◌, true, false, slice_get, refl, sym, ap, subst, arith, inl, inr}
 use Rattle.std.proofs.lemmas.Option.{same_Some}
 use Rattle.md_assembly.specs.declared.state.MemberState.{MemberState}
 use Rattle.md_assembly.specs.declared.state.MemberState.TheVariants.{InSync, Recovering, Stale, Spare, Faulty}
@@ -13,16 +13,18 @@ use Rattle.md_state.specs.Missing.{is_rebuilt}
 use Rattle.md_state.specs.Steps.Rise.{HasSpentEvents}
 use Rattle.md_state.specs.View.{ArrayView, MirrorView}
 use Rattle.md_array.specs.Steps.Admit.{Admits}
+use Rattle.md_array.specs.Consistency.{IsConsistent}
 use Rattle.md_array.specs.Steps.NoteResynced.{AreNoted}
 use Rattle.md_array.proofs.Rebuilding.AdmitEvent.{admitted_at}
 use Rattle.md_metadata.specs.Storing.{StaysReady}
 use Rattle.md_metadata.proofs.Going.{same_state}
 use Rattle.md_rebuild_table.specs.Beginning.{MayBeginRebuild, rises}
-use Rattle.md_rebuild_table.specs.Targets.{MayBeRebuilt}
+use Rattle.md_rebuild_table.specs.Targets.{IsTarget, MayBeRebuilt}
 use Rattle.md_copy.specs.Rebuilding.{BeginsRebuild}
-use Rattle.md_copy.specs.Readying.{AdmitsAfter, AdmitsFirst, Readies}
+use Rattle.md_copy.specs.Readying.{AdmitsAfter, AdmitsFirst, LowersTarget, Readies}
 use Rattle.md_copy.specs.Ready.{IsReadyToCopy, MayRebuildOn}
 use Rattle.md_copy.specs.Storing.{StoresFirst}
+use Rattle.md_copy.proofs.Ready.Lowered.{IsBut, lowered_but, lowered_others, lowered_sound}
 
 -- ---- states
 pub recovering_target : (a : ArrayView) (number : ℕ) (s : MemberState) → is_recovering s ≡ true → MayBeRebuilt a number s
@@ -154,5 +156,45 @@ module _ (target : ℕ) (old ready : MirrorView) (member : MemberView) (at : IsM
   is_ready (inl h) = ready_stored h.0 h.1
   is_ready (inr h) = ready_admitted h.0 h.1
 
-pub ready_of : (target : ℕ) (old ready : MirrorView) (none : Bitmap) → BeginsRebuild target old ready none → IsReadyToCopy target ready
-ready_of target old ready none b = is_ready target old ready b.member b.at b.may b.first
+-- ---- a recovering target is to say no more that it has what it lacks
+module _ (target : ℕ) (none : Bitmap) (old mid : MirrorView) (sound : IsConsistent old) (h : LowersTarget target none old mid) (member : MemberView) (at : IsMember old.array target member) (may : MayBeginRebuild old.array member)
+    (then : MemberView) (there : IsMember mid.array target then) where
+  its_state : then.state ≡ member.state
+  its_state = ap (λ (z : MemberView). z.state) (lowered_but target none old mid sound h target member then at there).is
+
+  is_target : IsTarget mid.array then
+  is_target = elim h [
+    | inl to ↦ recovering_target mid.array then.superblock.dev_number then.state (ap is_recovering its_state ∙ ap (λ (z : MemberView). is_recovering z.state) (same_Some member to.member (sym at ∙ to.at)) ∙ to.recovering)
+    | inr same ↦
+        subst (λ (v : MirrorView). IsTarget v.array then) (sym same.0)
+        (subst (IsTarget old.array) (same_Some member then (sym at ∙ ap (λ (v : MirrorView). slice_get v.array.members target) (sym same.0) ∙ there)) may.resynced_target.has_target.target)
+  ]
+
+  -- it may begin still
+  pub may_lowered : MayBeginRebuild mid.array then
+  may_lowered = record {
+    resynced_target = record {
+      has_target = record { running = ap (λ (a : ArrayView). a.halted) others ∙ may.idle.running; target = is_target };
+      resynced = ap (λ (a : ArrayView). a.resynced) others ∙ may.resynced_target.resynced;
+    };
+    idle = record { running = ap (λ (a : ArrayView). a.halted) others ∙ may.idle.running; none = ap first_number others ∙ may.idle.none };
+    can_rise = subst (λ (s : MemberState). mid.array.shared.events + rises s < 2 ^ 64) (sym its_state)
+        (subst (λ (e : ℕ). e + rises member.state < 2 ^ 64) (sym (ap (λ (a : ArrayView). a.shared.events) others)) may.can_rise);
+  }
+    where
+      others : mid.array ≡ record old.array { members = mid.array.members }
+      others = lowered_others target none old mid sound h
+
+module _ (target : ℕ) (old ready : MirrorView) (none : Bitmap) (b : BeginsRebuild target old ready none) where
+  pub may_then : MayBeginRebuild b.lowered.array b.then
+  may_then = may_lowered target none old b.lowered b.sound b.lowers b.member b.at b.may b.then b.at_then
+
+  pub sound_then : IsConsistent b.lowered
+  sound_then = lowered_sound target none old b.lowered b.sound b.lowers
+
+  -- the target is in the state in which it was
+  pub then_but : IsBut b.member b.then
+  then_but = lowered_but target none old b.lowered b.sound b.lowers target b.member b.then b.at b.at_then
+
+  pub ready_of : IsReadyToCopy target ready
+  ready_of = is_ready target b.lowered ready b.then b.at_then may_then b.first

@@ -6,7 +6,7 @@ use Rattle.std.proofs.lemmas.Option.{none-some}
 use Rattle.md_assembly.specs.States.{is_in_sync, is_recovering}
 use Rattle.md_bitmap.specs.Marks.{Bitmap, is_set}
 use Rattle.md_cert.specs.declared.slots.Slot.{Slot}
-use Rattle.md_kept_members.specs.Members.{made_due}
+use Rattle.md_kept_members.specs.Members.{made_due, recorded_member}
 use Rattle.md_kept_members.specs.View.{MemberView}
 use Rattle.md_model.specs.Events.{Event, MemberPart}
 use Rattle.md_model.specs.Sectors.{block_of}
@@ -153,7 +153,7 @@ module _ (k : ℕ) (mid next : MirrorView) (before between : Requests) where
   stays_event : (e : Event) → IsOnMembers e → IsCalm k e → Did mid before e next between → StaysBut k mid.array next.array
   stays_event (Event.Record j) of calm did =
       let r = did.1 in
-      set_stays k j mid.array next.array r.member (record r.member { due = false }) r.may.at (ap (λ (a : ArrayView). a.members) r.array) (ap (λ (a : ArrayView). a.marks) r.array) refl (λ c same. same)
+      set_stays k j mid.array next.array r.member (recorded_member r.member) r.may.at (ap (λ (a : ArrayView). a.members) r.array) (ap (λ (a : ArrayView). a.marks) r.array) refl (λ c same. same)
   stays_event (Event.StoreMarks j b) of calm did =
       let r = did.1 in
       set_stays k j mid.array next.array r.member (record r.member { stored = r.stored }) r.may.in_sync.member (ap (λ (a : ArrayView). a.members) r.array) (ap (λ (a : ArrayView). a.marks) r.array) refl

@@ -17,6 +17,7 @@ use Rattle.md_state.specs.View.{Disk, MirrorView}
 use Rattle.md_array.specs.Steps.Enrol.{HoldsContent, KeepsData}
 use Rattle.md_array.specs.Steps.Lend.{IsBesideChunk}
 use Rattle.md_array.specs.Worlds.{AreHonest}
+use Rattle.md_copy.proofs.Failing.{HasGrown, grown_then}
 use Rattle.md_copy.specs.Rebuilt.{IsBesideCopied, IsRebuilt, IsServedThen}
 
 -- a member is in sync as it was, with the same list and flags, and its data stand where they stood
@@ -38,6 +39,7 @@ pub record StartsAs (target : ℕ) (old v : MirrorView) : Type 0 where
   pub kept : (j : ℕ) (d e : Disk) (l : MemberView) → slice_get old.disks j ≡ Some d → slice_get v.disks j ≡ Some e → IsMember old.array j l → KeepsData l d e
   pub honest : (j : ℕ) (d e : Disk) → slice_get old.disks j ≡ Some d → slice_get v.disks j ≡ Some e → e.honest ≡ d.honest
   pub counted : (j : ℕ) (d e : Disk) → slice_get old.disks j ≡ Some d → slice_get v.disks j ≡ Some e → d.failures ≤ e.failures
+  pub grown : (j : ℕ) (d e : Disk) → slice_get old.disks j ≡ Some d → slice_get v.disks j ≡ Some e → HasGrown d e
   pub missing : (l n : MemberView) → IsMember old.array target l → IsMember v.array target n → (c : ℕ) → c < old.array.marks.chunks → is_missing v.array n c ≡ is_missing old.array l c
   pub content : AreHonest old.disks → (content : Content) → HoldsContent old.disks old.array content → HoldsContent v.disks v.array content
 
@@ -68,6 +70,7 @@ starts_on target old mid v x y = record {
       let first = x.counted j d e.0 at_d e.1 in
       let second = y.counted j e.0 f e.1 at_f in
       omega (arith, first, second));
+  grown = λ j d f at_d at_f. (let e = x.disk_then j d at_d in grown_then d e.0 f (x.grown j d e.0 at_d e.1) (y.grown j e.0 f e.1 at_f));
   missing = λ l n at_l at_n c low.
       (let m = x.then target l at_l in
       y.missing m.0 n m.1 at_n c (subst (λ (b : Bitmap). c < b.chunks) (sym x.marks) low) ∙ x.missing l m.0 at_l m.1 c low);

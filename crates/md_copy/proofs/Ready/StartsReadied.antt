@@ -31,8 +31,10 @@ use Rattle.md_rebuild_table.specs.Beginning.{MayBeginRebuild}
 use Rattle.md_copy.specs.Readying.{AdmitsFirst, Readies}
 use Rattle.md_copy.specs.Rebuilding.{BeginsRebuild}
 use Rattle.md_copy.specs.Storing.{StoresFirst}
+use Rattle.md_copy.proofs.Failing.{HasGrown, grown_same}
 use Rattle.md_copy.proofs.Held.HeldAlong.{between_of, content_stored, has_of, then_holds}
-use Rattle.md_copy.proofs.Ready.Readied.{after_so, spare_twice, stored_so}
+use Rattle.md_copy.proofs.Ready.Lowered.{starts_lowered}
+use Rattle.md_copy.proofs.Ready.Readied.{after_so, may_then, sound_then, spare_twice, stored_so}
 use Rattle.md_copy.proofs.Ready.StartedAs.{IsAs, StartsAs, starts_on}
 use Rattle.md_copy.proofs.Stored.StoringKeeps.{KeepsAll, beside_super_of, device_before, device_then, member_then, places_of, storing_keeps}
 
@@ -77,6 +79,7 @@ module _ (target : ℕ) (old v : MirrorView) (sound : IsConsistent old) (resynce
     kept = keeps.area (places_of v first.stores.goes.sound);
     honest = keeps.honest;
     counted = keeps.counted;
+    grown = keeps.grown;
     missing = λ l n at_l at_n c low. missing_stays l n at_l at_n c;
     content = content_stored old v sound resynced first;
   }
@@ -188,6 +191,12 @@ module _ (target : ℕ) (v x : MirrorView) (sound : IsConsistent v) (resynced : 
     | inr other ↦ subst (λ (z : Disk). d.failures ≤ z.failures) (sym (same_disk j d e other at_d at_e)) (omega arith)
   ]
 
+  grown_up : (j : ℕ) (d e : Disk) → slice_get v.disks j ≡ Some d → slice_get x.disks j ≡ Some e → HasGrown d e
+  grown_up j d e at_d at_e = elim (cases_eq j target) [
+    | inl here ↦ (r.disks.tried.stays d e (ap (slice_get v.disks) (sym here) ∙ at_d) (ap (slice_get x.disks) (sym here) ∙ at_e)).grown
+    | inr other ↦ grown_same d e (same_disk j d e other at_d at_e)
+  ]
+
   -- it lacked every chunk, and does
   missing_both : (l y : MemberView) → IsMember v.array target l → IsMember x.array target y → (c : ℕ) → c < v.array.marks.chunks → is_missing x.array y c ≡ is_missing v.array l c
   missing_both l y at_l at_y c low =
@@ -227,6 +236,7 @@ module _ (target : ℕ) (v x : MirrorView) (sound : IsConsistent v) (resynced : 
     kept = data_kept;
     honest = honest_same;
     counted = counted_up;
+    grown = grown_up;
     missing = missing_both;
     content = content_kept;
   }
@@ -249,4 +259,6 @@ module _ (target : ℕ) (old v : MirrorView) (sound : IsConsistent old) (member 
   starts_ready (inr h) = starts_after h.0 h.1
 
 pub starts_of : (target : ℕ) (old v : MirrorView) (none : Bitmap) → BeginsRebuild target old v none → StartsAs target old v
-starts_of target old v none b = starts_ready target old v b.sound b.member b.may b.first
+starts_of target old v none b =
+    starts_on target old b.lowered v (starts_lowered target none old b.lowered b.sound b.lowers)
+    (starts_ready target b.lowered v (sound_then target old v none b) b.then (may_then target old v none b) b.first)

@@ -8,7 +8,7 @@ use Rattle.md_device.specs.Splice.{SameOutside}
 use Rattle.md_device.proofs.Splices.{part_after, part_before}
 use Rattle.md_kept_members.specs.View.{MemberView}
 use Rattle.md_model.specs.Events.{Event, MemberPart}
-use Rattle.md_device_writes.specs.Writes.{Write}
+use Rattle.md_members.specs.DeviceWrites.Writes.{Write}
 use Rattle.md_state.specs.DiskWrites.{AtDevice, IsTried}
 use Rattle.md_state.specs.Members.{IsMember}
 use Rattle.md_state.specs.Steps.StoreMarks.{IsMarkWrite}
@@ -21,6 +21,8 @@ use Rattle.md_array.proofs.StepLemmas.FailedParts.{halted_then}
 use Rattle.md_metadata.specs.Storing.{IsFailureOf, IsStoring}
 use Rattle.md_rebuild_table.specs.declared.fault.RebuildFault.TheVariants.{MetadataFault}
 use Rattle.md_copy.specs.Refused.{KeepsDataBut}
+use Rattle.md_state.specs.DeviceChanges.{StaysHonest}
+use Rattle.md_state.proofs.Stays.{stays_same}
 use Rattle.md_copy.proofs.Refusals.Refused.{Lasts}
 use Rattle.md_copy.proofs.Stored.StoringKeeps.{beside_super_of, places_of}
 
@@ -84,14 +86,9 @@ lasts_halted target k mid new other h = record {
   marks = h.marks;
   resynced = h.resynced;
   disk_then = λ j d at. (let low = slice_get_within mid.disks j d at in let many = h.tried.as_many in got_within new.disks j (omega (arith, low, many)));
-  counted = λ j d e at_d at_e. elim (cases_eq j k) [
-    | inl here ↦
-        let kept = h.tried.stays d e (sym (ap (slice_get mid.disks) here) ∙ at_d) (sym (ap (slice_get new.disks) here) ∙ at_e) in
-        (kept.counted, kept.honest)
-    | inr apart ↦
-        let same = same_Some e d (sym at_e ∙ h.tried.others j apart ∙ at_d) in
-        let is = ap (λ (z : Disk). z.failures) same in
-        (omega (arith, is), ap (λ (z : Disk). z.honest) same)
+  stays = λ j d e at_d at_e. elim (cases_eq j k) [
+    | inl here ↦ h.tried.stays d e (sym (ap (slice_get mid.disks) here) ∙ at_d) (sym (ap (slice_get new.disks) here) ∙ at_e)
+    | inr apart ↦ subst (StaysHonest d) (sym (same_Some e d (sym at_e ∙ h.tried.others j apart ∙ at_d))) (stays_same d)
   ];
   own = h.tried.others target (λ same. other (sym same));
   keeps = λ j apart runs. elim (cases_eq j k) [

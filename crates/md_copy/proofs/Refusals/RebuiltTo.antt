@@ -11,7 +11,7 @@ use Rattle.md_bitmap.specs.declared.chunks.Chunks.{Chunks}
 use Rattle.md_bitmap.specs.Marks.{Bitmap, is_set}
 use Rattle.md_kept_members.specs.Permitting.{ListsAny}
 use Rattle.md_kept_members.specs.View.{MemberView}
-use Rattle.md_state.specs.Steps.Checkpoint.{IsFirstEnd, EndsCheckpoint}
+use Rattle.md_state.specs.Steps.Checkpoint.{EndsCheckpoint}
 use Rattle.md_state.specs.Members.{IsMember}
 use Rattle.md_state.specs.Missing.{has_passed, is_missing}
 use Rattle.md_state.specs.View.{ArrayView, MirrorView}
@@ -19,25 +19,28 @@ use Rattle.md_array.specs.Steps.Checkpoint.{Checkpoints}
 use Rattle.md_array.specs.Consistency.{IsConsistent}
 use Rattle.md_rebuild_table.specs.Orphans.{IsSubset}
 use Rattle.md_copy.specs.Refused.{IsRebuiltTo, rebuilt_offset}
-use Rattle.md_copy.proofs.Held.HeldRecorded.{lacks_so, target_same}
+use Rattle.md_copy.proofs.Held.HeldRecorded.{first_low, lacks_so, target_same}
 use Rattle.md_copy.proofs.Refusals.Refused.{Preserves}
 
 -- so far is the target of a mirror
 abbrev pub RebuiltTo : ℕ → ArrayView → MemberView → MirrorView → Bitmap → Type 0
-RebuiltTo target a m v copied = (n : MemberView) → IsMember v.array target n → IsRebuiltTo a m copied n.superblock.recovery_offset
+RebuiltTo target a m v copied = (n : MemberView) → IsMember v.array target n → IsRebuiltTo a m copied n.offset n.superblock.recovery_offset
+
+-- a member is rebuilt as far as it was, and so it says
+pub record IsSoFar (m n : MemberView) : Type 0 where
+  pub offset : n.offset ≡ m.offset
+  pub sure : n.superblock.recovery_offset ≡ m.superblock.recovery_offset
+
+pub so_far_same : (m n : MemberView) → n ≡ m → IsSoFar m n
+so_far_same m n is = record { offset = ap (λ (z : MemberView). z.offset) is; sure = ap (λ (z : MemberView). z.superblock.recovery_offset) is }
 
 -- it is what it was
 pub same_to : (target : ℕ) (a : ArrayView) (m : MemberView) (v w : MirrorView) (copied : Bitmap)
-    → ((n : MemberView) → IsMember w.array target n → (l : MemberView) × IsMember v.array target l × (n.superblock.recovery_offset ≡ l.superblock.recovery_offset)) → RebuiltTo target a m v copied
+    → ((n : MemberView) → IsMember w.array target n → (l : MemberView) × IsMember v.array target l × IsSoFar l n) → RebuiltTo target a m v copied
     → RebuiltTo target a m w copied
-same_to target a m v w copied was to n at = (let l = was n at in subst (λ o. IsRebuiltTo a m copied o) (sym l.2) (to l.0 l.1))
-
-first_low : (a : ArrayView) (n : MemberView) (copied : Bitmap) (stop c : ℕ) → IsFirstEnd a n copied stop → c < a.marks.chunks → EndsCheckpoint a n copied c → stop ≤ c * a.chunks.sectors
-first_low a n copied stop c (inl first) low stops = elim (cases_lt c first.0) [
-  | inl before ↦ absurd (first.3 c before stops)
-  | inr from ↦ let up = mul-le first.0 a.chunks.sectors c a.chunks.sectors from (omega arith) in let is = first.4 in omega (arith, up, is)
-]
-first_low a n copied stop c (inr none) low stops = absurd (none.0 c low stops)
+same_to target a m v w copied was to n at =
+    (let l = was n at in
+    subst (λ s. IsRebuiltTo a m copied n.offset s) (sym l.2.sure) (subst (λ o. IsRebuiltTo a m copied o l.0.superblock.recovery_offset) (sym l.2.offset) (to l.0 l.1)))
 
 -- ---- the first chunk that is lacking
 -- a member that is not in sync lacks a chunk without a mark only where its offset has not passed it
@@ -87,13 +90,13 @@ module _ (target : ℕ) (old : MirrorView) (sound : IsConsistent old) (m : Membe
   lies_before c low missing clear = elim (cases_Bool (is_recovering m.state)) [
     | inl recovers ↦
         let passed = unpassed (is_set a.marks.bytes c) (has_passed a m c) (sym (lacks_so a m c recovers) ∙ missing) clear in
-        let is = cond_true (is_recovering m.state) m.superblock.recovery_offset recovers in
-        let both = not_before a.chunks.size a.chunks.sectors m.superblock.recovery_offset c passed in
+        let is = cond_true (is_recovering m.state) m.offset recovers in
+        let both = not_before a.chunks.size a.chunks.sectors m.offset c passed in
         let first = both.0 in
         let second = both.1 in
         (omega (arith, is, first), omega (arith, is, second))
     | inr none ↦
-        let is = cond_false (is_recovering m.state) m.superblock.recovery_offset none in
+        let is = cond_false (is_recovering m.state) m.offset none in
         let both = chunk_starts old sound c low in
         let first = both.0 in
         let second = both.1 in
@@ -130,16 +133,11 @@ module _ (target : ℕ) (old : MirrorView) (sound : IsConsistent old) (m : Membe
     low_before c low = subst (λ (b : Bitmap). c < b.chunks) x.marks low
 
     -- a chunk that stopped it before and stops it now
-    stop_high : (c : ℕ) → c < a.marks.chunks → EndsCheckpoint a m had c → ((is_missing a m c ≡ true) × (is_set copied.bytes c ≡ false)) ⊎ ListsAny a.chunks c m → r.offset ≤ max (rebuilt_offset m) (c * a.chunks.sectors)
-    stop_high c low before now =
-        let was = (to n r.may.at).below c low before in
-        let is = r.next.is in
-        let width = ap (λ (q : Chunks). c * q.sectors) x.chunks in
-        let stop : r.next.stop ≤ max (rebuilt_offset m) (c * a.chunks.sectors) = stop_so now in
-        omega (arith, was, is, stop)
+    stop_low : (c : ℕ) → c < a.marks.chunks → EndsCheckpoint a m had c → ((is_missing a m c ≡ true) × (is_set copied.bytes c ≡ false)) ⊎ ListsAny a.chunks c m → r.sure ≤ c * a.chunks.sectors
+    stop_low c low before now = stop_so now
       where
-        at_crash : EndsCheckpoint v.array n copied c → r.next.stop ≤ max (rebuilt_offset m) (c * a.chunks.sectors)
-        at_crash stops = (let first = first_low v.array n copied r.next.stop c r.next.first (low_there c low) stops in let width = ap (λ (q : Chunks). c * q.sectors) x.chunks in omega (arith, first, width))
+        at_crash : EndsCheckpoint v.array n copied c → r.sure ≤ c * a.chunks.sectors
+        at_crash stops = (let first = first_low v.array n copied r.sure c r.first (low_there c low) stops in let width = ap (λ (q : Chunks). c * q.sectors) x.chunks in omega (arith, first, width))
 
         gone : is_missing a m c ≡ true → is_missing v.array n c ≡ false → ⊥
         gone missing none =
@@ -152,21 +150,28 @@ module _ (target : ℕ) (old : MirrorView) (sound : IsConsistent old) (m : Membe
             let l1 = lies.1 in
             let s0 = starts.0 in
             let s1 = starts.1 in
-            not_passed a.chunks.size a.chunks.sectors n.superblock.recovery_offset c (omega (arith, high, l0, s0)) (omega (arith, high, l1, s1))
-            (subst (λ (q : Chunks). (leb q.size n.superblock.recovery_offset || leb ((c + 1) * q.sectors) n.superblock.recovery_offset) ≡ true) x.chunks so.1)
+            not_passed a.chunks.size a.chunks.sectors n.offset c (omega (arith, high, l0, s0)) (omega (arith, high, l1, s1))
+            (subst (λ (q : Chunks). (leb q.size n.offset || leb ((c + 1) * q.sectors) n.offset) ≡ true) x.chunks so.1)
 
-        stop_so : ((is_missing a m c ≡ true) × (is_set copied.bytes c ≡ false)) ⊎ ListsAny a.chunks c m → r.next.stop ≤ max (rebuilt_offset m) (c * a.chunks.sectors)
+        stop_so : ((is_missing a m c ≡ true) × (is_set copied.bytes c ≡ false)) ⊎ ListsAny a.chunks c m → r.sure ≤ c * a.chunks.sectors
         stop_so (inr lists) = at_crash (inr (lists_there c lists))
         stop_so (inl is) = elim (cases_Bool (is_missing v.array n c)) [ inl still ↦ at_crash (inl (still, is.1)) | inr none ↦ absurd (gone is.0 none) ]
 
-    from_so : rebuilt_offset m ≤ r.offset
-    from_so = (let was = (to n r.may.at).from in let is = r.next.is in omega (arith, was, is))
+    stop_high : (c : ℕ) → c < a.marks.chunks → EndsCheckpoint a m had c → ((is_missing a m c ≡ true) × (is_set copied.bytes c ≡ false)) ⊎ ListsAny a.chunks c m
+        → max n.offset r.sure ≤ max (rebuilt_offset m) (c * a.chunks.sectors)
+    stop_high c low before now =
+        let was = (to n r.may.at).below c low before in
+        let stop = stop_low c low before now in
+        omega (arith, was, stop)
+
+    from_so : rebuilt_offset m ≤ max n.offset r.sure
+    from_so = (let was = (to n r.may.at).from in omega (arith, was))
 
     clear_so : (set other : Bitmap) → IsSubset set other → (c : ℕ) → c < set.chunks → is_set other.bytes c ≡ false → is_set set.bytes c ≡ false
     clear_so set other within c low clear = elim (cases_Bool (is_set set.bytes c)) [ inl is ↦ absurd (both_ways (is_set other.bytes c) clear (within c low is)) | inr none ↦ none ]
 
-    at_offset : (copied_then : Bitmap) → IsRebuiltTo a m copied_then r.offset → RebuiltTo target a m w copied_then
-    at_offset copied_then is y there = subst (λ o. IsRebuiltTo a m copied_then o) (sym (ap (λ (z : MemberView). z.superblock.recovery_offset) (target_same target copied v w sound_v r y there))) is
+    at_offset : (copied_then : Bitmap) → IsRebuiltTo a m copied_then (max n.offset r.sure) r.sure → RebuiltTo target a m w copied_then
+    at_offset copied_then is y there = subst (λ (z : MemberView). IsRebuiltTo a m copied_then z.offset z.superblock.recovery_offset) (sym (target_same target copied v w sound_v r y there)) is
 
     -- of more that was copied
     pub grown_to : had.chunks ≡ a.marks.chunks → IsSubset had copied → RebuiltTo target a m w copied
@@ -174,14 +179,14 @@ module _ (target : ℕ) (old : MirrorView) (sound : IsConsistent old) (m : Membe
         at_offset copied (record {
           from = from_so;
           below = λ c low stops. stop_high c low (before c low stops) stops;
-          upto = elim r.next.first [
+          upto = elim r.first [
             | inl first ↦
-                let is = r.next.is in
                 let here = first.4 in
                 let width = ap (λ (q : Chunks). first.0 * q.sectors) x.chunks in
-                inr (first.0, low_before first.0 first.1, stops_before first.0 (low_before first.0 first.1) first.2, omega (arith, is, here, width))
-            | inr none ↦ let is = r.next.is in let end = none.1 in let size = ap (λ (q : Chunks). q.size) x.chunks in inl (omega (arith, is, end, size))
+                inr (first.0, low_before first.0 first.1, stops_before first.0 (low_before first.0 first.1) first.2, omega (arith, here, width))
+            | inr none ↦ let end = none.1 in let size = ap (λ (q : Chunks). q.size) x.chunks in inl (omega (arith, end, size))
           ];
+          surely = λ c low stops. stop_low c low (before c low stops) stops;
         })
       where
         before : (c : ℕ) → c < a.marks.chunks → EndsCheckpoint a m copied c → EndsCheckpoint a m had c
@@ -198,7 +203,8 @@ module _ (target : ℕ) (old : MirrorView) (sound : IsConsistent old) (m : Membe
         at_offset had (record {
           from = from_so;
           below = λ c low stops. stop_high c low stops (now c low stops);
-          upto = (let is = r.next.is in elim (to n r.may.at).upto [ inl end ↦ inl (omega (arith, is, end)) | inr stop ↦ let far = stop.3 in inr (stop.0, stop.1, stop.2, omega (arith, is, far)) ]);
+          upto = elim (to n r.may.at).upto [ inl end ↦ inl (omega (arith, end)) | inr stop ↦ let high = stop.3 in inr (stop.0, stop.1, stop.2, omega (arith, high)) ];
+          surely = λ c low stops. stop_low c low stops (now c low stops);
         })
       where
         now : (c : ℕ) → c < a.marks.chunks → EndsCheckpoint a m had c → ((is_missing a m c ≡ true) × (is_set copied.bytes c ≡ false)) ⊎ ListsAny a.chunks c m
@@ -213,14 +219,16 @@ module _ (target : ℕ) (old : MirrorView) (sound : IsConsistent old) (m : Membe
   abbrev c : ℕ
   c = rebuilt_offset m / a.chunks.sectors
 
-  pub begins_to : (none : Bitmap) → ((c : ℕ) → is_set none.bytes c ≡ false) → ((c : ℕ) → is_recovering m.state ≡ false → is_missing a m c ≡ true) → IsRebuiltTo a m none (rebuilt_offset m)
-  begins_to none clear lacks = record {
+  pub begins_to : (none : Bitmap) → ((c : ℕ) → is_set none.bytes c ≡ false) → ((c : ℕ) → is_recovering m.state ≡ false → is_missing a m c ≡ true)
+      → (sure : ℕ) → ((c : ℕ) → c < a.marks.chunks → EndsCheckpoint a m none c → sure ≤ c * a.chunks.sectors) → IsRebuiltTo a m none (rebuilt_offset m) sure
+  begins_to none clear lacks sure surely = record {
     from = omega arith;
     below = λ i low stops. omega arith;
     upto = elim (cases_lt (rebuilt_offset m) a.chunks.size) [
       | inr end ↦ inl end
       | inl within ↦ inr (c, c_low within, inl (missing within, clear c), starts)
     ];
+    surely = surely;
   }
     where
       c_low : rebuilt_offset m < a.chunks.size → c < a.marks.chunks
@@ -240,9 +248,9 @@ module _ (target : ℕ) (old : MirrorView) (sound : IsConsistent old) (m : Membe
       missing : rebuilt_offset m < a.chunks.size → is_missing a m c ≡ true
       missing within = elim (cases_Bool (is_recovering m.state)) [
         | inl recovers ↦
-            let is = cond_true (is_recovering m.state) m.superblock.recovery_offset recovers in
+            let is = cond_true (is_recovering m.state) m.offset recovers in
             let next = ends in
-            let passed : has_passed a m c ≡ false = still_ahead a.chunks.size a.chunks.sectors m.superblock.recovery_offset c (omega (arith, within, is)) (omega (arith, next, is)) in
+            let passed : has_passed a m c ≡ false = still_ahead a.chunks.size a.chunks.sectors m.offset c (omega (arith, within, is)) (omega (arith, next, is)) in
             lacks_so a m c recovers ∙ ap (λ b. is_set a.marks.bytes c || not b) passed ∙ or_right (is_set a.marks.bytes c) true refl
         | inr none ↦ lacks c none
       ]

@@ -13,8 +13,10 @@ use Rattle.md_cert.specs.declared.slots.Slot.{Slot}
 use Rattle.md_collect.specs.Reading.{CountsFailure}
 use Rattle.md_device.specs.Splice.{SameOutside, part}
 use Rattle.md_kept_members.specs.View.{MemberView}
-use Rattle.md_passes.specs.Listed.{IsOfFailed}
+use Rattle.md_copy.specs.PassLaws.Listed.{IsOfFailed}
+use Rattle.md_state.specs.DeviceChanges.{StaysHonest}
 use Rattle.md_state.specs.DiskWrites.{AtDevice, IsTried}
+use Rattle.md_state.proofs.Stays.{stays_same as stays_itself}
 use Rattle.md_state.specs.Members.{IsMember}
 use Rattle.md_state.specs.Missing.{is_missing}
 use Rattle.md_state.specs.View.{ArrayView, Disk, MirrorView, of_disks}
@@ -25,19 +27,20 @@ use Rattle.md_array.specs.Steps.Lend.{IsBesideChunk}
 use Rattle.md_array.specs.Steps.Record.{super_write}
 use Rattle.md_rebuild_table.specs.declared.fault.RebuildFault.{RebuildFault}
 use Rattle.md_rebuild_table.specs.declared.fault.RebuildFault.TheVariants.{MetadataFault}
-use Rattle.md_copy.specs.Filling.{CountsFailed}
+use Rattle.md_copy.specs.Filling.{CountsFailed, HaveFailedThere}
 use Rattle.md_copy.specs.Rebuilt.{KeepStates, ListsGrow, OthersKeepData, failed_of}
 use Rattle.md_copy.specs.Refused.{Ending, EndsSo, HasEnded, HasMade, IsBesideLacking, StatesStay}
+use Rattle.md_copy.proofs.Failing.{HasGrown, grown_same, grown_then, there_still}
 use Rattle.md_copy.proofs.Ready.StartedAs.{StartsAs}
 use Rattle.md_copy.proofs.Stored.StoringKeeps.{HavePlaces, KeepsAll, beside_super_of, device_before, device_then, member_then, places_of}
 
 -- ---- the target
 pub record StaysTarget (m n : MemberView) : Type 0 where
   pub state : (n.state ≡ m.state) ⊎ ((is_spare m.state ≡ true) × (is_recovering n.state ≡ true))
-  pub offset : is_recovering m.state ≡ true → m.superblock.recovery_offset ≤ n.superblock.recovery_offset
+  pub offset : is_recovering m.state ≡ true → m.offset ≤ n.offset
   pub list : n.bad ≡ m.bad
 
-target_on : (l m n : MemberView) → StaysTarget l m → StaysTarget m n → StaysTarget l n
+pub target_on : (l m n : MemberView) → StaysTarget l m → StaysTarget m n → StaysTarget l n
 target_on l m n x y = record {
   state = elim y.state [
     | inl same ↦ elim x.state [ inl was ↦ inl (same ∙ was) | inr admitted ↦ inr (admitted.0, ap is_recovering same ∙ admitted.1) ]
@@ -51,7 +54,7 @@ target_on l m n x y = record {
     still recovers = elim x.state [ inl same ↦ ap is_recovering same ∙ recovers | inr admitted ↦ admitted.1 ]
 
 -- of which the superblock and the list are what they were, as is the state
-pub target_same : (m n : MemberView) → n.state ≡ m.state → n.superblock.recovery_offset ≡ m.superblock.recovery_offset → n.bad ≡ m.bad → StaysTarget m n
+pub target_same : (m n : MemberView) → n.state ≡ m.state → n.offset ≡ m.offset → n.bad ≡ m.bad → StaysTarget m n
 target_same m n state offset list = record { state = inl state; offset = λ recovers. omega (arith, offset); list = list }
 
 -- ---- while data may be copied
@@ -79,7 +82,7 @@ preserves_none target v = record {
   size = λ k m n at there. ap (λ (z : MemberView). z.superblock.data_size) (same_Some n m (sym there ∙ at));
   own = λ m n at there.
       (let same = same_Some n m (sym there ∙ at) in
-      target_same m n (ap (λ (z : MemberView). z.state) same) (ap (λ (z : MemberView). z.superblock.recovery_offset) same) (ap (λ (z : MemberView). z.bad) same));
+      target_same m n (ap (λ (z : MemberView). z.state) same) (ap (λ (z : MemberView). z.offset) same) (ap (λ (z : MemberView). z.bad) same));
   missing = λ m n at there c low is. sym (ap (λ (z : MemberView). is_missing v.array z c) (same_Some n m (sym there ∙ at))) ∙ is;
   others = λ j d e m other at_d at_e at_m i n from to. ap (λ (z : Disk). part z.content i n) (same_Some e d (sym at_e ∙ at_d));
   beside = λ d e m at_d at_e at_m i n h. ap (λ (z : Disk). part z.content i n) (same_Some e d (sym at_e ∙ at_d));
@@ -174,6 +177,7 @@ pub record KeepsRest (target : ℕ) (old new : MirrorView) : Type 0 where
   pub own : (m n : MemberView) → IsMember old.array target m → IsMember new.array target n → StaysTarget m n
   pub bad : (k : ℕ) (m n : MemberView) → IsMember old.array k m → IsMember new.array k n → n.bad ≡ m.bad
   pub counted : (k : ℕ) (d e : Disk) → slice_get old.disks k ≡ Some d → slice_get new.disks k ≡ Some e → d.failures ≤ e.failures
+  pub grown : (k : ℕ) (d e : Disk) → slice_get old.disks k ≡ Some d → slice_get new.disks k ≡ Some e → HasGrown d e
   pub honest : (k : ℕ) (d e : Disk) → slice_get old.disks k ≡ Some d → slice_get new.disks k ≡ Some e → e.honest ≡ d.honest
   pub states : (k : ℕ) (m n : MemberView) → k ≢ target → IsMember old.array k m → IsMember new.array k n → IsSameOrLost k old new m n
   pub keeps : (k : ℕ) (d e : Disk) (m : MemberView) → slice_get old.disks k ≡ Some d → slice_get new.disks k ≡ Some e → IsMember old.array k m → KeepsData m d e
@@ -189,6 +193,7 @@ rest_none target v =
       own = none.own;
       bad = λ k m n at there. ap (λ (z : MemberView). z.bad) (same_Some n m (sym there ∙ at));
       counted = λ k d e at_d at_e. (let same = ap (λ (z : Disk). z.failures) (same_Some e d (sym at_e ∙ at_d)) in omega (arith, same));
+      grown = λ k d e at_d at_e. grown_same d e (same_Some e d (sym at_e ∙ at_d));
       honest = λ k d e at_d at_e. ap (λ (z : Disk). z.honest) (same_Some e d (sym at_e ∙ at_d));
       states = λ k m n other at there. inl (ap (λ (z : MemberView). z.state) (same_Some n m (sym there ∙ at)));
       keeps = λ k d e m at_d at_e at_m i n from to. ap (λ (z : Disk). part z.content i n) (same_Some e d (sym at_e ∙ at_d));
@@ -207,6 +212,7 @@ rest_on target old mid new x y = record {
       let first = x.counted k d e.0 at_d e.1 in
       let second = y.counted k e.0 f e.1 at_f in
       omega (arith, first, second));
+  grown = λ k d f at_d at_f. (let e = x.disk_then k d at_d in grown_then d e.0 f (x.grown k d e.0 at_d e.1) (y.grown k e.0 f e.1 at_f));
   honest = λ k d f at_d at_f. (let e = x.disk_then k d at_d in y.honest k e.0 f e.1 at_f ∙ x.honest k d e.0 at_d e.1);
   states = λ k m o other at there.
       (let n = x.then k m at in
@@ -266,9 +272,10 @@ rest_stored target old new keeps sound state = record {
   offset = λ k m n at there. ap (λ (s : Superblock). s.data_offset) (keeps.each k m n at there).superblock;
   size = λ k m n at there. ap (λ (s : Superblock). s.data_size) (keeps.each k m n at there).superblock;
   own = λ m n at there.
-      (let same = keeps.each target m n at there in target_same m n (state m n at there) (ap (λ (s : Superblock). s.recovery_offset) same.superblock) same.bad);
+      (let same = keeps.each target m n at there in target_same m n (state m n at there) same.offset same.bad);
   bad = λ k m n at there. (keeps.each k m n at there).bad;
   counted = keeps.counted;
+  grown = keeps.grown;
   honest = keeps.honest;
   states = λ k m n other at there.
       (let low = slice_get_within new.array.members k n there in
@@ -294,9 +301,9 @@ rest_stored target old new keeps sound state = record {
 
 -- One device was used, beside its member's data. In memory all is as it was.
 pub rest_alone : (target k : ℕ) (old new : MirrorView) → new.array.members ≡ old.array.members → length new.disks ≡ length old.disks → ((j : ℕ) → j ≢ k → slice_get new.disks j ≡ slice_get old.disks j)
-    → ((d e : Disk) → slice_get old.disks k ≡ Some d → slice_get new.disks k ≡ Some e → (d.failures ≤ e.failures) × (e.honest ≡ d.honest))
+    → AtDevice k old.disks new.disks StaysHonest
     → ((d e : Disk) (m : MemberView) → slice_get old.disks k ≡ Some d → slice_get new.disks k ≡ Some e → IsMember old.array k m → KeepsData m d e) → KeepsRest target old new
-rest_alone target k old new same as_many others counted keeps =
+rest_alone target k old new same as_many others stays keeps =
     let none = preserves_none target old in
     record {
       then = λ j m at. (m, ap (λ (xs : List MemberView). slice_get xs j) same ∙ at);
@@ -306,11 +313,15 @@ rest_alone target k old new same as_many others counted keeps =
       own = λ m n at there. none.own m n at (before target n there);
       bad = λ j m n at there. ap (λ (z : MemberView). z.bad) (same_Some n m (sym (before j n there) ∙ at));
       counted = λ j d e at_d at_e. elim (cases_eq j k) [
-        | inl here ↦ (counted d e (sym (ap (slice_get old.disks) here) ∙ at_d) (sym (ap (slice_get new.disks) here) ∙ at_e)).0
+        | inl here ↦ (stays d e (sym (ap (slice_get old.disks) here) ∙ at_d) (sym (ap (slice_get new.disks) here) ∙ at_e)).counted
         | inr other ↦ (let is = ap (λ (z : Disk). z.failures) (same_Some e d (sym at_e ∙ others j other ∙ at_d)) in omega (arith, is))
       ];
+      grown = λ j d e at_d at_e. elim (cases_eq j k) [
+        | inl here ↦ (stays d e (sym (ap (slice_get old.disks) here) ∙ at_d) (sym (ap (slice_get new.disks) here) ∙ at_e)).grown
+        | inr other ↦ grown_same d e (same_Some e d (sym at_e ∙ others j other ∙ at_d))
+      ];
       honest = λ j d e at_d at_e. elim (cases_eq j k) [
-        | inl here ↦ (counted d e (sym (ap (slice_get old.disks) here) ∙ at_d) (sym (ap (slice_get new.disks) here) ∙ at_e)).1
+        | inl here ↦ (stays d e (sym (ap (slice_get old.disks) here) ∙ at_d) (sym (ap (slice_get new.disks) here) ∙ at_e)).honest
         | inr other ↦ ap (λ (z : Disk). z.honest) (same_Some e d (sym at_e ∙ others j other ∙ at_d))
       ];
       states = λ j m n other at there. inl (ap (λ (z : MemberView). z.state) (same_Some n m (sym (before j n there) ∙ at)));
@@ -327,15 +338,17 @@ rest_alone target k old new same as_many others counted keeps =
 pub rest_super : (target k : ℕ) (b : ArrayView) (own : MemberView) (old new : MirrorView) → HavePlaces old → IsTried k (super_write b own) old.disks new.disks → new.array.members ≡ old.array.members → length (super_write b own).bytes ≡ 4096
     → KeepsRest target old new
 rest_super target k b own old new places tried same long =
-    rest_alone target k old new same tried.as_many tried.others (λ d e at_d at_e. ((tried.stays d e at_d at_e).counted, (tried.stays d e at_d at_e).honest))
+    rest_alone target k old new same tried.as_many tried.others tried.stays
     (λ d e m at_d at_e at_m. beside_super_of m d e (places.each k m d at_m at_d) (subst (λ n. SameOutside (512 * 8) n d.content e.content) long (tried.outside d e at_d at_e)))
 
 -- ---- the lists, what the devices counted, and the states
 pub record GrowsSo (target : ℕ) (listed failed : List Slot) (old new : MirrorView) : Type 0 where
   pub lists : ListsGrow target listed old.array new.array
   pub counted : CountsFailed failed old new
+  pub there : HaveFailedThere failed old new
   pub states : (k : ℕ) (m n : MemberView) → k ≢ target → IsMember old.array k m → IsMember new.array k n → n.state ≡ m.state
   pub rises : (k : ℕ) (d e : Disk) → slice_get old.disks k ≡ Some d → slice_get new.disks k ≡ Some e → d.failures ≤ e.failures
+  pub grown : (k : ℕ) (d e : Disk) → slice_get old.disks k ≡ Some d → slice_get new.disks k ≡ Some e → HasGrown d e
   pub honest : (k : ℕ) (d e : Disk) → slice_get old.disks k ≡ Some d → slice_get new.disks k ≡ Some e → e.honest ≡ d.honest
 
 -- and then no list grows, as devices count no fewer failures
@@ -353,20 +366,27 @@ module _ (target : ℕ) (listed failed : List Slot) (old mid new : MirrorView) (
       let second = counted k e.0 f e.1 at_f in
       omega (arith, first, second)
 
+  there_rest : ((k : ℕ) (d e : Disk) → slice_get mid.disks k ≡ Some d → slice_get new.disks k ≡ Some e → HasGrown d e) → HaveFailedThere failed old new
+  there_rest grown slot has k m at in_role d f at_d at_f =
+      let e = disk_then k d at_d in
+      there_still d e.0 f m.superblock.data_offset old.array.chunks slot.chunk (g.there slot has k m at in_role d e.0 at_d e.1) (grown k e.0 f e.1 at_f)
+
   -- and no state changes
   pub grows_rest : ((k : ℕ) (m n : MemberView) → IsMember mid.array k m → IsMember new.array k n → n.bad ≡ m.bad)
       → ((k : ℕ) (m n : MemberView) → IsMember mid.array k m → IsMember new.array k n → n.state ≡ m.state)
-      → ((k : ℕ) (d e : Disk) → slice_get mid.disks k ≡ Some d → slice_get new.disks k ≡ Some e → (d.failures ≤ e.failures) × (e.honest ≡ d.honest)) → GrowsSo target listed failed old new
-  grows_rest bad states counted = record {
+      → ((k : ℕ) (d e : Disk) → slice_get mid.disks k ≡ Some d → slice_get new.disks k ≡ Some e → StaysHonest d e) → GrowsSo target listed failed old new
+  grows_rest bad states stays = record {
     lists = lists_rest bad;
-    counted = counted_rest (λ k d e at_d at_e. (counted k d e at_d at_e).0);
+    counted = counted_rest (λ k d e at_d at_e. (stays k d e at_d at_e).counted);
+    there = there_rest (λ k d e at_d at_e. (stays k d e at_d at_e).grown);
     states = λ k m o other at there. (let n = then k m at in states k n.0 o n.1 there ∙ g.states k m n.0 other at n.1);
     rises = λ k d f at_d at_f.
         (let e = disk_then k d at_d in
         let first = g.rises k d e.0 at_d e.1 in
-        let second = (counted k e.0 f e.1 at_f).0 in
+        let second = (stays k e.0 f e.1 at_f).counted in
         omega (arith, first, second));
-    honest = λ k d f at_d at_f. (let e = disk_then k d at_d in (counted k e.0 f e.1 at_f).1 ∙ g.honest k d e.0 at_d e.1);
+    grown = λ k d f at_d at_f. (let e = disk_then k d at_d in grown_then d e.0 f (g.grown k d e.0 at_d e.1) (stays k e.0 f e.1 at_f).grown);
+    honest = λ k d f at_d at_f. (let e = disk_then k d at_d in (stays k e.0 f e.1 at_f).honest ∙ g.honest k d e.0 at_d e.1);
   }
 
   -- or only where a write failed
@@ -396,7 +416,7 @@ pub record Lasts (target : ℕ) (fault : RebuildFault) (last new : MirrorView) :
   pub marks : new.array.marks ≡ last.array.marks
   pub resynced : new.array.resynced ≡ last.array.resynced
   pub disk_then : (k : ℕ) (d : Disk) → slice_get last.disks k ≡ Some d → (e : Disk) × (slice_get new.disks k ≡ Some e)
-  pub counted : (k : ℕ) (d e : Disk) → slice_get last.disks k ≡ Some d → slice_get new.disks k ≡ Some e → (d.failures ≤ e.failures) × (e.honest ≡ d.honest)
+  pub stays : (k : ℕ) → AtDevice k last.disks new.disks StaysHonest
   pub own : slice_get new.disks target ≡ slice_get last.disks target
   pub keeps : (k : ℕ) → k ≢ target → (fault ≡ MetadataFault k → new.array.halted ≡ false) → slice_get new.disks k ≡ slice_get last.disks k
 
@@ -406,7 +426,7 @@ lasts_none target fault v = record {
   marks = refl;
   resynced = refl;
   disk_then = λ k d at. (d, at);
-  counted = λ k d e at_d at_e. (let same = same_Some e d (sym at_e ∙ at_d) in (let is = ap (λ (z : Disk). z.failures) same in omega (arith, is), ap (λ (z : Disk). z.honest) same));
+  stays = λ k d e at_d at_e. subst (StaysHonest d) (sym (same_Some e d (sym at_e ∙ at_d))) (stays_itself d);
   own = refl;
   keeps = λ k other runs. refl;
 }
@@ -471,8 +491,13 @@ module _ (target : ℕ) (fault : RebuildFault) (s : Ending) (old mid last new : 
         counted = λ k role m at_m in_role d f at_d at_f honest.
             (let e = disk_last k d at_d in
             let first = counted_rest target (failed_of s.listed ++ s.noted) (failed_of (s.listed ++ s.last)) old mid last x.then x.disk_then grows y.counted k role m at_m in_role d e.0 at_d e.1 honest in
-            let second = (z.counted k e.0 f e.1 at_f).0 in
+            let second = (z.stays k e.0 f e.1 at_f).counted in
             omega (arith, first, second));
+        failed_there = λ slot has k m at_m in_role d f at_d at_f.
+            (let e = disk_last k d at_d in
+            there_still d e.0 f m.superblock.data_offset old.array.chunks slot.chunk
+            (there_rest target (failed_of s.listed ++ s.noted) (failed_of (s.listed ++ s.last)) old mid last x.then x.disk_then grows y.grown slot has k m at_m in_role d e.0 at_d e.1)
+            (z.stays k e.0 f e.1 at_f).grown);
         states = λ k m n other at_m at_n. elim (states_last k m n other at_m (was_last k n at_n)) [
           | inl as_was ↦ inl as_was
           | inr lost ↦
@@ -480,7 +505,7 @@ module _ (target : ℕ) (fault : RebuildFault) (s : Ending) (old mid last new : 
                 lost.0,
                 λ d f at_d at_f honest.
                     (let e = disk_last k d at_d in
-                    let second = (z.counted k e.0 f e.1 at_f).0 in
+                    let second = (z.stays k e.0 f e.1 at_f).counted in
                     let less = lost.1 d e.0 at_d e.1 honest in
                     let once = less.0 in
                     (omega (arith, once, second), λ role in_role. (let more = less.1 role in_role in omega (arith, more, second)))),

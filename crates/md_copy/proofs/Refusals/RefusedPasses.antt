@@ -19,21 +19,24 @@ use Rattle.md_cert.specs.declared.slots.Slot.{Slot}
 use Rattle.md_collect.specs.Reading.{CountsFailure}
 use Rattle.md_device.specs.Splice.{part}
 use Rattle.md_kept_members.specs.Enrolling.{HasRoomFor, IsListAfter, IsListWith}
-use Rattle.md_kept_members.specs.TakingBack.{admitted_member, with_recovery_offset}
+use Rattle.md_kept_members.specs.TakingBack.{admitted_member}
+use Rattle.md_kept_members.specs.Members.{recorded_member}
 use Rattle.md_kept_members.specs.View.{MemberView}
 use Rattle.md_model.specs.Rebuilding.{lacks}
 use Rattle.md_pass.specs.Beside.{has_chunk}
 use Rattle.md_pass.specs.Copied.{AreJoined}
-use Rattle.md_passes.proofs.ArrayPasses.{copies_add, passes_go_on}
-use Rattle.md_passes.proofs.Listing.{lists_add}
-use Rattle.md_passes.specs.Listed.{AreCopiedBy, IsArrayPass, ListsFailed, MayServe, ServesAs, most_failures}
-use Rattle.md_passes.specs.Passes.{PassCopies, PassView, ServesAtMost, failed_chunks, slots_of_pass}
+use Rattle.md_copy.proofs.PassLemmas.ArrayPasses.{copies_add, passes_go_on}
+use Rattle.md_copy.proofs.PassLemmas.Listing.{lists_add}
+use Rattle.md_copy.specs.PassLaws.Listed.{AreCopiedBy, IsArrayPass, ListsFailed, MayServe, ServesAs, most_failures}
+use Rattle.md_copy.specs.PassLaws.Passes.{PassCopies, PassView, ServesAtMost, failed_chunks, slots_of_pass}
 use Rattle.md_state.specs.DiskWrites.{AtDevice}
+use Rattle.md_state.specs.Steps.Checkpoint.{checked}
 use Rattle.md_state.specs.Steps.Enrol.{HasFullLog}
 use Rattle.md_state.specs.Members.{IsInSync, IsMember}
 use Rattle.md_state.specs.Missing.{has_passed, is_missing}
 use Rattle.md_state.specs.View.{ArrayView, Disk, MirrorView, of_disks}
 use Rattle.md_metadata.specs.Storing.{IsStoring, Stores}
+use Rattle.md_rebuild_table.specs.Beginning.{MayBeginRebuild}
 use Rattle.md_rebuild_table.specs.declared.fault.RebuildFault.{RebuildFault}
 use Rattle.md_rebuild_table.specs.declared.fault.RebuildFault.TheVariants.{Halted, NotSpare, Dirty, InFlight, LogFull, NoMemory, TargetFault, MetadataFault, EventsFull}
 use Rattle.md_rebuild_table.specs.Orphans.{IsSubset, is_in}
@@ -43,9 +46,12 @@ use Rattle.md_copy.specs.Leaving.{HasNone, RecordsAtEnd}
 use Rattle.md_copy.specs.Listing.{HasFailedSlot, ListsAll, NotesLists, EndsAtList}
 use Rattle.md_copy.specs.Passing.{AreListedPasses, BreaksOffPass, CopiesAll, EndsBetween, FailsListing, RecordsPass}
 use Rattle.md_copy.specs.Enrolled.{LacksOwnRoom}
-use Rattle.md_copy.specs.Rebuilding.{BeginsRebuild, EndsFilled, LacksMemoryToRebuild, LacksRoom, LosesTarget, RefusesAtOnce, RefusesRebuild}
+use Rattle.md_copy.specs.Rebuilding.{BeginsRebuild, EndsFilled, EndsStoring, LacksMemoryToRebuild, LacksRoom, LosesTarget, RefusesAtOnce, RefusesRebuild}
 use Rattle.md_copy.specs.Rebuilt.{failed_of}
 use Rattle.md_copy.specs.Refused.{AreListed, Ending, EndsSo, HasCopiedBy, HasEnded, HasHalted, HasMade, IsAdmitted, IsAsBefore, IsLost, IsRebuiltSoFar, IsListedOrFailed, IsRebuiltTo, KeepsDataBut, LacksOwnRoomFor, LacksRoomFor, ListsStand, ListsStandWithin, NotesSome, rebuilt_offset}
+use Rattle.md_state.specs.DeviceChanges.{StaysHonest}
+use Rattle.md_state.proofs.Stays.{stays_grown}
+use Rattle.md_copy.proofs.Failing.{grown_same, none_there}
 use Rattle.md_copy.proofs.Ready.BegunAs.{permits_both, same_missing, serves_both, serves_most}
 use Rattle.md_copy.proofs.Refusals.Halting.{data_but}
 use Rattle.md_copy.proofs.Held.HeldRecorded.{other_is, out_of_sync}
@@ -55,15 +61,17 @@ use Rattle.md_copy.proofs.Passing.PassRecorded.{recorded_lists, recorded_ready}
 use Rattle.md_copy.proofs.Passing.PassesKeep.{PassesKeep, all_keep, chain_keeps, disk_then, failed_last, keeps_none, keeps_on, pass_keeps}
 use Rattle.md_copy.proofs.Passing.PassesLack.{all_lacks, orphans_same}
 use Rattle.md_copy.proofs.Passing.PassesTold.{HoldsSoFar, all_copied, begins_holding, chain_copied, chain_holds, filled_ready, listed_holds}
-use Rattle.md_copy.proofs.Ready.Readied.{admitted_is, after_so, ready_of, spare_is}
+use Rattle.md_copy.proofs.Ready.Readied.{admitted_is, after_so, may_lowered, ready_of, spare_is, then_but}
 use Rattle.md_copy.proofs.Ready.ReadyStill.{ready_noted}
-use Rattle.md_copy.proofs.Leads.RebuildLeads.{same_beside}
-use Rattle.md_copy.proofs.Refusals.RebuiltTo.{RebuiltTo, begins_to, grown_to, kept_to, same_to}
+use Rattle.md_copy.proofs.Leads.RebuildLeads.{missing_beside}
+use Rattle.md_copy.proofs.Refusals.RebuiltTo.{RebuiltTo, begins_to, grown_to, kept_to, same_to, so_far_same}
 use Rattle.md_copy.proofs.Refusals.Refused.{GrowsSo, KeepsRest, Lasts, Preserves, StaysSo, grows_rest, has_ended, lasts_none, preserves_none, preserves_on, preserves_rest, preserves_same, rest_none, rest_on, stays_same, target_same}
-use Rattle.md_copy.proofs.Refusals.RefusedSteps.{HaltsBy, StaysStill, StopsSo, checkpointed_many, grows_as, grows_from, grows_none, halted_left, halts_list, list_chunks, list_marks, list_missing, list_resynced, own_is, preserves_admitted, preserves_begun, preserves_recorded, rest_left, rest_list, rest_stores, rest_unadmitted, rest_unenrolled, rest_unrecordable, rest_unrecorded, starts_after, states_admitted, states_begun, still_same, still_stored, still_unadmitted, still_unrecorded, stops_so, was_spare}
+use Rattle.md_copy.proofs.Refusals.RefusedSteps.{HaltsBy, StatesSo, StaysStill, StopsSo, checkpointed_many, grows_as, grows_from, grows_none, halted_left, halts_list, list_chunks, list_marks, list_missing, list_resynced, own_is, preserves_admitted, preserves_begun, preserves_lowered, preserves_recorded, rest_left, rest_list, rest_lowered, rest_stores, rest_unadmitted, rest_unenrolled, rest_unrecordable, rest_unrecorded, starts_after, states_admitted, states_begun, states_lowered, still_lowered, still_on, still_same, still_stored, still_unadmitted, still_unrecorded, stops_so, was_spare}
 use Rattle.md_copy.proofs.Refusals.Stands.{Knows, listed_exact, more_failed, stand_filled, stand_left, stand_listing, stand_none, stand_noted, stand_recorded, stand_unenrolled, stand_unrecorded, within_left, within_none}
-use Rattle.md_copy.proofs.Ready.StartedAs.{StartsAs}
+use Rattle.md_copy.proofs.Ready.StartedAs.{StartsAs, starts_on}
 use Rattle.md_copy.proofs.Ready.StartsReadied.{starts_of}
+use Rattle.md_copy.proofs.Ready.Lowered.{lowered_others, lowered_sound, lowered_then, starts_lowered}
+use Rattle.md_copy.proofs.Ready.Unsaid.{sure_begun, unsaid_begun}
 
 -- a member in sync in a role is in sync
 role_in_sync : (s : MemberState) (role : ℕ) → is_in_sync_as role s ≡ true → is_in_sync s ≡ true
@@ -80,16 +88,16 @@ preserves_filled target v copied chunks so p is m at w f =
     preserves_same target v w f.array f.as_many
     (λ j d e l other at_d at_e at_l i n from to. ap (λ xs. part xs i n) (f.others j d e other at_d at_e).content_kept)
     (λ d e l at_d at_e at_l i n h.
-    (same_beside target v copied chunks so p is m at w f d.content e.content (f.on_target d e at_d at_e).same).beside i n
+    missing_beside target v copied chunks so p is m at d.content e.content (f.on_target d e at_d at_e).same i n
     (subst (λ (z : MemberView). IsBesideMissing v.array z i n) (same_Some l m (sym at_l ∙ at)) h.beside))
 
-filled_counted : (target : ℕ) (m : MemberView) (slots : List Slot) (v w : MirrorView) → IsFilling target m slots v w → (k : ℕ) (d e : Disk) → slice_get v.disks k ≡ Some d → slice_get w.disks k ≡ Some e
-    → (d.failures ≤ e.failures) × (e.honest ≡ d.honest)
-filled_counted target m slots v w f k d e at_d at_e = elim (cases_eq k target) [
+filled_stays : (target : ℕ) (m : MemberView) (slots : List Slot) (v w : MirrorView) → IsFilling target m slots v w → (k : ℕ) (d e : Disk) → slice_get v.disks k ≡ Some d → slice_get w.disks k ≡ Some e
+    → StaysHonest d e
+filled_stays target m slots v w f k d e at_d at_e = elim (cases_eq k target) [
   | inl here ↦
       let kept = f.on_target d e (ap (slice_get v.disks) (sym here) ∙ at_d) (ap (slice_get w.disks) (sym here) ∙ at_e) in
-      (kept.counted, kept.honest_kept)
-  | inr other ↦ let kept = f.others k d e other at_d at_e in (kept.counted, kept.honest_kept)
+      stays_grown d e (λ f. f.writes ≡ true) kept.honest_kept kept.counted kept.writes_alone
+  | inr other ↦ let kept = f.others k d e other at_d at_e in stays_grown d e (λ f. f.writes ≡ false) kept.honest_kept kept.counted kept.reads_alone
 ]
 
 module _ (target : ℕ) (chunks : List ℕ) (p : PassView) (before after : Bitmap) (v x : MirrorView) (h : RecordsPass target chunks p before after v x) (so : HoldsSoFar target v before chunks) where
@@ -112,7 +120,7 @@ module _ (target : ℕ) (chunks : List ℕ) (p : PassView) (before after : Bitma
     size = λ k m o at there. ap (λ (y : MemberView). y.superblock.data_size) (n.members k m o at there).same;
     own = λ m o at there.
         (let same = (n.members target m o at there).out (out_of_sync m.state (recovers m at)) in
-        target_same m o (ap (λ (y : MemberView). y.state) same) (ap (λ (y : MemberView). y.superblock.recovery_offset) same) (ap (λ (y : MemberView). y.bad) same));
+        target_same m o (ap (λ (y : MemberView). y.state) same) (ap (λ (y : MemberView). y.offset) same) (ap (λ (y : MemberView). y.bad) same));
     missing = λ m o at there c low is.
         (let same = (n.members target m o at there).out (out_of_sync m.state (recovers m at)) in
         sym (ap (λ (a : ArrayView). is_missing a o c) n.others ∙ ap (λ (y : MemberView). is_missing x.array y c) same) ∙ is);
@@ -131,7 +139,9 @@ module _ (target : ℕ) (chunks : List ℕ) (p : PassView) (before after : Bitma
     beside = λ d e m at_d at_e at_m i l b. ap (λ (y : Disk). part y.content i l) (disk_same target d e at_d at_e);
     kept = λ c set. set;
     counted = λ k d e at_d at_e. (let same = ap (λ (y : Disk). y.failures) (disk_same k d e at_d at_e) in omega (arith, same));
+    grown = λ k d e at_d at_e. grown_same d e (disk_same k d e at_d at_e);
     fails = λ k role m at in_role d e at_d at_e honest. (let same = ap (λ (y : Disk). y.failures) (disk_same k d e at_d at_e) in omega (arith, same));
+    there = none_there x z;
   }
     where
       disk_same : (k : ℕ) (d e : Disk) → slice_get x.disks k ≡ Some d → slice_get z.disks k ≡ Some e → e ≡ d
@@ -157,7 +167,7 @@ module _ (target : ℕ) (chunks : List ℕ) (p : PassView) (before after : Bitma
     size = list_size failed w l;
     own = λ m n at there.
         (let same = l.out target m n at there (out_of_sync m.state (recovers m at)) in
-        target_same m n (ap (λ (y : MemberView). y.state) same) (ap (λ (y : MemberView). y.superblock.recovery_offset) same) (ap (λ (y : MemberView). y.bad) same));
+        target_same m n (ap (λ (y : MemberView). y.state) same) (ap (λ (y : MemberView). y.offset) same) (ap (λ (y : MemberView). y.bad) same));
     missing = λ m n at there c low is.
         (let same = l.out target m n at there (out_of_sync m.state (recovers m at)) in
         sym (ap (λ (a : ArrayView). is_missing a n c) l.others ∙ ap (λ (y : MemberView). is_missing x.array y c) same) ∙ is);
@@ -182,21 +192,21 @@ module _ (target : ℕ) (old : MirrorView) (sound : IsConsistent old) (m : Membe
   To = RebuiltTo target old.array m
 
   array_to : (v w : MirrorView) (copied : Bitmap) → w.array ≡ v.array → To v copied → To w copied
-  array_to v w copied same = same_to target old.array m v w copied (λ n there. (n, ap (λ (a : ArrayView). slice_get a.members target) (sym same) ∙ there, refl))
+  array_to v w copied same = same_to target old.array m v w copied (λ n there. (n, ap (λ (a : ArrayView). slice_get a.members target) (sym same) ∙ there, so_far_same n n refl))
 
   noted_to : (v w : MirrorView) (copied : Bitmap) (failed : List Slot) → ((n : MemberView) → IsMember v.array target n → is_recovering n.state ≡ true) → NotesLists failed v w → To v copied → To w copied
   noted_to v w copied failed recovering notes =
       same_to target old.array m v w copied (λ n there.
       let l = notes.lists.before target n there in
       let same = (notes.members target l.0 n l.1 there).out (out_of_sync l.0.state (recovering l.0 l.1)) in
-      (l.0, l.1, ap (λ (y : MemberView). y.superblock.recovery_offset) same))
+      (l.0, l.1, so_far_same l.0 n same))
 
   listed_to : (v w : MirrorView) (copied : Bitmap) (failed : List Slot) → ((n : MemberView) → IsMember v.array target n → is_recovering n.state ≡ true) → ListsAll failed v w → To v copied → To w copied
   listed_to v w copied failed recovering lists =
       same_to target old.array m v w copied (λ n there.
       let l = lists.lists.before target n there in
       let same = lists.out target l.0 n l.1 there (out_of_sync l.0.state (recovering l.0 l.1)) in
-      (l.0, l.1, ap (λ (y : MemberView). y.superblock.recovery_offset) same))
+      (l.0, l.1, so_far_same l.0 n same))
 
   pass_to : (chunks : List ℕ) (p : PassView) (before after : Bitmap) (v x : MirrorView) (h : RecordsPass target chunks p before after v x) → HoldsSoFar target v before chunks → Preserves target old v → To v before → To x after
   pass_to chunks p before after v x h so pre to =
@@ -216,11 +226,11 @@ module _ (target : ℕ) (old : MirrorView) (sound : IsConsistent old) (m : Membe
       (preserves_on target old v h.1 pre (listed_preserves target chunks p before h.0 v x one.records so p.failed h.1 one.lists))
       (listed_to x h.1 h.0 p.failed may.recovering one.lists (pass_to chunks p before h.0 v x one.records so pre to))
 
-offset_is_own : (m : MemberView) → is_recovering m.state ≡ true → rebuilt_offset m ≡ m.superblock.recovery_offset
-offset_is_own m is = ap (λ b. cond b m.superblock.recovery_offset 0) is
+offset_is_own : (m : MemberView) → is_recovering m.state ≡ true → rebuilt_offset m ≡ m.offset
+offset_is_own m is = ap (λ b. cond b m.offset 0) is
 
 offset_is_none : (m : MemberView) → is_recovering m.state ≡ false → rebuilt_offset m ≡ 0
-offset_is_none m is = ap (λ b. cond b m.superblock.recovery_offset 0) is
+offset_is_none m is = ap (λ b. cond b m.offset 0) is
 
 spare_lacks : (s : MemberState) (marked passed : Bool) → is_spare s ≡ true → lacks (is_in_sync s) (is_recovering s) marked passed ≡ true
 spare_lacks (InSync r) marked passed is = absurd cc
@@ -231,21 +241,29 @@ spare_lacks Faulty marked passed is = absurd cc
 
 -- where a rebuild begins, nothing is done of a spare, and of a recovering target what was
 begun_to : (target : ℕ) (old v : MirrorView) (none : Bitmap) (b : BeginsRebuild target old v none) → RebuiltTo target old.array b.member v none
-begun_to target old v none b n there = subst (λ o. IsRebuiltTo old.array b.member none o) (sym offset_is) (begins_to target old b.sound b.member b.at none b.is_none.bits lacks)
+begun_to target old v none b n there =
+    subst (λ o. IsRebuiltTo old.array b.member none o n.superblock.recovery_offset) (sym offset_is)
+    (begins_to target old b.sound b.member b.at none b.is_none.bits lacks n.superblock.recovery_offset (sure_begun target old v none b n there))
   where
-    offset_is : n.superblock.recovery_offset ≡ rebuilt_offset b.member
+    but : b.then ≡ record b.member { superblock = record b.member.superblock { recovery_offset = b.then.superblock.recovery_offset }; due = b.then.due }
+    but = (then_but target old v none b).is
+
+    spare_was : is_spare b.then.state ≡ true → is_spare b.member.state ≡ true
+    spare_was is = sym (ap (λ (z : MemberView). is_spare z.state) but) ∙ is
+
+    offset_is : n.offset ≡ rebuilt_offset b.member
     offset_is = elim b.first [
-      | inl stored ↦ (still_stored target old v stored.1.stores b.member n b.at there).1 ∙ sym (offset_is_own b.member stored.0)
+      | inl stored ↦ (still_stored target b.lowered v stored.1.stores b.then n b.at_then there).1 ∙ ap (λ (z : MemberView). z.offset) but ∙ sym (offset_is_own b.member (sym (ap (λ (z : MemberView). is_recovering z.state) but) ∙ stored.0))
       | inr admitted ↦
           let x = admitted.1 in
-          let is = admitted_is target old x.admitted x.after in
-          (still_stored target x.admitted v x.then.stores (admitted_member x.after.admits.role x.after.admits.may.member) n is there).1 ∙ sym (offset_is_none b.member (ap is_recovering (spare_is b.member.state admitted.0)))
+          let is = admitted_is target b.lowered x.admitted x.after in
+          (still_stored target x.admitted v x.then.stores (admitted_member x.after.admits.role x.after.admits.may.member) n is there).1 ∙ sym (offset_is_none b.member (ap is_recovering (spare_is b.member.state (spare_was admitted.0))))
     ]
 
     lacks : (c : ℕ) → is_recovering b.member.state ≡ false → is_missing old.array b.member c ≡ true
     lacks c none_is = elim b.first [
-      | inl stored ↦ absurd (both_ways (is_recovering b.member.state) none_is stored.0)
-      | inr admitted ↦ spare_lacks b.member.state (is_set old.array.marks.bytes c) (has_passed old.array b.member c) admitted.0
+      | inl stored ↦ absurd (both_ways (is_recovering b.member.state) none_is (sym (ap (λ (z : MemberView). is_recovering z.state) but) ∙ stored.0))
+      | inr admitted ↦ spare_lacks b.member.state (is_set old.array.marks.bytes c) (has_passed old.array b.member c) (spare_was admitted.0)
     ]
 
 -- ---- the passes
@@ -334,8 +352,8 @@ own_with target s old new h = record {
 }
 
 -- the list of a member is that of one with another offset
-list_with : (q : Chunks) (offset : ℕ) (m : MemberView) (kept orphans : Bitmap) (list : List Run) → IsListAfter q m kept orphans list → IsListAfter q (record (with_recovery_offset offset m) { due = false }) kept orphans list
-list_with q offset m kept orphans list h = record { canonical = h.canonical; bad = h.bad }
+list_with : (q : Chunks) (sure : ℕ) (m : MemberView) (kept orphans : Bitmap) (list : List Run) → IsListAfter q m kept orphans list → IsListAfter q (recorded_member (checked sure m)) kept orphans list
+list_with q sure m kept orphans list h = record { canonical = h.canonical; bad = h.bad }
 
 -- one of these, and others
 any_left : {X : Type 0} (P : X → Type 0) (xs ys : List X) → Any P xs → Any P (xs ++ ys)
@@ -402,7 +420,7 @@ module _ (target : ℕ) (old ready : MirrorView) (none : Bitmap) (b : BeginsRebu
   chunks = missing_chunks ready.array b.now
 
   so : HoldsSoFar target ready none chunks
-  so = begins_holding target b.now none ready (ready_of target old ready none b) b.there b.is_none.chunks b.is_none.bits
+  so = begins_holding target b.now none ready (ready_of target old ready none b) b.there b.is_none.chunks b.is_none.bits (unsaid_begun target old ready none b)
 
   -- these passes were made, and at most one more was planned
   abbrev ended : List PassView → List PassView → List Slot → Bitmap → Ending
@@ -522,7 +540,7 @@ module _ (target : ℕ) (old ready : MirrorView) (none : Bitmap) (b : BeginsRebu
           (grows_rest target fs fs old e.now w there.then there.disk_then grown
           (λ k x y at_x at_y. ap (λ (z : MemberView). z.bad) (same_Some y x (sym at_y ∙ ap (λ (a : ArrayView). slice_get a.members k) f.array ∙ at_x)))
           (λ k x y at_x at_y. ap (λ (z : MemberView). z.state) (same_Some y x (sym at_y ∙ ap (λ (a : ArrayView). slice_get a.members k) f.array ∙ at_x)))
-          (filled_counted target m (slots_of_pass p) e.now w f));
+          (filled_stays target m (slots_of_pass p) e.now w f));
       sound = sound;
       running = ap (λ (a : ArrayView). a.halted) f.array ∙ so_far.ready.goes.idle.running;
       resynced = ap (λ (a : ArrayView). a.resynced) f.array ∙ so_far.ready.goes.resynced ∙ sym b.may.resynced_target.resynced;
@@ -806,8 +824,8 @@ module _ (target : ℕ) (old ready : MirrorView) (none : Bitmap) (b : BeginsRebu
               at = n.1;
               list = full.list;
               list_is = subst (λ (l : MemberView). IsListAfter new.array.chunks l kept orphans full.list) (sym is)
-                  (subst (λ (q : Chunks). IsListAfter q (record (with_recovery_offset r.offset full.member) { due = false }) kept orphans full.list) (sym (ap (λ (a : ArrayView). a.chunks) r.array))
-                  (list_with stopped.array.chunks r.offset full.member kept orphans full.list full.list_is));
+                  (subst (λ (q : Chunks). IsListAfter q (recorded_member (checked r.sure full.member)) kept orphans full.list) (sym (ap (λ (a : ArrayView). a.chunks) r.array))
+                  (list_with stopped.array.chunks r.sure full.member kept orphans full.list full.list_is));
               full = subst (λ (l : MemberView). HasRoomFor l.superblock full.list → ⊥) (sym is) full.full;
             }
 
@@ -947,7 +965,7 @@ module _ (target : ℕ) (old ready : MirrorView) (none : Bitmap) (b : BeginsRebu
             same_to target old.array b.member noted stopped e.why.0 (λ n at_n.
             let m = before_stopped n at_n in
             let is = (stops.members target m.0 n m.1 at_n).0.out (out_of_sync m.0.state (z_noted.recovers m.0 m.1)) in
-            (m.0, m.1, ap (λ (x : MemberView). x.superblock.recovery_offset) is)) z_noted.to
+            (m.0, m.1, record { offset = ap (λ (x : MemberView). x.offset) is; sure = ap (λ (x : MemberView). x.superblock.recovery_offset) is })) z_noted.to
 
         pre_stopped : Preserves target old stopped
         pre_stopped =
@@ -1033,6 +1051,20 @@ module _ (target : ℕ) (old ready : MirrorView) (none : Bitmap) (b : BeginsRebu
       })
 
 -- ---- all of it
+-- From this mirror on, of which the target is to say no more that it has what it lacks: what is so from there on is so from before.
+record GoesFrom (target : ℕ) (old mid : MirrorView) (member : MemberView) : Type 0 where
+  sound : IsConsistent mid
+  then : MemberView
+  at : IsMember mid.array target then
+  but : then ≡ record member { superblock = record member.superblock { recovery_offset = then.superblock.recovery_offset }; due = then.due }
+  may : MayBeginRebuild mid.array then
+  grows : GrowsSo target [] [] old mid
+  resynced : mid.array.resynced ≡ old.array.resynced
+  still : (new : MirrorView) → StaysStill target mid new → StaysStill target old new
+  rest : (new : MirrorView) → KeepsRest target mid new → KeepsRest target old new
+  states : (new : MirrorView) → StatesSo target mid new → StatesSo target old new
+  stays : (fault : RebuildFault) (new : ArrayView) → StaysSo target fault mid.array new → StaysSo target fault old.array new
+
 module _ (target : ℕ) where
   ended_at_once : (fault : RebuildFault) (old new : MirrorView) → (h : RefusesAtOnce target fault old new) → ((now : MemberView) → EndsSo target fault (none_made old.array h.member) now old new) → HasEnded target fault old new
   ended_at_once fault old new h so =
@@ -1057,7 +1089,7 @@ module _ (target : ℕ) where
 
   -- the target stays what it was
   as_before : (old new : MirrorView) (m now : MemberView) → IsMember old.array target m → IsMember new.array target now → StaysStill target old new → IsAsBefore (none_made old.array m) now
-  as_before old new m now at there still = (let is = still m now at there in record { listed = refl; last = refl; state = is.0; offset = is.1 })
+  as_before old new m now at there still = (let is = still m now at there in record { listed = refl; last = refl; state = is.0; offset = is.1; sure = is.2 })
 
   -- a member failed before a pass
   module _ (old a new : MirrorView) (k : ℕ) (m : MemberView) (at : IsMember old.array target m) (pre : Preserves target old a) (grows : GrowsSo target [] [] old a) (resynced : a.array.resynced ≡ old.array.resynced) (st : StopsSo target k a new) (other : k ≢ target)
@@ -1127,6 +1159,32 @@ module _ (target : ℕ) where
           stand = λ running. within_none target old.array new;
         })
 
+  -- once a recovering target is to say no more that it has what it lacks
+  lowering : (old : MirrorView) → IsConsistent old → {Why : MirrorView → Type 0} → (e : EndsStoring target old Why) → GoesFrom target old e.lowered e.member
+  lowering old sound e =
+      let mid = e.lowered in
+      let n = lowered_then target e.none old mid sound e.lowers target e.member e.at in
+      let marks = mid.array.marks in
+      let states = states_lowered target e.none old mid sound e.lowers in
+      let starts = starts_lowered target e.none old mid sound e.lowers in
+      record {
+        sound = lowered_sound target e.none old mid sound e.lowers;
+        then = n.0;
+        at = n.1;
+        but = n.2.is;
+        may = may_lowered target e.none old mid sound e.lowers e.member e.at e.may n.0 n.1;
+        grows = grows_from target old mid starts states [] [] marks marks mid (keeps_none target marks mid);
+        resynced = ap (λ (a : ArrayView). a.resynced) (lowered_others target e.none old mid sound e.lowers);
+        still = λ new s. still_on target old mid new (λ m at. (let x = starts.then target m at in (x.0, x.1))) (still_lowered target e.none old mid sound e.lowers) s;
+        rest = λ new r. rest_on target old mid new (rest_lowered target e.none old mid sound e.lowers) r;
+        states = λ new s k m o other at there. (let x = starts.then k m at in s k x.0 o other x.1 there ∙ states k m x.0 other at x.1);
+        stays = λ fault new s. record {
+          states = λ k m o other apart at there. (let x = starts.then k m at in s.states k x.0 o other apart x.1 there ∙ states k m x.0 other at x.1);
+          marks = s.marks ∙ starts.marks;
+          resynced = s.resynced ∙ ap (λ (a : ArrayView). a.resynced) (lowered_others target e.none old mid sound e.lowers);
+        };
+      }
+
   pub refused_ended : (old new : MirrorView) → IsConsistent old → (fault : RebuildFault) → RefusesRebuild target old new fault → HasEnded target fault old new
   refused_ended old new sound Halted h = ended_at_once Halted old new h (λ now. record { unchanged = h.unchanged; halted_is = h.cannot })
   refused_ended old new sound NotSpare h = ended_at_once NotSpare old new h (λ now. record { unchanged = h.unchanged; halted_is = h.cannot.running })
@@ -1134,71 +1192,86 @@ module _ (target : ℕ) where
   refused_ended old new sound (InFlight number) h = ended_at_once (InFlight number) old new h (λ now. record { unchanged = h.unchanged; halted_is = h.cannot.resynced_target.has_target.running })
   refused_ended old new sound EventsFull h = ended_at_once EventsFull old new h (λ now. record { unchanged = h.unchanged; halted_is = h.cannot.resynced_target.has_target.running })
   refused_ended old new sound (MetadataFault k) (inl h) =
-      (let st = stops_so target k old new h.may.resynced_target.has_target.running h.why in
-      ended_before old old new k h.member h.at (preserves_none target old) (grows_none target old) refl st h.why.other (λ now there. inl (as_before old st.last h.member now h.at there st.still)))
+      let l = lowering old sound h in
+      let mid = h.lowered in
+      let st = stops_so target k mid new l.may.idle.running h.why in
+      ended_before old mid new k h.member h.at (preserves_lowered target h.none old mid sound h.lowers) l.grows l.resynced st h.why.other
+      (λ now there. inl (as_before old st.last h.member now h.at there (l.still st.last st.still)))
   refused_ended old new sound (MetadataFault k) (inr (inl h)) =
+      let l = lowering old sound h in
+      let mid = h.lowered in
       let a = h.why.admitted in
       let after = h.why.after in
-      let runs = (after_so target old a after h.member (was_spare target old a sound h.member h.at h.may after) h.may).idle.running in
-      let st = stops_so target k a new runs h.why.ends in
+      let spare = was_spare target mid a l.sound l.then l.at l.may after in
+      let so = after_so target mid a after l.then spare l.may in
+      let st = stops_so target k a new so.idle.running h.why.ends in
       let marks = a.array.marks in
-      ended_before old a new k h.member h.at (preserves_admitted target old a sound h.member h.at h.may after)
-      (grows_from target old a (starts_after target old a sound h.member h.at h.may after) (states_admitted target old a after) [] [] marks marks a (keeps_none target marks a))
-      ((after_so target old a after h.member (was_spare target old a sound h.member h.at h.may after) h.may).resynced ∙ sym h.may.resynced_target.resynced) st h.why.ends.other
+      let starts = starts_on target old mid a (starts_lowered target h.none old mid sound h.lowers) (starts_after target mid a l.sound l.then l.at l.may after) in
+      ended_before old a new k h.member h.at
+      (preserves_on target old mid a (preserves_lowered target h.none old mid sound h.lowers) (preserves_admitted target mid a l.sound l.then l.at l.may after))
+      (grows_from target old a starts (l.states a (states_admitted target mid a after)) [] [] marks marks a (keeps_none target marks a))
+      (so.resynced ∙ sym h.may.resynced_target.resynced) st h.why.ends.other
       (λ now there.
-      let then = admitted_is target old a after in
+      let then = admitted_is target mid a after in
       let is = st.still (admitted_member after.admits.role after.admits.may.member) now then there in
       inr (record {
         listed = refl;
         last = refl;
-        spare = was_spare target old a sound h.member h.at h.may after;
+        spare = sym (ap (λ (z : MemberView). is_spare z.state) l.but) ∙ spare;
         recovering = ap is_recovering is.0;
         offset = is.1;
+        sure = (let low = is.2 in omega (arith, low));
       }))
   refused_ended old new sound (MetadataFault k) (inr (inr h)) =
       (let e = h.why.1 in ended_source target old e.ready e.none e.begins k h.copied h.stopped new e.why h.leaves h.why.0)
   refused_ended old new sound TargetFault (inl h) =
+      let l = lowering old sound h in
+      let mid = h.lowered in
       let f = h.why in
-      let runs = f.stores.ready.halted ∙ h.may.resynced_target.has_target.running in
-      ended_rest TargetFault old new h.member h.at (rest_unrecorded target old new f) (stays_stored TargetFault old f.mid new f.stores f.fails.array)
+      let runs = f.stores.ready.halted ∙ l.may.idle.running in
+      ended_rest TargetFault old new h.member h.at (l.rest new (rest_unrecorded target mid new f)) (l.stays TargetFault new.array (stays_stored TargetFault mid f.mid new f.stores f.fails.array))
       (λ now there. record {
         running = ap (λ (a : ArrayView). a.halted) f.fails.array ∙ runs;
-        failed = fails_rest target target old f.mid new (rest_stores target old f.mid f.stores) f.fails.disks.failed;
-        target_is = inl (as_before old new h.member now h.at there (still_unrecorded target old new f));
+        failed = fails_rest target target old f.mid new (l.rest f.mid (rest_stores target mid f.mid f.stores)) f.fails.disks.failed;
+        target_is = inl (as_before old new h.member now h.at there (l.still new (still_unrecorded target mid new f)));
         noted = refl;
         stand = stand_none target old.array new;
       })
   refused_ended old new sound TargetFault (inr (inl h)) =
+      let l = lowering old sound h in
+      let mid = h.lowered in
       let f = h.why in
-      let runs = f.first.stores.ready.halted ∙ h.may.resynced_target.has_target.running in
-      ended_rest TargetFault old new h.member h.at (rest_unadmitted target old new f) (stays_stored TargetFault old f.stored new f.first.stores f.fails.array)
+      let runs = f.first.stores.ready.halted ∙ l.may.idle.running in
+      ended_rest TargetFault old new h.member h.at (l.rest new (rest_unadmitted target mid new f)) (l.stays TargetFault new.array (stays_stored TargetFault mid f.stored new f.first.stores f.fails.array))
       (λ now there. record {
         running = ap (λ (a : ArrayView). a.halted) f.fails.array ∙ runs;
-        failed = fails_rest target target old f.stored new (rest_stores target old f.stored f.first.stores) f.fails.disks.failed;
-        target_is = inl (as_before old new h.member now h.at there (still_unadmitted target old new f));
+        failed = fails_rest target target old f.stored new (l.rest f.stored (rest_stores target mid f.stored f.first.stores)) f.fails.disks.failed;
+        target_is = inl (as_before old new h.member now h.at there (l.still new (still_unadmitted target mid new f)));
         noted = refl;
         stand = stand_none target old.array new;
       })
   refused_ended old new sound TargetFault (inr (inr e)) = ended_target target old e.ready e.none e.begins new e.why
-  refused_ended old new sound NoMemory (inl h) = elim h.why [
-    | inl same ↦
-        ended_rest NoMemory old new h.member h.at (subst (KeepsRest target old) (sym same) (rest_none target old)) (stays_same target NoMemory old.array new.array (ap (λ (v : MirrorView). v.array) same))
-        (λ now there. record {
-          running = ap (λ (v : MirrorView). v.array.halted) same ∙ h.may.resynced_target.has_target.running;
-          target_is = inl (as_before old new h.member now h.at there (still_same target old new (ap (λ (v : MirrorView). v.array) same)));
-          noted = inl refl;
-          stand = stand_none target old.array new;
-        })
-    | inr lacks ↦
-        ended_rest NoMemory old new h.member h.at (rest_stores target old new lacks.first.stores) (stays_stored NoMemory old new new lacks.first.stores refl)
-        (λ now there. record {
-          running = lacks.first.stores.ready.halted ∙ h.may.resynced_target.has_target.running;
-          target_is = inl (as_before old new h.member now h.at there (still_stored target old new lacks.first.stores));
-          noted = inl refl;
-          stand = stand_none target old.array new;
-        })
-  ]
-  refused_ended old new sound NoMemory (inr h) =
+  refused_ended old new sound NoMemory (inl h) =
+      let same = h.unchanged in
+      ended_rest NoMemory old new h.member h.at (subst (KeepsRest target old) (sym same) (rest_none target old)) (stays_same target NoMemory old.array new.array (ap (λ (v : MirrorView). v.array) same))
+      (λ now there. record {
+        running = ap (λ (v : MirrorView). v.array.halted) same ∙ h.may.resynced_target.has_target.running;
+        target_is = inl (as_before old new h.member now h.at there (still_same target old new (ap (λ (v : MirrorView). v.array) same)));
+        noted = inl refl;
+        stand = stand_none target old.array new;
+      })
+  refused_ended old new sound NoMemory (inr (inl h)) =
+      let l = lowering old sound h in
+      let mid = h.lowered in
+      let lacks = h.why in
+      ended_rest NoMemory old new h.member h.at (l.rest new (rest_stores target mid new lacks.first.stores)) (l.stays NoMemory new.array (stays_stored NoMemory mid new new lacks.first.stores refl))
+      (λ now there. record {
+        running = lacks.first.stores.ready.halted ∙ l.may.idle.running;
+        target_is = inl (as_before old new h.member now h.at there (l.still new (still_stored target mid new lacks.first.stores)));
+        noted = inl refl;
+        stand = stand_none target old.array new;
+      })
+  refused_ended old new sound NoMemory (inr (inr h)) =
       let e = h.why in
       let x = lacks_memory target old e.ready e.none e.begins h.copied h.stopped e.why in
       let c = memory_to target old e.ready e.none e.begins NoMemory x.s h.copied h.stopped new x.ends h.leaves x.has x.left in

@@ -1,5 +1,5 @@
 -- What a rebuild leaves as it was before a pass, and once it has ended.
-use Rattle.std.proofs.Common.{◌≡◌, ◌≢◌, ◌∙◌, ◌⊎◌, ◌↔◌, ℕ, ◌+◌, ◌*◌, ◌≤◌, ◌||◌, leb, true, false, List, [], length, length-set, get_or, slice_get, None, refl, sym, ap, subst, arith, inl, inr}
+use Rattle.std.proofs.Common.{◌≡◌, ◌≢◌, ◌∙◌, ◌⊎◌, ◌↔◌, ℕ, ◌+◌, ◌*◌, ◌≤◌, ◌||◌, leb, true, false, List, [], length, length-set, get_or, slice_get, None, Some, refl, sym, ap, subst, arith, inl, inr}
 use Rattle.std.proofs.lemmas.Bool.{both_ways, cases_eq}
 use Rattle.std.proofs.lemmas.Option.{same_Some, slice_get-get_or, slice_get_within}
 use Rattle.std.proofs.Math.Nat.{le-max_left}
@@ -12,15 +12,18 @@ use Rattle.md_bitmap.specs.declared.chunks.Chunks.{Chunks}
 use Rattle.md_cert.specs.declared.slots.Slot.{Slot}
 use Rattle.md_device.specs.Splice.{part}
 use Rattle.md_kept_members.specs.Enrolling.{IsOfChunk}
-use Rattle.md_kept_members.specs.TakingBack.{admitted_member, with_recovery_offset}
+use Rattle.md_kept_members.specs.TakingBack.{admitted_member}
+use Rattle.md_kept_members.specs.Members.{recorded_member}
 use Rattle.md_kept_members.specs.View.{MemberView}
-use Rattle.md_passes.specs.Listed.{IsOfFailed}
+use Rattle.md_copy.specs.PassLaws.Listed.{IsOfFailed}
 use Rattle.md_model.specs.Rebuilding.{lacks}
 use Rattle.md_state.specs.Steps.Admit.{admitted}
+use Rattle.md_state.specs.Steps.Checkpoint.{checked}
 use Rattle.md_state.specs.DiskWrites.{IsTried}
 use Rattle.md_state.specs.Members.{IsInSync, IsMember}
 use Rattle.md_state.specs.Missing.{is_missing}
-use Rattle.md_state.specs.View.{ArrayView, Disk, MirrorView}
+use Rattle.md_state.specs.View.{ArrayView, Disk, MirrorView, of_disks}
+use Rattle.md_collect.specs.Reading.{FailsInChunk}
 use Rattle.md_array.specs.Steps.Checkpoint.{Checkpoints, FailsToCheckpoint}
 use Rattle.md_array.specs.Consistency.{IsConsistent}
 use Rattle.md_array.specs.Steps.Enrol.{FailsToEnrol, KeepsData}
@@ -32,53 +35,61 @@ use Rattle.md_rebuild_table.specs.Beginning.{MayBeginRebuild}
 use Rattle.md_rebuild_table.specs.declared.fault.RebuildFault.TheVariants.{MetadataFault}
 use Rattle.md_copy.specs.Leaving.{RecordsAtEnd}
 use Rattle.md_copy.specs.Listing.{HaltsAtList, EndsAtList}
-use Rattle.md_copy.specs.Readying.{AdmitsAfter, FailsAdmission}
+use Rattle.md_copy.specs.Readying.{AdmitsAfter, FailsAdmission, LowersTarget}
 use Rattle.md_copy.specs.Rebuilding.{BeginsRebuild}
 use Rattle.md_copy.specs.Refused.{IsLost}
 use Rattle.md_copy.specs.Storing.{FailsToRecordTarget, EndsAtOther}
+use Rattle.md_state.proofs.Stays.{stays_grown}
+use Rattle.md_copy.proofs.Failing.{grown_same, grown_then, none_there, there_since}
 use Rattle.md_copy.proofs.Refusals.Halting.{HaltsOn, halts_on, lasts_halted}
 use Rattle.md_copy.proofs.Held.HeldRecorded.{chunks_is, data_kept, lacked, marks_is, other_is, out_of_sync, target_same as checkpointed_is}
 use Rattle.md_copy.proofs.Passing.PassesKeep.{PassesKeep}
-use Rattle.md_copy.proofs.Ready.Readied.{ready_of, recovering_admitted, spare_is, spare_twice, stored_so}
+use Rattle.md_copy.proofs.Ready.Lowered.{IsBut, lowered_but, lowered_disks, lowered_then, starts_lowered}
+use Rattle.md_copy.proofs.Ready.Readied.{ready_of, recovering_admitted, spare_is, spare_twice, stored_so, then_but}
 use Rattle.md_copy.proofs.Ready.ReadyStill.{storing_states}
-use Rattle.md_copy.proofs.Refusals.Refused.{GrowsSo, IsSameOrLost, KeepsRest, Lasts, Preserves, StaysTarget, lasts_none, preserves_rest, preserves_started, rest_alone, rest_none, rest_on, rest_stored, rest_super, target_same}
+use Rattle.md_copy.proofs.Refusals.Refused.{GrowsSo, IsSameOrLost, KeepsRest, Lasts, Preserves, StaysTarget, lasts_none, preserves_rest, preserves_started, rest_alone, rest_none, rest_on, rest_stored, rest_super, target_on, target_same}
 use Rattle.md_copy.proofs.Ready.StartedAs.{IsAs, StartsAs, starts_on}
 use Rattle.md_copy.proofs.Ready.StartsReadied.{starts_admitted, starts_of, starts_stored}
-use Rattle.md_copy.proofs.Done.StatesKept.{WasSo, so_admitted, so_readied, so_stored}
+use Rattle.md_copy.proofs.Done.StatesKept.{WasSo, so_admitted, so_begun, so_stored}
 use Rattle.md_copy.proofs.Stored.StoringKeeps.{places_of, storing_keeps}
 
--- the target's state and its offset are what they were
+-- The target's state and its offset are what they were, and it is to say no more of what it has.
 abbrev pub StaysStill : ℕ → MirrorView → MirrorView → Type 0
 StaysStill target old new =
-    (m n : MemberView) → IsMember old.array target m → IsMember new.array target n → (n.state ≡ m.state) × (n.superblock.recovery_offset ≡ m.superblock.recovery_offset)
+    (m n : MemberView) → IsMember old.array target m → IsMember new.array target n → (n.state ≡ m.state) × (n.offset ≡ m.offset) × (n.superblock.recovery_offset ≤ m.superblock.recovery_offset)
+
+same_sure : (m n : MemberView) → n ≡ m → n.superblock.recovery_offset ≤ m.superblock.recovery_offset
+same_sure m n is = (let same = ap (λ (z : MemberView). z.superblock.recovery_offset) is in omega (arith, same))
 
 pub still_same : (target : ℕ) (old new : MirrorView) → new.array ≡ old.array → StaysStill target old new
 still_same target old new same m n at there =
     let is = same_Some n m (sym there ∙ ap (λ (a : ArrayView). slice_get a.members target) same ∙ at) in
-    (ap (λ (z : MemberView). z.state) is, ap (λ (z : MemberView). z.superblock.recovery_offset) is)
+    (ap (λ (z : MemberView). z.state) is, ap (λ (z : MemberView). z.offset) is, same_sure m n is)
 
-still_on : (target : ℕ) (old mid new : MirrorView) → ((m : MemberView) → IsMember old.array target m → (n : MemberView) × IsMember mid.array target n) → StaysStill target old mid → StaysStill target mid new
+pub still_on : (target : ℕ) (old mid new : MirrorView) → ((m : MemberView) → IsMember old.array target m → (n : MemberView) × IsMember mid.array target n) → StaysStill target old mid → StaysStill target mid new
     → StaysStill target old new
 still_on target old mid new then x y m o at there =
     let n = then m at in
     let first = x m n.0 at n.1 in
     let second = y n.0 o n.1 there in
-    (second.0 ∙ first.0, second.1 ∙ first.1)
+    let low = first.2 in
+    let less = second.2 in
+    (second.0 ∙ first.0, second.1 ∙ first.1, omega (arith, low, less))
 
 -- ---- what is due is stored
 module _ (target : ℕ) (old new : MirrorView) (s : Stores IsStoring old new) where
-  as_was : (k : ℕ) (m n : MemberView) → IsMember old.array k m → IsMember new.array k n → n ≡ record m { stored = n.stored; due = n.due }
+  as_was : (k : ℕ) (m n : MemberView) → IsMember old.array k m → IsMember new.array k n → n ≡ record m { stored = n.stored; due = n.due; stored_offset = n.stored_offset }
   as_was k m n at there =
       let r : StaysReady old.array new.array k n = s.ready.each k n there in
-      subst (λ (z : MemberView). n ≡ record z { stored = n.stored; due = n.due }) (same_Some r.before m (sym r.member ∙ at)) r.same
+      subst (λ (z : MemberView). n ≡ record z { stored = n.stored; due = n.due; stored_offset = n.stored_offset }) (same_Some r.before m (sym r.member ∙ at)) r.same
 
   pub target_stored : (m n : MemberView) → IsMember old.array target m → IsMember new.array target n → StaysTarget m n
   target_stored m n at there =
       let is = as_was target m n at there in
-      target_same m n (ap (λ (z : MemberView). z.state) is) (ap (λ (z : MemberView). z.superblock.recovery_offset) is) (ap (λ (z : MemberView). z.bad) is)
+      target_same m n (ap (λ (z : MemberView). z.state) is) (ap (λ (z : MemberView). z.offset) is) (ap (λ (z : MemberView). z.bad) is)
 
   pub still_stored : StaysStill target old new
-  still_stored m n at there = (let is = as_was target m n at there in (ap (λ (z : MemberView). z.state) is, ap (λ (z : MemberView). z.superblock.recovery_offset) is))
+  still_stored m n at there = (let is = as_was target m n at there in (ap (λ (z : MemberView). z.state) is, ap (λ (z : MemberView). z.offset) is, (let same = ap (λ (z : MemberView). z.superblock.recovery_offset) is in omega (arith, same))))
 
   pub rest_stores : KeepsRest target old new
   rest_stores = rest_stored target old new (storing_keeps old new s.goes) s.goes.sound (λ m n at there. ap (λ (z : MemberView). z.state) (as_was target m n at there))
@@ -111,7 +122,9 @@ stops_so target k old new running h = elim h.ends [
       record {
         last = new;
         rest = rest_stored target old new (storing_keeps old new goes) goes.sound state;
-        still = λ m n at there. (state m n at there, ap (λ (v : Superblock). v.recovery_offset) ((storing_keeps old new goes).each target m n at there).superblock);
+        still = λ m n at there.
+            (let kept = (storing_keeps old new goes).each target m n at there in
+            (state m n at there, kept.offset, (let same = ap (λ (v : Superblock). v.recovery_offset) kept.superblock in omega (arith, same))));
         lasts = lasts_none target (MetadataFault k) new;
         lost = inl (record {
           was = λ m at. ap (λ (z : MemberView). is_recorded z.state) (same_Some m lost.was.member (sym at ∙ lost.was.at)) ∙ lost.was.recorded;
@@ -158,6 +171,45 @@ pub still_unadmitted : (target : ℕ) (old new : MirrorView) → FailsAdmission 
 still_unadmitted target old new h =
     still_on target old h.stored new (λ m at. (rest_stores target old h.stored h.first.stores).then target m at) (still_stored target old h.stored h.first.stores) (still_same target h.stored new h.fails.array)
 
+-- ---- a recovering target is to say no more that it has what it lacks
+module _ (target : ℕ) (none : Bitmap) (old mid : MirrorView) (sound : IsConsistent old) (h : LowersTarget target none old mid) where
+  but : (k : ℕ) (m n : MemberView) → IsMember old.array k m → IsMember mid.array k n → IsBut m n
+  but = lowered_but target none old mid sound h
+
+  same_disk : (k : ℕ) (d e : Disk) → slice_get old.disks k ≡ Some d → slice_get mid.disks k ≡ Some e → e ≡ d
+  same_disk k d e at_d at_e = same_Some e d (sym at_e ∙ ap (λ (ds : List Disk). slice_get ds k) (lowered_disks target none old mid sound h) ∙ at_d)
+
+  pub own_lowered : (m n : MemberView) → IsMember old.array target m → IsMember mid.array target n → StaysTarget m n
+  own_lowered m n at there =
+      let is = (but target m n at there).is in
+      target_same m n (ap (λ (z : MemberView). z.state) is) (ap (λ (z : MemberView). z.offset) is) (ap (λ (z : MemberView). z.bad) is)
+
+  pub still_lowered : StaysStill target old mid
+  still_lowered m n at there =
+      let b = but target m n at there in
+      (ap (λ (z : MemberView). z.state) b.is, ap (λ (z : MemberView). z.offset) b.is, b.sure)
+
+  pub states_lowered : (k : ℕ) (m n : MemberView) → k ≢ target → IsMember old.array k m → IsMember mid.array k n → n.state ≡ m.state
+  states_lowered k m n other at there = ap (λ (z : MemberView). z.state) (but k m n at there).is
+
+  pub preserves_lowered : Preserves target old mid
+  preserves_lowered = preserves_started target old mid (starts_lowered target none old mid sound h) own_lowered
+
+  pub rest_lowered : KeepsRest target old mid
+  rest_lowered = record {
+    then = λ k m at. (let n = lowered_then target none old mid sound h k m at in (n.0, n.1));
+    disk_then = λ k d at. (d, ap (λ (ds : List Disk). slice_get ds k) (lowered_disks target none old mid sound h) ∙ at);
+    offset = λ k m n at there. ap (λ (z : MemberView). z.superblock.data_offset) (but k m n at there).is;
+    size = λ k m n at there. ap (λ (z : MemberView). z.superblock.data_size) (but k m n at there).is;
+    own = own_lowered;
+    bad = λ k m n at there. ap (λ (z : MemberView). z.bad) (but k m n at there).is;
+    counted = λ k d e at_d at_e. (let same = ap (λ (z : Disk). z.failures) (same_disk k d e at_d at_e) in omega (arith, same));
+    grown = λ k d e at_d at_e. grown_same d e (same_disk k d e at_d at_e);
+    honest = λ k d e at_d at_e. ap (λ (z : Disk). z.honest) (same_disk k d e at_d at_e);
+    states = λ k m n other at there. inl (states_lowered k m n other at there);
+    keeps = λ k d e m at_d at_e at_m i n from to. ap (λ (z : Disk). part z.content i n) (same_disk k d e at_d at_e);
+  }
+
 -- ---- a rebuild begins
 spare_apart : (m : MemberView) → is_spare m.state ≡ true → is_recovering m.state ≡ true → ⊥
 spare_apart m spare recovers = both_ways (is_recovering m.state) (ap is_recovering (spare_is m.state spare)) recovers
@@ -173,9 +225,11 @@ preserves_begun target old v none b = preserves_started target old v starts own
 
     own : (m n : MemberView) → IsMember old.array target m → IsMember v.array target n → StaysTarget m n
     own m n at there = elim b.first [
-      | inl stored ↦ target_stored target old v stored.1.stores m n at there
+      | inl stored ↦
+          target_on m b.then n (own_lowered target none old b.lowered b.sound b.lowers m b.then at b.at_then) (target_stored target b.lowered v stored.1.stores b.then n b.at_then there)
       | inr admitted ↦
-          let spare : is_spare m.state ≡ true = ap (λ (z : MemberView). is_spare z.state) (same_Some m b.member (sym at ∙ b.at)) ∙ admitted.0 in
+          let spare : is_spare m.state ≡ true =
+          ap (λ (z : MemberView). is_spare z.state) (same_Some m b.member (sym at ∙ b.at)) ∙ sym (ap (λ (z : MemberView). is_spare z.state) (then_but target old v none b).is) ∙ admitted.0 in
           record {
             state = inr (spare, (ready_of target old v none b).recovering n there);
             offset = λ recovers. absurd (spare_apart m spare recovers);
@@ -219,7 +273,7 @@ was_same : (old v : MirrorView) (k : ℕ) (m n : MemberView) → IsMember old.ar
 was_same old v k m n at was = was.2 ∙ ap (λ (z : MemberView). z.state) (same_Some was.0 m (sym was.1 ∙ at))
 
 pub states_begun : (target : ℕ) (old v : MirrorView) (none : Bitmap) → BeginsRebuild target old v none → StatesSo target old v
-states_begun target old v none b k m n other at there = was_same old v k m n at (so_readied target b.member old v b.first k other n there)
+states_begun target old v none b k m n other at there = was_same old v k m n at (so_begun target old v none b k other n there)
 
 pub states_admitted : (target : ℕ) (old admitted : MirrorView) → AdmitsAfter target old admitted → StatesSo target old admitted
 states_admitted target old admitted h k m n other at there =
@@ -234,8 +288,10 @@ grows_none target v = record {
         (elim either [ inl bad ↦ bad | inr of ↦ absurd (let low = of.there.1 in omega (arith, low)) ]),
   );
   counted = λ k role m at in_role d e at_d at_e honest. (let same = ap (λ (z : Disk). z.failures) (same_Some e d (sym at_e ∙ at_d)) in omega (arith, same));
+  there = none_there v v;
   states = λ k m n other at there. ap (λ (z : MemberView). z.state) (same_Some n m (sym there ∙ at));
   rises = λ k d e at_d at_e. (let same = ap (λ (z : Disk). z.failures) (same_Some e d (sym at_e ∙ at_d)) in omega (arith, same));
+  grown = λ k d e at_d at_e. grown_same d e (same_Some e d (sym at_e ∙ at_d));
   honest = λ k d e at_d at_e. ap (λ (z : Disk). z.honest) (same_Some e d (sym at_e ∙ at_d));
 }
 
@@ -273,6 +329,13 @@ module _ (target : ℕ) (old v : MirrorView) (starts : StartsAs target old v) (s
         let first = starts.counted k d e.0 at_d e.1 in
         let second = p.fails k role z.0 z.1 (z.2.roles role ∙ in_role) e.0 f e.1 at_f (starts.honest k d e.0 at_d e.1 ∙ honest) in
         omega (arith, first, second));
+    there = λ slot has k m at in_role d f at_d at_f.
+        (let z = starts.then k m at in
+        let e = starts.disk_then k d at_d in
+        there_since d e.0 f m.superblock.data_offset old.array.chunks slot.chunk (starts.grown k d e.0 at_d e.1)
+        (subst (λ (q : Chunks). FailsInChunk of_disks e.0 f m.superblock.data_offset q slot.chunk) starts.chunks
+        (subst (λ o. FailsInChunk of_disks e.0 f o v.array.chunks slot.chunk) z.2.offset
+        (p.there slot has k z.0 z.1 (z.2.roles slot.source ∙ in_role) e.0 f e.1 at_f))));
     states = λ k m o other at there.
         (let z = starts.then k m at in
         let n = p.lists.after k z.0 z.1 in
@@ -282,6 +345,7 @@ module _ (target : ℕ) (old v : MirrorView) (starts : StartsAs target old v) (s
         let first = starts.counted k d e.0 at_d e.1 in
         let second = p.counted k e.0 f e.1 at_f in
         omega (arith, first, second));
+    grown = λ k d f at_d at_f. (let e = starts.disk_then k d at_d in grown_then d e.0 f (starts.grown k d e.0 at_d e.1) (p.grown k e.0 f e.1 at_f));
     honest = λ k d f at_d at_f. (let e = starts.disk_then k d at_d in p.honest k e.0 f e.1 at_f ∙ starts.honest k d e.0 at_d e.1);
   }
 
@@ -295,32 +359,31 @@ module _ (target : ℕ) (copied : Bitmap) (v w : MirrorView) (sound : IsConsiste
   m = r.may.member
 
   -- the target is as it was, but for its offset
-  pub own_is : (l n : MemberView) → IsMember v.array target l → IsMember w.array target n → n ≡ record (with_recovery_offset r.offset l) { due = false }
-  own_is l n at there = checkpointed_is target copied v w sound r n there ∙ ap (λ (z : MemberView). record (with_recovery_offset r.offset z) { due = false }) (same_Some m l (sym r.may.at ∙ at))
+  pub own_is : (l n : MemberView) → IsMember v.array target l → IsMember w.array target n → n ≡ recorded_member (checked r.sure l)
+  own_is l n at there = checkpointed_is target copied v w sound r n there ∙ ap (λ (z : MemberView). recorded_member (checked r.sure z)) (same_Some m l (sym r.may.at ∙ at))
 
   other_same : (k : ℕ) → k ≢ target → (l n : MemberView) → IsMember v.array k l → IsMember w.array k n → n ≡ l
   other_same k other l n at there = same_Some n l (sym there ∙ other_is target copied v w sound r k other ∙ at)
 
   many : length w.array.members ≡ length v.array.members
-  many = ap (λ (a : ArrayView). length a.members) r.array ∙ length-set v.array.members target (record (with_recovery_offset r.offset m) { due = false })
+  many = ap (λ (a : ArrayView). length a.members) r.array ∙ length-set v.array.members target (recorded_member (checked r.sure m))
 
   -- what is the same of each
-  same_of : {X : Type 0} (f : MemberView → X) → ((l : MemberView) → f (record (with_recovery_offset r.offset l) { due = false }) ≡ f l) → (k : ℕ) (l n : MemberView) → IsMember v.array k l → IsMember w.array k n → f n ≡ f l
+  same_of : {X : Type 0} (f : MemberView → X) → ((l : MemberView) → f (recorded_member (checked r.sure l)) ≡ f l) → (k : ℕ) (l n : MemberView) → IsMember v.array k l → IsMember w.array k n → f n ≡ f l
   same_of f is k l n at there = elim (cases_eq k target) [
     | inl here ↦ ap f (own_is l n (sym (ap (slice_get v.array.members) here) ∙ at) (sym (ap (slice_get w.array.members) here) ∙ there)) ∙ is l
     | inr other ↦ ap f (other_same k other l n at there)
   ]
 
-  abbrev tried : IsTried target (super_write v.array (with_recovery_offset r.offset m)) v.disks w.disks
+  abbrev tried : IsTried target (super_write v.array (checked r.sure m)) v.disks w.disks
   tried = r.disks.tried
 
-  rises : (l n : MemberView) → IsMember v.array target l → n ≡ record (with_recovery_offset r.offset l) { due = false } → l.superblock.recovery_offset ≤ n.superblock.recovery_offset
+  rises : (l n : MemberView) → IsMember v.array target l → n ≡ recorded_member (checked r.sure l) → l.offset ≤ n.offset
   rises l n at is =
-      let was = ap (λ (z : MemberView). z.superblock.recovery_offset) (same_Some m l (sym r.may.at ∙ at)) in
-      let now = ap (λ (z : MemberView). z.superblock.recovery_offset) is in
-      let next = r.next.is in
-      let up = le-max_left m.superblock.recovery_offset r.next.stop in
-      omega (arith, was, now, next, up)
+      let was = ap (λ (z : MemberView). z.offset) (same_Some m l (sym r.may.at ∙ at)) in
+      let now = ap (λ (z : MemberView). z.offset) is in
+      let up = le-max_left m.offset r.sure in
+      omega (arith, was, now, up)
 
   pub rest_recorded : KeepsRest target v w
   rest_recorded = record {
@@ -339,6 +402,10 @@ module _ (target : ℕ) (copied : Bitmap) (v w : MirrorView) (sound : IsConsiste
     counted = λ k d e at_d at_e. elim (cases_eq k target) [
       | inl here ↦ (tried.stays d e (sym (ap (slice_get v.disks) here) ∙ at_d) (sym (ap (slice_get w.disks) here) ∙ at_e)).counted
       | inr other ↦ (let is = ap (λ (z : Disk). z.failures) (same_Some e d (sym at_e ∙ tried.others k other ∙ at_d)) in omega (arith, is))
+    ];
+    grown = λ k d e at_d at_e. elim (cases_eq k target) [
+      | inl here ↦ (tried.stays d e (sym (ap (slice_get v.disks) here) ∙ at_d) (sym (ap (slice_get w.disks) here) ∙ at_e)).grown
+      | inr other ↦ grown_same d e (same_Some e d (sym at_e ∙ tried.others k other ∙ at_d))
     ];
     honest = λ k d e at_d at_e. elim (cases_eq k target) [
       | inl here ↦ (tried.stays d e (sym (ap (slice_get v.disks) here) ∙ at_d) (sym (ap (slice_get w.disks) here) ∙ at_e)).honest
@@ -360,7 +427,7 @@ module _ (target : ℕ) (copied : Bitmap) (v w : MirrorView) (sound : IsConsiste
 
 pub checkpointed_many : (target : ℕ) (copied : Bitmap) (v w : MirrorView) → Checkpoints target copied v w → length w.array.members ≡ length v.array.members
 checkpointed_many target copied v w r =
-    ap (λ (a : ArrayView). length a.members) r.array ∙ length-set v.array.members target (record (with_recovery_offset r.offset r.may.member) { due = false })
+    ap (λ (a : ArrayView). length a.members) r.array ∙ length-set v.array.members target (recorded_member (checked r.sure r.may.member))
 
 -- ---- once it has ended
 pub halted_left : (target : ℕ) (copied : Bitmap) (v w : MirrorView) → v.array.halted ≡ true → RecordsAtEnd target copied v w → w ≡ v
@@ -369,7 +436,7 @@ halted_left target copied v w halted (inr (inl r)) = absurd (both_ways v.array.h
 halted_left target copied v w halted (inr (inr f)) = absurd (both_ways v.array.halted f.running halted)
 
 pub rest_unrecordable : (target : ℕ) (copied : Bitmap) (v w : MirrorView) → IsConsistent v → FailsToCheckpoint target copied v w → KeepsRest target v w
-rest_unrecordable target copied v w sound f = rest_super target target v.array (with_recovery_offset f.offset f.member) v w (places_of v sound) f.disks.tried (ap (λ (a : ArrayView). a.members) f.array) f.readable.size
+rest_unrecordable target copied v w sound f = rest_super target target v.array (checked f.sure f.member) v w (places_of v sound) f.disks.tried (ap (λ (a : ArrayView). a.members) f.array) f.readable.size
 
 pub rest_left : (target : ℕ) (copied : Bitmap) (v w : MirrorView) → (v.array.halted ≡ false → IsConsistent v) → RecordsAtEnd target copied v w → KeepsRest target v w
 rest_left target copied v w sound (inl same) = subst (KeepsRest target v) (sym same.1) (rest_none target v)
@@ -379,7 +446,7 @@ rest_left target copied v w sound (inr (inr f)) = rest_unrecordable target copie
 -- the target does not come into sync
 pub rest_unenrolled : (target : ℕ) (kept orphans : Bitmap) (v w : MirrorView) → FailsToEnrol target kept orphans v w → KeepsRest target v w
 rest_unenrolled target kept orphans v w f =
-    rest_alone target target v w (ap (λ (a : ArrayView). a.members) f.array) f.disks.as_many f.disks.others (λ d e at_d at_e. (let kept = (f.disks.change d e at_d at_e).0.kept in (kept.counted, kept.honest_kept)))
+    rest_alone target target v w (ap (λ (a : ArrayView). a.members) f.array) f.disks.as_many f.disks.others (λ d e at_d at_e. (let kept = (f.disks.change d e at_d at_e).0.kept in stays_grown d e (λ f. f.writes ≡ true) kept.honest_kept kept.counted kept.grown))
     (λ d e m at_d at_e at_m i n from to.
     (let was = same_Some f.comes.member m (sym f.comes.at ∙ at_m) in
     let offset = ap (λ (s : Superblock). s.data_offset) f.comes.comes.superblock ∙ ap (λ (z : MemberView). z.superblock.data_offset) was in
@@ -414,8 +481,8 @@ list_resynced target k failed v w h = (list_same k failed v w h).2
 pub list_missing : (target k : ℕ) (failed : List Slot) (v w : MirrorView) → EndsAtList failed k v w → (n : MemberView) (c : ℕ) → is_missing w.array n c ≡ is_missing v.array n c
 list_missing target k failed v w h n c =
     let same = list_same k failed v w h in
-    ap (λ (q : Chunks). lacks (is_in_sync n.state) (is_recovering n.state) (is_set w.array.marks.bytes c) (leb q.size n.superblock.recovery_offset || leb ((c + 1) * q.sectors) n.superblock.recovery_offset)) same.0
-    ∙ ap (λ (b : Bitmap). lacks (is_in_sync n.state) (is_recovering n.state) (is_set b.bytes c) (leb v.array.chunks.size n.superblock.recovery_offset || leb ((c + 1) * v.array.chunks.sectors) n.superblock.recovery_offset)) same.1
+    ap (λ (q : Chunks). lacks (is_in_sync n.state) (is_recovering n.state) (is_set w.array.marks.bytes c) (leb q.size n.offset || leb ((c + 1) * q.sectors) n.offset)) same.0
+    ∙ ap (λ (b : Bitmap). lacks (is_in_sync n.state) (is_recovering n.state) (is_set b.bytes c) (leb v.array.chunks.size n.offset || leb ((c + 1) * v.array.chunks.sectors) n.offset)) same.1
 
 pub rest_list : (target k : ℕ) (failed : List Slot) (v w : MirrorView) → ((m : MemberView) → IsMember v.array target m → is_recovering m.state ≡ true) → EndsAtList failed k v w → KeepsRest target v w
 rest_list target k failed v w recovers h = record {
@@ -425,9 +492,10 @@ rest_list target k failed v w recovers h = record {
   size = λ j m n at there. (h.members j m n at there).0.size;
   own = λ m n at there.
       (let is = (h.members target m n at there).0.out (out_of_sync m.state (recovers m at)) in
-      target_same m n (ap (λ (z : MemberView). z.state) is) (ap (λ (z : MemberView). z.superblock.recovery_offset) is) (ap (λ (z : MemberView). z.bad) is));
+      target_same m n (ap (λ (z : MemberView). z.state) is) (ap (λ (z : MemberView). z.offset) is) (ap (λ (z : MemberView). z.bad) is));
   bad = λ j m n at there. (h.members j m n at there).0.bad;
   counted = λ j d e at_d at_e. (h.writes.stays j d e at_d at_e).counted;
+  grown = λ j d e at_d at_e. (h.writes.stays j d e at_d at_e).grown;
   honest = λ j d e at_d at_e. (h.writes.stays j d e at_d at_e).honest;
   states = λ j m n other at there. elim (cases_eq j k) [
     | inl here ↦ subst (λ i. IsSameOrLost i v w m n) (sym here) (h.own m n (sym (ap (slice_get v.array.members) here) ∙ at) (sym (ap (slice_get w.array.members) here) ∙ there))

@@ -1,24 +1,25 @@
 -- What a rebuild answers, by the step that ends it.
-use Rattle.std.proofs.Common.{◌∙◌, ℕ, List, length, refl, sym, ap, subst, inl, inr}
+use Rattle.std.proofs.Common.{◌∙◌, ℕ, false, List, length, refl, sym, ap, subst, inl, inr}
 use Rattle.std.proofs.lemmas.List.{length-map}
 use Rattle.md_bitmap.specs.Marks.{Bitmap}
 use Rattle.md_kept_members.specs.View.{MemberView}
-use Rattle.md_passes.specs.Passes.{PassView}
+use Rattle.md_copy.specs.PassLaws.Passes.{PassView}
 use Rattle.md_plan.specs.declared.planner.Planned.{Planned}
 use Rattle.md_state.specs.Members.{IsMember}
 use Rattle.md_state.specs.View.{MirrorView}
 use Rattle.md_array.specs.Consistency.{IsConsistent}
 use Rattle.md_rebuild_table.specs.declared.fault.RebuildFault.{RebuildFault}
 use Rattle.md_rebuild_table.specs.declared.fault.RebuildFault.TheVariants.{Halted, NotSpare, Dirty, InFlight, LogFull, NoMemory, TargetFault, MetadataFault, EventsFull}
+use Rattle.md_rebuild_table.specs.Orphans.{IsSetOf}
 use Rattle.md_rebuild_table.specs.Beginning.{CannotRebuild, MayBeginRebuild}
 use Rattle.md_copy.specs.declared.rebuilt.Rebuilt.{Rebuilt}
 use Rattle.md_copy.specs.Enrolled.{EnrolsCopied, FailsCopied, HasSets}
 use Rattle.md_copy.specs.Leaving.{LeavesSo}
 use Rattle.md_copy.specs.Passing.{BreaksOffPass, CopiesAll, EndsBetween, FailsListing, PassesAll, PassesFail}
 use Rattle.md_copy.specs.Ready.{IsReadyToCopy}
-use Rattle.md_copy.specs.Readying.{RefusesToReady}
-use Rattle.md_copy.specs.Rebuilding.{BeginsRebuild, EndsReadied, FillsBy, LacksMemoryToRebuild, LacksRoom, LosesSource, LosesTarget, Rebuilds, RebuildsReadied, RefusesRebuild, EndsAfterReady}
-use Rattle.md_copy.specs.Storing.{StoresUntilDone}
+use Rattle.md_copy.specs.Readying.{EndsAdmitted, FailsAdmission, LacksAdmission, LowersTarget, RefusesToReady}
+use Rattle.md_copy.specs.Rebuilding.{BeginsRebuild, EndsReadied, EndsStoring, FillsBy, LacksMemoryToRebuild, LacksRoom, LosesSource, LosesTarget, Rebuilds, RebuildsReadied, RefusesRebuild, EndsAfterReady}
+use Rattle.md_copy.specs.Storing.{EndsAtOther, FailsToRecordTarget, StoresUntilDone}
 use Rattle.md_copy.proofs.Passing.PassesLack.{all_lacks, orphans_same}
 
 -- ---- before anything is done
@@ -34,26 +35,30 @@ refused_at_once target v m at (MetadataFault k) h = absurd h
 refused_at_once target v m at EventsFull h = record { unchanged = refl; member = m; at = at; cannot = h }
 
 -- ---- while it is readied
-pub refused_ready : (target : ℕ) (old new : MirrorView) (m : MemberView) → IsMember old.array target m → MayBeginRebuild old.array m → (fault : RebuildFault) → RefusesToReady target old new fault → RefusesRebuild target old new fault
-refused_ready target old new m at may (MetadataFault k) h = elim h [
-  | inl stops ↦ inl (record { member = m; at = at; may = may; why = stops })
-  | inr left ↦ inr (inl (record { member = m; at = at; may = may; why = left }))
-]
-refused_ready target old new m at may TargetFault h = elim h [
-  | inl fails ↦ inl (record { member = m; at = at; may = may; why = fails })
-  | inr fails ↦ inr (inl (record { member = m; at = at; may = may; why = fails }))
-]
-refused_ready target old new m at may NoMemory h = inl (record { member = m; at = at; may = may; why = inr h })
-refused_ready target old new m at may Halted h = absurd h
-refused_ready target old new m at may NotSpare h = absurd h
-refused_ready target old new m at may Dirty h = absurd h
-refused_ready target old new m at may (InFlight n) h = absurd h
-refused_ready target old new m at may (LogFull k) h = absurd h
-refused_ready target old new m at may EventsFull h = absurd h
+module _ (target : ℕ) (old mid : MirrorView) (m : MemberView) (at : IsMember old.array target m) (may : MayBeginRebuild old.array m) (none : Bitmap) (is_none : IsSetOf old.array (λ c. false) none) (lowers : LowersTarget target none old mid) where
+  storing : (Why : MirrorView → Type 0) → Why mid → EndsStoring target old Why
+  storing Why why = record { member = m; at = at; may = may; none = none; is_none = is_none; lowered = mid; lowers = lowers; why = why }
+
+  pub refused_ready : (new : MirrorView) (fault : RebuildFault) → RefusesToReady target mid new fault → RefusesRebuild target old new fault
+  refused_ready new (MetadataFault k) h = elim h [
+    | inl stops ↦ inl (storing (λ lowered. EndsAtOther target k lowered new) stops)
+    | inr left ↦ inr (inl (storing (λ lowered. EndsAdmitted target k lowered new) left))
+  ]
+  refused_ready new TargetFault h = elim h [
+    | inl fails ↦ inl (storing (λ lowered. FailsToRecordTarget target lowered new) fails)
+    | inr fails ↦ inr (inl (storing (λ lowered. FailsAdmission target lowered new) fails))
+  ]
+  refused_ready new NoMemory h = inr (inl (storing (λ lowered. LacksAdmission target lowered new) h))
+  refused_ready new Halted h = absurd h
+  refused_ready new NotSpare h = absurd h
+  refused_ready new Dirty h = absurd h
+  refused_ready new (InFlight n) h = absurd h
+  refused_ready new (LogFull k) h = absurd h
+  refused_ready new EventsFull h = absurd h
 
 -- memory was refused for the set of the chunks
 pub refused_set : (target : ℕ) (v : MirrorView) (m : MemberView) → IsMember v.array target m → MayBeginRebuild v.array m → RefusesRebuild target v v NoMemory
-refused_set target v m at may = inl (record { member = m; at = at; may = may; why = inl refl })
+refused_set target v m at may = inl (record { member = m; at = at; may = may; unchanged = refl })
 
 -- ---- while passes are made
 module _ (target : ℕ) (m : MemberView) (none : Bitmap) (ready : MirrorView) where
@@ -135,7 +140,7 @@ module _ (target : ℕ) (old ready : MirrorView) (none : Bitmap) (begins : Begin
 
   pub refused_readied : (after : Bitmap) (stopped new : MirrorView) (fault : RebuildFault) → EndsAfterReady target begins.now none after ready stopped fault → LeavesSo target after stopped new fault
       → RefusesRebuild target old new fault
-  refused_readied after stopped new NoMemory h left = inr (record { copied = after; stopped = stopped; why = readied (λ m n r. LacksMemoryToRebuild target m n after r stopped) h; leaves = left })
+  refused_readied after stopped new NoMemory h left = inr (inr (record { copied = after; stopped = stopped; why = readied (λ m n r. LacksMemoryToRebuild target m n after r stopped) h; leaves = left }))
   refused_readied after stopped new (LogFull k) h left = record { copied = after; stopped = stopped; why = readied (λ m n r. LacksRoom k target m n after r stopped) h; leaves = left }
   refused_readied after stopped new (MetadataFault k) h left =
       inr (inr (record { copied = left.0; stopped = stopped; why = (left.1, readied (λ m n r. LosesSource k target m n r stopped) h); leaves = left.2 }))

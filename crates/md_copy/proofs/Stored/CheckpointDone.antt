@@ -1,13 +1,13 @@
 -- A checkpoint is an event of the array's model, and one that fails spoils its member.
-use Rattle.std.proofs.Common.{◌∙◌, ℕ, false, List, refl, sym, ap}
+use Rattle.std.proofs.Common.{◌∙◌, ℕ, List, max, refl, sym, ap}
 use Rattle.std.proofs.lemmas.Option.{slice_get_within}
 use Rattle.md_bitmap.specs.Marks.{Bitmap}
-use Rattle.md_kept_members.specs.TakingBack.{with_recovery_offset}
+use Rattle.md_kept_members.specs.Members.{recorded_member}
 use Rattle.md_kept_members.specs.View.{MemberView}
 use Rattle.md_model.specs.Content.{Content}
-use Rattle.md_state.specs.Steps.Checkpoint.{with_offset_of}
+use Rattle.md_state.specs.Steps.Checkpoint.{checked, with_member_at}
 use Rattle.md_state.specs.View.{MirrorView}
-use Rattle.md_array.specs.Steps.Checkpoint.{Checkpoints, MovesOffset, checkpoint_event}
+use Rattle.md_array.specs.Steps.Checkpoint.{Checkpoints, checkpoint_event}
 use Rattle.md_array.specs.Consistency.{IsConsistent}
 use Rattle.md_array.specs.Steps.Enrol.{HoldsContent}
 use Rattle.md_array.specs.Events.{Happens}
@@ -24,21 +24,14 @@ module _ (k : ℕ) (copied : Bitmap) (old new : MirrorView) (c : IsConsistent ol
   m = r.may.member
 
   abbrev n : MemberView
-  n = with_recovery_offset r.offset m
+  n = checked r.sure m
 
-  abbrev had : ℕ
-  had = m.superblock.recovery_offset
-
-  -- in memory alone it has the offset
+  -- in memory alone it has the offsets
   abbrev mid : MirrorView
-  mid = record old { array = with_offset_of old.array k m r.offset }
-
-  moves : MovesOffset k r.offset had old mid
-  moves = record { member = m; at = r.may.at; had_is = refl; moved = refl }
+  mid = record old { array = with_member_at old.array k n }
 
   mid_sound : IsConsistent mid
-  unfolding moves
-  mid_sound = moved_is_consistent k r.offset had old mid c moves r.may.recovering
+  mid_sound = moved_is_consistent k (max m.offset r.sure) r.sure m.due old mid c m r.may.at refl r.may.recovering
 
   records : Records k mid new
   records = record {
@@ -50,8 +43,8 @@ module _ (k : ℕ) (copied : Bitmap) (old new : MirrorView) (c : IsConsistent ol
       readable = r.readable;
     };
     disks = r.disks;
-    array = r.array ∙ ap (λ (xs : List MemberView). record old.array { members = xs }) (sym (set_again old.array.members k n (record n { due = false })));
+    array = r.array ∙ ap (λ (xs : List MemberView). record old.array { members = xs }) (sym (set_again old.array.members k n (recorded_member n)));
   }
 
   pub checkpoint_done : (content : Content) → HoldsContent old.disks old.array content → Happens old (checkpoint_event r) new
-  checkpoint_done content has = event.checkpoint_happens k copied had old mid new c r.may r.offset r.next moves records sound (record_happens k mid new mid_sound records) content has
+  checkpoint_done content has = event.checkpoint_happens k copied old mid new c r.may r.sure r.first refl records sound (record_happens k mid new mid_sound records) content has

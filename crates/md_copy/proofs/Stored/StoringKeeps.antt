@@ -1,5 +1,5 @@
 -- Where marks and superblocks are stored, whatever fails, the data of all members are as before.
-use Rattle.std.proofs.Common.{◌≡◌, ◌∙◌, ◌⊎◌, ℕ, ◌+◌, ◌*◌, ◌/◌, ◌<◌, ◌≤◌, true, false, List, [], ◌∷◌, length, length-set, get_or, map, set, slice_get, Option, Some, None, pos, refl, sym, ap, subst, arith, inl, inr}
+use Rattle.std.proofs.Common.{◌≡◌, ◌∙◌, ◌⊎◌, ℕ, ◌+◌, ◌*◌, ◌/◌, ◌<◌, ◌≤◌, true, List, [], ◌∷◌, length, length-set, get_or, map, set, slice_get, Option, Some, None, pos, refl, sym, ap, subst, arith, inl, inr}
 use Rattle.std.proofs.lemmas.Bool.{cases_eq, cases_lt}
 use Rattle.std.proofs.lemmas.Int.{ints}
 use Rattle.std.proofs.lemmas.List.{length-map}
@@ -11,11 +11,11 @@ use Rattle.md_members.specs.declared.area.Area.{Area}
 use Rattle.md_members.specs.Areas.{AreAreasPlaced, bitmap_area, bitmap_sectors, data_area, has_bitmap, super_area}
 use Rattle.md_members.specs.Members.{sectors_of_device}
 use Rattle.md_model.specs.Events.{Event, MemberPart}
-use Rattle.md_device_writes.specs.Writes.{Write}
-use Rattle.md_kept_members.specs.Members.{made_due}
+use Rattle.md_members.specs.DeviceWrites.Writes.{Write}
+use Rattle.md_kept_members.specs.Members.{made_due, recorded_member}
 use Rattle.md_kept_members.specs.View.{MemberView}
 use Rattle.md_assembly.specs.declared.state.MemberState.TheVariants.{Faulty}
-use Rattle.md_stored_members.proofs.Beside.{apart_either_way, stays}
+use Rattle.md_kept_members.proofs.OnDeviceLemmas.Beside.{apart_either_way, stays}
 use Rattle.md_state.specs.DiskWrites.{AtDevice, IsTried}
 use Rattle.md_state.specs.Members.{IsInSync, IsMember}
 use Rattle.md_state.specs.Steps.Rise.{Fails, made_faulty}
@@ -31,6 +31,7 @@ use Rattle.md_array.proofs.Worlds.Outside.{LiesIn, apart_from_part}
 use Rattle.md_metadata.specs.Going.{GoesOn, only_others}
 use Rattle.md_metadata.specs.Storing.{IsRecording, IsStoring}
 use Rattle.md_copy.specs.Storing.{StoresUntilDone}
+use Rattle.md_copy.proofs.Failing.{HasGrown, grown_same, grown_then}
 
 -- ---- where the parts of a member are
 -- a member's parts lie on its device, and it has a bitmap
@@ -53,6 +54,7 @@ places_of v sound = record {
 -- A member is what it was, but for its state and what is stored of it.
 pub record IsSameMember (m n : MemberView) : Type 0 where
   pub superblock : n.superblock ≡ m.superblock
+  pub offset : n.offset ≡ m.offset
   pub bad : n.bad ≡ m.bad
   pub stored_chunks : n.stored.chunks ≡ m.stored.chunks
 
@@ -71,11 +73,13 @@ pub record KeepsAll (old new : MirrorView) : Type 0 where
   pub area : HavePlaces new → (k : ℕ) (d e : Disk) (m : MemberView) → slice_get old.disks k ≡ Some d → slice_get new.disks k ≡ Some e → IsMember old.array k m → KeepsData m d e
   pub each : (k : ℕ) (m n : MemberView) → IsMember old.array k m → IsMember new.array k n → IsSameMember m n
   pub counted : (k : ℕ) (d e : Disk) → slice_get old.disks k ≡ Some d → slice_get new.disks k ≡ Some e → d.failures ≤ e.failures
+  pub grown : (k : ℕ) (d e : Disk) → slice_get old.disks k ≡ Some d → slice_get new.disks k ≡ Some e → HasGrown d e
   pub state : (k : ℕ) (m n : MemberView) (d e : Disk) → IsMember old.array k m → IsMember new.array k n → slice_get old.disks k ≡ Some d → slice_get new.disks k ≡ Some e → IsSameOrFailed m n d e
 
 pub same_then : (l m n : MemberView) → IsSameMember l m → IsSameMember m n → IsSameMember l n
 same_then l m n x y = record {
   superblock = y.superblock ∙ x.superblock;
+  offset = y.offset ∙ x.offset;
   bad = y.bad ∙ x.bad;
   stored_chunks = y.stored_chunks ∙ x.stored_chunks;
 }
@@ -91,8 +95,9 @@ keeps_none v = record {
   area = λ places k d e m at_d at_e at_m i n from to. ap (λ (x : Disk). part x.content i n) (same_Some e d (sym at_e ∙ at_d));
   each = λ k m n at_m at_n.
       (let same : n ≡ m = same_Some n m (sym at_n ∙ at_m) in
-      record { superblock = ap (λ (x : MemberView). x.superblock) same; bad = ap (λ (x : MemberView). x.bad) same; stored_chunks = ap (λ (x : MemberView). x.stored.chunks) same });
+      record { superblock = ap (λ (x : MemberView). x.superblock) same; offset = ap (λ (x : MemberView). x.offset) same; bad = ap (λ (x : MemberView). x.bad) same; stored_chunks = ap (λ (x : MemberView). x.stored.chunks) same });
   counted = λ k d e at_d at_e. subst (λ (x : Disk). d.failures ≤ x.failures) (sym (same_Some e d (sym at_e ∙ at_d))) (omega arith);
+  grown = λ k d e at_d at_e. grown_same d e (same_Some e d (sym at_e ∙ at_d));
   state = λ k m n d e at_m at_n at_d at_e. inl (ap (λ (x : MemberView). x.state) (same_Some n m (sym at_n ∙ at_m)));
 }
 
@@ -166,6 +171,7 @@ keeps_then old mid new x y = record {
       let first = x.counted k d e.0 at_d e.1 in
       let second = y.counted k e.0 f e.1 at_f in
       omega (arith, first, second));
+  grown = λ k d f at_d at_f. (let e = device_then old mid x k d at_d in grown_then d e.0 f (x.grown k d e.0 at_d e.1) (y.grown k e.0 f e.1 at_f));
   state = λ k m o d f at_m at_o at_d at_f.
       (let e = device_then old mid x k d at_d in
       let n = member_then old mid x k m at_m in
@@ -221,6 +227,10 @@ keeps_write k w m old new tried at beside members chunks marks each state = reco
     | inl here ↦ (tried.stays d e (sym (ap (slice_get old.disks) here) ∙ at_d) (sym (ap (slice_get new.disks) here) ∙ at_e)).counted
     | inr other ↦ subst (λ (x : Disk). d.failures ≤ x.failures) (sym (same_Some e d (sym at_e ∙ tried.others j other ∙ at_d))) (omega arith)
   ];
+  grown = λ j d e at_d at_e. elim (cases_eq j k) [
+    | inl here ↦ (tried.stays d e (sym (ap (slice_get old.disks) here) ∙ at_d) (sym (ap (slice_get new.disks) here) ∙ at_e)).grown
+    | inr other ↦ grown_same d e (same_Some e d (sym at_e ∙ tried.others j other ∙ at_d))
+  ];
   state = state;
 }
 
@@ -232,7 +242,7 @@ halted_write k w m old new tried at beside same =
     keeps_write k w m old new tried at beside (ap (λ (b : ArrayView). length b.members) same) (ap (λ (b : ArrayView). b.chunks) same) (ap (λ (b : ArrayView). b.marks) same)
     (λ j x y at_x at_y.
     let is = still j x y at_x at_y in
-    record { superblock = ap (λ (z : MemberView). z.superblock) is; bad = ap (λ (z : MemberView). z.bad) is; stored_chunks = ap (λ (z : MemberView). z.stored.chunks) is })
+    record { superblock = ap (λ (z : MemberView). z.superblock) is; offset = ap (λ (z : MemberView). z.offset) is; bad = ap (λ (z : MemberView). z.bad) is; stored_chunks = ap (λ (z : MemberView). z.stored.chunks) is })
     (λ j x y d e at_x at_y at_d at_e. inl (ap (λ (z : MemberView). z.state) (still j x y at_x at_y)))
   where
     still : (j : ℕ) (x y : MemberView) → IsMember old.array j x → IsMember new.array j y → y ≡ x
@@ -271,7 +281,7 @@ set_same a b k m n at is same j x y at_x at_y =
     (λ other there. is_same x y (same_Some y x (sym there ∙ at_x)))
   where
     is_same : (x y : MemberView) → y ≡ x → IsSameMember x y
-    is_same x y e = record { superblock = ap (λ (z : MemberView). z.superblock) e; bad = ap (λ (z : MemberView). z.bad) e; stored_chunks = ap (λ (z : MemberView). z.stored.chunks) e }
+    is_same x y e = record { superblock = ap (λ (z : MemberView). z.superblock) e; offset = ap (λ (z : MemberView). z.offset) e; bad = ap (λ (z : MemberView). z.bad) e; stored_chunks = ap (λ (z : MemberView). z.stored.chunks) e }
 
 -- nor is its state another
 pub set_state : (a b : ArrayView) (k : ℕ) (m n : MemberView) → IsMember a k m → b.members ≡ set a.members k n → n.state ≡ m.state
@@ -289,13 +299,14 @@ fails_same k a b f j x y at_x at_y =
     (λ here now. (let was : m ≡ x = same_Some m x (sym f.at ∙ sym (ap (slice_get a.members) here) ∙ at_x) in
     record {
       superblock = ap (λ (z : MemberView). z.superblock) now ∙ ap (λ (z : MemberView). z.superblock) was;
+      offset = ap (λ (z : MemberView). z.offset) now ∙ ap (λ (z : MemberView). z.offset) was;
       bad = ap (λ (z : MemberView). z.bad) now ∙ ap (λ (z : MemberView). z.bad) was;
       stored_chunks = ap (λ (z : MemberView). z.stored.chunks) now ∙ ap (λ (z : MemberView). z.stored.chunks) was;
     }))
     (λ other there. (let found = at_map made_due a.members j y there in
     let was : found.0 ≡ x = same_Some found.0 x (sym found.1 ∙ at_x) in
     let now : y ≡ made_due x = found.2 ∙ ap made_due was in
-    record { superblock = ap (λ (z : MemberView). z.superblock) now; bad = ap (λ (z : MemberView). z.bad) now; stored_chunks = ap (λ (z : MemberView). z.stored.chunks) now }))
+    record { superblock = ap (λ (z : MemberView). z.superblock) now; offset = ap (λ (z : MemberView). z.offset) now; bad = ap (λ (z : MemberView). z.bad) now; stored_chunks = ap (λ (z : MemberView). z.stored.chunks) now }))
 
 pub fails_state : (k : ℕ) (a b : ArrayView) (before after : List Disk) → Fails k a b → AtDevice k before after (λ d e. d.honest ≡ true → d.failures < e.failures)
     → (j : ℕ) (x y : MemberView) (d e : Disk) → IsMember a j x → IsMember b j y → slice_get before j ≡ Some d → slice_get after j ≡ Some e → IsSameOrFailed x y d e
@@ -329,12 +340,12 @@ module _ (mid next : MirrorView) (before between : Requests) (previous : Option 
       let m = r.member in
       keeps_write k (super_write mid.array m) m mid next r.disks.tried r.may.at
       (λ d e place count outside. beside_super mid.array m d e place r.may.readable.size outside)
-      (ap (λ (b : ArrayView). length b.members) r.array ∙ length-set mid.array.members k (record m { due = false }))
+      (ap (λ (b : ArrayView). length b.members) r.array ∙ length-set mid.array.members k (recorded_member m))
       (ap (λ (b : ArrayView). b.chunks) r.array)
       (ap (λ (b : ArrayView). b.marks) r.array)
-      (set_same mid.array next.array k m (record m { due = false }) r.may.at (ap (λ (b : ArrayView). b.members) r.array)
-      (record { superblock = refl; bad = refl; stored_chunks = refl }))
-      (λ j x y d e at_x at_y at_d at_e. inl (set_state mid.array next.array k m (record m { due = false }) r.may.at (ap (λ (b : ArrayView). b.members) r.array) refl j x y at_x at_y))
+      (set_same mid.array next.array k m (recorded_member m) r.may.at (ap (λ (b : ArrayView). b.members) r.array)
+      (record { superblock = refl; offset = refl; bad = refl; stored_chunks = refl }))
+      (λ j x y d e at_x at_y at_d at_e. inl (set_state mid.array next.array k m (recorded_member m) r.may.at (ap (λ (b : ArrayView). b.members) r.array) refl j x y at_x at_y))
   keeps_event (Event.StoreMarks k b) of order did =
       let r = did.1 in
       let m = r.member in
@@ -345,7 +356,7 @@ module _ (mid next : MirrorView) (before between : Requests) (previous : Option 
       (ap (λ (b : ArrayView). b.chunks) r.array)
       (ap (λ (b : ArrayView). b.marks) r.array)
       (set_same mid.array next.array k m n r.may.in_sync.member (ap (λ (b : ArrayView). b.members) r.array)
-      (record { superblock = refl; bad = refl; stored_chunks = r.has_stored.chunks }))
+      (record { superblock = refl; offset = refl; bad = refl; stored_chunks = r.has_stored.chunks }))
       (λ j x y d e at_x at_y at_d at_e. inl (set_state mid.array next.array k m n r.may.in_sync.member (ap (λ (b : ArrayView). b.members) r.array) refl j x y at_x at_y))
   keeps_event (Event.WriteFails k MemberPart.Superblock) of order did =
       let r = did.1 in

@@ -5,18 +5,20 @@ use Rattle.md_assembly.proofs.Indices.{got_within}
 use Rattle.md_device.proofs.Leaving.{leaves_none}
 use Rattle.md_state.specs.DeviceChanges.{LeavesOn, StaysHonest}
 use Rattle.md_state.specs.View.{Disk, MirrorView}
-use Rattle.md_device_writes.specs.Writes.{IsCutShort, Write}
+use Rattle.md_members.specs.DeviceWrites.Writes.{IsCutShort, Write}
 use Rattle.md_bitmap.specs.Marks.{Bitmap}
 use Rattle.md_array.specs.Consistency.{IsConsistent}
 use Rattle.md_array.specs.Steps.Enrol.{Enrols, IsUsedAlone, MayEnrol}
 use Rattle.md_array.specs.Steps.EnrolEvents.{Prepares}
-use Rattle.md_array.specs.Events.{IsChangedAlone, IsSameBesideMarks, IsSameBesideMissing}
+use Rattle.md_array.specs.Events.{IsChangedAlone, IsSameBesideMarks, IsSameBesideUnsaid}
 use Rattle.md_array.specs.Worlds.{AreHonest, block_on}
 use Rattle.md_array.proofs.Rebuilding.CutBefore.{cut_with_super}
 use Rattle.md_array.proofs.Rebuilding.InBetween.{may_rebuild_it}
 use Rattle.md_laws.specs.CrashesWithin.{IsLeftBut, IsLeftFailing, MayAllBeLeft, MayBeLeft, CrashesAsFilled, CrashesAsPrepared, CrashesAtEnrol, CrashesAtFailedEnrol}
 use Rattle.md_laws.proofs.Crashes.AtSteps.{new_has, none_new}
 use Rattle.md_laws.proofs.Crashes.WithinAdd.{cut_none}
+use Rattle.md_device.proofs.Failing.{fails_none}
+use Rattle.std.specs.Prelude.{⊤}
 
 -- devices with these contents in place of theirs
 abbrev pub with_contents : List Disk → List (List ℕ) → List Disk
@@ -84,13 +86,13 @@ module _ (k : ℕ) (Related : List ℕ → List ℕ → Type 0) (before : List D
     others = λ j apart d e was is.
         let x = found j d e was is in
         let kept : x.bytes ≡ d.content = but.others j apart d x.bytes was x.at_left in (
-          subst (λ (y : Disk). StaysHonest d y) (sym x.same) (record { honest = refl; counted = omega arith }),
+          subst (λ (y : Disk). StaysHonest d y) (sym x.same) (record { honest = refl; counted = omega arith; grown = fails_none d.faults (λ _. ⊤) }),
           (
             ap (λ (y : Disk). y.content) x.same ∙ kept,
             λ _. subst (λ (y : Disk). LeavesOn (λ c. c ≡ d.content) d y) (sym x.same) (leaves_none d.crashes (λ c. c ≡ d.content)),
           ),
         );
-    stays = λ d e was is. let x = found k d e was is in subst (λ (y : Disk). StaysHonest d y) (sym x.same) (record { honest = refl; counted = omega arith });
+    stays = λ d e was is. let x = found k d e was is in subst (λ (y : Disk). StaysHonest d y) (sym x.same) (record { honest = refl; counted = omega arith; grown = fails_none d.faults (λ _. ⊤) });
     size = λ d e was is. let x = found k d e was is in ap (λ (y : Disk). length y.content) x.same ∙ long d x.bytes (but.this d x.bytes was x.at_left);
     changed = λ d e was is _. let x = found k d e was is in subst (λ (y : Disk). Related d.content y.content) (sym x.same) (but.this d x.bytes was x.at_left);
     within = λ d e was is _. let x = found k d e was is in subst (λ (y : Disk). LeavesOn (Related d.content) d y) (sym x.same) (leaves_none d.crashes (Related d.content));
@@ -98,7 +100,7 @@ module _ (k : ℕ) (Related : List ℕ → List ℕ → Type 0) (before : List D
 
 pub crashes_as_filled : CrashesAsFilled
 crashes_as_filled k old new left honest fills may =
-    let Related : List ℕ → List ℕ → Type 0 = IsSameBesideMissing old.array fills.may.member in
+    let Related : List ℕ → List ℕ → Type 0 = IsSameBesideUnsaid old.array fills.may.member in
     let but = left_alone k Related old.disks new.disks left (λ c. record { size = refl; beside = λ at n _. refl }) honest fills.disks may in (
       record { disks = with_contents old.disks left; array = old.array },
       record { may = fills.may; noted = fills.noted; array = refl; disks = found_alone k Related old.disks left but (λ d c is. is.size) },

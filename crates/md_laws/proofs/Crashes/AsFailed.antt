@@ -8,15 +8,15 @@ use Rattle.md_device.specs.Splice.{SameOutside, spliced}
 use Rattle.md_device.specs.Device.{held, written}
 use Rattle.md_device.specs.Crashes.{IsMixed}
 use Rattle.md_device.proofs.Leaving.{in_three, leaves_none, three_same}
-use Rattle.md_device_writes.specs.Writes.{IsAnyIn, IsCutShort, Write}
-use Rattle.md_device_writes.proofs.Frames.{outside_none, outside_then}
-use Rattle.md_device_writes.proofs.Runs.{cut_one}
+use Rattle.md_members.specs.DeviceWrites.Writes.{IsAnyIn, IsCutShort, Write}
+use Rattle.md_members.proofs.DeviceWriteLemmas.Frames.{outside_none, outside_then}
+use Rattle.md_members.proofs.DeviceWriteLemmas.Runs.{cut_one}
 use Rattle.md_model.specs.Events.{Event}
 use Rattle.md_model.proofs.Puts.{by_same}
 use Rattle.md_state.specs.DeviceChanges.{LeavesOn, StaysHonest}
-use Rattle.md_state.specs.DiskWrites.{IsFailed, IsTried, IsWritten}
+use Rattle.md_state.specs.DiskWrites.{HasThisFailed, IsFailed, IsTried, IsWritten}
 use Rattle.md_state.specs.View.{Disk}
-use Rattle.md_array.specs.Events.{IsSameBesideMarks, IsSameBesideMissing}
+use Rattle.md_array.specs.Events.{IsSameBesideMarks, IsSameBesideUnsaid}
 use Rattle.md_array.specs.Worlds.{AreHonest}
 use Rattle.md_array.proofs.General.Indices.{got_in_map}
 use Rattle.md_array.proofs.StepLemmas.WrittenLast.{honest_last}
@@ -25,6 +25,8 @@ use Rattle.md_laws.proofs.Crashes.AtSteps.{put_back, same_lists, crashes_at_fail
 use Rattle.md_laws.proofs.Crashes.AloneChanged.{contents_with, got_with, left_alone, long_with, with_contents}
 use Rattle.md_laws.proofs.Crashes.WithinAdd.{cut_none, left_of_new}
 use Rattle.md_assembly.proofs.Indices.{got_same, got_within}
+use Rattle.md_device.proofs.Failing.{fails_none}
+use Rattle.std.specs.Prelude.{⊤}
 
 module _ (k : ℕ) (w : Write) (before after : List Disk) (left : List (List ℕ)) (P : List ℕ → List ℕ → Type 0) (tried : IsTried k w before after) (but : IsLeftBut k P before left) where
   abbrev found : List Disk
@@ -74,7 +76,7 @@ module _ (k : ℕ) (w : Write) (before after : List Disk) (left : List (List ℕ
     stays = λ d e was is.
         let x = found_at d e was is in
         let stayed = tried.stays d x.then_was was x.at_then in
-        subst (λ (y : Disk). StaysHonest d y) (sym x.same) (record { honest = stayed.honest; counted = stayed.counted });
+        subst (λ (y : Disk). StaysHonest d y) (sym x.same) (record { honest = stayed.honest; counted = stayed.counted; grown = stayed.grown });
     outside = λ d e was is.
         let x = found_at d e was is in
         subst (λ (y : Disk). SameOutside (512 * w.sector) (length w.bytes) d.content y.content) (sym x.same) (outside d x.bytes was (but.this d x.bytes was x.at_left));
@@ -94,6 +96,9 @@ crashes_as_failed k w old new left honest fails may =
           failed = λ d e was is h.
               let x = found_at k w old.disks new.disks left (IsAnyIn w) tried but d e was is in
               subst (λ (y : Disk). d.failures < y.failures) (sym x.same) (fails.disks.failed d x.then_was was x.at_then h);
+          there = λ d e was is.
+              let x = found_at k w old.disks new.disks left (IsAnyIn w) tried but d e was is in
+              subst (HasThisFailed w d) (sym x.same) (fails.disks.there d x.then_was was x.at_then);
           within = λ d e was is h.
               let x = found_at k w old.disks new.disks left (IsAnyIn w) tried but d e was is in
               subst (λ (y : Disk). LeavesOn (IsAnyIn w d.content) d y) (sym x.same) (fails.disks.within d x.then_was was x.at_then h);
@@ -115,7 +120,7 @@ untouched : (k : ℕ) (w : Write) (disks : List Disk) → IsTried k w disks disk
 untouched k w disks = record {
   as_many = refl;
   others = λ j apart. refl;
-  stays = λ d e was is. subst (StaysHonest d) (got_same disks k d e was is) (record { honest = refl; counted = omega arith });
+  stays = λ d e was is. subst (StaysHonest d) (got_same disks k d e was is) (record { honest = refl; counted = omega arith; grown = fails_none d.faults (λ _. ⊤) });
   outside = λ d e was is. subst (λ (x : Disk). SameOutside (512 * w.sector) (length w.bytes) d.content x.content) (got_same disks k d e was is) (outside_none (512 * w.sector) (length w.bytes) d.content);
 }
 
@@ -244,22 +249,23 @@ crashes_at_events (Event.Add number new) before after left honest writes may =
     left_of_new before writes.was writes.now left (λ was c. IsCutShort was writes.writes c) (subst (λ (x : List Disk). MayAllBeLeft (before ++ writes.was ∷ []) x left) writes.disks may)
     (cut_none writes.was.content writes.writes)
     (writes.done.within writes.honest)
-crashes_at_events (Event.ReAdd own device new) before after left honest writes may =
+crashes_at_events (Event.ReAdd own offset device new) before after left honest writes may =
     crashes_at_write (length before) writes.write (before ++ writes.was ∷ []) after left (honest_last before writes.was honest writes.honest) writes.written may
 crashes_at_events Event.MakeClean before after left honest writes may = in_memory before after left writes may
 crashes_at_events (Event.Begin n p) before after left honest writes may = in_memory before after left writes may
 crashes_at_events (Event.Finish n) before after left honest writes may = in_memory before after left writes may
 crashes_at_events (Event.ClearIdle c) before after left honest writes may = in_memory before after left writes may
 crashes_at_events (Event.Fail k) before after left honest writes may = in_memory before after left writes may
+crashes_at_events (Event.LowerOffset k s) before after left honest writes may = in_memory before after left writes may
 crashes_at_events (Event.Fill k) before after left honest writes may =
-    left_alone k (IsSameBesideMissing writes.0 writes.1) before after left (λ c. record { size = refl; beside = λ at n _. refl }) honest writes.2 may
+    left_alone k (IsSameBesideUnsaid writes.0 writes.1) before after left (λ c. record { size = refl; beside = λ at n _. refl }) honest writes.2 may
 crashes_at_events (Event.Prepare k) before after left honest writes may =
     left_alone k (IsSameBesideMarks writes.0) before after left (λ c. record { size = refl; beside = λ at n _. refl }) honest writes.1 may
 crashes_at_events (Event.RecordTargetFails k) before after left honest writes may = (writes.0, writes.1, crashes_at_failure k writes.0 before after left honest writes.1 may)
 crashes_at_events (Event.SpoilTarget k) before after left honest writes may = tt
 crashes_at_events (Event.Enrol k role listed) before after left honest writes may = tt
 crashes_at_events (Event.Admit k role listed) before after left honest writes may = (writes.0, writes.1, crashes_at_write k writes.0 before after left honest writes.1 may)
-crashes_at_events (Event.Checkpoint k offset listed) before after left honest writes may = (writes.0, writes.1, crashes_at_write k writes.0 before after left honest writes.1 may)
+crashes_at_events (Event.Checkpoint k sure listed) before after left honest writes may = (writes.0, writes.1, crashes_at_write k writes.0 before after left honest writes.1 may)
 crashes_at_events (Event.NoteBad k c) before after left honest writes may = in_memory before after left writes may
 crashes_at_events (Event.StoreLog k listed) before after left honest (inl same) may = inl (in_memory before after left same may)
 crashes_at_events (Event.StoreLog k listed) before after left honest (inr writes) may = inr (writes.0, writes.1, crashes_at_write k writes.0 before after left honest writes.1 may)

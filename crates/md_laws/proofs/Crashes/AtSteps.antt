@@ -6,8 +6,8 @@ use Rattle.std.proofs.lemmas.List.{drop_at, length-drop, length-map}
 use Rattle.std.proofs.lemmas.Option.{get_or_from_slice_get, none-some, same_Some, slice_get-get_or, slice_get-map, slice_get_past, slice_get_within}
 use Rattle.md_device.specs.Crashes.{LeavesMore}
 use Rattle.md_device.proofs.Leaving.{mixed_none, mixed_one}
-use Rattle.md_device_writes.specs.Writes.{IsAnyIn, IsCutShort, Write}
-use Rattle.md_device_writes.proofs.Runs.{cut_one}
+use Rattle.md_members.specs.DeviceWrites.Writes.{IsAnyIn, IsCutShort, Write}
+use Rattle.md_members.proofs.DeviceWriteLemmas.Runs.{cut_one}
 use Rattle.md_state.specs.View.{Disk}
 use Rattle.md_state.specs.DiskWrites.{IsTried, IsWritten}
 use Rattle.md_array.specs.Steps.Record.{super_write}

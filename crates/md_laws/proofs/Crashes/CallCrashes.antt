@@ -9,7 +9,7 @@ use Rattle.md_model.specs.Events.{Event, MemberPart}
 use Rattle.md_model.specs.Sectors.{put}
 use Rattle.md_model.specs.Worlds.{Request}
 use Rattle.md_model.proofs.Puts.{by_same, put-self}
-use Rattle.md_requests.specs.Pending.{PendingView}
+use Rattle.md_inflight.specs.Requests.Pending.{PendingView}
 use Rattle.md_state.specs.Steps.CopyData.{FailsToCopy, run_write}
 use Rattle.md_state.specs.Members.{IsInSync}
 use Rattle.md_state.specs.Requests.{among, request_of}
@@ -170,17 +170,18 @@ module _ (previous : Option Event) (t : Moment) (at : IsSoundAt t) (mid : Mirror
   within_event (Event.ClearIdle c) order did happens whole unshifted asked = in_memory (Event.ClearIdle c) (happens at.honest tt).writes
   within_event Event.MakeClean order did happens whole unshifted asked = in_memory Event.MakeClean (happens at.honest tt).writes
   within_event (Event.Fail k) order did happens whole unshifted asked = in_memory (Event.Fail k) (happens at.honest tt).writes
+  within_event (Event.LowerOffset k s) order did happens whole unshifted asked = in_memory (Event.LowerOffset k s) (happens at.honest tt).writes
   within_event Event.Resynced order did happens whole unshifted asked = in_memory Event.Resynced (happens at.honest tt).writes
   within_event Event.Unresynced order did happens whole unshifted asked = in_memory Event.Unresynced (happens at.honest tt).writes
   within_event (Event.NoteBad k c) order did happens whole unshifted asked = in_memory (Event.NoteBad k c) (happens at.honest tt).writes
   within_event (Event.Copy from k s) order did happens whole unshifted asked = beside (Event.Copy from k s) did happens asked
   within_event (Event.Remove k) order did happens whole unshifted asked = beside (Event.Remove k) did happens asked
   within_event (Event.Add number device) order did happens whole unshifted asked = beside (Event.Add number device) did happens asked
-  within_event (Event.ReAdd own device after) order did happens whole unshifted asked = beside (Event.ReAdd own device after) did happens asked
+  within_event (Event.ReAdd own offset device after) order did happens whole unshifted asked = beside (Event.ReAdd own offset device after) did happens asked
   within_event (Event.SpoilTarget k) order did happens whole unshifted asked = beside (Event.SpoilTarget k) did happens asked
   within_event (Event.Enrol k role listed) order did happens whole unshifted asked = beside (Event.Enrol k role listed) did happens asked
   within_event (Event.Admit k role listed) order did happens whole unshifted asked = beside (Event.Admit k role listed) did happens asked
-  within_event (Event.Checkpoint k offset listed) order did happens whole unshifted asked = beside (Event.Checkpoint k offset listed) did happens asked
+  within_event (Event.Checkpoint k sure listed) order did happens whole unshifted asked = beside (Event.Checkpoint k sure listed) did happens asked
 
 -- ---- along a list
 -- after an event that was done

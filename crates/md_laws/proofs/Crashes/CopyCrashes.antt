@@ -9,8 +9,8 @@ use Rattle.md_device.proofs.Splices.{part_after, part_before, spliced_outside}
 use Rattle.md_device.proofs.Leaving.{three_same}
 use Rattle.md_model.specs.Events.{Event}
 use Rattle.md_model.proofs.Puts.{by_same}
-use Rattle.md_device_writes.specs.Writes.{IsCutShort}
-use Rattle.md_device_writes.proofs.Runs.{cut_one}
+use Rattle.md_members.specs.DeviceWrites.Writes.{IsCutShort}
+use Rattle.md_members.proofs.DeviceWriteLemmas.Runs.{cut_one}
 use Rattle.md_kept_members.specs.View.{MemberView}
 use Rattle.md_state.specs.View.{Disk, MirrorView}
 use Rattle.md_state.specs.Steps.CopyData.{CopiesSector, CopiesTo, IsCopy, MayCopy, run_write}
@@ -31,6 +31,8 @@ use Rattle.md_laws.specs.CopyCrashes.{IsCopiedInPart, CrashesAtCopies, copies_at
 use Rattle.md_laws.specs.CrashesWithin.{IsLeftBut}
 use Rattle.md_laws.proofs.Crashes.AtSteps.{same_lists, crashes_at_failure, crashes_at_write}
 use Rattle.md_assembly.proofs.Indices.{got_within}
+use Rattle.md_device.proofs.Failing.{fails_none}
+use Rattle.std.specs.Prelude.{⊤}
 
 -- some of these sectors were copied: the device then has these bytes, and the others are as they were
 record IsCopiedTo (from k : ℕ) (old : MirrorView) (bytes : List ℕ) : Type 0 where
@@ -199,7 +201,7 @@ module _ (n from k : ℕ) (go : Copied n from k) (s : ℕ) (bytes : List ℕ) (o
           tried = record {
             as_many = length-set old.disks k now;
             others = λ j apart. got_other old.disks k j now apart;
-            stays = at_device old.disks k d now StaysHonest at (record { honest = refl; counted = omega arith });
+            stays = at_device old.disks k d now StaysHonest at (record { honest = refl; counted = omega arith; grown = fails_none d.faults (λ _. ⊤) });
             outside = at_device old.disks k d now (λ x y. SameOutside start (length (take 512 bytes)) x.content y.content) at
                 (subst (λ (x : ℕ). SameOutside start x d.content middle) (sym long_first) (first_half start 512 (512 * n) d.content left outside low));
           };

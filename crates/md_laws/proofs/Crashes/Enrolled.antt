@@ -10,7 +10,7 @@ use Rattle.md_state.specs.View.{ArrayView, Disk, MirrorView}
 use Rattle.md_super.specs.Faults.{NoSuperFault}
 use Rattle.md_super.specs.Format.{IsSuper}
 use Rattle.md_super.specs.Merge.{merged}
-use Rattle.md_device_writes.specs.Writes.{IsAnyIn, IsCutShort}
+use Rattle.md_members.specs.DeviceWrites.Writes.{IsAnyIn, IsCutShort}
 use Rattle.md_array.specs.Consistency.{IsConsistent}
 use Rattle.md_array.specs.Steps.Enrol.{Enrols}
 use Rattle.md_array.specs.ReadAsKept.{AreReadAsKept}

@@ -9,8 +9,8 @@ use Rattle.md_format.specs.Fields.{bytes_at, number_at}
 use Rattle.md_format.specs.FirstFault.{check, first_fault}
 use Rattle.md_format.proofs.Places.{little_from-part}
 use Rattle.md_model.proofs.Cases.{by_option}
-use Rattle.md_device_writes.specs.Writes.{IsCutShort}
-use Rattle.md_device_writes.proofs.Runs.{cut_one}
+use Rattle.md_members.specs.DeviceWrites.Writes.{IsCutShort}
+use Rattle.md_members.proofs.DeviceWriteLemmas.Runs.{cut_one}
 use Rattle.md_super.specs.declared.fault.SuperFault.{SuperFault}
 use Rattle.md_super.specs.declared.fault.SuperFault.TheVariants.{Magic, Major, MaxDev, Checksum, SuperOffset, Feature, Level, RaidDisks, NoMemory}
 use Rattle.md_super.specs.declared.superblock.Superblock.{Superblock}

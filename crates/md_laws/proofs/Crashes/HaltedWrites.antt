@@ -10,7 +10,7 @@ use Rattle.std.proofs.lemmas.Nat.Bits.{bit_at-zero}
 use Rattle.md_bitmap.specs.Marks.{Bitmap, is_set}
 use Rattle.md_model.proofs.Cases.{not_below-nat_lt}
 use Rattle.md_model.specs.Sectors.{block_of}
-use Rattle.md_device_writes.specs.Writes.{Write}
+use Rattle.md_members.specs.DeviceWrites.Writes.{Write}
 use Rattle.md_kept_members.specs.StoredMarks.{HasStored}
 use Rattle.md_state.specs.Steps.StoreLog.{logged}
 use Rattle.md_state.specs.Steps.StoreMarks.{StoresMarkSector}

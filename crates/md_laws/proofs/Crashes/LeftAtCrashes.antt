@@ -10,7 +10,7 @@ use Rattle.md_format.specs.Fields.{number_at}
 use Rattle.md_members.specs.Areas.{BitmapIsPlaced, AreAreasPlaced, bitmap_sectors}
 use Rattle.md_members.specs.Members.{sectors_of_device}
 use Rattle.md_bitmap.proofs.Blocks.{length-bitmap_sector}
-use Rattle.md_device_writes.specs.Writes.{IsCutShort, Write}
+use Rattle.md_members.specs.DeviceWrites.Writes.{IsCutShort, Write}
 use Rattle.md_model.specs.Content.{Becomes, Content}
 use Rattle.md_model.specs.Devices.{Stored, Super}
 use Rattle.md_model.specs.Events.{Event}
@@ -21,10 +21,12 @@ use Rattle.md_model.specs.Crashes as crashes
 use Rattle.md_model.specs.Worlds.{World}
 use Rattle.md_model.proofs.Cases.{by_test, none_some}
 use Rattle.md_model.proofs.Puts.{by_same, put-at, put-miss}
-use Rattle.md_requests.specs.Pending.{request_sectors}
+use Rattle.md_inflight.specs.Requests.Pending.{request_sectors}
 use Rattle.md_assembly.specs.States.{is_recorded}
 use Rattle.md_assembly.proofs.Indices.{got_within, got_same}
-use Rattle.md_kept_members.specs.TakingBack.{admitted_member, with_recovery_offset}
+use Rattle.md_kept_members.specs.Members.{recorded_member}
+use Rattle.md_state.specs.Steps.Checkpoint.{checked, with_member_at}
+use Rattle.md_kept_members.specs.TakingBack.{admitted_member}
 use Rattle.md_kept_members.specs.View.{MemberView}
 use Rattle.md_state.specs.View.{ArrayView, Disk, MirrorView, geometry_of}
 use Rattle.md_state.specs.Members.{IsMember}
@@ -66,6 +68,8 @@ use Rattle.md_laws.proofs.Crashes.Enrolled.{left_since, may_record_new}
 use Rattle.md_laws.proofs.Crashes.TakenBack.{left_after, may_record_again}
 use Rattle.md_laws.proofs.Crashes.WithinTarget.{admitted_there, checkpointed_there, recovering_recorded}
 use Rattle.md_laws.proofs.Runs.Rests.{at_once, at_rest}
+use Rattle.md_device.proofs.Failing.{fails_none}
+use Rattle.std.specs.Prelude.{⊤}
 
 -- ---- one device, as a crash left it
 -- parts are on a device as long as another
@@ -94,11 +98,11 @@ pub record KeepsMemory (w next : World) : Type 0 where
   pub request : (n : ℕ) → next.request n ≡ w.request n
   pub known : (i c : ℕ) → w.marks c ≡ true → w.known i c ≡ true → next.known i c ≡ true
 
-same_memory : (w : World) (stored : ℕ → Stored) (due : ℕ → Bool) → KeepsMemory w (record w { stored = stored; due = due })
-same_memory w stored due = record { state = λ _. refl; offset = λ _. refl; bad = λ _ _. refl; marks = λ _. refl; request = λ _. refl; known = λ _ _ _ at. at }
+same_memory : (w : World) (stored : ℕ → Stored) (due : ℕ → Bool) (told : ℕ → ℕ) → KeepsMemory w (record w { stored = stored; due = due; stored_offset = told })
+same_memory w stored due told = record { state = λ _. refl; offset = λ _. refl; bad = λ _ _. refl; marks = λ _. refl; request = λ _. refl; known = λ _ _ _ at. at }
 
 device_memory : (w : World) (k : ℕ) (left : Stored) (next : World) → next ≡ model_steps.with_device w k left → KeepsMemory w next
-device_memory w k left next is = subst (KeepsMemory w) (sym is) (same_memory w (model_steps.with_device w k left).stored w.due)
+device_memory w k left next is = subst (KeepsMemory w) (sym is) (same_memory w (model_steps.with_device w k left).stored w.due w.stored_offset)
 
 marks_memory : (w : World) (k b : ℕ) → KeepsMemory w (model_steps.marks_stored w k b)
 marks_memory w k b = record {
@@ -201,7 +205,7 @@ module _ (Beside : ℕ → Type 0) (t : Moment) (at : IsSoundAt t) where
     tried = refl;
     spoiled = λ _ clear. clear;
     log_known = λ _ _ known. known;
-    memory = same_memory (world_of v t.requests) (world_of v t.requests).stored (world_of v t.requests).due;
+    memory = same_memory (world_of v t.requests) (world_of v t.requests).stored (world_of v t.requests).due (world_of v t.requests).stored_offset;
     count = refl;
     cut = (world_of v t.requests).stored;
     is_cut = inl refl;
@@ -292,7 +296,7 @@ module _ (Beside : ℕ → Type 0) (t : Moment) (at : IsSoundAt t) where
         tried = refl;
         spoiled = λ _ clear. clear;
         log_known = λ _ _ known. known;
-        memory = same_memory (world_of v t.requests) (world_of v t.requests).stored (world_of v t.requests).due;
+        memory = same_memory (world_of v t.requests) (world_of v t.requests).stored (world_of v t.requests).due (world_of v t.requests).stored_offset;
         count = refl;
         cut = read_in a torn.found;
         is_cut = inr (subst (λ r. crashes.IsTorn (geometry_of a) (world_of v r) (read_in a torn.found)) (sym l.in_flight) torn_cut);
@@ -422,7 +426,7 @@ module _ (Beside : ℕ → Type 0) (t : Moment) (at : IsSoundAt t) where
         tried = refl;
         spoiled = λ _ clear. clear;
         log_known = λ _ _ known. known;
-        memory = same_memory (world_of v t.requests) (world_of v t.requests).stored (world_of v t.requests).due;
+        memory = same_memory (world_of v t.requests) (world_of v t.requests).stored (world_of v t.requests).due (world_of v t.requests).stored_offset;
         count = refl;
         cut = (world_of v t.requests).stored;
         is_cut = inl refl;
@@ -450,7 +454,7 @@ module _ (Beside : ℕ → Type 0) (t : Moment) (at : IsSoundAt t) where
       new = record d { content = written d.content 8 w.bytes }
 
       abbrev next : MirrorView
-      next = record { disks = set v.disks k new; array = record a { members = set a.members k (record m { due = false }) } }
+      next = record { disks = set v.disks k new; array = with_member_at a k (recorded_member m) }
 
       low : k < length v.disks
       low = slice_get_within v.disks k d was
@@ -466,7 +470,7 @@ module _ (Beside : ℕ → Type 0) (t : Moment) (at : IsSoundAt t) where
         as_many = length-set v.disks k new;
         others = λ j apart. got_other v.disks k j new apart;
         stays = λ b e before after. let one = got_same v.disks k d b was before in let other = got_same next.disks k new e new_there after in
-            subst (λ (x : Disk). StaysHonest x e) one (subst (StaysHonest d) other (record { honest = refl; counted = omega arith }));
+            subst (λ (x : Disk). StaysHonest x e) one (subst (StaysHonest d) other (record { honest = refl; counted = omega arith; grown = fails_none d.faults (λ _. ⊤) }));
         outside = λ b e before after. let one = got_same v.disks k d b was before in let other = got_same next.disks k new e new_there after in
             subst (λ (x : Disk). SameOutside (512 * 8) (length w.bytes) x.content e.content) one
             (subst (λ (x : Disk). SameOutside (512 * 8) (length w.bytes) d.content x.content) other (spliced_outside d.content (512 * 8) w.bytes (length w.bytes) refl (let size = may.readable.size in let fits = room in omega arith)));
@@ -505,7 +509,7 @@ module _ (Beside : ℕ → Type 0) (t : Moment) (at : IsSoundAt t) where
             (read_super k m may.at may.active w.bytes may.readable.size disks tried d e was is (super_in w.bytes) new.content reads.decoded lists_next
             ∙ sym (read_super k m may.at may.active w.bytes may.readable.size next.disks new_tried d new was new_there (super_in w.bytes) new.content (ap super_in block_new) (λ _. refl))))
             (λ apart. elsewhere k m w disks may.at tried j apart ∙ sym (elsewhere k m w next.disks may.at new_tried j apart))
-            ∙ sym (read_changed a k m (record m { due = false }) may.at refl next.disks j)
+            ∙ sym (read_changed a k m (recorded_member m) may.at refl next.disks j)
 
         recorded : IsSortedBeside Beside t disks
         recorded =
@@ -523,7 +527,8 @@ module _ (Beside : ℕ → Type 0) (t : Moment) (at : IsSoundAt t) where
               spoiled = λ j clear. put-at k false t.spoiled j (λ b. b ≡ false) (λ _. refl) (λ _. clear);
               log_known = λ _ _ known. known;
               memory = subst (KeepsMemory (world_of v t.requests)) (sym does.step.1.3)
-                  (same_memory (world_of v t.requests) (model_steps.recorded (world_of v t.requests) k does.step.1.0).stored (model_steps.recorded (world_of v t.requests) k does.step.1.0).due);
+                  (same_memory (world_of v t.requests) (model_steps.recorded (world_of v t.requests) k does.step.1.0).stored (model_steps.recorded (world_of v t.requests) k does.step.1.0).due
+                  (model_steps.recorded (world_of v t.requests) k does.step.1.0).stored_offset);
               count = ap (λ (w : World). w.events) does.step.1.3;
               cut = (world_of next t.requests).stored;
               is_cut = inl refl;
@@ -767,7 +772,7 @@ module _ (Beside : ℕ → Type 0) (t : Moment) (at : IsSoundAt t) where
   targeted : (left : List Disk) → IsLeftTargeted t left → IsSortedBeside Beside t left
   targeted left l = elim l.call [
     | inl admits ↦ targeted_by left l (admitted_member admits.role admits.may.member) (admitted_there l.on l.before v admits) refl _ admits.readable.size admits.disks
-    | inr stores ↦ targeted_by left l (record (with_recovery_offset stores.1.offset stores.1.may.member) { due = false }) (checkpointed_there l.on stores.0 l.before v stores.1)
+    | inr stores ↦ targeted_by left l (recorded_member (checked stores.1.sure stores.1.may.member)) (checkpointed_there l.on stores.0 l.before v stores.1)
         (recovering_recorded stores.1.may.member.state stores.1.may.recovering) _ stores.1.readable.size stores.1.disks
   ]
 

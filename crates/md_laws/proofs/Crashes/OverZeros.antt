@@ -15,10 +15,10 @@ use Rattle.md_super.specs.Encoding.{back_bytes, bytes_with, front_bytes, super_b
 use Rattle.md_create.specs.declared.params.NewMember.{NewMember}
 use Rattle.md_create.specs.Layout.{KeepsOthers, empty_log, others_of, bitmap_sectors_of, super_write_of, wipe, writes_of}
 use Rattle.md_create.proofs.Laid.{bitmap_keeps, few_sectors, keeps_then, log_keeps, super_keeps}
-use Rattle.md_device_writes.specs.Writes.{after}
-use Rattle.md_device_writes.proofs.Frames.{outside_around}
-use Rattle.md_device_writes.proofs.Runs.{after-append}
-use Rattle.md_device_writes.proofs.Stored.{stored_all}
+use Rattle.md_members.specs.DeviceWrites.Writes.{after}
+use Rattle.md_members.proofs.DeviceWriteLemmas.Frames.{outside_around}
+use Rattle.md_members.proofs.DeviceWriteLemmas.Runs.{after-append}
+use Rattle.md_members.proofs.DeviceWriteLemmas.Stored.{stored_all}
 
 -- lists of as many sectors, each of which is the same
 same_sectors : (n : ℕ) (xs ys : List ℕ) → length xs ≡ 512 * n → length ys ≡ 512 * n → ((i : ℕ) → i < n → part xs (512 * i) 512 ≡ part ys (512 * i) 512) → xs ≡ ys

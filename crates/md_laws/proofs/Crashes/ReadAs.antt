@@ -6,7 +6,7 @@ use Rattle.md_device.proofs.Splices.{part-spliced}
 use Rattle.md_super.specs.Encoding.{super_bytes}
 use Rattle.md_super.proofs.RoleLists.{length-roles_in}
 use Rattle.md_create.specs.ReadBack.{IsReadBack}
-use Rattle.md_device_writes.specs.Writes.{Write}
+use Rattle.md_members.specs.DeviceWrites.Writes.{Write}
 use Rattle.md_model.proofs.Puts.{by_same}
 use Rattle.md_state.specs.DiskWrites.{IsWritten}
 use Rattle.md_state.specs.View.{Disk, MirrorView}

@@ -5,16 +5,16 @@ use Rattle.md_assembly.proofs.Indices.{got_same, got_within}
 use Rattle.md_bitmap.specs.Marks.{Bitmap}
 use Rattle.md_device.specs.Splice.{SameOutside}
 use Rattle.md_kept_members.specs.View.{MemberView}
-use Rattle.md_stored_members.specs.Storing.{log_writes}
-use Rattle.md_stored_members.specs.Superblocks.{write_of}
+use Rattle.md_kept_members.specs.OnDevices.Storing.{log_writes}
+use Rattle.md_kept_members.specs.OnDevices.Superblocks.{write_of}
 use Rattle.md_state.specs.DeviceChanges.{StaysHonest}
 use Rattle.md_state.specs.DiskWrites.{IsFailed, IsTried, IsWritten}
 use Rattle.md_state.specs.Members.{IsMember}
 use Rattle.md_state.specs.Missing.{is_rebuilt}
 use Rattle.md_state.specs.View.{Disk, MirrorView, of_disks}
 use Rattle.md_members.specs.Areas.{bitmap_sectors}
-use Rattle.md_device_writes.specs.Bitmaps.{bitmap_writes}
-use Rattle.md_device_writes.specs.Writes.{FailsInWrites, IsAnyIn, IsCutShort, Write, after}
+use Rattle.md_members.specs.DeviceWrites.Bitmaps.{bitmap_writes}
+use Rattle.md_members.specs.DeviceWrites.Writes.{FailsInWrites, IsAnyIn, IsCutShort, Write, after}
 use Rattle.md_array.specs.Consistency.{IsConsistent}
 use Rattle.md_array.specs.Steps.Enrol.{Enrols, FailsToEnrol, MayEnrol}
 use Rattle.md_array.specs.Steps.EnrolEvents.{FailsAtSuper, Prepares, prepared, writes_before}
@@ -68,7 +68,7 @@ module _ (k : ℕ) (w : Write) (before found : List Disk) (tried : IsTried k w b
       stays = λ d e was is.
           let x = was_bumped k found e is in
           let stayed = tried.stays d x.0 was x.1 in
-          subst (StaysHonest d) (sym x.2) (record { honest = stayed.honest; counted = let more = stayed.counted in omega arith });
+          subst (StaysHonest d) (sym x.2) (record { honest = stayed.honest; counted = (let more = stayed.counted in omega arith); grown = stayed.grown });
       outside = λ d e was is.
           let x = was_bumped k found e is in
           subst (λ (y : Disk). SameOutside (512 * w.sector) (length w.bytes) d.content y.content) (sym x.2) (tried.outside d x.0 was x.1);

@@ -1,7 +1,7 @@
 -- A member that `re_add` has taken back, and what a crash within that call leaves of it.
 use Rattle.std.proofs.Common.{◌≡◌, ℕ, true, List, [], ◌∷◌, ◌++◌, length, map, slice_get, sym, ap, ◌∙◌, subst, arith}
 use Rattle.std.proofs.lemmas.List.{length_push}
-use Rattle.md_device_writes.specs.Writes.{IsAnyIn, Write}
+use Rattle.md_members.specs.DeviceWrites.Writes.{IsAnyIn, Write}
 use Rattle.md_assembly.specs.States.{is_recorded}
 use Rattle.md_kept_members.specs.Members.{made_due}
 use Rattle.md_kept_members.specs.View.{MemberView}

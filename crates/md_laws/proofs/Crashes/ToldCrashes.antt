@@ -7,7 +7,7 @@ use Rattle.md_model.proofs.Puts.{by_same}
 use Rattle.md_state.specs.DeviceChanges.{LeavesOn}
 use Rattle.md_state.specs.DiskWrites.{AtDevice, IsTried}
 use Rattle.md_state.specs.View.{Disk, MirrorView}
-use Rattle.md_device_writes.specs.Writes.{Write}
+use Rattle.md_members.specs.DeviceWrites.Writes.{Write}
 use Rattle.md_array.specs.Events.{IsChangedAlone, WritesOnce}
 use Rattle.md_array.specs.InTurn.{AllLeftWhole, AllOf, Leads, Requests}
 use Rattle.md_array.specs.Worlds.{AreHonest}
@@ -57,7 +57,7 @@ module _ (before after : List Disk) (honest : AreHonest before) where
   grows (Event.WriteFails k part) told w = grows_tried k w.0 before after honest w.1.tried _ w.1.within
   grows (Event.RecordTargetFails k) told w = grows_tried k w.0 before after honest w.1.tried _ w.1.within
   grows (Event.Admit k role listed) told w = grows_tried k w.0 before after honest w.1.tried _ w.1.within
-  grows (Event.Checkpoint k offset listed) told w = grows_tried k w.0 before after honest w.1.tried _ w.1.within
+  grows (Event.Checkpoint k sure listed) told w = grows_tried k w.0 before after honest w.1.tried _ w.1.within
   grows (Event.StoreLog k listed) told (inl same) = grows_same before after same
   grows (Event.StoreLog k listed) told (inr w) = grows_tried k w.0 before after honest w.1.tried _ w.1.within
   grows (Event.Fill k) told w = grows_alone k _ before after honest w.2
@@ -69,6 +69,7 @@ module _ (before after : List Disk) (honest : AreHonest before) where
   grows (Event.Finish n) told same = grows_same before after same
   grows (Event.ClearIdle c) told same = grows_same before after same
   grows (Event.Fail k) told same = grows_same before after same
+  grows (Event.LowerOffset k s) told same = grows_same before after same
   grows (Event.NoteBad k c) told same = grows_same before after same
   grows e told w = absurd told
 

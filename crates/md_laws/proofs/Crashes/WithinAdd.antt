@@ -4,7 +4,7 @@ use Rattle.std.proofs.lemmas.Option.{same_Some}
 use Rattle.md_create.specs.Layout.{IsHalfLaidOut, wipe}
 use Rattle.md_device.specs.Crashes.{LeavesMore}
 use Rattle.md_device.proofs.Leaving.{mixed_none}
-use Rattle.md_device_writes.specs.Writes.{IsCutShort, Write}
+use Rattle.md_members.specs.DeviceWrites.Writes.{IsCutShort, Write}
 use Rattle.md_faults.specs.declared.add_fault.AddFault.TheVariants.{Halted, TooSmall, Full, EventsFull, WriteFault, NoMemory}
 use Rattle.md_state.specs.View.{Disk, MirrorView}
 use Rattle.md_array.proofs.General.Appended.{got_beside, got_last}

@@ -11,12 +11,12 @@ use Rattle.md_device.proofs.Leaving.{in_three, three_same}
 use Rattle.md_kept_members.specs.Enrolling.{log_room}
 use Rattle.md_kept_members.specs.View.{MemberView}
 use Rattle.md_model.proofs.Cases.{by_test}
-use Rattle.md_stored_members.specs.Storing.{sector_from_super}
+use Rattle.md_kept_members.specs.OnDevices.Storing.{sector_from_super}
 use Rattle.md_state.specs.DiskWrites.{IsWritten}
 use Rattle.md_state.specs.View.{Disk, MirrorView}
 use Rattle.md_super.specs.Log.{has_bad_block_log}
-use Rattle.md_device_writes.specs.Writes.{Write}
-use Rattle.md_device_writes.proofs.Runs.{cut_one}
+use Rattle.md_members.specs.DeviceWrites.Writes.{Write}
+use Rattle.md_members.proofs.DeviceWriteLemmas.Runs.{cut_one}
 use Rattle.md_array.specs.Steps.StoreLog.{AreWritten, StoresLog}
 use Rattle.md_array.specs.Worlds.{AreHonest}
 use Rattle.md_array.proofs.Rebuilding.MemberStored.{log_long}

@@ -2,11 +2,11 @@
 use Rattle.std.proofs.Common.{◌≡◌, ℕ, true, List, [], ◌∷◌, ◌++◌, length, refl, sym, ◌∙◌, subst}
 use Rattle.md_device.specs.Crashes.{LeavesMore}
 use Rattle.md_device.proofs.Leaving.{leaves_less, leaves_none, leaves_then}
-use Rattle.md_device_writes.specs.Writes.{IsAnyIn, Write}
+use Rattle.md_members.specs.DeviceWrites.Writes.{IsAnyIn, Write}
 use Rattle.md_faults.specs.declared.re_add_fault.ReAddFault.TheVariants.{Halted, Member, Full, NotReAddable, NoRole, EventsFull, WriteFault, NoMemory}
 use Rattle.md_kept_members.specs.TakingBack.{own_role}
-use Rattle.md_membership.specs.Joining.{joined_shared}
-use Rattle.md_stored_members.specs.Superblocks.{write_of}
+use Rattle.md_kept_members.specs.Membership.Joining.{joined_shared}
+use Rattle.md_kept_members.specs.OnDevices.Superblocks.{write_of}
 use Rattle.md_state.specs.View.{Disk, MirrorView}
 use Rattle.md_array.specs.Steps.ReAdd.{IsOnlyRead}
 use Rattle.md_laws.specs.CrashesWithin.{IsLeftBut, MayAllBeLeft, CrashesAtFailedReAdd, CrashesAtRefusedReAdd}

@@ -1,5 +1,5 @@
 -- What a crash leaves within `admit` or `checkpoint`, by which a member that is rebuilt tells of it.
-use Rattle.std.proofs.Common.{◌≡◌, ◌⊎◌, ℕ, ◌*◌, inl, inr, true, false, List, length, map, slice_get, Some, refl, sym, ap, ◌∙◌, subst, arith}
+use Rattle.std.proofs.Common.{◌≡◌, ◌⊎◌, ℕ, ◌*◌, inl, inr, true, List, length, map, slice_get, Some, refl, sym, ap, ◌∙◌, subst, arith}
 use Rattle.std.proofs.lemmas.Option.{slice_get_within}
 use Rattle.md_assembly.proofs.Indices.{got_within}
 use Rattle.md_assembly.specs.declared.state.MemberState.{MemberState}
@@ -7,13 +7,14 @@ use Rattle.md_assembly.specs.declared.state.MemberState.TheVariants.{InSync, Rec
 use Rattle.md_assembly.specs.States.{is_recorded, is_recovering}
 use Rattle.md_bitmap.specs.Marks.{Bitmap}
 use Rattle.md_device.proofs.Splices.{part-spliced}
-use Rattle.md_kept_members.specs.Members.{made_due}
-use Rattle.md_kept_members.specs.TakingBack.{admitted_member, with_recovery_offset}
+use Rattle.md_kept_members.specs.Members.{made_due, recorded_member}
+use Rattle.md_kept_members.specs.TakingBack.{admitted_member}
 use Rattle.md_kept_members.specs.View.{MemberView}
 use Rattle.md_state.specs.DiskWrites.{IsWritten}
 use Rattle.md_state.specs.Members.{IsMember}
+use Rattle.md_state.specs.Steps.Checkpoint.{checked}
 use Rattle.md_state.specs.View.{ArrayView, Disk, MirrorView}
-use Rattle.md_device_writes.specs.Writes.{Write}
+use Rattle.md_members.specs.DeviceWrites.Writes.{Write}
 use Rattle.md_array.specs.Steps.Admit.{Admits}
 use Rattle.md_array.specs.Steps.Checkpoint.{Checkpoints}
 use Rattle.md_array.specs.Consistency.{IsConsistent}
@@ -40,11 +41,11 @@ admitted_there k old new r =
     ap (λ (a : ArrayView). slice_get a.members k) r.array ∙ at_set_same due k (admitted_member r.role m) (slice_get_within due k (made_due m) there)
 
 pub checkpointed_there : (k : ℕ) (copied : Bitmap) (old new : MirrorView) (r : Checkpoints k copied old new)
-    → IsMember new.array k (record (with_recovery_offset r.offset r.may.member) { due = false })
+    → IsMember new.array k (recorded_member (checked r.sure r.may.member))
 checkpointed_there k copied old new r =
     let m = r.may.member in
     ap (λ (a : ArrayView). slice_get a.members k) r.array
-    ∙ at_set_same old.array.members k (record (with_recovery_offset r.offset m) { due = false }) (slice_get_within old.array.members k m r.may.at)
+    ∙ at_set_same old.array.members k (recorded_member (checked r.sure m)) (slice_get_within old.array.members k m r.may.at)
 
 -- ---- where both superblocks end in the first sector
 reads_there : (k : ℕ) (m : MemberView) (bytes : List ℕ) (old new : MirrorView) (left : List (List ℕ)) → IsConsistent old → IsMember old.array k m → length bytes ≡ 4096 → AreHonest old.disks

@@ -7,10 +7,10 @@ use Rattle.md_device.proofs.Splices.{spliced_outside}
 use Rattle.md_bitmap.specs.declared.header.BitmapHeader.{BitmapHeader}
 use Rattle.md_bitmap.specs.Marks.{Bitmap}
 use Rattle.md_bitmap.proofs.Blocks.{length-bitmap_sector}
-use Rattle.md_device_writes.specs.Bitmaps.{bitmap_runs, bitmap_write, bitmap_writes, runs_of}
-use Rattle.md_device_writes.specs.Writes.{IsAnyIn, IsNextMixed, Write, after}
-use Rattle.md_device_writes.proofs.Frames.{outside_around, outside_none, outside_then}
-use Rattle.md_device_writes.proofs.Sectors.{length-bitmap_run, runs_from}
+use Rattle.md_members.specs.DeviceWrites.Bitmaps.{bitmap_runs, bitmap_write, bitmap_writes, runs_of}
+use Rattle.md_members.specs.DeviceWrites.Writes.{IsAnyIn, IsNextMixed, Write, after}
+use Rattle.md_members.proofs.DeviceWriteLemmas.Frames.{outside_around, outside_none, outside_then}
+use Rattle.md_members.proofs.DeviceWriteLemmas.Sectors.{length-bitmap_run, runs_from}
 
 -- the write lies in the n sectors from this one on
 pub record IsIn (start n : ℕ) (w : Write) : Type 0 where

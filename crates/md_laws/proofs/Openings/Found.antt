@@ -1,5 +1,5 @@
 -- The states of the world's members are those of assembly.
-use Rattle.std.proofs.Common.{◌≡◌, ℕ, ◌+◌, true, false, true≢false, cond, ◌&&◌, nat_lt, List, Some, sym, ap, ◌∙◌, subst}
+use Rattle.std.proofs.Common.{◌≡◌, ℕ, ◌+◌, inl, true, false, true≢false, cond, ◌&&◌, nat_lt, List, Some, sym, ap, ◌∙◌, subst}
 use Rattle.md_assembly.specs.declared.state.MemberState.{MemberState}
 use Rattle.md_assembly.specs.States.{has_recovery_offset, is_in_sync, is_recovering, role_in, state_of, takes_role}
 use Rattle.md_super.specs.declared.superblock.Superblock.{Superblock}
@@ -115,10 +115,26 @@ module _ (before : List Disk) (m : MirrorView) (honest : AreHonest before) (o : 
       let recovers : model.is_recovering (w.state k) ≡ is_recovering (state_of a.shared info.superblock) =
       ap model.is_recovering (state_here k x.0 x.1) ∙ same_recovering (state_of a.shared x.0.superblock) ∙ ap is_recovering (state_read k x.0 x.1) in
       let events = ap (λ (v : Superblock). v.events) kept in
-      at_is a k 0 (λ mv. mv.superblock.recovery_offset) x.0 x.1
-      ∙ ap (λ (v : Superblock). v.recovery_offset) kept
+      at_is a k 0 (λ mv. mv.offset) x.0 x.1
+      ∙ (seen k x.0 x.1).opened.member.kept.offset
       ∙ sym (λ i. cond (recovers i && nat_lt (events i) a.events_cleared) 0 info.superblock.recovery_offset)
       ∙ ap (λ (v : Super). kept_offset w (w.state k) v) x.2
+
+  -- its superblock is to have the same
+  sure_there : (k : ℕ) (mv : MemberView) → IsMember a k mv → w.sure_offset k ≡ w.offset k
+  sure_there k mv is =
+      at_is a k 0 (λ y. y.superblock.recovery_offset) mv is
+      ∙ ap (λ (v : Superblock). v.recovery_offset) (present.superblock_is before m honest o k mv is)
+      ∙ sym (seen k mv is).opened.member.kept.offset
+      ∙ sym (at_is a k 0 (λ y. y.offset) mv is)
+
+  pub sure_same : (k : ℕ) → w.sure_offset k ≡ w.offset k
+  sure_same k = by_member a k (sure_there k) (λ past. at_past a k 0 (λ y. y.superblock.recovery_offset) past ∙ sym (at_past a k 0 (λ y. y.offset) past))
+
+  stored_offset : (k : ℕ) (own : Super) → (w.stored k).super ≡ Some own → w.stored_offset k ≡ own.offset
+  stored_offset k own e =
+      let x = own_is before m honest o k own e in
+      at_is a k 0 (λ y. y.stored_offset) x.0 x.1 ∙ (seen k x.0 x.1).opened.member.kept.stored_offset ∙ ap (λ (v : Super). v.offset) x.2
 
   recovering : (k : ℕ) (own : Super) → (w.stored k).super ≡ Some own → w.recovering k ≡ own.recovering
   recovering k own e =
@@ -134,5 +150,7 @@ module _ (before : List Disk) (m : MirrorView) (honest : AreHonest before) (o : 
     due = due;
     bad = bad;
     offset = offset;
+    sure_offset = λ k own e. inl (sure_same k);
+    stored_offset = stored_offset;
     recovering = recovering;
   }

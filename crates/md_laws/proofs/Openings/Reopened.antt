@@ -16,7 +16,7 @@ use Rattle.md_model.specs.Crashes as crashes
 use Rattle.md_kept_members.specs.View.{MemberView}
 use Rattle.md_assembly.specs.States.{is_in_sync}
 use Rattle.md_assembly.proofs.Indices.{got_within, got_same}
-use Rattle.md_stored_members.specs.Storing.{sector_from_super}
+use Rattle.md_kept_members.specs.OnDevices.Storing.{sector_from_super}
 use Rattle.md_state.specs.View.{ArrayView, Disk, geometry_of}
 use Rattle.md_state.specs.Members.{IsMember}
 use Rattle.md_state.specs.Missing.{is_rebuilt}

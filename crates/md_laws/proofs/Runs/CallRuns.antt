@@ -1,14 +1,14 @@
 -- A call's events are a run of the mirror.
-use Rattle.std.proofs.Common.{◌≡◌, ◌∙◌, ℕ, false, List, [], ◌∷◌, Option, Some, refl, sym, ap}
+use Rattle.std.proofs.Common.{◌≡◌, ◌∙◌, ℕ, List, [], ◌∷◌, Option, Some, refl, sym, ap}
 use Rattle.std.proofs.lemmas.Option.{slice_get_within}
 use Rattle.md_bitmap.specs.Marks.{Bitmap}
-use Rattle.md_kept_members.specs.TakingBack.{with_recovery_offset}
+use Rattle.md_kept_members.specs.Members.{recorded_member}
 use Rattle.md_kept_members.specs.View.{MemberView}
 use Rattle.md_model.specs.Content.{Content}
 use Rattle.md_model.specs.Events.{Event}
-use Rattle.md_state.specs.Steps.Checkpoint.{with_offset_of}
+use Rattle.md_state.specs.Steps.Checkpoint.{checked, with_member_at}
 use Rattle.md_state.specs.View.{ArrayView, MirrorView}
-use Rattle.md_array.specs.Steps.Checkpoint.{Checkpoints, MovesOffset, checkpoint_event}
+use Rattle.md_array.specs.Steps.Checkpoint.{Checkpoints, checkpoint_event}
 use Rattle.md_array.specs.Consistency.{IsConsistent}
 use Rattle.md_array.specs.Steps.Enrol.{HoldsContent}
 use Rattle.md_array.specs.Events.{Happens}
@@ -106,7 +106,7 @@ admit_is_a_call k old new sound r spare previous requests listed =
 pub failed_admit_is_a_call : FailedAdmitIsACall
 failed_admit_is_a_call k old new sound f spare = spoil_is_a_call k old new sound (admit_spoils k old new sound f spare)
 
--- the offset changes in memory, and then the superblock is recorded
+-- the offsets change in memory, and then the superblock is recorded
 module _ (k : ℕ) (copied : Bitmap) (old new : MirrorView) (sound : IsConsistent old) (r : Checkpoints k copied old new) where
   abbrev a : ArrayView
   a = old.array
@@ -115,16 +115,13 @@ module _ (k : ℕ) (copied : Bitmap) (old new : MirrorView) (sound : IsConsisten
   m = r.may.member
 
   abbrev n : MemberView
-  n = with_recovery_offset r.offset m
+  n = checked r.sure m
 
   abbrev mid : MirrorView
-  mid = record old { array = with_offset_of a k m r.offset }
-
-  moves : MovesOffset k r.offset m.superblock.recovery_offset old mid
-  moves = record { member = m; at = r.may.at; had_is = refl; moved = refl }
+  mid = record old { array = with_member_at a k n }
 
   mid_sound : IsConsistent mid
-  mid_sound = moved_is_consistent k r.offset m.superblock.recovery_offset old mid sound (record { member = m; at = r.may.at; had_is = refl; moved = refl }) r.may.recovering
+  mid_sound = moved_is_consistent k n.offset r.sure n.due old mid sound m r.may.at refl r.may.recovering
 
   records : Records k mid new
   records = record {
@@ -136,11 +133,11 @@ module _ (k : ℕ) (copied : Bitmap) (old new : MirrorView) (sound : IsConsisten
       readable = r.readable;
     };
     disks = r.disks;
-    array = r.array ∙ ap (λ (xs : List MemberView). record a { members = xs }) (sym (set_again a.members k n (record n { due = false })));
+    array = r.array ∙ ap (λ (xs : List MemberView). record a { members = xs }) (sym (set_again a.members k n (recorded_member n)));
   }
 
   checkpointed : (content : Content) → HoldsContent old.disks a content → Happens old (checkpoint_event r) new
-  checkpointed = checkpoint_happens k copied m.superblock.recovery_offset old mid new sound r.may r.offset r.next moves records (recorded_is_consistent k mid new mid_sound records) (record_happens k mid new mid_sound records)
+  checkpointed = checkpoint_happens k copied old mid new sound r.may r.sure r.first refl records (recorded_is_consistent k mid new mid_sound records) (record_happens k mid new mid_sound records)
 
 pub checkpoint_is_a_call : CheckpointIsACall
 checkpoint_is_a_call k copied old new sound r previous requests listed =

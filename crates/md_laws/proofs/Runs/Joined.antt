@@ -13,7 +13,7 @@ use Rattle.md_model.specs.Worlds.{World}
 use Rattle.md_model.proofs.Lives.Lives.{sound_in_sync}
 use Rattle.md_super.specs.declared.superblock.Superblock.{Superblock}
 use Rattle.md_super.specs.Log.{has_bad_block_log}
-use Rattle.md_stored_members.specs.Storing.{sector_from_super}
+use Rattle.md_kept_members.specs.OnDevices.Storing.{sector_from_super}
 use Rattle.md_state.specs.View.{ArrayView, Disk, MirrorView, geometry_of}
 use Rattle.md_array.specs.Steps.ReAdd.{ReAdds}
 use Rattle.md_array.specs.ReadAsKept.{HasOwnSuper, IsOwnSuper, IsSuperOn}
@@ -58,7 +58,7 @@ module _ (a : ArrayView) (m : MemberView) (left : List ℕ) (parts : HasParts a 
   own : IsOwnSuper a.shared m.superblock now v
   own = own_stays a.shared m.superblock left now (block_beside_bitmap a m left now parts still) (log_beside_bitmap a m left now parts still) has v there
 
-  superblock_is : back.superblock ≡ recovering r.recorded.takes.offset (kept_superblock r.info)
+  superblock_is : back.superblock ≡ recovering r.recorded.takes.sure (kept_superblock r.info)
   superblock_is = r.recorded.takes.taken.superblock
 
   data_offset : back.superblock.data_offset ≡ m.superblock.data_offset
@@ -67,7 +67,7 @@ module _ (a : ArrayView) (m : MemberView) (left : List ℕ) (parts : HasParts a 
   listed : (sector : ℕ) → is_listed back.superblock now sector ≡ is_listed m.superblock now sector
   listed sector =
       ap (λ (x : Superblock). is_listed x now sector) superblock_is
-      ∙ listed_recovering r.recorded.takes.offset (kept_superblock r.info) now (super_of v) (super_shown (block_on now) v there.fields there.sound) sector
+      ∙ listed_recovering r.recorded.takes.sure (kept_superblock r.info) now (super_of v) (super_shown (block_on now) v there.fields there.sound) sector
       ∙ listed_kept_of now v r.info.bad there.fields there.sound sector
       ∙ own.listed sector
 

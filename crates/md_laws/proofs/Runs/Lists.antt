@@ -21,7 +21,7 @@ use Rattle.md_array.specs.Events.{KeepsLists, ListsIn, ListsStill}
 use Rattle.md_array.specs.Open.Opened.{IsOpenedFrom}
 use Rattle.md_array.specs.Worlds.{AreHonest, none_in_flight, world_of}
 use Rattle.md_laws.specs.Left.{IsLeftByCrash, IsStoringOwn}
-use Rattle.md_laws.specs.Recovering.{SaysNoMoreWhereKnown}
+use Rattle.md_laws.specs.Recovering.{ListsWhereKnown, SaysNoMoreWhereKnown}
 use Rattle.md_laws.specs.Runs.{MirrorRun, Moment, history_of, log_unknown_after, opened_as, then_as}
 use Rattle.md_laws.proofs.Openings.Opened as opening
 use Rattle.md_laws.proofs.Runs.Moments.{IsSoundAt, run_keeps, sound_when_opened}
@@ -151,15 +151,16 @@ list_step g w u t Event.Unresynced w' h l = subst (ListsAreIn u) (sym h.1) t
 list_step g w u t Event.MakeClean w' h l = subst (ListsAreIn u) (sym h.3) t
 list_step g w u t (Event.Remove k) w' h l = subst (ListsAreIn (λ j. u (skip k j))) (sym h.3) (when_removed g u w t k (is_spare (w.state k)) h.0)
 list_step g w u t (Event.Add d left) w' h l = subst (ListsAreIn (put w.members false u)) (sym h.4) (when_joined g u (risen g w h.0) t (new_member d left))
-list_step g w u t (Event.ReAdd own device left) w' h l = subst (ListsAreIn (put w.members false u)) (sym h.4) (when_joined g u (risen g w h.0) t (former_member own left))
+list_step g w u t (Event.ReAdd own offset device left) w' h l = subst (ListsAreIn (put w.members false u)) (sym h.4) (when_joined g u (risen g w h.0) t (former_member own offset left))
+list_step g w u t (Event.LowerOffset k x) w' h l = subst (ListsAreIn u) (sym h.1) t
 list_step g w u t (Event.Fill k) w' h l = subst (ListsAreIn u) (sym h.3) (still u w t k h.0 (ap (λ (d : Stored). d.listed) h.2.rest))
 list_step g w u t (Event.Prepare k) w' h l = subst (ListsAreIn (put k true u)) (sym h.3) (when_unknown u w t k h.0)
 list_step g w u t (Event.RecordTargetFails k) w' h l = subst (ListsAreIn u) (sym h.1.2) (when_told u w t k h.0 (subst (ListsStill k w) h.1.2 l))
 list_step g w u t (Event.SpoilTarget k) w' h l = subst (ListsAreIn (put k true u)) (sym h.1.2) (when_unknown u w t k h.0)
 list_step g w u t (Event.Enrol k role listed) w' h l = subst (ListsAreIn (put k false u)) (sym h.3) (when_enrolled g u (risen g w h.0) t k role listed)
 list_step g w u t (Event.Admit k role listed) w' h l = subst (ListsAreIn u) (sym h.3) (when_admitted g u (risen g w h.0) t k role listed h.1.spare (subst (ListsStill k w) h.3 l))
-list_step g w u t (Event.Checkpoint k offset listed) w' h l =
-    subst (ListsAreIn u) (sym h.1) (when_told u w t k (recorded_device (with_offset w k offset) k listed) (subst (ListsStill k w) h.1 l))
+list_step g w u t (Event.Checkpoint k sure listed) w' h l =
+    subst (ListsAreIn u) (sym h.1) (when_told u w t k (recorded_device (with_offset w k sure) k listed) (subst (ListsStill k w) h.1 l))
 list_step g w u t (Event.NoteBad k c) w' h l = subst (ListsAreIn u) (sym h.1) (when_noted g u w t k c h.0.in_sync)
 list_step g w u t (Event.StoreLog k listed) w' h l = subst (ListsAreIn u) (sym h.2) (when_in_sync u w t k (record (w.stored k) { listed = listed }) h.0)
 
@@ -215,3 +216,8 @@ says_no_more_where_known before m start at_first es t r left is k target clear k
       offset = offsets_are_kept before m start at_first es t r left is k clear;
       listed = listed_at_crash t sound kept left is k target known beside own told;
     })
+
+pub lists_where_known : ListsWhereKnown
+lists_where_known before m start es t r left is k target known beside own told s low below off =
+    listed_at_crash t (run_keeps es (opened_as m) t r (sound_when_opened before m start.honest start.opened))
+    (lists_run es (opened_as m) t r (lists_when_opened before m start.honest start.opened)) left is k target known beside own told s off

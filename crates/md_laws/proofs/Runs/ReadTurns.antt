@@ -40,7 +40,7 @@ left_whole (Event.WriteFails k MemberPart.Superblock) old new is = absurd is
 left_whole (Event.WriteFails k MemberPart.Log) old new is = absurd is
 left_whole (Event.RecordTargetFails k) old new is = absurd is
 left_whole (Event.Enrol k role listed) old new is = absurd is
-left_whole (Event.Checkpoint k offset listed) old new is = absurd is
+left_whole (Event.Checkpoint k sure listed) old new is = absurd is
 left_whole (Event.StoreLog k listed) old new is = absurd is
 left_whole e old new is = tt
 

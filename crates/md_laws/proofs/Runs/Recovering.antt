@@ -25,7 +25,7 @@ use Rattle.md_laws.specs.Runs.{HasRested, IsStart, MirrorRun, MirrorRunWith, Mom
 use Rattle.md_laws.proofs.Runs.LeftBehind.{content_next, held_along, held_next, held_then, kept_here, leads_to, reopens_here, same, same_here, small_here}
 use Rattle.md_laws.proofs.Runs.ContentRuns.{without_content}
 use Rattle.md_laws.proofs.Runs.Lists.{ListsAreIn, listed_at_crash, lists_run, lists_when_opened}
-use Rattle.md_laws.proofs.Runs.Offsets.{offset_at_crash, offsets_run}
+use Rattle.md_laws.proofs.Runs.Offsets.{SuresIn, offset_at_crash, offsets_run, sures_when_opened}
 use Rattle.md_laws.proofs.Runs.MirrorContents.{IsHeldAt, life_held_at, starts_small}
 use Rattle.md_laws.proofs.Runs.MirrorLives.{as_left, left}
 use Rattle.md_laws.proofs.Runs.MirrorRuns.{starts}
@@ -34,10 +34,10 @@ use Rattle.md_laws.proofs.Crashes.LeftAtCrashes.{IsSorted, KeepsMemory}
 use Rattle.md_laws.proofs.Crashes.LeftContents.{read_in}
 
 -- the content is held, members have their roles, and those that recover hold it where they lack nothing
-record IsResumedAt (g : Geometry) (opened : Super) (t : Moment) (a : Content) : Type 0 where
-  held : IsHeldAt g opened t a
-  roles : HasRoles g (world_of t.mirror t.requests)
-  recovering : RecoveringHolds g a (world_of t.mirror t.requests)
+pub record IsResumedAt (g : Geometry) (opened : Super) (t : Moment) (a : Content) : Type 0 where
+  pub held : IsHeldAt g opened t a
+  pub roles : HasRoles g (world_of t.mirror t.requests)
+  pub recovering : RecoveringHolds g a (world_of t.mirror t.requests)
 
 -- what is kept of the member is the same in another world, and so is which devices say no more
 module _ (g : Geometry) (w next : World) (keeps : KeepsMemory w next) (k : ℕ) (d : Stored) where
@@ -74,14 +74,14 @@ half_kept g w k d e half t = record {
 }
 
 module _ (g : Geometry) (small : IsWithinLimits g) where
-  resumed_rests : (opened : Super) (t last : Moment) (a : Content) → HasRested t last → IsResumedAt g opened t a → IsResumedAt g opened last a
+  pub resumed_rests : (opened : Super) (t last : Moment) (a : Content) → HasRested t last → IsResumedAt g opened t a → IsResumedAt g opened last a
   resumed_rests opened t last a r is = record {
     held = held_along g small opened [] t a last a (r, refl) is.held;
     roles = subst (λ h. HasRoles g h.now) (sym (history_rests t last r)) is.roles;
     recovering = subst (λ h. RecoveringHolds g a h.now) (sym (history_rests t last r)) is.recovering;
   }
 
-  resumed_then : (opened : Super) (t : Moment) (a : Content) → IsResumedAt g opened t a → (e : Event) (m : MirrorView) (requests : ℕ → Option Request) → RestsThenDoes t.mirror t.requests e m requests
+  pub resumed_then : (opened : Super) (t : Moment) (a : Content) → IsResumedAt g opened t a → (e : Event) (m : MirrorView) (requests : ℕ → Option Request) → RestsThenDoes t.mirror t.requests e m requests
       → (b : Content) → Becomes (geometry_of t.mirror.array) e (world_of t.mirror t.requests) a b → JoinsBehind (geometry_of t.mirror.array) e (world_of t.mirror t.requests) a
       → IsResumedAt g opened (then_as t e m requests) b
   resumed_then opened t a is e m requests does b becomes joins =
@@ -141,7 +141,7 @@ module _ (g : Geometry) (small : IsWithinLimits g) where
     same_next : geometry_of next.array ≡ here
     same_next = same g small opened same_opened t a is.held next again ∙ sym is.held.geometry
 
-    resumed_at_stop : IsResumed here was (history_of s.moment) a
+    pub resumed_at_stop : IsResumed here was (history_of s.moment) a
     resumed_at_stop =
         let x = resumed_along was s.events t a s.moment a (s.still a) (s.joins a) is in
         subst (λ y. IsResumed y was (history_of s.moment) a) (sym is.held.geometry) (record { held = x.held.held; roles = x.roles; recovering = x.recovering })
@@ -156,11 +156,11 @@ module _ (g : Geometry) (small : IsWithinLimits g) where
         ]
 
     -- what a device says that is known
-    module _ (es : List Event) (r : MirrorRun (opened_as opened) es t) (first_lists : ListsAreIn (λ _. false) (world_of opened none_in_flight)) (k : ℕ) (clear : t.spoiled k ≡ false)
+    module _ (es : List Event) (r : MirrorRun (opened_as opened) es t) (first_lists : ListsAreIn (λ _. false) (world_of opened none_in_flight)) (first_sures : SuresIn (world_of opened none_in_flight)) (k : ℕ) (clear : t.spoiled k ≡ false)
         (known : IsOffsetKnown opened t again.devices.left again.devices.is_left k) where
       known_says : (own : Super) → (read_in t.mirror.array again.devices.left k).super ≡ Some own → SaysNoMore t again.devices.left k
       known_says own told = inl (record {
-        offset = offset_at_crash t is.held.sound (offsets_run es (opened_as opened) t r (λ j _. known.offsets j)) again.devices.left again.devices.is_left k clear;
+        offset = offset_at_crash t is.held.sound (offsets_run es (opened_as opened) t r (λ j _. known.offsets j) first_sures) again.devices.left again.devices.is_left k clear;
         listed = listed_at_crash t is.held.sound (lists_run es (opened_as opened) t r first_lists) again.devices.left again.devices.is_left k known.rebuilt known.log known.beside own told;
       })
 
@@ -170,7 +170,7 @@ module _ (g : Geometry) (small : IsWithinLimits g) where
         listed = λ own told. (as_kept k (known_says own told)).listed own told;
       }
 
-    module _ (es : List Event) (run : MirrorRun (opened_as opened) es t) (first_lists : ListsAreIn (λ _. false) (world_of opened none_in_flight))
+    module _ (es : List Event) (run : MirrorRun (opened_as opened) es t) (first_lists : ListsAreIn (λ _. false) (world_of opened none_in_flight)) (first_sures : SuresIn (world_of opened none_in_flight))
         (b : Content) (told : MirrorOpensBehind opened t next again b) (becomes : BecomesAtOpening (geometry_of next.array) w a b) where
       opens_behind : OpensBehind here was (history_of s.moment) first w (reopens_here g small opened same_opened t a is.held next again) b
       opens_behind j on = elim (told j on) [
@@ -180,14 +180,14 @@ module _ (g : Geometry) (small : IsWithinLimits g) where
             inl (subst (λ i. (r.made_of i ≡ r.left i) × model.IsAsKept here now i (r.left i)) (sym there.0) (
               there.1,
               half_kept here now x.0 (read_in t.mirror.array again.devices.left x.0) (r.left x.0) there.2 (elim x.2 [
-                | inl known ↦ known_as_kept es run first_lists x.0 (again.devices.unspoiled x.0 j (again.devices.found j x.0 x.1)) known
+                | inl known ↦ known_as_kept es run first_lists first_sures x.0 (again.devices.unspoiled x.0 j (again.devices.found j x.0 x.1)) known
                 | inr says ↦ as_kept x.0 says
               ]),
             ))
         | inr late ↦ inr (subst (λ y. IsBehind y b (recovered y w j) w) same_next late)
       ]
 
-      resumed_next : IsResumedAt g first (opened_as next) b
+      pub resumed_next : IsResumedAt g first (opened_as next) b
       resumed_next =
           let x = resumed_again here small_there was (history_of s.moment) a resumed_at_stop first w (reopens_here g small opened same_opened t a is.held next again) b
           (subst (λ y. BecomesAtOpening y w a b) same_next becomes) opens_behind in
@@ -199,33 +199,33 @@ module _ (g : Geometry) (small : IsWithinLimits g) where
 
   -- ---- lives
   resumed_life : (m : MirrorView) (a : Content) (es : List Event) (rest : List (List Event)) (final : MirrorView) (last : Moment) (b : Content) (life : MirrorLifeWith m a es rest final last b)
-      → MirrorLifeJoins m a es rest final last b life → geometry_of m.array ≡ g → ListsAreIn (λ _. false) (world_of m none_in_flight) → IsResumedAt g (super_of m.array.shared) (opened_as m) a
+      → MirrorLifeJoins m a es rest final last b life → geometry_of m.array ≡ g → ListsAreIn (λ _. false) (world_of m none_in_flight) → SuresIn (world_of m none_in_flight) → IsResumedAt g (super_of m.array.shared) (opened_as m) a
       → IsResumedAt g (super_of final.array.shared) last b
-  resumed_life m a es [] final last b life told chunks lists is =
+  resumed_life m a es [] final last b life told chunks lists sures is =
       subst (λ (x : MirrorView). IsResumedAt g (super_of x.array.shared) last b) (sym life.0) (resumed_along (super_of m.array.shared) es (opened_as m) a last b life.1 told is)
-  resumed_life m a es (more ∷ rest) final last b life told chunks lists is =
+  resumed_life m a es (more ∷ rest) final last b life told chunks lists sures is =
       let next = life.1 in
       let mid = resumed_along (super_of m.array.shared) es (opened_as m) a life.0 life.2 life.4 told.0 is in
       resumed_life next life.3 more rest final last b life.7 told.2 (same g small m chunks life.0 life.2 mid.held next life.5)
-      (lists_when_opened life.5.before next life.5.devices.honest life.5.opens)
-      (resumed_next m chunks life.0 life.2 mid next life.5 es (without_content es (opened_as m) a life.0 life.2 life.4) lists life.3 told.1 life.6)
+      (lists_when_opened life.5.before next life.5.devices.honest life.5.opens) (sures_when_opened life.5.before next life.5.devices.honest life.5.opens)
+      (resumed_next m chunks life.0 life.2 mid next life.5 es (without_content es (opened_as m) a life.0 life.2 life.4) lists sures life.3 told.1 life.6)
 
-  along_life : (m : MirrorView) (a : Content) (es : List Event) (rest : List (List Event)) (final : MirrorView) (last : Moment) → geometry_of m.array ≡ g → ListsAreIn (λ _. false) (world_of m none_in_flight) → IsResumedAt g (super_of m.array.shared) (opened_as m) a
+  along_life : (m : MirrorView) (a : Content) (es : List Event) (rest : List (List Event)) (final : MirrorView) (last : Moment) → geometry_of m.array ≡ g → ListsAreIn (λ _. false) (world_of m none_in_flight) → SuresIn (world_of m none_in_flight) → IsResumedAt g (super_of m.array.shared) (opened_as m) a
       → (life : MirrorLife m es rest final last) → MirrorLifeTells m a es rest final last life → (b : Content) × MirrorLifeWith m a es rest final last b
-  along_life m a es [] final last chunks lists is life told =
+  along_life m a es [] final last chunks lists sures is life told =
       let x = along (super_of m.array.shared) es (opened_as m) a last is life.1 told in
       (x.0, (life.0, x.1))
-  along_life m a es (more ∷ rest) final last chunks lists is life told =
+  along_life m a es (more ∷ rest) final last chunks lists sures is life told =
       let t = life.0 in
       let next = life.1 in
       let x = along (super_of m.array.shared) es (opened_as m) a t is life.2 told.0 in
       let d = content_next g small m chunks t x.0 x.2.held next life.3 in
       let behind = told.1 x.0 d.0 x.1 d.1 in
-      let y = along_life next d.0 more rest final last (same g small m chunks t x.0 x.2.held next life.3) (lists_when_opened life.3.before next life.3.devices.honest life.3.opens)
-      (resumed_next m chunks t x.0 x.2 next life.3 es life.2 lists d.0 behind.0 d.1) life.4 behind.1 in
+      let y = along_life next d.0 more rest final last (same g small m chunks t x.0 x.2.held next life.3) (lists_when_opened life.3.before next life.3.devices.honest life.3.opens) (sures_when_opened life.3.before next life.3.devices.honest life.3.opens)
+      (resumed_next m chunks t x.0 x.2 next life.3 es life.2 lists sures d.0 behind.0 d.1) life.4 behind.1 in
       (y.0, (t, next, x.0, d.0, x.1, life.3, d.1, y.1))
 
-resumed_first : (before : List Disk) (m : MirrorView) (a : Content) → IsStart before m → Holds (geometry_of m.array) a (world_of m none_in_flight) → RecoveringHolds (geometry_of m.array) a (world_of m none_in_flight)
+pub resumed_first : (before : List Disk) (m : MirrorView) (a : Content) → IsStart before m → Holds (geometry_of m.array) a (world_of m none_in_flight) → RecoveringHolds (geometry_of m.array) a (world_of m none_in_flight)
     → IsResumedAt (geometry_of m.array) (super_of m.array.shared) (opened_as m) a
 resumed_first before m a start holds recovering = record {
   held = life_held_at before m a start holds [] [] m (opened_as m) a (refl, (at_rest (opened_as m), refl));
@@ -239,10 +239,10 @@ says_no_more_when_opened before m start k kept =
 
 pub keeps_recovering : KeepsRecovering
 keeps_recovering before m a start holds recovering es rest final last b life told =
-    (resumed_life (geometry_of m.array) (starts_small before m start) m a es rest final last b life told refl (lists_when_opened before m start.honest start.opened)
+    (resumed_life (geometry_of m.array) (starts_small before m start) m a es rest final last b life told refl (lists_when_opened before m start.honest start.opened) (sures_when_opened before m start.honest start.opened)
     (resumed_first before m a start holds recovering)).recovering
 
 pub content_along : ContentGoesAlong
 content_along before m a start holds recovering es rest final last life told =
-    along_life (geometry_of m.array) (starts_small before m start) m a es rest final last refl (lists_when_opened before m start.honest start.opened)
+    along_life (geometry_of m.array) (starts_small before m start) m a es rest final last refl (lists_when_opened before m start.honest start.opened) (sures_when_opened before m start.honest start.opened)
     (resumed_first before m a start holds recovering) life told

@@ -1,15 +1,15 @@
 -- A mirror of one member that is opened, has a run of two events and is opened again has a life.
 use Rattle.std.proofs.Common.{◌≡◌, ℕ, ◌<◌, inl, inr, Bool, true, false, cond, eqb, nat_lt, ◌*◌, List, [], ◌∷◌, length, slice_get, Option, Some, None, refl, sym, ap, ◌∙◌, subst, arith, lt-ltb}
 use Rattle.std.proofs.lemmas.Option.{none-some, same_Some, slice_get_within}
-use Rattle.md_device_writes.proofs.Frames.{outside_none}
+use Rattle.md_members.proofs.DeviceWriteLemmas.Frames.{outside_none}
 use Rattle.md_members.specs.Areas.{bitmap_sectors}
 use Rattle.md_model.specs.Devices.{AgreeAt, Stored}
 use Rattle.md_model.specs.Events.{Event}
 use Rattle.md_model.specs.Sectors.{put}
 use Rattle.md_model.specs.Worlds.{World}
 use Rattle.md_model.proofs.Cases.{by_test, is_below}
-use Rattle.md_requests.specs.Pending.{PendingView}
-use Rattle.md_stored_members.specs.Storing.{sector_from_super}
+use Rattle.md_inflight.specs.Requests.Pending.{PendingView}
+use Rattle.md_kept_members.specs.OnDevices.Storing.{sector_from_super}
 use Rattle.md_state.specs.View.{ArrayView, Disk, MirrorView}
 use Rattle.md_state.specs.Requests.{among, request_of}
 use Rattle.md_array.specs.Consistency.{IsConsistent}

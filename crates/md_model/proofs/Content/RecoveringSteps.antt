@@ -1,18 +1,20 @@
 -- Every event keeps what is said of recovering members.
-use Rattle.std.proofs.Common.{◌≡◌, ◌≢◌, ℕ, ◌<◌, Bool, true, false, ◌&&◌, ◌||◌, ◌⊎◌, inl, inr, ⊎_elim, refl, sym, ap, ◌∙◌, subst, eqb, true≢false}
-use Rattle.std.specs.Prelude.{not, nat_lt}
+use Rattle.std.proofs.Common.{◌≡◌, ◌≢◌, ℕ, ◌<◌, ◌+◌, ◌*◌, ◌/◌, leb, arith, Bool, true, false, ◌&&◌, ◌||◌, ◌⊎◌, inl, inr, ⊎_elim, refl, sym, ap, ◌∙◌, subst, eqb, true≢false}
+use Rattle.std.specs.Prelude.{not, nat_lt, max}
 use Rattle.std.proofs.lemmas.Bool.{or_parts}
+use Rattle.std.proofs.lemmas.Bool.Decides.{nat_tests}
+use Rattle.std.proofs.Math.Nat.{lt-mul-div-succ, mul_comm}
 use Rattle.md_model.specs.Sectors.{Geometry, chunk_of, is_passed, put}
 use Rattle.md_model.specs.States.{State, is_in_sync, is_recovering}
 use Rattle.md_model.specs.States.State.{Faulty}
 use Rattle.md_model.specs.Devices.{Stored}
 use Rattle.md_model.specs.Worlds.{Request, World, IsInSync}
 use Rattle.md_model.specs.Counts.{risen}
-use Rattle.md_model.specs.Steps.{begun, with_device, recorded, recorded_device, marks_stored, member_written, finished, unmarked, written_device}
+use Rattle.md_model.specs.Steps.{begun, lowered_on, with_device, recorded, recorded_device, marks_stored, member_written, finished, unmarked, written_device}
 use Rattle.md_model.specs.Failures.{failed}
 use Rattle.md_model.specs.Resyncing.{copied, copied_device, made_clean, made_resynced}
 use Rattle.md_model.specs.Membership.{former_member, is_spare, joined, new_member, removed, skip, Newcomer}
-use Rattle.md_model.specs.Rebuilding.{as_in_sync, as_recovering, checkpointed, is_missing, taking_device, with_role_taken, with_offset, IsCopiedAt, IsStillMarked, LeftByFilling, MayCheckpoint, MayEnrol, MayFill, Taking}
+use Rattle.md_model.specs.Rebuilding.{as_in_sync, as_recovering, checkpointed, is_missing, taking_device, with_role_taken, with_offset, LeftByFilling, MayCheckpoint, MayEnrol, MayFill, Taking}
 use Rattle.md_model.specs.Listing.{log_stored, noted_bad}
 use Rattle.md_model.specs.Events.{Event, Fails, Happens}
 use Rattle.md_model.specs.Content.{Content, Becomes, HoldsAtRest}
@@ -70,6 +72,24 @@ pub differs_in_missing : DiffersInMissing
 differs_in_missing g a w t k s low on bad there =
     let x = had g w k s on there in
     (t k on).in_memory s low (counted g w k s bad x.1) x.0
+
+-- the greater of two offsets has passed what one of them has
+passed_by_one : (g : Geometry) (less sure c : ℕ) → is_passed g (max less sure) c ≡ true → is_passed g less c ≡ false → is_passed g sure c ≡ true
+passed_by_one g less sure c at off = one g.size ((c + 1) * g.width) less sure at off
+  where
+    one : (size end less sure : ℕ) → (leb size (max less sure) || leb end (max less sure)) ≡ true → (leb size less || leb end less) ≡ false → (leb size sure || leb end sure) ≡ true
+    one size end less sure at off = grind (arith, nat_tests)
+
+-- what an offset has passed lies before it
+passed_before : (g : Geometry) → 0 < g.width → (offset s : ℕ) → s < g.size → is_passed g offset (chunk_of g s) ≡ true → s < offset
+passed_before g wide offset s low at =
+    let more = lt-mul-div-succ s wide in
+    let order = mul_comm g.width (s / g.width + 1) in
+    let within : s < (s / g.width + 1) * g.width = omega arith in
+    before g.size ((s / g.width + 1) * g.width) within low at
+  where
+    before : (size end : ℕ) → s < end → s < size → (leb size offset || leb end offset) ≡ true → s < offset
+    before size end within low at = grind (arith, nat_tests)
 
 -- fewer sectors of a device that lies behind
 pub behind_less : (g : Geometry) (a : Content) (d d' : Stored) (w : World)
@@ -225,9 +245,9 @@ module _ (g : Geometry) (wide : 0 < g.width) (a : Content) (w : World) (tracked 
             (λ m. same on s off m ∙ (t k on).in_memory s low off m);
       }
 
-  -- What an offset has passed was not missing, or was copied; or it is marked still.
-  checkpoint_old : (k offset : ℕ) (listed : ℕ → Bool) → MayCheckpoint g w k offset → AreLate (checkpointed w k offset listed)
-  checkpoint_old k offset listed may j on = by_same j k
+  -- What the offset has passed by then it had passed before, or it was not missing, or was copied.
+  checkpoint_old : (k sure : ℕ) (listed : ℕ → Bool) → MayCheckpoint g w k sure → AreLate (checkpointed w k sure listed)
+  checkpoint_old k sure listed may j on = by_same j k
       (λ here. subst (λ i. IsLate v i) (sym here) (late, degraded_recovering g w roles k may.recovering))
       (λ apart. from_old v j (record {
         at = j;
@@ -237,27 +257,31 @@ module _ (g : Geometry) (wide : 0 < g.width) (a : Content) (w : World) (tracked 
         offset = put-miss k offset w.offset j apart;
       }))
     where
+      offset : ℕ
+      offset = max (w.offset k) sure
+
       v : World
-      v = checkpointed w k offset listed
+      v = checkpointed w k sure listed
 
       content : (j s : ℕ) → (v.stored j).content s ≡ (w.stored j).content s
-      content j s = put-same (λ (d : Stored). d.content s) k (recorded_device (with_offset w k offset) k listed) w.stored j refl
+      content j s = put-same (λ (d : Stored). d.content s) k (recorded_device (with_offset w k sure) k listed) w.stored j refl
 
-      -- it holds the content there, unless the chunk is marked still
-      has_it : (s : ℕ) → s < g.size → (recovered g v k).listed s ≡ false → (IsStillMarked g w k (chunk_of g s) → (w.stored k).content s ≡ a s) → (v.stored k).content s ≡ a s
-      has_it s low off still =
+      -- it holds the content there, if it does where the old offset had passed
+      has_it : (s : ℕ) → s < g.size → (recovered g v k).listed s ≡ false → ((recovered g w k).listed s ≡ false → (w.stored k).content s ≡ a s) → (v.stored k).content s ≡ a s
+      has_it s low off old =
           let x = counts g v k s off in
           let at : is_passed g offset (chunk_of g s) ≡ true = sym (ap (λ o. is_passed g o (chunk_of g s)) (put-hit k offset w.offset)) ∙ x.1 in
-          content k s ∙ by_test (is_missing g w k (chunk_of g s))
-          (λ lacked. ⊎_elim
-          (λ (y : IsCopiedAt w k s). y.same ∙ holds y.from s low y.in_sync y.unlisted (λ n p e. absurd (none_some p (sym (may.idle n) ∙ e))) (inl may.resynced))
-          still (may.copied s low lacked at))
-          (λ there. differs_in_missing g a w t k s low may.recovering x.0 there)
+          content k s ∙ by_test (passed g w k s)
+          (λ before. old (counted g w k s x.0 before))
+          (λ later. by_test (is_missing g w k (chunk_of g s))
+          (λ lacked. let y = may.copied s low lacked (passed_before g wide sure s low (passed_by_one g (w.offset k) sure (chunk_of g s) at later)) in
+          y.same ∙ holds y.from s low y.in_sync y.unlisted (λ n p e. absurd (none_some p (sym (may.idle n) ∙ e))) (inl may.resynced))
+          (λ there. differs_in_missing g a w t k s low may.recovering x.0 there))
 
       late : IsBehind g a (recovered g v k) w
       late = record {
-        in_memory = λ s low off m. has_it s low off (λ y. (t k may.recovering).in_memory s low (counted g w k s (counts g v k s off).0 y.passed) m);
-        on_members = λ i s low in_ off bit. has_it s low off (λ y. never ((w.stored i).bits (chunk_of g s)) (sym (tracked.known i (chunk_of g s) in_) ∙ y.noted i in_) bit);
+        in_memory = λ s low off m. has_it s low off (λ before. (t k may.recovering).in_memory s low before m);
+        on_members = λ i s low in_ off bit. has_it s low off (λ before. (t k may.recovering).on_members i s low in_ before bit);
       }
 
   pub late_before : (e : Event) (w' : World) → Happens g w e w' → JoinsBehind g e w a → AreLate w'
@@ -277,11 +301,12 @@ module _ (g : Geometry) (wide : 0 < g.width) (a : Content) (w : World) (tracked 
   late_before Event.MakeClean w' s _ = subst AreLate (sym s.3) (all_old (made_clean g w s.0) refl (λ _ _ _. refl) (λ _ _ off. off) refl)
   late_before (Event.Remove k) w' s _ = subst AreLate (sym s.3) (removed_old k (is_spare (w.state k)) s.0)
   late_before (Event.Add d left) w' s _ = subst AreLate (sym s.4) (joined_spare (new_member d left) s.0 refl)
-  late_before (Event.ReAdd own device left) w' s told = subst AreLate (sym s.4) (joined_former (former_member own left) s.0
+  late_before (Event.ReAdd own offset device left) w' s told = subst AreLate (sym s.4) (joined_former (former_member own offset left) s.0
       (⊎_elim inl
       (λ (late : IsBehind g a device w). inr (behind_less g a device left w (λ x _ off. sym (ap (λ (d : Stored). d.listed x) s.2.rest) ∙ off) (λ x _ _. ap (λ (d : Stored). d.content x) s.2.rest) late))
       told)
       (degraded_free g w (own.role own.number) s.1.has_role s.1.free))
+  late_before (Event.LowerOffset k x) w' s _ = subst AreLate (sym s.1) (all_old (lowered_on w k x) refl (λ _ _ _. refl) (λ _ _ off. off) refl)
   late_before (Event.Fill k) w' s _ = subst AreLate (sym s.3) (filled_old k s.0 s.1 s.2)
   late_before (Event.Prepare k) w' s _ = subst AreLate (sym s.3) (target_old k s.0 (λ x. ap (λ (d : Stored). d.content x) s.2.rest))
   late_before (Event.RecordTargetFails k) w' s _ = subst AreLate (sym s.1.2) (target_old k s.0 (λ x. ap (λ (d : Stored). d.content x) s.1.1.rest))

@@ -1,7 +1,8 @@
 -- The mirror of two members: one fails, is removed, and comes again, or a new one comes in its place.
-use Rattle.std.proofs.Common.{◌≡◌, ◌≢◌, ℕ, zero, suc, ◌≤◌, true, false, ◌++◌, [], ◌∷◌, inl, refl, sym, ap, ◌∙◌, cond, eqb, true≢false, arith}
+use Rattle.std.proofs.Common.{◌≡◌, ◌≢◌, ℕ, zero, suc, ◌<◌, ◌≤◌, ◌/◌, true, false, ◌++◌, [], ◌∷◌, inl, refl, sym, ap, ◌∙◌, subst, cond, eqb, true≢false, arith}
 use Rattle.std.specs.Prelude.{Some}
 use Rattle.std.proofs.lemmas.Bool.Decides.{nat_tests}
+use Rattle.std.proofs.Math.Nat.{div-mul-le_self}
 use Rattle.md_model.specs.Sectors.{block_of, chunk_of, put}
 use Rattle.md_model.specs.States.{State, is_active, is_in_sync}
 use Rattle.md_model.specs.States.State.{Faulty}
@@ -60,16 +61,20 @@ abbrev pub own : Super
 own = super_for w4 1
 
 abbrev pub back : Stored
-back = record (w5.stored 1) { super = Some (joined_super (risen small_geometry x2 false) 1 1 true 64) }
+back = record (w5.stored 1) { super = Some (joined_super (risen small_geometry x2 false) 1 1 true 8) }
 
 abbrev pub x3 : World
-x3 = re_added small_geometry x2 own back false
+x3 = re_added small_geometry x2 own 64 back false
 
 -- all that its bitmap has is what was stored of the marks
 stored_marks : HasNoOtherMarks small_geometry (risen small_geometry x2 false) (w5.stored 1)
 stored_marks s low e = by_test (eqb (block_of (chunk_of small_geometry s)) 0)
     (λ at. sym (ap (λ b. cond b (w5.marks (chunk_of small_geometry s)) false) at) ∙ e)
     (λ off. absurd (true≢false (sym e ∙ ap (λ b. cond b (w5.marks (chunk_of small_geometry s)) false) off)))
+
+-- the first chunk has the sectors before the one that was written
+pub first_chunk : (P : ℕ → Type 0) → P 0 → (s : ℕ) → s < 8 → P (chunk_of small_geometry s)
+first_chunk P at s low = subst P (let h = div-mul-le_self s 8 in let e : 0 ≡ s / 8 = omega arith in e) at
 
 may_re_add : MayReAdd small_geometry x2 own
 may_re_add = record {
@@ -97,16 +102,16 @@ alone_after st out j = put-at 1 st x2.state j (λ s. is_in_sync s ≡ true → j
 abbrev h2 : History
 h2 = then_in (then_in (at w5 false) (Event.Fail 1) x1) (Event.Remove 1) x2
 
-pub can_come_again : CanRun (beginning ++ (Event.Fail 1 ∷ Event.Remove 1 ∷ Event.ReAdd own (w5.stored 1) back ∷ []))
+pub can_come_again : CanRun (beginning ++ (Event.Fail 1 ∷ Event.Remove 1 ∷ Event.ReAdd own 64 (w5.stored 1) back ∷ []))
 can_come_again = (
-  then_in h2 (Event.ReAdd own (w5.stored 1) back) x3,
-  then small_geometry beginning (Event.Fail 1 ∷ Event.Remove 1 ∷ Event.ReAdd own (w5.stored 1) back ∷ []) (opening small_world) (at w5 false) (then_in h2 (Event.ReAdd own (w5.stored 1) back) x3) begins (
+  then_in h2 (Event.ReAdd own 64 (w5.stored 1) back) x3,
+  then small_geometry beginning (Event.Fail 1 ∷ Event.Remove 1 ∷ Event.ReAdd own 64 (w5.stored 1) back ∷ []) (opening small_world) (at w5 false) (then_in h2 (Event.ReAdd own 64 (w5.stored 1) back) x3) begins (
     x1,
     (refl, (refl, fails w5 (w5.stored 1) refl refl (λ _. refl))),
     (
       x2,
       (refl, (false, may_remove, never_full x2 alone refl, refl)),
-      (x3, (refl, (false, may_re_add, record { was = refl; offset = 64; passes = inl (refl, stored_marks); rest = refl }, never_full x3 (alone_after State.Recovering refl) refl, refl)), refl),
+      (x3, (refl, (false, may_re_add, record { was = refl; passes = inl (refl, stored_marks); sure_offset = 8; within = omega arith; unmarked = λ s _ low. first_chunk (λ c. x2.marks c ≡ false) refl s low; rest = refl }, never_full x3 (alone_after State.Recovering refl) refl, refl)), refl),
     ),
   ),
 )

@@ -1,6 +1,6 @@
 -- The mirror of two members: one fails and leaves, a sector is written without it, and it comes again, or another one. That is filled
 -- with what it lacks, and comes into sync.
-use Rattle.std.proofs.Common.{◌≡◌, ◌≢◌, ℕ, zero, suc, ◌<◌, ◌+◌, Bool, true, false, cond, ◌&&◌, ◌||◌, ◌++◌, [], ◌∷◌, inl, refl, sym, ap, ◌∙◌, subst, true≢false, arith}
+use Rattle.std.proofs.Common.{◌≡◌, ◌≢◌, ℕ, zero, suc, ◌<◌, ◌≤◌, ◌+◌, Bool, true, false, cond, ◌&&◌, ◌||◌, ◌++◌, [], ◌∷◌, inl, refl, sym, ap, ◌∙◌, subst, true≢false, arith}
 use Rattle.std.specs.Prelude.{Some, None, leb, not}
 use Rattle.std.proofs.lemmas.Bool.Decides.{nat_tests}
 use Rattle.md_model.specs.Sectors.{chunk_of, is_passed, put}
@@ -8,21 +8,22 @@ use Rattle.md_model.specs.States.{State, is_active, is_in_sync, is_recovering}
 use Rattle.md_model.specs.Devices.{AgreeAt, Stored, Super}
 use Rattle.md_model.specs.Worlds.{Request, World, IsInSync, touches}
 use Rattle.md_model.specs.Counts.{risen, IsFull}
-use Rattle.md_model.specs.Steps.{begun, finished, marks_stored, member_written, recorded, with_device, MayBegin, MayFinish, MayWrite}
+use Rattle.md_model.specs.Steps.{begun, finished, lowered_on, marks_stored, member_written, recorded, with_device, MayBegin, MayFinish, MayWrite}
 use Rattle.md_model.specs.Failures.{failed}
 use Rattle.md_model.specs.Resyncing.{IsIdle}
 use Rattle.md_model.specs.Membership.{joined, joined_super, re_added, removed, skip, MayReAdd, MayRemove, Newcomer}
 use Rattle.md_model.specs.Rebuilding.{enrolled, is_missing, is_target, LeftByFilling, MayEnrol}
 use Rattle.md_model.specs.Events.{Event, Happens}
 use Rattle.md_model.specs.Runs.{History, opening, then_in, Run}
-use Rattle.md_model.specs.SmallArray.{small_device, small_geometry, small_super, small_world}
+use Rattle.md_model.specs.SmallArray.{small_device, small_geometry, small_state, small_super, small_world}
 use Rattle.md_model.specs.SmallRun.{CanRun, missed, one_sector, rebuilt}
 use Rattle.md_model.proofs.Cases.{by_test, never, none_some}
 use Rattle.md_model.proofs.Puts.{by_same, put-at, put-hit, put-miss}
 use Rattle.md_model.proofs.Steps.RecordedSteps.{present_keeps}
-use Rattle.md_model.proofs.Examples.Comings.{never_full, only_active, only_first, to_first}
+use Rattle.md_model.proofs.Examples.Comings.{first_chunk, never_full, only_active, only_first, to_first}
 use Rattle.md_model.proofs.Steps.Rebuilding.{not_target, target_out}
-use Rattle.md_model.proofs.Examples.SmallRun.{fails, only_eight, then}
+use Rattle.md_model.proofs.Examples.SmallRun.{fails, none_recovering, only_eight, then}
+use Rattle.md_model.proofs.Steps.Says.{said_below, says_none}
 
 -- ---- without member 1
 abbrev pub z1 : World
@@ -55,12 +56,16 @@ may_remove = record { there = omega arith; out = refl }
 may_begin : MayBegin small_geometry z2 0 one_sector
 may_begin = record { resynced = refl; new = refl; apart = λ m q e. absurd (none_some q e); some = omega arith; inside = omega arith; unwritten = λ _. refl }
 
+none_left : (k : ℕ) → is_recovering (put 1 State.Faulty small_state k) ≡ false
+none_left k = put-at 1 State.Faulty small_state k (λ s. is_recovering s ≡ false) (λ _. refl) (λ _. none_recovering k)
+
 may_write : MayWrite small_geometry z5 0 one_sector 0
 may_write = record {
   in_flight = refl;
   in_sync = refl;
   marked = λ j s on. only_eight (λ t. z5.known j (chunk_of small_geometry t) ≡ true) (subst (λ i. z5.known i 1 ≡ true) (sym (alone j on)) refl) s;
   recorded = λ j on. subst (λ i. z5.due i ≡ false) (sym (alone j on)) refl;
+  unsaid = λ j. says_none z5 8 j (none_left (skip 1 j));
   unwritten = refl;
 }
 
@@ -115,6 +120,7 @@ pub record IsNewcomer (n : Newcomer) : Type 0 where
   pub target : is_target n.state ≡ true
   pub empty : (s : ℕ) → n.device.content s ≡ []
   pub own : n.role ≡ 1
+  pub before : n.sure_offset ≤ 8
   pub small : n.number < 1920
   pub other : n.number ≢ 0
 
@@ -122,11 +128,14 @@ module _ (n : Newcomer) (is : IsNewcomer n) where
   abbrev pub z8 : World
   z8 = joined (risen small_geometry z7 false) n
 
+  abbrev zl : World
+  zl = lowered_on z8 1 0
+
   abbrev filled : Stored
   filled = record n.device { content = put 8 (1 ∷ []) n.device.content }
 
   abbrev z9 : World
-  z9 = with_device z8 1 filled
+  z9 = with_device zl 1 filled
 
   abbrev z10 : World
   z10 = with_device z9 1 filled
@@ -151,13 +160,14 @@ module _ (n : Newcomer) (is : IsNewcomer n) where
   lacks State.Stale p on = absurd (true≢false (sym on))
   lacks State.Faulty p on = absurd (true≢false (sym on))
 
-  fills : LeftByFilling small_geometry z8 1 filled
+  fills : LeftByFilling small_geometry zl 1 filled
   fills = record {
     rest = refl;
     outside = λ s. by_same s 8
         (λ same off. never (is_missing small_geometry z8 1 (chunk_of small_geometry s)) (ap (λ t. is_missing small_geometry z8 1 (chunk_of small_geometry t)) same ∙ lacks n.state (is_passed small_geometry n.offset 1) is.recovering) off)
         (λ apart _. put-miss 8 (1 ∷ []) n.device.content s apart);
     past = λ s high. put-miss 8 (1 ∷ []) n.device.content s (λ same. omega arith);
+    said = λ s says. put-miss 8 (1 ∷ []) n.device.content s (λ same. let low = (said_below zl s 1 says).1 in let first = is.before in omega arith);
   }
 
   -- the others are as before
@@ -171,7 +181,7 @@ module _ (n : Newcomer) (is : IsNewcomer n) where
       only_one : (c : ℕ) → (leb 1 c && leb c 1) ≡ true → c ≡ 1
       only_one c at = grind (arith, nat_tests)
 
-  noted : (i c : ℕ) → IsInSync z8 i → z8.marks c ≡ true → z8.known i c ≡ true
+  noted : (i c : ℕ) → IsInSync zl i → zl.marks c ≡ true → zl.known i c ≡ true
   noted i c on at = subst (λ x. z8.known i x ≡ true) (sym (the_mark c at)) (subst (λ j. z8.known j 1 ≡ true) (sym (first_in_sync i on)) refl)
 
   first_role : z11.role 0 ≡ 0
@@ -212,24 +222,29 @@ module _ (n : Newcomer) (is : IsNewcomer n) where
 
   pub is_rebuilt : (h : History) → h.now ≡ z8 → (last : History) × Run small_geometry h rebuilt last
   is_rebuilt h same =
-      let h9 = then_in h (Event.Fill 1) z9 in
+      let hl = then_in h (Event.LowerOffset 1 0) zl in
+      let h9 = then_in hl (Event.Fill 1) z9 in
       let h10 = then_in h9 (Event.RecordTargetFails 1) z10 in
       let hs = then_in h10 (Event.SpoilTarget 1) zs in
       let h11 = then_in hs (Event.Prepare 1) z11 in (
         then_in h11 (Event.Enrol 1 1 (λ _. false)) z12,
         (
-          z9,
-          subst (λ (w : World). (w.halted ≡ false) × Happens small_geometry w (Event.Fill 1) z9) (sym same) (refl, (filled, record { rebuild = record { idle = idle; target = is.target }; noted = λ _. noted }, fills, refl)),
+          zl,
+          subst (λ (w : World). (w.halted ≡ false) × Happens small_geometry w (Event.LowerOffset 1 0) zl) (sym same) (refl, (is.recovering, refl)),
           (
-            z10,
-            (refl, (filled, (is.target, record { rest = refl; listed = λ on. absurd (true≢false (sym on ∙ target_out n.state is.target)); super = inl refl }, refl))),
+            z9,
+            (refl, (filled, record { rebuild = record { idle = idle; target = is.target }; noted = λ _. noted }, fills, refl)),
             (
-              zs,
-              (refl, (filled, (is.target, record { rest = refl }, refl))),
+              z10,
+              (refl, (filled, (is.target, record { rest = refl; listed = λ on. absurd (true≢false (sym on ∙ target_out n.state is.target)); super = inl refl }, refl))),
               (
-                z11,
-                (refl, (prepared, record { idle = idle; target = is.target }, record { rest = refl }, refl)),
-                (z12, (refl, (true, may_enrol, ((λ _. both_in), (λ _. refl)), refl)), refl),
+                zs,
+                (refl, (filled, (is.target, record { rest = refl }, refl))),
+                (
+                  z11,
+                  (refl, (prepared, record { idle = idle; target = is.target }, record { rest = refl }, refl)),
+                  (z12, (refl, (true, may_enrol, ((λ _. both_in), (λ _. refl)), refl)), refl),
+                ),
               ),
             ),
           ),
@@ -248,13 +263,13 @@ abbrev pub former_device : Stored
 former_device = small_device (Some former)
 
 abbrev pub taken_back : Stored
-taken_back = record former_device { super = Some (joined_super (risen small_geometry z7 false) 1 1 true 64) }
+taken_back = record former_device { super = Some (joined_super (risen small_geometry z7 false) 1 1 true 8) }
 
 abbrev again : Newcomer
-again = record { number = 1; role = 1; state = State.Recovering; recovering = true; offset = 64; device = taken_back }
+again = record { number = 1; role = 1; state = State.Recovering; recovering = true; offset = 64; sure_offset = 8; device = taken_back }
 
 is_again : IsNewcomer again
-is_again = record { recovering = refl; target = refl; empty = λ _. refl; own = refl; small = omega arith; other = λ e. omega arith }
+is_again = record { recovering = refl; target = refl; empty = λ _. refl; own = refl; before = omega arith; small = omega arith; other = λ e. omega arith }
 
 may_re_add : MayReAdd small_geometry z7 former
 may_re_add = record {
@@ -275,14 +290,14 @@ may_re_add = record {
         let one : former.role former.number ≡ 1 = refl in
         omega arith
 
-pub can_return : CanRun (missed ++ (Event.ReAdd former former_device taken_back ∷ rebuilt))
+pub can_return : CanRun (missed ++ (Event.ReAdd former 64 former_device taken_back ∷ rebuilt))
 can_return =
-    let h8 = then_in h7 (Event.ReAdd former former_device taken_back) (re_added small_geometry z7 former taken_back false) in
+    let h8 = then_in h7 (Event.ReAdd former 64 former_device taken_back) (re_added small_geometry z7 former 64 taken_back false) in
     let more = is_rebuilt again is_again h8 refl in (
       more.0,
-      then small_geometry missed (Event.ReAdd former former_device taken_back ∷ rebuilt) (opening small_world) h7 more.0 misses (
-        re_added small_geometry z7 former taken_back false,
-        (refl, (false, may_re_add, record { was = refl; offset = 64; passes = inl (refl, λ _ _ e. absurd (true≢false (sym e))); rest = refl }, never_full (z8 again is_again) (alone_after again is_again refl) refl, refl)),
+      then small_geometry missed (Event.ReAdd former 64 former_device taken_back ∷ rebuilt) (opening small_world) h7 more.0 misses (
+        re_added small_geometry z7 former 64 taken_back false,
+        (refl, (false, may_re_add, record { was = refl; passes = inl (refl, λ _ _ e. absurd (true≢false (sym e))); sure_offset = 8; within = omega arith; unmarked = λ s _ low. first_chunk (λ c. z7.marks c ≡ false) refl s low; rest = refl }, never_full (z8 again is_again) (alone_after again is_again refl) refl, refl)),
         more.1,
       ),
     )

@@ -89,9 +89,10 @@ module _ (g : Geometry) (small : IsWithinLimits g) (opened : Super) (Q : Super �
         removed_all false j = all (skip k j)
     all_step (Event.Add d left) w' s = subst (OfAll Q (put w.members false h.spoiled)) (sym s.4)
         (put_anew w.members left false (λ own e. subst Q (some-injective (joined_super (risen g w s.0) d 65535 false 0) own (sym s.2.super ∙ e)) (came h t d 65535 false s.0 0)))
-    all_step (Event.ReAdd own device left) w' s = subst (OfAll Q (put w.members false h.spoiled)) (sym s.4)
+    all_step (Event.ReAdd own offset device left) w' s = subst (OfAll Q (put w.members false h.spoiled)) (sym s.4)
         (put_anew w.members left false (λ it e. subst Q
-        (some-injective (joined_super (risen g w s.0) own.number (own.role own.number) true s.2.offset) it (sym (ap (λ (x : Stored). x.super) s.2.rest) ∙ e)) (came h t own.number (own.role own.number) true s.0 s.2.offset)))
+        (some-injective (joined_super (risen g w s.0) own.number (own.role own.number) true s.2.sure_offset) it (sym (ap (λ (x : Stored). x.super) s.2.rest) ∙ e)) (came h t own.number (own.role own.number) true s.0 s.2.sure_offset)))
+    all_step (Event.LowerOffset k x) w' s = subst Still (sym s.1) all
     all_step (Event.Fill k) w' s = subst Still (sym s.3) (put_all k s.0 (same_all k s.0 (ap (λ (d : Stored). d.super) s.2.rest)))
     all_step (Event.Prepare k) w' s = subst Still (sym s.3) (put_all k s.0 (same_all k s.0 (ap (λ (d : Stored). d.super) s.2.rest)))
     all_step (Event.RecordTargetFails k) w' s = subst Still (sym s.1.2) (put_all k s.0 (by_left k s.0 (target_recorded (w.state k) s.1.0) s.1.1.super))
@@ -102,9 +103,9 @@ module _ (g : Geometry) (small : IsWithinLimits g) (opened : Super) (Q : Super �
     all_step (Event.Admit k role listed) w' s = subst (OfAll Q (put k false h.spoiled)) (sym s.3)
         (put_anew k (taking_device (risen g w s.0) k (as_recovering w k role listed)) false (λ own e. subst Q
         (some-injective (joined_super (risen g w s.0) (w.number k) role true 0) own e) (came h t (w.number k) role true s.0 0)))
-    all_step (Event.Checkpoint k offset listed) w' s = subst (OfAll Q (put k false h.spoiled)) (sym s.1)
-        (put_anew k (recorded_device (with_offset w k offset) k listed) false (λ own e. subst Q
-        (some-injective (super_for (with_offset w k offset) k) own e) (moved h t k (put k offset w.offset k) (target_recorded (w.state k) (recovering_target (w.state k) s.0.recovering)))))
+    all_step (Event.Checkpoint k sure listed) w' s = subst (OfAll Q (put k false h.spoiled)) (sym s.1)
+        (put_anew k (recorded_device (with_offset w k sure) k listed) false (λ own e. subst Q
+        (some-injective (super_for (with_offset w k sure) k) own e) (moved h t k (put k sure w.sure_offset k) (target_recorded (w.state k) (recovering_target (w.state k) s.0.recovering)))))
     all_step (Event.NoteBad k c) w' s = subst Still (sym s.1) all
     all_step (Event.StoreLog k listed) w' s = subst Still (sym s.2) (put_all k (record (w.stored k) { listed = listed }) (all k))
 

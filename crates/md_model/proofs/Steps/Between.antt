@@ -1,11 +1,11 @@
 -- Every event keeps what the members in sync hold between the steps.
 use Rattle.std.proofs.Common.{◌≡◌, ℕ, Bool, true, false, cond, inl, inr, ⊎_elim, refl, sym, ap, ◌∙◌, subst, true≢false, List}
 use Rattle.std.specs.Prelude.{Some, None}
-use Rattle.md_model.specs.Sectors.{Geometry, chunk_of}
+use Rattle.md_model.specs.Sectors.{Geometry, chunk_of, put}
 use Rattle.md_model.specs.Devices.{Stored}
 use Rattle.md_model.specs.Worlds.{Request, touches, World, IsInSync}
 use Rattle.md_model.specs.Counts.{risen}
-use Rattle.md_model.specs.Steps.{entered, begun, with_device, recorded, marks_stored, member_written, finished, unmarked, MayBegin, MayWrite, MayFinish, MayClear}
+use Rattle.md_model.specs.Steps.{entered, begun, due_after, first_sector, lowered, lowered_on, sure_after, with_device, recorded, marks_stored, member_written, finished, unmarked, MayBegin, MayWrite, MayFinish, MayClear}
 use Rattle.md_model.specs.Failures.{failed}
 use Rattle.md_model.specs.Resyncing.{copied, made_resynced, made_clean, MayCopy}
 use Rattle.md_model.specs.Events.{Event, Fails, Happens}
@@ -13,7 +13,7 @@ use Rattle.md_model.specs.Content.{Content, with_request, IsResyncedContent, IsK
 use Rattle.md_model.proofs.Cases.{by_test, none_some}
 use Rattle.md_model.proofs.Puts.{by_same, put-miss}
 use Rattle.md_model.proofs.Steps.Tracked.{IsFewer, in_flight_fewer}
-use Rattle.md_model.proofs.Steps.TrackedSteps.{fewer_recorded, fewer_failed, quiet_but, content_marked, listed_marked, content_written, listed_written, quiet_written, in_flight_risen, in_flight_entered, in_flight_finished, in_flight_unmarked, in_flight_marks_stored, in_flight_written}
+use Rattle.md_model.proofs.Steps.TrackedSteps.{fewer_recorded, fewer_failed, fewer_lowered, quiet_but, content_marked, listed_marked, content_written, listed_written, quiet_written, in_flight_risen, in_flight_entered, in_flight_finished, in_flight_unmarked, in_flight_marks_stored, in_flight_written}
 use Rattle.md_model.proofs.Steps.TrackedCalls.{content_copied, content_at_copy, listed_copied, in_flight_copied, in_flight_resynced, in_flight_made_clean}
 use Rattle.md_model.specs.States.{is_in_sync}
 use Rattle.md_model.specs.Membership.{former_member, is_spare, joined, new_member, removed, skip, Newcomer}
@@ -21,7 +21,7 @@ use Rattle.md_model.specs.Rebuilding.{is_target, admitted, checkpointed, enrolle
 use Rattle.md_model.specs.Listing.{log_stored, noted_bad}
 use Rattle.md_model.proofs.Steps.Membership.{in_flight_joined, in_flight_removed, same_device, was_member}
 use Rattle.md_model.proofs.Steps.Rebuilding.{by_device, fewer_admitted, fewer_checkpointed, fewer_log_stored, fewer_noted_bad, fewer_target, in_flight_enrolled, recovering_target, spare_target}
-use Rattle.md_model.proofs.Steps.Keeps.{begin_after}
+use Rattle.md_model.proofs.Steps.Keeps.{before_entry, begin_after}
 use Rattle.md_model.proofs.Lives.Opened.{in_flight_opened}
 
 -- the content after a request's end
@@ -64,10 +64,14 @@ module _ (g : Geometry) (a : Content) where
     in_flight = in_flight_entered g w n p may t.in_flight;
   }
 
+  between_lowered : (w : World) (s : ℕ) → HoldsBetween g a w → HoldsBetween g a (lowered w s)
+  between_lowered w s t = between_fewer w (lowered w s) (fewer_lowered w (sure_after w s) (due_after w s)) t
+
   between_begun : (w : World) (n : ℕ) (p : Request) (rises full : Bool) → MayBegin g w n p → HoldsBetween g a w → HoldsBetween g a (begun g w n p rises full)
   between_begun w n p true full may t =
-      between_entered (risen g w full) n p (begin_after g w n p true full may) (record { at_rest = t.at_rest; in_flight = in_flight_risen g w full t.in_flight })
-  between_begun w n p false full may t = between_entered w n p may t
+      between_entered (before_entry g w p true full) n p (begin_after g w n p true full may)
+      (between_lowered (risen g w full) (first_sector g p) (record { at_rest = t.at_rest; in_flight = in_flight_risen g w full t.in_flight }))
+  between_begun w n p false full may t = between_entered (before_entry g w p false full) n p (begin_after g w n p false full may) (between_lowered w (first_sector g p) t)
 
   between_marks_stored : (w : World) (k b : ℕ) → HoldsBetween g a w → HoldsBetween g a (marks_stored w k b)
   between_marks_stored w k b t = record {
@@ -161,9 +165,11 @@ module _ (g : Geometry) (a : Content) where
   between b w (Event.Remove k) w' s c t = same b w' c (subst (HoldsBetween g a) (sym s.3) (between_removed w k (is_spare (w.state k)) s.0 t))
   between b w (Event.Add d left) w' s c t = same b w' c (subst (HoldsBetween g a) (sym s.4)
       (between_joined (risen g w s.0) (new_member d left) refl (between_risen w s.0 t)))
-  between b w (Event.ReAdd own device left) w' s c t = same b w' c (subst (HoldsBetween g a) (sym s.4)
-      (between_joined (risen g w s.0) (former_member own left) refl (between_risen w s.0 t)))
+  between b w (Event.ReAdd own offset device left) w' s c t = same b w' c (subst (HoldsBetween g a) (sym s.4)
+      (between_joined (risen g w s.0) (former_member own offset left) refl (between_risen w s.0 t)))
   between b w Event.MakeClean w' s c t = same b w' c (subst (HoldsBetween g a) (sym s.3) (between_made_clean w s.0 t))
+  between b w (Event.LowerOffset k x) w' s c t =
+      same b w' c (subst (HoldsBetween g a) (sym s.1) (between_fewer w (lowered_on w k x) (fewer_lowered w (put k (sure_after w x k) w.sure_offset) (put k (due_after w x k) w.due)) t))
   between b w (Event.Fill k) w' s c t = same b w' c (between_target w k s.0 s.1.rebuild.target w' s.3 t)
   between b w (Event.Prepare k) w' s c t = same b w' c (between_target w k s.0 s.1.target w' s.3 t)
   between b w (Event.RecordTargetFails k) w' s c t = same b w' c (between_target w k s.0 s.1.0 w' s.1.2 t)
@@ -181,9 +187,14 @@ module _ (g : Geometry) where
   flight_fails : (w : World) (k : ℕ) (left : Stored) (w' : World) → Fails g w k left w' → HoldsInFlight w → HoldsInFlight w'
   flight_fails w k left w' f t = subst HoldsInFlight (sym f.3) (in_flight_fewer w (failed g (with_device w k left) k f.0) (fewer_failed g w k left f.0) t)
 
+  flight_lowered : (w : World) (s : ℕ) → HoldsInFlight w → HoldsInFlight (lowered w s)
+  flight_lowered w s t = in_flight_fewer w (lowered w s) (fewer_lowered w (sure_after w s) (due_after w s)) t
+
   flight_begun : (w : World) (n : ℕ) (p : Request) (rises full : Bool) → MayBegin g w n p → HoldsInFlight w → HoldsInFlight (begun g w n p rises full)
-  flight_begun w n p true full may t = in_flight_entered g (risen g w full) n p (begin_after g w n p true full may) (in_flight_risen g w full t)
-  flight_begun w n p false full may t = in_flight_entered g w n p may t
+  flight_begun w n p true full may t =
+      in_flight_entered g (before_entry g w p true full) n p (begin_after g w n p true full may) (flight_lowered (risen g w full) (first_sector g p) (in_flight_risen g w full t))
+  flight_begun w n p false full may t =
+      in_flight_entered g (before_entry g w p false full) n p (begin_after g w n p false full may) (flight_lowered w (first_sector g p) t)
 
   flight_target : (w : World) (k : ℕ) (left : Stored) → is_target (w.state k) ≡ true → (w' : World) → w' ≡ with_device w k left → HoldsInFlight w → HoldsInFlight w'
   flight_target w k left out w' is t = subst HoldsInFlight (sym is) (in_flight_fewer w (with_device w k left) (fewer_target w k left out) t)
@@ -204,8 +215,10 @@ module _ (g : Geometry) where
   flight w (Event.Remove k) w' s t = subst HoldsInFlight (sym s.3) (in_flight_removed g w k (is_spare (w.state k)) s.0 t)
   flight w (Event.Add d left) w' s t = subst HoldsInFlight (sym s.4)
       (in_flight_joined (risen g w s.0) (new_member d left) refl (in_flight_risen g w s.0 t))
-  flight w (Event.ReAdd own device left) w' s t = subst HoldsInFlight (sym s.4)
-      (in_flight_joined (risen g w s.0) (former_member own left) refl (in_flight_risen g w s.0 t))
+  flight w (Event.ReAdd own offset device left) w' s t = subst HoldsInFlight (sym s.4)
+      (in_flight_joined (risen g w s.0) (former_member own offset left) refl (in_flight_risen g w s.0 t))
+  flight w (Event.LowerOffset k x) w' s t =
+      subst HoldsInFlight (sym s.1) (in_flight_fewer w (lowered_on w k x) (fewer_lowered w (put k (sure_after w x k) w.sure_offset) (put k (due_after w x k) w.due)) t)
   flight w (Event.Fill k) w' s t = flight_target w k s.0 s.1.rebuild.target w' s.3 t
   flight w (Event.Prepare k) w' s t = flight_target w k s.0 s.1.target w' s.3 t
   flight w (Event.RecordTargetFails k) w' s t = flight_target w k s.0 s.1.0 w' s.1.2 t

@@ -1,16 +1,16 @@
 -- Every event keeps the invariant.
 use Rattle.std.proofs.Common.{◌≡◌, ℕ, ◌<◌, ◌+◌, ◌↔◌, Bool, true, false, cond, ◌&&◌, ◌||◌, ◌⊎◌, inl, inr, ⊎_elim, refl, sym, ap, ◌∙◌, subst, eqb, eq-eqb, true≢false, arith, List, [], ◌∷◌}
 use Rattle.std.specs.Prelude.{Some, None, nat_lt, not}
-use Rattle.std.proofs.lemmas.Bool.{or_right, not-true, and_parts}
+use Rattle.std.proofs.lemmas.Bool.{or_right, or_parts, not-true, and_parts}
 use Rattle.md_model.specs.Sectors.{Geometry, chunk_of, put}
 use Rattle.md_model.specs.States.{State, is_recorded, is_in_sync, is_recovering}
 use Rattle.md_model.specs.Devices.{Super, Stored, AgreeAt}
 use Rattle.md_model.specs.Worlds.{Request, touches, World, IsInFlight, IsInSync}
 use Rattle.md_model.specs.Counts.{role_at_rise, risen, risen_if, HasToRise}
-use Rattle.md_model.specs.Steps.{begun, finished, unmarked, with_device, super_for, recorded, recorded_device, marked_device, marks_stored, written_device, member_written, MayBegin, MayWrite}
+use Rattle.md_model.specs.Steps.{begun, due_after, finished, first_sector, lowered, lowered_on, says_of, sure_after, unmarked, with_device, super_for, recorded, recorded_device, marked_device, marks_stored, written_device, member_written, MayBegin, MayWrite}
 use Rattle.md_model.specs.Failures.{failed, MayFail}
 use Rattle.md_model.specs.Resyncing.{copied_device, copied, made_clean, made_resynced, MayResync}
-use Rattle.md_model.specs.Membership.{added, former_member, is_spare, new_member, re_added, removed, skip}
+use Rattle.md_model.specs.Membership.{added, former_member, is_spare, IsTakenBack, new_member, re_added, removed, skip}
 use Rattle.md_model.specs.Rebuilding.{is_target, admitted, as_in_sync, as_recovering, checkpointed, enrolled, enrolled_device, taking_device, with_offset}
 use Rattle.md_model.specs.Listing.{log_stored, noted_bad}
 use Rattle.md_model.proofs.Steps.Membership.{former_joins, number_absent, recorded_joined, recorded_removed, spare_joins, tracked_joined, tracked_removed}
@@ -21,7 +21,7 @@ use Rattle.md_model.specs.Runs.{History, away_after, failed_after, spoiled_after
 use Rattle.md_model.proofs.Cases.{by_test, none_some, is_below, not_below}
 use Rattle.md_model.proofs.Puts.{put-at, put-hit, put-twice}
 use Rattle.md_model.proofs.Steps.Tracked.{IsTracked, tracked_fewer}
-use Rattle.md_model.proofs.Steps.TrackedSteps.{fewer_recorded, fewer_failed, tracked_risen, tracked_entered, tracked_finished, tracked_unmarked, tracked_marks_stored, tracked_written, other_flights}
+use Rattle.md_model.proofs.Steps.TrackedSteps.{fewer_recorded, fewer_failed, fewer_lowered, tracked_risen, tracked_entered, tracked_finished, tracked_unmarked, tracked_marks_stored, tracked_written, other_flights}
 use Rattle.md_model.proofs.Steps.TrackedCalls.{tracked_copied, tracked_resynced, tracked_made_clean}
 use Rattle.md_model.proofs.Steps.Unstored.{unstored_step, IsUnstored}
 use Rattle.md_model.proofs.Steps.FailedWrites.{super_left}
@@ -52,10 +52,18 @@ pub record IsKept (g : Geometry) (opened : Super) (h : History) : Type 0 where
   pub recorded : IsRecorded g opened h.failed_at h.tried h.away (book_of (seen h.spoiled h.now))
   pub alone : IsAlone g h.away h.now
 
--- a request may begin after the rise, if it may before
-pub begin_after : (g : Geometry) (w : World) (n : ℕ) (p : Request) (rises full : Bool) → MayBegin g w n p → MayBegin g (risen_if g w rises full) n p
+-- the world in which a request is entered: the count has risen, if it had to, and no recovering member says any more that it has the data
+abbrev pub before_entry : Geometry → World → Request → Bool → Bool → World
+before_entry g w p rises full = lowered (risen_if g w rises full) (first_sector g p)
+
+-- a request may begin there, if it may before
+pub begin_after : (g : Geometry) (w : World) (n : ℕ) (p : Request) (rises full : Bool) → MayBegin g w n p → MayBegin g (before_entry g w p rises full) n p
 begin_after g w n p true full m = record { resynced = m.resynced; new = m.new; apart = m.apart; some = m.some; inside = m.inside; unwritten = m.unwritten }
-begin_after g w n p false full m = m
+begin_after g w n p false full m = record { resynced = m.resynced; new = m.new; apart = m.apart; some = m.some; inside = m.inside; unwritten = m.unwritten }
+
+-- a superblock that is not due after that was not before
+due_before : (w : World) (s j : ℕ) → due_after w s j ≡ false → w.due j ≡ false
+due_before w s j off = (or_parts (says_of w s j) (w.due j) off).1
 
 module _ (g : Geometry) (small : IsWithinLimits g) where
   fails_tracked : (w : World) (k : ℕ) (left : Stored) (w' : World) → Fails g w k left w' → IsTracked g w → IsTracked g w'
@@ -65,12 +73,16 @@ module _ (g : Geometry) (small : IsWithinLimits g) where
   rise_tracked w true full t = tracked_risen g w full t
   rise_tracked w false full t = t
 
+  lowered_tracked : (w : World) (sure : ℕ → ℕ) (due : ℕ → Bool) → IsTracked g w → IsTracked g (record w { sure_offset = sure; due = due })
+  lowered_tracked w sure due t = tracked_fewer g w (record w { sure_offset = sure; due = due }) (fewer_lowered w sure due) t
+
   target_tracked : (w : World) (k : ℕ) (left : Stored) → is_target (w.state k) ≡ true → (w' : World) → w' ≡ with_device w k left → IsTracked g w → IsTracked g w'
   target_tracked w k left out w' is t = subst (IsTracked g) (sym is) (tracked_fewer g w (with_device w k left) (fewer_target w k left out) t)
 
   tracked_step : (w : World) → IsUnstored w → (e : Event) (w' : World) → IsTracked g w → Happens g w e w' → IsTracked g w'
   tracked_step w u (Event.Begin n p) w' t s = subst (IsTracked g) (sym s.5)
-      (tracked_entered g (risen_if g w s.0 s.1) n p small.wide (begin_after g w n p s.0 s.1 s.2) (rise_tracked w s.0 s.1 t))
+      (tracked_entered g (before_entry g w p s.0 s.1) n p small.wide (begin_after g w n p s.0 s.1 s.2)
+      (lowered_tracked (risen_if g w s.0 s.1) (sure_after (risen_if g w s.0 s.1) (first_sector g p)) (due_after (risen_if g w s.0 s.1) (first_sector g p)) (rise_tracked w s.0 s.1 t)))
   tracked_step w u (Event.Record k) w' t s = subst (IsTracked g) (sym s.3) (tracked_fewer g w (recorded w k s.0) (fewer_recorded w k s.0 s.1) t)
   tracked_step w u (Event.StoreMarks k b) w' t s = subst (IsTracked g) (sym s.1) (tracked_marks_stored g w k b t)
   tracked_step w u (Event.WriteMember n k) w' t s = subst (IsTracked g) (sym s.2) (tracked_written g w n s.0 k s.1 t)
@@ -84,8 +96,10 @@ module _ (g : Geometry) (small : IsWithinLimits g) where
   tracked_step w u Event.MakeClean w' t s = subst (IsTracked g) (sym s.3) (tracked_made_clean g w s.0 t)
   tracked_step w u (Event.Remove k) w' t s = subst (IsTracked g) (sym s.3) (tracked_removed g w k (is_spare (w.state k)) s.0 t)
   tracked_step w u (Event.Add d left) w' t s = subst (IsTracked g) (sym s.4) (tracked_joined g (risen g w s.0) (new_member d left) refl (tracked_risen g w s.0 t))
-  tracked_step w u (Event.ReAdd own device left) w' t s = subst (IsTracked g) (sym s.4)
-      (tracked_joined g (risen g w s.0) (former_member own left) refl (tracked_risen g w s.0 t))
+  tracked_step w u (Event.ReAdd own offset device left) w' t s = subst (IsTracked g) (sym s.4)
+      (tracked_joined g (risen g w s.0) (former_member own offset left) refl (tracked_risen g w s.0 t))
+  tracked_step w u (Event.LowerOffset k x) w' t s =
+      subst (IsTracked g) (sym s.1) (lowered_tracked w (put k (sure_after w x k) w.sure_offset) (put k (due_after w x k) w.due) t)
   tracked_step w u (Event.Fill k) w' t s = target_tracked w k s.0 s.1.rebuild.target w' s.3 t
   tracked_step w u (Event.Prepare k) w' t s = target_tracked w k s.0 s.1.target w' s.3 t
   tracked_step w u (Event.RecordTargetFails k) w' t s = target_tracked w k s.0 s.1.0 w' s.1.2 t
@@ -131,8 +145,7 @@ module _ (g : Geometry) (small : IsWithinLimits g) (opened : Super) (away : ℕ 
         clear = r.clear;
         bit = r.bit;
         in_memory = r.in_memory;
-        in_opening = r.in_opening;
-        in_super = r.in_super;
+        roles = r.roles;
         unrisen = r.unrisen;
         out_memory = r.out_memory;
         out_super = r.out_super;
@@ -198,9 +211,15 @@ module _ (g : Geometry) (small : IsWithinLimits g) (opened : Super) (away : ℕ 
       x)
       l
 
+  -- more superblocks may be due
+  more_due : (failed_at : ℕ) (tried : Bool) (w : World) (due : ℕ → Bool) → ((j : ℕ) → due j ≡ false → w.due j ≡ false) → Records failed_at tried w → Records failed_at tried (record w { due = due })
+  more_due failed_at tried w due from = still_due g small.few opened failed_at tried away (book_of w) due from
+
   rise_recorded : (w : World) (n : ℕ) (p : Request) (rises full : Bool) (failed_at : ℕ) (tried : Bool) → Records failed_at tried w → Records failed_at tried (begun g w n p rises full)
-  rise_recorded w n p true full failed_at tried r = recorded_risen g small.few opened failed_at tried away w full r
-  rise_recorded w n p false full failed_at tried r = r
+  rise_recorded w n p true full failed_at tried r =
+      more_due failed_at tried (risen g w full) (due_after (risen g w full) (first_sector g p)) (λ j. due_before (risen g w full) (first_sector g p) j)
+      (recorded_risen g small.few opened failed_at tried away w full r)
+  rise_recorded w n p false full failed_at tried r = more_due failed_at tried w (due_after w (first_sector g p)) (λ j. due_before w (first_sector g p) j) r
 
   -- with the devices that stay away
   pub record Before (h : History) : Type 0 where
@@ -209,7 +228,7 @@ module _ (g : Geometry) (small : IsWithinLimits g) (opened : Super) (away : ℕ 
 
   -- a superblock that is due again
   due_again : (failed_at : ℕ) (tried : Bool) (w : World) (k : ℕ) → Records failed_at tried w → Records failed_at tried (record w { due = put k true w.due })
-  due_again failed_at tried w k = still_due g small.few opened failed_at tried away (book_of w) (put k true w.due)
+  due_again failed_at tried w k = more_due failed_at tried w (put k true w.due)
       (λ j. put-at k true w.due j (λ x. x ≡ false → w.due j ≡ false) (λ _ off. absurd (true≢false off)) (λ _ off. off))
 
   module _ (h : History) (t : Before h) where
@@ -254,12 +273,16 @@ module _ (g : Geometry) (small : IsWithinLimits g) (opened : Super) (away : ℕ 
         (λ e off. ap (λ (u : World). u.present e) (sym s.4) ∙ gone e off)
         (recorded_risen g small.few opened h.failed_at h.tried away seen_now s.0 t.recorded)))
 
-    taken_back_step : (own : Super) (device left : Stored) (w' : World) → ((d : ℕ) → away d ≡ true → w'.present d ≡ false)
-        → Happens g w (Event.ReAdd own device left) w' → Holds (seen (put w.members false h.spoiled) w')
-    taken_back_step own device left w' gone s = subst (λ u. Holds (seen (put w.members false h.spoiled) u)) (sym s.4)
-        (stored_anew (re_added g w own left s.0) w.members left
-        (recorded_joined g small.few opened h.failed_at h.tried away (risen g seen_now s.0) (former_member own left)
-        (former_joins g (risen g seen_now s.0) own device left s.1.absent s.1.small (record { was = s.2.was; offset = s.2.offset; passes = s.2.passes; rest = s.2.rest }))
+    -- it is taken back, whatever is seen of the others
+    taken_seen : (own : Super) (offset : ℕ) (device left : Stored) (full : Bool) → IsTakenBack g (risen g w full) own offset device left → IsTakenBack g (risen g seen_now full) own offset device left
+    taken_seen own offset device left full t = record { was = t.was; passes = t.passes; sure_offset = t.sure_offset; within = t.within; unmarked = t.unmarked; rest = t.rest }
+
+    taken_back_step : (own : Super) (offset : ℕ) (device left : Stored) (w' : World) → ((d : ℕ) → away d ≡ true → w'.present d ≡ false)
+        → Happens g w (Event.ReAdd own offset device left) w' → Holds (seen (put w.members false h.spoiled) w')
+    taken_back_step own offset device left w' gone s = subst (λ u. Holds (seen (put w.members false h.spoiled) u)) (sym s.4)
+        (stored_anew (re_added g w own offset left s.0) w.members left
+        (recorded_joined g small.few opened h.failed_at h.tried away (risen g seen_now s.0) (former_member own offset left)
+        (former_joins g (risen g seen_now s.0) own offset device left s.1.absent s.1.small (taken_seen own offset device left s.0 s.2))
         under_risen later_risen
         (λ e off. ap (λ (u : World). u.present e) (sym s.4) ∙ gone e off)
         (recorded_risen g small.few opened h.failed_at h.tried away seen_now s.0 t.recorded)))
@@ -331,7 +354,10 @@ module _ (g : Geometry) (small : IsWithinLimits g) (opened : Super) (away : ℕ 
     recorded_step Event.MakeClean w' gone s = as_seen w' (made_clean g w s.0) s.3 (recorded_risen g small.few opened h.failed_at h.tried away seen_now s.0 t.recorded)
     recorded_step (Event.Remove k) w' gone s = removed_step k w' gone s
     recorded_step (Event.Add d left) w' gone s = added_step d left w' gone s
-    recorded_step (Event.ReAdd own device left) w' gone s = taken_back_step own device left w' gone s
+    recorded_step (Event.ReAdd own offset device left) w' gone s = taken_back_step own offset device left w' gone s
+    recorded_step (Event.LowerOffset k x) w' gone s = as_seen w' (lowered_on w k x) s.1
+        (more_due h.failed_at h.tried seen_now (put k (due_after w x k) w.due)
+        (λ j. put-at k (due_after w x k) w.due j (λ b. b ≡ false → w.due j ≡ false) (λ here off. due_before w x j (subst (λ i. due_after w x i ≡ false) (sym here) off)) (λ _ off. off)) t.recorded)
     recorded_step (Event.Fill k) w' gone s = target_same k s.0 (ap (λ (d : Stored). d.super) s.2.rest) w' s.3
     recorded_step (Event.Prepare k) w' gone s = target_same k s.0 (ap (λ (d : Stored). d.super) s.2.rest) w' s.3
     recorded_step (Event.RecordTargetFails k) w' gone s = target_left k s.0 w' s.1
@@ -380,8 +406,9 @@ module _ (g : Geometry) (small : IsWithinLimits g) (opened : Super) (away : ℕ 
       removed_alone false n p d e off low = t n p d e off low
   alone_step w here (Event.Add d left) w' gone then t s = subst (IsAlone g away) (sym s.4) (λ n p e _ off low. put-at d 65535 (role_at_rise g w) e (λ x. x < g.raid_disks → ⊥)
       (λ _ l. let few = small.few in omega arith) (λ _ l. absent_none g w e small.few (gone e off) l) low)
-  alone_step w here (Event.ReAdd own device left) w' gone then t s = subst (IsAlone g away) (sym s.4) (λ n p e _ off low. put-at own.number (own.role own.number) (role_at_rise g w) e (λ x. x < g.raid_disks → ⊥)
+  alone_step w here (Event.ReAdd own offset device left) w' gone then t s = subst (IsAlone g away) (sym s.4) (λ n p e _ off low. put-at own.number (own.role own.number) (role_at_rise g w) e (λ x. x < g.raid_disks → ⊥)
       (λ same l. true≢false (sym (ap (λ (v : World). v.present e) s.4 ∙ or_right (w.present e) (eqb e own.number) (eq-eqb e own.number same)) ∙ then e off)) (λ _ l. absent_none g w e small.few (gone e off) l) low)
+  alone_step w here (Event.LowerOffset k x) w' gone then t s = subst (IsAlone g away) (sym s.1) t
   alone_step w here (Event.Fill k) w' gone then t s = subst (IsAlone g away) (sym s.3) t
   alone_step w here (Event.Prepare k) w' gone then t s = subst (IsAlone g away) (sym s.3) t
   alone_step w here (Event.RecordTargetFails k) w' gone then t s = subst (IsAlone g away) (sym s.1.2) t
@@ -396,7 +423,7 @@ module _ (g : Geometry) (small : IsWithinLimits g) (opened : Super) (away : ℕ 
 -- what stays away was away
 still_away : (e : Event) (before : ℕ → Bool) (d : ℕ) → away_after e before d ≡ true → before d ≡ true
 still_away (Event.Add number left) before d x = (and_parts (before d) (not (eqb d number)) x).0
-still_away (Event.ReAdd own device left) before d x = (and_parts (before d) (not (eqb d own.number)) x).0
+still_away (Event.ReAdd own offset device left) before d x = (and_parts (before d) (not (eqb d own.number)) x).0
 still_away e before d x = x
 
 -- and no member has its number
@@ -434,9 +461,10 @@ gone_step g w (Event.Remove k) w' before gone s d x = ap (λ (v : World). v.pres
 gone_step g w (Event.Add number left) w' before gone s d x =
     let parts = and_parts (before d) (not (eqb d number)) x in
     ap (λ (v : World). v.present d) s.4 ∙ neither (w.present d) (eqb d number) (gone d parts.0) (not-true (eqb d number) parts.1)
-gone_step g w (Event.ReAdd own device left) w' before gone s d x =
+gone_step g w (Event.ReAdd own offset device left) w' before gone s d x =
     let parts = and_parts (before d) (not (eqb d own.number)) x in
     ap (λ (v : World). v.present d) s.4 ∙ neither (w.present d) (eqb d own.number) (gone d parts.0) (not-true (eqb d own.number) parts.1)
+gone_step g w (Event.LowerOffset k y) w' before gone s d x = ap (λ (v : World). v.present d) s.1 ∙ gone d x
 gone_step g w (Event.Fill k) w' before gone s d x = ap (λ (v : World). v.present d) s.3 ∙ gone d x
 gone_step g w (Event.Prepare k) w' before gone s d x = ap (λ (v : World). v.present d) s.3 ∙ gone d x
 gone_step g w (Event.RecordTargetFails k) w' before gone s d x = ap (λ (v : World). v.present d) s.1.2 ∙ gone d x
@@ -470,8 +498,7 @@ narrower g opened failed_at tried away less b from r = record {
   clear = r.clear;
   bit = r.bit;
   in_memory = r.in_memory;
-  in_opening = r.in_opening;
-  in_super = r.in_super;
+  roles = r.roles;
   unrisen = r.unrisen;
   out_memory = λ d off. r.out_memory d (from d off);
   out_super = λ j own d e off. r.out_super j own d e (from d off);

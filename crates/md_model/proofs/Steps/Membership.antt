@@ -1,5 +1,5 @@
 -- Members that come and go keep the invariant.
-use Rattle.std.proofs.Common.{◌≡◌, ◌≢◌, ℕ, ◌<◌, ◌≤◌, ◌+◌, ◌-◌, Bool, true, false, cond, ◌&&◌, ◌||◌, inl, inr, refl, sym, ap, ◌∙◌, subst, eqb, eq-eqb, true≢false, arith}
+use Rattle.std.proofs.Common.{◌≡◌, ◌≢◌, ℕ, ◌<◌, ◌≤◌, ◌+◌, ◌-◌, Bool, true, false, cond, ◌&&◌, ◌||◌, inl, inr, refl, sym, ap, ◌∙◌, subst, eqb, eq-eqb, true≢false, arith, ◌⊎◌}
 use Rattle.std.specs.Prelude.{Some, nat_lt, leb, not}
 use Rattle.std.proofs.lemmas.Bool.Decides.{nat_tests}
 use Rattle.std.proofs.lemmas.Bool.{or_right, or_left, ne_eqb, and_from}
@@ -165,8 +165,13 @@ module _ (g : Geometry) (few : g.raid_disks ≤ 32) (opened : Super) (failed_at 
     clear = λ j. r.clear (skip k j);
     bit = λ j. r.bit (skip k j);
     in_memory = λ j. r.in_memory (skip k j);
-    in_opening = λ j. r.in_opening (skip k j);
-    in_super = λ i first j. r.in_super (skip k i) first (skip k j);
+    roles = record {
+      own = λ j. r.roles.own (skip k j);
+      by_opening = λ j. r.roles.by_opening (skip k j);
+      by_super = λ i first j. r.roles.by_super (skip k i) first (skip k j);
+      stale = λ j. r.roles.stale (skip k j);
+      stale_super = λ i first j. r.roles.stale_super (skip k i) first (skip k j);
+    };
     unrisen = r.unrisen;
     out_memory = r.out_memory;
     out_super = λ j. r.out_super (skip k j);
@@ -179,9 +184,13 @@ module _ (g : Geometry) (few : g.raid_disks ≤ 32) (opened : Super) (failed_at 
   }
 
   -- the entry of one that is not in sync becomes that of a failed device
-  recorded_without_entry : (w : World) (k : ℕ) → k < w.members → (is_in_sync (w.state k) ≡ true → ⊥) → opened.events < w.events → ((j : ℕ) (own : Super) → Has (book_of w) j own → own.events < w.events) → Records w → Records (without_entry w k)
-  recorded_without_entry w k there out up under r =
+  recorded_without_entry : (w : World) (k : ℕ) → k < w.members → (is_in_sync (w.state k) ≡ true → ⊥) → (w.state k ≡ Stale → ⊥) → opened.events < w.events → ((j : ℕ) (own : Super) → Has (book_of w) j own → own.events < w.events) → Records w → Records (without_entry w k)
+  recorded_without_entry w k there out stale_out up under r =
       let now : ℕ → ℕ = (without_entry w k).role in
+      let same : (j : ℕ) → j ≢ k → j < w.members → now (w.number j) ≡ w.role (w.number j) =
+      λ j apart low. other_entry (w.number j) (w.number k) w.entries (w.role (w.number j)) (λ at. apart (r.distinct j k low there at)) in
+      let same_in : (j : ℕ) → In (book_of w) j → j < w.members → now (w.number j) ≡ w.role (w.number j) =
+      λ j a. same j (λ at. out (ap (λ i. is_in_sync (w.state i)) (sym at) ∙ a)) in
       let taken_was : (d : ℕ) → now d < g.raid_disks → w.role d < g.raid_disks =
       λ d. by_test (eqb d (w.number k) && nat_lt d w.entries)
       (λ at low. absurd (let t : 65534 < g.raid_disks = subst (λ x. x < g.raid_disks) (ap (λ x. cond x 65534 (w.role d)) at) low in omega arith))
@@ -205,11 +214,14 @@ module _ (g : Geometry) (few : g.raid_disks ≤ 32) (opened : Super) (failed_at 
         recovering = r.recovering;
         clear = r.clear;
         bit = r.bit;
-        in_memory = λ j a.
-            subst (λ x. x < g.raid_disks) (sym (other_entry (w.number j) (w.number k) w.entries (w.role (w.number j))
-            (λ same. out (ap (λ i. is_in_sync (w.state i)) (sym (r.distinct j k (r.there j (recorded_in_sync (w.state j) a)) there same)) ∙ a)))) (r.in_memory j a);
-        in_opening = r.in_opening;
-        in_super = r.in_super;
+        in_memory = λ j a. subst (λ x. x < g.raid_disks) (sym (same_in j a (r.there j (recorded_in_sync (w.state j) a)))) (r.in_memory j a);
+        roles = record {
+          own = λ j own a e. r.roles.own j own a e ∙ sym (same_in j a (r.slot j own e));
+          by_opening = λ j own a e late. r.roles.by_opening j own a e late ∙ sym (same_in j a (r.slot j own e));
+          by_super = λ i first j own x a e late more. r.roles.by_super i first j own x a e late more ∙ sym (same_in j a (r.slot j own e));
+          stale = λ j own e s. same j (λ at. stale_out (ap w.state (sym at) ∙ s)) (r.slot j own e) ∙ r.roles.stale j own e s;
+          stale_super = r.roles.stale_super;
+        };
         unrisen = λ h. absurd (omega arith);
         out_memory = λ d off h low. r.out_memory d off h (taken_was d low);
         out_super = r.out_super;
@@ -219,20 +231,20 @@ module _ (g : Geometry) (few : g.raid_disks ≤ 32) (opened : Super) (failed_at 
       }
 
   pub recorded_removed : (w : World) (k : ℕ) (full : Bool) → MayRemove w k → ((d : ℕ) → stays_away d ≡ true → (removed g w k (is_spare (w.state k)) full).present d ≡ false) → Records w → Records (removed g w k (is_spare (w.state k)) full)
-  recorded_removed w k full may = by (is_spare (w.state k))
+  recorded_removed w k full may = by (is_spare (w.state k)) refl
     where
-      by : (spare : Bool) → ((d : ℕ) → stays_away d ≡ true → (removed g w k spare full).present d ≡ false) → Records w → Records (removed g w k spare full)
-      by true gone r =
+      by : (spare : Bool) → is_spare (w.state k) ≡ spare → ((d : ℕ) → stays_away d ≡ true → (removed g w k spare full).present d ≡ false) → Records w → Records (removed g w k spare full)
+      by true is gone r =
           recorded_taken_out (without_entry (risen g w full) k) k may.there (not_in_sync (w.state k) may.out) gone
-          (recorded_without_entry (risen g w full) k may.there (not_in_sync (w.state k) may.out) (let l = r.later in let t : opened.events < w.events + 1 = omega arith in t)
+          (recorded_without_entry (risen g w full) k may.there (not_in_sync (w.state k) may.out) (λ at. true≢false (sym is ∙ ap is_spare at)) (let l = r.later in let t : opened.events < w.events + 1 = omega arith in t)
           (λ j own e. let b = r.below j own e in let t : own.events < w.events + 1 = omega arith in t)
           (recorded_risen g few opened failed_at tried stays_away w full r))
-      by false gone r = recorded_taken_out w k may.there (not_in_sync (w.state k) may.out) gone r
+      by false is gone r = recorded_taken_out w k may.there (not_in_sync (w.state k) may.out) gone r
 
 -- what is asked of a member that comes in: its superblock bears the count and the roles, and says of it what its state is
 pub record Joins (g : Geometry) (w : World) (n : Newcomer) : Type 0 where
   pub absent : w.present n.number ≡ false
-  pub super : n.device.super ≡ Some (joined_super w n.number n.role n.recovering n.offset)
+  pub super : n.device.super ≡ Some (joined_super w n.number n.role n.recovering n.sure_offset)
   pub out : is_in_sync n.state ≡ false
   pub fresh : n.state ≡ Stale → ⊥
   pub bit : is_recovering n.state ≡ true → n.recovering ≡ true
@@ -250,9 +262,9 @@ spare_joins g w d left few absent laid = record {
   past = λ _. refl;
 }
 
-pub former_joins : (g : Geometry) (w : World) (own : Super) (device left : Stored) → w.present own.number ≡ false → own.number < 1920 → IsTakenBack g w own device left
-    → Joins g w (former_member own left)
-former_joins g w own device left absent low taken = record {
+pub former_joins : (g : Geometry) (w : World) (own : Super) (offset : ℕ) (device left : Stored) → w.present own.number ≡ false → own.number < 1920 → IsTakenBack g w own offset device left
+    → Joins g w (former_member own offset left)
+former_joins g w own offset device left absent low taken = record {
   absent = absent;
   super = subst (λ o. left.super ≡ Some (joined_super w own.number (own.role own.number) true o)) (sym (ap offset_of taken.rest)) (ap (λ (d : Stored). d.super) taken.rest);
   out = refl;
@@ -271,7 +283,7 @@ module _ (g : Geometry) (few : g.raid_disks ≤ 32) (opened : Super) (failed_at 
   v = joined w n
 
   abbrev new : Super
-  new = joined_super w n.number n.role n.recovering n.offset
+  new = joined_super w n.number n.role n.recovering n.sure_offset
 
   by_joined : {P : Type 0} (j : ℕ) (own : Super) → Has (book_of v) j own → (j ≡ w.members → new ≡ own → P) → (j ≢ w.members → Has (book_of w) j own → P) → P
   by_joined {P} j own e here there =
@@ -282,6 +294,10 @@ module _ (g : Geometry) (few : g.raid_disks ≤ 32) (opened : Super) (failed_at 
 
   state_there : (j : ℕ) → j ≢ w.members → v.state j ≡ w.state j
   state_there j apart = put-miss w.members n.state w.state j apart
+
+  -- a stale one was there before
+  old_stale : {P : Type 0} (j : ℕ) (own : Super) → Has (book_of v) j own → v.state j ≡ Stale → (j ≢ w.members → Has (book_of w) j own → w.state j ≡ Stale → P) → P
+  old_stale j own e is was = by_joined j own e (λ same _. absurd (joins.fresh (sym (state_here j same) ∙ is))) (λ apart x. was apart x (sym (state_there j apart) ∙ is))
 
   bit_here : (j : ℕ) → j ≡ w.members → v.recovering j ≡ n.recovering
   bit_here j same = ap v.recovering same ∙ put-hit w.members n.recovering w.recovering
@@ -308,6 +324,7 @@ module _ (g : Geometry) (few : g.raid_disks ≤ 32) (opened : Super) (failed_at 
       let had : (j : ℕ) (own : Super) → In b' j → Has b' j own → Has b j own = λ j own a e. by_joined j own e (λ same _. absurd ((old_in j a).0 same)) (λ _ x. x) in
       let slot : (j : ℕ) (own : Super) → Has b' j own → j < w.members + 1 = λ j own e. by_joined j own e
       (λ same _. let t : j < w.members + 1 = omega arith in t) (λ _ x. let s = r.slot j own x in let t : j < w.members + 1 = omega arith in t) in
+      let role_same : (j : ℕ) → j ≢ w.members → j < w.members → v.role (v.number j) ≡ w.role (w.number j) = λ j apart low. ap v.role (number_there j apart) ∙ role_there j low in
       let memory : (j : ℕ) → j < w.members + 1 → v.role (v.number j) < g.raid_disks → has_role (v.state j) ≡ true = λ j within low. by_same j w.members
       (λ same. ap has_role (state_here j same) ∙ joins.role (subst (λ x. x < g.raid_disks) (put-hit n.number n.role w.role) (subst (λ d. v.role d < g.raid_disks) (number_here j same) low)))
       (λ apart.
@@ -351,7 +368,8 @@ module _ (g : Geometry) (few : g.raid_disks ≤ 32) (opened : Super) (failed_at 
         as_new = λ i first e _ at d. by_joined i first e
             (λ _ is. sym (ap (λ (s : Super). s.role d) is))
             (λ _ x. absurd (let t : first.events < w.events = under i first x in omega arith));
-        stale = λ j own e is. by_joined j own e (λ same _. absurd (joins.fresh (sym (state_here j same) ∙ is))) (λ apart x. r.stale j own x (sym (state_there j apart) ∙ is));
+        stale = λ j own e is. old_stale j own e is
+            (λ apart x was. subst (λ d. (own.events + 1 < opened.events) ⊎ (own.role d ≢ opened.role d)) (sym (number_there j apart)) (r.stale j own x was));
         recovering = λ j at. by_same j w.members
             (λ same. bit_here j same ∙ joins.bit (ap is_recovering (sym (state_here j same)) ∙ at))
             (λ apart. bit_there j apart ∙ r.recovering j (ap is_recovering (sym (state_there j apart)) ∙ at));
@@ -360,10 +378,18 @@ module _ (g : Geometry) (few : g.raid_disks ≤ 32) (opened : Super) (failed_at 
             (λ same is. sym (ap (λ (s : Super). s.recovering) is) ∙ sym (bit_here j same))
             (λ apart x. r.bit j own x ∙ sym (bit_there j apart));
         in_memory = in_memory;
-        in_opening = λ j own a e late. let o = old_in j a in subst (λ d. opened.role d < g.raid_disks) (sym (number_there j o.0)) (r.in_opening j own o.1 (had j own a e) late);
-        in_super = λ i first j own e a e' late more. by_joined i first e
-            (λ _ is. subst (λ (s : Super). s.role (v.number j) < g.raid_disks) is (in_memory j a))
-            (λ _ x. let o = old_in j a in subst (λ d. first.role d < g.raid_disks) (sym (number_there j o.0)) (r.in_super i first j own x o.1 (had j own a e') late more));
+        roles = record {
+          own = λ j own a e. let o = old_in j a in ap own.role (number_there j o.0) ∙ r.roles.own j own o.1 (had j own a e) ∙ sym (role_same j o.0 (low_of j o.1));
+          by_opening = λ j own a e late. let o = old_in j a in
+              ap opened.role (number_there j o.0) ∙ r.roles.by_opening j own o.1 (had j own a e) late ∙ sym (role_same j o.0 (low_of j o.1));
+          by_super = λ i first j own e a e' late more. by_joined i first e
+              (λ _ is. sym (ap (λ (s : Super). s.role (v.number j)) is))
+              (λ _ x. let o = old_in j a in ap first.role (number_there j o.0) ∙ r.roles.by_super i first j own x o.1 (had j own a e') late more ∙ sym (role_same j o.0 (low_of j o.1)));
+          stale = λ j own e s. old_stale j own e s (λ apart x was. role_same j apart (r.slot j own x) ∙ r.roles.stale j own x was ∙ ap opened.role (sym (number_there j apart)));
+          stale_super = λ i first j own e e' s more. old_stale j own e' s (λ apart y was. by_joined i first e
+              (λ _ is. sym (ap (λ (u : Super). u.role (v.number j)) is) ∙ role_same j apart (r.slot j own y) ∙ r.roles.stale j own y was ∙ ap opened.role (sym (number_there j apart)))
+              (λ _ x. ap first.role (number_there j apart) ∙ r.roles.stale_super i first j own x y was more ∙ ap opened.role (sym (number_there j apart))));
+        };
         unrisen = λ h. absurd (omega arith);
         out_memory = out_memory;
         out_super = λ j own d e off more low. by_joined j own e

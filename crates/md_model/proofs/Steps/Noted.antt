@@ -102,7 +102,8 @@ module _ (g : Geometry) (wide : 0 < g.width) where
   noted_begun : (w : World) (n : ℕ) (p : Request) (rises full : Bool) → MayBegin g w n p → HasNoted g w → HasNoted g (begun g w n p rises full)
   noted_begun w n p true full may t =
       let x = noted_entered w n p may t in record { some = x.some; noted = x.noted }
-  noted_begun w n p false full may t = noted_entered w n p may t
+  noted_begun w n p false full may t =
+      let x = noted_entered w n p may t in record { some = x.some; noted = x.noted }
 
   noted_marks_stored : (w : World) (k b : ℕ) → HasNoted g w → HasNoted g (marks_stored w k b)
   noted_marks_stored w k b t = record {
@@ -179,7 +180,8 @@ module _ (g : Geometry) (wide : 0 < g.width) where
   noted_step w Event.MakeClean w' _ t s = subst (HasNoted g) (sym s.3) (record { some = t.some; noted = t.noted })
   noted_step w (Event.Remove k) w' _ t s = subst (HasNoted g) (sym s.3) (noted_removed w k (is_spare (w.state k)) s.0 t)
   noted_step w (Event.Add d left) w' _ t s = subst (HasNoted g) (sym s.4) (noted_joined w (new_member d left) s.0 refl t)
-  noted_step w (Event.ReAdd own device left) w' _ t s = subst (HasNoted g) (sym s.4) (noted_joined w (former_member own left) s.0 refl t)
+  noted_step w (Event.ReAdd own offset device left) w' _ t s = subst (HasNoted g) (sym s.4) (noted_joined w (former_member own offset left) s.0 refl t)
+  noted_step w (Event.LowerOffset k x) w' _ t s = subst (HasNoted g) (sym s.1) (record { some = t.some; noted = t.noted })
   noted_step w (Event.Fill k) w' _ t s = noted_target w k s.0 s.1.rebuild.target w' s.3 t
   noted_step w (Event.Prepare k) w' _ t s = noted_target w k s.0 s.1.target w' s.3 t
   noted_step w (Event.RecordTargetFails k) w' _ t s = noted_target w k s.0 s.1.0 w' s.1.2 t

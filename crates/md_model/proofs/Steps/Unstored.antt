@@ -69,7 +69,7 @@ module _ (g : Geometry) where
 
   unstored_begun : (w : World) (n : ℕ) (p : Request) (rises full : Bool) → MayBegin g w n p → IsUnstored w → IsUnstored (begun g w n p rises full)
   unstored_begun w n p true full may u = let x = unstored_entered w n p may u in record { listed = x.listed; agree = x.agree }
-  unstored_begun w n p false full may u = unstored_entered w n p may u
+  unstored_begun w n p false full may u = let x = unstored_entered w n p may u in record { listed = x.listed; agree = x.agree }
 
   unstored_marks_stored : (w : World) (k b : ℕ) → IsUnstored w → IsUnstored (marks_stored w k b)
   unstored_marks_stored w k b u = record {
@@ -170,7 +170,8 @@ module _ (g : Geometry) where
   unstored_step w Event.MakeClean w' t u s = subst IsUnstored (sym s.3) (record { listed = u.listed; agree = u.agree })
   unstored_step w (Event.Remove k) w' t u s = subst IsUnstored (sym s.3) (unstored_removed w k (is_spare (w.state k)) s.0 u)
   unstored_step w (Event.Add d left) w' t u s = subst IsUnstored (sym s.4) (unstored_joined w (new_member d left) s.0 refl u)
-  unstored_step w (Event.ReAdd own device left) w' t u s = subst IsUnstored (sym s.4) (unstored_joined w (former_member own left) s.0 refl u)
+  unstored_step w (Event.ReAdd own offset device left) w' t u s = subst IsUnstored (sym s.4) (unstored_joined w (former_member own offset left) s.0 refl u)
+  unstored_step w (Event.LowerOffset k x) w' t u s = subst IsUnstored (sym s.1) (record { listed = u.listed; agree = u.agree })
   unstored_step w (Event.Fill k) w' t u s = unstored_target w k s.0 s.1.rebuild.target w' s.3 u
   unstored_step w (Event.Prepare k) w' t u s = unstored_target w k s.0 s.1.target w' s.3 u
   unstored_step w (Event.RecordTargetFails k) w' t u s = unstored_target w k s.0 s.1.0 w' s.1.2 u

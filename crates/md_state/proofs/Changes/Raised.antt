@@ -9,11 +9,11 @@ use Rattle.md_super.specs.declared.superblock.Superblock.{Superblock}
 use Rattle.md_kept_members.specs.View.{MemberView}
 use Rattle.md_kept_members.specs.Members.{made_due}
 use Rattle.md_assembly.specs.States.{is_in_sync_as}
-use Rattle.md_membership.specs.Numbers.{roles_at_rise, roles_without}
+use Rattle.md_kept_members.specs.Membership.Numbers.{roles_at_rise, roles_without}
 use Rattle.md_state.specs.Steps.Rise.{made_faulty, risen, without, failed}
 use Rattle.md_state.specs.Members.{IsMember, is_degraded, is_filled}
 use Rattle.md_state.specs.View.{ArrayView}
-use Rattle.md_membership.proofs.Profiles.{same_profile}
+use Rattle.md_kept_members.proofs.MembershipLemmas.Profiles.{same_profile}
 
 pub raised : (a b : ArrayView) (w : Superblock) (members : List MemberView) (full : Bool) (p : IsProfile w.feature_map w.level w.raid_disks w.super_offset)
     → b ≡ a → w ≡ record b.shared { roles = roles_at_rise b.shared b.members } → members ≡ map made_due b.members

@@ -2,7 +2,7 @@
 use Rattle.std.proofs.Common.{◌≡◌, ℕ, ◌+◌, ◌-◌, ◌*◌, ◌/◌, ◌<◌, ◌≤◌, arith, subst, inl, inr}
 use Rattle.std.proofs.Math.Nat.{div-mul-le_self, le-div_iff_mul-le, mul-div_left}
 use Rattle.std.proofs.lemmas.Bool.{cases_lt}
-use Rattle.md_requests.specs.Pending.{PendingView, request_sectors}
+use Rattle.md_inflight.specs.Requests.Pending.{PendingView, request_sectors}
 use Rattle.md_state.specs.View.{ArrayView}
 use Rattle.md_state.specs.Members.{AllInSync, IsFirstInSyncWithout}
 use Rattle.md_state.specs.Steps.WriteMember.{HasMarksFrom, HasRequestMarks}

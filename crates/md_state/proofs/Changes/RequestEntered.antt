@@ -6,18 +6,22 @@ use Rattle.md_bitmap.specs.Marks.{Bitmap}
 use Rattle.md_inflight.specs.Inflight.{InflightList}
 use Rattle.md_super.specs.Profile.{IsProfile}
 use Rattle.md_super.specs.declared.superblock.Superblock.{Superblock}
-use Rattle.md_requests.specs.declared.extent.Extent.{Extent}
+use Rattle.md_inflight.specs.declared.requests.extent.Extent.{Extent}
 use Rattle.md_faults.specs.declared.step_fault.BeginFault.{BeginFault}
 use Rattle.md_faults.specs.declared.step_fault.BeginFault.TheVariants.{NoMemory, NumbersSpent}
 use Rattle.md_state.specs.View.{ArrayView, Disk}
 use Rattle.md_state.specs.Members.{clean_offset, is_degraded}
 use Rattle.md_state.specs.Steps.Rise.{risen}
-use Rattle.md_state.specs.Steps.Begin.{HasMarked, IsInRange, MayBeginAt, RefusesBegin, active_offset, array_after_rise, has_to_rise, with_request}
-use Rattle.md_membership.proofs.Profiles.{same_profile}
+use Rattle.md_state.specs.Steps.Begin.{HasMarked, IsInRange, MayBeginAt, RefusesBegin, active_offset, array_after_rise, first_sector, has_to_rise, with_offsets_lowered, with_request}
+use Rattle.md_kept_members.proofs.MembershipLemmas.Profiles.{same_profile}
 
 -- the list with a request of these sectors
 abbrev pub entered : InflightList Extent → ℕ → ℕ → InflightList Extent
 entered list sector sectors = record list { entries = list.entries ++ (list.next, record { start = sector; sectors = sectors }) ∷ []; next = list.next + 1 }
+
+-- the array with the request, whose count rose or not
+abbrev counted : ArrayView → ℕ → ℕ → Bool → ArrayView
+counted a sector sectors rises = cond rises (risen (record a { requests = entered a.requests sector sectors }) (not (is_degraded a))) (record a { requests = entered a.requests sector sectors })
 
 -- the array, clean no more
 abbrev pub activated : ArrayView → ArrayView
@@ -52,18 +56,18 @@ module _ (a e : ArrayView) (sector sectors : ℕ) (entered_is : e ≡ record a {
   pub still_rises : has_to_rise e ≡ true → has_to_rise a ≡ true
   still_rises rises = rw entered_is at rises
 
-  module _ (c d : ArrayView) (counted_is : c ≡ array_after_rise e) (active_is : d ≡ activated c) where
+  module _ (c l d : ArrayView) (counted_is : c ≡ array_after_rise e) (lowered_is : l ≡ with_offsets_lowered (first_sector c sector) c) (active_is : d ≡ activated l) where
     same_chunks : d.chunks ≡ a.chunks
-    same_chunks = rw (active_is, counted_is, entered_is) (by (has_to_rise a))
+    same_chunks = rw (active_is, lowered_is, counted_is, entered_is) (by (has_to_rise a))
       where
-        by : (rises : Bool) → (cond rises (risen (record a { requests = entered a.requests sector sectors }) (not (is_degraded a))) (record a { requests = entered a.requests sector sectors })).chunks ≡ a.chunks
+        by : (rises : Bool) → (counted a sector sectors rises).chunks ≡ a.chunks
         by true = refl
         by false = refl
 
     same_marks : d.marks ≡ a.marks
-    same_marks = rw (active_is, counted_is, entered_is) (by (has_to_rise a))
+    same_marks = rw (active_is, lowered_is, counted_is, entered_is) (by (has_to_rise a))
       where
-        by : (rises : Bool) → (cond rises (risen (record a { requests = entered a.requests sector sectors }) (not (is_degraded a))) (record a { requests = entered a.requests sector sectors })).marks ≡ a.marks
+        by : (rises : Bool) → (counted a sector sectors rises).marks ≡ a.marks
         by true = refl
         by false = refl
 
@@ -73,10 +77,11 @@ module _ (a e : ArrayView) (sector sectors : ℕ) (entered_is : e ≡ record a {
     pub still_marked : (marks : Bitmap) → HasMarked d sector sectors marks → HasMarked a sector sectors marks
     still_marked marks has = record { chunks = rw (← same_marks) has.chunks; bits = λ k. rw (← same_marks, ← same_chunks) (has.bits k) }
 
-    pub with_request_is : (b : ArrayView) (marks : Bitmap) → b ≡ record d { marks = marks } → b ≡ with_request (array_after_rise a) sector sectors marks
-    with_request_is b marks marked_is = rw (marked_is, active_is, counted_is, entered_is) (by (has_to_rise a))
+    pub with_request_is : (b : ArrayView) (marks : Bitmap) → b ≡ record d { marks = marks }
+        → b ≡ with_request (with_offsets_lowered (first_sector a sector) (array_after_rise a)) sector sectors marks
+    with_request_is b marks marked_is = rw (marked_is, active_is, lowered_is, counted_is, entered_is) (by (has_to_rise a))
       where
-        by : (rises : Bool) → record (activated (cond rises (risen (record a { requests = entered a.requests sector sectors }) (not (is_degraded a))) (record a { requests = entered a.requests sector sectors }))) { marks = marks }
-            ≡ with_request (cond rises (risen a (not (is_degraded a))) a) sector sectors marks
+        by : (rises : Bool) → record (activated (with_offsets_lowered (first_sector (counted a sector sectors rises) sector) (counted a sector sectors rises))) { marks = marks }
+            ≡ with_request (with_offsets_lowered (first_sector a sector) (cond rises (risen a (not (is_degraded a))) a)) sector sectors marks
         by true = refl
         by false = refl

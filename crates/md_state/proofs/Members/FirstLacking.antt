@@ -5,13 +5,15 @@ use Rattle.std.proofs.lemmas.Bool.{and_parts, and_from, cond-true, cond-false, l
 use Rattle.std.proofs.lemmas.Option.{slice_get_within, get_or_from_slice_get, same_Some, slice_get_cases}
 use Rattle.std.proofs.lemmas.List.Quantifiers.{position-Some}
 use Rattle.md_assembly.specs.States.{is_in_sync}
-use Rattle.md_requests.specs.Pending.{PendingView, has_written}
+use Rattle.md_inflight.specs.Requests.Pending.{PendingView, has_written}
 use Rattle.md_kept_members.specs.View.{MemberView}
 use Rattle.md_state.specs.View.{ArrayView}
-use Rattle.md_state.specs.Members.{AllInSync, IsFirstInSyncWithout}
+use Rattle.md_state.specs.Members.{AllInSync, IsFirstInSyncWithout, IsMember}
 use Rattle.md_state.specs.Requests.{lacks}
 use Rattle.md_state.specs.Steps.Finish.{HasBytesOf}
-use Rattle.md_state.specs.Steps.WriteMember.{IsNotDue}
+use Rattle.md_kept_members.specs.TakingBack.{member_says_of}
+use Rattle.md_state.specs.Steps.Begin.{first_sector}
+use Rattle.md_state.specs.Steps.WriteMember.{IsFirstToSay, IsNotDue, IsUnsaid}
 
 not_false : (b : Bool) → not b ≡ false → b ≡ true
 not_false true e = refl
@@ -99,3 +101,24 @@ all_reached a p = none_lacks a (λ m. not (has_written p m.superblock.dev_number
 pub first_to_reach : (a : ArrayView) (p : PendingView) (j : ℕ) → position (lacks p) a.members ≡ Some j → IsFirstInSyncWithout a (HasBytesOf p) j
 first_to_reach a p j found =
     first_lacks a (λ m. not (has_written p m.superblock.dev_number)) (HasBytesOf p) (λ m _ has. not_false _ has) (λ m lacks has. not_both _ lacks has) j found
+
+-- what a recovering member's superblock says that it has
+module _ (a : ArrayView) (p : PendingView) (start : ℕ) (start_is : start ≡ first_sector a p.sector) where
+  as_said : (m : MemberView) (b : Bool) → member_says_of start m ≡ b → member_says_of (first_sector a p.sector) m ≡ b
+  as_said m b told = ap (λ s. member_says_of s m) (sym start_is) ∙ told
+
+  pub none_says : position (member_says_of start) a.members ≡ None → (i : ℕ) (m : MemberView) → IsMember a i m → IsUnsaid a p m
+  none_says none i m at = as_said m false (none_passes (member_says_of start) a.members i m none at)
+
+  pub first_to_say : (j : ℕ) → position (member_says_of start) a.members ≡ Some j → IsFirstToSay a p j
+  first_to_say j found = elim (slice_get_cases a.members j).1 [
+    | inl (m, within, at, is) ↦
+        let first = position-Some (member_says_of start) a.members j m found in
+        record {
+          member = m;
+          at = at;
+          says = as_said m true (ap (member_says_of start) (sym is) ∙ first.1);
+          earlier = λ i n early there. as_said n false (ap (member_says_of start) (sym (get_or_from_slice_get a.members i n m there)) ∙ first.2 i early);
+        }
+    | inr (past, nothing) ↦ let within = found_within (member_says_of start) a.members j found in absurd (omega arith)
+  ]

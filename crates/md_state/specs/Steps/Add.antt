@@ -8,8 +8,8 @@ use Rattle.md_create.specs.Spares.{IsNewSpare}
 use Rattle.md_kept_members.specs.Spares.{IsOfFreshest, kept_spare}
 use Rattle.md_faults.specs.declared.add_fault.AddFault.{AddFault}
 use Rattle.md_faults.specs.declared.add_fault.AddFault.TheVariants.{Halted, TooSmall, Full, EventsFull, WriteFault, NoMemory}
-use Rattle.md_membership.specs.Joining.{joined_shared}
-use Rattle.md_membership.specs.Numbers.{IsNumber, spare_role}
+use Rattle.md_kept_members.specs.Membership.Joining.{joined_shared}
+use Rattle.md_kept_members.specs.Membership.Numbers.{IsNumber, spare_role}
 use Rattle.md_state.specs.Steps.NoteJoined.{HasMostMembers, joined}
 use Rattle.md_state.specs.Members.{is_degraded}
 use Rattle.md_state.specs.Steps.Rise.{HasSpentEvents}

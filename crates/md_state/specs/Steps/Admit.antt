@@ -6,8 +6,8 @@ use Rattle.md_kept_members.specs.TakingBack.{admitted_member}
 use Rattle.md_kept_members.specs.View.{MemberView}
 use Rattle.md_faults.specs.declared.admit_fault.AdmitFault.{AdmitFault}
 use Rattle.md_faults.specs.declared.admit_fault.AdmitFault.TheVariants.{Halted, NoRole, EventsFull, TargetFault, NoMemory}
-use Rattle.md_membership.specs.Joining.{joined_shared}
-use Rattle.md_membership.specs.Roles.{AreAllTaken, IsLeastFree}
+use Rattle.md_kept_members.specs.Membership.Joining.{joined_shared}
+use Rattle.md_kept_members.specs.Membership.Roles.{AreAllTaken, IsLeastFree}
 use Rattle.md_state.specs.Members.{IsMember}
 use Rattle.md_state.specs.Steps.Rise.{HasSpentEvents}
 use Rattle.md_state.specs.View.{ArrayView}

@@ -1,13 +1,14 @@
 -- A request begins: it is entered, and its chunks are marked in memory.
-use Rattle.std.specs.Prelude.{◌≡◌, ◌≢◌, ℕ, ◌+◌, ◌-◌, ◌/◌, ◌<◌, ◌≤◌, ◌^◌, Bool, true, false, not, cond, ◌==◌, ◌&&◌, ◌||◌, nat_le, List, [], ◌∷◌, ◌++◌, length, Some, None}
+use Rattle.std.specs.Prelude.{◌≡◌, ◌≢◌, ℕ, ◌+◌, ◌-◌, ◌*◌, ◌/◌, ◌<◌, ◌≤◌, ◌^◌, Bool, true, false, not, cond, ◌==◌, ◌&&◌, ◌||◌, nat_le, List, [], ◌∷◌, ◌++◌, length, map, Some, None}
 use Rattle.md_inflight.specs.Inflight.{lookup}
 use Rattle.md_bitmap.specs.Marks.{Bitmap, is_set}
-use Rattle.md_requests.specs.Pending.{PendingView}
+use Rattle.md_inflight.specs.Requests.Pending.{PendingView}
 use Rattle.md_faults.specs.declared.step_fault.BeginFault.{BeginFault}
 use Rattle.md_faults.specs.declared.step_fault.BeginFault.TheVariants.{Halted, OutOfRange, Overlaps, NotResynced, EventsFull, NumbersSpent, NoMemory}
+use Rattle.md_kept_members.specs.TakingBack.{lowered_member}
 use Rattle.md_state.specs.View.{ArrayView, MirrorView}
 use Rattle.md_state.specs.Members.{is_degraded, clean_offset}
-use Rattle.md_membership.specs.Numbers.{has_absent_role}
+use Rattle.md_kept_members.specs.Membership.Numbers.{has_absent_role}
 use Rattle.md_state.specs.Steps.Rise.{risen, HasSpentEvents}
 use Rattle.md_state.specs.Trying.{Refuses, RefusesHalted}
 use Rattle.md_state.specs.Steps.ClearIdle.{first_in_flight}
@@ -42,6 +43,14 @@ pub record HasMarked (a : ArrayView) (sector sectors : ℕ) (new : Bitmap) : Typ
 abbrev pub array_after_rise : ArrayView → ArrayView
 array_after_rise a = cond (has_to_rise a) (risen a (not (is_degraded a))) a
 
+-- where the request's first chunk begins
+abbrev pub first_sector : ArrayView → ℕ → ℕ
+first_sector a sector = (sector / a.chunks.sectors) * a.chunks.sectors
+
+-- Data are about to change from this sector on: no recovering member's superblock is to say any more that it has them.
+abbrev pub with_offsets_lowered : ℕ → ArrayView → ArrayView
+with_offsets_lowered sector a = record a { members = map (lowered_member sector) a.members }
+
 -- The array is clean no more.
 abbrev pub active_offset : ℕ → ℕ
 active_offset offset = cond (offset == clean_offset) 0 offset
@@ -59,7 +68,7 @@ pub record Begins (sector : ℕ) (bytes : List ℕ) (old new : MirrorView) (p : 
   pub fresh : lookup old.array.requests.entries old.array.requests.next ≡ None
   pub disks : new.disks ≡ old.disks
   pub marked : HasMarked old.array sector (length bytes / 512) new.array.marks
-  pub array : new.array ≡ with_request (array_after_rise old.array) sector (length bytes / 512) new.array.marks
+  pub array : new.array ≡ with_request (with_offsets_lowered (first_sector old.array sector) (array_after_rise old.array)) sector (length bytes / 512) new.array.marks
   pub pending : p ≡ record { ticket = record { name = old.array.requests.name; number = old.array.requests.next }; sector = sector; bytes = bytes; written = [] }
 
 -- A request has no sector, or some past the end.

@@ -3,7 +3,7 @@
 use Rattle.std.specs.Prelude.{◌≡◌, ◌⊎◌, ℕ, ◌*◌, ◌<◌, true, false, max, set}
 use Rattle.md_bitmap.specs.Marks.{Bitmap, is_set}
 use Rattle.md_kept_members.specs.Permitting.{ListsAny}
-use Rattle.md_kept_members.specs.TakingBack.{with_recovery_offset}
+use Rattle.md_kept_members.specs.TakingBack.{with_offsets}
 use Rattle.md_kept_members.specs.View.{MemberView}
 use Rattle.md_state.specs.Missing.{is_missing}
 use Rattle.md_state.specs.View.{ArrayView}
@@ -20,12 +20,10 @@ IsFirstEnd a m copied offset =
     ((c : ℕ) × (c < a.marks.chunks) × EndsCheckpoint a m copied c × ((b : ℕ) → b < c → EndsCheckpoint a m copied b → ⊥) × (offset ≡ c * a.chunks.sectors))
     ⊎ (((c : ℕ) → c < a.marks.chunks → EndsCheckpoint a m copied c → ⊥) × (offset ≡ a.chunks.size))
 
--- The new offset: it never falls.
-pub record IsNextOffset (a : ArrayView) (m : MemberView) (copied : Bitmap) (offset : ℕ) : Type 0 where
-  pub stop : ℕ
-  pub first : IsFirstEnd a m copied stop
-  pub is : offset ≡ max m.superblock.recovery_offset stop
+-- Member k surely has what is before this sector. Its offset never falls.
+abbrev pub checked : ℕ → MemberView → MemberView
+checked sure m = with_offsets (max m.offset sure) sure m
 
--- member k has this offset
-abbrev pub with_offset_of : ArrayView → ℕ → MemberView → ℕ → ArrayView
-with_offset_of a k m offset = record a { members = set a.members k (with_recovery_offset offset m) }
+-- member k is this one
+abbrev pub with_member_at : ArrayView → ℕ → MemberView → ArrayView
+with_member_at a k m = record a { members = set a.members k m }

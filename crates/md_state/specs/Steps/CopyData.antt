@@ -5,7 +5,7 @@ use Rattle.md_badblocks.specs.Runs.{IsBad}
 use Rattle.md_bitmap.specs.Marks.{is_set}
 use Rattle.md_device.specs.Device.{written}
 use Rattle.md_model.specs.Events.{Event}
-use Rattle.md_device_writes.specs.Writes.{Write}
+use Rattle.md_members.specs.DeviceWrites.Writes.{Write}
 use Rattle.md_kept_members.specs.View.{MemberView}
 use Rattle.md_assembly.specs.States.{is_in_sync_as}
 use Rattle.md_faults.specs.declared.copy_fault.CopyFault.{CopyFault}

@@ -9,7 +9,7 @@ use Rattle.md_kept_members.specs.Members.{made_due}
 use Rattle.md_kept_members.specs.View.{MemberView}
 use Rattle.md_faults.specs.declared.enrol_fault.EnrolFault.{EnrolFault}
 use Rattle.md_faults.specs.declared.enrol_fault.EnrolFault.TheVariants.{Halted, EventsFull, LogFull, TargetFault, NoMemory}
-use Rattle.md_membership.specs.Joining.{joined_shared}
+use Rattle.md_kept_members.specs.Membership.Joining.{joined_shared}
 use Rattle.md_state.specs.Members.{IsMember, is_degraded}
 use Rattle.md_state.specs.Steps.Rise.{HasSpentEvents}
 use Rattle.md_state.specs.View.{ArrayView}

@@ -1,7 +1,7 @@
 -- A request that each member in sync has is no longer in flight.
 use Rattle.std.specs.Prelude.{◌≡◌, ℕ, true, false}
 use Rattle.md_inflight.specs.Inflight as inflight
-use Rattle.md_requests.specs.Pending.{PendingView, has_written}
+use Rattle.md_inflight.specs.Requests.Pending.{PendingView, has_written}
 use Rattle.md_kept_members.specs.View.{MemberView}
 use Rattle.md_faults.specs.declared.step_fault.FinishFault.{FinishFault}
 use Rattle.md_faults.specs.declared.step_fault.FinishFault.TheVariants.{Halted, Unwritten, MustRecord}

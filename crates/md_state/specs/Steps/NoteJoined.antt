@@ -3,7 +3,7 @@
 use Rattle.std.specs.Prelude.{ℕ, ◌≤◌, not, [], ◌∷◌, ◌++◌, length, map}
 use Rattle.md_kept_members.specs.View.{MemberView}
 use Rattle.md_kept_members.specs.Members.{made_due}
-use Rattle.md_membership.specs.Joining.{joined_shared}
+use Rattle.md_kept_members.specs.Membership.Joining.{joined_shared}
 use Rattle.md_state.specs.Members.{is_degraded}
 use Rattle.md_state.specs.Steps.Rise.{risen}
 use Rattle.md_state.specs.View.{ArrayView}

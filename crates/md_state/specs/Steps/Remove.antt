@@ -8,7 +8,7 @@ use Rattle.md_faults.specs.declared.step_fault.RemoveFault.{RemoveFault}
 use Rattle.md_faults.specs.declared.step_fault.RemoveFault.TheVariants.{Halted, StillActive, EventsFull}
 use Rattle.md_state.specs.Steps.Fail.{IsRunningWith}
 use Rattle.md_state.specs.Members.{IsMember, is_degraded}
-use Rattle.md_membership.specs.Numbers.{roles_without}
+use Rattle.md_kept_members.specs.Membership.Numbers.{roles_without}
 use Rattle.md_state.specs.Steps.Rise.{HasSpentEvents, risen}
 use Rattle.md_state.specs.Trying.{Refuses, RefusesHalted}
 use Rattle.md_state.specs.View.{ArrayView, Disk, MirrorView}

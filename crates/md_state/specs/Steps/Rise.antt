@@ -3,7 +3,7 @@ use Rattle.std.specs.Prelude.{◌≡◌, ◌≢◌, ℕ, ◌+◌, ◌-◌, ◌^�
 use Rattle.md_assembly.specs.declared.state.MemberState.TheVariants.{Faulty}
 use Rattle.md_kept_members.specs.View.{MemberView}
 use Rattle.md_kept_members.specs.Members.{made_due}
-use Rattle.md_membership.specs.Numbers.{roles_at_rise, roles_without}
+use Rattle.md_kept_members.specs.Membership.Numbers.{roles_at_rise, roles_without}
 use Rattle.md_state.specs.View.{ArrayView}
 use Rattle.md_state.specs.Members.{IsMember, IsInSync, is_degraded}
 

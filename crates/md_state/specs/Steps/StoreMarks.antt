@@ -4,8 +4,8 @@ use Rattle.md_bitmap.specs.declared.header.BitmapHeader.{BitmapHeader}
 use Rattle.md_bitmap.specs.Marks.{Bitmap}
 use Rattle.md_members.specs.Areas.{bitmap_sectors}
 use Rattle.md_members.specs.Reading.{BitmapStartsAt}
-use Rattle.md_device_writes.specs.Bitmaps.{bitmap_write}
-use Rattle.md_device_writes.specs.Writes.{Write}
+use Rattle.md_members.specs.DeviceWrites.Bitmaps.{bitmap_write}
+use Rattle.md_members.specs.DeviceWrites.Writes.{Write}
 use Rattle.md_assembly.specs.States.{is_in_sync}
 use Rattle.md_kept_members.specs.View.{MemberView}
 use Rattle.md_kept_members.specs.StoredMarks.{HasStored}

@@ -1,13 +1,15 @@
 -- A member gets a request's bytes.
 use Rattle.std.specs.Prelude.{◌≡◌, ◌⊎◌, ℕ, ◌+◌, ◌≤◌, ◌<◌, ◌/◌, true, false, ◌++◌, [], ◌∷◌}
 use Rattle.md_bitmap.specs.Marks.{is_set}
-use Rattle.md_device_writes.specs.Writes.{Write}
-use Rattle.md_requests.specs.Pending.{PendingView, has_written, request_sectors}
+use Rattle.md_members.specs.DeviceWrites.Writes.{Write}
+use Rattle.md_inflight.specs.Requests.Pending.{PendingView, has_written, request_sectors}
 use Rattle.md_kept_members.specs.View.{MemberView}
 use Rattle.md_faults.specs.declared.step_fault.WriteMemberFault.{WriteMemberFault}
 use Rattle.md_faults.specs.declared.step_fault.WriteMemberFault.TheVariants.{Halted, NotActive, NotMarked, NotRecorded, AlreadyWritten, MemberFailed}
 use Rattle.md_state.specs.View.{ArrayView, MirrorView}
-use Rattle.md_state.specs.Members.{IsInSync, AllInSync, IsFirstInSyncWithout}
+use Rattle.md_kept_members.specs.TakingBack.{member_says_of}
+use Rattle.md_state.specs.Members.{IsInSync, IsMember, AllInSync, IsFirstInSyncWithout}
+use Rattle.md_state.specs.Steps.Begin.{first_sector}
 use Rattle.md_state.specs.DiskWrites.{IsWritten}
 use Rattle.md_state.specs.Trying.{Refuses, RefusesHalted, FailsWriting, HaltsWriting}
 use Rattle.md_state.specs.OutOfSync.{IsNotInSync}
@@ -27,12 +29,24 @@ HasMarksFrom first end m = (c : ℕ) → first ≤ c → c < end → is_set m.st
 abbrev pub IsNotDue : MemberView → Type 0
 IsNotDue m = m.due ≡ false
 
+-- no recovering member's superblock says that it has the request's chunks
+abbrev pub IsUnsaid : ArrayView → PendingView → MemberView → Type 0
+IsUnsaid a p m = member_says_of (first_sector a p.sector) m ≡ false
+
+-- member j is the first whose superblock does
+pub record IsFirstToSay (a : ArrayView) (p : PendingView) (j : ℕ) : Type 0 where
+  pub member : MemberView
+  pub at : IsMember a j member
+  pub says : member_says_of (first_sector a p.sector) member ≡ true
+  pub earlier : (i : ℕ) (m : MemberView) → i < j → IsMember a i m → IsUnsaid a p m
+
 -- Member k is in sync, and the request's marks and all records are stored: data come last.
 pub record HasIntentStored (k : ℕ) (a : ArrayView) (p : PendingView) (m : MemberView) : Type 0 where
   pub running : a.halted ≡ false
   pub in_sync : IsInSync a k m
   pub marked : AllInSync a (HasRequestMarks a p)
   pub recorded : AllInSync a IsNotDue
+  pub unsaid : (i : ℕ) (m : MemberView) → IsMember a i m → IsUnsaid a p m
 
 -- Member k lacks the request's bytes, and its intent is stored: the request's marks and all records are.
 pub record MayWrite (k : ℕ) (a : ArrayView) (p : PendingView) (m : MemberView) : Type 0 where
@@ -65,13 +79,14 @@ pub record LacksMarks (k j : ℕ) (a : ArrayView) (p : PendingView) : Type 0 whe
   pub in_sync : IsInSync a k member
   pub first : IsFirstInSyncWithout a (HasRequestMarks a p) j
 
--- member j's superblock has to be stored
+-- Member j's superblock has to be stored: it is in sync, or that of all members in sync is stored, and it is recovering, and its
+-- superblock says that it has the request's chunks.
 pub record LacksRecord (k j : ℕ) (a : ArrayView) (p : PendingView) : Type 0 where
   pub running : a.halted ≡ false
   pub member : MemberView
   pub in_sync : IsInSync a k member
   pub marked : AllInSync a (HasRequestMarks a p)
-  pub first : IsFirstInSyncWithout a IsNotDue j
+  pub first : IsFirstInSyncWithout a IsNotDue j ⊎ (AllInSync a IsNotDue × IsFirstToSay a p j)
 
 pub record HasBytes (k : ℕ) (a : ArrayView) (p : PendingView) : Type 0 where
   pub member : MemberView

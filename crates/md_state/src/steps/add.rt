@@ -2,8 +2,8 @@
 ghost use Rattle.std.specs.Prelude.{◌≡◌, ◌+◌, ◌<◌, MatchResult, nat_le, ℕ, IfOk, length};
 ghost use Rattle.md_bitmap.specs.Sound.{IsSoundHeader};
 ghost use Rattle.md_kept_members.specs.View.{MemberView};
-ghost use Rattle.md_membership.specs.Joining.{joined_shared};
-ghost use Rattle.md_membership.specs.Numbers.{spare_role};
+ghost use Rattle.md_kept_members.specs.Membership.Joining.{joined_shared};
+ghost use Rattle.md_kept_members.specs.Membership.Numbers.{spare_role};
 ghost use Rattle.md_state.specs.Steps.Add.{MayAdd, RefusesToAdd, HasRoomForData, IsSpareHeader, IsSpareOf};
 ghost use Rattle.md_state.specs.Members.{IsMember};
 
@@ -13,8 +13,7 @@ use crate::steps::store_marks::fitting;
 use md_bitmap::BitmapHeader;
 use md_create::{BITMAP_RESERVED, DATA_SECTOR, NewMember, new_spare};
 use md_faults::AddFault;
-use md_kept_members::freshest_header;
-use md_membership::new_number;
+use md_kept_members::{freshest_header, new_number};
 use md_super::Superblock;
 use std::alloc::{AllocError, Global};
 

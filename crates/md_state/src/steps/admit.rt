@@ -8,8 +8,7 @@ ghost use Rattle.md_state.specs.Members.{IsMember};
 
 use crate::array::Array;
 use md_faults::AdmitFault;
-use md_kept_members::{Member, make_due, note_admitted};
-use md_membership::least_free_role;
+use md_kept_members::{Member, least_free_role, make_due, note_admitted};
 use md_super::{MAX_ROLES, Superblock};
 
 impl Array {

@@ -2,14 +2,14 @@
 ghost use Rattle.std.specs.Prelude.{◌≡◌, ◌↔◌, ◌+◌, ◌/◌, ◌^◌, ◌==◌, ◌++◌, [], ◌∷◌, List, None, true, IfErr, IfOk, MatchResult, OnErr, OnOk, if◌then◌else◌, length};
 ghost use Rattle.std.specs.Int.{div_ceil};
 ghost use Rattle.md_inflight.specs.Inflight.{lookup};
-ghost use Rattle.md_state.specs.Steps.Begin.{Begins, HasMarked, IsInRange, MayBeginAt, RefusesBegin, active_offset, array_after_rise, has_to_rise};
+ghost use Rattle.md_state.specs.Steps.Begin.{Begins, HasMarked, IsInRange, MayBeginAt, RefusesBegin, active_offset, array_after_rise, first_sector, has_to_rise, with_offsets_lowered};
 ghost use Rattle.md_state.specs.Steps.Rise.{HasSpentEvents};
 ghost use Rattle.md_state.specs.View.{Disk};
 
 use crate::array::Array;
 use md_faults::BeginFault;
-use md_inflight::{PushFault, Ticket};
-use md_requests::{Extent, Pending, pending_of};
+use md_inflight::{Extent, Pending, PushFault, Ticket, pending_of};
+use md_kept_members::lower_offsets;
 use md_super::CLEAN_OFFSET;
 
 impl Array {
@@ -23,6 +23,7 @@ impl Array {
         self.check_begin(sector, sectors)?;
         let ticket = self.enter(sector, sectors)?;
         self.count_request();
+        self.lower_offsets_from(sector);
         self.become_active();
         self.mark_sectors(sector, sectors);
         Ok(pending_of(ticket, sector, bytes))
@@ -85,6 +86,22 @@ impl Array {
         if self.has_to_rise() {
             self.rise();
         }
+    }
+
+    // Data are about to change in the chunk of this sector, and past it.
+    fn lower_offsets_from(&mut self, sector: u64)
+        ensures { self.new ≡ with_offsets_lowered (first_sector self.old sector) self.old }
+    {
+        let start = self.chunk_start(sector);
+        lower_offsets(&mut self.members, start);
+    }
+
+    /// Where the chunk of this sector begins.
+    pub(crate) fn chunk_start(&self, sector: u64) -> u64
+        ensures { result ≡ first_sector self.now sector }
+    {
+        let width = u64::from(self.chunks.sectors);
+        sector / width * width
     }
 
     // The array is clean no more.

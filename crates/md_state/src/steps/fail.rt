@@ -10,8 +10,7 @@ ghost use Rattle.md_state.specs.View.{Disk};
 use crate::array::Array;
 use md_assembly::MemberState;
 use md_faults::{CopyFault, FailFault, StoreFault, WriteMemberFault};
-use md_kept_members::has_other_in_sync;
-use md_membership::drop_role;
+use md_kept_members::{drop_role, has_other_in_sync};
 
 impl Array {
     /// The answer where storing something on member k failed: the member is faulty from now on, or the

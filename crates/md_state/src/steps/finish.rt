@@ -6,7 +6,7 @@ ghost use Rattle.md_state.specs.View.{Disk};
 
 use crate::array::Array;
 use md_faults::FinishFault;
-use md_requests::{Pending, ticket_of};
+use md_inflight::{Pending, ticket_of};
 
 impl Array {
     /// What `Mirror::finish` does, whatever its devices are: it uses none.

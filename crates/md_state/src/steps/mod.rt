@@ -7,6 +7,7 @@ mod clear_idle;
 mod enrol;
 mod fail;
 mod finish;
+mod lower_offset;
 mod make_clean;
 mod note_bad;
 mod note_joined;

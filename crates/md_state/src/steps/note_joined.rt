@@ -2,12 +2,11 @@
 ghost use Rattle.std.specs.Prelude.{◌≡◌, ◌++◌, ◌∷◌, ◌<◌, List, [], IfOk, cond, false, length, map};
 ghost use Rattle.md_kept_members.specs.Members.{made_due};
 ghost use Rattle.md_kept_members.specs.View.{MemberView};
-ghost use Rattle.md_membership.specs.Joining.{joined_shared};
+ghost use Rattle.md_kept_members.specs.Membership.Joining.{joined_shared};
 ghost use Rattle.md_state.specs.Steps.Rise.{HasSpentEvents};
 
 use crate::array::Array;
-use md_kept_members::make_due;
-use md_membership::joined_superblock;
+use md_kept_members::{joined_superblock, make_due};
 use md_super::Superblock;
 use std::alloc::{AllocError, Global};
 

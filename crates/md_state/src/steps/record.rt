@@ -1,11 +1,14 @@
 // Whether a member's superblock may be stored, and what is kept once it is.
-ghost use Rattle.std.specs.Prelude.{◌<◌, ◌≡◌, MatchResult, length, false, set};
+ghost use Rattle.std.specs.Prelude.{◌<◌, ◌≡◌, MatchResult, length};
+ghost use Rattle.md_kept_members.specs.Members.{recorded_member};
 ghost use Rattle.md_kept_members.specs.View.{MemberView};
 ghost use Rattle.md_state.specs.Steps.Record.{IsActive, RefusesInactive};
 ghost use Rattle.md_state.specs.Members.{IsMember};
+ghost use Rattle.md_state.specs.Steps.Checkpoint.{with_member_at};
 
 use crate::array::Array;
 use md_faults::StoreFault;
+use md_kept_members::note_recorded;
 
 impl Array {
     /// Whether the mirror runs and the superblock of member k is kept up to date.
@@ -29,9 +32,8 @@ impl Array {
     /// Member k's superblock is stored as it is kept.
     pub fn note_recorded(&mut self, k: usize)
         requires { k < length self.old.members }
-        ensures { (m : MemberView) → IsMember self.old k m → self.new ≡ record self.old { members = set self.old.members k (record m { due = false }) } }
+        ensures { (m : MemberView) → IsMember self.old k m → self.new ≡ with_member_at self.old k (recorded_member m) }
     {
-        let member = &mut self.members[k];
-        member.due = false;
+        note_recorded(&mut self.members[k]);
     }
 }

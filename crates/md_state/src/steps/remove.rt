@@ -9,7 +9,7 @@ ghost use Rattle.md_state.specs.Steps.Rise.{HasSpentEvents};
 
 use crate::array::Array;
 use md_faults::RemoveFault;
-use md_membership::drop_role;
+use md_kept_members::drop_role;
 
 impl Array {
     /// What `Mirror::remove` does in memory, whatever its devices are.

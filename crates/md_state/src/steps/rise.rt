@@ -5,8 +5,7 @@ ghost use Rattle.md_state.specs.Members.{is_degraded};
 ghost use Rattle.md_state.specs.Steps.Rise.{HasSpentEvents, risen};
 
 use crate::array::Array;
-use md_kept_members::make_due;
-use md_membership::{drop_absent_roles, has_absent_role};
+use md_kept_members::{drop_absent_roles, has_absent_role, make_due};
 use md_super::CLEAN_OFFSET;
 
 impl Array {

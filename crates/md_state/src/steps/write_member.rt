@@ -1,6 +1,8 @@
 // Whether a request's bytes may be written to a member.
 ghost use Rattle.std.specs.Prelude.{◌≡◌, ◌<◌, List, [], ◌∷◌, ◌++◌, Some, MatchResult, length};
-ghost use Rattle.md_requests.specs.Pending.{request_sectors};
+ghost use Rattle.md_inflight.specs.Requests.Pending.{request_sectors};
+ghost use Rattle.std.specs.List.{position};
+ghost use Rattle.md_kept_members.specs.TakingBack.{member_says_of};
 ghost use Rattle.md_kept_members.specs.View.{MemberView};
 ghost use Rattle.md_state.specs.Steps.Begin.{IsInRange};
 ghost use Rattle.md_state.specs.InMemory.{HasMarksOfSize};
@@ -10,7 +12,8 @@ ghost use Rattle.md_state.specs.Steps.WriteMember.{MayWrite, RefusesWriteMember}
 
 use crate::array::Array;
 use md_faults::WriteMemberFault;
-use md_requests::{Pending, note_written};
+use md_inflight::{Pending, note_written};
+use md_kept_members::says_of;
 
 impl Array {
     /// Whether member k may get the bytes: data come after marks and records.
@@ -35,10 +38,22 @@ impl Array {
         if let Some(j) = self.first_due() {
             return Err(WriteMemberFault::NotRecorded(j));
         }
+        if let Some(j) = self.first_to_say(self.chunk_start(pending.sector())) {
+            return Err(WriteMemberFault::NotRecorded(j));
+        }
         if pending.has_written(member.superblock.dev_number) {
             return Err(WriteMemberFault::AlreadyWritten);
         }
         Ok(())
+    }
+
+    // The first recovering member whose superblock says that it has this sector.
+    fn first_to_say(&self, sector: u64) -> Option<usize>
+        ensures { result ≡ position (member_says_of sector) self.now.members }
+    {
+        self.members
+            .iter()
+            .position(|member| says_of(member, sector))
     }
 
     /// The member of this number has the bytes. Only a mirror that wrote them may say so.

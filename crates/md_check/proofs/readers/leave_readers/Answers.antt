@@ -1,5 +1,5 @@
 use Rattle.std.proofs.Common.{◌≡◌, ◌∙◌, ◌+◌, ◌<◌, ◌++◌, ◌∷◌, [], suc, List, length, map, take, ap, arith, length-append, length-drop, take_all}
-use Rattle.md_workers.proofs.FirstOut.{first_is, rest_is}
+use Rattle.md_collect.proofs.WorkerLemmas.FirstOut.{first_is, rest_is}
 use Rattle.md_check.specs.declared.reader.Reader.{Reader}
 use Rattle.md_check.proofs.TakenInTurn.{left_next}
 use Rattle.md_check.proofs.readers.leave_readers.Goals as goal

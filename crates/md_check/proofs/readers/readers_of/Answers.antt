@@ -1,6 +1,6 @@
 use Rattle.std.proofs.Common.{◌∙◌, ◌+◌, ◌<◌, ◌∷◌, [], length, get_or, ap, sym, subst, arith, length-append, length-drop}
 use Rattle.std.proofs.lemmas.List.{drop_all}
-use Rattle.md_workers.proofs.FirstOut.{first_is, rest_is}
+use Rattle.md_collect.proofs.WorkerLemmas.FirstOut.{first_is, rest_is}
 use Rattle.md_check.specs.declared.order.Order.{Order}
 use Rattle.md_check.specs.declared.reader.Reader.{Reader}
 use Rattle.md_check.specs.Plans.{IsReaderOf}

@@ -1,5 +1,7 @@
 use Rattle.std.proofs.Common.{◌≡◌, ◌∙◌, ◌+◌, ◌-◌, ◌/◌, ◌%◌, ◌≤◌, ℕ, Bool, true, if◌then◌else◌, List, length, drop, take, subst, arith}
+use Rattle.std.proofs.lemmas.Result.{err_from_is_err_and}
 use Rattle.md_check.specs.Readings.{HasUnlisted}
+use Rattle.md_check.proofs.ChunkFaults.{there_since}
 use Rattle.md_check.proofs.SectorsRead.{block_read}
 use Rattle.md_check.proofs.WindowsRead.{given_first, used_then}
 use Rattle.md_check.proofs.work.is_read_alike.Goals as goal
@@ -33,3 +35,9 @@ loop-done-preserved g c =
           (λ is. subst (λ (b : Bool). HasUnlisted (g.D.Device.content old.device) old.offset old.listed at (length block / 512) (if b then block else new.bytes.items)) yes (c.in_ok-alike.ensures.gave is))
           honest);
     }
+
+pub returns-in_err-alike-clause-there : goal.returns-in_err-alike-clause-there
+returns-in_err-alike-clause-there g c =
+    let p = err_from_is_err_and c.from_residual.result c.from_residual.ensures.1 in
+    rw (p.1, p.2)
+    (there_since g.D.Device c.args.reader.now c.loop-done.reader c.is_block_alike.new.reader c.args.chunks c.in_err-alike.field-0.0 c.loop-done.invariant.used c.in_err-alike.ensures.there)

@@ -4,6 +4,8 @@ use Rattle.md_device.specs.Device.{held}
 use Rattle.md_bitmap.specs.Chunks.{InChunk}
 use Rattle.md_badblocks.specs.Runs.{IsBad}
 use Rattle.md_check.proofs.ChunkSectors.{before_end, in_its_chunk}
+use Rattle.md_collect.specs.Places.{sectors_of_chunk, start_of}
+use Rattle.md_check.proofs.ChunkFaults.{run_failed}
 use Rattle.md_check.proofs.SectorsRead.{front_read}
 use Rattle.md_check.proofs.work.read_front.Goals as goal
 
@@ -44,3 +46,25 @@ returns-in-Err-clause-missed g c =
       inside = subst (λ n. InChunk chunks.sectors chunks.size n sector) (sym c.chunk_of-chunk.ensures.is) (in_its_chunk chunks.sectors chunks.size sector chunks.chunking.some_sectors within);
       unlisted = subst (λ n. IsBad c.args.listed.now n → ⊥) first (c.clear_run-run.ensures.clear 0 (let run = c.if-run-eq0.false in omega arith));
     }
+
+pub returns-in-Err-clause-there : goal.returns-in-Err-clause-there
+returns-in-Err-clause-there g c =
+    let chunks = c.args.chunks in
+    let sector = c.args.sector in
+    let some = c.requires.some in
+    let inside = c.requires.inside in
+    let within : sector < chunks.size = omega arith in
+    let run = c.clear_run-run.result in
+    let xs = c.args.buf.now in
+    let most = c.clear_run-run.ensures.most in
+    let few : 512 * run ≤ length xs = omega (arith, most, c.min-most.ensures) in
+    let long : length (take (512 * run) xs) ≡ 512 * run = length-take-le (512 * run) xs few in
+    let chunk = c.chunk_of-chunk.result in
+    let here : InChunk chunks.sectors chunks.size chunk sector = subst (λ n. InChunk chunks.sectors chunks.size n sector) (sym c.chunk_of-chunk.ensures.is) (in_its_chunk chunks.sectors chunks.size sector chunks.chunking.some_sectors within) in
+    let ends = c.range-start.ensures.end in
+    let at = c.range-start.ensures.start in
+    let from = here.from in
+    let least = c.min-most.ensures in
+    let positive : 0 < run = (let not = c.if-run-eq0.false in omega arith) in
+    run_failed (g.D.Device.faults c.args.device.now) (g.D.Device.faults c.read_run-answer.new.device) c.args.offset (start_of chunks chunk) (sectors_of_chunk chunks chunk) sector run (length (take (512 * run) xs))
+    c.in-Err.ensures.there from (omega (arith, most, least, ends, at, from, positive)) positive long

@@ -1,7 +1,9 @@
 use Rattle.std.proofs.Common.{◌≡◌, ◌∙◌, ◌+◌, ◌*◌, ◌-◌, ℕ, List, length, drop, subst, arith, length-drop}
 use Rattle.std.proofs.lemmas.List.{length-take-le}
-use Rattle.md_workers.proofs.OnlyReads.{read_then}
+use Rattle.std.proofs.lemmas.Result.{err_from_is_err_and}
+use Rattle.md_collect.proofs.WorkerLemmas.OnlyReads.{read_then}
 use Rattle.md_check.specs.Readings.{HasUnlisted}
+use Rattle.md_check.proofs.ChunkFaults.{chunk_since}
 use Rattle.md_check.proofs.SectorsRead.{length-replaced, more_read}
 use Rattle.md_check.proofs.work.read_part.Goals as goal
 
@@ -32,3 +34,9 @@ loop-done-preserved g c =
           (subst (λ (held_there : List ℕ). HasUnlisted held_there c.args.offset c.args.listed.now (part.from + done) passed ys) inv.only_read.content_kept
           (c.in_ok-passed.ensures.gave (inv.only_read.honest_kept ∙ honest)));
     }
+
+pub returns-in_err-passed-clause-there : goal.returns-in_err-passed-clause-there
+returns-in_err-passed-clause-there g c =
+    let p = err_from_is_err_and c.from_residual.result c.from_residual.ensures.1 in
+    rw (p.1, p.2)
+    (chunk_since g.D.Device c.args.device.now c.loop-done.device c.read_front.new.device c.args.offset c.args.chunks c.in_err-passed.field-0.0 c.loop-done.invariant.only_read c.in_err-passed.ensures.there)

@@ -1,5 +1,5 @@
 use Rattle.std.proofs.Common.{◌≡◌, ◌-◌, ◌≤◌, length, true}
-use Rattle.md_workers.specs.Queues.{OnlyRead}
+use Rattle.md_collect.specs.Workers.Queues.{OnlyRead}
 use Rattle.md_check.specs.Readings.{HasUnlisted}
 use Rattle.md_check.proofs.work.read_part.Given as goal
 

@@ -15,5 +15,5 @@ returns-clause-re_adds g c =
       device = device;
       is = is;
       kept = call.ensures.device;
-      re_adds = subst (λ (r : Result (Unit {0}) CommandFault). MatchResult r (λ _. StopsArrayAfter g.S.Sink (ReAddsDevice device c.args.opened.now.mirror) call.new.mirror c.args.out.now call.new.out) (RefusesToReAdd g.S.Sink device (option_map disk call.result.0) c.args.opened.now.mirror call.new.mirror c.args.out.now call.new.out)) c.in_ok-re_added.was call.ensures.gives;
+      re_adds = subst (λ (r : Result (Unit {0}) CommandFault). MatchResult r (λ _. StopsArrayAfter g.S.Sink (ReAddsDevice c.args.extent device c.args.opened.now.mirror) call.new.mirror c.args.out.now call.new.out) (RefusesToReAdd g.S.Sink c.args.extent device (option_map disk call.result.0) c.args.opened.now.mirror call.new.mirror c.args.out.now call.new.out)) c.in_ok-re_added.was call.ensures.gives;
     }

@@ -29,14 +29,14 @@ returns-clause-taken g c taken =
     let none : c.none-notices.result ≡ nothing = c.none-notices.ensures in
     let Telling : Bool → Ask → List Text → Type 0 =
     λ shown ask names. TellsNoticed g.E.Sink (record { messages = c.args.messages; was_shown = shown }) ask names (streams_of c.act-outcome.new.session).missing c.args.err.now c.answer.new.err c.act-outcome.result c.act-outcome.new.notices in
-    let told = subst (λ shown. Telling shown (ask_of c.in-Ok.request.command) (texts c.as_slice-names.result.now)) c.is_there.ensures c.answer.ensures.tells in
-    let shows = g.W.Asker.shows c.args.session.now.watch.now in
+    let told = subst (λ shown. Telling shown (ask_of c.in-Ok.request.command) (texts c.as_slice-names.result.now)) c.is_told_first.ensures c.answer.ensures.tells in
+    let first = g.W.Asker.told_first c.args.session.now.watch.now in
     inr (record {
       result = c.act-outcome.result;
       status_is = c.answer.ensures.status;
       noticed = c.act-outcome.new.notices;
       does = subst (λ names. Doing nothing (asked words) names) names_are (subst (λ ask. Doing nothing ask (texts c.as_slice-names.result.now)) asks (subst (λ noticed. Doing noticed (ask_of c.in-Ok.request.command) (texts c.as_slice-names.result.now)) none c.act-outcome.ensures.gives));
-      told = subst (λ names. Telling shows (asked words) names) names_are (subst (λ ask. Telling shows ask (texts c.as_slice-names.result.now)) asks told);
+      told = subst (λ names. Telling first (asked words) names) names_are (subst (λ ask. Telling first ask (texts c.as_slice-names.result.now)) asks told);
     })
 
 pub returns-clause-flushed : goal.returns-clause-flushed

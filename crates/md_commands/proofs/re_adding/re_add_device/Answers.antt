@@ -13,30 +13,30 @@ pub returns-in-Ok-clause-gives : goal.returns-in-Ok-clause-gives
 returns-in-Ok-clause-gives g c =
     let device = disk_of g.D.Device c.args.device in
     let old = c.args.mirror.now in
-    let joined = c.re_add.new.self in
-    let comes : ComesBackReadied c.in-Ok.k device old joined = record {
+    let joined = c.come_back.new.mirror in
+    let comes : ComesBackReadied c.args.extent c.in-Ok.k device old joined = record {
       ready = c.resync_if_needed.new.mirror;
       readied = c.in_default.ensures.gives;
-      re_adds = c.in-Ok.ensures.gives;
+      comes = c.in-Ok.ensures.gives;
     } in
-    re_added_or_not g.S.Sink c.in-Ok.k device None old joined c.rebuild_and_show-shown.new.mirror c.args.out.now c.rebuild_and_show-shown.new.out comes c.rebuild_and_show-shown.result c.rebuild_and_show-shown.ensures.gives
+    re_added_or_not g.S.Sink c.args.extent c.in-Ok.k device None old joined c.rebuild_and_show-shown.new.mirror c.args.out.now c.rebuild_and_show-shown.new.out comes c.rebuild_and_show-shown.result c.rebuild_and_show-shown.ensures.gives
 
 pub returns-in-Ok-clause-device : goal.returns-in-Ok-clause-device
 returns-in-Ok-clause-device g c =
     let device = disk_of g.D.Device c.args.device in
     let old = c.args.mirror.now in
-    let joined = c.re_add.new.self in
-    let comes : ComesBackReadied c.in-Ok.k device old joined = record {
+    let joined = c.come_back.new.mirror in
+    let comes : ComesBackReadied c.args.extent c.in-Ok.k device old joined = record {
       ready = c.resync_if_needed.new.mirror;
       readied = c.in_default.ensures.gives;
-      re_adds = c.in-Ok.ensures.gives;
+      comes = c.in-Ok.ensures.gives;
     } in
-    joins_rebuilt g.S.Sink c.in-Ok.k device old joined c.rebuild_and_show-shown.new.mirror c.args.out.now c.rebuild_and_show-shown.new.out c.rebuild_and_show-shown.result comes c.rebuild_and_show-shown.ensures.gives
+    joins_rebuilt g.S.Sink c.args.extent c.in-Ok.k device old joined c.rebuild_and_show-shown.new.mirror c.args.out.now c.rebuild_and_show-shown.new.out c.rebuild_and_show-shown.result comes c.rebuild_and_show-shown.ensures.gives
 
 pub returns-in-Ok-clause-pending : goal.returns-in-Ok-clause-pending
 returns-in-Ok-clause-pending g c p is =
     c.rebuild_and_show-shown.ensures.pending p (c.in-Ok.ensures.pending p (c.in_default.ensures.pending p is))
 
-pub returns-in-Err-re_add-clause-device : goal.returns-in-Err-re_add-clause-device
-returns-in-Err-re_add-clause-device g c =
-    stays_away c.in-Err-re_add.fault (disk_of g.D.Device c.args.device) (disk_of g.D.Device c.in-Err-re_add.device) c.args.mirror.now c.resync_if_needed.new.mirror c.re_add.new.self c.in_default.ensures.gives c.in-Err-re_add.ensures.gives
+pub returns-in-Err-come_back-clause-device : goal.returns-in-Err-come_back-clause-device
+returns-in-Err-come_back-clause-device g c =
+    stays_away c.in-Err-come_back.fault (disk_of g.D.Device c.args.device) (disk_of g.D.Device c.in-Err-come_back.device) c.args.mirror.now c.resync_if_needed.new.mirror c.come_back.new.mirror c.in_default.ensures.gives c.in-Err-come_back.ensures.as_was

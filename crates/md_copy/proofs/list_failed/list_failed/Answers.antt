@@ -5,7 +5,7 @@ use Rattle.std.proofs.lemmas.List.Elements.{All-get_or}
 use Rattle.md_assembly.specs.States.{is_in_sync_as}
 use Rattle.md_bitmap.specs.declared.chunks.Chunks.{Chunks}
 use Rattle.md_cert.specs.declared.slots.Slot.{Slot}
-use Rattle.md_passes.specs.Listed.{ServesAs}
+use Rattle.md_copy.specs.PassLaws.Listed.{ServesAs}
 use Rattle.md_state.specs.View.{ArrayView}
 use Rattle.md_pass.specs.Copied.{failed_slots}
 use Rattle.md_copy.specs.Listing.{NotesLists, EndsNoting}

@@ -5,7 +5,7 @@ use Rattle.md_bitmap.specs.Marks.{Bitmap}
 use Rattle.md_collect.specs.Reports.{Copying}
 use Rattle.md_device.specs.declared.device.Device.{Ghosts}
 use Rattle.md_pass.specs.Copied.{BreaksOff, EndsPass, PassState, pass_state}
-use Rattle.md_workers.specs.Queues.{AreOnlyRead}
+use Rattle.md_collect.specs.Workers.Queues.{AreOnlyRead}
 use Rattle.md_pass.specs.Sources.{copy_of}
 use Rattle.md_pass.specs.declared.fault.PassFault.{PassFault}
 use Rattle.md_pass.specs.declared.pass.BoardCounts.{BoardCounts}

@@ -8,9 +8,9 @@ use Rattle.md_create.specs.Layout.{IsHalfLaidOut, IsLaidOutAs, empty_log, bitmap
 use Rattle.md_create.proofs.HalfLaid.{half_laid}
 use Rattle.md_create.proofs.Laid.{bitmap_keeps, keeps_then, laid_out, log_keeps, super_keeps}
 use Rattle.md_create.proofs.laid_out.lay_out.Goals as goal
-use Rattle.md_device_writes.specs.Bitmaps.{bitmap_writes}
-use Rattle.md_device_writes.specs.Writes.{IsCutShort, MakesWrites}
-use Rattle.md_device_writes.proofs.Runs.{all_done_of, does_any, stops_any, stops_front, stops_then}
+use Rattle.md_members.specs.DeviceWrites.Bitmaps.{bitmap_writes}
+use Rattle.md_members.specs.DeviceWrites.Writes.{IsCutShort, MakesWrites}
+use Rattle.md_members.proofs.DeviceWriteLemmas.Runs.{all_done_of, does_any, stops_any, stops_front, stops_then}
 
 on_ok : {T E : Type 0} {P : Type 0} (r : Result T E) → P → OnOk r P
 on_ok (Ok x) p = p

@@ -1,4 +1,5 @@
-use Rattle.std.proofs.Common.{◌≡◌, ◌∙◌, ◌<◌, List, [], ◌∷◌, ℕ, map, refl, subst, inl}
+use Rattle.std.proofs.Common.{◌≡◌, ◌∙◌, List, [], ◌∷◌, ℕ, map, refl, subst, inl}
+use Rattle.md_members.specs.Reading.{CallFails}
 use Rattle.std.specs.Borrow.{Bor}
 use Rattle.std.specs.Prelude.{slice_index_or}
 use Rattle.md_words.specs.Asks.{ask_of}
@@ -35,7 +36,7 @@ returns-clause-flushed g c =
     let ask = ask_of c.args.command in
     let was = c.in-Ok.device in
     let call = c.show-result in
-    let Failed = d.failures was < d.failures call.new.device in
+    let Failed = CallFails d was call.new.device in
     flushed g.S.Sink (ShownBy ask (d.content was) (d.honest was) Failed) (RefusedBy ask (d.content was) (d.honest was) Failed) c.args.out.now call.new.out call.result call.ensures.gives
 
 pub returns-clause-looked : goal.returns-clause-looked

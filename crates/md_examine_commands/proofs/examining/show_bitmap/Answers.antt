@@ -1,4 +1,5 @@
-use Rattle.std.proofs.Common.{◌≡◌, ◌<◌, refl, rules, inl}
+use Rattle.std.proofs.Common.{◌≡◌, refl, rules, inl}
+use Rattle.md_members.specs.Reading.{CallFails}
 use Rattle.std.specs.Prelude.{Err}
 use Rattle.md_commands.specs.declared.fault.CommandFault.TheVariants.{Member}
 use Rattle.md_commands.proofs.Wrapped.{own_err, own_ok}
@@ -21,7 +22,7 @@ pub returns-clause-gives : goal.returns-clause-gives
 returns-clause-gives g c =
     let d = g.D.Device in
     let was = c.args.device.now in
-    let Failed = d.failures was < d.failures c.read_member.new.device in
+    let Failed = CallFails d was c.read_member.new.device in
     let call = c.put_bitmap in
     let own = own_ok _ _ _ c.read_member.result _ _ c.read_member.ensures.reads c.in_ok-member.ensures.cases c.in_ok-member.ensures.variant refl in
     reported g.S.Sink (IsBitmapText (d.content was) (d.honest was) c.args.json) (IsBitmapRefusal (d.content was) (d.honest was) Failed) c.args.out.now call.new.out (bitmap_shown c.args.json c.in-Some.header c.in-Some-marks.marks) call.result (c.in_ok-member.member, c.in-Some.header, c.in-Some-marks.marks, own, c.in-Some.is, c.in-Some-marks.is, refl) call.ensures

@@ -1,10 +1,14 @@
-use Rattle.std.proofs.Common.{◌≡◌, ◌∙◌, ap, sym, true, false, arith, rules, inr, refl, IsTrue}
+use Rattle.std.proofs.Common.{◌≡◌, ◌∙◌, List, ap, sym, subst, true, false, rules, inr, refl, IsTrue}
+use Rattle.md_device.specs.declared.fault_list.Fault.{Fault}
+use Rattle.md_device.specs.Failing.{EachNewFault}
 use Rattle.std.proofs.lemmas.Bool.{leb-true, leb-false}
 use Rattle.std.proofs.lemmas.Result.{err_from_is_err_and}
 use Rattle.md_members.specs.Areas.{bitmap_sectors}
-use Rattle.md_members.specs.Reading.{IsRead, chunks_of}
+use Rattle.md_members.specs.Reading.{IsRead, IsReadOf, chunks_of}
 use Rattle.md_members.proofs.Headers.{header_read, marks_as, placed_by, placed_of}
 use Rattle.md_members.proofs.Refusals.{bitmap_by_marks}
+use Rattle.md_device.proofs.Failing.{fails_none}
+use Rattle.md_members.proofs.Failed.{fails_later}
 use Rattle.md_members.proofs.Untouched.{leaves_same}
 use Rattle.md_members.proofs.Wrapped.{own_is}
 use Rattle.md_members.proofs.bitmap.read_bitmap.Goals as goal
@@ -46,7 +50,9 @@ returns-in_err-marks-clause-reads g c =
     let fits : IsTrue c.is_placed.result = search rules in
     let placed = placed_by content v c.sectors-device_sectors.result _ c.from-sectors.result c.sectors-device_sectors.ensures.size width (c.is_placed.ensures.0 fits) in
     let p = err_from_is_err_and c.from_residual-in_err-marks.result c.from_residual-in_err-marks.ensures.1 in
-    rw (p.1, p.2) (bitmap_by_marks content _ _ _ _ _ v c.in_ok-header.header c.in_err-marks.field-0.0 c.read_sectors.ensures.honest (λ failed. omega arith) header few placed c.in_err-marks.ensures.reads)
+    rw (p.1, p.2) (bitmap_by_marks content _ _ _ _ v c.in_ok-header.header c.start_of_bitmap-start.result c.from-sectors.result c.in_err-marks.field-0.0
+    (λ P. fails_later g.D.Device c.args.device.now c.read_sectors.new.device c.read_marks.new.device P (IsReadOf 0 0) c.read_sectors.ensures.counted (subst (λ (xs : List Fault). EachNewFault (g.D.Device.faults c.args.device.now) xs (IsReadOf 0 0)) (sym c.in_ok-read_sectors.ensures.faults) (fails_none _ _)))
+    c.start_of_bitmap-start.ensures.start width header few placed c.in_err-marks.ensures.reads)
 
 pub returns-in_err-marks-clause-within : goal.returns-in_err-marks-clause-within
 returns-in_err-marks-clause-within g c =

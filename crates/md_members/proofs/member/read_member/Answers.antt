@@ -1,9 +1,12 @@
-use Rattle.std.proofs.Common.{◌≡◌, ◌*◌, ◌∙◌, sym, ap, refl, rules, arith, inr, IsTrue, subst, length}
+use Rattle.std.proofs.Common.{◌≡◌, false, ◌*◌, ◌∙◌, sym, ap, refl, rules, arith, inr, IsTrue, subst, length}
 use Rattle.std.proofs.lemmas.Result.{err_from_is_err_and}
 use Rattle.md_members.specs.Areas.{AreAreasPlaced}
 use Rattle.md_members.specs.Members.{by_place, sectors_of_device}
 use Rattle.md_members.proofs.Headers.{placed_by, placed_of}
 use Rattle.md_members.proofs.Refusals.{rest_by_bitmap, rest_by_log, bitmap_as, bad_set_as}
+use Rattle.md_device.proofs.Failing.{fails_then}
+use Rattle.md_members.specs.Reading.{IsReadOf}
+use Rattle.md_members.proofs.Failed.{fails_later, reads_alone}
 use Rattle.md_members.proofs.Untouched.{leaves_same}
 use Rattle.md_members.proofs.member.read_member.Goals as goal
 
@@ -34,7 +37,9 @@ returns-in_err-header-clause-reads g c =
     rw (p.1, p.2) (inr (
       v,
       c.in_ok-superblock.ensures.reads,
-      rest_by_bitmap old _ _ _ _ _ v c.in_err-header.field-0.0 c.read_super.ensures.kept c.read_super.ensures.honest (λ failed. omega arith) there c.in_err-header.ensures.reads,
+      rest_by_bitmap old _ _ _ _ _ v c.in_err-header.field-0.0 c.read_super.ensures.kept c.read_super.ensures.honest
+          (λ P. fails_later g.D.Device c.args.device.now c.read_super.new.device c.read_any_bitmap.new.device P (IsReadOf 8 4096) c.read_super.ensures.counted c.read_super.ensures.grown)
+          there c.in_err-header.ensures.reads,
     ))
 
 pub read_bad_set-requires : goal.read_bad_set-requires
@@ -54,7 +59,10 @@ returns-in_err-bad-clause-reads g c =
     rw (p.1, p.2) (inr (
       v,
       c.in_ok-superblock.ensures.reads,
-      rest_by_log old _ _ _ _ _ _ v c.in_ok-header.header c.in_ok-header.marks c.in_err-bad.field-0.0 c.read_super.ensures.kept c.read_super.ensures.honest (c.read_any_bitmap.ensures.honest ∙ c.read_super.ensures.honest) (λ failed. omega arith) placed c.in_ok-header.ensures.reads c.in_err-bad.ensures.reads,
+      rest_by_log old _ _ _ _ _ v c.in_ok-header.header c.in_ok-header.marks c.in_err-bad.field-0.0 c.read_super.ensures.kept c.read_super.ensures.honest
+          (λ P. fails_later g.D.Device c.args.device.now c.read_any_bitmap.new.device c.read_bad_set.new.device P (λ f. f.writes ≡ false) (omega (arith, c.read_super.ensures.counted, c.read_any_bitmap.ensures.counted))
+          (fails_then _ _ _ _ (reads_alone _ _ 8 4096 c.read_super.ensures.grown) c.read_any_bitmap.ensures.grown))
+          placed c.in_ok-header.ensures.reads c.in_err-bad.ensures.reads,
     ))
 
 pub returns-clause-reads : goal.returns-clause-reads

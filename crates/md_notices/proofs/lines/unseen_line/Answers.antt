@@ -5,5 +5,6 @@ use Rattle.md_notices.proofs.lines.unseen_line.Goals as goal
 pub returns : goal.returns
 unfolding unseen_text
 returns g c =
-    let all = puts_then g.S.Sink.contents g.S.Sink.failed (puts_then g.S.Sink.contents g.S.Sink.failed c.in_ok-put.ensures c.in_ok-put-2.ensures) c.in_ok-put-3.ensures in
-    rw (c.as_bytes.ensures.value) at all
+    puts_then g.S.Sink.contents g.S.Sink.failed
+    (puts_then g.S.Sink.contents g.S.Sink.failed c.in_ok-put.ensures c.in_ok-put_name.ensures)
+    c.in_ok-put-2.ensures

@@ -9,11 +9,11 @@ use Rattle.md_pass.specs.Copied.{failed_slots, pass_state}
 use Rattle.md_pass.specs.Preparing.{sources_of}
 use Rattle.md_pass.proofs.Orders.{few_slots}
 use Rattle.md_pass.proofs.PassStarts.{all_fit, in_turn, starts, turns_enough}
-use Rattle.md_pass.proofs.PassEnds.{count_failed, devices_read, has_copied, have_left, queues_parts, none_left, on_fault}
+use Rattle.md_pass.proofs.PassEnds.{count_failed, devices_read, fail_only_there, fail_there, has_copied, have_left, queues_parts, none_left, on_fault}
 use Rattle.md_pass.proofs.PassSources.{nothing_copied, nothing_written}
 use Rattle.md_pass.proofs.Totals.{total_slots}
 use Rattle.md_pass.proofs.pass.copy_prepared.Goals as goal
-use Rattle.md_workers.specs.Tally.{Tally}
+use Rattle.md_collect.specs.Workers.Tally.{Tally}
 
 pub new-board-requires-clause-limit : goal.new-board-requires-clause-limit
 new-board-requires-clause-limit g c =
@@ -120,4 +120,6 @@ returns-clause-gives g c =
       none_left = c.left.ensures ∙ c.audit_share.ensures.left ∙ rest;
       failed = c.failed.ensures ∙ c.audit_share.ensures.failed ∙ failed;
       counted = count_failed left c.in_ok-result.ensures.passed c.in_ok-result.ensures.done c.put_back-all.new.devices.items (let many = turn.as_many in let n = length-map c.args.prepared.readings.items (λ (r : Reading). r.source.place) in let e = c.take_out-rest.ensures.count in let b = c.put_back-all.ensures.count in omega (arith, many, n, e, b)) c.put_back-all.ensures.back;
+      there = fail_there left c.in_ok-result.ensures.passed c.in_ok-result.ensures.done c.put_back-all.new.devices.items (let many = turn.as_many in let n = length-map c.args.prepared.readings.items (λ (r : Reading). r.source.place) in let e = c.take_out-rest.ensures.count in let b = c.put_back-all.ensures.count in omega (arith, many, n, e, b)) c.put_back-all.ensures.back;
+      only_there = fail_only_there left c.in_ok-result.ensures.passed c.in_ok-result.ensures.done c.in_ok-result.ensures.fed c.put_back-all.new.devices.items (let many = turn.as_many in let n = length-map c.args.prepared.readings.items (λ (r : Reading). r.source.place) in let e = c.take_out-rest.ensures.count in let b = c.put_back-all.ensures.count in omega (arith, many, n, e, b)) c.put_back-all.ensures.back;
     }

@@ -1,15 +1,15 @@
 use Rattle.std.proofs.Common.{◌≡◌, ◌∷◌, Some, None, true, false, refl, ap, sym, ◌∙◌, rules}
-use Rattle.md_workers.specs.Queues.{is_failed}
+use Rattle.md_collect.specs.Workers.Queues.{is_failed}
 use Rattle.md_pass.proofs.Besides.{writes_one}
 use Rattle.md_pass.proofs.ReportsTaken.{held}
-use Rattle.md_workers.proofs.Workers.{none_given}
+use Rattle.md_collect.proofs.WorkerLemmas.Workers.{none_given}
 use Rattle.md_pass.proofs.take_report.take_report.Goals as goal
 
 pub returns-then-is_err-clause-writes : goal.returns-then-is_err-clause-writes
 returns-then-is_err-clause-writes g c =
     let waits : c.args.queue.now.reports ≡ c.in-Some.report ∷ c.pop.new.self = search rules in
     writes_one c.args.collector.now c.take_ref.new.self c.in-Some.report.chunk c.args.target.now c.take_ref.new.target (c.requires.allowed.planned c.in-Some.report c.pop.new.self waits)
-    c.take_ref.ensures.kept c.take_ref.ensures.outside c.take_ref.ensures.honest c.take_ref.ensures.counted c.take_ref.ensures.within
+    c.take_ref.ensures.kept c.take_ref.ensures.outside c.take_ref.ensures.honest c.take_ref.ensures.counted c.take_ref.ensures.grown c.take_ref.ensures.within
 
 pub returns-then-is_err-clause-failed : goal.returns-then-is_err-clause-failed
 returns-then-is_err-clause-failed g c =
@@ -20,7 +20,7 @@ pub returns-then-failed-clause-writes : goal.returns-then-failed-clause-writes
 returns-then-failed-clause-writes g c =
     let waits : c.args.queue.now.reports ≡ c.in-Some.report ∷ c.pop.new.self = search rules in
     writes_one c.args.collector.now c.take_ref.new.self c.in-Some.report.chunk c.args.target.now c.take_ref.new.target (c.requires.allowed.planned c.in-Some.report c.pop.new.self waits)
-    c.take_ref.ensures.kept c.take_ref.ensures.outside c.take_ref.ensures.honest c.take_ref.ensures.counted c.take_ref.ensures.within
+    c.take_ref.ensures.kept c.take_ref.ensures.outside c.take_ref.ensures.honest c.take_ref.ensures.counted c.take_ref.ensures.grown c.take_ref.ensures.within
 
 -- a report of a read that failed: nothing is written or marked
 pub returns-then-failed-clause-reports_taken : goal.returns-then-failed-clause-reports_taken
@@ -41,7 +41,7 @@ pub returns-clause-writes : goal.returns-clause-writes
 returns-clause-writes g c =
     let waits : c.args.queue.now.reports ≡ c.in-Some.report ∷ c.pop.new.self = search rules in
     writes_one c.args.collector.now c.take_ref.new.self c.in-Some.report.chunk c.args.target.now c.take_ref.new.target (c.requires.allowed.planned c.in-Some.report c.pop.new.self waits)
-    c.take_ref.ensures.kept c.take_ref.ensures.outside c.take_ref.ensures.honest c.take_ref.ensures.counted c.take_ref.ensures.within
+    c.take_ref.ensures.kept c.take_ref.ensures.outside c.take_ref.ensures.honest c.take_ref.ensures.counted c.take_ref.ensures.grown c.take_ref.ensures.within
 
 pub returns-clause-reports_taken : goal.returns-clause-reports_taken
 returns-clause-reports_taken g c =

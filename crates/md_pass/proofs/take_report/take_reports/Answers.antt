@@ -2,7 +2,7 @@ use Rattle.std.specs.Prelude.{IsErr, OnErr}
 use Rattle.std.proofs.Common.{Err, Ok, Result, ◌<◌, ◌≤◌, Bool, List, length, get_or, ◌∙◌, arith, subst}
 use Rattle.std.specs.List.{All}
 use Rattle.md_collect.specs.Collecting.{copying}
-use Rattle.md_workers.specs.declared.queue.Queue.{Queue}
+use Rattle.md_collect.specs.declared.workers.queue.Queue.{Queue}
 use Rattle.md_pass.specs.TakingReports.{books}
 use Rattle.md_pass.specs.Passes.{HaveTakenReports}
 use Rattle.md_pass.proofs.Besides.{fails_later, writes_then}

@@ -1,7 +1,7 @@
 use Rattle.std.proofs.Common.{rules, ◌≡◌, ◌-◌, ◌<◌, length, Bool, get_or, ap, sym, ◌∙◌, arith, subst, inl, inr}
 use Rattle.std.proofs.lemmas.List.{get_or_default, get_or-set_same, get_or-set_other}
 use Rattle.md_collect.specs.Collecting.{copying}
-use Rattle.md_workers.specs.declared.queue.Queue.{Queue}
+use Rattle.md_collect.specs.declared.workers.queue.Queue.{Queue}
 use Rattle.md_pass.specs.TakingReports.{books, AreReportsTaken}
 use Rattle.md_pass.specs.Passes.{Goes}
 use Rattle.md_pass.proofs.Besides.{fails_later, writes_then}

@@ -63,5 +63,5 @@ pub returns-in-Err : goal.returns-in-Err
 returns-in-Err g c =
     let fails = c.in-Err.ensures.gives in (
       fails.rests,
-      λ s from below. read_failed c.args.mirror.now c.requires.sound c.args.mostly c.args.role c.in-Some.k c.args.sector (length c.args.buf.now / 512) c.in-Some.ensures c.read_data.new.self fails s,
+      λ s from below. read_failed c.args.mirror.now c.requires.sound c.args.mostly c.args.role c.in-Some.k c.args.sector (length c.args.buf.now / 512) c.in-Some.ensures c.read_data.new.self (length c.args.buf.now) fails (let whole = c.requires.whole in omega (arith, whole)) s,
     )

@@ -40,9 +40,9 @@ loop-role-preserved g c =
     let sectors : ℕ = length c.args.buf.now / 512 in
     let long = c.loop-role.invariant.long in
     let same : length c.loop-role.buf / 512 ≡ sectors = ap (λ n. n / 512) long in
-    let gave_none : Rests mid new × ((s : ℕ) → c.args.sector ≤ s → s < c.args.sector + sectors → NotGivenIn c.args.mostly role s mid new) = elim c.match-read_in.branch [
-      | in-Failed w ↦ (w.in-Failed.ensures.0, λ s from below. w.in-Failed.ensures.1 s from (omega arith))
-      | in-Nothing w ↦ (w.in-Nothing.ensures.0, λ s from below. listed_not_given c.args.mostly role s mid new (w.in-Nothing.ensures.1 s from (omega arith)))
+    let gave_none : Rests mid new × ((s : ℕ) → c.args.sector ≤ s → s < c.args.sector + sectors → NotGivenIn c.args.mostly role s c.args.sector sectors mid new) = elim c.match-read_in.branch [
+      | in-Failed w ↦ (w.in-Failed.ensures.0, λ s from below. subst (λ (n : ℕ). NotGivenIn c.args.mostly role s c.args.sector n mid new) same (w.in-Failed.ensures.1 s from (omega arith)))
+      | in-Nothing w ↦ (w.in-Nothing.ensures.0, λ s from below. listed_not_given c.args.mostly role s c.args.sector sectors mid new (w.in-Nothing.ensures.1 s from (omega arith)))
     ] in
     record {
       none = none_more c.args.mostly role c.args.sector old mid new sectors c.loop-role.invariant.none gave_none.0 gave_none.1;

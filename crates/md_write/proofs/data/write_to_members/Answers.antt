@@ -3,7 +3,7 @@ use Rattle.std.proofs.lemmas.Result.{err_from_is_err_and}
 use Rattle.md_state.specs.View.{ArrayView}
 use Rattle.md_write.specs.Progress.{Part}
 use Rattle.md_write.proofs.Advancing.{stops_later}
-use Rattle.md_write.proofs.WrittenData.{marked_on, recorded_on, running_on, written_all, written_more, written_none}
+use Rattle.md_write.proofs.WrittenData.{marked_on, recorded_on, running_on, unsaid_on, written_all, written_more, written_none}
 use Rattle.md_write.proofs.data.write_to_members.Goals as goal
 
 pub loop-k-init : goal.loop-k-init
@@ -29,6 +29,9 @@ write_to-requires-clause-marked g c = marked_on c.args.pending.now c.loop-k.pend
 
 pub write_to-requires-clause-recorded : goal.write_to-requires-clause-recorded
 write_to-requires-clause-recorded g c = recorded_on c.args.pending.now c.loop-k.pending c.args.mirror.now c.loop-k.mirror c.loop-k.invariant.writes c.requires.recorded
+
+pub write_to-requires-clause-unsaid : goal.write_to-requires-clause-unsaid
+write_to-requires-clause-unsaid g c = unsaid_on c.args.pending.now c.loop-k.pending c.args.mirror.now c.loop-k.mirror c.loop-k.invariant.writes c.requires.unsaid
 
 pub returns-in_err-write_to : goal.returns-in_err-write_to
 returns-in_err-write_to g c =

@@ -1,6 +1,6 @@
 use Rattle.std.proofs.Common.{◌≡◌, ◌∙◌, ◌/◌, ◌+◌, ◌-◌, sym, ap, subst, inr, length}
 use Rattle.std.proofs.lemmas.Result.{err_from_is_err_and}
-use Rattle.md_requests.specs.Pending.{PendingView}
+use Rattle.md_inflight.specs.Requests.Pending.{PendingView}
 use Rattle.md_bitmap.specs.declared.chunks.Chunks.{Chunks}
 use Rattle.md_write.specs.Writing.{RefusesWrite}
 use Rattle.md_write.proofs.Whole.{chunks_begun, halts_write, writes}

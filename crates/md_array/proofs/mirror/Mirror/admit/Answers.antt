@@ -6,8 +6,8 @@ use Rattle.md_assembly.specs.States.{is_spare}
 use Rattle.md_assembly.proofs.Indices.{got_same}
 use Rattle.md_kept_members.specs.TakingBack.{recovering}
 use Rattle.md_kept_members.specs.View.{MemberView}
-use Rattle.md_stored_members.specs.OneOfMany.{WritesAlone}
-use Rattle.md_stored_members.specs.Superblocks.{own_write}
+use Rattle.md_kept_members.specs.OnDevices.OneOfMany.{WritesAlone}
+use Rattle.md_kept_members.specs.OnDevices.Superblocks.{own_write}
 use Rattle.md_state.specs.Steps.Admit.{MayAdmit}
 use Rattle.md_state.specs.DiskWrites.{IsFailed}
 use Rattle.md_state.specs.Members.{IsMember}

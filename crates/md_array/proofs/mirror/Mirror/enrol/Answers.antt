@@ -2,7 +2,7 @@ use Rattle.std.proofs.Common.{◌≡◌, ◌∙◌, ◌+◌, ◌<◌, arith, con
 use Rattle.std.proofs.lemmas.Option.{slice_get_within}
 use Rattle.md_super.specs.declared.superblock.Superblock.{Superblock}
 use Rattle.md_kept_members.specs.View.{MemberView}
-use Rattle.md_membership.specs.Joining.{joined_shared}
+use Rattle.md_kept_members.specs.Membership.Joining.{joined_shared}
 use Rattle.md_state.specs.Steps.Enrol.{ComesWith, enrolled, is_full_with}
 use Rattle.md_state.specs.Headers.{IsHeaderFor}
 use Rattle.md_state.specs.View.{MirrorView, disk_of}

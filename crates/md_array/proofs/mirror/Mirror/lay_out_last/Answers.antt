@@ -2,8 +2,8 @@ use Rattle.std.proofs.Common.{◌≡◌, ◌∙◌, ℕ, ◌-◌, Bool, false, n
 use Rattle.std.proofs.lemmas.List.{length-map, length_push}
 use Rattle.md_kept_members.specs.Members.{made_due}
 use Rattle.md_kept_members.specs.View.{MemberView}
-use Rattle.md_membership.specs.Joining.{joined_shared}
-use Rattle.md_membership.specs.Numbers.{spare_role}
+use Rattle.md_kept_members.specs.Membership.Joining.{joined_shared}
+use Rattle.md_kept_members.specs.Membership.Numbers.{spare_role}
 use Rattle.md_state.specs.Steps.Add.{IsSpareOf, added}
 use Rattle.md_state.specs.View.{ArrayView, MirrorView, disk_of}
 use Rattle.md_array.specs.Steps.Add.{LaysOutLast, kept_of}

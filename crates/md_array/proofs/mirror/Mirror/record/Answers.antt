@@ -3,8 +3,8 @@ use Rattle.std.proofs.lemmas.Result.{err_from_is_err_and}
 use Rattle.md_device.specs.Splice.{SameOutside}
 use Rattle.md_super.specs.declared.superblock.Superblock.{Superblock}
 use Rattle.md_super.specs.Merge.{merged}
-use Rattle.md_device_writes.specs.Writes.{MakesWrites}
-use Rattle.md_stored_members.specs.Superblocks.{IsReadable, write_of}
+use Rattle.md_members.specs.DeviceWrites.Writes.{MakesWrites}
+use Rattle.md_kept_members.specs.OnDevices.Superblocks.{IsReadable, write_of}
 use Rattle.md_state.specs.View.{ArrayView, MirrorView, disk_of}
 use Rattle.md_state.specs.Steps.Record.{IsActive}
 use Rattle.md_state.specs.Members.{IsMember}

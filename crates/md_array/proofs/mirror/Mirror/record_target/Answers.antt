@@ -2,8 +2,8 @@ use Rattle.std.proofs.Common.{◌≡◌, ◌∙◌, ◌*◌, ◌<◌, [], ◌∷
 use Rattle.md_device.specs.Splice.{SameOutside}
 use Rattle.md_super.specs.declared.superblock.Superblock.{Superblock}
 use Rattle.md_super.specs.Merge.{merged}
-use Rattle.md_device_writes.specs.Writes.{MakesWrites}
-use Rattle.md_stored_members.specs.Superblocks.{IsReadable, write_of}
+use Rattle.md_members.specs.DeviceWrites.Writes.{MakesWrites}
+use Rattle.md_kept_members.specs.OnDevices.Superblocks.{IsReadable, write_of}
 use Rattle.md_state.specs.Members.{IsMember}
 use Rattle.md_state.specs.Missing.{is_rebuilt}
 use Rattle.md_state.specs.Requests.{IsPending}

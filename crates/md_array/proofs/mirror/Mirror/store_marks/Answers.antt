@@ -1,7 +1,7 @@
 use Rattle.std.proofs.Common.{◌≡◌, ◌<◌, ◌≤◌, ℕ, arith, length, map, set, subst, sym}
 use Rattle.std.proofs.lemmas.Result.{err_from_is_err_and}
 use Rattle.md_members.specs.Areas.{bitmap_sectors}
-use Rattle.md_device_writes.specs.Writes.{Write}
+use Rattle.md_members.specs.DeviceWrites.Writes.{Write}
 use Rattle.md_kept_members.specs.View.{MemberView}
 use Rattle.md_state.specs.View.{MirrorView, disk_of}
 use Rattle.md_state.specs.Steps.StoreMarks.{IsServing, IsMarkWrite, MayStoreMarks, RefusesMarkSector, StoresMarkSector}

@@ -1,7 +1,7 @@
 use Rattle.std.proofs.Common.{◌≡◌, ◌*◌, ◌+◌, sym, ap, subst}
 use Rattle.md_device.specs.Splice.{SameOutside}
 use Rattle.md_members.specs.Reading.{BitmapStartsAt}
-use Rattle.md_device_writes.specs.Bitmaps.{bitmap_write}
+use Rattle.md_members.specs.DeviceWrites.Bitmaps.{bitmap_write}
 use Rattle.md_bitmap.proofs.Blocks.{length-bitmap_sector}
 use Rattle.md_kept_members.specs.View.{MemberView}
 use Rattle.md_state.specs.View.{ArrayView}

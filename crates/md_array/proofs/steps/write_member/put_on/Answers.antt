@@ -1,5 +1,5 @@
 use Rattle.std.proofs.Common.{◌*◌, ◌+◌, ◌≤◌, length, arith, subst}
-use Rattle.md_device_writes.specs.Writes.{Write}
+use Rattle.md_members.specs.DeviceWrites.Writes.{Write}
 use Rattle.md_array.proofs.StepLemmas.OneWrite.{here, is_failed, is_written}
 use Rattle.md_array.proofs.steps.write_member.put_on.Goals as goal
 use Rattle.md_array.proofs.General.ReadingData.{each_answer}

@@ -25,7 +25,7 @@ pub mark_sectors-requires-clause-range : goal.mark_sectors-requires-clause-range
 mark_sectors-requires-clause-range c =
     let n = length c.args.bytes.now / 512 in
     let may = c.in_ok-check_begin.ensures [] in
-    still_in_range c.args.self.now c.enter.new.self c.args.sector n c.in_ok-ticket.ensures.entered c.count_request.new.self c.become_active.new.self c.count_request.ensures c.become_active.ensures may.range
+    still_in_range c.args.self.now c.enter.new.self c.args.sector n c.in_ok-ticket.ensures.entered c.count_request.new.self c.lower_offsets_from.new.self c.become_active.new.self c.count_request.ensures c.lower_offsets_from.ensures c.become_active.ensures may.range
 
 pub returns : goal.returns
 returns c disks =
@@ -37,7 +37,7 @@ returns c disks =
       may = c.in_ok-check_begin.ensures disks;
       fresh = c.in_ok-ticket.ensures.fresh;
       disks = refl;
-      marked = still_marked a e c.args.sector n c.in_ok-ticket.ensures.entered c.count_request.new.self c.become_active.new.self c.count_request.ensures c.become_active.ensures marks c.mark_sectors.ensures.marked;
-      array = with_request_is a e c.args.sector n c.in_ok-ticket.ensures.entered c.count_request.new.self c.become_active.new.self c.count_request.ensures c.become_active.ensures c.mark_sectors.new.self marks c.mark_sectors.ensures.others;
+      marked = still_marked a e c.args.sector n c.in_ok-ticket.ensures.entered c.count_request.new.self c.lower_offsets_from.new.self c.become_active.new.self c.count_request.ensures c.lower_offsets_from.ensures c.become_active.ensures marks c.mark_sectors.ensures.marked;
+      array = with_request_is a e c.args.sector n c.in_ok-ticket.ensures.entered c.count_request.new.self c.lower_offsets_from.new.self c.become_active.new.self c.count_request.ensures c.lower_offsets_from.ensures c.become_active.ensures c.mark_sectors.new.self marks c.mark_sectors.ensures.others;
       pending = rw (c.pending_of.ensures, c.in_ok-ticket.ensures.ticket) refl;
     }

@@ -1,6 +1,6 @@
 use Rattle.std.proofs.Common.{rules, ◌≡◌, ◌∙◌, ℕ, Bool, List, refl, sym, ap}
 use Rattle.md_kept_members.specs.View.{MemberView}
-use Rattle.md_membership.specs.Roles.{is_taken}
+use Rattle.md_kept_members.specs.Membership.Roles.{is_taken}
 use Rattle.md_state.specs.View.{ArrayView}
 use Rattle.md_state.proofs.array.Array.check_re_add.Goals as goal
 

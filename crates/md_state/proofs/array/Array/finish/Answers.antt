@@ -1,7 +1,7 @@
 use Rattle.std.proofs.Common.{◌≡◌, refl}
 use Rattle.md_inflight.specs.Inflight.{InflightList, entries_without}
-use Rattle.md_requests.specs.Pending.{PendingView}
-use Rattle.md_requests.specs.declared.extent.Extent.{Extent}
+use Rattle.md_inflight.specs.Requests.Pending.{PendingView}
+use Rattle.md_inflight.specs.declared.requests.extent.Extent.{Extent}
 use Rattle.md_state.specs.View.{ArrayView}
 use Rattle.md_state.specs.Steps.Finish.{Finishes, MayFinish}
 use Rattle.md_state.proofs.array.Array.finish.Goals as goal

@@ -1,6 +1,6 @@
 use Rattle.std.proofs.Common.{List, refl, subst}
 use Rattle.md_kept_members.specs.View.{MemberView}
-use Rattle.md_membership.specs.FormerMember.{IsOfArray, LeftItsRole}
+use Rattle.md_kept_members.specs.Membership.FormerMember.{IsOfArray, LeftItsRole}
 use Rattle.md_state.specs.View.{ArrayView}
 use Rattle.md_state.proofs.array.Array.is_re_addable.Goals as goal
 

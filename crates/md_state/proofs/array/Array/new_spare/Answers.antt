@@ -5,8 +5,8 @@ use Rattle.md_create.specs.declared.params.NewMember.{NewMember}
 use Rattle.md_create.specs.Spares.{IsNewSpare}
 use Rattle.md_kept_members.specs.Spares.{IsOfFreshest}
 use Rattle.md_kept_members.specs.View.{MemberView}
-use Rattle.md_membership.specs.Joining.{joined_shared}
-use Rattle.md_membership.specs.Numbers.{spare_role}
+use Rattle.md_kept_members.specs.Membership.Joining.{joined_shared}
+use Rattle.md_kept_members.specs.Membership.Numbers.{spare_role}
 use Rattle.md_state.specs.Steps.Add.{IsSpareHeader, IsSpareOf}
 use Rattle.md_state.specs.View.{ArrayView}
 use Rattle.md_state.proofs.array.Array.new_spare.Goals as goal

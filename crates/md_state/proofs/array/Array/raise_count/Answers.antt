@@ -3,7 +3,7 @@ use Rattle.std.proofs.lemmas.List.{length-map, with_items_is}
 use Rattle.md_kept_members.specs.View.{MemberView}
 use Rattle.md_kept_members.specs.Members.{made_due}
 use Rattle.md_super.specs.declared.superblock.Superblock.{Superblock}
-use Rattle.md_membership.specs.Numbers.{roles_at_rise}
+use Rattle.md_kept_members.specs.Membership.Numbers.{roles_at_rise}
 use Rattle.md_state.specs.Steps.Rise.{risen}
 use Rattle.md_state.proofs.Changes.Raised.{raised}
 use Rattle.md_state.proofs.array.Array.raise_count.Goals as goal

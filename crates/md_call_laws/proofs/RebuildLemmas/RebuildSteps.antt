@@ -1,0 +1,247 @@
+-- The steps of a rebuild, each from a moment of a mirror's life: by its events a run leads to the mirror after it.
+use Rattle.std.proofs.Common.{◌≡◌, ◌∙◌, ◌++◌, ℕ, Bool, true, false, List, [], ◌∷◌, None, Option, Some, refl, sym, ap, subst, inl, inr}
+use Rattle.md_assembly.specs.States.{is_spare}
+use Rattle.md_bitmap.specs.Marks.{Bitmap}
+use Rattle.md_cert.specs.declared.slots.Slot.{Slot}
+use Rattle.md_kept_members.specs.View.{MemberView}
+use Rattle.md_model.specs.Events.{Event, MemberPart}
+use Rattle.md_model.proofs.Puts.{put-hit}
+use Rattle.md_copy.specs.PassLaws.Passes.{PassView, failed_chunks}
+use Rattle.md_state.specs.Requests.{AreInFlight}
+use Rattle.md_state.specs.View.{MirrorView}
+use Rattle.md_array.specs.Steps.Admit.{Admits, admit_event}
+use Rattle.md_array.specs.Steps.Checkpoint.{Checkpoints, checkpoint_event}
+use Rattle.md_array.specs.Events.{listed_on}
+use Rattle.md_array.specs.Steps.GiveBack.{Fills}
+use Rattle.md_array.specs.InTurn.{AllLeftWhole, AllOf, InTurn, LeftWhole, Requests}
+use Rattle.md_array.proofs.StepLemmas.Turns.{all_on, all_such}
+use Rattle.md_laws.specs.ReadInTurn.{IsNoFailedRecord}
+use Rattle.md_laws.specs.Runs.{MirrorRun, Moment, then_as}
+use Rattle.md_laws.proofs.Runs.CallRuns.{admit_is_a_call, call_is_run, checkpoint_is_a_call, fill_is_a_call}
+use Rattle.md_laws.proofs.Runs.Moments.{run_then}
+use Rattle.md_metadata.specs.Going.{GoesOn, only_others}
+use Rattle.md_metadata.specs.Storing.{IsNoFailure, IsStoring}
+use Rattle.md_rebuild_table.specs.Sources.{missing_chunks}
+use Rattle.md_copy.specs.Listing.{IsNoting, IsStoringList, NotesLists, StoresLists}
+use Rattle.md_copy.specs.Passing.{AreListedPasses, CopiesAll, ListsPass, RecordsPass}
+use Rattle.md_copy.specs.Readying.{AdmitsAfter, AdmitsFirst, LowersTarget, Readies}
+use Rattle.md_copy.specs.Rebuilding.{BeginsRebuild}
+use Rattle.md_copy.specs.RebuildEvents.{IsBeforeEnrol}
+use Rattle.md_copy.specs.Rebuilt.{failed_of}
+use Rattle.md_copy.specs.Storing.{StoresFirst}
+use Rattle.md_copy.proofs.Passing.PassesTold.{HoldsSoFar, chain_holds, listed_holds}
+use Rattle.md_copy.proofs.Leads.RebuildLeads.{filled, listing_before, lowering_events, lowering_leads, noting_before, storing_before}
+use Rattle.md_call_laws.specs.Rebuilds.RebuildRuns.{LogsUnshifted}
+use Rattle.md_call_laws.proofs.RebuildLemmas.Steady.{Comes, IsSteadyAt, comes_by, comes_same, comes_then, end, end_steady, holds_some}
+use Rattle.md_call_laws.proofs.RebuildLemmas.Unshifted.{Unshifted, unshifted_listed, unshifted_noted, unshifted_recorded, whole_lists}
+
+abbrev pub Before : ℕ → Event → Type 0
+Before target = IsBeforeEnrol target
+
+-- ---- of some events nothing is asked
+whole_of : (es : List Event) (previous : Option Event) (old : MirrorView) (before : Requests) (Then : MirrorView → Requests → Type 0) (turn : InTurn previous old before es Then)
+    → AllOf IsNoFailedRecord es → AllLeftWhole es previous old before Then turn
+whole_of [] previous old before Then turn all = tt
+whole_of (e ∷ es) previous old before Then turn all = (one e all.0, whole_of es (Some e) turn.0 turn.1 Then turn.5 all.1)
+  where
+    one : (e : Event) → IsNoFailedRecord e → LeftWhole old e turn.0
+    one (Event.WriteFails k MemberPart.Superblock) of = absurd of
+    one (Event.RecordTargetFails k) of = absurd of
+    one (Event.Enrol k role listed) of = absurd of
+    one (Event.Checkpoint k offset listed) of = absurd of
+    one (Event.StoreLog k listed) of = absurd of
+    one (Event.WriteFails k MemberPart.Log) of = absurd of
+    one e of = tt
+
+pub unfailing_records : (es : List Event) → AllOf IsStoring es → AllOf IsNoFailure es → AllOf IsNoFailedRecord es
+unfailing_records [] of none = tt
+unfailing_records (Event.Record k ∷ es) of none = (tt, unfailing_records es of.1 none.1)
+unfailing_records (Event.StoreMarks k b ∷ es) of none = (tt, unfailing_records es of.1 none.1)
+unfailing_records (Event.WriteFails k part ∷ es) of none = absurd none.0
+unfailing_records (e ∷ es) of none = absurd of.0
+
+noting_records : (e : Event) → IsNoting e → IsNoFailedRecord e
+noting_records (Event.NoteBad k c) of = tt
+noting_records e of = absurd of
+
+-- ---- what is stored first, and the admission of a spare
+pub whole_stores : (t : Moment) (new : MirrorView) (goes : GoesOn only_others only_others IsStoring t.mirror new) → AllOf IsNoFailure goes.events → (in_flight : AreInFlight t.mirror.array t.requests)
+    → AllLeftWhole goes.events None t.mirror t.requests (λ m r. (m ≡ new) × (r ≡ t.requests)) (goes.leads None t.requests in_flight)
+whole_stores t new goes unfailing in_flight =
+    whole_of goes.events None t.mirror t.requests (λ m r. (m ≡ new) × (r ≡ t.requests)) (goes.leads None t.requests in_flight) (unfailing_records goes.events goes.steps unfailing)
+
+pub stores_come : (target : ℕ) (t : Moment) → IsSteadyAt t → (new : MirrorView) (goes : GoesOn only_others only_others IsStoring t.mirror new) → AllOf IsNoFailure goes.events → Comes (Before target) t new
+stores_come target t at new goes unfailing =
+    comes_by (Before target) t new goes.events (all_such IsStoring (Before target) (storing_before target) goes.events goes.steps) (goes.leads None t.requests at.sound.in_flight) at
+    (whole_stores t new goes unfailing at.sound.in_flight)
+
+pub stored_comes : (target : ℕ) (t : Moment) → IsSteadyAt t → (new : MirrorView) → StoresFirst t.mirror new → Comes (Before target) t new
+stored_comes target t at new first = stores_come target t at new first.stores.goes first.stores.unfailing
+
+admits_comes : (target : ℕ) (t : Moment) → IsSteadyAt t → (new : MirrorView) (r : Admits target t.mirror new) → is_spare r.may.member.state ≡ true → Comes (Before target) t new
+admits_comes target t at new r spare =
+    comes_by (Before target) t new (admit_event r ∷ []) (refl, tt) (admit_is_a_call target t.mirror new at.sound.sound r spare None t.requests at.sound.in_flight) at (tt, tt)
+
+pub admission_comes : (target : ℕ) (t : Moment) → IsSteadyAt t → (new : MirrorView) → AdmitsAfter target t.mirror new → Comes (Before target) t new
+admission_comes target t at new h =
+    let c = stored_comes target t at h.stored h.first in
+    comes_then c (admits_comes target (end c) (end_steady c at) new h.admits h.spare)
+
+pub ready_comes : (target : ℕ) (t : Moment) → IsSteadyAt t → (m : MemberView) (ready : MirrorView) → Readies target m t.mirror ready → Comes (Before target) t ready
+ready_comes target t at m ready (inl h) = stored_comes target t at ready h.1
+ready_comes target t at m ready (inr h) =
+    let x : AdmitsFirst target t.mirror ready = h.1 in
+    let c = admission_comes target t at x.admitted x.after in
+    comes_then c (stored_comes target (end c) (end_steady c at) ready x.then)
+
+-- a recovering target is to say no more that it has what it lacks
+pub lowered_comes : (target : ℕ) (none : Bitmap) (t : Moment) → IsSteadyAt t → (mid : MirrorView) → LowersTarget target none t.mirror mid → t.mirror.array.halted ≡ false → Comes (Before target) t mid
+lowered_comes target none t at mid (inl to) running =
+    let leads = lowering_leads target none t.mirror mid at.sound.sound running (inl to) in
+    comes_by (Before target) t mid (lowering_events target none t.mirror mid (inl to)) leads.steps (leads.leads None t.requests at.sound.in_flight) at (tt, tt)
+lowered_comes target none t at mid (inr same) running = comes_same (Before target) t mid same.0
+
+pub begun_comes : (target : ℕ) (t : Moment) → IsSteadyAt t → (ready : MirrorView) (none : Bitmap) → BeginsRebuild target t.mirror ready none → Comes (Before target) t ready
+begun_comes target t at ready none b =
+    let c = lowered_comes target none t at b.lowered b.lowers b.may.idle.running in
+    comes_then c (ready_comes target (end c) (end_steady c at) b.then ready b.first)
+
+-- ---- a pass
+pub fill_comes : (target : ℕ) (t : Moment) → IsSteadyAt t → (new : MirrorView) → Fills target t.mirror new → Comes (Before target) t new
+fill_comes target t at new f =
+    comes_by (Before target) t new (Event.Fill target ∷ []) (refl, tt) (fill_is_a_call target t.mirror new at.sound.sound f None t.requests at.sound.in_flight) at (tt, tt)
+
+-- the target is not spoiled then
+pub record ComesUnspoiled (target : ℕ) (t : Moment) (new : MirrorView) : Type 0 where
+  pub comes : Comes (Before target) t new
+  pub unspoiled : comes.past.spoiled target ≡ false
+
+-- a checkpoint stores its superblock
+stored_super : (target sure : ℕ) (listed : ℕ → Bool) (t last : Moment) → MirrorRun t (Event.Checkpoint target sure listed ∷ []) last → last.spoiled target ≡ false
+stored_super target sure listed t last run =
+    let next : Moment = record (then_as t (Event.Checkpoint target sure listed) run.0 run.1) { mirror = last.mirror } in
+    let is : last ≡ next = run.3.is in
+    ap (λ (x : Moment). x.spoiled target) is ∙ put-hit target false t.spoiled
+
+pub checkpoint_unspoils : (target : ℕ) (copied : Bitmap) (t : Moment) → IsSteadyAt t → (new : MirrorView) → Checkpoints target copied t.mirror new → ComesUnspoiled target t new
+checkpoint_unspoils target copied t at new r =
+    let x = call_is_run (checkpoint_event r ∷ []) None t new t.requests (checkpoint_is_a_call target copied t.mirror new at.sound.sound r None t.requests at.sound.in_flight) at.sound.honest
+    (holds_some t at r.may.idle r.may.resynced, tt) in
+    record {
+      comes = record {
+        events = checkpoint_event r ∷ [];
+        steps = (refl, tt);
+        past = x.0;
+        run = subst (MirrorRun t (checkpoint_event r ∷ [])) (λ i. record x.0 { mirror = x.2.0 i; requests = x.2.1 i }) x.1;
+      };
+      unspoiled = stored_super target r.sure (listed_on new target) t x.0 x.1;
+    }
+
+pub checkpoint_comes : (target : ℕ) (copied : Bitmap) (t : Moment) → IsSteadyAt t → (new : MirrorView) → Checkpoints target copied t.mirror new → Comes (Before target) t new
+checkpoint_comes target copied t at new r = (checkpoint_unspoils target copied t at new r).comes
+
+pub then_unspoiled : (target : ℕ) (t : Moment) {mid new : MirrorView} (c : Comes (Before target) t mid) → ComesUnspoiled target (end c) new → ComesUnspoiled target t new
+then_unspoiled target t {mid} {new} c d = record {
+  comes = record {
+    events = c.events ++ d.comes.events;
+    steps = all_on (Before target) c.events d.comes.events c.steps d.comes.steps;
+    past = d.comes.past;
+    run = run_then c.events d.comes.events t (record c.past { mirror = mid; requests = t.requests }) (record d.comes.past { mirror = new; requests = t.requests }) c.run d.comes.run;
+  };
+  unspoiled = d.unspoiled;
+}
+
+pub filled_comes : (target : ℕ) (chunks : List ℕ) (p : PassView) (before after : Bitmap) (t : Moment) → IsSteadyAt t → HoldsSoFar target t.mirror before chunks
+    → (new : MirrorView) (h : RecordsPass target chunks p before after t.mirror new) → Comes (Before target) t h.filled
+filled_comes target chunks p before after t at so new h =
+    fill_comes target t at h.filled (filled target t.mirror before chunks so p h.makes.is h.makes.member h.makes.at h.filled h.makes.copies.filling)
+
+pub recorded_comes : (target : ℕ) (chunks : List ℕ) (p : PassView) (before after : Bitmap) (t : Moment) → IsSteadyAt t → HoldsSoFar target t.mirror before chunks
+    → (new : MirrorView) → RecordsPass target chunks p before after t.mirror new → Comes (Before target) t new
+recorded_comes target chunks p before after t at so new h =
+    let c = filled_comes target chunks p before after t at so new h in
+    comes_then c (checkpoint_comes target after (end c) (end_steady c at) new h.checkpoints)
+
+pub noted_comes : (target : ℕ) (failed : List Slot) (t : Moment) → IsSteadyAt t → (new : MirrorView) → NotesLists failed t.mirror new → Comes (Before target) t new
+noted_comes target failed t at new h =
+    let goes = h.goes in
+    let leads = goes.leads None t.requests at.sound.in_flight in
+    comes_by (Before target) t new goes.events (all_such IsNoting (Before target) (noting_before target) goes.events goes.steps) leads at
+    (whole_of goes.events None t.mirror t.requests (λ m r. (m ≡ new) × (r ≡ t.requests)) leads (all_such IsNoting IsNoFailedRecord noting_records goes.events goes.steps))
+
+pub lists_comes : (target : ℕ) (failed : List Slot) (t : Moment) → IsSteadyAt t → Unshifted t.mirror.array → (new : MirrorView) → StoresLists failed t.mirror new → Comes (Before target) t new
+lists_comes target failed t at un new h =
+    let goes = h.goes in
+    let leads = goes.leads None t.requests at.sound.in_flight in
+    comes_by (Before target) t new goes.events (all_such IsStoringList (Before target) (listing_before target) goes.events goes.steps) leads at
+    (whole_lists goes.events None t.mirror t.requests (λ m r. (m ≡ new) × (r ≡ t.requests)) leads goes.steps h.unfailing un)
+
+-- ---- passes
+module _ (target : ℕ) (chunks : List ℕ) (p : PassView) (before after : Bitmap) (t : Moment) (at : IsSteadyAt t) (so : HoldsSoFar target t.mirror before chunks) (new : MirrorView)
+    (h : ListsPass target chunks p before after t.mirror new) (un : Unshifted t.mirror.array) where
+  pub pass_comes : Comes (Before target) t h.recorded
+  pass_comes = recorded_comes target chunks p before after t at so h.recorded h.records
+
+  un_recorded : Unshifted h.recorded.array
+  un_recorded =
+      unshifted_recorded target after h.records.filled h.recorded h.records.checkpoints (subst Unshifted (sym h.records.makes.copies.filling.array) un)
+
+  pub un_noted : Unshifted h.lists.noted.array
+  un_noted = unshifted_noted p.failed h.recorded h.lists.noted h.lists.notes un_recorded
+
+  pub un_listed : Unshifted new.array
+  un_listed = unshifted_listed p.failed h.recorded new h.lists un_recorded
+
+  -- what failed is noted
+  pub noting_comes : Comes (Before target) t h.lists.noted
+  noting_comes = comes_then pass_comes (noted_comes target p.failed (end pass_comes) (end_steady pass_comes at) h.lists.noted h.lists.notes)
+
+  pub listed_comes : Comes (Before target) t new
+  listed_comes = comes_then noting_comes (lists_comes target p.failed (end noting_comes) (end_steady noting_comes at) un_noted new h.lists.stores)
+
+-- of some list that has an element
+abbrev pub IfSome : List PassView → Type 0 → Type 0
+IfSome [] T = Unit {0}
+IfSome (p ∷ ps) T = T
+
+pub if_some : {T : Type 0} (ps : List PassView) → T → IfSome ps T
+if_some {T} [] x = tt
+if_some {T} (p ∷ ps) x = x
+
+pub some_map : {S T : Type 0} (ps : List PassView) → (S → T) → IfSome ps S → IfSome ps T
+some_map {S} {T} [] f x = tt
+some_map {S} {T} (p ∷ ps) f x = f x
+
+none_first : (xs ys : List Slot) → xs ++ ys ≡ [] → xs ≡ []
+none_first [] ys is = refl
+none_first (x ∷ xs) ys is = absurd cc
+
+-- where a pass of several was followed by a listing, some slot failed
+pub unshifted_if : (target : ℕ) (ps more : List PassView) (chunks rest : List ℕ) (before after : Bitmap) (old new v : MirrorView) → AreListedPasses target ps chunks rest before after old new
+    → LogsUnshifted (failed_of (ps ++ more)) v → IfSome ps (Unshifted v.array)
+unshifted_if target [] more chunks rest before after old new v h un = tt
+unshifted_if target (p ∷ ps) more chunks rest before after old new v h un = un (λ none. h.2.some (none_first p.failed (failed_of (ps ++ more)) none))
+
+pub passes_come : (target : ℕ) (ps : List PassView) (chunks rest : List ℕ) (before after : Bitmap) (t : Moment) → IsSteadyAt t → HoldsSoFar target t.mirror before chunks
+    → (new : MirrorView) → AreListedPasses target ps chunks rest before after t.mirror new → IfSome ps (Unshifted t.mirror.array) → Comes (Before target) t new
+passes_come target [] chunks rest before after t at so new h un = comes_same (Before target) t new h.2
+passes_come target (p ∷ ps) chunks rest before after t at so new h un =
+    let c = listed_comes target chunks p before h.0 t at so h.1 h.2 un in
+    comes_then c
+    (passes_come target ps (failed_chunks p) rest h.0 after (end c) (end_steady c at) (listed_holds target chunks p before h.0 t.mirror h.1 h.2 so) new h.3
+    (if_some ps (un_listed target chunks p before h.0 t at so h.1 h.2 un)))
+
+module _ (target : ℕ) (m : MemberView) (passes : List PassView) (before after : Bitmap) (t : Moment) (at : IsSteadyAt t) (so : HoldsSoFar target t.mirror before (missing_chunks t.mirror.array m)) (new : MirrorView)
+    (h : CopiesAll target m passes before after t.mirror new) (un : IfSome h.listed (Unshifted t.mirror.array)) where
+  abbrev first : List ℕ
+  first = missing_chunks t.mirror.array m
+
+  -- until the last of them
+  pub until_last : Comes (Before target) t h.now
+  until_last = passes_come target h.listed first h.left before h.mid t at so h.now h.passed un
+
+  pub so_last : HoldsSoFar target h.now h.mid h.left
+  so_last = chain_holds target h.listed first h.left before h.mid t.mirror h.now h.passed so
+
+  pub all_come : Comes (Before target) t new
+  all_come = comes_then until_last (recorded_comes target h.left h.last h.mid after (end until_last) (end_steady until_last at) so_last new h.records)

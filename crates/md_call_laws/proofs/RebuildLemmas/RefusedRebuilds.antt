@@ -1,0 +1,181 @@
+-- A rebuild that ends because memory was refused, or a log has no room: a run leads to where it is recorded how far its target is rebuilt.
+use Rattle.std.proofs.Common.{◌≡◌, ◌∙◌, ◌⊎◌, ℕ, true, List, [], ◌∷◌, slice_get, None, refl, sym, ap, subst, inl, inr}
+use Rattle.std.proofs.lemmas.List.{append-nil}
+use Rattle.md_assembly.specs.States.{is_recovering}
+use Rattle.md_bitmap.specs.Marks.{Bitmap}
+use Rattle.md_cert.specs.declared.slots.Slot.{Slot}
+use Rattle.md_kept_members.specs.View.{MemberView}
+use Rattle.md_copy.specs.PassLaws.Listed.{IsArrayPass}
+use Rattle.md_copy.specs.PassLaws.Passes.{PassView, slots_of_pass}
+use Rattle.md_state.specs.Members.{IsMember}
+use Rattle.md_state.specs.View.{ArrayView, MirrorView}
+use Rattle.md_array.proofs.StepLemmas.Turns.{all_such}
+use Rattle.md_laws.specs.Runs.{Moment}
+use Rattle.md_rebuild_table.specs.Sources.{missing_chunks}
+use Rattle.md_copy.specs.Filling.{IsFilling}
+use Rattle.md_copy.specs.Listing.{IsStoringList, NotesLists}
+use Rattle.md_copy.specs.Passing.{AreListedPasses, CopiesAll, RecordsPass}
+use Rattle.md_copy.specs.Rebuilding.{BeginsRebuild, LacksMemoryToRebuild, LacksRoom}
+use Rattle.md_copy.specs.Rebuilt.{failed_of}
+use Rattle.md_copy.proofs.Passing.PassesTold.{HoldsSoFar, chain_holds}
+use Rattle.md_copy.proofs.Passing.PassesTold as told
+use Rattle.md_copy.proofs.Passing.PassRecorded.{recorded_ready}
+use Rattle.md_copy.proofs.Ready.ReadyStill.{ready_noted}
+use Rattle.md_copy.proofs.Leads.RebuildLeads.{begin_holds, filled, listing_before}
+use Rattle.md_call_laws.specs.Rebuilds.RebuildRuns.{LogsUnshifted}
+use Rattle.md_call_laws.specs.Rebuilds.RefusedRebuilds.{HasLost, HasGivenUp, HasUnshifted, LostIsARun, RefusedIsARun, CrashesLeaving, CrashesLeavingAnyhow, CrashesLeavingLost, CrashesLeavingLostAnyhow, CrashesUnleft, CrashesUnleftLost, passes_then}
+use Rattle.md_call_laws.proofs.RebuildLemmas.RebuildRun.{stays_along}
+use Rattle.md_call_laws.proofs.RebuildLemmas.RebuildSteps.{Before, IfSome, all_come, begun_comes, fill_comes, noted_comes, passes_come, recorded_comes, some_map, unshifted_if}
+use Rattle.md_call_laws.proofs.RebuildLemmas.SpoiledRebuilds.{later_anyhow, offset_anyhow}
+use Rattle.md_call_laws.proofs.RebuildLemmas.Steady.{Comes, IsSteadyAt, comes_by, comes_then, end, end_steady, steady_at, steady_with}
+use Rattle.md_call_laws.proofs.RebuildLemmas.RebuildCrashes.{later_crash, passed, passed_holds, recording_crash, unrecorded_offset_crash}
+use Rattle.md_call_laws.proofs.RebuildLemmas.Unshifted.{Unshifted, unshifted_begun}
+
+-- a run leads there, and the target is recovering then
+record ComesReady (target : ℕ) (t : Moment) (new : MirrorView) : Type 0 where
+  comes : Comes (Before target) t new
+  recovers : (m : MemberView) → IsMember new.array target m → is_recovering m.state ≡ true
+
+-- ---- from the moment at which a pass may be planned
+module _ (target : ℕ) (t : Moment) (at : IsSteadyAt t) (m : MemberView) (none : Bitmap) (so : HoldsSoFar target t.mirror none (missing_chunks t.mirror.array m)) where
+  abbrev first : List ℕ
+  first = missing_chunks t.mirror.array m
+
+  module _ (passes : List PassView) (chunks : List ℕ) (copied : Bitmap) (now : MirrorView) (passed : AreListedPasses target passes first chunks none copied t.mirror now) (un : IfSome passes (Unshifted t.mirror.array)) where
+    until_now : Comes (Before target) t now
+    until_now = passes_come target passes first chunks none copied t at so now passed un
+
+    so_now : HoldsSoFar target now copied chunks
+    so_now = chain_holds target passes first chunks none copied t.mirror now passed so
+
+    -- between two passes
+    ends_now : (stopped : MirrorView) → stopped ≡ now → ComesReady target t stopped
+    ends_now stopped same = subst (ComesReady target t) (sym same) (record { comes = until_now; recovers = so_now.ready.recovering })
+
+    -- within one
+    ends_filling : (p : PassView) → IsArrayPass now.array chunks p → (n : MemberView) → IsMember now.array target n → (stopped : MirrorView) → IsFilling target n (slots_of_pass p) now stopped → ComesReady target t stopped
+    ends_filling p is n there stopped f = record {
+      comes = comes_then until_now (fill_comes target (end until_now) (end_steady until_now at) stopped (filled target now copied chunks so_now p is n there stopped f));
+      recovers = λ x at_x. so_now.ready.recovering x (ap (λ (a : ArrayView). slice_get a.members target) (sym f.array) ∙ at_x);
+    }
+
+    -- after one, while failed chunks are listed
+    ends_noting : (p : PassView) (after : Bitmap) (recorded stopped : MirrorView) → RecordsPass target chunks p copied after now recorded → (taken : List Slot) → NotesLists taken recorded stopped → ComesReady target t stopped
+    ends_noting p after recorded stopped h taken notes =
+        let c = comes_then until_now (recorded_comes target chunks p copied after (end until_now) (end_steady until_now at) so_now recorded h) in
+        record {
+          comes = comes_then c (noted_comes target taken (end c) (end_steady c at) stopped notes);
+          recovers = (ready_noted target taken recorded stopped notes (recorded_ready target chunks p copied after now recorded h so_now.ready so_now.held so_now.lacking)).recovering;
+        }
+
+  -- after all
+  ends_copied : (passes : List PassView) (copied : Bitmap) (stopped : MirrorView) (h : CopiesAll target m passes none copied t.mirror stopped) → IfSome h.listed (Unshifted t.mirror.array) → ComesReady target t stopped
+  ends_copied passes copied stopped h un = record {
+    comes = all_come target m passes none copied t at so stopped h un;
+    recovers = (told.filled_ready target m passes none copied t.mirror stopped h so).recovering;
+  }
+
+-- ---- from the moment of the call
+-- what is asked of logs, once a pass may be planned
+module _ (target : ℕ) (old ready : MirrorView) (none : Bitmap) (b : BeginsRebuild target old ready none) where
+  between_unshifted : (passes : List PassView) (chunks : List ℕ) (copied : Bitmap) (now : MirrorView) → AreListedPasses target passes (missing_chunks ready.array b.now) chunks none copied ready now
+      → LogsUnshifted (failed_of passes) old → IfSome passes (Unshifted ready.array)
+  between_unshifted passes chunks copied now h un =
+      some_map passes (unshifted_begun target old ready none b)
+      (unshifted_if target passes [] (missing_chunks ready.array b.now) chunks none copied ready now old h (λ some. un (λ none_failed. some (ap failed_of (append-nil passes) ∙ none_failed))))
+
+  all_unshifted : (passes : List PassView) (copied : Bitmap) (stopped : MirrorView) (h : CopiesAll target b.now passes none copied ready stopped) → LogsUnshifted (failed_of passes) old → IfSome h.listed (Unshifted ready.array)
+  all_unshifted passes copied stopped h un =
+      some_map h.listed (unshifted_begun target old ready none b)
+      (unshifted_if target h.listed (h.last ∷ []) (missing_chunks ready.array b.now) h.left none h.mid ready h.now old h.passed (λ some. un (λ none_failed. some (ap failed_of (sym h.passes_are) ∙ none_failed))))
+
+module _ (target : ℕ) (t : Moment) (at : IsSteadyAt t) (copied : Bitmap) (stopped ready : MirrorView) (none : Bitmap) (b : BeginsRebuild target t.mirror ready none) where
+  begun : Comes (Before target) t ready
+  begun = begun_comes target t at ready none b
+
+  so : HoldsSoFar target ready none (missing_chunks ready.array b.now)
+  so = begin_holds target t.mirror ready none b
+
+  -- from the moment then
+  abbrev At : Type 0
+  At = ComesReady target (end begun) stopped
+
+  ends_so : (why : LacksMemoryToRebuild target b.now none copied ready stopped ⊎ ((k : ℕ) × LacksRoom k target b.now none copied ready stopped)) → LogsUnshifted (failed_of (passes_then why)) t.mirror → At
+  ends_so (inl (inl e)) un = ends_now target (end begun) (end_steady begun at) b.now none so e.passes e.left e.copied e.now e.passed (between_unshifted target t.mirror ready none b e.passes e.left e.copied e.now e.passed un) stopped e.why.1
+  ends_so (inl (inr (inl e))) un =
+      ends_filling target (end begun) (end_steady begun at) b.now none so e.passes e.left e.copied e.now e.passed (between_unshifted target t.mirror ready none b e.passes e.left e.copied e.now e.passed un) e.why.pass e.why.is e.why.member e.why.at
+      stopped e.why.breaks.filling
+  ends_so (inl (inr (inr (inl e)))) un =
+      ends_noting target (end begun) (end_steady begun at) b.now none so e.passes e.left e.copied e.now e.passed (between_unshifted target t.mirror ready none b e.passes e.left e.copied e.now e.passed un) e.why.pass copied e.why.recorded stopped
+      e.why.records e.why.fails.taken e.why.fails.notes
+  ends_so (inl (inr (inr (inr e)))) un =
+      ends_copied target (end begun) (end_steady begun at) b.now none so e.passes e.copied stopped e.copies (all_unshifted target t.mirror ready none b e.passes e.copied stopped e.copies un)
+  ends_so (inr (k, inl e)) un =
+      ends_noting target (end begun) (end_steady begun at) b.now none so e.passes e.left e.copied e.now e.passed (between_unshifted target t.mirror ready none b e.passes e.left e.copied e.now e.passed un) e.why.pass copied e.why.recorded stopped
+      e.why.records e.why.fails.taken e.why.fails.notes
+  ends_so (inr (k, inr e)) un =
+      let f = e.1 in
+      subst (ComesReady target (end begun)) (sym f.why.unchanged)
+      (ends_copied target (end begun) (end_steady begun at) b.now none so f.passes f.copied f.filled f.fills.copies (all_unshifted target t.mirror ready none b f.passes f.copied f.filled f.fills.copies un))
+
+stopped_so : (target : ℕ) (t : Moment) → IsSteadyAt t → (copied : Bitmap) (stopped : MirrorView) (h : HasGivenUp target copied t.mirror stopped) → HasUnshifted h → ComesReady target t stopped
+stopped_so target t at copied stopped h un =
+    let c = begun target t at copied stopped h.ready h.none h.begins in
+    let x = ends_so target t at copied stopped h.ready h.none h.begins h.why un in
+    record { comes = comes_then c x.comes; recovers = x.recovers }
+
+-- ---- where a list of a source could not be stored
+lost_comes : (target : ℕ) (t : Moment) → IsSteadyAt t → (last : MirrorView) → HasLost target t last → Comes (Before target) t last
+lost_comes target t at last h =
+    let c = passed target h.chunks h.copied t at h.now h.passed in
+    let d = comes_then c (recorded_comes target h.chunks h.pass h.copied h.after (end c) (end_steady c at) (passed_holds target h.chunks h.copied t at h.now h.passed) h.recorded h.records) in
+    let e = comes_then d (noted_comes target h.pass.failed (end d) (end_steady d at) h.noted h.notes) in
+    comes_then e
+    (comes_by (Before target) (end e) last h.goes.events (all_such IsStoringList (Before target) (listing_before target) h.goes.events h.goes.steps) (h.goes.leads None t.requests h.in_flight) (end_steady e at) h.whole)
+
+-- ---- in lives
+pub refused_is_a_run : RefusedIsARun
+refused_is_a_run before m a start holds es rest final t b life target copied stopped h un =
+    let c = (stopped_so target t (steady_with before m a start holds es rest final t b life) copied stopped h un).comes in
+    record { events = c.events; steps = c.steps; at = end c; run = stays_along target c.events t b (end c) c.steps c.run; there = refl }
+
+pub crashes_leaving : CrashesLeaving
+crashes_leaving before m start es rest final t life target copied stopped new h un r left within super =
+    let at = steady_at before m start es rest final t life in
+    let x = stopped_so target t at copied stopped h un in
+    later_crash target t x.comes left (recording_crash target (end x.comes) (end_steady x.comes at) x.recovers copied new r left within super)
+
+pub crashes_unleft : CrashesUnleft
+crashes_unleft before m start es rest final t life target copied stopped new h un f left within same =
+    let at = steady_at before m start es rest final t life in
+    let x = stopped_so target t at copied stopped h un in
+    later_crash target t x.comes left (unrecorded_offset_crash target (end x.comes) (end_steady x.comes at) x.recovers copied new f left within same)
+
+pub crashes_leaving_anyhow : CrashesLeavingAnyhow
+crashes_leaving_anyhow before m start es rest final t life target copied stopped new h un call left within =
+    let at = steady_at before m start es rest final t life in
+    let x = stopped_so target t at copied stopped h un in
+    later_anyhow target t x.comes left (offset_anyhow target (end x.comes) (end_steady x.comes at) x.recovers copied new call left within)
+
+pub lost_is_a_run : LostIsARun
+lost_is_a_run before m a start holds es rest final t b life target last h =
+    let c = lost_comes target t (steady_with before m a start holds es rest final t b life) last h in
+    record { events = c.events; steps = c.steps; at = end c; run = stays_along target c.events t b (end c) c.steps c.run; there = refl }
+
+pub crashes_leaving_lost : CrashesLeavingLost
+crashes_leaving_lost before m start es rest final t life target nothing last new h r left within super =
+    let at = steady_at before m start es rest final t life in
+    let c = lost_comes target t at last h in
+    later_crash target t c left (recording_crash target (end c) (end_steady c at) h.recovers nothing new r left within super)
+
+pub crashes_unleft_lost : CrashesUnleftLost
+crashes_unleft_lost before m start es rest final t life target nothing last new h f left within same =
+    let at = steady_at before m start es rest final t life in
+    let c = lost_comes target t at last h in
+    later_crash target t c left (unrecorded_offset_crash target (end c) (end_steady c at) h.recovers nothing new f left within same)
+
+pub crashes_leaving_lost_anyhow : CrashesLeavingLostAnyhow
+crashes_leaving_lost_anyhow before m start es rest final t life target nothing last new h call left within =
+    let at = steady_at before m start es rest final t life in
+    let c = lost_comes target t at last h in
+    later_anyhow target t c left (offset_anyhow target (end c) (end_steady c at) h.recovers nothing new call left within)

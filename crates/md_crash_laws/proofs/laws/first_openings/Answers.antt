@@ -1,5 +1,0 @@
-use Rattle.md_crash_laws.proofs.FirstOpening.{is_found_as_opened, leaves_as_opened}
-use Rattle.md_crash_laws.proofs.laws.first_openings.Goals as goal
-
-pub returns : goal.returns
-returns c = record { leaves = leaves_as_opened; found = is_found_as_opened }

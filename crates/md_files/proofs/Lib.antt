@@ -1,0 +1,2 @@
+-- A sink into a new file in which blocks of zeros become holes, and why such a file is not made.
+pub mod SparseLemmas

@@ -1,0 +1,2 @@
+-- Lemmas on a list whose blocks are gone through.
+pub mod Blocks

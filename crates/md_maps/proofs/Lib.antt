@@ -1,6 +1,0 @@
-pub mod Words
-pub mod Numerals
-pub mod Faults
-pub mod Lines
-pub mod Written
-pub mod Exact

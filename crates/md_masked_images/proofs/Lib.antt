@@ -1,2 +1,0 @@
-pub mod Masking
-pub mod Named

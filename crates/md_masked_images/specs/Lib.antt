@@ -1,6 +1,0 @@
--- Images under their masks.
-pub mod Masks
--- Which map is of which image.
-pub mod Words
--- Which of the images are copies, and what each lacks.
-pub mod Copies

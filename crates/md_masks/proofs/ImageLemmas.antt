@@ -1,0 +1,3 @@
+pub mod Masking
+pub mod Named
+pub mod OwnLines

@@ -1,8 +1,0 @@
-use Rattle.std.proofs.Common.{◌≡◌}
-use Rattle.std.specs.Prelude.{map}
-use Rattle.std.specs.List.{range_with_len}
-use Rattle.md_membership.specs.Joining.{role_after}
-use Rattle.md_membership.proofs.joining.roles_with.Given as goal
-
-abbrev pub invariant-loop-d : goal.invariant-loop-d
-invariant-loop-d l = l.roles.items ≡ map (role_after l.shared l.members l.number l.role) (range_with_len 0 l.d)

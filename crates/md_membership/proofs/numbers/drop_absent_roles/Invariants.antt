@@ -1,5 +1,0 @@
-use Rattle.md_membership.proofs.AbsentRoles.{AreSettledTo}
-use Rattle.md_membership.proofs.numbers.drop_absent_roles.Given as goal
-
-abbrev pub invariant-loop-number : goal.invariant-loop-number
-invariant-loop-number l = AreSettledTo l.fn.shared l.members l.number l.shared

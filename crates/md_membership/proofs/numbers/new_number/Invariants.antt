@@ -1,6 +1,0 @@
-use Rattle.std.proofs.Common.{ℕ, ◌<◌}
-use Rattle.md_membership.specs.Numbers.{IsFree}
-use Rattle.md_membership.proofs.numbers.new_number.Given as goal
-
-abbrev pub invariant-loop-number : goal.invariant-loop-number
-invariant-loop-number l = (e : ℕ) → e < l.number → IsFree l.shared l.members e → ⊥

@@ -1,0 +1,112 @@
+// Requests are taken and answered until the client goes.
+ghost use Rattle.std.specs.Prelude.{◌≡◌, ◌*◌, ◌≤◌, MatchResult, length, take};
+ghost use Rattle.md_nbd.specs.Export.{most_bytes, sector_bytes};
+ghost use Rattle.md_nbd.specs.NbdRequests.{payload_of};
+ghost use Rattle.md_nbd.specs.NbdTasks.{task_of};
+ghost use Rattle.md_nbd.specs.Server.Told.{AnswersOrGoes, FailsToTell};
+ghost use Rattle.md_nbd.specs.Server.Transmission.{BreaksOff, Transmits};
+
+use crate::export::Export;
+use crate::request::Request;
+use crate::server::request_taken::take_request;
+use crate::server::sink::{Sink, SinkFault};
+use crate::server::source::Source;
+use crate::server::store::Store;
+use crate::server::tasks_done::{do_flush, do_read, do_refuse, do_write};
+use crate::task::{Task, task_of};
+
+/// Why no more requests are answered.
+#[derive(Clone, Copy, Debug, PartialEq, Eq)]
+pub enum Gone {
+    /// The client said that it goes.
+    Disconnected,
+    /// The source ended between two requests.
+    Ended,
+    /// The source ended within a request.
+    Cut,
+    /// What came is no request.
+    NoRequest,
+    /// More is to be written than the server keeps room for.
+    TooLong,
+    /// 2^64 - 1 requests were answered.
+    Exhausted,
+}
+
+/// The source or the sink has failed.
+#[derive(Clone, Copy, Debug, PartialEq, Eq)]
+pub enum StreamFault {
+    Source,
+    Sink,
+}
+
+// Does what a request asks for, and answers: false where it asks the server to go.
+fn answer<S: Store, O: Sink>(
+    export: &Export,
+    store: &mut S,
+    request: &Request,
+    buf: &mut [u8],
+    out: &mut O,
+) -> Result<bool, SinkFault>
+    requires room { length buf.old ≡ most_bytes }
+    requires size { export.now.size ≤ sector_bytes * S.sectors store.old }
+    requires sound { S.is_sound store.old }
+    ensures answers { MatchResult result
+        (AnswersOrGoes S.Store O.Sink export.now request.now (take (payload_of request.now) buf.old)
+        store.old store.new out.old out.new)
+        (λ _. FailsToTell S.Store O.Sink (task_of export.now request.now) request.now.cookie
+        (take (payload_of request.now) buf.old) store.old store.new out.new) }
+    ensures sound { S.is_sound store.new }
+    ensures size { S.sectors store.new ≡ S.sectors store.old }
+{
+    let cookie = request.cookie;
+    match task_of(export, request) {
+        Task::Read(sector, sectors) => {
+            let room = &mut buf[..512 * sectors as usize];
+            do_read(store, out, cookie, sector, room)?;
+        }
+        Task::Write(sector, sectors) => {
+            do_write(store, out, cookie, sector, &buf[..512 * sectors as usize])?;
+        }
+        Task::Flush => do_flush(store, out, cookie)?,
+        Task::Refuse(error) => do_refuse(store, out, cookie, error)?,
+        Task::Disconnect => return Ok(false),
+    }
+    Ok(true)
+}
+
+/// Takes requests and answers them, one after another, until the client goes, and says why no more come. What is read and written
+/// stands in `buf`, which is all the memory that it takes.
+///
+/// The export may be smaller than the store, and none of its requests goes past it. Where a stream fails no reply is made up for what was not told.
+pub fn answer_requests<S: Store, I: Source, O: Sink>(
+    export: &Export,
+    store: &mut S,
+    buf: &mut [u8],
+    input: &mut I,
+    out: &mut O,
+) -> Result<Gone, StreamFault>
+    requires room { length buf.old ≡ most_bytes }
+    requires size { export.now.size ≤ sector_bytes * S.sectors store.old }
+    requires sound { S.is_sound store.old }
+    ensures answers { MatchResult result
+        (Transmits S.Store I.Source O.Sink export.now store.old store.new input.old input.new out.old out.new)
+        (BreaksOff S.Store I.Source O.Sink export.now store.old store.new input.old input.new out.old out.new) }
+    ensures sound { S.is_sound store.new }
+    ensures size { S.sectors store.new ≡ S.sectors store.old }
+{
+    for answered in 0..u64::MAX {
+        let Ok(taken) = take_request(input, buf) else {
+            return Err(StreamFault::Source);
+        };
+        let request = match taken {
+            Ok(request) => request,
+            Err(gone) => return Ok(gone),
+        };
+        match answer(export, store, &request, buf, out) {
+            Ok(true) => {}
+            Ok(false) => return Ok(Gone::Disconnected),
+            Err(SinkFault) => return Err(StreamFault::Sink),
+        }
+    }
+    Ok(Gone::Exhausted)
+}

@@ -1,8 +1,0 @@
-use Rattle.std.proofs.Common.{map, take}
-use Rattle.md_examine.specs.Sink.{Puts}
-use Rattle.md_json.specs.Objects.{later_text}
-use Rattle.md_raw_json.specs.RawFields.{table_field}
-use Rattle.md_raw_json.proofs.raw_fields.next_fields.Given as goal
-
-abbrev pub invariant-loop-field : goal.invariant-loop-field
-invariant-loop-field g l = Puts g.S.Sink.contents g.S.Sink.failed l.fn.out l.out (later_text (map (table_field l.bytes) (take l.field-index l.fields)))

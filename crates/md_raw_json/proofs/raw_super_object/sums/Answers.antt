@@ -1,9 +1,0 @@
-use Rattle.md_json.specs.Objects.{later_text}
-use Rattle.md_raw_json.specs.RawSuper.{sum_fields}
-use Rattle.md_examine.proofs.Puts.{puts_then}
-use Rattle.md_json.proofs.Texts.{puts_last}
-use Rattle.md_raw_json.proofs.raw_super_object.sums.Goals as goal
-
-pub returns : goal.returns
-unfolding later_text sum_fields
-returns g c = puts_then g.S.Sink.contents g.S.Sink.failed c.in_ok-next_computed.ensures (puts_last g.S.Sink.contents g.S.Sink.failed c.in_ok-roles.ensures)

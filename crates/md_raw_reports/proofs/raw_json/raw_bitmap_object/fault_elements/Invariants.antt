@@ -1,0 +1,14 @@
+use Rattle.std.proofs.Common.{◌≡◌, false, length, take}
+use Rattle.std.specs.List.{filter}
+use Rattle.md_examine.specs.Sink.{Puts}
+use Rattle.md_report.specs.AsJson.Objects.{elements_text}
+use Rattle.md_raw_reports.specs.BitmapFields.{bitmap_fault_stands}
+use Rattle.md_raw_reports.specs.RawJson.RawBitmap.{header_fault_value}
+use Rattle.md_report.proofs.JsonLemmas.Texts.{is_later}
+use Rattle.md_raw_reports.proofs.raw_json.raw_bitmap_object.fault_elements.Given as goal
+
+abbrev pub invariant-loop-fault : goal.invariant-loop-fault
+invariant-loop-fault g l = record {
+  puts : Puts g.S.Sink.contents g.S.Sink.failed l.fn.out l.out (elements_text header_fault_value false (filter (bitmap_fault_stands l.sector) (take l.fault-index l.faults)));
+  later : l.later ≡ is_later false (length (filter (bitmap_fault_stands l.sector) (take l.fault-index l.faults)));
+}

@@ -1,0 +1,8 @@
+use Rattle.md_report.specs.AsJson.Objects.{later_text}
+use Rattle.md_raw_reports.specs.RawJson.RawSuper.{unread_fields}
+use Rattle.md_report.proofs.JsonLemmas.Texts.{puts_last}
+use Rattle.md_raw_reports.proofs.raw_json.raw_super_object.unread.Goals as goal
+
+pub returns : goal.returns
+unfolding later_text unread_fields
+returns g c = puts_last g.S.Sink.contents g.S.Sink.failed c.in_ok-next_unread.ensures

@@ -1,5 +1,0 @@
-use Rattle.md_rebuild_laws.proofs.RebuildRun.{rebuild_is_a_run, rebuild_runs_on}
-use Rattle.md_rebuild_laws.proofs.laws.rebuild_runs.Goals as goal
-
-pub returns : goal.returns
-returns c = record { enrolled = rebuild_is_a_run; records_stored = rebuild_runs_on }

@@ -1,0 +1,26 @@
+//! Reports as JSON: one object each, alone in its line.
+//!
+//! Start with the report in question: what `md_examine` and this crate say in text has a function of a like name
+//! here. What stands on a device though it may be refused is an object of `md_raw_reports`, which is written by `values`.
+//!
+//! ```
+//! superblock_json(&mut out, &superblock)?;
+//! ```
+
+mod array_objects;
+mod badblocks_object;
+mod bitmap_object;
+mod check_object;
+mod member_objects;
+mod plan_object;
+mod quoting;
+mod superblock_object;
+pub mod values;
+
+pub use array_objects::{detail_json, summary_json};
+pub use badblocks_object::badblocks_json;
+pub use bitmap_object::bitmap_json;
+pub use check_object::check_json;
+pub use plan_object::plan_json;
+pub use quoting::put_quoted;
+pub use superblock_object::superblock_json;

@@ -1,2 +1,0 @@
--- Lemmas on a list whose blocks are gone through.
-mod Blocks

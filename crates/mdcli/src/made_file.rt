@@ -1,0 +1,48 @@
+// A file that the program made itself.
+use std::fs::{self, File};
+use std::io::{self, ErrorKind};
+use std::os::unix::fs::{FileExt, MetadataExt};
+
+/// A new file, which is written through the descriptor by which it was made: what comes under its name later, a link to an
+/// image perhaps, is not.
+#[derive(Drop)]
+pub struct MadeFile {
+    file: File,
+}
+
+impl MadeFile {
+    /// Makes the file, empty. Nothing that is there is overwritten: it may be an image.
+    pub fn make(rt: &HostRuntime, path: &str) -> io::Result<MadeFile> {
+        let file = File::create_new(rt, path)?;
+        Ok(MadeFile { file })
+    }
+
+    pub fn file(&self) -> &File {
+        &self.file
+    }
+
+    /// Writes these bytes as all of it, and has them stored. A file that has lost its last name is gone with them.
+    pub fn write_whole(&self, bytes: &[u8]) -> io::Result<()> {
+        self.file.write_all_at(bytes, 0)?;
+        self.file.sync_data()?;
+        if self.file.metadata()?.nlink() == 0 {
+            return Err(io::Error::from(ErrorKind::NotFound));
+        }
+        Ok(())
+    }
+
+    /// Takes it away, where it still has the name under which it was made. std removes by name alone: what comes under the
+    /// name after that look goes in its place.
+    pub fn take_away(self, rt: &HostRuntime, path: &str) {
+        if self.has_name(rt, path).unwrap_or(false) {
+            let _ = fs::remove_file(rt, path);
+        }
+    }
+
+    // Whether the name, followed to no link's end, is that of this very file.
+    fn has_name(&self, rt: &HostRuntime, path: &str) -> io::Result<bool> {
+        let own = self.file.metadata()?;
+        let named = fs::symlink_metadata(rt, path)?;
+        Ok(named.dev() == own.dev() && named.ino() == own.ino())
+    }
+}
