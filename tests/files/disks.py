@@ -81,9 +81,35 @@ def holder_of(device, sectors):
         tool("dmsetup", "remove", "--retry", holder)
 
 
+SWAP_PAGES, PAGE = 600, 4096
+# What the system leaves alone of an image that it swaps on: all before the one page that it may write to at any time.
+NOT_SWAPPED = (SWAP_PAGES - 1) * PAGE
+
+
+def make_swap(path):
+    """Makes a swap area with one good page, the last. It calls the others bad, as linux/swap.h gives it (swap_header)."""
+    tool("mkswap", path)
+    bad = range(1, SWAP_PAGES - 1)
+    with open(path, "r+b") as image:
+        header = bytearray(image.read(PAGE))
+        struct.pack_into("<III", header, 1024, 1, SWAP_PAGES - 1, len(bad))
+        struct.pack_into("<%dI" % len(bad), header, 1536, *bad)
+        image.seek(0)
+        image.write(header)
+
+
 def create(images):
     count = str(len(images))
     return ["create", "--level", "raid1", "--raid-devices", count, "--uuid", SET] + [str(image) for image in images]
+
+
+def two_partitions():
+    """A disk with two partitions of 4 MiB."""
+    content = bytearray(20480 * SECTOR)
+    for number, start in enumerate((2048, 10240)):
+        struct.pack_into("<BBBBBBBBII", content, 446 + 16 * number, 0, 0, 0, 0, 0x83, 0, 0, 0, start, 8192)
+    content[510:512] = b"\x55\xaa"
+    return bytes(content)
 
 
 class Disks:
@@ -151,19 +177,19 @@ class Disks:
         with loop_device(two, "--read-only") as device:
             self.judge(name, self.run(create([one, device])), (1, "", "mdcli: BadImage 1\n"), before)
 
-    def refused_in_use(self, name, image):
-        """What is in use is not changed, and may be looked at."""
+    def refused_in_use(self, name, image, judged=None):
+        """What is in use is not changed (its first `judged` bytes, or all), and may be looked at."""
         other = self.image("beside.img")
         tool("sync")
-        content = Path(image).read_bytes()
+        content = Path(image).read_bytes()[:judged]
         before = [(image, content), (other, other.read_bytes())]
         self.judge(name, self.run(create([other, image])), (1, "", "mdcli: BadImage 1\n"), before)
         self.judge(name + ", looked at", self.run(["examine", image]), (1, "", "mdcli: Super Magic\n"), before)
 
-    def used_and_file_below(self, name, device, backing):
+    def used_and_file_below(self, name, device, backing, judged=None):
         """Neither a disk that is in use nor its backing file is changed."""
-        self.refused_in_use(name, device)
-        self.refused_in_use(name + ": its file", backing)
+        self.refused_in_use(name, device, judged)
+        self.refused_in_use(name + ": its file", backing, judged)
 
     def mounted(self, name):
         backing = self.image("mounted backing.img", bytes(8192 * SECTOR))
@@ -223,19 +249,19 @@ class Disks:
         self.refused_in_use(name, node)
         node.unlink()
 
-    def not_added(self, name, image):
+    def not_added(self, name, image, judged=None):
         """What is in use is not added to an array, and the array stays as it is."""
         two = [self.image("added to %d.img" % number) for number in range(2)]
         self.run(create(two) + ["--assume-clean"])
-        before = [(path, Path(path).read_bytes()) for path in [*two, image]]
+        before = [(path, Path(path).read_bytes()) for path in two] + [(image, Path(image).read_bytes()[:judged])]
         words = ["add", "--device", str(image)] + [str(path) for path in two]
         self.judge(name + ", added", self.run(words), (1, "", "mdcli: BadImage 2\n"), before)
 
     def swapped_on_above(self, name, device, backing):
-        tool("mkswap", device)
+        make_swap(device)
         tool("swapon", device)
         try:
-            self.refused_in_use(name, backing)
+            self.refused_in_use(name, backing, NOT_SWAPPED)
         finally:
             tool("swapoff", device)
 
@@ -247,10 +273,10 @@ class Disks:
     def swapped_on(self, name):
         backing = self.image("swap backing.img", bytes(8192 * SECTOR))
         with loop_device(backing) as device:
-            tool("mkswap", device)
+            make_swap(device)
             tool("swapon", device)
             try:
-                self.used_and_file_below(name, device, backing)
+                self.used_and_file_below(name, device, backing, NOT_SWAPPED)
             finally:
                 tool("swapoff", device)
 
@@ -260,12 +286,12 @@ class Disks:
         # The system makes no link to a file that it swaps on.
         link = self.scratch / "link to a swap file.img"
         os.link(str(image), str(link))
-        tool("mkswap", image)
+        make_swap(image)
         tool("swapon", image)
         try:
-            self.refused_in_use(name, image)
-            self.refused_in_use(name + ": another link to it", link)
-            self.not_added(name, image)
+            self.refused_in_use(name, image, NOT_SWAPPED)
+            self.refused_in_use(name + ": another link to it", link, NOT_SWAPPED)
+            self.not_added(name, image, NOT_SWAPPED)
         finally:
             tool("swapoff", image)
         link.unlink()
@@ -278,11 +304,7 @@ class Disks:
 
     def partitioned(self, name):
         """Of two partitions the first is mounted: neither it nor the disk is changed, and the second may be."""
-        content = bytearray(20480 * SECTOR)
-        for number, start in enumerate((2048, 10240)):
-            struct.pack_into("<BBBBBBBBII", content, 446 + 16 * number, 0, 0, 0, 0, 0x83, 0, 0, 0, start, 8192)
-        content[510:512] = b"\x55\xaa"
-        backing = self.image("partitioned backing.img", bytes(content))
+        backing = self.image("partitioned backing.img", two_partitions())
         folder = self.scratch / "mounted partition"
         folder.mkdir()
         with loop_device(backing) as device:
@@ -313,24 +335,31 @@ class Disks:
         log = self.scratch / "calls"
         images = [self.scratch / ("failing %d.img" % number) for number in range(2)]
 
-        def calls_of(failed):
+        def calls_of(failed, *options):
             for image in images:
                 self.image(image.name)
             log.write_bytes(b"")
             # The program itself: the launcher is a shell, which the library would follow too.
             settings = {**os.environ, "LD_PRELOAD": str(library), "CALLS_LOG": str(log), "FAILED_CALL": str(failed)}
-            answer = self.run(create(images), program=support.PROGRAM, env=settings)
+            answer = self.run(create(images) + list(options), program=support.PROGRAM, env=settings)
             return answer, [tuple(line.split()) for line in log.read_text().splitlines()]
 
         answer, calls = calls_of(0)
         files = sorted({int(file) for _, file in calls})
-        synced = calls[0::2], [("sync", file) for _, file in calls[0::2]]
-        reasons = [] if answer[0] == 0 and len(files) == 2 and calls else ["no failure: %r, files %r" % (answer, files)]
-        if any(call != "write" for call, _ in synced[0]) or calls[1::2] != synced[1]:
+        opening, writes = calls[:2], calls[2:]
+        synced = writes[0::2], [("sync", file) for _, file in writes[0::2]]
+        reasons = [] if answer[0] == 0 and len(files) == 2 and writes else ["no failure: %r, files %r" % (answer, files)]
+        if opening != [("sync", str(file)) for file in files]:
+            reasons.append("not each image is synced as it is opened: %r" % opening)
+        if any(call != "write" for call, _ in synced[0]) or writes[1::2] != synced[1]:
             reasons.append("not each write is followed by a sync: %r" % calls)
+        told = calls_of(1, "--verbose")[0][2]
+        if not told.startswith("mdcli: BadImage 0\n%s: Input/output error" % images[0]):
+            reasons.append("of a sync that is refused it says %r" % told)
         for failed, (call, file) in enumerate(calls, 1):
             answer, made = calls_of(failed)
-            wanted = (1, "", "mdcli: MetadataFault %d\n" % files.index(int(file)))
+            fault = "BadImage" if failed <= len(opening) else "MetadataFault"
+            wanted = (1, "", "mdcli: %s %d\n" % (fault, files.index(int(file))))
             if answer != wanted:
                 reasons.append("call %d, a %s: the answer is %r, and not %r" % (failed, call, answer, wanted))
             if call == "sync" and file in [other for _, other in made[failed:]]:
