@@ -80,7 +80,7 @@ unpassed p (x ∷ rest) all k d lt =
     ] in
     both (p x) refl all
 
-missed : (p : MemberInfo → Bool) (xs : List MemberInfo) (o : Option ℕ) → o ≡ position p xs → o ≡ None → (k : ℕ) (d : MemberInfo) → k < length xs → p (get_or xs k d) ≡ false
+pub missed : (p : MemberInfo → Bool) (xs : List MemberInfo) (o : Option ℕ) → o ≡ position p xs → o ≡ None → (k : ℕ) (d : MemberInfo) → k < length xs → p (get_or xs k d) ≡ false
 missed p xs o e none = unpassed p xs (none_found (position_or_len p xs) (length xs) (sym e ∙ none))
 
 -- an earlier member with the number of the member at j, found in the list up to j

@@ -14,8 +14,8 @@ use std::alloc::Global;
 /// What the members of an array are to it.
 #[derive(Debug, Drop)]
 pub struct Assembly {
-    /// The index of the member whose superblock is the freshest: the greatest events, the first
-    /// listed on a tie.
+    /// The index of the member whose superblock is the freshest: the greatest events, and of several the first listed
+    /// to which no member in sync by it objects, whose superblock is as new and tells otherwise of some member's role.
     pub freshest: usize,
     /// The state of each member, in the order of the members.
     pub states: Vec<MemberState>,

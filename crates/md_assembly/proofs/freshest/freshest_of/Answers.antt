@@ -1,27 +1,35 @@
-use Rattle.std.proofs.Common.{◌<◌, ◌≤◌, ap, arith}
+use Rattle.std.proofs.Common.{◌≡◌, ◌∙◌, false, get_or, subst, sym}
+use Rattle.std.proofs.lemmas.List.Quantifiers.{position-Some}
+use Rattle.std.proofs.lemmas.Option.{get_or_from_slice_get, slice_get-get_or, slice_get_within}
+use Rattle.md_super.specs.declared.superblock.Superblock.{Superblock}
 use Rattle.md_members.specs.declared.info.MemberInfo.{MemberInfo}
-use Rattle.md_assembly.proofs.Freshness.{better, freshest_of_all, no_better, none_seen}
-use Rattle.md_assembly.proofs.Places.{read_at}
+use Rattle.md_assembly.specs.Assembled.{IsFirstFreshest, superblocks}
+use Rattle.md_assembly.proofs.Freshness.{all_disputed, first_freshest_at, first_undisputed, fits}
+use Rattle.md_assembly.proofs.Places.{missed}
 use Rattle.md_assembly.proofs.freshest.freshest_of.Goals as goal
-use Rattle.md_assembly.proofs.freshest.freshest_of.Goals.{then-member-members, else-member-members}
 
-pub loop-i-init : goal.loop-i-init
-loop-i-init c = record { within = c.requires.some; best = none_seen c.args.members.now c.requires.some }
-
-pub loop-i-preserved : goal.loop-i-preserved
-loop-i-preserved c =
+pub returns-in-Some-clause-freshest : goal.returns-in-Some-clause-freshest
+returns-in-Some-clause-freshest c =
     let members = c.args.members.now in
-    let best = read_at members c.loop-i.freshest c.index-members-freshest.result c.loop-i.invariant.within c.index-members-freshest.is in
-    let there = read_at members c.loop-i.i c.index-members-i.result (omega arith) c.index-members-i.is in
-    let same = ap (λ (m : MemberInfo). m.superblock.events) c.index-members-freshest.is in
-    elim c.if-member-members.branch [
-      | then-member-members w ↦
-          let more : c.index-members-freshest.result.superblock.events < c.index-members-i.result.superblock.events = omega arith in
-          rw w.freshest-is (record { within = omega arith; best = better members c.loop-i.i c.loop-i.freshest _ _ c.loop-i.invariant.best best there more })
-      | else-member-members w ↦
-          let no_more : c.index-members-i.result.superblock.events ≤ c.index-members-freshest.result.superblock.events = omega arith in
-          rw w.freshest-is (record { within = c.loop-i.invariant.within; best = no_better members c.loop-i.i c.loop-i.freshest _ _ c.loop-i.invariant.best best there no_more })
-    ]
+    let i = c.first_with_most-first.result in
+    let most = c.first_with_most-first.ensures in
+    let m = get_or members i c.index-members-first.result in
+    let f = first_freshest_at members i m most.freshest.0 (slice_get-get_or members i c.index-members-first.result most.within) most.freshest.1 in
+    let k = c.in-Some.k in
+    let at = position-Some (fits members m.superblock) members k m (sym c.undisputed.ensures ∙ c.in-Some.is) in
+    let chosen = get_or members k m in
+    ( chosen.superblock
+    , first_undisputed members i m.superblock f k chosen (slice_get-get_or members k m at.0) at.1
+        (λ j other less there. subst (λ (x : MemberInfo). fits members m.superblock x ≡ false) (get_or_from_slice_get members j other m there) (at.2 j less)) )
 
-pub returns-clause-freshest : goal.returns-clause-freshest
-returns-clause-freshest c = freshest_of_all c.args.members.now c.loop-i.i c.loop-i.freshest (omega arith) c.loop-i.invariant.best
+pub returns-in-None-clause-freshest : goal.returns-in-None-clause-freshest
+returns-in-None-clause-freshest c =
+    let members = c.args.members.now in
+    let i = c.first_with_most-first.result in
+    let most = c.first_with_most-first.ensures in
+    let m = get_or members i c.index-members-first.result in
+    let f = first_freshest_at members i m most.freshest.0 (slice_get-get_or members i c.index-members-first.result most.within) most.freshest.1 in
+    let none = missed (fits members m.superblock) members c.undisputed.result c.undisputed.ensures c.in-None.is in
+    ( m.superblock
+    , all_disputed members i m.superblock f
+        (λ j other there. subst (λ (x : MemberInfo). fits members m.superblock x ≡ false) (get_or_from_slice_get members j other m there) (none j m (slice_get_within members j other there))) )
