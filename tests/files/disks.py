@@ -82,6 +82,8 @@ def holder_of(device, sectors):
 
 
 SWAP_PAGES, PAGE = 600, 4096
+# The first bytes of a superblock (md_p.h, magic), which stands at the second page.
+MAGIC = bytes.fromhex("fc4e2ba9")
 # What the system leaves alone of an image that it swaps on: all before the one page that it may write to at any time.
 NOT_SWAPPED = (SWAP_PAGES - 1) * PAGE
 
@@ -286,12 +288,14 @@ class Disks:
         # The system makes no link to a file that it swaps on.
         link = self.scratch / "link to a swap file.img"
         os.link(str(image), str(link))
-        make_swap(image)
+        # Of a file the system takes no area with bad pages, and may write to all past the first page.
+        tool("mkswap", image)
         tool("swapon", image)
         try:
-            self.refused_in_use(name, image, NOT_SWAPPED)
-            self.refused_in_use(name + ": another link to it", link, NOT_SWAPPED)
-            self.not_added(name, image, NOT_SWAPPED)
+            self.refused_in_use(name, image, PAGE)
+            self.refused_in_use(name + ": another link to it", link, PAGE)
+            self.not_added(name, image, PAGE)
+            self.judge(name + ", without a superblock", Path(image).read_bytes()[PAGE : PAGE + len(MAGIC)] == MAGIC, False)
         finally:
             tool("swapoff", image)
         link.unlink()
