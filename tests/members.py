@@ -150,7 +150,8 @@ class Found:
         if not readable:
             raise Unreadable("no image can be read")
         self.events = max(member.superblock.events for member in readable)
-        self.freshest = next(member for member in readable if member.superblock.events == self.events)
+        newest = [member for member in readable if member.superblock.events == self.events]
+        self.freshest = next((member for member in newest if not self.is_disputed(member, newest, readable)), newest[0])
         self.states = [self.state(member) if member else "unreadable" for member in self.members]
         self.in_sync = [member for member, state in zip(self.members, self.states) if state == "in sync"]
         # The roles of members in sync differ and are below raid_disks.
@@ -165,11 +166,20 @@ class Found:
         """The role of a member by the superblock of this one."""
         return teller.roles[member.number] if member.number < len(teller.roles) else 0xFFFF
 
+    def is_disputed(self, teller, newest, readable):
+        """Whether a member that is in sync by this superblock, and has one as new, gives a member another role than it does."""
+        active = [member for member in readable if self.state_by(teller, member) in ("in sync", "recovering")]
+        objectors = [member for member in newest if self.state_by(teller, member) == "in sync"]
+        return any(self.role_by(one, member) != self.role_by(teller, member) for one in objectors for member in active)
+
     def state(self, member):
-        role = self.role(member)
+        return self.state_by(self.freshest, member)
+
+    def state_by(self, teller, member):
+        role = self.role_by(teller, member)
         if role == FAULTY_ROLE:
             return "faulty"
-        if role >= self.freshest.superblock.raid_disks:
+        if role >= teller.superblock.raid_disks:
             return "spare"
         if member.superblock.events + 1 < self.events or self.role_by(member, member) != role:
             return "stale"

@@ -167,7 +167,7 @@ fits members v m = m.superblock.events == v.events && not (is_disputed (superblo
 -- Of those that have so many events it is the first that is not disputed.
 module _ (members : List MemberInfo) (first : ℕ) (v : Superblock) (f : IsFirstFreshest (superblocks members) first v) where
   fits_by : (j : ℕ) (w : Superblock) → slice_get (superblocks members) j ≡ Some w → w.events ≡ v.events → is_disputed (superblocks members) w ≡ false
-    → ((m : MemberInfo) → slice_get members j ≡ Some m → fits members v m ≡ false) → ⊥
+      → ((m : MemberInfo) → slice_get members j ≡ Some m → fits members v m ≡ false) → ⊥
   fits_by j w e same none missed_it =
       let x = member_of members j w e in
       let as_new : x.0.superblock.events ≡ v.events = ap (λ (y : Superblock). y.events) x.2 ∙ same in
@@ -177,8 +177,8 @@ module _ (members : List MemberInfo) (first : ℕ) (v : Superblock) (f : IsFirst
       absurd cc
 
   pub first_undisputed : (k : ℕ) (m : MemberInfo) → slice_get members k ≡ Some m → fits members v m ≡ true
-    → ((j : ℕ) (other : MemberInfo) → j < k → slice_get members j ≡ Some other → fits members v other ≡ false)
-    → IsFreshest (superblocks members) k m.superblock
+      → ((j : ℕ) (other : MemberInfo) → j < k → slice_get members j ≡ Some other → fits members v other ≡ false)
+      → IsFreshest (superblocks members) k m.superblock
   first_undisputed k m there fitting before =
       let of_both = both_of (m.superblock.events == v.events) (is_disputed (superblocks members) m.superblock) fitting in
       let same : m.superblock.events ≡ v.events = eqb-true m.superblock.events v.events of_both.0 in

@@ -42,9 +42,8 @@ fn first_with_most(members: &[MemberInfo]) -> usize
 fn undisputed(members: &[MemberInfo], events: u64) -> Option<usize>
     ensures { result ≡ position (λ m. m.superblock.events == events && not (is_disputed (superblocks members.now) m.superblock)) members.now }
 {
-    members
-        .iter()
-        .position(|member| member.superblock.events == events && !is_disputed(members, &member.superblock))
+    members.iter().position(|member| member.superblock.events == events
+        && !is_disputed(members, &member.superblock))
 }
 
 // Whether a member that is in sync by this superblock, and has one as new, tells otherwise of some member.
@@ -77,9 +76,7 @@ fn tells_otherwise_of_some(
 ) -> bool
     ensures { result ≡ list_any (λ m. tells_otherwise superblock.now other.now m.superblock) members.now }
 {
-    members
-        .iter()
-        .any(|member| tells_otherwise(superblock, other, &member.superblock))
+    members.iter().any(|member| tells_otherwise(superblock, other, &member.superblock))
 }
 
 fn tells_otherwise(superblock: &Superblock, other: &Superblock, member: &Superblock) -> bool

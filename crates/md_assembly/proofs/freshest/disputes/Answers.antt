@@ -18,6 +18,6 @@ returns-then-is_in_sync c =
       | then-other-superblock x ↦
           let in_sync = ap is_in_sync (sym x.state_of.ensures) ∙ sym x.is_in_sync.ensures ∙ sym x.value-is ∙ c.if-is_in_sync.true in
           told ∙ both_hold (w.events == v.events) (is_in_sync (state_of v w)) (list_any (tells_otherwise v w) (superblocks members))
-            (eq-eqb w.events v.events x.if-other-superblock.true) in_sync
+          (eq-eqb w.events v.events x.if-other-superblock.true) in_sync
       | else-other-superblock x ↦ absurd (x.if-other-superblock.false (eqb-true w.events v.events (sym x.value-is ∙ c.if-is_in_sync.true)))
     ]
