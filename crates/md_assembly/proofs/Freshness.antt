@@ -8,7 +8,7 @@ use Rattle.std.proofs.lemmas.Option.{slice_get-map, slice_get_within}
 use Rattle.md_super.specs.declared.superblock.Superblock.{Superblock}
 use Rattle.md_members.specs.declared.info.MemberInfo.{MemberInfo}
 use Rattle.md_assembly.specs.declared.state.MemberState.{MemberState}
-use Rattle.md_assembly.specs.Assembled.{ByFreshest, IsFirstFreshest, IsFreshest, is_disputed, superblocks}
+use Rattle.md_assembly.specs.Assembled.{ByFreshest, IsFirstFreshest, DecidesRoles, is_disputed, superblocks}
 use Rattle.md_assembly.specs.States.{states_by}
 use Rattle.md_assembly.proofs.Indices.{got_same, got_within}
 
@@ -110,7 +110,7 @@ equally_disputed true false f g = absurd (let h = f refl in cc)
 equally_disputed true true f g = refl
 
 -- there is one freshest superblock
-pub one_freshest : (all : List Superblock) (i j : ℕ) (v w : Superblock) → IsFreshest all i v → IsFreshest all j w → v ≡ w
+pub one_freshest : (all : List Superblock) (i j : ℕ) (v w : Superblock) → DecidesRoles all i v → DecidesRoles all j w → v ≡ w
 one_freshest all i j v w f g =
     let below = f.greatest j w g.listed in
     let above = g.greatest i v f.listed in
@@ -122,19 +122,19 @@ one_freshest all i j v w f g =
     got_same all i v w f.listed (subst (λ (k : ℕ). slice_get all k ≡ Some w) at g.listed)
 
 -- what holds by some freshest superblock holds by this one
-pub by_this : (Fact : List MemberState → Type 0) (all : List Superblock) (i : ℕ) (v : Superblock) → IsFreshest all i v → ByFreshest Fact all → Fact (states_by v all)
+pub by_this : (Fact : List MemberState → Type 0) (all : List Superblock) (i : ℕ) (v : Superblock) → DecidesRoles all i v → ByFreshest Fact all → Fact (states_by v all)
 by_this Fact all i v f by =
     let same : by.superblock ≡ v = one_freshest all by.index i by.superblock v by.freshest f in
     subst (λ (w : Superblock). Fact (states_by w all)) same by.holds
 
-pub by_freshest : (Fact : List MemberState → Type 0) (all : List Superblock) (i : ℕ) (v : Superblock) → IsFreshest all i v → Fact (states_by v all) → ByFreshest Fact all
+pub by_freshest : (Fact : List MemberState → Type 0) (all : List Superblock) (i : ℕ) (v : Superblock) → DecidesRoles all i v → Fact (states_by v all) → ByFreshest Fact all
 by_freshest Fact all i v f h = record { index = i; superblock = v; freshest = f; holds = h }
 
 -- the freshest superblock is that of the member at its index
-pub freshest_at : (members : List MemberInfo) (i : ℕ) (m : MemberInfo) (v : Superblock) → slice_get members i ≡ Some m → IsFreshest (superblocks members) i v → IsFreshest (superblocks members) i m.superblock
+pub freshest_at : (members : List MemberInfo) (i : ℕ) (m : MemberInfo) (v : Superblock) → slice_get members i ≡ Some m → DecidesRoles (superblocks members) i v → DecidesRoles (superblocks members) i m.superblock
 freshest_at members i m v listed f =
     let same : v ≡ m.superblock = got_same (superblocks members) i v m.superblock f.listed (block_of members i m listed) in
-    subst (λ (w : Superblock). IsFreshest (superblocks members) i w) same f
+    subst (λ (w : Superblock). DecidesRoles (superblocks members) i w) same f
 
 pub first_freshest_at : (members : List MemberInfo) (i : ℕ) (m : MemberInfo) (v : Superblock) → slice_get members i ≡ Some m → IsFirstFreshest (superblocks members) i v → IsFirstFreshest (superblocks members) i m.superblock
 first_freshest_at members i m v listed f =
@@ -178,7 +178,7 @@ module _ (members : List MemberInfo) (first : ℕ) (v : Superblock) (f : IsFirst
 
   pub first_undisputed : (k : ℕ) (m : MemberInfo) → slice_get members k ≡ Some m → fits members v m ≡ true
       → ((j : ℕ) (other : MemberInfo) → j < k → slice_get members j ≡ Some other → fits members v other ≡ false)
-      → IsFreshest (superblocks members) k m.superblock
+      → DecidesRoles (superblocks members) k m.superblock
   first_undisputed k m there fitting before =
       let of_both = both_of (m.superblock.events == v.events) (is_disputed (superblocks members) m.superblock) fitting in
       let same : m.superblock.events ≡ v.events = eqb-true m.superblock.events v.events of_both.0 in
@@ -192,7 +192,7 @@ module _ (members : List MemberInfo) (first : ℕ) (v : Superblock) (f : IsFirst
         ];
       }
 
-  pub all_disputed : ((j : ℕ) (other : MemberInfo) → slice_get members j ≡ Some other → fits members v other ≡ false) → IsFreshest (superblocks members) first v
+  pub all_disputed : ((j : ℕ) (other : MemberInfo) → slice_get members j ≡ Some other → fits members v other ≡ false) → DecidesRoles (superblocks members) first v
   all_disputed none =
       record {
         listed = f.listed;

@@ -8,7 +8,7 @@ use Rattle.std.proofs.lemmas.Simd.{map-map}
 use Rattle.md_super.specs.declared.superblock.Superblock.{Superblock}
 use Rattle.md_members.specs.declared.info.MemberInfo.{MemberInfo}
 use Rattle.md_assembly.specs.declared.state.MemberState.TheVariants.{InSync, Recovering, Stale, Spare, Faulty}
-use Rattle.md_assembly.specs.Assembled.{IsFreshest, superblocks}
+use Rattle.md_assembly.specs.Assembled.{DecidesRoles, superblocks}
 use Rattle.md_assembly.specs.Faults.{IsDoubleRole, AssembleFaultStands}
 use Rattle.md_assembly.specs.declared.fault.AssembleFault.TheVariants.{NotEnough}
 use Rattle.md_assembly.specs.States.{bears, has_recovery_offset, is_in_sync, is_up_to_date, role_in, state_of, states_by, takes_role}
@@ -28,13 +28,13 @@ any_of_states : (v : Superblock) (members : List MemberInfo) → list_any is_in_
 any_of_states v [] = refl
 any_of_states v (m ∷ rest) = ap (λ b. is_in_sync (state_of v m.superblock) || b) (any_of_states v rest)
 
-pub not_double : (members : List MemberInfo) (i : ℕ) (v : Superblock) (role count : ℕ) → IsFreshest (superblocks members) i v → count ≡ count_by (λ m. takes_role role (state_of v m.superblock)) members → count ≤ 1 → IsDoubleRole members role → ⊥
+pub not_double : (members : List MemberInfo) (i : ℕ) (v : Superblock) (role count : ℕ) → DecidesRoles (superblocks members) i v → count ≡ count_by (λ m. takes_role role (state_of v m.superblock)) members → count ≤ 1 → IsDoubleRole members role → ⊥
 not_double members i v role count f e few double =
     let more = by_this (λ states. 1 < count_by (takes_role role) states) (superblocks members) i v f double in
     let same = count_of_states v role members in
     omega arith
 
-pub is_double : (members : List MemberInfo) (i : ℕ) (v : Superblock) (role count : ℕ) → IsFreshest (superblocks members) i v → count ≡ count_by (λ m. takes_role role (state_of v m.superblock)) members → 1 < count → IsDoubleRole members role
+pub is_double : (members : List MemberInfo) (i : ℕ) (v : Superblock) (role count : ℕ) → DecidesRoles (superblocks members) i v → count ≡ count_by (λ m. takes_role role (state_of v m.superblock)) members → 1 < count → IsDoubleRole members role
 is_double members i v role count f e more =
     let same = count_of_states v role members in
     by_freshest (λ states. 1 < count_by (takes_role role) states) (superblocks members) i v f (omega arith)
@@ -68,17 +68,17 @@ none_taken v role (m ∷ rest) past =
     first ∙ both (takes_role role (state_of v m.superblock)) refl
 
 -- no role is double where none below the raid disks is
-pub none_double : (members : List MemberInfo) (i : ℕ) (v : Superblock) → IsFreshest (superblocks members) i v → ((role : ℕ) → role < v.raid_disks → IsDoubleRole members role → ⊥) → (role : ℕ) → IsDoubleRole members role → ⊥
+pub none_double : (members : List MemberInfo) (i : ℕ) (v : Superblock) → DecidesRoles (superblocks members) i v → ((role : ℕ) → role < v.raid_disks → IsDoubleRole members role → ⊥) → (role : ℕ) → IsDoubleRole members role → ⊥
 none_double members i v f none role = elim (cases_lt role v.raid_disks) [
   | inl below ↦ none role below
   | inr past ↦ let zero = none_taken v role members past in not_double members i v role 0 f (sym zero) (omega arith)
 ]
 
-pub not_lacking : (members : List MemberInfo) (i : ℕ) (v : Superblock) (found : Bool) → IsFreshest (superblocks members) i v → found ≡ list_any (λ m. is_in_sync (state_of v m.superblock)) members → found ≡ true → AssembleFaultStands members NotEnough → ⊥
+pub not_lacking : (members : List MemberInfo) (i : ℕ) (v : Superblock) (found : Bool) → DecidesRoles (superblocks members) i v → found ≡ list_any (λ m. is_in_sync (state_of v m.superblock)) members → found ≡ true → AssembleFaultStands members NotEnough → ⊥
 not_lacking members i v found f e some lacking =
     let none = by_this (λ states. list_any is_in_sync states ≡ false) (superblocks members) i v f lacking in
     let same = any_of_states v members in
     absurd cc
 
-pub lacking : (members : List MemberInfo) (i : ℕ) (v : Superblock) (found : Bool) → IsFreshest (superblocks members) i v → found ≡ list_any (λ m. is_in_sync (state_of v m.superblock)) members → found ≡ false → AssembleFaultStands members NotEnough
+pub lacking : (members : List MemberInfo) (i : ℕ) (v : Superblock) (found : Bool) → DecidesRoles (superblocks members) i v → found ≡ list_any (λ m. is_in_sync (state_of v m.superblock)) members → found ≡ false → AssembleFaultStands members NotEnough
 lacking members i v found f e none = by_freshest (λ states. list_any is_in_sync states ≡ false) (superblocks members) i v f (any_of_states v members ∙ sym e ∙ none)

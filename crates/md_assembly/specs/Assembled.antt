@@ -30,7 +30,7 @@ is_disputed all v = list_any (disputes all v) all
 
 -- The superblock at the index decides. It has the greatest events, and is the first listed that has and that is not disputed, or
 -- the first listed that has where each is.
-pub record IsFreshest (all : List Superblock) (i : ℕ) (v : Superblock) : Type 0 where
+pub record DecidesRoles (all : List Superblock) (i : ℕ) (v : Superblock) : Type 0 where
   pub listed : slice_get all i ≡ Some v
   pub greatest : (j : ℕ) (w : Superblock) → slice_get all j ≡ Some w → w.events ≤ v.events
   pub undisputed : (j : ℕ) (w : Superblock) → slice_get all j ≡ Some w → w.events ≡ v.events → is_disputed all w ≡ false → is_disputed all v ≡ false
@@ -40,11 +40,11 @@ pub record IsFreshest (all : List Superblock) (i : ℕ) (v : Superblock) : Type 
 pub record ByFreshest (Fact : List MemberState → Type 0) (all : List Superblock) : Type 0 where
   pub index : ℕ
   pub superblock : Superblock
-  pub freshest : IsFreshest all index superblock
+  pub freshest : DecidesRoles all index superblock
   pub holds : Fact (states_by superblock all)
 
 -- the array that the members make
 pub record IsAssembled (members : List MemberInfo) (assembly : Assembly) : Type 0 where
   pub superblock : Superblock
-  pub freshest : IsFreshest (superblocks members) assembly.freshest superblock
+  pub freshest : DecidesRoles (superblocks members) assembly.freshest superblock
   pub states : assembly.states.items ≡ states_by superblock (superblocks members)

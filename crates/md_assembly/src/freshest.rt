@@ -2,7 +2,7 @@
 ghost use Rattle.std.specs.Prelude.{◌≡◌, ◌<◌, ◌==◌, ◌&&◌, length, not, position};
 ghost use Rattle.std.specs.List.{list_any};
 ghost use Rattle.md_super.specs.declared.superblock.Superblock.{Superblock};
-ghost use Rattle.md_assembly.specs.Assembled.{IsFirstFreshest, IsFreshest, disputes, is_disputed, superblocks, tells_otherwise};
+ghost use Rattle.md_assembly.specs.Assembled.{IsFirstFreshest, DecidesRoles, disputes, is_disputed, superblocks, tells_otherwise};
 
 use crate::state::state_of;
 use md_members::MemberInfo;
@@ -13,11 +13,11 @@ use md_super::Superblock;
 pub(crate) fn freshest_of(members: &[MemberInfo]) -> usize
     requires some { 0 < length members.now }
     ensures within { result < length members.now }
-    ensures freshest { (v : Superblock) × IsFreshest (superblocks members.now) result v }
+    ensures freshest { (v : Superblock) × DecidesRoles (superblocks members.now) result v }
 {
     let first = first_with_most(members);
     let events = members[first].superblock.events;
-    match undisputed(members, events) {
+    match first_undisputed(members, events) {
         Some(k) => k,
         None => first,
     }
@@ -39,7 +39,7 @@ fn first_with_most(members: &[MemberInfo]) -> usize
 }
 
 // The first member that has so many events and is not disputed.
-fn undisputed(members: &[MemberInfo], events: u64) -> Option<usize>
+fn first_undisputed(members: &[MemberInfo], events: u64) -> Option<usize>
     ensures { result ≡ position (λ m. m.superblock.events == events && not (is_disputed (superblocks members.now) m.superblock)) members.now }
 {
     members.iter().position(|member| member.superblock.events == events

@@ -1,7 +1,7 @@
 // The checks of the members' states, and the list of them.
 ghost use Rattle.std.specs.Prelude.{◌≡◌, ℕ, count_by, map, IfOk};
 ghost use Rattle.std.specs.List.{list_any};
-ghost use Rattle.md_assembly.specs.Assembled.{IsFreshest, superblocks};
+ghost use Rattle.md_assembly.specs.Assembled.{DecidesRoles, superblocks};
 ghost use Rattle.md_assembly.specs.Faults.{IsChecked, NoneBeforePlace};
 ghost use Rattle.md_assembly.specs.States.{is_in_sync, state_of, takes_role};
 
@@ -16,7 +16,7 @@ pub(crate) fn check_states(
     members: &[MemberInfo],
     freshest: &Superblock,
 ) -> Result<(), AssembleFault>
-    requires freshest { (i : ℕ) × IsFreshest (superblocks members.now) i freshest.now }
+    requires freshest { (i : ℕ) × DecidesRoles (superblocks members.now) i freshest.now }
     requires before { NoneBeforePlace members.now 7 }
     ensures { IsChecked members.now 8 result }
 {
@@ -25,7 +25,7 @@ pub(crate) fn check_states(
 }
 
 fn check_roles(members: &[MemberInfo], freshest: &Superblock) -> Result<(), AssembleFault>
-    requires freshest { (i : ℕ) × IsFreshest (superblocks members.now) i freshest.now }
+    requires freshest { (i : ℕ) × DecidesRoles (superblocks members.now) i freshest.now }
     requires before { NoneBeforePlace members.now 7 }
     ensures { IsChecked members.now 7 result }
 {
@@ -48,7 +48,7 @@ fn count_of_role(members: &[MemberInfo], freshest: &Superblock, role: u16) -> us
 }
 
 fn check_in_sync(members: &[MemberInfo], freshest: &Superblock) -> Result<(), AssembleFault>
-    requires freshest { (i : ℕ) × IsFreshest (superblocks members.now) i freshest.now }
+    requires freshest { (i : ℕ) × DecidesRoles (superblocks members.now) i freshest.now }
     requires before { NoneBeforePlace members.now 8 }
     ensures { IsChecked members.now 8 result }
 {

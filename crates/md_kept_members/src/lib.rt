@@ -45,8 +45,8 @@ pub use logging::note_logged;
 pub use marking::{needs_marks, united_marks};
 pub use member::Member;
 pub use membership::{
-    drop_absent_roles, drop_role, has_absent_role, has_elsewhere, has_newcomer, is_of_array,
-    is_taken, joined_superblock, least_free_role, left_its_role, new_number,
+    drop_absent_roles, drop_role, has_absent_role, has_newcomer, is_of_array, is_taken,
+    joined_superblock, least_free_role, left_its_role, new_number,
 };
 pub use offsets::{
     admitted_superblock, drop_old_offsets, lower_offset, lower_offsets, note_admitted, says_of,

@@ -4,8 +4,6 @@ use Rattle.std.specs.Prelude.{◌≡◌, ℕ, ◌<◌, ◌/◌, ◌==◌, Bool, 
 use Rattle.std.specs.List.{list_any, range_with_len}
 use Rattle.md_super.specs.declared.superblock.Superblock.{Superblock}
 use Rattle.md_bitmap.specs.declared.header.BitmapHeader.{BitmapHeader}
-use Rattle.md_assembly.specs.declared.state.MemberState.{MemberState}
-use Rattle.md_assembly.specs.declared.state.MemberState.TheVariants.{InSync, Recovering, Stale, Spare, Faulty}
 use Rattle.md_assembly.specs.States.{has_recovery_offset, role_in}
 use Rattle.md_kept_members.specs.TakingBack.{own_role}
 use Rattle.md_kept_members.specs.View.{MemberView}
@@ -25,18 +23,6 @@ pub record LeftItsRole (shared : Superblock) (members : List MemberView) (v : Su
   pub has_role : own_role v < shared.raid_disks
 
 -- ---- whether it may have been used without the array, or the array without it
--- a device that is in sync, whose number and state these are, is in another role by the superblock, or in none
-abbrev pub is_elsewhere : Superblock → ℕ → MemberState → Bool
-is_elsewhere v number (InSync role) = not (role_in v number == role)
-is_elsewhere v number (Recovering role) = false
-is_elsewhere v number (Stale role) = false
-is_elsewhere v number Spare = false
-is_elsewhere v number Faulty = false
-
--- by the superblock some member in sync is in another role, or in none
-abbrev pub has_elsewhere : List MemberView → Superblock → Bool
-has_elsewhere members v = list_any (λ m. is_elsewhere v m.superblock.dev_number m.state) members
-
 -- A device came in after a superblock was written: it has a role, and had another one or none, or it has failed, and was in no use. (By its
 -- entry in the roles, and the one in that superblock. 0xffff is the entry of a spare; the kernel writes it of a device that left, too.)
 abbrev pub came_since : (entry before : ℕ) → Bool

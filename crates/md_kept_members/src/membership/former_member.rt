@@ -1,10 +1,9 @@
 // A device that left, beside the array that it comes back to.
 ghost use Rattle.std.specs.Prelude.{◌≡◌, ◌↔◌, IsTrue};
-ghost use Rattle.md_kept_members.specs.Membership.FormerMember.{IsOfArray, LeftItsRole, came_since, has_elsewhere, has_newcomer, is_elsewhere};
+ghost use Rattle.md_kept_members.specs.Membership.FormerMember.{IsOfArray, LeftItsRole, came_since, has_newcomer};
 
 use crate::member::Member;
 use crate::membership::numbers::has_number;
-use md_assembly::MemberState;
 use md_bitmap::BitmapHeader;
 use md_super::{FAULTY, FEATURE_RECOVERY_OFFSET, SPARE, Superblock};
 
@@ -25,23 +24,6 @@ pub fn left_its_role(shared: &Superblock, members: &[Member], own: &Superblock) 
     !has_number(members, own.dev_number)
         && own.feature_map & FEATURE_RECOVERY_OFFSET == 0
         && u32::from(own.role_of(own.dev_number)) < shared.raid_disks
-}
-
-/// Whether by the device's superblock some member in sync is in another role, or in none.
-pub fn has_elsewhere(members: &[Member], own: &Superblock) -> bool
-    ensures { result ≡ has_elsewhere members.now own.now }
-{
-    members.iter().any(|member| is_elsewhere(own, member.superblock.dev_number, member.state))
-}
-
-// Whether the superblock has a device that is in sync, of this number and state, in another role, or in none.
-fn is_elsewhere(own: &Superblock, number: u32, state: MemberState) -> bool
-    ensures { result ≡ is_elsewhere own.now number state }
-{
-    match state {
-        MemberState::InSync(role) => own.role_of(number) != role,
-        _ => false,
-    }
 }
 
 /// Whether by the array's superblock some device came in after `own`, the device's, was written.

@@ -15,7 +15,7 @@ mod joining;
 mod numbers;
 mod roles;
 
-pub use former_member::{has_elsewhere, has_newcomer, is_of_array, left_its_role};
+pub use former_member::{has_newcomer, is_of_array, left_its_role};
 pub use joining::joined_superblock;
 pub use numbers::{drop_absent_roles, drop_role, has_absent_role, new_number};
 pub use roles::{is_taken, least_free_role};

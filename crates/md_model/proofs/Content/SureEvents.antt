@@ -319,7 +319,7 @@ module _ (g : Geometry) (wide : 0 < g.width) (spoiled : ℕ → Bool) (a : Conte
               let at : chunk_of g (first_sector g p) ≡ chunk_of g p.start = mul-div_cancel (p.start / g.width) wide in
               never (w.marks (chunk_of g p.start)) (tracked.marked m p p.start e (touches_start p r.some)) (sym (ap w.marks at) ∙ unmarked_below (first_sector g p) low below)
 
-  taken_back : (own : Super) (offset : ℕ) (device left : Stored) (full : Bool) → IsTakenBack g (risen g w full) own offset device left → (offset ≡ 0) ⊎ IsBehind g a device w
+  taken_back : (own : Super) (offset : ℕ) (device left : Stored) (full : Bool) → IsTakenBack g w (risen g w full) own offset device left → (offset ≡ 0) ⊎ IsBehind g a device w
       → Sure (put w.members false spoiled) (re_added g w own offset left full)
   taken_back own offset device left full taken told = sure_former (former_member own offset left) full refl
       (λ s low below. taken.unmarked s low (let e = sure_is in omega arith))

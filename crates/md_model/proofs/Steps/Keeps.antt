@@ -274,7 +274,7 @@ module _ (g : Geometry) (small : IsWithinLimits g) (opened : Super) (away : ℕ 
         (recorded_risen g small.few opened h.failed_at h.tried away seen_now s.0 t.recorded)))
 
     -- it is taken back, whatever is seen of the others
-    taken_seen : (own : Super) (offset : ℕ) (device left : Stored) (full : Bool) → IsTakenBack g (risen g w full) own offset device left → IsTakenBack g (risen g seen_now full) own offset device left
+    taken_seen : (own : Super) (offset : ℕ) (device left : Stored) (full : Bool) → IsTakenBack g w (risen g w full) own offset device left → IsTakenBack g w (risen g seen_now full) own offset device left
     taken_seen own offset device left full t = record { was = t.was; passes = t.passes; sure_offset = t.sure_offset; within = t.within; unmarked = t.unmarked; rest = t.rest }
 
     taken_back_step : (own : Super) (offset : ℕ) (device left : Stored) (w' : World) → ((d : ℕ) → away d ≡ true → w'.present d ≡ false)
@@ -282,7 +282,7 @@ module _ (g : Geometry) (small : IsWithinLimits g) (opened : Super) (away : ℕ 
     taken_back_step own offset device left w' gone s = subst (λ u. Holds (seen (put w.members false h.spoiled) u)) (sym s.4)
         (stored_anew (re_added g w own offset left s.0) w.members left
         (recorded_joined g small.few opened h.failed_at h.tried away (risen g seen_now s.0) (former_member own offset left)
-        (former_joins g (risen g seen_now s.0) own offset device left s.1.absent s.1.small (taken_seen own offset device left s.0 s.2))
+        (former_joins g w (risen g seen_now s.0) own offset device left s.1.absent s.1.small (taken_seen own offset device left s.0 s.2))
         under_risen later_risen
         (λ e off. ap (λ (u : World). u.present e) (sym s.4) ∙ gone e off)
         (recorded_risen g small.few opened h.failed_at h.tried away seen_now s.0 t.recorded)))

@@ -262,9 +262,9 @@ spare_joins g w d left few absent laid = record {
   past = λ _. refl;
 }
 
-pub former_joins : (g : Geometry) (w : World) (own : Super) (offset : ℕ) (device left : Stored) → w.present own.number ≡ false → own.number < 1920 → IsTakenBack g w own offset device left
+pub former_joins : (g : Geometry) (before w : World) (own : Super) (offset : ℕ) (device left : Stored) → w.present own.number ≡ false → own.number < 1920 → IsTakenBack g before w own offset device left
     → Joins g w (former_member own offset left)
-former_joins g w own offset device left absent low taken = record {
+former_joins g before w own offset device left absent low taken = record {
   absent = absent;
   super = subst (λ o. left.super ≡ Some (joined_super w own.number (own.role own.number) true o)) (sym (ap offset_of taken.rest)) (ap (λ (d : Stored). d.super) taken.rest);
   out = refl;

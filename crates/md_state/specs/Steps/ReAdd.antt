@@ -11,7 +11,7 @@ use Rattle.md_kept_members.specs.TakingBack.{IsKeptTakenBack, own_role}
 use Rattle.md_kept_members.specs.View.{MemberView}
 use Rattle.md_faults.specs.declared.re_add_fault.ReAddFault.{ReAddFault}
 use Rattle.md_faults.specs.declared.re_add_fault.ReAddFault.TheVariants.{Halted, Member, Full, NotReAddable, NoRole, EventsFull, WriteFault, NoMemory}
-use Rattle.md_kept_members.specs.Membership.FormerMember.{IsOfArray, LeftItsRole, has_elsewhere, has_newcomer}
+use Rattle.md_kept_members.specs.Membership.FormerMember.{IsOfArray, LeftItsRole, has_newcomer}
 use Rattle.md_kept_members.specs.Membership.Roles.{is_taken}
 use Rattle.md_state.specs.Steps.NoteJoined.{HasMostMembers, joined}
 use Rattle.md_state.specs.Steps.Rise.{HasSpentEvents}
@@ -41,9 +41,10 @@ pub record MayReAdd (a : ArrayView) (info : MemberInfo) : Type 0 where
 -- count at which the array was last full, when marks are cleared. The kernel's recovery of another device clears marks and leaves it.)
 pub record HasNoOtherClearing (a : ArrayView) (v : Superblock) (h : BitmapHeader) : Type 0 where
   pub cleared : h.events_cleared ≤ a.events_cleared  -- less where the array's count was stored after the device left
-  pub together : has_elsewhere a.members v ≡ false  -- by its superblock each member in sync is in its role
   pub no_copy : is_stale (state_of a.shared v) ≡ false  -- the array has not gone on with it: it is no older copy of its device
-  pub no_newcomer : has_newcomer a.shared v ≡ false  -- no device has come in that may have had its role, and has failed or is not here
+  -- No device has come in that may have had its role, and has failed or is not here. By its superblock each member in sync is in its role, too
+  -- (`knows_members` in md_model).
+  pub no_newcomer : has_newcomer a.shared v ≡ false
 
 -- A device's bitmap is accepted, and each chunk that it marks is marked in the array. Marks were not cleared
 -- on one of the two alone. So nothing tells that the device was written to alone since it left.

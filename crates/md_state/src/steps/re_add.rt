@@ -10,7 +10,7 @@ use crate::steps::note_joined::MOST_MEMBERS;
 use md_assembly::state_of;
 use md_bitmap::BitmapHeader;
 use md_faults::ReAddFault;
-use md_kept_members::{has_elsewhere, has_newcomer, is_of_array, is_taken, left_its_role};
+use md_kept_members::{has_newcomer, is_of_array, is_taken, left_its_role};
 use md_members::{MemberInfo, accepted};
 use md_super::Superblock;
 
@@ -94,7 +94,6 @@ impl Array {
         ensures { IsTrue result ↔ HasNoOtherClearing self.now own.now header.now }
     {
         header.events_cleared <= self.events_cleared
-            && !has_elsewhere(&self.members, own)
             && !state_of(&self.shared, own).is_stale()
             && !has_newcomer(&self.shared, own)
     }

@@ -16,7 +16,7 @@ returns-in-Some-clause-freshest c =
     let m = get_or members i c.index-members-first.result in
     let f = first_freshest_at members i m most.freshest.0 (slice_get-get_or members i c.index-members-first.result most.within) most.freshest.1 in
     let k = c.in-Some.k in
-    let at = position-Some (fits members m.superblock) members k m (sym c.undisputed.ensures ∙ c.in-Some.is) in
+    let at = position-Some (fits members m.superblock) members k m (sym c.first_undisputed.ensures ∙ c.in-Some.is) in
     let chosen = get_or members k m in (
       chosen.superblock,
       first_undisputed members i m.superblock f k chosen (slice_get-get_or members k m at.0) at.1
@@ -30,7 +30,7 @@ returns-in-None-clause-freshest c =
     let most = c.first_with_most-first.ensures in
     let m = get_or members i c.index-members-first.result in
     let f = first_freshest_at members i m most.freshest.0 (slice_get-get_or members i c.index-members-first.result most.within) most.freshest.1 in
-    let none = missed (fits members m.superblock) members c.undisputed.result c.undisputed.ensures c.in-None.is in (
+    let none = missed (fits members m.superblock) members c.first_undisputed.result c.first_undisputed.ensures c.in-None.is in (
       m.superblock,
       all_disputed members i m.superblock f
           (λ j other there. subst (λ (x : MemberInfo). fits members m.superblock x ≡ false) (get_or_from_slice_get members j other m there) (none j m (slice_get_within members j other there))),
