@@ -23,7 +23,7 @@ use Rattle.md_state.specs.Steps.CopyData.{CopiesSector, FailsToCopy, HaltsCopyin
 use Rattle.md_array.specs.Steps.Record.{FailsToRecord, HaltsRecording, Records, super_write}
 use Rattle.md_array.specs.Steps.Enrol.{HoldsContent}
 use Rattle.md_array.specs.Steps.EnrolEvents.{DidEnrol, IsHeldBy, Prepares}
-use Rattle.md_array.specs.Steps.GiveBack.{Fills}
+use Rattle.md_array.specs.Steps.Fill.{Fills}
 use Rattle.md_array.specs.Steps.RecordTarget.{FailsOnTarget}
 use Rattle.md_array.specs.Steps.NoteResynced.{BecomesResynced, NotesResynced}
 use Rattle.md_array.specs.Steps.Add.{Adds, add_event}
@@ -50,7 +50,6 @@ LeftWhole old (Event.RecordTargetFails k) new =
     (m : MemberView) → IsMember old.array k m → AtDevice k old.disks new.disks (IsOldNewOrNone (super_write old.array m).bytes)
 LeftWhole old (Event.Checkpoint k sure listed) new = (content : Content) × HoldsContent old.disks old.array content
 LeftWhole old (Event.StoreLog k listed) new = HasNoShift k old
-LeftWhole old (Event.WriteFails k MemberPart.Log) new = HasNoShift k old
 LeftWhole old (Event.Enrol k role listed) new = (content : Content) × IsHeldBy k listed content old
 LeftWhole old e new = Unit {0}
 
@@ -108,8 +107,8 @@ pub record DidAdd (e : Event) (old new : MirrorView) : Type 0 where
   pub adds : Adds index device old new
   pub event : e ≡ add_event index device old new adds
 
--- What the step's own contract says of it, whatever its device is, and what requests are in flight after it. A member is filled by
--- `give_back`, from the devices that were lent on.
+-- What the step's own contract says of it, whatever its device is, and what requests are in flight after it. A member is filled
+-- while its device is lent.
 abbrev pub Did : MirrorView → Requests → Event → MirrorView → Requests → Type 0
 Did old before (Event.Begin n r) new after =
     (sector : ℕ) × (bytes : List ℕ) × (p : PendingView) × IsUnder n p after × IsPut n (Some r) before after × Begins sector bytes old new p

@@ -18,3 +18,5 @@ pub mod Spoiling
 pub mod Open
 -- The steps, each by its verb: what it does with a device and in memory, each refusal in its order, and the word that ties it to its event.
 pub mod Steps
+-- What a mirror ends as, where a `&mut` to its devices is returned.
+pub mod Lends

@@ -15,8 +15,8 @@ pub mod EnrolEvents
 -- A member that is failed by a call, as an event of the model.
 pub mod Fail
 -- A member that is being rebuilt gets data, while its device is lent (this project's own).
-pub mod GiveBack
--- The devices move out, for a rebuild or a check, and come back (this project's own).
+pub mod Fill
+-- The devices are lent, for a rebuild or a check, and come back (this project's own).
 pub mod Lend
 -- A recovering member is to say no more that it has data which are about to change.
 pub mod LowerOffset

@@ -107,12 +107,13 @@ stored_of a m content =
       listed = λ s. nat_lt s a.chunks.size && is_listed m.superblock content (m.superblock.data_offset + s);
       bits = λ c. nat_lt c a.marks.chunks && is_set (drop (512 * start + 256) content) c;
       bitmap_events = number_at 8 24 (header_on content start);
+      bitmap_cleared = number_at 8 32 (header_on content start);
       bitmap_fits = header_fits a (header_on content start);
     }
 
 -- no device
 abbrev pub nothing_stored : Stored
-nothing_stored = record { super = None; content = λ _. []; listed = λ _. false; bits = λ _. false; bitmap_events = 0; bitmap_fits = false }
+nothing_stored = record { super = None; content = λ _. []; listed = λ _. false; bits = λ _. false; bitmap_events = 0; bitmap_cleared = 0; bitmap_fits = false }
 
 abbrev pub stored_on : ArrayView → Option MemberView → Option Disk → Stored
 stored_on a (Some m) (Some d) = stored_of a m d.content

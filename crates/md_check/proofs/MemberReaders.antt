@@ -23,7 +23,7 @@ use Rattle.md_state.specs.Members.{IsAlone, IsMember}
 use Rattle.md_state.specs.Rests.{Rests}
 use Rattle.md_state.specs.View.{ArrayView, Disk, MirrorView, disk_of, of_disks}
 use Rattle.md_array.specs.Consistency.{IsConsistent}
-use Rattle.md_array.specs.Steps.Lend.{AreBack, lent}
+use Rattle.md_array.specs.Steps.Lend.{AreBack}
 use Rattle.md_array.specs.Worlds as worlds
 use Rattle.md_check.specs.declared.lent.Missed.{Missed}
 use Rattle.md_check.specs.declared.order.Order.{Order}
@@ -313,20 +313,17 @@ module _ {D : Type 0} (g : Ghosts D) (old : MirrorView) (sound : IsConsistent ol
       within = λ k d e at there. let w = was_read k d e at there in leaves d e w.reader.device w.new.device w.was w.now w.only;
     }
 
-    pub come_back : IsIdle old.array → AreBack (lent old) old.disks after
-    come_back idle = record {
-      consistent = sound;
-      idle = idle;
-      back = record {
-        as_many = after_many;
-        each = λ k d e m at there member. let same = untouched.content k d e at there in record {
-          stays = untouched.same.honest k d e at there;
-          size = ap length same;
-          beside = λ from n besides. ap (λ (c : List ℕ). part c from n) same;
-          others = λ _. same;
-        };
+    pub come_back : (new : MirrorView) → new ≡ record old { disks = after } → AreBack old new
+    come_back new is = rw is (record {
+      array = refl;
+      as_many = after_many;
+      each = λ k d e m at there member. let same = untouched.content k d e at there in record {
+        stays = untouched.same.honest k d e at there;
+        size = ap length same;
+        beside = λ from n besides. ap (λ (c : List ℕ). part c from n) same;
+        others = λ _. same;
       };
-    }
+    })
 
     failed_at : (k chunk : ℕ) → ((x : Reader D) → MissesChunk g old.array.chunks 0 old.array.chunks.size (get_or readers k x) (get_or news k x) chunk)
         → (d e : Disk) → slice_get old.disks k ≡ Some d → slice_get after k ≡ Some e → d.honest ≡ true → d.failures < e.failures

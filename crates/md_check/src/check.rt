@@ -119,7 +119,7 @@ fn has_two_in_sync<D: Device + Drop>(mirror: &Mirror<D>) -> bool
     false
 }
 
-// Compares them where two members are in sync. The devices are lent, and given back.
+// Compares them where two members are in sync. The devices are lent, and each comes back to its place.
 fn lend_and_compare<D: Device + Drop + Send, G: Gate + Sync, R: Threads + Sync>(
     rt: &R,
     alloc: Global,
@@ -141,11 +141,10 @@ fn lend_and_compare<D: Device + Drop + Send, G: Gate + Sync, R: Threads + Sync>(
     let mut orders = orders_for(alloc, mirror, room)?;
     let mut readers = Vec::with_capacity(alloc, orders.len())?;
     let mut lead = vec![in alloc; 0u8; room]?;
-    let mut devices = mirror.lend(alloc);
-    readers_of(&mut devices, &mut orders, &mut readers);
+    let devices = mirror.lend();
+    readers_of(devices, &mut orders, &mut readers);
     let answer = check_lent(rt, gate, chunks, &mut lead, &mut readers, found);
-    leave_readers(&mut readers, &mut devices);
-    mirror.give_back(devices);
+    leave_readers(&mut readers, devices);
     match answer {
         Ok(()) => Ok(()),
         Err(missed) => Err(CheckFault::ReadFault(missed.member, missed.chunk)),

@@ -55,7 +55,7 @@ pub(crate) fn fill<D: Device + Drop + Send, G: Gate + Sync, R: Threads + Wait + 
     }
 }
 
-// The devices move out, the pass is made over them, and they move back.
+// The devices are lent, and the pass is made over them.
 fn fill_devices<D: Device + Drop + Send, G: Gate + Sync, R: Threads + Wait + Sync>(
     rt: &R,
     alloc: Global,
@@ -83,19 +83,8 @@ fn fill_devices<D: Device + Drop + Send, G: Gate + Sync, R: Threads + Wait + Syn
 {
     let chunks = mirror.chunks();
     let offset = mirror.own(target).data_offset;
-    let mut devices = mirror.lend(alloc);
-    let result = copy_beside(
-        rt,
-        alloc,
-        gate,
-        plan,
-        chunks,
-        sources,
-        &mut devices,
-        target,
-        offset,
-        copied,
-    );
-    mirror.give_back(devices);
-    result
+    let devices = mirror.lend();
+    copy_beside(
+        rt, alloc, gate, plan, chunks, sources, devices, target, offset, copied,
+    )
 }

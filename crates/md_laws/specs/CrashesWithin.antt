@@ -25,7 +25,7 @@ use Rattle.md_array.specs.Steps.Add.{Adds, FailsToAdd, RefusesAdd}
 use Rattle.md_array.specs.Steps.Enrol.{Enrols, FailsToEnrol}
 use Rattle.md_array.specs.Steps.EnrolEvents.{Prepares}
 use Rattle.md_array.specs.Events.{ComesLast, IsSameBesideMarks, IsSameBesideUnsaid, WritesOnce}
-use Rattle.md_array.specs.Steps.GiveBack.{Fills}
+use Rattle.md_array.specs.Steps.Fill.{Fills}
 use Rattle.md_array.specs.Steps.StoreLog.{StoresLog}
 use Rattle.md_array.specs.Steps.ReAdd.{FailsToReAdd, ReAdds, RefusesReAdd}
 use Rattle.md_array.specs.Steps.Record.{super_write}

@@ -20,7 +20,7 @@ use Rattle.md_array.specs.Events.{IsOldNewOrNone}
 use Rattle.md_array.specs.Consistency.{IsConsistent}
 use Rattle.md_array.specs.Steps.Enrol.{Enrols, MayEnrol}
 use Rattle.md_array.specs.Steps.EnrolEvents.{Prepares}
-use Rattle.md_array.specs.Steps.GiveBack.{Fills}
+use Rattle.md_array.specs.Steps.Fill.{Fills}
 use Rattle.md_array.specs.ReadAsKept.{AreReadAsKept}
 use Rattle.md_array.specs.Steps.ReAdd.{ReAdds}
 use Rattle.md_array.specs.Steps.Record.{FailsToRecord, HaltsRecording, Records, super_write}

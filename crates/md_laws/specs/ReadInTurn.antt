@@ -29,7 +29,6 @@ IsNoFailedRecord (Event.RecordTargetFails k) = ⊥
 IsNoFailedRecord (Event.Enrol k role listed) = ⊥
 IsNoFailedRecord (Event.Checkpoint k sure listed) = ⊥
 IsNoFailedRecord (Event.StoreLog k listed) = ⊥
-IsNoFailedRecord (Event.WriteFails k MemberPart.Log) = ⊥
 IsNoFailedRecord e = Unit {0}
 
 -- From any moment of a mirror such a call is a run, and ends where the call says.

@@ -28,7 +28,7 @@ MirrorRunJoins t a (e ∷ es) last b run =
 -- ---- an opening that finds members recovering
 -- What a crash left of the device of member k says no more than the mirror kept of it. Its offset is no greater, and it lists what the list in
 -- memory has; or, within an enrolment, its log may lack sectors of missing chunks. (It may say more where a write of its log or of its
--- superblock failed, or where its offset was taken as 0 at the opening, and it was not stored since.)
+-- superblock failed, or where its offset was taken as 0 at the opening; until it was stored since.)
 abbrev pub IsStoredOrPrepared : Geometry → World → ℕ → Stored → Type 0
 IsStoredOrPrepared g w k device = IsAsStored w k device ⊎ ((is_recovering (w.state k) ≡ true) × MayFill w k × IsAsPrepared g w k device)
 
@@ -36,46 +36,40 @@ abbrev pub SaysNoMore : Moment → List Disk → ℕ → Type 0
 SaysNoMore t left k =
     IsStoredOrPrepared (geometry_of t.mirror.array) (world_of t.mirror t.requests) k (stored_on t.mirror.array (slice_get t.mirror.array.members k) (slice_get left k))
 
--- An opening took no offset as 0: each that a device told of is kept.
-abbrev pub KeepsOffset : MirrorView → ℕ → Type 0
-KeepsOffset m k = (own : Super) → ((world_of m none_in_flight).stored k).super ≡ Some own → own.offset ≤ (world_of m none_in_flight).offset k
-
--- Right after an opening that kept the offset of a member, its device says no more than the mirror keeps of
--- it.
+-- Right after an opening that did not lessen the offset of a member, its device says no more than the mirror keeps of it.
 abbrev pub SaysNoMoreWhenOpened : Type 0
-SaysNoMoreWhenOpened = (before : List Disk) (m : MirrorView) → IsStart before m → (k : ℕ) → KeepsOffset m k → SaysNoMore (opened_as m) m.disks k
+SaysNoMoreWhenOpened = (before : List Disk) (m : MirrorView) → IsStart before m → (k : ℕ) → (opened_as m).offset_unknown k ≡ false → SaysNoMore (opened_as m) m.disks k
 
--- Where an opening kept every offset, the offset that is told by what any crash leaves until the next opening
--- is no greater than the one in memory, unless the member is spoiled.
+-- The offset that is told by what any crash leaves until the next opening is no greater than the one in memory, of each member whose
+-- offset is known (`Moment`): the opening did not take it as less, and the member is not spoiled, or its superblock was stored since.
 abbrev pub OffsetsAreKept : Type 0
 OffsetsAreKept =
-    (before : List Disk) (m : MirrorView) → IsStart before m → ((k : ℕ) → KeepsOffset m k)
+    (before : List Disk) (m : MirrorView) → IsStart before m
     → (es : List Event) (t : Moment) → MirrorRun (opened_as m) es t → (left : List Disk) → IsLeftByCrash t left
-    → (k : ℕ) → t.spoiled k ≡ false
+    → (k : ℕ) → t.offset_unknown k ≡ false
     → (own : Super) → (stored_on t.mirror.array (slice_get t.mirror.array.members k) (slice_get left k)).super ≡ Some own
     → own.offset ≤ (world_of t.mirror t.requests).offset k
 
--- Where an opening kept every offset, a member that is rebuilt says no more at a crash than the mirror kept of
--- it, if the superblock can be read that the crash left. Its log has to be known (`Moment`), and the crash not
--- to have come while the log was being stored.
+-- A member that is rebuilt, and whose offset is known, says no more at a crash than the mirror kept of it, if the superblock can be read
+-- that the crash left. Its log has to be known too (`Moment`), and the crash not to have come while the log was being stored.
 abbrev pub SaysNoMoreWhereKnown : Type 0
 SaysNoMoreWhereKnown =
-    (before : List Disk) (m : MirrorView) → IsStart before m → ((k : ℕ) → KeepsOffset m k)
+    (before : List Disk) (m : MirrorView) → IsStart before m
     → (es : List Event) (t : Moment) → MirrorRun (opened_as m) es t → (left : List Disk) (is : IsLeftByCrash t left)
-    → (k : ℕ) → is_target ((world_of t.mirror t.requests).state k) ≡ true → t.spoiled k ≡ false → t.log_unknown k ≡ false → (IsStoringOwn t left is k → ⊥)
+    → (k : ℕ) → is_target ((world_of t.mirror t.requests).state k) ≡ true → t.offset_unknown k ≡ false → t.log_unknown k ≡ false → (IsStoringOwn t left is k → ⊥)
     → (own : Super) → (stored_on t.mirror.array (slice_get t.mirror.array.members k) (slice_get left k)).super ≡ Some own → SaysNoMore t left k
 
--- A member whose list in memory is empty says no more at a crash, whatever its log.
+-- A member whose offset is known and whose list in memory is empty says no more at a crash, whatever its log.
 abbrev pub SaysNoMoreWithoutList : Type 0
 SaysNoMoreWithoutList =
-    (before : List Disk) (m : MirrorView) → IsStart before m → ((k : ℕ) → KeepsOffset m k)
+    (before : List Disk) (m : MirrorView) → IsStart before m
     → (es : List Event) (t : Moment) → MirrorRun (opened_as m) es t → (left : List Disk) → IsLeftByCrash t left
-    → (k : ℕ) → t.spoiled k ≡ false → ((s : ℕ) → (world_of t.mirror t.requests).bad k s ≡ false) → SaysNoMore t left k
+    → (k : ℕ) → t.offset_unknown k ≡ false → ((s : ℕ) → (world_of t.mirror t.requests).bad k s ≡ false) → SaysNoMore t left k
 
--- What a crash left of the device of a member that is rebuilt is known to say no more: the opening kept every
--- offset, the member's log is known, and the crash did not come while it was being stored.
-pub record IsOffsetKnown (opened : MirrorView) (t : Moment) (left : List Disk) (is : IsLeftByCrash t left) (k : ℕ) : Type 0 where
-  pub offsets : (j : ℕ) → KeepsOffset opened j
+-- What a crash left of the device of a member that is rebuilt is known to say no more: the member's offset and its log are known, and
+-- the crash did not come while the log was being stored.
+pub record IsOffsetKnown (t : Moment) (left : List Disk) (is : IsLeftByCrash t left) (k : ℕ) : Type 0 where
+  pub offset : t.offset_unknown k ≡ false
   pub rebuilt : is_target ((world_of t.mirror t.requests).state k) ≡ true
   pub log : t.log_unknown k ≡ false
   pub beside : IsStoringOwn t left is k → ⊥
@@ -85,7 +79,7 @@ pub record IsOffsetKnown (opened : MirrorView) (t : Moment) (left : List Disk) (
 abbrev pub MirrorOpensBehind : (opened : MirrorView) (t : Moment) (next : MirrorView) → IsReopened opened t next → Content → Type 0
 MirrorOpensBehind opened t next again b =
     (j : ℕ) → is_recovering ((world_of next none_in_flight).state j) ≡ true
-    → ((k : ℕ) × (again.devices.from j ≡ Some k) × (IsOffsetKnown opened t again.devices.left again.devices.is_left k ⊎ SaysNoMore t again.devices.left k))
+    → ((k : ℕ) × (again.devices.from j ≡ Some k) × (IsOffsetKnown t again.devices.left again.devices.is_left k ⊎ SaysNoMore t again.devices.left k))
     ⊎ IsBehind (geometry_of next.array) b (recovered (geometry_of next.array) (world_of next none_in_flight) j) (world_of next none_in_flight)
 
 -- ---- lives

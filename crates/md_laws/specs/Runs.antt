@@ -1,8 +1,8 @@
 -- Lists of events of a mirror, from its opening on: each is done by a call, as the calls' contracts say (`Does`). Between them
 -- devices may be read, and reads may fail: that is no event, and the world stays.
-use Rattle.std.specs.Prelude.{◌≡◌, ℕ, Bool, true, false, not, List, [], ◌∷◌, Option}
+use Rattle.std.specs.Prelude.{◌≡◌, ℕ, Bool, true, false, not, nat_lt, List, [], ◌∷◌, Option}
 use Rattle.md_model.specs.Sectors.{put}
-use Rattle.md_model.specs.Devices.{Covered}
+use Rattle.md_model.specs.Devices.{Covered, offset_of}
 use Rattle.md_model.specs.Membership.{skip}
 use Rattle.md_model.specs.Worlds.{Request, World, IsInSync}
 use Rattle.md_model.specs.Content.{Content, Becomes, Holds, TellsAtEnrolment}
@@ -23,6 +23,7 @@ pub record Moment : Type 0 where
   pub tried : Bool  -- data was written to a member, or a write of it failed
   pub away : ℕ → Bool  -- no member had this number at any moment since the opening
   pub spoiled : ℕ → Bool  -- of this member a write of its superblock failed and may have left any, and none was stored since
+  pub offset_unknown : ℕ → Bool  -- this member's superblock may tell of a greater offset than is kept: the opening took it as 0, or it is spoiled
   pub log_unknown : ℕ → Bool  -- of this member an `enrol`, an `admit` or a `checkpoint` failed: its log may be any, or a superblock not tell of it
 
 -- An `enrol` that failed may have left any log. A superblock that may be any may not tell of the log, and a record after it doesn't make
@@ -40,8 +41,22 @@ log_unknown_after e w before = before
 abbrev pub history_of : Moment → History
 history_of t = record { now = world_of t.mirror t.requests; failed_at = t.failed_at; tried = t.tried; away = t.away; spoiled = t.spoiled }
 
+-- An opening took the member's offset as 0, or as less than its device tells of. It does so until the superblock is stored.
+abbrev pub is_lessened : World → ℕ → Bool
+is_lessened w k = nat_lt (w.offset k) (offset_of (w.stored k))
+
 abbrev pub opened_as : MirrorView → Moment
-opened_as m = record { mirror = m; requests = none_in_flight; failed_at = 0; tried = false; away = λ d. not (has_number m.array.members d); spoiled = λ _. false; log_unknown = λ _. false }
+opened_as m =
+    record {
+      mirror = m;
+      requests = none_in_flight;
+      failed_at = 0;
+      tried = false;
+      away = λ d. not (has_number m.array.members d);
+      spoiled = λ _. false;
+      offset_unknown = is_lessened (world_of m none_in_flight);
+      log_unknown = λ _. false;
+    }
 
 abbrev pub then_as : Moment → Event → MirrorView → (ℕ → Option Request) → Moment
 then_as t e m requests =
@@ -52,6 +67,7 @@ then_as t e m requests =
       tried = tried_after e t.tried;
       away = away_after e t.away;
       spoiled = spoiled_after e (world_of t.mirror t.requests) t.spoiled;
+      offset_unknown = spoiled_after e (world_of t.mirror t.requests) t.offset_unknown;
       log_unknown = log_unknown_after e (world_of t.mirror t.requests) t.log_unknown;
     }
 

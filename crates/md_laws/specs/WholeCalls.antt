@@ -17,7 +17,7 @@ use Rattle.md_array.specs.Consistency.{IsConsistent}
 use Rattle.md_array.specs.Steps.Enrol.{Enrols, FailsToEnrol, MayEnrol}
 use Rattle.md_array.specs.Steps.EnrolEvents.{FailsAtSuper, Prepares, enrol_event}
 use Rattle.md_array.specs.Events.{listed_on}
-use Rattle.md_array.specs.Steps.GiveBack.{Fills}
+use Rattle.md_array.specs.Steps.Fill.{Fills}
 use Rattle.md_array.specs.InTurn.{AllLeftWhole, Leads, Requests}
 use Rattle.md_array.specs.Steps.StoreLog.{FailsToStoreLog, StoresLog}
 use Rattle.md_array.specs.Steps.NoteBad.{IsBelowListLimit, NotesChunk}

@@ -157,10 +157,11 @@ pub fn leaving_members()
 /// that its offset has not passed. So a rebuild that copies what `missing` names is enough, at any moment after a `re_add` or an `admit`,
 /// also after a crash and the next opening. It is asked that each `re_add` is told, as `leaving_members` tells of a device that still is as
 /// it was left, and that the first opening is told of the members that it finds recovering. A later one is told of further devices alone, if
-/// each of those that were left says no more than the mirror kept of it (`SaysNoMore`). So each does right after an opening that took no
-/// offset as 0. Until the next one its offset stays such, unless it is spoiled; and its log lists what the list in memory has, as long as no
-/// `enrol`, `admit` or `checkpoint` of it failed (`Moment`, `log_unknown`). So it says no more at any crash, but for one within an `enrol`
-/// while the bitmap and the log are stored (`IsStoringOwn`). Where the list in memory is empty the log may be any.
+/// each of those that were left says no more than the mirror kept of it (`SaysNoMore`). So a member does right after an opening that did not
+/// take its own offset as 0, whatever it made of others'; and after one that did, once its superblock was stored. Until the next opening its
+/// offset stays such, but while it is spoiled (`Moment`, `offset_unknown`); and its log lists what the list in memory has, as long as no
+/// `enrol`, `admit` or `checkpoint` of it failed (`log_unknown`). So it says no more at any crash, but for one within an `enrol` while the
+/// bitmap and the log are stored (`IsStoringOwn`). Where the list in memory is empty the log may be any.
 pub fn recovering_members()
     ensures kept { KeepsRecovering }
     ensures as_opened { SaysNoMoreWhenOpened }

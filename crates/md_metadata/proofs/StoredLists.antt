@@ -47,12 +47,12 @@ module _ (old new : MirrorView) (k : ℕ) (sound : IsConsistent new) (pending : 
   log_in_use : (f : FailsToStoreLog k old new) → is_recorded f.fails.array.member.state ≡ true
   log_in_use f = in_use_there old.array k f.member f.fails.array.member f.fails.array.at f.in_sync.member (in_sync_recorded f.member.state f.in_sync.in_sync)
 
-  pub log_fails : (j : ℕ) → RefusesStoreLog k old new (MemberFailed j) → (HasNoShift k old → Happens old (Event.WriteFails k MemberPart.Log) new) → ListFails k old new (part.MemberFailed j)
+  pub log_fails : (j : ℕ) → RefusesStoreLog k old new (MemberFailed j) → Happens old (Event.WriteFails k MemberPart.Log) new → ListFails k old new (part.MemberFailed j)
   log_fails j r happens =
       let f = r.1 in
       let used = log_in_use f in
       let step = failure_step only_others only_others (IsListing k) (Event.WriteFails k MemberPart.Log) old new k f.fails.array used refl (λ others. (refl, f))
-      (λ honest whole others in_flight. happens whole honest others in_flight) sound pending in (
+      (λ honest whole others in_flight. happens honest others in_flight) sound pending in (
         r.0,
         step_loses (IsListing k) k (Event.WriteFails k MemberPart.Log) old new refl step (λ previous. tt) (fewer_after old.array new.array k f.fails.array used)
             (halted_after old.array new.array k f.fails.array used) (record { member = f.fails.array.member; at = f.fails.array.at; recorded = used })

@@ -12,7 +12,7 @@ use Rattle.md_members.specs.declared.info.MemberInfo.{MemberInfo}
 use Rattle.md_assembly.specs.declared.state.MemberState.{MemberState}
 use Rattle.md_assembly.specs.declared.assembling.Assembly.{Assembly}
 use Rattle.md_assembly.specs.declared.fault.AssembleFault.TheVariants.{Stranger, DoubleNumber, Geometry, DoubleRole, NotEnough}
-use Rattle.md_assembly.specs.Assembled.{ByFreshest, IsAssembled, IsFreshest, superblocks}
+use Rattle.md_assembly.specs.Assembled.{ByFreshest, IsAssembled, DecidesRoles, superblocks}
 use Rattle.md_assembly.specs.Faults.{NoAssembleFault, IsStranger, HasOtherGeometry, HasSameNumber, RepeatsNumber, IsDoubleRole}
 use Rattle.md_assembly.specs.Listed.{PairAt}
 use Rattle.md_assembly.specs.States.{state_of, states_by, is_in_sync, takes_role}
@@ -89,8 +89,8 @@ module _ (infos : List MemberInfo) (assembly : Assembly) (a : ArrayView) (assemb
   by_shared : assembled.superblock ≡ a.shared
   by_shared = got_same (superblocks infos) assembly.freshest _ _ assembled.freshest.listed remembered.shared
 
-  pub freshest : IsFreshest (superblocks infos) assembly.freshest a.shared
-  freshest = subst (IsFreshest (superblocks infos) assembly.freshest) by_shared assembled.freshest
+  pub freshest : DecidesRoles (superblocks infos) assembly.freshest a.shared
+  freshest = subst (DecidesRoles (superblocks infos) assembly.freshest) by_shared assembled.freshest
 
   states_are : assembly.states.items ≡ states_by a.shared (superblocks infos)
   states_are = assembled.states ∙ ap (λ v. states_by v (superblocks infos)) by_shared

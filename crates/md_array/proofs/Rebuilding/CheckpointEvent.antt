@@ -32,7 +32,7 @@ use Rattle.md_array.specs.Steps.Checkpoint.{Checkpoints, MayCheckpoint}
 use Rattle.md_array.specs.Consistency.{IsConsistent}
 use Rattle.md_array.specs.Steps.Enrol.{HoldsContent}
 use Rattle.md_array.specs.Events.{Happens, ListsStill, listed_on}
-use Rattle.md_array.specs.Steps.GiveBack.{MayRebuild}
+use Rattle.md_array.specs.Steps.Fill.{MayRebuild}
 use Rattle.md_array.specs.Steps.Record.{Records, super_write}
 use Rattle.md_array.specs.Worlds.{AreHonest, is_listed, kind_of, world_of}
 use Rattle.md_array.proofs.General.Indices.{at_set_same}

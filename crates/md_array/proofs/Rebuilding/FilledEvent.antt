@@ -19,8 +19,8 @@ use Rattle.md_array.proofs.Worlds.States.{same_in_sync, same_recovering}
 use Rattle.md_array.proofs.Worlds.Noted.{noted_there}
 use Rattle.md_array.specs.Consistency.{IsConsistent}
 use Rattle.md_array.specs.Events.{Happens, IsSameBesideUnsaid}
-use Rattle.md_array.specs.Steps.GiveBack.{Fills, MayRebuild}
-use Rattle.md_array.specs.Steps.Lend.{AreBack, ComesBackFromLoan, IsBesideChunk}
+use Rattle.md_array.specs.Steps.Fill.{Fills, MayRebuild}
+use Rattle.md_array.specs.Steps.Lend.{ComesBackFromLoan, IsBesideChunk}
 use Rattle.md_array.specs.Worlds.{AreHonest, header_fits, kind_of, stored_of, super_in, world_of}
 use Rattle.md_array.proofs.General.Tests.{and_same}
 use Rattle.md_array.proofs.Rebuilding.OneDevice.{IsOnlyAt, changed_only, only_does, only_left, only_world}
@@ -106,7 +106,7 @@ module _ (k : ℕ) (v : MirrorView) (requests : ℕ → Option Request) (may : M
   }
 
 -- ---- beside the data nothing changes
-module _ (old : MirrorView) (before after : List Disk) (b : AreBack old before after) (m : MemberView) (d e : Disk) (back : ComesBackFromLoan old.array m d e) (has : HasParts old.array m d.content) where
+module _ (old : MirrorView) (sound : IsConsistent old) (m : MemberView) (d e : Disk) (back : ComesBackFromLoan old.array m d e) (has : HasParts old.array m d.content) where
   bits_back : (c : ℕ) → c < old.array.marks.chunks
       → is_set (drop (512 * sector_from_super m.superblock.bitmap_offset + 256) e.content) c ≡ is_set (drop (512 * sector_from_super m.superblock.bitmap_offset + 256) d.content) c
   bits_back c low =
@@ -117,14 +117,14 @@ module _ (old : MirrorView) (before after : List Disk) (b : AreBack old before a
       is_set-same (drop (512 * start + 256) e.content) (drop (512 * start + 256) d.content) c
       (get_or-drop (512 * start + 256) e.content (c / 8) 0
       ∙ byte_of_part p d.content e.content
-      (in_area old before after b m d e back has (bitmap_area m.superblock width) start (sector_at_is (bitmap_area m.superblock width).start has.bitmap.within.from) has.bitmap.from_data p 1 (omega arith) (omega arith))
+      (in_area old sound m d e back has (bitmap_area m.superblock width) start (sector_at_is (bitmap_area m.superblock width).start has.bitmap.within.from) has.bitmap.from_data p 1 (omega arith) (omega arith))
       ∙ sym (get_or-drop (512 * start + 256) d.content (c / 8) 0))
 
   pub data_back : stored_of old.array m e.content ≡ record (stored_of old.array m d.content) { content = (stored_of old.array m e.content).content }
   data_back =
-      let block = block_back old before after b m d e back has in
-      let log = log_back old before after b m d e back has in
-      let header = header_back old before after b m d e back has in
+      let block = block_back old sound m d e back has in
+      let log = log_back old sound m d e back has in
+      let header = header_back old sound m d e back has in
       λ i. record {
         super = super_in (block i);
         content = (stored_of old.array m e.content).content;
@@ -132,6 +132,7 @@ module _ (old : MirrorView) (before after : List Disk) (b : AreBack old before a
         bits = λ c. and_same (nat_lt c old.array.marks.chunks) (is_set (drop (512 * sector_from_super m.superblock.bitmap_offset + 256) e.content) c)
             (is_set (drop (512 * sector_from_super m.superblock.bitmap_offset + 256) d.content) c) (λ low. bits_back c (is_below c old.array.marks.chunks low)) i;
         bitmap_events = number_at 8 24 (header i);
+        bitmap_cleared = number_at 8 32 (header i);
         bitmap_fits = header_fits old.array (header i);
       }
 
@@ -162,9 +163,6 @@ module _ (k : ℕ) (old new : MirrorView) (c : IsConsistent old) (f : Fills k ol
         beside = λ at n _. ap (λ (x : List ℕ). part x at n) o.1.0;
         others = λ _. o.1.0;
       })
-
-  pub fills_back : AreBack old old.disks new.disks
-  fills_back = record { consistent = c; idle = f.may.idle; back = record { as_many = f.disks.as_many; each = back_at } }
 
   only : IsOnlyAt k old.disks new.disks
   only = changed_only k (IsSameBesideUnsaid a m) old.disks new.disks f.disks
@@ -215,7 +213,7 @@ module _ (k : ℕ) (old new : MirrorView) (c : IsConsistent old) (f : Fills k ol
 
     by_filling : model.LeftByFilling (geometry_of a) w k left
     by_filling = record {
-      rest = is_stored ∙ data_back old old.disks new.disks fills_back m d e (back_at k d e m was is f.may.at) parts
+      rest = is_stored ∙ data_back old c m d e (back_at k d e m was is f.may.at) parts
           ∙ (λ i. record (sym was_stored i) { content = ap (λ (x : Stored). x.content) (sym is_stored) i });
       outside = λ s has. content_stays s (inl has);
       past = λ s past.
@@ -247,5 +245,5 @@ fill_happens k old new c f honest requests in_flight =
     (old.array, f.may.member, f.disks) in_flight
     (fill_step k old new c f honest requests in_flight d.0 e.0 d.1 e.1)
     tt (λ _. refl) (λ spoiled j apart. refl)
-    (λ failed_at spoiled b x was is. read_back old old.disks new.disks (fills_back k old new c f honest) f.may.member b x (back_at k old new c f honest k b x f.may.member was is f.may.at)
+    (λ failed_at spoiled b x was is. read_back old c f.may.member b x (back_at k old new c f honest k b x f.may.member was is f.may.at)
     (parts_of old c k b f.may.member was f.may.at) failed_at (spoiled k))

@@ -30,7 +30,7 @@ use Rattle.md_array.specs.Consistency.{IsConsistent}
 use Rattle.md_array.specs.Steps.Enrol.{Enrols, MayEnrol}
 use Rattle.md_array.specs.Steps.EnrolEvents.{Prepares, first_writes, prepared, with_writes}
 use Rattle.md_array.specs.Events.{IsBesideArea, IsBesideMarks, IsChangedAlone, IsSameBesideMarks}
-use Rattle.md_array.specs.Steps.GiveBack.{MayRebuild}
+use Rattle.md_array.specs.Steps.Fill.{MayRebuild}
 use Rattle.md_array.proofs.General.Indices.{at_set_same, got_other}
 use Rattle.md_array.proofs.Rebuilding.EnrolledArray as array
 use Rattle.md_array.proofs.Rebuilding.MemberStored as stored

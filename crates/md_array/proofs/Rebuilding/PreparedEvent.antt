@@ -71,13 +71,14 @@ module _ (a : ArrayView) (m : MemberView) (old new : List ℕ) (has : HasParts a
         same_if (nat_lt s a.chunks.size) (part new (512 * (m.superblock.data_offset + s)) 512) (part old (512 * (m.superblock.data_offset + s)) 512) []
         (λ low. sector_kept s (is_below s a.chunks.size low)) i
 
-    pub marks_alone : stored_of a m new ≡ record (stored_of a m old) { bits = (stored_of a m new).bits; bitmap_events = (stored_of a m new).bitmap_events; bitmap_fits = (stored_of a m new).bitmap_fits; listed = (stored_of a m new).listed }
+    pub marks_alone : stored_of a m new ≡ record (stored_of a m old) { bits = (stored_of a m new).bits; bitmap_events = (stored_of a m new).bitmap_events; bitmap_cleared = (stored_of a m new).bitmap_cleared; bitmap_fits = (stored_of a m new).bitmap_fits; listed = (stored_of a m new).listed }
     marks_alone = λ i. record {
       super = super_in (block_kept i);
       content = content_kept i;
       listed = (stored_of a m new).listed;
       bits = (stored_of a m new).bits;
       bitmap_events = (stored_of a m new).bitmap_events;
+      bitmap_cleared = (stored_of a m new).bitmap_cleared;
       bitmap_fits = (stored_of a m new).bitmap_fits;
     }
 
@@ -145,6 +146,7 @@ module _ (k : ℕ) (old new : MirrorView) (c : IsConsistent old) (f : Prepares k
                 ∙ (λ i. record (sym was_stored i) {
                   bits = ap (λ (x : Stored). x.bits) (sym is_stored) i;
                   bitmap_events = ap (λ (x : Stored). x.bitmap_events) (sym is_stored) i;
+                  bitmap_cleared = ap (λ (x : Stored). x.bitmap_cleared) (sym is_stored) i;
                   bitmap_fits = ap (λ (x : Stored). x.bitmap_fits) (sym is_stored) i;
                   listed = ap (λ (x : Stored). x.listed) (sym is_stored) i;
                 });

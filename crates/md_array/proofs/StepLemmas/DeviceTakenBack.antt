@@ -124,6 +124,13 @@ module _ (content : List ℕ) (offset sure : ℕ) (info : MemberInfo) (m : Membe
       (subst (λ (x : BitmapHeader). IsHeader (header_on content (sector_from_super m.superblock.bitmap_offset)) x) (sym same) (subst (λ i. IsHeader (header_on content i) m.header) (sym at) there))
       (acc.uuid ∙ uuid) (acc.size ∙ size) acc.state acc.events
 
+  -- its events_cleared is the one that was read
+  pub cleared_there : (a : ArrayView) (h : BitmapHeader) → info.header ≡ Some h → (stored_of a m content).bitmap_cleared ≡ h.events_cleared
+  cleared_there a h has =
+      ap (λ (own : Superblock). number_at 8 32 (header_on content (sector_from_super own.bitmap_offset))) taken.superblock
+      ∙ sym (header_there content kept m.header start has_read.bitmap.header starts).events_cleared
+      ∙ ap (λ (x : BitmapHeader). x.events_cleared) (sym (same_Some h m.header (sym has ∙ taken.header)))
+
   -- ---- and once its superblock is written
   module _ (a : ArrayView) (r : IsReadable (merged a.shared m.superblock)) (now : List ℕ) (parts : HasParts a m content) (outside : SameOutside (512 * 8) 4096 content now) (block : block_on now ≡ (super_write a m).bytes) where
     listed_now : (sector : ℕ) → is_listed m.superblock now sector ≡ is_listed m.superblock content sector

@@ -72,47 +72,16 @@ same_super m d e same has = record {
   known = λ s. subst (λ (c : List ℕ). is_listed_next m.superblock c s ≡ true → IsBad m.bad s) (sym same) (has.known s);
 }
 
-module _ (old : MirrorView) (before after : List Disk) (b : AreBack old before after) where
+module _ (old : MirrorView) (sound : IsConsistent old) where
   abbrev a : ArrayView
   a = old.array
-
-  abbrev was_there : MirrorView
-  was_there = record old { disks = before }
-
-  abbrev now : MirrorView
-  now = record old { disks = after }
-
-  was : (k : ℕ) (e : Disk) → slice_get after k ≡ Some e → (d : Disk) × (slice_get before k ≡ Some d)
-  was k e at =
-      let low = slice_get_within after k e at in
-      let many = b.back.as_many in
-      got_within before k (omega arith)
-
-  pub back_is_consistent : IsConsistent now
-  back_is_consistent =
-      let c = b.consistent in
-      record {
-        fits = record {
-          as_many = b.back.as_many ∙ c.fits.as_many;
-          each = λ k e m at_disk at_member.
-              let d = was k e at_disk in
-              fits_like a a m m d.0 e refl (like_itself m) (b.back.each k d.0 e m d.1 at_disk at_member).size (c.fits.each k d.0 m d.1 at_member);
-        };
-        roles = c.roles;
-        chunks = c.chunks;
-        inside = c.inside;
-        supers = λ running k e m at_disk at_member in_sync honest.
-            let d = was k e at_disk in
-            let back = b.back.each k d.0 e m d.1 at_disk at_member in
-            same_super m d.0 e (back.others (unrebuilt m.state in_sync)) (c.supers running k d.0 m d.1 at_member in_sync (sym back.stays.honest ∙ honest));
-      }
 
   module _ (m : MemberView) (d e : Disk) (back : ComesBackFromLoan a m d e) (has : HasParts a m d.content) where
     -- bytes that lie beside the data are as they were
     pub beside : (at n : ℕ) → (at + n ≤ 512 * m.superblock.data_offset) ⊎ (512 * (m.superblock.data_offset + a.chunks.size) ≤ at) → part e.content at n ≡ part d.content at n
     beside at n out = back.beside at n (λ c low missing.
         beside_data a.chunks m.superblock.data_offset at n c
-        (chunk_starts_inside a.chunks.size a.chunks.sectors c b.consistent.chunks.wide (subst (λ (x : ℕ). c < x) b.consistent.chunks.count low)) out)
+        (chunk_starts_inside a.chunks.size a.chunks.sectors c sound.chunks.wide (subst (λ (x : ℕ). c < x) sound.chunks.count low)) out)
 
     holds : a.chunks.size ≤ m.superblock.data_size
     holds = subst (λ (x : ℕ). x ≤ m.superblock.data_size) has.size has.placed.data_holds
@@ -143,7 +112,42 @@ module _ (old : MirrorView) (before after : List Disk) (b : AreBack old before a
     read_back failed_at is_spoiled = read_as_kept.stays a m failed_at is_spoiled d.content e.content block_back log_back
         (λ width. ap (λ (h : List ℕ). number_at 4 52 h / 512) header_back ∙ width)
 
-  pub back_is_read : (failed_at : ℕ) (spoiled : ℕ → Bool) → AreReadAsKept was_there failed_at spoiled → AreReadAsKept now failed_at spoiled
-  back_is_read failed_at spoiled are k e m at_disk at_member =
-      let d = was k e at_disk in
-      read_back m d.0 e (b.back.each k d.0 e m d.1 at_disk at_member) (parts_of was_there b.consistent k d.0 m d.1 at_member) failed_at (spoiled k) (are k d.0 m d.1 at_member)
+  module _ (new : MirrorView) (b : AreBack old new) where
+    was : (k : ℕ) (e : Disk) → slice_get new.disks k ≡ Some e → (d : Disk) × (slice_get old.disks k ≡ Some d)
+    was k e at =
+        let low = slice_get_within new.disks k e at in
+        let many = b.as_many in
+        got_within old.disks k (omega arith)
+
+    -- with the array as it was
+    abbrev now : MirrorView
+    now = record old { disks = new.disks }
+
+    now_is : now ≡ new
+    now_is = ap (λ (x : ArrayView). record new { array = x }) (sym b.array)
+
+    now_is_consistent : IsConsistent now
+    now_is_consistent = record {
+      fits = record {
+        as_many = b.as_many ∙ sound.fits.as_many;
+        each = λ k e m at_disk at_member.
+            let d = was k e at_disk in
+            fits_like a a m m d.0 e refl (like_itself m) (b.each k d.0 e m d.1 at_disk at_member).size (sound.fits.each k d.0 m d.1 at_member);
+      };
+      roles = sound.roles;
+      chunks = sound.chunks;
+      inside = sound.inside;
+      supers = λ running k e m at_disk at_member in_sync honest.
+          let d = was k e at_disk in
+          let back = b.each k d.0 e m d.1 at_disk at_member in
+          same_super m d.0 e (back.others (unrebuilt m.state in_sync)) (sound.supers running k d.0 m d.1 at_member in_sync (sym back.stays.honest ∙ honest));
+    }
+
+    pub back_is_consistent : IsConsistent new
+    back_is_consistent = subst IsConsistent now_is now_is_consistent
+
+    pub back_is_read : (failed_at : ℕ) (spoiled : ℕ → Bool) → AreReadAsKept old failed_at spoiled → AreReadAsKept new failed_at spoiled
+    back_is_read failed_at spoiled are = subst (λ (v : MirrorView). AreReadAsKept v failed_at spoiled) now_is
+        (λ k e m at_disk at_member.
+        let d = was k e at_disk in
+        read_back m d.0 e (b.each k d.0 e m d.1 at_disk at_member) (parts_of old sound k d.0 m d.1 at_member) failed_at (spoiled k) (are k d.0 m d.1 at_member))

@@ -17,7 +17,7 @@ use Rattle.md_array.specs.Consistency.{IsConsistent}
 use Rattle.md_array.specs.Events.{Happens}
 use Rattle.md_array.specs.Worlds.{stored_of, world_of, world_on}
 use Rattle.md_array.proofs.StepLemmas.OneMember.{stored_there}
-use Rattle.md_array.proofs.Worlds.PartsApart.{bits_elsewhere, block_beside_marks, events_elsewhere, fits_elsewhere, log_beside_marks, marks_alone, parts_of}
+use Rattle.md_array.proofs.Worlds.PartsApart.{bits_elsewhere, block_beside_marks, cleared_elsewhere, events_elsewhere, fits_elsewhere, log_beside_marks, marks_alone, parts_of}
 use Rattle.md_array.proofs.Worlds.ReadAsKept.{own_stays}
 use Rattle.md_array.proofs.Worlds.Failed.{IsThere, does_failing, left, member_fails, there_is}
 use Rattle.md_array.proofs.Worlds.InSync.{in_sync_there}
@@ -58,13 +58,15 @@ module _ (k block : ℕ) (old new : MirrorView) (c : IsConsistent old) (f : Fail
       let bits_was = ap (λ (s : Stored). s.bits) was in
       let bits_is = ap (λ (s : Stored). s.bits) is in
       let events_is = ap (λ (s : Stored). s.bitmap_events) is in
+      let cleared_is = ap (λ (s : Stored). s.bitmap_cleared) is in
       let fits_is = ap (λ (s : Stored). s.bitmap_fits) is in
       record {
         rest = is ∙ marks_alone a m t.old.content t.new.content has block here outside
-            ∙ (λ i. record (sym was i) { bits = sym bits_is i; bitmap_events = sym events_is i; bitmap_fits = sym fits_is i });
+            ∙ (λ i. record (sym was i) { bits = sym bits_is i; bitmap_events = sym events_is i; bitmap_cleared = sym cleared_is i; bitmap_fits = sym fits_is i });
         outside = λ n other. ap (λ (b : ℕ → Bool). b n) bits_is ∙ bits_elsewhere a m t.old.content t.new.content has block here outside n other ∙ sym (ap (λ (b : ℕ → Bool). b n) bits_was);
         header = λ other. (
           events_is ∙ events_elsewhere a m t.old.content t.new.content has block here outside other ∙ sym (ap (λ (s : Stored). s.bitmap_events) was),
+          cleared_is ∙ cleared_elsewhere a m t.old.content t.new.content has block here outside other ∙ sym (ap (λ (s : Stored). s.bitmap_cleared) was),
           fits_is ∙ fits_elsewhere a m t.old.content t.new.content has block here outside other ∙ sym (ap (λ (s : Stored). s.bitmap_fits) was),
         );
       }

@@ -8,9 +8,10 @@ use Rattle.std.proofs.lemmas.Grind.{div_ceil_times}
 use Rattle.std.proofs.lemmas.Nat.{and_or_self, div_below}
 use Rattle.std.proofs.Math.Bool.{and-false}
 use Rattle.std.specs.Int.{div_ceil}
+use Rattle.std.specs.List.{range_with_len}
 use Rattle.md_super.specs.declared.superblock.Superblock.{Superblock}
 use Rattle.md_super.specs.Merge.{merged}
-use Rattle.md_model.proofs.Cases.{is_below}
+use Rattle.md_model.proofs.Cases.{by_test, is_below}
 use Rattle.md_model.specs.Counts as counts
 use Rattle.md_model.specs.Counts.{IsFull, role_at_rise}
 use Rattle.md_model.specs.Devices.{Super, Stored, is_accepted, offset_of}
@@ -35,9 +36,10 @@ use Rattle.md_members.specs.declared.info.MemberInfo.{MemberInfo}
 use Rattle.md_members.specs.Members as members
 use Rattle.md_assembly.specs.declared.state.MemberState.{MemberState}
 use Rattle.md_assembly.specs.declared.state.MemberState.TheVariants.{InSync, Recovering, Stale, Spare, Faulty}
-use Rattle.md_assembly.specs.States.{has_recovery_offset, is_active, role_in, takes_role}
+use Rattle.md_assembly.specs.States.{has_recovery_offset, is_active, is_stale, role_in, state_of, takes_role}
 use Rattle.md_kept_members.specs.OwnFields.{kept_superblock}
 use Rattle.md_kept_members.specs.Members.{made_due}
+use Rattle.md_kept_members.specs.Membership.FormerMember.{came_since}
 use Rattle.md_kept_members.specs.TakingBack.{IsKeptTakenBack, own_role}
 use Rattle.md_kept_members.specs.View.{MemberView}
 use Rattle.md_faults.specs.declared.re_add_fault.ReAddFault.{ReAddFault}
@@ -49,9 +51,9 @@ use Rattle.md_array.specs.ReadAsKept.{AreReadAsKept}
 use Rattle.md_array.specs.Steps.Record.{super_write}
 use Rattle.md_array.specs.Worlds.{AreHonest, block_on, kind_of, stored_of, super_in, super_of, world_of, lists_of}
 use Rattle.md_array.proofs.General.Appended.{got_last}
-use Rattle.md_array.proofs.General.Indices.{any_at}
-use Rattle.md_array.proofs.StepLemmas.DeviceTakenBack.{known_now, read_now, stored_now, accepted_taken, bits_there, listed_is_bad}
-use Rattle.md_array.proofs.Worlds.States.{same_active}
+use Rattle.md_array.proofs.General.Indices.{any_at, got_in_range}
+use Rattle.md_array.proofs.StepLemmas.DeviceTakenBack.{cleared_there, known_now, read_now, stored_now, accepted_taken, bits_there, listed_is_bad}
+use Rattle.md_array.proofs.Worlds.States.{same_active, same_state}
 use Rattle.md_array.proofs.StepLemmas.ReAdd.{after, count_kept, fits_taken, is_after, number_there, room, short_device, size_kept, small, taken_back_is_consistent, width_kept}
 use Rattle.md_array.proofs.StepLemmas.WrittenLast.{honest_last, written_last}
 use Rattle.md_array.proofs.Worlds.Joined.{degraded_joined, newcomer, read_joined, recovers_alone, role_joined, world_joined}
@@ -66,6 +68,13 @@ takes_own (Recovering role) e = (role, eq-eqb role role refl)
 takes_own (Stale role) e = absurd cc
 takes_own Spare e = absurd cc
 takes_own Faulty e = absurd cc
+
+stale_kind : (s : MemberState) → model.has_missed_writes (kind_of s) ≡ is_stale s
+stale_kind (InSync role) = refl
+stale_kind (Recovering role) = refl
+stale_kind (Stale role) = refl
+stale_kind Spare = refl
+stale_kind Faulty = refl
 
 module _ (k : ℕ) (device : Disk) (old new : MirrorView) (c : IsConsistent old) (r : ReAdds k device old new) (honest : device.honest ≡ true) where
   abbrev a : ArrayView
@@ -205,9 +214,23 @@ module _ (k : ℕ) (device : Disk) (old new : MirrorView) (c : IsConsistent old)
         its_bitmap h = accepted_taken device.content offset sure info m taken its_read b h.header h.has_header h.accepted was
             (r.recorded.takes.may.fits.of_array.set_uuid) (r.recorded.takes.may.fits.of_array.size)
 
-    passes : ((offset ≡ g.size) × membership.HasNoOtherMarks g world (stored_of b m device.content)) ⊎ (offset ≡ 0)
+    -- nor were marks cleared on one of the two alone, as far as that is told
+    unused : HasNoOtherMarks a info → membership.HasNoOtherUse g world own (stored_of b m device.content)
+    unused h = record {
+      marks = no_others h;
+      cleared =
+          let same = cleared_there device.content offset sure info m taken its_read b h.header h.has_header in
+          let low = h.cleared.cleared in
+          omega arith;
+      no_copy = ap model.has_missed_writes (sym (same_state a info.superblock)) ∙ stale_kind (state_of a.shared info.superblock) ∙ h.cleared.no_copy;
+      no_newcomer = λ d low. by_test (came_since (role_in a.shared d) (role_in info.superblock d))
+          (λ came. absurd (true≢false (sym (any_at (λ e. came_since (role_in a.shared e) (role_in info.superblock e)) (range_with_len 0 (length a.shared.roles)) d d (got_in_range (length a.shared.roles) d low) came) ∙ h.cleared.no_newcomer)))
+          (λ none. none);
+    }
+
+    passes : ((offset ≡ g.size) × membership.HasNoOtherUse g world own (stored_of b m device.content)) ⊎ (offset ≡ 0)
     passes = ⊎_elim
-        (λ (x : HasNoOtherMarks a info × (offset ≡ a.chunks.size)). inl (x.1, no_others x.0))
+        (λ (x : HasNoOtherMarks a info × (offset ≡ a.chunks.size)). inl (x.1, unused x.0))
         (λ (x : (HasNoOtherMarks a info → ⊥) × (offset ≡ 0)). inr x.1)
         r.recorded.takes.offset_is
 
@@ -247,10 +270,10 @@ module _ (k : ℕ) (device : Disk) (old new : MirrorView) (c : IsConsistent old)
     its_super : super_of (merged b.shared m.superblock) ≡ membership.joined_super (counts.risen g w full) own.number (own.role own.number) true sure
     its_super = λ i. record { number = its_number i; events = a.shared.events + 1; role = λ d. its_roles d i; recovering = bit i; offset = its_sure i }
 
-    device_taken : membership.IsTakenBack g (counts.risen g w full) own m.offset (stored_of b m device.content) (stored_of b m now.content)
+    device_taken : membership.IsTakenBack g w (counts.risen g w full) own m.offset (stored_of b m device.content) (stored_of b m now.content)
     device_taken = record {
       was = was;
-      passes = subst (λ (o : ℕ). ((o ≡ g.size) × membership.HasNoOtherMarks g w (stored_of b m device.content)) ⊎ (o ≡ 0)) (sym taken.offset_is) (passes requests);
+      passes = subst (λ (o : ℕ). ((o ≡ g.size) × membership.HasNoOtherUse g w own (stored_of b m device.content)) ⊎ (o ≡ 0)) (sym taken.offset_is) (passes requests);
       sure_offset = sure;
       within = let is = r.recorded.takes.sure_is.is in let same = taken.offset_is in omega arith;
       unmarked = none_marked;

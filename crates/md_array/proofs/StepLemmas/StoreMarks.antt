@@ -40,7 +40,7 @@ use Rattle.md_array.specs.Worlds.{block_on, header_on, kind_of, stored_of, super
 use Rattle.md_array.proofs.General.Honesty.{tried_honest}
 use Rattle.md_array.proofs.Worlds.Listed.{still_next, still_known}
 use Rattle.md_array.proofs.StepLemmas.OneMember.{ChangesMember, changed_in_flight, changed_is_consistent, changed_is_pending, changed_world, member_there, stored_there}
-use Rattle.md_array.proofs.Worlds.PartsApart.{HasParts, bits_elsewhere, block_beside_marks, events_elsewhere, fits_elsewhere, header_elsewhere, log_beside_marks, marks_alone, parts_of}
+use Rattle.md_array.proofs.Worlds.PartsApart.{HasParts, bits_elsewhere, block_beside_marks, cleared_elsewhere, events_elsewhere, fits_elsewhere, header_elsewhere, log_beside_marks, marks_alone, parts_of}
 use Rattle.md_array.proofs.Worlds.ReadAsKept.{changed_read, stays}
 use Rattle.md_array.proofs.Worlds.Device.{fits_on}
 use Rattle.md_array.proofs.Worlds.Member.{header_fits_there}
@@ -207,6 +207,11 @@ module _ (k block : ℕ) (old new : MirrorView) (is : IsConsistent old) (low : b
         (λ first. sym (header_there first).events ∙ r.may.write.header_is.events)
         (events_elsewhere a m d.content e.content (has d e before after) block low_of_member (outside d e before after))
 
+    cleared_marked : (stored_of a m e.content).bitmap_cleared ≡ cond (eqb block 0) w.cleared_at was.bitmap_cleared
+    cleared_marked = by_equal block 0 w.cleared_at was.bitmap_cleared (stored_of a m e.content).bitmap_cleared
+        (λ first. sym (header_there first).events_cleared ∙ r.may.write.header_is.events_cleared)
+        (cleared_elsewhere a m d.content e.content (has d e before after) block low_of_member (outside d e before after))
+
     fits_marked : (stored_of a m e.content).bitmap_fits ≡ cond (eqb block 0) true was.bitmap_fits
     fits_marked = by_equal block 0 true was.bitmap_fits (stored_of a m e.content).bitmap_fits
         (λ first. header_fits_there a h (header_on e.content start) (header_there first) r.may.write.header_is.uuid r.may.write.header_is.sync_size r.may.write.header_is.state)
@@ -216,10 +221,11 @@ module _ (k block : ℕ) (old new : MirrorView) (is : IsConsistent old) (low : b
     stored_marked =
         let at = sym (stored_there old.disks a k m d r.may.in_sync.member before) in
         marks_alone a m d.content e.content (has d e before after) block low_of_member (outside d e before after)
-        ∙ (λ i. record was { bits = λ c. bits_marked c i; bitmap_events = events_marked i; bitmap_fits = fits_marked i })
+        ∙ (λ i. record was { bits = λ c. bits_marked c i; bitmap_events = events_marked i; bitmap_cleared = cleared_marked i; bitmap_fits = fits_marked i })
         ∙ (λ i. record (at i) {
           bits = bits_after w block (at i).bits;
           bitmap_events = cond (eqb block 0) w.events (at i).bitmap_events;
+          bitmap_cleared = cond (eqb block 0) w.cleared_at (at i).bitmap_cleared;
           bitmap_fits = cond (eqb block 0) true (at i).bitmap_fits;
         })
 

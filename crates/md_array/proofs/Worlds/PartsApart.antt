@@ -142,6 +142,7 @@ module _ (a : ArrayView) (m : MemberView) (old new : List ℕ) (has : HasParts a
           listed = is.listed;
           bits = bits_kept super_area 8 refl same (apart_either_way super_area bitmap has.bitmap.from_super) i;
           bitmap_events = number_at 8 24 (header i);
+          bitmap_cleared = number_at 8 32 (header i);
           bitmap_fits = header_fits a (header i);
         }
 
@@ -161,13 +162,14 @@ module _ (a : ArrayView) (m : MemberView) (old new : List ℕ) (has : HasParts a
     log_beside_bitmap = log_kept bitmap first bitmap_first same has.bitmap.from_log
 
     -- no more than the bitmap changes
-    pub bitmap_alone : is ≡ record was { bits = is.bits; bitmap_events = is.bitmap_events; bitmap_fits = is.bitmap_fits }
+    pub bitmap_alone : is ≡ record was { bits = is.bits; bitmap_events = is.bitmap_events; bitmap_cleared = is.bitmap_cleared; bitmap_fits = is.bitmap_fits }
     bitmap_alone = λ i. record {
       super = super_in (block_beside_bitmap i);
       content = content_kept bitmap first bitmap_first same has.bitmap.from_data i;
       listed = listed_kept bitmap first bitmap_first same has.bitmap.from_log has.bitmap.from_super i;
       bits = is.bits;
       bitmap_events = is.bitmap_events;
+      bitmap_cleared = is.bitmap_cleared;
       bitmap_fits = is.bitmap_fits;
     }
 
@@ -201,6 +203,7 @@ module _ (a : ArrayView) (m : MemberView) (old new : List ℕ) (has : HasParts a
           listed = is.listed;
           bits = bits_kept (log_area m.superblock) log_start log_first same bitmap_from_log i;
           bitmap_events = number_at 8 24 (header i);
+          bitmap_cleared = number_at 8 32 (header i);
           bitmap_fits = header_fits a (header i);
         }
 
@@ -220,13 +223,14 @@ module _ (a : ArrayView) (m : MemberView) (old new : List ℕ) (has : HasParts a
     log_beside_marks = log_kept sector (first + block) refl same (λ there. apart_from_part (log_area m.superblock) bitmap sector sector_lies (has.bitmap.from_log there))
 
     -- no more than the bitmap changes
-    pub marks_alone : is ≡ record was { bits = is.bits; bitmap_events = is.bitmap_events; bitmap_fits = is.bitmap_fits }
+    pub marks_alone : is ≡ record was { bits = is.bits; bitmap_events = is.bitmap_events; bitmap_cleared = is.bitmap_cleared; bitmap_fits = is.bitmap_fits }
     marks_alone = λ i. record {
       super = super_in (block_beside_marks i);
       content = content_kept sector (first + block) refl same (apart_from_part (data_area m.superblock) bitmap sector sector_lies has.bitmap.from_data) i;
       listed = listed_kept sector (first + block) refl same (λ there. apart_from_part (log_area m.superblock) bitmap sector sector_lies (has.bitmap.from_log there)) (apart_from_part super_area bitmap sector sector_lies has.bitmap.from_super) i;
       bits = is.bits;
       bitmap_events = is.bitmap_events;
+      bitmap_cleared = is.bitmap_cleared;
       bitmap_fits = is.bitmap_fits;
     }
 
@@ -242,6 +246,9 @@ module _ (a : ArrayView) (m : MemberView) (old new : List ℕ) (has : HasParts a
 
     pub events_elsewhere : block ≢ 0 → is.bitmap_events ≡ was.bitmap_events
     events_elsewhere other = ap (number_at 8 24) (header_elsewhere other)
+
+    pub cleared_elsewhere : block ≢ 0 → is.bitmap_cleared ≡ was.bitmap_cleared
+    cleared_elsewhere other = ap (number_at 8 32) (header_elsewhere other)
 
     pub fits_elsewhere : block ≢ 0 → is.bitmap_fits ≡ was.bitmap_fits
     fits_elsewhere other = ap (header_fits a) (header_elsewhere other)
@@ -283,6 +290,7 @@ module _ (a : ArrayView) (m : MemberView) (old new : List ℕ) (has : HasParts a
           listed = listed_kept sectors at refl same from_log (apart_from_part super_area (data_area m.superblock) sectors sectors_lie has.placed.data_apart) i;
           bits = bits_kept sectors at refl same from_bitmap i;
           bitmap_events = number_at 8 24 (header i);
+          bitmap_cleared = number_at 8 32 (header i);
           bitmap_fits = header_fits a (header i);
         }
 

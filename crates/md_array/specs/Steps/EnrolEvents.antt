@@ -15,7 +15,7 @@ use Rattle.md_members.specs.DeviceWrites.Bitmaps.{bitmap_writes}
 use Rattle.md_members.specs.DeviceWrites.Writes.{Write, after}
 use Rattle.md_array.specs.Steps.Enrol.{Enrols, FailsToEnrol, HoldsContent}
 use Rattle.md_array.specs.Events.{IsChangedAlone, IsSameBesideMarks}
-use Rattle.md_array.specs.Steps.GiveBack.{MayRebuild}
+use Rattle.md_array.specs.Steps.Fill.{MayRebuild}
 use Rattle.md_array.specs.Worlds.{lists_of}
 
 -- The bitmap and the log of member k are stored, or a write of theirs failed or was cut short. Its superblock and its data are as they

@@ -1,20 +1,13 @@
--- The devices move out, for a rebuild or a check, and come back (this project's own).
-use Rattle.std.specs.Prelude.{◌≡◌, ℕ, ◌+◌, ◌-◌, ◌*◌, ◌<◌, ◌≤◌, ◌⊎◌, true, false, List, [], length, min, slice_get, Some}
+-- The devices are lent, for a rebuild or a check, and come back (this project's own).
+use Rattle.std.specs.Prelude.{◌≡◌, ℕ, ◌+◌, ◌-◌, ◌*◌, ◌<◌, ◌≤◌, ◌⊎◌, true, false, length, min, slice_get, Some}
 use Rattle.md_device.specs.Splice.{part}
 use Rattle.md_bitmap.specs.declared.chunks.Chunks.{Chunks}
 use Rattle.md_kept_members.specs.TakingBack.{member_says_of}
 use Rattle.md_kept_members.specs.View.{MemberView}
 use Rattle.md_state.specs.DeviceChanges.{StaysHonest}
-use Rattle.md_state.specs.Steps.MakeClean.{IsIdle}
 use Rattle.md_state.specs.Members.{IsMember}
 use Rattle.md_state.specs.Missing.{is_missing, is_rebuilt}
 use Rattle.md_state.specs.View.{ArrayView, Disk, MirrorView}
-use Rattle.md_array.specs.Consistency.{IsConsistent}
-
--- The devices are out: what is kept in memory is as it was. A consistent mirror has as many devices as members, and some, so that
--- this one is none.
-abbrev pub lent : MirrorView → MirrorView
-lent v = record v { disks = [] }
 
 -- n bytes of a device, on which the array's sectors begin at this offset, lie beside the chunk
 abbrev pub IsBesideChunk : Chunks → ℕ → ℕ → ℕ → ℕ → Type 0
@@ -38,13 +31,9 @@ pub record ComesBackFromLoan (a : ArrayView) (m : MemberView) (d e : Disk) : Typ
   pub beside : (at n : ℕ) → IsBesideMissing a m at n → part e.content at n ≡ part d.content at n
   pub others : is_rebuilt m.state ≡ false → e.content ≡ d.content
 
--- as many, in their order
-pub record ComeBack (a : ArrayView) (before after : List Disk) : Type 0 where
-  pub as_many : length after ≡ length before
-  pub each : (k : ℕ) (d e : Disk) (m : MemberView) → slice_get before k ≡ Some d → slice_get after k ≡ Some e → IsMember a k m → ComesBackFromLoan a m d e
-
--- The devices were lent by a consistent mirror in which nothing was in flight, and are back.
-pub record AreBack (old : MirrorView) (before after : List Disk) : Type 0 where
-  pub consistent : IsConsistent (record old { disks = before })
-  pub idle : IsIdle old.array
-  pub back : ComeBack old.array before after
+-- The devices of a mirror are back, as many and each in its place: what stands there is compared with the very device that was lent.
+pub record AreBack (old new : MirrorView) : Type 0 where
+  pub array : new.array ≡ old.array
+  pub as_many : length new.disks ≡ length old.disks
+  pub each : (k : ℕ) (d e : Disk) (m : MemberView) → slice_get old.disks k ≡ Some d → slice_get new.disks k ≡ Some e → IsMember old.array k m
+      → ComesBackFromLoan old.array m d e

@@ -64,4 +64,4 @@ IfLogFailed P _ = ⊤
 
 abbrev pub StoreLogHappens : ℕ → MirrorView → MirrorView → {T : Type 0} → Result T StoreFault → Type 0
 StoreLogHappens k old new result =
-    HasNoShift k old → MatchResult result (λ _. Happens old (Event.StoreLog k (listed_on new k)) new) (IfLogFailed (Happens old (Event.WriteFails k MemberPart.Log) new))
+    MatchResult result (λ _. HasNoShift k old → Happens old (Event.StoreLog k (listed_on new k)) new) (IfLogFailed (Happens old (Event.WriteFails k MemberPart.Log) new))

@@ -104,7 +104,7 @@ module _ (t : Moment) (at : IsSoundAt t) (left : List Disk) (l : IsLeftByLoneMar
   abbrev torn : ℕ → Stored
   torn = read_in a disks
 
-  alone : torn k ≡ record (stored k) { bits = (torn k).bits; bitmap_events = (torn k).bitmap_events; bitmap_fits = (torn k).bitmap_fits }
+  alone : torn k ≡ record (stored k) { bits = (torn k).bits; bitmap_events = (torn k).bitmap_events; bitmap_cleared = (torn k).bitmap_cleared; bitmap_fits = (torn k).bitmap_fits }
   alone =
       let in_list = slice_get_within a.members k m is_member in
       let as_many = at.sound.fits.as_many in
@@ -115,7 +115,7 @@ module _ (t : Moment) (at : IsSoundAt t) (left : List Disk) (l : IsLeftByLoneMar
       let is = stored_there disks a k m e.0 is_member e.1 in
       is
       ∙ marks_alone a m d.0.content e.0.content (has_parts d.0 d.1) l.block (low d.0 d.1) (outside d.0 e.0 d.1 e.1)
-      ∙ (λ i. record (sym was i) { bits = (sym is i).bits; bitmap_events = (sym is i).bitmap_events; bitmap_fits = (sym is i).bitmap_fits })
+      ∙ (λ i. record (sym was i) { bits = (sym is i).bits; bitmap_events = (sym is i).bitmap_events; bitmap_cleared = (sym is i).bitmap_cleared; bitmap_fits = (sym is i).bitmap_fits })
 
   -- what this says of a device, k among them
   of_each : {A : Type 0} (of : Stored → A) → of (torn k) ≡ of (stored k) → (j : ℕ) → of (torn j) ≡ of (stored j)

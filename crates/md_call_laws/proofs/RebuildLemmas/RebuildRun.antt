@@ -68,7 +68,7 @@ rests_run_with (e ∷ es) t mid last a b r s =
     let x = subst (λ (m : Moment). MirrorRunWith m a (e ∷ es) last b) r.is s in
     let becomes = subst (λ g. Becomes g e (world_of t.mirror t.requests) a x.2) (geometry_rests t.mirror mid.mirror r.rests)
     (subst (λ (w : World). Becomes (geometry_of mid.mirror.array) e w a x.2) (world_rests t.mirror mid.mirror r.rests t.requests) x.4) in
-    let rest = subst (λ (w : World). MirrorRunWith (record (then_as t e x.0 x.1) { spoiled = spoiled_after e w t.spoiled; log_unknown = log_unknown_after e w t.log_unknown }) x.2 es last b)
+    let rest = subst (λ (w : World). MirrorRunWith (record (then_as t e x.0 x.1) { spoiled = spoiled_after e w t.spoiled; offset_unknown = spoiled_after e w t.offset_unknown; log_unknown = log_unknown_after e w t.log_unknown }) x.2 es last b)
     (world_rests t.mirror mid.mirror r.rests t.requests) x.5 in
     (x.0, x.1, x.2, record { mid = x.3.mid; rests = rests_then t.mirror mid.mirror x.3.mid r.rests x.3.rests; does = x.3.does }, becomes, rest)
 

@@ -12,7 +12,7 @@ use Rattle.md_state.specs.View.{MirrorView}
 use Rattle.md_array.specs.Steps.Admit.{Admits, admit_event}
 use Rattle.md_array.specs.Steps.Checkpoint.{Checkpoints, checkpoint_event}
 use Rattle.md_array.specs.Events.{listed_on}
-use Rattle.md_array.specs.Steps.GiveBack.{Fills}
+use Rattle.md_array.specs.Steps.Fill.{Fills}
 use Rattle.md_array.specs.InTurn.{AllLeftWhole, AllOf, InTurn, LeftWhole, Requests}
 use Rattle.md_array.proofs.StepLemmas.Turns.{all_on, all_such}
 use Rattle.md_laws.specs.ReadInTurn.{IsNoFailedRecord}
@@ -50,7 +50,6 @@ whole_of (e ∷ es) previous old before Then turn all = (one e all.0, whole_of e
     one (Event.Enrol k role listed) of = absurd of
     one (Event.Checkpoint k offset listed) of = absurd of
     one (Event.StoreLog k listed) of = absurd of
-    one (Event.WriteFails k MemberPart.Log) of = absurd of
     one e of = tt
 
 pub unfailing_records : (es : List Event) → AllOf IsStoring es → AllOf IsNoFailure es → AllOf IsNoFailedRecord es

@@ -15,14 +15,13 @@ use Rattle.md_kept_members.specs.View.{MemberView}
 use Rattle.md_pass.specs.Beside.{KeepsBeside, has_chunk}
 use Rattle.md_pass.specs.Sources.{copy_of}
 use Rattle.md_collect.specs.Workers.Queues.{AreOnlyRead, OnlyRead}
-use Rattle.md_state.specs.Steps.MakeClean.{IsIdle}
 use Rattle.md_state.specs.Members.{IsMember}
 use Rattle.md_state.specs.Missing as state
 use Rattle.md_state.specs.Missing.{is_rebuilt}
 use Rattle.md_state.specs.View.{ArrayView, Disk, MirrorView, disk_of, of_disks}
 use Rattle.md_state.proofs.Stays.{stays_grown}
 use Rattle.md_array.specs.Consistency.{IsConsistent}
-use Rattle.md_array.specs.Steps.Lend.{AreBack, ComesBackFromLoan, lent}
+use Rattle.md_array.specs.Steps.Lend.{AreBack, ComesBackFromLoan}
 use Rattle.md_copy.specs.Filling.{IsFilling}
 use Rattle.md_copy.specs.RebuildSources.{IsPlanOf}
 use Rattle.md_copy.proofs.Fills.Carried.{others_read, seen, target_kept}
@@ -88,21 +87,18 @@ module _ {D : Type 0} (g : Ghosts D) (v : MirrorView) (sound : IsConsistent v) (
           target_kept g olds news target within as_many (copy_of plan.slots v.array.chunks member.superblock.data_offset) keeps d e (ap (λ xs. slice_get xs target) (sym v_is) ∙ at_d) (ap (λ xs. slice_get xs target) (sym w_is) ∙ at_e);
     }
 
-    pub back : IsIdle v.array → AreBack (lent v) v.disks (seen g news)
-    back idle =
-        let f = filling (record v { disks = seen g news }) refl refl in
+    pub back : (w : MirrorView) → w.array ≡ v.array → w.disks ≡ seen g news → AreBack v w
+    back w same w_is =
+        let f = filling w same w_is in
         record {
-          consistent = sound;
-          idle = idle;
-          back = record {
-            as_many = f.as_many;
-            each = λ k d e m at_d at_e at_m.
-                elim (cases_eq k target) [
-                  | inl here ↦
-                      let is : member ≡ m = same_Some member m (sym at ∙ ap (slice_get v.array.members) (sym here) ∙ at_m) in
-                      let one = f.on_target d e (ap (slice_get v.disks) (sym here) ∙ at_d) (ap (slice_get (seen g news)) (sym here) ∙ at_e) in
-                      subst (λ (x : MemberView). ComesBackFromLoan v.array x d e) is (comes_target v.array member plan.slots d e rebuilt (planned_missing v sound member rebuilt plan is_plan) one)
-                  | inr other ↦ comes_other v.array m d e (f.others k d e other at_d at_e)
-                ];
-          };
+          array = same;
+          as_many = f.as_many;
+          each = λ k d e m at_d at_e at_m.
+              elim (cases_eq k target) [
+                | inl here ↦
+                    let is : member ≡ m = same_Some member m (sym at ∙ ap (slice_get v.array.members) (sym here) ∙ at_m) in
+                    let one = f.on_target d e (ap (slice_get v.disks) (sym here) ∙ at_d) (ap (slice_get w.disks) (sym here) ∙ at_e) in
+                    subst (λ (x : MemberView). ComesBackFromLoan v.array x d e) is (comes_target v.array member plan.slots d e rebuilt (planned_missing v sound member rebuilt plan is_plan) one)
+                | inr other ↦ comes_other v.array m d e (f.others k d e other at_d at_e)
+              ];
         }

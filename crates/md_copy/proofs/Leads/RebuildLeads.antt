@@ -30,7 +30,7 @@ use Rattle.md_array.specs.Steps.Enrol.{Enrols}
 use Rattle.md_array.specs.Steps.EnrolEvents.{enrol_event}
 use Rattle.md_array.specs.Steps.Lend.{IsBesideMissing}
 use Rattle.md_array.specs.Events.{Does, IsChangedAlone, IsSameBesideUnsaid, listed_on}
-use Rattle.md_array.specs.Steps.GiveBack as array
+use Rattle.md_array.specs.Steps.Fill as array
 use Rattle.md_array.specs.InTurn.{AllOf, Did, InTurn, IsInOrder, Leads, LeftWhole, Requests}
 use Rattle.md_array.specs.Worlds.{AreHonest, lists_of}
 use Rattle.md_array.proofs.Rebuilding.AdmitEvent.{admit_happens, admitted_is_pending}

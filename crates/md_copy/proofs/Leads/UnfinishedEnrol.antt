@@ -32,7 +32,7 @@ use Rattle.md_members.proofs.DeviceWriteLemmas.Sectors.{length-bitmap_run, runs_
 use Rattle.md_array.specs.Consistency.{IsConsistent}
 use Rattle.md_array.specs.Steps.Enrol.{FailsToEnrol, MayEnrol}
 use Rattle.md_array.specs.Steps.EnrolEvents.{FailsAtSuper, Prepares}
-use Rattle.md_array.specs.Steps.GiveBack.{MayRebuild}
+use Rattle.md_array.specs.Steps.Fill.{MayRebuild}
 use Rattle.md_array.specs.Events.{IsBesideArea, IsBesideMarks, IsChangedAlone, IsSameBesideMarks}
 use Rattle.md_array.proofs.Rebuilding.Enrol.{can_store}
 use Rattle.md_array.proofs.Rebuilding.InBetween.{beside_area, recovers_rebuilt}

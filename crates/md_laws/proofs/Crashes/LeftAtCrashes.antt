@@ -15,6 +15,7 @@ use Rattle.md_model.specs.Content.{Becomes, Content}
 use Rattle.md_model.specs.Devices.{Stored, Super}
 use Rattle.md_model.specs.Events.{Event}
 use Rattle.md_model.specs.Recovering.{JoinsBehind}
+use Rattle.md_model.specs.Runs.{spoiled_after}
 use Rattle.md_model.specs.Sectors.{block_of}
 use Rattle.md_model.specs.Steps as model_steps
 use Rattle.md_model.specs.Crashes as crashes
@@ -37,7 +38,7 @@ use Rattle.md_state.specs.Steps.StoreMarks.{StoresMarkSector}
 use Rattle.md_state.specs.Steps.WriteMember.{MayWrite, data_write}
 use Rattle.md_array.specs.Steps.EnrolEvents.{Prepares}
 use Rattle.md_array.specs.Events.{Does}
-use Rattle.md_array.specs.Steps.GiveBack.{Fills}
+use Rattle.md_array.specs.Steps.Fill.{Fills}
 use Rattle.md_array.specs.ReadAsKept.{HasOwnSuper, IsReadAsKept}
 use Rattle.md_array.specs.Steps.Record.{MayRecord, Records, super_write}
 use Rattle.md_array.specs.Worlds.{block_on, is_listed, stored_of, stored_on, super_in, super_of, world_of}
@@ -130,6 +131,7 @@ pub record IsSortedBeside (Beside : ℕ → Type 0) (t : Moment) (left : List Di
   pub away : (d : ℕ) → moment.away d ≡ t.away d
   pub tried : moment.tried ≡ t.tried
   pub spoiled : (k : ℕ) → t.spoiled k ≡ false → moment.spoiled k ≡ false
+  pub offset_known : (k : ℕ) → t.offset_unknown k ≡ false → moment.offset_unknown k ≡ false
   pub log_known : (k : ℕ) → Beside k → t.log_unknown k ≡ false → moment.log_unknown k ≡ false
   pub memory : KeepsMemory (world_of t.mirror t.requests) (history_of moment).now
   pub count : (history_of moment).now.events ≡ (world_of t.mirror t.requests).events
@@ -153,6 +155,7 @@ sorted_like t found left same s = record {
   away = s.away;
   tried = s.tried;
   spoiled = s.spoiled;
+  offset_known = s.offset_known;
   log_known = s.log_known;
   memory = s.memory;
   count = s.count;
@@ -204,6 +207,7 @@ module _ (Beside : ℕ → Type 0) (t : Moment) (at : IsSoundAt t) where
     away = λ _. refl;
     tried = refl;
     spoiled = λ _ clear. clear;
+    offset_known = λ _ known. known;
     log_known = λ _ _ known. known;
     memory = same_memory (world_of v t.requests) (world_of v t.requests).stored (world_of v t.requests).due (world_of v t.requests).stored_offset;
     count = refl;
@@ -295,6 +299,7 @@ module _ (Beside : ℕ → Type 0) (t : Moment) (at : IsSoundAt t) where
         away = λ _. refl;
         tried = refl;
         spoiled = λ _ clear. clear;
+        offset_known = λ _ known. known;
         log_known = λ _ _ known. known;
         memory = same_memory (world_of v t.requests) (world_of v t.requests).stored (world_of v t.requests).due (world_of v t.requests).stored_offset;
         count = refl;
@@ -352,6 +357,7 @@ module _ (Beside : ℕ → Type 0) (t : Moment) (at : IsSoundAt t) where
           away = λ _. refl;
           tried = refl;
           spoiled = λ _ clear. clear;
+          offset_known = λ _ known. known;
           log_known = λ _ _ known. known;
           memory = subst (KeepsMemory (world_of v t.requests)) (sym does.step.1.1) (marks_memory (world_of v t.requests) k block);
           count = ap (λ (w : World). w.events) does.step.1.1;
@@ -425,6 +431,7 @@ module _ (Beside : ℕ → Type 0) (t : Moment) (at : IsSoundAt t) where
         away = λ _. refl;
         tried = refl;
         spoiled = λ _ clear. clear;
+        offset_known = λ _ known. known;
         log_known = λ _ _ known. known;
         memory = same_memory (world_of v t.requests) (world_of v t.requests).stored (world_of v t.requests).due (world_of v t.requests).stored_offset;
         count = refl;
@@ -525,6 +532,7 @@ module _ (Beside : ℕ → Type 0) (t : Moment) (at : IsSoundAt t) where
               away = λ _. refl;
               tried = refl;
               spoiled = λ j clear. put-at k false t.spoiled j (λ b. b ≡ false) (λ _. refl) (λ _. clear);
+              offset_known = λ j known. put-at k false t.offset_unknown j (λ b. b ≡ false) (λ _. refl) (λ _. known);
               log_known = λ _ _ known. known;
               memory = subst (KeepsMemory (world_of v t.requests)) (sym does.step.1.3)
                   (same_memory (world_of v t.requests) (model_steps.recorded (world_of v t.requests) k does.step.1.0).stored (model_steps.recorded (world_of v t.requests) k does.step.1.0).due
@@ -633,10 +641,10 @@ module _ (Beside : ℕ → Type 0) (t : Moment) (at : IsSoundAt t) where
       → ((x : Content) → JoinsBehind (geometry_of a) e (world_of v t.requests) x)
       → KeepsMemory (world_of v t.requests) (world_of mid t.requests) → (world_of mid t.requests).events ≡ (world_of v t.requests).events
       → (then_as t e mid t.requests).tried ≡ t.tried → (then_as t e mid t.requests).failed_at ≡ t.failed_at → ((n : ℕ) → (then_as t e mid t.requests).away n ≡ t.away n)
-      → ((n : ℕ) → (then_as t e mid t.requests).spoiled n ≡ t.spoiled n)
+      → ((unstored : ℕ → Bool) (n : ℕ) → spoiled_after e (world_of v t.requests) unstored n ≡ unstored n)
       → ((n : ℕ) → Beside n → t.log_unknown n ≡ false → (then_as t e mid t.requests).log_unknown n ≡ false)
       → IsSortedBeside Beside t mid.disks
-  changed e mid does same becomes joins memory count tried counted away spoiled log_known = record {
+  changed e mid does same becomes joins memory count tried counted away still_unstored log_known = record {
     events = e ∷ [];
     few = omega arith;
     moment = then_as t e mid t.requests;
@@ -646,7 +654,8 @@ module _ (Beside : ℕ → Type 0) (t : Moment) (at : IsSoundAt t) where
     counted = counted;
     away = away;
     tried = tried;
-    spoiled = λ n clear. spoiled n ∙ clear;
+    spoiled = λ n clear. still_unstored t.spoiled n ∙ clear;
+    offset_known = λ n known. still_unstored t.offset_unknown n ∙ known;
     log_known = log_known;
     memory = memory;
     count = count;
@@ -657,7 +666,7 @@ module _ (Beside : ℕ → Type 0) (t : Moment) (at : IsSoundAt t) where
         let is_there : IsMember mid.array j n = subst (λ (y : ArrayView). IsMember y j n) (sym same) is in
         subst (λ (y : ArrayView). IsLeftDevice y n t.failed_at (t.spoiled j) x.content) same (record {
           parts = parts_of mid does.sound j x n there is_there;
-          read = subst (λ b. IsReadAsKept mid.array n t.failed_at b x.content) (spoiled j)
+          read = subst (λ b. IsReadAsKept mid.array n t.failed_at b x.content) (still_unstored t.spoiled j)
               (subst (λ at. IsReadAsKept mid.array n at ((then_as t e mid t.requests).spoiled j) x.content) counted (does.read t.failed_at t.spoiled at.read j x n there is_there));
         });
   }
@@ -666,13 +675,13 @@ module _ (Beside : ℕ → Type 0) (t : Moment) (at : IsSoundAt t) where
   filled : (k : ℕ) (mid : MirrorView) → Fills k v mid → IsSortedBeside Beside t mid.disks
   filled k mid fills =
       let does = fill_happens k v mid at.sound fills at.honest t.requests at.in_flight in
-      changed (Event.Fill k) mid does fills.array (λ _. refl) (λ _. tt) (device_memory (world_of v t.requests) k does.step.1.0 (world_of mid t.requests) does.step.1.3) (ap (λ (w : World). w.events) does.step.1.3) refl refl (λ _. refl) (λ _. refl) (λ _ _ known. known)
+      changed (Event.Fill k) mid does fills.array (λ _. refl) (λ _. tt) (device_memory (world_of v t.requests) k does.step.1.0 (world_of mid t.requests) does.step.1.3) (ap (λ (w : World). w.events) does.step.1.3) refl refl (λ _. refl) (λ _ _. refl) (λ _ _ known. known)
 
   -- and so within a preparing
   prepared : (k : ℕ) (mid : MirrorView) → (Beside k → ⊥) → Prepares k v mid → IsSortedBeside Beside t mid.disks
   prepared k mid none prepares =
       let does = prepare_happens k v mid at.sound prepares at.honest t.requests at.in_flight in
-      changed (Event.Prepare k) mid does prepares.array (λ _. refl) (λ _. tt) (device_memory (world_of v t.requests) k does.step.1.0 (world_of mid t.requests) does.step.1.3) (ap (λ (w : World). w.events) does.step.1.3) refl refl (λ _. refl) (λ _. refl)
+      changed (Event.Prepare k) mid does prepares.array (λ _. refl) (λ _. tt) (device_memory (world_of v t.requests) k does.step.1.0 (world_of mid t.requests) does.step.1.3) (ap (λ (w : World). w.events) does.step.1.3) refl refl (λ _. refl) (λ _ _. refl)
       (λ n beside known. put-miss k true t.log_unknown n (λ same. none (subst Beside same beside)) ∙ known)
 
   preparing : (left : List Disk) (l : IsLeftPreparing t left) → (Beside l.on → ⊥) → IsSortedBeside Beside t left

@@ -57,6 +57,7 @@ module _ (t : Moment) (at_t : IsSoundAt t) (before : List Disk) (is : ArrayView)
     pub alike : stored_of was f.member f.disk_now.content ≡ record (stored_of was f.member f.disk_left.content) {
       bits = (stored_of was f.member f.disk_now.content).bits;
       bitmap_events = (stored_of was f.member f.disk_now.content).bitmap_events;
+      bitmap_cleared = (stored_of was f.member f.disk_now.content).bitmap_cleared;
       bitmap_fits = (stored_of was f.member f.disk_now.content).bitmap_fits;
     }
     pub read : IsReadAsKept was f.member t.failed_at false f.disk_now.content
@@ -219,6 +220,7 @@ module _ (t : Moment) (at_t : IsSoundAt t) (before : List Disk) (is : ArrayView)
         listed = λ s. nat_lt s (same_size i) && lists s i;
         bits = λ c. nat_lt c (same_count i) && is_set (drop (512 * sector_from_super (start i) + 256) bytes) c;
         bitmap_events = number_at 8 24 header;
+        bitmap_cleared = number_at 8 32 header;
         bitmap_fits = bytes_eq (bytes_at 16 8 header) (set_uuid k j there n is_member i) && (number_at 8 40 header == size k j there n is_member i) && (number_at 4 48 header == 0);
       }
 

@@ -80,7 +80,7 @@ module _ (a : ArrayView) (m : MemberView) (left : List ℕ) (parts : HasParts a 
   abbrev is : Stored
   is = stored_of new.array back now
 
-  bitmap : stored_of a m now ≡ record was { bits = (stored_of a m now).bits; bitmap_events = (stored_of a m now).bitmap_events; bitmap_fits = (stored_of a m now).bitmap_fits }
+  bitmap : stored_of a m now ≡ record was { bits = (stored_of a m now).bits; bitmap_events = (stored_of a m now).bitmap_events; bitmap_cleared = (stored_of a m now).bitmap_cleared; bitmap_fits = (stored_of a m now).bitmap_fits }
   bitmap = bitmap_alone a m left now parts still
 
   same_data : (s : ℕ) → is.content s ≡ was.content s

@@ -209,11 +209,11 @@ pub lists_when_opened : (before : List Disk) (m : MirrorView) → AreHonest befo
 lists_when_opened before m honest opens k known target s bad = sym ((opening.opened before m honest opens).states.bad k s) ∙ bad
 
 pub says_no_more_where_known : SaysNoMoreWhereKnown
-says_no_more_where_known before m start at_first es t r left is k target clear known beside own told =
+says_no_more_where_known before m start es t r left is k target low known beside own told =
     let sound = run_keeps es (opened_as m) t r (sound_when_opened before m start.honest start.opened) in
     let kept = lists_run es (opened_as m) t r (lists_when_opened before m start.honest start.opened) in
     inl (record {
-      offset = offsets_are_kept before m start at_first es t r left is k clear;
+      offset = offsets_are_kept before m start es t r left is k low;
       listed = listed_at_crash t sound kept left is k target known beside own told;
     })
 

@@ -36,6 +36,7 @@ rests_run (e ∷ es) t mid last r s =
     let same : then_as (record t { mirror = mid.mirror }) e x.0 x.1 ≡ then_as t e x.0 x.1 =
     λ i. record (then_as t e x.0 x.1) {
       spoiled = spoiled_after e (world_rests t.mirror mid.mirror r.rests t.requests i) t.spoiled;
+      offset_unknown = spoiled_after e (world_rests t.mirror mid.mirror r.rests t.requests i) t.offset_unknown;
       log_unknown = log_unknown_after e (world_rests t.mirror mid.mirror r.rests t.requests i) t.log_unknown;
     } in
     (x.0, x.1, record { mid = x.2.mid; rests = rests_then t.mirror mid.mirror x.2.mid r.rests x.2.rests; does = x.2.does }, subst (λ (m : Moment). MirrorRun m es last) same x.3)

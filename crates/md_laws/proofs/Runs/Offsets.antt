@@ -3,7 +3,7 @@ use Rattle.std.proofs.Common.{◌≡◌, ◌≢◌, ◌⊎◌, ℕ, ◌≤◌, i
 use Rattle.std.specs.Prelude.{min}
 use Rattle.std.proofs.lemmas.Option.{same_Some}
 use Rattle.md_model.specs.Sectors.{Geometry, put}
-use Rattle.md_model.specs.Devices.{Stored, Super, offset_of}
+use Rattle.md_model.specs.Devices.{Stored, Super, offset_in, offset_of}
 use Rattle.md_model.specs.Worlds.{World}
 use Rattle.md_model.specs.Counts.{risen, risen_if}
 use Rattle.md_model.specs.States.{is_recovering}
@@ -14,7 +14,7 @@ use Rattle.md_model.specs.Rebuilding.{Taking, as_in_sync, as_recovering, with_ro
 use Rattle.md_model.specs.Events.{Event, Happens}
 use Rattle.md_model.specs.Runs.{spoiled_after}
 use Rattle.md_model.specs.Crashes as crashes
-use Rattle.md_model.proofs.Cases.{none_some}
+use Rattle.md_model.proofs.Cases.{none_some, not_below}
 use Rattle.md_model.proofs.Puts.{by_same, put-at, put-hit, put-miss}
 use Rattle.md_model.proofs.Steps.FailedWrites.{super_left}
 use Rattle.md_state.specs.View.{Disk, MirrorView, geometry_of}
@@ -32,13 +32,21 @@ use Rattle.md_laws.proofs.Crashes.LeftContents.{read_in}
 abbrev pub OffsetIn : World → ℕ → Type 0
 OffsetIn w k = (own : Super) → (w.stored k).super ≡ Some own → own.offset ≤ w.offset k
 
--- so of each member that is not spoiled
+-- so of each member whose offset is known
 abbrev pub OffsetsIn : (ℕ → Bool) → World → Type 0
-OffsetsIn spoiled w = (k : ℕ) → spoiled k ≡ false → OffsetIn w k
+OffsetsIn unknown w = (k : ℕ) → unknown k ≡ false → OffsetIn w k
 
 -- what a member's superblock is to have is no more than its offset
 abbrev pub SuresIn : World → Type 0
 SuresIn w = (k : ℕ) → w.sure_offset k ≤ w.offset k
+
+-- at an opening so of each member whose offset it has not lessened
+pub offsets_when_opened : (m : MirrorView) → OffsetsIn (opened_as m).offset_unknown (world_of m none_in_flight)
+offsets_when_opened m k known own is =
+    let w : World = world_of m none_in_flight in
+    let low = not_below (w.offset k) (offset_of (w.stored k)) known in
+    let same : offset_of (w.stored k) ≡ own.offset = ap offset_in is in
+    omega arith
 
 pub sures_when_opened : (before : List Disk) (m : MirrorView) → AreHonest before → IsOpenedFrom before m → SuresIn (world_of m none_in_flight)
 sures_when_opened before m honest opened k =
@@ -207,14 +215,18 @@ sure_step g w u (Event.NoteBad k c) w' h = subst SuresIn (sym h.1) u
 sure_step g w u (Event.StoreLog k listed) w' h = subst SuresIn (sym h.2) u
 
 -- ---- over runs, and at crashes
-pub offsets_run : (es : List Event) (t last : Moment) → MirrorRun t es last → OffsetsIn t.spoiled (world_of t.mirror t.requests) → SuresIn (world_of t.mirror t.requests)
-    → OffsetsIn last.spoiled (world_of last.mirror last.requests) × SuresIn (world_of last.mirror last.requests)
-offsets_run [] t last r kept sures = subst (λ h. OffsetsIn h.spoiled h.now × SuresIn h.now) (sym (history_rests t last r)) (kept, sures)
+pub offsets_run : (es : List Event) (t last : Moment) → MirrorRun t es last → OffsetsIn t.offset_unknown (world_of t.mirror t.requests) → SuresIn (world_of t.mirror t.requests)
+    → OffsetsIn last.offset_unknown (world_of last.mirror last.requests) × SuresIn (world_of last.mirror last.requests)
+offsets_run [] t last r kept sures =
+    let now : world_of last.mirror last.requests ≡ world_of t.mirror t.requests = ap (λ h. h.now) (history_rests t last r) in (
+      subst (λ (x : Moment). OffsetsIn x.offset_unknown (world_of last.mirror last.requests)) (sym r.is) (subst (OffsetsIn t.offset_unknown) (sym now) kept),
+      subst SuresIn (sym now) sures,
+    )
 offsets_run (e ∷ es) t last r kept sures =
     let g = geometry_of t.mirror.array in
     let w : World = world_of t.mirror t.requests in
     let did = (rests_does t.mirror r.0 t.requests r.1 e r.2).step.1 in
-    offsets_run es (then_as t e r.0 r.1) last r.3 (offset_step g w t.spoiled kept sures e (world_of r.0 r.1) did) (sure_step g w sures e (world_of r.0 r.1) did)
+    offsets_run es (then_as t e r.0 r.1) last r.3 (offset_step g w t.offset_unknown kept sures e (world_of r.0 r.1) did) (sure_step g w sures e (world_of r.0 r.1) did)
 
 -- a crash leaves the superblocks
 cut_super : (g : Geometry) (w : World) (cut : ℕ → Stored) → crashes.MayStandAtCrash g w cut → (k : ℕ) → (cut k).super ≡ (w.stored k).super
@@ -226,23 +238,24 @@ cut_super g w cut is k = elim is [
 ]
 
 -- so does what it left of a device
-pub offset_at_crash : (t : Moment) → IsSoundAt t → OffsetsIn t.spoiled (world_of t.mirror t.requests) × SuresIn (world_of t.mirror t.requests) → (left : List Disk) → IsLeftByCrash t left → (k : ℕ) → t.spoiled k ≡ false
+pub offset_at_crash : (t : Moment) → IsSoundAt t → OffsetsIn t.offset_unknown (world_of t.mirror t.requests) × SuresIn (world_of t.mirror t.requests) → (left : List Disk) → IsLeftByCrash t left → (k : ℕ) → t.offset_unknown k ≡ false
     → (own : Super) → (read_in t.mirror.array left k).super ≡ Some own → own.offset ≤ (world_of t.mirror t.requests).offset k
-offset_at_crash t sound held left is k clear own told =
+offset_at_crash t sound held left is k known own told =
     let s : IsSorted t left = sorted t sound left is in
     let now : World = (history_of s.moment).now in
     let kept = (offsets_run s.events t s.moment s.run held.0 held.1).0 in
     elim (s.read k) [
       | inl same ↦
           let super : (now.stored k).super ≡ Some own = sym (cut_super (geometry_of t.mirror.array) now s.cut s.is_cut k) ∙ sym (ap (λ (d : Stored). d.super) same) ∙ told in
-          subst (λ (n : ℕ). own.offset ≤ n) (s.memory.offset k) (kept k (s.spoiled k clear) own super)
+          subst (λ (n : ℕ). own.offset ≤ n) (s.memory.offset k) (kept k (s.offset_known k known) own super)
       | inr none ↦ absurd (none_some own (sym none ∙ told))
     ]
 
 pub offsets_are_kept : OffsetsAreKept
-offsets_are_kept before m start at_first es t r left is k clear own told =
-    offset_at_crash t (run_keeps es (opened_as m) t r (sound_when_opened before m start.honest start.opened)) (offsets_run es (opened_as m) t r (λ j _. at_first j) (sures_when_opened before m start.honest start.opened)) left is k clear own told
+offsets_are_kept before m start es t r left is k known own told =
+    offset_at_crash t (run_keeps es (opened_as m) t r (sound_when_opened before m start.honest start.opened))
+    (offsets_run es (opened_as m) t r (offsets_when_opened m) (sures_when_opened before m start.honest start.opened)) left is k known own told
 
 pub says_no_more_without_list : SaysNoMoreWithoutList
-says_no_more_without_list before m start at_first es t r left is k clear none =
-    inl (record { offset = λ own told. offsets_are_kept before m start at_first es t r left is k clear own told; listed = λ s off. none s })
+says_no_more_without_list before m start es t r left is k known none =
+    inl (record { offset = λ own told. offsets_are_kept before m start es t r left is k known own told; listed = λ s off. none s })

@@ -37,7 +37,6 @@ unread (e ∷ es) previous old before P t = (old, t.0, t.1, rests_same old, t.2,
 -- nothing is asked of the device
 pub left_whole : (e : Event) (old new : MirrorView) → IsNoFailedRecord e → LeftWhole old e new
 left_whole (Event.WriteFails k MemberPart.Superblock) old new is = absurd is
-left_whole (Event.WriteFails k MemberPart.Log) old new is = absurd is
 left_whole (Event.RecordTargetFails k) old new is = absurd is
 left_whole (Event.Enrol k role listed) old new is = absurd is
 left_whole (Event.Checkpoint k sure listed) old new is = absurd is

@@ -25,7 +25,7 @@ use Rattle.md_laws.specs.Runs.{HasRested, IsStart, MirrorRun, MirrorRunWith, Mom
 use Rattle.md_laws.proofs.Runs.LeftBehind.{content_next, held_along, held_next, held_then, kept_here, leads_to, reopens_here, same, same_here, small_here}
 use Rattle.md_laws.proofs.Runs.ContentRuns.{without_content}
 use Rattle.md_laws.proofs.Runs.Lists.{ListsAreIn, listed_at_crash, lists_run, lists_when_opened}
-use Rattle.md_laws.proofs.Runs.Offsets.{SuresIn, offset_at_crash, offsets_run, sures_when_opened}
+use Rattle.md_laws.proofs.Runs.Offsets.{SuresIn, offset_at_crash, offsets_run, offsets_when_opened, sures_when_opened}
 use Rattle.md_laws.proofs.Runs.MirrorContents.{IsHeldAt, life_held_at, starts_small}
 use Rattle.md_laws.proofs.Runs.MirrorLives.{as_left, left}
 use Rattle.md_laws.proofs.Runs.MirrorRuns.{starts}
@@ -156,11 +156,11 @@ module _ (g : Geometry) (small : IsWithinLimits g) where
         ]
 
     -- what a device says that is known
-    module _ (es : List Event) (r : MirrorRun (opened_as opened) es t) (first_lists : ListsAreIn (λ _. false) (world_of opened none_in_flight)) (first_sures : SuresIn (world_of opened none_in_flight)) (k : ℕ) (clear : t.spoiled k ≡ false)
-        (known : IsOffsetKnown opened t again.devices.left again.devices.is_left k) where
+    module _ (es : List Event) (r : MirrorRun (opened_as opened) es t) (first_lists : ListsAreIn (λ _. false) (world_of opened none_in_flight)) (first_sures : SuresIn (world_of opened none_in_flight)) (k : ℕ)
+        (known : IsOffsetKnown t again.devices.left again.devices.is_left k) where
       known_says : (own : Super) → (read_in t.mirror.array again.devices.left k).super ≡ Some own → SaysNoMore t again.devices.left k
       known_says own told = inl (record {
-        offset = offset_at_crash t is.held.sound (offsets_run es (opened_as opened) t r (λ j _. known.offsets j) first_sures) again.devices.left again.devices.is_left k clear;
+        offset = offset_at_crash t is.held.sound (offsets_run es (opened_as opened) t r (offsets_when_opened opened) first_sures) again.devices.left again.devices.is_left k known.offset;
         listed = listed_at_crash t is.held.sound (lists_run es (opened_as opened) t r first_lists) again.devices.left again.devices.is_left k known.rebuilt known.log known.beside own told;
       })
 
@@ -180,7 +180,7 @@ module _ (g : Geometry) (small : IsWithinLimits g) where
             inl (subst (λ i. (r.made_of i ≡ r.left i) × model.IsAsKept here now i (r.left i)) (sym there.0) (
               there.1,
               half_kept here now x.0 (read_in t.mirror.array again.devices.left x.0) (r.left x.0) there.2 (elim x.2 [
-                | inl known ↦ known_as_kept es run first_lists first_sures x.0 (again.devices.unspoiled x.0 j (again.devices.found j x.0 x.1)) known
+                | inl known ↦ known_as_kept es run first_lists first_sures x.0 known
                 | inr says ↦ as_kept x.0 says
               ]),
             ))
@@ -234,8 +234,8 @@ resumed_first before m a start holds recovering = record {
 }
 
 pub says_no_more_when_opened : SaysNoMoreWhenOpened
-says_no_more_when_opened before m start k kept =
-    inl (record { offset = kept; listed = λ s off. (starts before m start).opening.states.bad k s ∙ off })
+says_no_more_when_opened before m start k known =
+    inl (record { offset = offsets_when_opened m k known; listed = λ s off. (starts before m start).opening.states.bad k s ∙ off })
 
 pub keeps_recovering : KeepsRecovering
 keeps_recovering before m a start holds recovering es rest final last b life told =

@@ -19,7 +19,7 @@ use Rattle.md_array.specs.Worlds.{AreHonest, none_in_flight, world_on}
 use Rattle.md_array.proofs.Worlds.InSync.{in_sync_is}
 use Rattle.md_laws.specs.Lives.{IsFoundAgain, IsReopened}
 use Rattle.md_laws.specs.Runs.{IsStart, Moment, opened_as}
-use Rattle.md_laws.specs.SmallLife.{HasSmallLife, RunsTwice}
+use Rattle.md_laws.specs.SmallLife.{HasSmallLife, RunsTwice, begun_and_recorded}
 use Rattle.md_laws.proofs.Runs.Moments.{run_keeps, sound_when_opened}
 use Rattle.md_laws.proofs.Runs.Rests.{at_once, at_rest, rests_same}
 use Rattle.md_assembly.proofs.Indices.{got_within}
@@ -101,7 +101,7 @@ again v sound k j is =
 pub small_life : (before : List Disk) (m mid next : MirrorView) → IsOpenedFrom before m → length m.array.members ≡ 1 → RunsTwice m mid → IsOpenedFrom mid.disks next
     → m.array.shared.events < next.array.shared.events → AreHonest before → HasSmallLife before next
 small_life before m mid next opened one r opens late honest =
-    let t : Moment = record (opened_as m) { mirror = mid; requests = r.requests; spoiled = put 0 false (opened_as m).spoiled } in
+    let t : Moment = begun_and_recorded m mid r.requests in
     let at_t = run_keeps (Event.Begin r.number r.request ∷ Event.Record 0 ∷ []) (opened_as m) t r.run (sound_when_opened before m honest opened) in
     let members_many = opens.array.remembered.as_many in
     let read_many = opens.array.read.as_many in

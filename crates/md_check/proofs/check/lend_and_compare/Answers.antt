@@ -1,7 +1,8 @@
-use Rattle.std.proofs.Common.{◌≡◌, ◌∙◌, ◌*◌, map, ap, sym, subst, arith}
+use Rattle.std.proofs.Common.{◌≡◌, ◌*◌, List, map, ap, sym, subst, arith}
 use Rattle.std.specs.List.{All}
 use Rattle.md_bitmap.specs.declared.chunks.Chunks.{Chunks}
-use Rattle.md_state.specs.View.{MirrorView, disk_of}
+use Rattle.md_state.specs.DeviceChanges.{EachPair}
+use Rattle.md_state.specs.View.{Disk, MirrorView, disk_of}
 use Rattle.md_array.specs.Worlds as worlds
 use Rattle.md_check.specs.declared.reader.Reader.{Reader}
 use Rattle.md_check.specs.Differences.{AreCompared, IsSized}
@@ -14,25 +15,16 @@ pub check_lent-answer-requires-clause-read_here : goal.check_lent-answer-require
 check_lent-answer-requires-clause-read_here g c κs within =
     let readers = c.readers_of.new.readers.items in
     subst (λ (chunks : Chunks). All (HasDataOnDevice g.D.Device chunks) readers) (sym c.chunks-chunks.ensures)
-    (all_read_here g.D.Device c.args.mirror.now c.requires.sound (512 * c.min.result) c.lend-devices.result.items c.in_ok-orders.orders.items readers c.lend-devices.ensures.devices c.in_ok-orders.ensures c.readers_of.ensures.len c.readers_of.ensures.readers)
+    (all_read_here g.D.Device c.args.mirror.now c.requires.sound (512 * c.min.result) c.lend-devices.result.now.items c.in_ok-orders.orders.items readers c.lend-devices.ensures.devices c.in_ok-orders.ensures c.readers_of.ensures.len c.readers_of.ensures.readers)
 
 pub check_lent-answer-requires-clause-room : goal.check_lent-answer-requires-clause-room
 check_lent-answer-requires-clause-room g c κs within = λ k d below.
     let readers = c.readers_of.new.readers.items in
-    let room = rooms g.D.Device c.args.mirror.now c.requires.sound (512 * c.min.result) c.lend-devices.result.items c.in_ok-orders.orders.items readers c.lend-devices.ensures.devices c.in_ok-orders.ensures c.readers_of.ensures.len c.readers_of.ensures.readers k d below in
+    let room = rooms g.D.Device c.args.mirror.now c.requires.sound (512 * c.min.result) c.lend-devices.result.now.items c.in_ok-orders.orders.items readers c.lend-devices.ensures.devices c.in_ok-orders.ensures c.readers_of.ensures.len c.readers_of.ensures.readers k d below in
     omega (arith, room, c.min.ensures)
 
 pub check_lent-answer-requires-clause-sized : goal.check_lent-answer-requires-clause-sized
 check_lent-answer-requires-clause-sized g c κs within = subst (λ (chunks : Chunks). IsSized chunks c.args.found.now) (sym c.chunks-chunks.ensures) c.requires.sized
-
-pub give_back-requires-clause-back : goal.give_back-requires-clause-back
-give_back-requires-clause-back g c =
-    let readers = c.readers_of.new.readers.items in (
-      c.args.mirror.now.disks,
-      rw (c.lend-devices.ensures.out, c.leave_readers.ensures)
-          (come_back g.D.Device c.args.mirror.now c.requires.sound (512 * c.min.result) c.lend-devices.result.items c.in_ok-orders.orders.items readers c.lend-devices.ensures.devices c.in_ok-orders.ensures c.readers_of.ensures.len c.readers_of.ensures.readers
-          c.check_lent-answer.new.readers.items c.check_lent-answer.ensures.read c.requires.idle),
-    )
 
 pub returns-in-Ok-clause-gives : goal.returns-in-Ok-clause-gives
 returns-in-Ok-clause-gives g c =
@@ -40,26 +32,25 @@ returns-in-Ok-clause-gives g c =
     let readers = c.readers_of.new.readers.items in
     let news = c.check_lent-answer.new.readers.items in
     let after = map (disk_of g.D.Device) (map (λ (s : Reader _). s.device) news) in
-    let is : c.give_back.new.self ≡ record old { disks = after } =
-    c.give_back.ensures.in_place ∙ ap (λ (v : MirrorView). record v { disks = map (disk_of g.D.Device) c.leave_readers.new.devices.items }) c.lend-devices.ensures.out
-    ∙ ap (λ xs. record old { disks = map (disk_of g.D.Device) xs }) c.leave_readers.ensures in
-    let none = none_failed g.D.Device old c.requires.sound (512 * c.min.result) c.lend-devices.result.items c.in_ok-orders.orders.items readers c.lend-devices.ensures.devices c.in_ok-orders.ensures c.readers_of.ensures.len c.readers_of.ensures.readers news c.in-Ok.ensures.read c.in-Ok.ensures.unfailing in
+    let now : MirrorView = record old { disks = map (disk_of g.D.Device) c.leave_readers.new.devices.items } in
+    let is : now ≡ record old { disks = after } = ap (λ xs. record old { disks = map (disk_of g.D.Device) xs }) c.leave_readers.ensures in
+    let none = none_failed g.D.Device old c.requires.sound (512 * c.min.result) c.lend-devices.result.now.items c.in_ok-orders.orders.items readers c.lend-devices.ensures.devices c.in_ok-orders.ensures c.readers_of.ensures.len c.readers_of.ensures.readers news c.in-Ok.ensures.read c.in-Ok.ensures.unfailing in
     let compared : worlds.AreHonest old.disks → AreCompared (ReaderShows (on_device g.D.Device) readers) old.array.chunks old.array.chunks.size c.check_lent-answer.new.found
     = λ honest. subst (λ (chunks : Chunks). AreCompared (ReaderShows (on_device g.D.Device) readers) chunks chunks.size c.check_lent-answer.new.found) c.chunks-chunks.ensures
     (c.in-Ok.ensures.compared
-    (honest_readers g.D.Device old c.requires.sound (512 * c.min.result) c.lend-devices.result.items c.in_ok-orders.orders.items readers c.lend-devices.ensures.devices c.in_ok-orders.ensures c.readers_of.ensures.len c.readers_of.ensures.readers honest)) in
+    (honest_readers g.D.Device old c.requires.sound (512 * c.min.result) c.lend-devices.result.now.items c.in_ok-orders.orders.items readers c.lend-devices.ensures.devices c.in_ok-orders.ensures c.readers_of.ensures.len c.readers_of.ensures.readers honest)) in
     record {
       kept = c.check_lent-answer.ensures.kept;
-      rests = rests_with g.D.Device old c.requires.sound (512 * c.min.result) c.lend-devices.result.items c.in_ok-orders.orders.items readers c.lend-devices.ensures.devices c.in_ok-orders.ensures c.readers_of.ensures.len c.readers_of.ensures.readers news c.in-Ok.ensures.read
-          c.give_back.new.self is;
-      uses = uses_in_sync g.D.Device old c.requires.sound (512 * c.min.result) c.lend-devices.result.items c.in_ok-orders.orders.items readers c.lend-devices.ensures.devices c.in_ok-orders.ensures c.readers_of.ensures.len c.readers_of.ensures.readers news c.in-Ok.ensures.read
-          c.give_back.new.self c.requires.two is;
-      unfailing = rw is none;
+      rests = rests_with g.D.Device old c.requires.sound (512 * c.min.result) c.lend-devices.result.now.items c.in_ok-orders.orders.items readers c.lend-devices.ensures.devices c.in_ok-orders.ensures c.readers_of.ensures.len c.readers_of.ensures.readers news c.in-Ok.ensures.read
+          now is;
+      uses = uses_in_sync g.D.Device old c.requires.sound (512 * c.min.result) c.lend-devices.result.now.items c.in_ok-orders.orders.items readers c.lend-devices.ensures.devices c.in_ok-orders.ensures c.readers_of.ensures.len c.readers_of.ensures.readers news c.in-Ok.ensures.read
+          now c.requires.two is;
+      unfailing = subst (λ (disks : List Disk). EachPair (λ k d e. e.failures ≡ d.failures) old.disks disks) (sym (ap (λ (v : MirrorView). v.disks) is)) none;
       bits = λ honest.
-          mismatches g.D.Device old c.requires.sound (512 * c.min.result) c.lend-devices.result.items c.in_ok-orders.orders.items readers c.lend-devices.ensures.devices c.in_ok-orders.ensures c.readers_of.ensures.len c.readers_of.ensures.readers c.check_lent-answer.new.found.chunks
+          mismatches g.D.Device old c.requires.sound (512 * c.min.result) c.lend-devices.result.now.items c.in_ok-orders.orders.items readers c.lend-devices.ensures.devices c.in_ok-orders.ensures c.readers_of.ensures.len c.readers_of.ensures.readers c.check_lent-answer.new.found.chunks
           (compared honest).some;
       between = λ honest.
-          mismatches_between g.D.Device old c.requires.sound (512 * c.min.result) c.lend-devices.result.items c.in_ok-orders.orders.items readers c.lend-devices.ensures.devices c.in_ok-orders.ensures c.readers_of.ensures.len c.readers_of.ensures.readers c.check_lent-answer.new.found
+          mismatches_between g.D.Device old c.requires.sound (512 * c.min.result) c.lend-devices.result.now.items c.in_ok-orders.orders.items readers c.lend-devices.ensures.devices c.in_ok-orders.ensures c.readers_of.ensures.len c.readers_of.ensures.readers c.check_lent-answer.new.found
           (compared honest);
     }
 
@@ -69,9 +60,28 @@ returns-clause-gives g c =
     let readers = c.readers_of.new.readers.items in
     let news = c.check_lent-answer.new.readers.items in
     let after = map (disk_of g.D.Device) (map (λ (s : Reader _). s.device) news) in
-    let is : c.give_back.new.self ≡ record old { disks = after } =
-    c.give_back.ensures.in_place ∙ ap (λ (v : MirrorView). record v { disks = map (disk_of g.D.Device) c.leave_readers.new.devices.items }) c.lend-devices.ensures.out
-    ∙ ap (λ xs. record old { disks = map (disk_of g.D.Device) xs }) c.leave_readers.ensures in
-    fails_checking g.D.Device old c.requires.sound (512 * c.min.result) c.lend-devices.result.items c.in_ok-orders.orders.items readers c.lend-devices.ensures.devices c.in_ok-orders.ensures c.readers_of.ensures.len c.readers_of.ensures.readers news c.in-Err.ensures.read
-    c.give_back.new.self c.in-Err.missed c.requires.idle c.requires.two is
+    let now : MirrorView = record old { disks = map (disk_of g.D.Device) c.leave_readers.new.devices.items } in
+    let is : now ≡ record old { disks = after } = ap (λ xs. record old { disks = map (disk_of g.D.Device) xs }) c.leave_readers.ensures in
+    fails_checking g.D.Device old c.requires.sound (512 * c.min.result) c.lend-devices.result.now.items c.in_ok-orders.orders.items readers c.lend-devices.ensures.devices c.in_ok-orders.ensures c.readers_of.ensures.len c.readers_of.ensures.readers news c.in-Err.ensures.read
+    now c.in-Err.missed c.requires.idle c.requires.two is
     (subst (λ (chunks : Chunks). MissesIn g.D.Device chunks readers news c.in-Err.missed) c.chunks-chunks.ensures c.in-Err.ensures.missed)
+
+pub returns-in-Ok-clause-sound : goal.returns-in-Ok-clause-sound
+returns-in-Ok-clause-sound g c =
+    let old = c.args.mirror.now in
+    let readers = c.readers_of.new.readers.items in
+    let news = c.check_lent-answer.new.readers.items in
+    let now : MirrorView = record old { disks = map (disk_of g.D.Device) c.leave_readers.new.devices.items } in
+    c.lend-devices.ensures.sound now
+    (come_back g.D.Device old c.requires.sound (512 * c.min.result) c.lend-devices.result.now.items c.in_ok-orders.orders.items readers c.lend-devices.ensures.devices c.in_ok-orders.ensures c.readers_of.ensures.len c.readers_of.ensures.readers
+    news c.check_lent-answer.ensures.read now (ap (λ xs. record old { disks = map (disk_of g.D.Device) xs }) c.leave_readers.ensures))
+
+pub returns-clause-sound : goal.returns-clause-sound
+returns-clause-sound g c =
+    let old = c.args.mirror.now in
+    let readers = c.readers_of.new.readers.items in
+    let news = c.check_lent-answer.new.readers.items in
+    let now : MirrorView = record old { disks = map (disk_of g.D.Device) c.leave_readers.new.devices.items } in
+    c.lend-devices.ensures.sound now
+    (come_back g.D.Device old c.requires.sound (512 * c.min.result) c.lend-devices.result.now.items c.in_ok-orders.orders.items readers c.lend-devices.ensures.devices c.in_ok-orders.ensures c.readers_of.ensures.len c.readers_of.ensures.readers
+    news c.check_lent-answer.ensures.read now (ap (λ xs. record old { disks = map (disk_of g.D.Device) xs }) c.leave_readers.ensures))

@@ -1,7 +1,7 @@
 use Rattle.std.proofs.Common.{subst}
 use Rattle.md_model.specs.Events.{Event, MemberPart}
 use Rattle.md_array.specs.Events.{Happens}
-use Rattle.md_array.specs.Steps.StoreLog.{HasNoShift, IfLogFailed, RefusesStoreLog}
+use Rattle.md_array.specs.Steps.StoreLog.{IfLogFailed, RefusesStoreLog}
 use Rattle.md_metadata.proofs.StoredLists.{log_fails, log_halts, log_stored}
 use Rattle.md_metadata.proofs.lists.store_member_log.Goals as goal
 
@@ -15,7 +15,7 @@ returns-in-Err-MemberFailed g c =
     let new = c.store_log.new.self in
     log_fails old new c.args.k at.ensures.sound at.ensures.pending at.j
     (subst (RefusesStoreLog c.args.k old new) at.field-0-is at.ensures.gives)
-    (λ unshifted. subst (IfLogFailed (Happens old (Event.WriteFails c.args.k MemberPart.Log) new)) at.field-0-is (at.ensures.event unshifted))
+    (subst (IfLogFailed (Happens old (Event.WriteFails c.args.k MemberPart.Log) new)) at.field-0-is at.ensures.event)
 
 pub returns-in-Err-Halted : goal.returns-in-Err-Halted
 returns-in-Err-Halted g c =

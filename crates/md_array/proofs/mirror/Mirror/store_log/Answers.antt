@@ -83,7 +83,7 @@ returns-then-is_err g c =
     log_failed c.args.k was new m c.store_failed.result (running g (goal.at.returns-then-is_err g c).After-store_log) (in_sync g at) c.store_log.ensures.canonical (room g at) fails.0 fails.1 c.store_failed.ensures in
     rw (← c.self.view_is) (record {
       gives = refused;
-      event = λ _. log_refused_happens c.args.k was new sound c.store_failed.result refused;
+      event = log_refused_happens c.args.k was new sound c.store_failed.result refused;
       sound = log_refused_is_consistent c.args.k was new sound c.store_failed.result refused;
       pending = log_refused_is_pending c.args.k was new sound c.store_failed.result refused;
     })

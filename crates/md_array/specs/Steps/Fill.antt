@@ -1,14 +1,13 @@
 -- A member that is being rebuilt gets data, while its device is lent (this project's own).
-use Rattle.std.specs.Prelude.{◌≡◌, ℕ, true, List}
+use Rattle.std.specs.Prelude.{◌≡◌, ℕ, true}
 use Rattle.md_assembly.specs.States.{is_recovering}
 use Rattle.md_kept_members.specs.View.{MemberView}
 use Rattle.md_model.specs.Events.{Event}
 use Rattle.md_state.specs.Steps.MakeClean.{IsIdle}
 use Rattle.md_state.specs.Members.{IsMember}
 use Rattle.md_state.specs.Missing.{is_rebuilt}
-use Rattle.md_state.specs.View.{ArrayView, Disk, MirrorView}
+use Rattle.md_state.specs.View.{ArrayView, MirrorView}
 use Rattle.md_array.specs.Events.{Happens, IsChangedAlone, IsSameBesideUnsaid}
-use Rattle.md_array.specs.Steps.Lend.{AreBack}
 use Rattle.md_array.specs.Steps.NoteResynced.{AreNoted}
 
 -- A member may be rebuilt while nothing is in flight.
@@ -27,7 +26,6 @@ pub record Fills (k : ℕ) (old new : MirrorView) : Type 0 where
   pub array : new.array ≡ old.array
   pub disks : IsChangedAlone k (IsSameBesideUnsaid old.array may.member) old.disks new.disks
 
--- give_back, where of the devices that were lent no other one was written: the event is from what they were then
-abbrev pub FillHappens : MirrorView → MirrorView → Type 0
-FillHappens old new =
-    (before : List Disk) (k : ℕ) → AreBack old before new.disks → Fills k (record old { disks = before }) new → Happens (record old { disks = before }) (Event.Fill k) new
+-- lend, where of the devices no other one was written until they were back
+abbrev pub FillHappens : MirrorView → Type 0
+FillHappens old = (k : ℕ) (new : MirrorView) → Fills k old new → Happens old (Event.Fill k) new
