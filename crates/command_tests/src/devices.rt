@@ -1,5 +1,5 @@
 // A device in memory, some sectors of which can't be read.
-ghost use Rattle.std.specs.Prelude.{[], false, length, refl};
+ghost use Rattle.std.specs.Prelude.{[], false, length, refl, ⊤};
 
 use md_device::{Device, Fault, FaultList, MemDevice, ReadFault, WriteFault};
 use md_images::SharedRead;
@@ -47,6 +47,8 @@ impl Device for BadDevice {
 }
 
 impl SharedRead for BadDevice {
+    ghost may_fail = { λ _ _. ⊤ };
+
     fn read_shared(&self, sector: u64, buf: &mut [u8]) -> Result<(), ReadFault> {
         let count = buf.len() as u64 / 512;
         let is_bad = |bad: &u64| sector <= *bad && *bad - sector < count;

@@ -8,10 +8,10 @@ use Rattle.md_images.specs.Seen.{View}
 use Rattle.md_cli.specs.Arrays.{overlaid}
 
 -- an overlay over a device that is looked at, as contracts of `Device` see it
-abbrev pub overlay_ghosts : Ghosts (Overlay View)
-overlay_ghosts = record { content = λ o. o.content; honest = λ o. o.inner.honest; faults = λ o. o.faults; failures = λ o. length o.faults; crashes = λ _. [] }
+abbrev pub overlay_ghosts : {D : Type 0} → Ghosts D → Ghosts (Overlay (View D))
+overlay_ghosts g = record { content = λ o. o.content; honest = λ o. g.honest o.inner.device; faults = λ o. o.faults; failures = λ o. length o.faults; crashes = λ _. [] }
 
 -- overlays over devices are their disks, overlaid
-pub shown_over : {D : Type 0} (g : Ghosts D) (ds : List D) → map (disk_of overlay_ghosts) (map (overlay_over g.content g.honest) ds) ≡ map overlaid (map (disk_of g) ds)
+pub shown_over : {D : Type 0} (g : Ghosts D) (ds : List D) → map (disk_of (overlay_ghosts g)) (map (overlay_over g.content) ds) ≡ map overlaid (map (disk_of g) ds)
 shown_over g [] = refl
 shown_over g (d ∷ ds) = ap (λ xs. overlaid (disk_of g d) ∷ xs) (shown_over g ds)

@@ -1,2 +1,3 @@
 -- A sink into a new file in which blocks of zeros become holes, and why such a file is not made.
+pub mod CodedTexts
 pub mod SparseLemmas

@@ -2,3 +2,5 @@
 pub mod File
 -- A sink into a new file in which blocks of zeros become holes, and why such a file is not made.
 pub mod Sparse
+-- Sinks between what commands put out and the streams of the system.
+pub mod Streams

@@ -1,5 +1,5 @@
 // A device in a file or a block device.
-ghost use Rattle.std.specs.Prelude.{◌≡◌, ◌≢◌, ◌+◌, ◌*◌, ◌^◌, ◌≤◌, ◌↔◌, ◌⊎◌, [], length, true, false, replicate, None, Ok, IfOk, IsErr, IsErrOf, OnOk, OnErr, IsTrue, refl};
+ghost use Rattle.std.specs.Prelude.{◌≡◌, ◌≢◌, ◌+◌, ◌*◌, ◌^◌, ◌≤◌, ◌↔◌, ◌⊎◌, [], length, true, false, replicate, None, Ok, IfOk, IsErr, IsErrOf, OnOk, OnErr, IsTrue, refl, ⊤};
 ghost use Rattle.std.specs.Fs.{file_type, IsDir, IsFile};
 ghost use Rattle.md_device.specs.Failing.{AddsItself, failed_read, failed_write};
 ghost use Rattle.md_images.specs.declared.access.Access.TheVariants.{Look, Change};
@@ -8,7 +8,7 @@ use crate::backing::Backing;
 use crate::block_device::BlockDevice;
 use crate::in_use::check_unused;
 use md_device::{Device, Fault, FaultList, ReadFault, WriteFault};
-use md_images::{Access, ImageFault};
+use md_images::{Access, ImageFault, SharedRead};
 use std::fs::{File, Files, Metadata, OpenOptions, TryLockError};
 use std::io::{ErrorKind, Seek, SeekFrom};
 use std::marker::Model;
@@ -184,6 +184,18 @@ impl Device for FileDevice {
             self.faults = self.faults.with_fault(&Fault::write(sector, bytes.len()));
         }
         outcome
+    }
+}
+
+// A read goes by no position in the file, so that several may be made at once.
+impl SharedRead for FileDevice {
+    ghost may_fail = { λ _ _. ⊤ };
+
+    fn read_shared(&self, sector: u64, buf: &mut [u8]) -> Result<(), ReadFault> {
+        if buf.is_empty() {
+            return Ok(());
+        }
+        self.try_read(sector, buf)
     }
 }
 

@@ -1,3 +1,4 @@
 pub mod Listed
 pub mod MemPlaces
+pub mod LongReads
 pub mod Taken

@@ -4,6 +4,8 @@ pub mod Images
 pub mod MemImages
 -- The places of images in memory as contracts see them.
 pub mod MemPlaces
+-- Where a read fails.
+pub mod Places
 -- A view of a device, with nothing written over it.
 pub mod Overlays
 -- A device that is only looked at, as contracts see it.

@@ -1,5 +1,5 @@
-//! Images by name: devices that are taken out under names and put back, images in memory, and overlays laid
-//! over devices that are only looked at.
+//! Images by name: devices that are taken out under names and put back, images in memory, overlays laid over devices that
+//! are only looked at, and devices whose reads and writes are watched.
 //!
 //! Start with the trait `Images`, and with `take_images` and `put_back`: a command has all its images, or
 //! none.
@@ -19,9 +19,12 @@ mod image_word;
 mod images;
 mod memory_images;
 mod overlays;
+mod pieces;
 mod seen;
 mod shared_read;
 mod taking;
+mod traffic;
+mod watched;
 
 pub use access::Access;
 pub use fault::ImagesFault;
@@ -34,3 +37,5 @@ pub use overlays::lay_over;
 pub use seen::Seen;
 pub use shared_read::SharedRead;
 pub use taking::{put_back, take_images};
+pub use traffic::Traffic;
+pub use watched::Watched;

@@ -9,7 +9,7 @@ use std::alloc::{AllocError, Global};
 
 // An overlay over a device that is only looked at. Nothing is written over it yet.
 fn overlay_over<D: SharedRead>(alloc: Global, device: &D) -> OverlayDevice<Seen<'_, D>>
-    ensures { result ≡ overlay_over D.content D.honest device.now }
+    ensures { result ≡ overlay_over D.content device.now }
 {
     OverlayDevice::new(alloc, Seen::new(device))
 }
@@ -20,7 +20,7 @@ pub fn lay_over<'a, D: SharedRead>(
     alloc: Global,
     devices: &'a [D],
 ) -> Result<Vec<OverlayDevice<Seen<'a, D>>>, AllocError>
-    ensures { IfOk result (λ overlays. overlays.items ≡ map (λ d. overlay_over D.content D.honest d) devices.now) }
+    ensures { IfOk result (λ overlays. overlays.items ≡ map (λ d. overlay_over D.content d) devices.now) }
 {
     devices
         .iter()

@@ -2,9 +2,8 @@
 ghost use Rattle.std.specs.Prelude.{false, None};
 
 use crate::progress::Progress;
-use crate::watched::WatchedFile;
 use md_files::{Backing, FileDevice};
-use md_images::{Access, ImageFault, Images};
+use md_images::{Access, ImageFault, Images, Watched};
 
 // So many members an array may have. Where more images are named, the command is refused for that.
 const MOST: usize = 64;
@@ -43,7 +42,7 @@ impl<'a> FileImages<'a> {
 }
 
 impl<'a> Images for FileImages<'a> {
-    type Dev = WatchedFile<'a>;
+    type Dev = Watched<'a, FileDevice, Progress<'a>>;
 
     ghost known = { λ _. false };
 
@@ -55,18 +54,18 @@ impl<'a> Images for FileImages<'a> {
 
     ghost asked = { λ _ _. false };
 
-    fn get(&mut self, name: &str, access: Access) -> Result<WatchedFile<'a>, ImageFault> {
+    fn get(&mut self, name: &str, access: Access) -> Result<Self::Dev, ImageFault> {
         let device = FileDevice::open(self.rt, name, access)?;
         let backing = device.backing();
         if self.is_out(backing) {
             return Err(ImageFault::NamedBefore);
         }
         self.note(backing);
-        Ok(WatchedFile::new(device, self.progress))
+        Ok(Watched::new(device, self.progress))
     }
 
-    fn put(&mut self, _name: &str, device: WatchedFile<'a>) {
-        let backing = device.backing();
+    fn put(&mut self, _name: &str, device: Self::Dev) {
+        let backing = device.device().backing();
         for place in &mut self.out {
             if *place == Some(backing) {
                 *place = None;

@@ -10,12 +10,8 @@
 #![tactic(auto)]
 
 mod arguments;
-mod cleared;
-mod coded_json;
-mod coded_text;
 mod comparing;
 mod copying;
-mod destination;
 mod files;
 mod made_file;
 mod map_out;
@@ -26,11 +22,8 @@ mod pace;
 mod person;
 mod progress;
 mod standard_input;
-mod watched;
 
 use crate::arguments::arguments;
-use crate::cleared::Cleared;
-use crate::coded_json::CodedJson;
 use crate::files::FileImages;
 use crate::map_out::{MapOut, begun_map, is_map_made};
 use crate::maps::{masked_images, tell_refusal};
@@ -41,6 +34,7 @@ use crate::standard_input::bytes_left_if_taken;
 use md_cli::{Session, run};
 use md_commands::Input;
 use md_examine::Buffered;
+use md_files::{Cleared, CodedJson, Line};
 use md_masks::MaskedImages;
 use md_messages::Messages;
 use md_words::{CheckForm, Command, ImageForm, Request, parse};

@@ -1,9 +1,7 @@
 // The file that a read makes of what it puts out.
-use crate::cleared::Cleared;
-use crate::destination::Destination;
 use crate::new_file::NewFile;
 use md_examine::{Sink, put_name};
-use md_files::{OutputFileFault, output_file_advice};
+use md_files::{Destination, OutputFileFault, Sparse, output_file_advice};
 use md_messages::Messages;
 use md_words::Request;
 use std::io::Write;
@@ -16,20 +14,20 @@ pub fn output_of<'a, E>(parsed: &Result<Request<'a>, E>) -> Option<&'a str> {
     }
 }
 
-/// Where a command puts out: to this writer, or to a new file where one is asked for, which is made before anything is read.
+/// Where a command puts out: to this sink, or to a new file where one is asked for, which is made before anything is read.
 /// Says on `err` why it can't be.
-pub fn destination_of<'a, W: Write + Drop, E: Write + Sink>(
+pub fn destination_of<'a, S: Sink + Drop, E: Write + Sink>(
     rt: &'a HostRuntime,
     path: Option<&str>,
-    standard: Cleared<'a, W>,
+    standard: S,
     messages: Messages,
     err: &mut E,
-) -> Option<Destination<'a, W>> {
+) -> Option<Destination<S, Sparse<NewFile<'a>>>> {
     let Some(path) = path else {
-        return Some(Destination::standard(standard));
+        return Some(Destination::Standard(standard));
     };
     match NewFile::make(rt, path) {
-        Ok(file) => Some(Destination::file(file)),
+        Ok(file) => Some(Destination::File(Sparse::new(file))),
         Err(fault) => {
             tell(fault, path, messages, err);
             None
@@ -38,8 +36,8 @@ pub fn destination_of<'a, W: Write + Drop, E: Write + Sink>(
 }
 
 /// Ends the file that was asked for, if one was. Says on `err` why it can't, or why it was not written any more.
-pub fn is_file_ended<'a, W: Write + Drop, E: Write + Sink>(
-    destination: Destination<'a, W>,
+pub fn is_file_ended<'a, S: Drop, E: Write + Sink>(
+    destination: Destination<S, Sparse<NewFile<'a>>>,
     path: Option<&str>,
     messages: Messages,
     err: &mut E,
@@ -47,10 +45,10 @@ pub fn is_file_ended<'a, W: Write + Drop, E: Write + Sink>(
     let Some(path) = path else {
         return true;
     };
-    let Some(file) = destination.into_file() else {
+    let Destination::File(file) = destination else {
         return true;
     };
-    match file.end(path) {
+    match file.into_inner().end(path) {
         Ok(()) => true,
         Err(fault) => {
             tell(fault, path, messages, err);

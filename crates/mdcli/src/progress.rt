@@ -6,6 +6,8 @@ use crate::comparing::Comparing;
 use crate::copying::Copying;
 use crate::person::Person;
 use md_commands::{Gate, Watch};
+use md_files::Line;
+use md_images::Traffic;
 use md_messages::Asker;
 use md_words::LongTask;
 use std::alloc::AllocError;
@@ -53,30 +55,6 @@ impl<'a> Progress<'a> {
             comparing: Comparing::new(),
             due: AtomicU64::new(0),
             is_shown: AtomicBool::new(false),
-        }
-    }
-
-    /// Counts bytes that were read.
-    pub fn add_read(&self, bytes: usize) {
-        self.read.fetch_add(bytes as u64, Ordering::SeqCst);
-        self.draw_if_due();
-    }
-
-    /// Counts a read that failed.
-    pub fn add_failed_read(&self) {
-        self.copying.count_failed();
-    }
-
-    /// Counts bytes that were written.
-    pub fn add_written(&self, bytes: usize) {
-        self.written.fetch_add(bytes as u64, Ordering::SeqCst);
-        self.draw_if_due();
-    }
-
-    /// Takes the line away, so that something else can be shown.
-    pub fn clear(&self) {
-        if self.is_shown.swap(false, Ordering::SeqCst) {
-            let _ = self.rt.stderr().write_all(CLEAR.as_bytes());
         }
     }
 
@@ -161,6 +139,30 @@ impl<'a> Progress<'a> {
             read / MIB,
             written / MIB
         )
+    }
+}
+
+impl<'a> Traffic for Progress<'a> {
+    fn add_read(&self, bytes: usize) {
+        self.read.fetch_add(bytes as u64, Ordering::SeqCst);
+        self.draw_if_due();
+    }
+
+    fn add_failed_read(&self) {
+        self.copying.count_failed();
+    }
+
+    fn add_written(&self, bytes: usize) {
+        self.written.fetch_add(bytes as u64, Ordering::SeqCst);
+        self.draw_if_due();
+    }
+}
+
+impl<'a> Line for Progress<'a> {
+    fn clear(&self) {
+        if self.is_shown.swap(false, Ordering::SeqCst) {
+            let _ = self.rt.stderr().write_all(CLEAR.as_bytes());
+        }
     }
 }
 

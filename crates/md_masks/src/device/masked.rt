@@ -1,8 +1,10 @@
 // A disk as its copy has it.
-ghost use Rattle.std.specs.Prelude.{◌≡◌, ◌+◌, ◌*◌, ◌%◌, ◌<◌, ◌≤◌, ◌++◌, ◌∷◌, ℕ, List, [], length, true, OnOk, OnErr, IsErr, refl};
+ghost use Rattle.std.specs.Prelude.{◌≡◌, ◌+◌, ◌*◌, ◌%◌, ◌<◌, ◌≤◌, ◌⊎◌, ◌++◌, ◌∷◌, ℕ, List, [], length, true, OnOk, OnErr, IsErr, refl};
 ghost use Rattle.md_device.specs.Splice.{SameOutside};
 ghost use Rattle.md_device.specs.Device.{held, written};
 ghost use Rattle.md_device.specs.Failing.{AddsItself, failed_read, failed_write};
+ghost use Rattle.md_badblocks.specs.Runs.{IsBad};
+ghost use Rattle.md_images.specs.Places.{MeetsSector};
 ghost use Rattle.md_masks.specs.Device.Masked.{Touches, IsUnmasked, disk_content};
 
 use crate::device::hidden::Hidden;
@@ -29,6 +31,8 @@ pub struct MaskedDevice<D> {
 }
 
 impl<D> Model for MaskedDevice<D> {
+    ghost use Rattle.md_badblocks.specs.Runs.{IsBad};
+    ghost use Rattle.md_images.specs.Places.{MeetsSector};
     ghost use Rattle.md_masks.specs.Device.Masked.{Masked, masked_code};
 
     ghost Value = { Masked D };
@@ -187,10 +191,13 @@ impl<D: Device> MaskedDevice<D> {
 
 #[tactic(auto, using(crate::proofs::DeviceLemmas::Disks::disks))]
 impl<D: SharedRead> SharedRead for MaskedDevice<D> {
+    ghost may_fail = { λ d s. IsBad d.mask s ⊎ D.may_fail d.inner s };
+
     fn read_shared(&self, sector: u64, buf: &mut [u8]) -> Result<(), ReadFault>
         requires whole { length buf.old % 512 ≡ 0 }
         requires within { 512 * sector + length buf.old ≤ length (disk_content self.now.mask self.now.disk (D.content self.now.inner)) }
         ensures ok { OnOk result (D.honest self.now.inner ≡ true → buf.new ≡ held (disk_content self.now.mask self.now.disk (D.content self.now.inner)) sector (length buf.old)) }
+        ensures err { OnErr result (MeetsSector (λ s. IsBad self.now.mask s ⊎ D.may_fail self.now.inner s) sector (length buf.old)) }
 
         // A masked sector is never read.
         ensures masked { Touches self.now.mask sector (length buf.old) → IsErr result × (buf.new ≡ buf.old) }

@@ -10,9 +10,9 @@ use Rattle.md_cli.proofs.devices.look_at_devices.Goals as goal
 
 pub returns-clause-gives : goal.returns-clause-gives
 returns-clause-gives g c =
-    let over : disks overlay_ghosts c.in-Ok.overlays.items ≡ map overlaid (disks g.D.Device c.args.devices.now) = ap (map (disk_of overlay_ghosts)) c.in-Ok.ensures ∙ shown_over g.D.Device c.args.devices.now in
+    let over : disks (overlay_ghosts g.D.Device) c.in-Ok.overlays.items ≡ map overlaid (disks g.D.Device c.args.devices.now) = ap (map (disk_of (overlay_ghosts g.D.Device))) c.in-Ok.ensures ∙ shown_over g.D.Device c.args.devices.now in
     let done = c.open_devices-overlays in
-    let seen = disks overlay_ghosts done.result.0.items in
+    let seen = disks (overlay_ghosts g.D.Device) done.result.0.items in
     inl (record {
       seen = seen;
       noted = done.new.notices;

@@ -4,4 +4,4 @@ use Rattle.md_images.specs.Overlays.{overlay_over}
 use Rattle.md_images.proofs.overlays.lay_over.Goals as goal
 
 pub returns : goal.returns
-returns g c = items_from_collect _ c.collect.ensures.ran (YieldsList-from_map _ (overlay_over g.D.Device.content g.D.Device.honest) (YieldsList-from_slice c.args.devices.now cc) c.map.ensures.closure (λ x r q k. search rules))
+returns g c = items_from_collect _ c.collect.ensures.ran (YieldsList-from_map _ (overlay_over g.D.Device.content) (YieldsList-from_slice c.args.devices.now cc) c.map.ensures.closure (λ x r q k. search rules))
