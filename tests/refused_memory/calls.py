@@ -90,6 +90,7 @@ FAILS = {
     "md_nbd::put_request": ("part_tests", "nbd_messages::requests_of_clients", "AllocError"),
     "md_plan::plan": ("part_tests", "plans::small_tables::plan_needs_a_move", "NoMemory"),
     "md_nbd::haggle": ("part_tests", "nbd_sessions::agrees_with_a_client", "NoMemory"),
+    "md_nbd::serve_client": ("part_tests", "nbd_sessions::serves_a_client", "NoMemory"),
     "md_device::Fuse::new": ("crash_tests", "fuses::metadata_stay", "AllocError"),
 }
 

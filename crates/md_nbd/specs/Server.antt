@@ -1,6 +1,4 @@
 -- What a client and a server say to each other over a source and a sink of bytes.
-pub mod ByteSource
-pub mod ByteSink
 pub mod FrontFilled
 pub mod Exchanges
 pub mod RequestsTaken
@@ -8,3 +6,4 @@ pub mod Told
 pub mod Transmission
 pub mod OptionsTaken
 pub mod OptionsAnswered
+pub mod Sessions

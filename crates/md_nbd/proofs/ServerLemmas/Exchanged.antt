@@ -1,5 +1,5 @@
 -- Requests, as they are taken and answered one after another.
-use Rattle.std.proofs.Common.{◌≡◌, ℕ, ◌+◌, ◌-◌, ◌^◌, ◌<◌, List, [], ◌∷◌, ◌++◌, length, length-append, take, refl, sym, ap, ◌∙◌, append_assoc, arith, true}
+use Rattle.std.proofs.Common.{◌≡◌, ℕ, ◌+◌, ◌-◌, ◌^◌, List, [], ◌∷◌, ◌++◌, length, length-append, take, refl, sym, ap, ◌∙◌, append_assoc, arith, true}
 use Rattle.std.specs.List.{flat_map}
 use Rattle.std.proofs.lemmas.List.{append-nil, length-take-le}
 use Rattle.md_nbd.specs.declared.export.Export.{Export}
@@ -8,8 +8,8 @@ use Rattle.md_nbd.specs.declared.task.Task.TheVariants.{Disconnect}
 use Rattle.md_nbd.specs.NbdRequests.{payload_of, request_bytes}
 use Rattle.md_nbd.specs.NbdTasks.{task_of}
 use Rattle.md_nbd.specs.declared.server.store.Store.{Ghosts as Stores}
-use Rattle.md_nbd.specs.declared.server.source.Source.{Ghosts as Sources}
-use Rattle.md_nbd.specs.declared.server.sink.Sink.{Ghosts as Sinks}
+use Rattle.md_commands.specs.declared.source.Source.{Ghosts as Sources}
+use Rattle.md_examine.specs.declared.sink.Sink.{Ghosts as Sinks}
 use Rattle.md_nbd.specs.declared.server.transmission.Gone.{Gone}
 use Rattle.md_nbd.specs.declared.server.transmission.Gone.TheVariants as gone
 use Rattle.md_nbd.specs.declared.server.transmission.StreamFault.TheVariants as fault
@@ -24,30 +24,30 @@ one_more : (f : Exchange → List ℕ) (xs : List Exchange) (x : Exchange) → f
 one_more f [] x = append-nil (f x)
 one_more f (y ∷ xs) x = ap (λ (t : List ℕ). f y ++ t) (one_more f xs x) ∙ sym (append_assoc (f y) (flat_map f xs) (f x))
 
-runs_on : {S : Type 0} (s : Stores S) (e : Export) (a b c : S) (xs : List Exchange) (x : Exchange) → AnswersInTurn s e a xs b → AnswersRequest s e b c x → AnswersInTurn s e a (xs ++ x ∷ []) c
+runs_on : {S M : Type 0} (s : Stores S M) (e : Export) (a b c : S × M) (xs : List Exchange) (x : Exchange) → AnswersInTurn s e a xs b → AnswersRequest s e b c x → AnswersInTurn s e a (xs ++ x ∷ []) c
 runs_on s e a b c [] x h k = (c, rw (← h) k, refl)
 runs_on s e a b c (y ∷ xs) x h k = (h.0, h.1, runs_on s e h.0 b c xs x h.2 k)
 
-pub record SoManyAnswered {S I O : Type 0} (s : Stores S) (i : Sources I) (o : Sinks O) (e : Export) (count : ℕ) (old new : S) (from to : I) (was now : O) : Type 0 where
+pub record SoManyAnswered {S M I O : Type 0} (s : Stores S M) (i : Sources I) (o : Sinks O) (e : Export) (count : ℕ) (old new : S × M) (from to : I) (was now : O) : Type 0 where
   pub exchanges : List Exchange
   pub count_is : length exchanges ≡ count
   pub answered : HasAnswered s i o e exchanges old new from to was now
 
-pub none_answered : {S I O : Type 0} (s : Stores S) (i : Sources I) (o : Sinks O) (e : Export) (old : S) (from : I) (was : O) → SoManyAnswered s i o e 0 old old from from was was
+pub none_answered : {S M I O : Type 0} (s : Stores S M) (i : Sources I) (o : Sinks O) (e : Export) (old : S × M) (from : I) (was : O) → SoManyAnswered s i o e 0 old old from from was was
 none_answered s i o e old from was = record {
   exchanges = [];
   count_is = refl;
-  answered = record { gives = gives_nothing i.remaining i.failed from; puts = puts_nothing o.contents o.failed was; runs = refl };
+  answered = record { gives = gives_nothing i.remaining i.failed from; puts = puts_nothing o.contents o.failed was; flushed = λ some. absurd (omega arith); runs = refl };
 }
 
 abbrev pub exchange_of : Request → List ℕ → List ℕ → Exchange
 exchange_of r buf reply = record { request = r; payload = take (payload_of r) buf; reply = reply }
 
-request_answered : {S I : Type 0} (s : Stores S) (i : Sources I) (e : Export) (mid new : S) (at to : I) (r : Request) (buf reply : List ℕ) → TakesRequest i at to buf r
+request_answered : {S M I : Type 0} (s : Stores S M) (i : Sources I) (e : Export) (mid new : S × M) (at to : I) (r : Request) (buf reply : List ℕ) → TakesRequest i at to buf r
     → DoesTask s (task_of e r) r.cookie (take (payload_of r) buf) mid new reply → AnswersRequest s e mid new (exchange_of r buf reply)
 request_answered s i e mid new at to r buf reply t d = record { payload = length-take-le (payload_of r) buf t.room; does = d }
 
-pub one_more_answered : {S I O : Type 0} (s : Stores S) (i : Sources I) (o : Sinks O) (e : Export) (count : ℕ) (old mid new : S) (from at to : I) (was then now : O) (r : Request) (buf : List ℕ)
+pub one_more_answered : {S M I O : Type 0} (s : Stores S M) (i : Sources I) (o : Sinks O) (e : Export) (count : ℕ) (old mid new : S × M) (from at to : I) (was then now : O) (r : Request) (buf : List ℕ)
     → SoManyAnswered s i o e count old mid from at was then → TakesRequest i at to buf r → TellsTask s o (task_of e r) r.cookie (take (payload_of r) buf) mid new then now
     → SoManyAnswered s i o e (count + 1) old new from to was now
 one_more_answered s i o e count old mid new from at to was then now r buf h t told =
@@ -57,7 +57,8 @@ one_more_answered s i o e count old mid new from at to was then now r buf h t to
       count_is = omega (arith, h.count_is, length-append h.exchanges (x ∷ []));
       answered = record {
         gives = rw (one_more exchange_bytes h.exchanges x) (gives_both i.remaining i.failed from at to (flat_map exchange_bytes h.exchanges) (exchange_bytes x) h.answered.gives t.gives);
-        puts = rw (one_more reply_of h.exchanges x) (puts_both o.contents o.failed was then now (flat_map reply_of h.exchanges) told.reply h.answered.puts told.puts);
+        puts = rw (one_more reply_of h.exchanges x) (puts_both o.contents o.failed was then now (flat_map reply_of h.exchanges) told.reply h.answered.puts told.puts.puts);
+        flushed = λ some. told.puts.flushed;
         runs = runs_on s e old mid new h.exchanges x h.answered.runs (request_answered s i e mid new at to r buf told.reply t told.does);
       };
     }
@@ -70,7 +71,7 @@ gone_for i e count at to gone.NoRequest h = h
 gone_for i e count at to gone.TooLong h = h
 gone_for i e count at to gone.Exhausted h = absurd h
 
-pub none_comes : {S I O : Type 0} (s : Stores S) (i : Sources I) (o : Sinks O) (e : Export) (count : ℕ) (old mid : S) (from at to : I) (was then : O) (why : Gone)
+pub none_comes : {S M I O : Type 0} (s : Stores S M) (i : Sources I) (o : Sinks O) (e : Export) (count : ℕ) (old mid : S × M) (from at to : I) (was then : O) (why : Gone)
     → SoManyAnswered s i o e count old mid from at was then → GivesNone i at to why → Transmits s i o e old mid from to was then why
 none_comes s i o e count old mid from at to was then why h t =
     record { exchanges = h.exchanges; at = at; answered = h.answered; gone = gone_for i e (length h.exchanges) at to why t }
@@ -81,21 +82,21 @@ asked_to_go i e at to r buf t asked none =
     let all : request_bytes r ++ take (payload_of r) buf ≡ request_bytes r = ap (λ (x : List ℕ). request_bytes r ++ x) empty ∙ append-nil (request_bytes r) in
     record { request = r; asked = asked; gives = rw (← all) t.gives }
 
-pub goes : {S I O : Type 0} (s : Stores S) (i : Sources I) (o : Sinks O) (e : Export) (count : ℕ) (old mid new : S) (from at to : I) (was then now : O) (r : Request) (buf : List ℕ)
+pub goes : {S M I O : Type 0} (s : Stores S M) (i : Sources I) (o : Sinks O) (e : Export) (count : ℕ) (old mid new : S × M) (from at to : I) (was then now : O) (r : Request) (buf : List ℕ)
     → SoManyAnswered s i o e count old mid from at was then → TakesRequest i at to buf r → IsAskedToGo s o e r mid new then now → Transmits s i o e old new from to was now gone.Disconnected
 goes s i o e count old mid new from at to was then now r buf h t l =
     rw (l.store, l.sink) (record { exchanges = h.exchanges; at = at; answered = h.answered; gone = asked_to_go i e at to r buf t l.asked l.empty })
 
-pub all_answered : {S I O : Type 0} (s : Stores S) (i : Sources I) (o : Sinks O) (e : Export) (old mid : S) (from at : I) (was then : O)
+pub all_answered : {S M I O : Type 0} (s : Stores S M) (i : Sources I) (o : Sinks O) (e : Export) (old mid : S × M) (from at : I) (was then : O)
     → SoManyAnswered s i o e (2 ^ 64 - 1) old mid from at was then → Transmits s i o e old mid from at was then gone.Exhausted
 all_answered s i o e old mid from at was then h = record { exchanges = h.exchanges; at = at; answered = h.answered; gone = (h.count_is, refl) }
 
-pub source_failed : {S I O : Type 0} (s : Stores S) (i : Sources I) (o : Sinks O) (e : Export) (count : ℕ) (old mid : S) (from at to : I) (was then : O)
+pub source_failed : {S M I O : Type 0} (s : Stores S M) (i : Sources I) (o : Sinks O) (e : Export) (count : ℕ) (old mid : S × M) (from at to : I) (was then : O)
     → SoManyAnswered s i o e count old mid from at was then → i.failed to ≡ true → BreaksOff s i o e old mid from to was then fault.Source
 source_failed s i o e count old mid from at to was then h failed =
     record { exchanges = h.exchanges; mid = mid; at = at; before = then; answered = h.answered; failed = (failed, refl, refl) }
 
-pub sink_failed : {S I O : Type 0} (s : Stores S) (i : Sources I) (o : Sinks O) (e : Export) (count : ℕ) (old mid new : S) (from at to : I) (was then now : O) (r : Request) (buf : List ℕ)
+pub sink_failed : {S M I O : Type 0} (s : Stores S M) (i : Sources I) (o : Sinks O) (e : Export) (count : ℕ) (old mid new : S × M) (from at to : I) (was then now : O) (r : Request) (buf : List ℕ)
     → SoManyAnswered s i o e count old mid from at was then → TakesRequest i at to buf r → FailsToTell s o (task_of e r) r.cookie (take (payload_of r) buf) mid new now → BreaksOff s i o e old new from to was now fault.Sink
 sink_failed s i o e count old mid new from at to was then now r buf h t told =
     record {

@@ -1,9 +1,9 @@
 -- Options that are taken, or not.
-use Rattle.std.proofs.Common.{◌≡◌, ◌≢◌, ℕ, ◌<◌, ◌≤◌, List, ◌++◌, length, take, refl, sym, ap, ◌∙◌, append_assoc, arith, inl, inr}
+use Rattle.std.proofs.Common.{◌≡◌, ◌≢◌, ℕ, ◌<◌, ◌≤◌, List, ◌++◌, length, take, refl, sym, ap, ◌∙◌, arith, inl, inr}
 use Rattle.std.proofs.lemmas.List.{length-take-le}
 use Rattle.md_nbd.specs.Options.{longest_body, option_bytes, option_head}
-use Rattle.md_nbd.specs.declared.server.source.Source.{Ghosts as Sources}
-use Rattle.md_nbd.specs.Server.ByteSource.{GivesBytes}
+use Rattle.md_commands.specs.declared.source.Source.{Ghosts as Sources}
+use Rattle.md_commands.specs.Source.{Gives}
 use Rattle.md_nbd.specs.Server.FrontFilled.{FillsFrontOf}
 use Rattle.md_nbd.specs.Server.OptionsTaken.{EndsWithinOption, GivesNoOption, GivesTooLongOption, TakesOption}
 use Rattle.md_nbd.proofs.ServerLemmas.Pieces.{gives_both}
@@ -19,7 +19,7 @@ pub no_option : {I : Type 0} (i : Sources I) (old new : I) (buf : List ℕ) (n :
 no_option i old new buf n all whole f none = record { bytes = buf; whole = whole; none = none; gives = head_given i old new buf n 16 all whole f }
 
 pub option_given : {I : Type 0} (i : Sources I) (old new : I) (buf : List ℕ) (n option size : ℕ) → 16 ≤ n → length buf ≡ 16 → FillsFrontOf i old new buf n → buf ≡ option_head option size
-    → GivesBytes i.remaining i.failed old new (option_head option size)
+    → Gives i.remaining i.failed old new (option_head option size)
 option_given i old new buf n option size all whole f is = rw (← is) (head_given i old new buf n 16 all whole f)
 
 pub too_long_option : {I : Type 0} (i : Sources I) (old new : I) (buf : List ℕ) (n option size : ℕ) → 16 ≤ n → length buf ≡ 16 → FillsFrontOf i old new buf n → buf ≡ option_head option size → longest_body < size → GivesTooLongOption i old new

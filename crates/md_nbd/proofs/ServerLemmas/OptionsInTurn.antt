@@ -6,8 +6,8 @@ use Rattle.md_nbd.specs.declared.export.Export.{Export}
 use Rattle.md_nbd.specs.declared.haggling.Next.{Next}
 use Rattle.md_nbd.specs.declared.haggling.Next.TheVariants as after
 use Rattle.md_nbd.specs.Haggling.{Asked, answer_to_asked, asked_bytes, next_after_asked}
-use Rattle.md_nbd.specs.declared.server.source.Source.{Ghosts as Sources}
-use Rattle.md_nbd.specs.declared.server.sink.Sink.{Ghosts as Sinks}
+use Rattle.md_commands.specs.declared.source.Source.{Ghosts as Sources}
+use Rattle.md_examine.specs.declared.sink.Sink.{Ghosts as Sinks}
 use Rattle.md_nbd.specs.declared.server.agreement.Haggled.{Haggled}
 use Rattle.md_nbd.specs.declared.server.agreement.Haggled.TheVariants as haggled
 use Rattle.md_nbd.specs.declared.server.agreement.HaggleFault.{HaggleFault}
@@ -34,7 +34,7 @@ pub no_options : {I O : Type 0} (i : Sources I) (o : Sinks O) (e : Export) (z : 
 no_options i o e z from was = record {
   asked = [];
   count_is = refl;
-  answered = record { gives = gives_nothing i.remaining i.failed from; puts = puts_nothing o.contents o.failed was; goes_on = tt };
+  answered = record { gives = gives_nothing i.remaining i.failed from; puts = puts_nothing o.contents o.failed was; flushed = λ some. absurd (omega arith); goes_on = tt };
 }
 
 abbrev pub asked_as : ℕ → ℕ → List ℕ → Asked
@@ -50,7 +50,8 @@ one_more_option i o e z count from at to was then now option size buf next h t p
       count_is = omega (arith, h.count_is, length-append h.asked (a ∷ []));
       answered = record {
         gives = rw (one_more asked_bytes h.asked a) (gives_both i.remaining i.failed from at to (flat_map asked_bytes h.asked) (asked_bytes a) h.answered.gives t.gives);
-        puts = rw (one_more (answer_to_asked e z) h.asked a) (puts_both o.contents o.failed was then now (flat_map (answer_to_asked e z) h.asked) (answer_to_asked e z a) h.answered.puts put.puts);
+        puts = rw (one_more (answer_to_asked e z) h.asked a) (puts_both o.contents o.failed was then now (flat_map (answer_to_asked e z) h.asked) (answer_to_asked e z a) h.answered.puts put.puts.puts);
+        flushed = λ some. put.puts.flushed;
         goes_on = also (λ (x : Asked). next_after_asked x ≡ after.Haggling) h.asked a h.answered.goes_on (sym put.comes ∙ is);
       };
     }

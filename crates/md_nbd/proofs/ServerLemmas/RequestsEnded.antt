@@ -1,12 +1,11 @@
 -- Requests that are taken, or not.
-use Rattle.std.proofs.Common.{◌≡◌, ◌≢◌, ℕ, ◌<◌, ◌≤◌, List, [], ◌++◌, length, take, refl, sym, ap, ◌∙◌, arith, inl, inr}
-use Rattle.std.specs.Io.KnownBytes.{IsAtEnd}
+use Rattle.std.proofs.Common.{◌≡◌, ◌≢◌, ℕ, ◌<◌, ◌≤◌, List, [], ◌++◌, length, take, refl, ap, arith, inl, inr}
 use Rattle.std.proofs.lemmas.List.{length-take-le}
 use Rattle.md_nbd.specs.declared.request.Request.{Request}
 use Rattle.md_nbd.specs.Export.{most_bytes}
 use Rattle.md_nbd.specs.NbdRequests.{payload_of, request_bytes}
-use Rattle.md_nbd.specs.declared.server.source.Source.{Ghosts as Sources}
-use Rattle.md_nbd.specs.Server.ByteSource.{GivesBytes}
+use Rattle.md_commands.specs.declared.source.Source.{Ghosts as Sources}
+use Rattle.md_commands.specs.Source.{Gives}
 use Rattle.md_nbd.specs.Server.FrontFilled.{FillsFrontOf}
 use Rattle.md_nbd.specs.Server.RequestsTaken.{EndsThere, EndsWithin, GivesNoRequest, GivesTooLong, TakesRequest}
 use Rattle.md_nbd.proofs.ServerLemmas.Pieces.{gives_both, gives_whole}
@@ -21,14 +20,14 @@ ends_in_head i old new buf n some few whole f =
     let len : length (take n buf) ≡ n = length-take-le n buf f.few in
     record { bytes = take n buf; part = inl (omega (arith, len, some), omega (arith, len)); gives = f.gives; end = f.end (omega arith) }
 
-pub head_given : {I : Type 0} (i : Sources I) (old new : I) (buf : List ℕ) (n size : ℕ) → size ≤ n → length buf ≡ size → FillsFrontOf i old new buf n → GivesBytes i.remaining i.failed old new buf
+pub head_given : {I : Type 0} (i : Sources I) (old new : I) (buf : List ℕ) (n size : ℕ) → size ≤ n → length buf ≡ size → FillsFrontOf i old new buf n → Gives i.remaining i.failed old new buf
 head_given i old new buf n size all whole f = gives_whole i.remaining i.failed old new buf n (omega arith) f.gives
 
 pub no_request : {I : Type 0} (i : Sources I) (old new : I) (buf : List ℕ) (n : ℕ) → 28 ≤ n → length buf ≡ 28 → FillsFrontOf i old new buf n
     → ((r : Request) → buf ≡ request_bytes r → ⊥) → GivesNoRequest i old new
 no_request i old new buf n all whole f none = record { bytes = buf; whole = whole; none = none; gives = head_given i old new buf n 28 all whole f }
 
-pub request_given : {I : Type 0} (i : Sources I) (old new : I) (buf : List ℕ) (n : ℕ) (r : Request) → 28 ≤ n → length buf ≡ 28 → FillsFrontOf i old new buf n → buf ≡ request_bytes r → GivesBytes i.remaining i.failed old new (request_bytes r)
+pub request_given : {I : Type 0} (i : Sources I) (old new : I) (buf : List ℕ) (n : ℕ) (r : Request) → 28 ≤ n → length buf ≡ 28 → FillsFrontOf i old new buf n → buf ≡ request_bytes r → Gives i.remaining i.failed old new (request_bytes r)
 request_given i old new buf n r all whole f is = rw (← is) (head_given i old new buf n 28 all whole f)
 
 pub too_long : {I : Type 0} (i : Sources I) (old new : I) (buf : List ℕ) (n : ℕ) (r : Request) → 28 ≤ n → length buf ≡ 28 → FillsFrontOf i old new buf n → buf ≡ request_bytes r → most_bytes < payload_of r → GivesTooLong i old new

@@ -23,9 +23,9 @@ exchange_bytes x = request_bytes x.request ++ x.payload
 abbrev pub reply_of : Exchange → List ℕ
 reply_of x = x.reply
 
-module _ {S : Type 0} (s : Stores S) where
+module _ {S M : Type 0} (s : Stores S M) where
   -- The bytes were read, as many as were asked for, and stand after the head of the reply.
-  pub record RepliesWithBytes (old new : S) (sector sectors cookie : ℕ) (reply : List ℕ) : Type 0 where
+  pub record RepliesWithBytes (old new : S × M) (sector sectors cookie : ℕ) (reply : List ℕ) : Type 0 where
     pub bytes : List ℕ
     pub whole : length bytes ≡ sector_bytes * sectors
     pub read : s.reads old new sector bytes
@@ -33,7 +33,7 @@ module _ {S : Type 0} (s : Stores S) where
 
   -- What a task asks for is done, and the reply says so. Or it is not, and the reply is an error and nothing else. A refusal
   -- changes nothing.
-  abbrev pub DoesTask : Task → ℕ → List ℕ → S → S → List ℕ → Type 0
+  abbrev pub DoesTask : Task → ℕ → List ℕ → S × M → S × M → List ℕ → Type 0
   DoesTask (Read sector sectors) cookie payload old new reply = RepliesWithBytes old new sector sectors cookie reply ⊎ (s.unread old new sector sectors × (reply ≡ error_reply Io cookie))
   DoesTask (Write sector sectors) cookie payload old new reply = (s.writes old new sector payload × (reply ≡ success_reply cookie)) ⊎ (s.unwritten old new sector payload × (reply ≡ error_reply Io cookie))
   DoesTask Flush cookie payload old new reply = (s.flushes old new × (reply ≡ success_reply cookie)) ⊎ (s.unflushed old new × (reply ≡ error_reply Io cookie))
@@ -41,11 +41,11 @@ module _ {S : Type 0} (s : Stores S) where
   DoesTask (Refuse error) cookie payload old new reply = (new ≡ old) × (reply ≡ error_reply error cookie)
 
   -- A request came whole, and is answered as it asks.
-  pub record AnswersRequest (e : Export) (old new : S) (x : Exchange) : Type 0 where
+  pub record AnswersRequest (e : Export) (old new : S × M) (x : Exchange) : Type 0 where
     pub payload : length x.payload ≡ payload_of x.request
     pub does : DoesTask (task_of e x.request) x.request.cookie x.payload old new x.reply
 
   -- All of them, one after another.
-  abbrev pub AnswersInTurn : Export → S → List Exchange → S → Type 0
+  abbrev pub AnswersInTurn : Export → S × M → List Exchange → S × M → Type 0
   AnswersInTurn e old [] new = new ≡ old
-  AnswersInTurn e old (x ∷ xs) new = (mid : S) × AnswersRequest e old mid x × AnswersInTurn e mid xs new
+  AnswersInTurn e old (x ∷ xs) new = (mid : S × M) × AnswersRequest e old mid x × AnswersInTurn e mid xs new

@@ -1,11 +1,11 @@
 -- The front of a buffer is filled.
 use Rattle.std.specs.Prelude.{ℕ, ◌<◌, ◌≤◌, List, length, take}
 use Rattle.std.specs.Io.KnownBytes.{IsAtEnd}
-use Rattle.md_nbd.specs.declared.server.source.Source.{Ghosts as Sources}
-use Rattle.md_nbd.specs.Server.ByteSource.{GivesBytes}
+use Rattle.md_commands.specs.declared.source.Source.{Ghosts as Sources}
+use Rattle.md_commands.specs.Source.{Gives}
 
 -- The source gave so many bytes, which stand at the front of the buffer: fewer than there is room for only at its end.
 pub record FillsFrontOf {I : Type 0} (i : Sources I) (old new : I) (buf : List ℕ) (n : ℕ) : Type 0 where
   pub few : n ≤ length buf
-  pub gives : GivesBytes i.remaining i.failed old new (take n buf)
+  pub gives : Gives i.remaining i.failed old new (take n buf)
   pub end : n < length buf → IsAtEnd (i.remaining new)

@@ -1,25 +1,26 @@
 -- The options of a client, from the first to the last (the NBD protocol, "Option haggling").
-use Rattle.std.specs.Prelude.{◌≡◌, ℕ, ◌-◌, ◌^◌, Bool, true, List, length, Result, MatchResult}
+use Rattle.std.specs.Prelude.{◌≡◌, ◌<◌, ℕ, ◌-◌, ◌^◌, Bool, true, List, length}
 use Rattle.std.specs.List.{flat_map, AllByRecursion}
 use Rattle.md_nbd.specs.declared.export.Export.{Export}
 use Rattle.md_nbd.specs.declared.haggling.Next.{Next}
 use Rattle.md_nbd.specs.declared.haggling.Next.TheVariants as after
 use Rattle.md_nbd.specs.Haggling.{Asked, answer_to_asked, asked_bytes, next_after, next_after_asked, option_answer}
-use Rattle.md_nbd.specs.declared.server.source.Source.{Ghosts as Sources}
-use Rattle.md_nbd.specs.declared.server.sink.Sink.{Ghosts as Sinks}
+use Rattle.md_commands.specs.declared.source.Source.{Ghosts as Sources}
+use Rattle.md_examine.specs.declared.sink.Sink.{Ghosts as Sinks}
 use Rattle.md_nbd.specs.declared.server.agreement.Haggled.{Haggled}
 use Rattle.md_nbd.specs.declared.server.agreement.Haggled.TheVariants as haggled
 use Rattle.md_nbd.specs.declared.server.agreement.HaggleFault.{HaggleFault}
 use Rattle.md_nbd.specs.declared.server.agreement.HaggleFault.TheVariants as fault
-use Rattle.md_nbd.specs.Server.ByteSource.{GivesBytes}
-use Rattle.md_nbd.specs.Server.ByteSink.{PutsBytes}
+use Rattle.md_commands.specs.Source.{Gives}
+use Rattle.md_commands.specs.Output.{PutsOut}
+use Rattle.md_examine.specs.Sink.{Puts}
 use Rattle.md_nbd.specs.Server.RequestsTaken.{EndsThere}
 use Rattle.md_nbd.specs.Server.OptionsTaken.{EndsWithinOption, GivesNoOption, GivesTooLongOption}
 
 -- ---- one answer
 -- The answer to an option is put out, and what comes next is what the protocol says.
 pub record PutsAnswer {O : Type 0} (o : Sinks O) (e : Export) (no_zeroes : Bool) (option : ℕ) (body : List ℕ) (was now : O) (next : Next) : Type 0 where
-  pub puts : PutsBytes o.contents o.failed was now (option_answer e no_zeroes option body)
+  pub puts : PutsOut o was now (option_answer e no_zeroes option body)
   pub comes : next ≡ next_after option body
 
 -- The sink has failed, or nothing was put out for lack of memory.
@@ -29,17 +30,19 @@ FailsToAnswer o was now fault.Sink = o.failed now ≡ true
 FailsToAnswer o was now fault.NoMemory = now ≡ was
 
 -- ---- all answers
--- The source gave these options, the sink took the answers to them in this order and no other byte, and another may come after each.
+-- The source gave these options, the sink took the answers to them in this order and no other byte and holds none back, and another may
+-- come after each.
 pub record HasHaggled {I O : Type 0} (i : Sources I) (o : Sinks O) (e : Export) (no_zeroes : Bool) (asked : List Asked) (from to : I) (was now : O) : Type 0 where
-  pub gives : GivesBytes i.remaining i.failed from to (flat_map asked_bytes asked)
-  pub puts : PutsBytes o.contents o.failed was now (flat_map (answer_to_asked e no_zeroes) asked)
+  pub gives : Gives i.remaining i.failed from to (flat_map asked_bytes asked)
+  pub puts : Puts o.contents o.failed was now (flat_map (answer_to_asked e no_zeroes) asked)
+  pub flushed : 0 < length asked → o.is_flushed now
   pub goes_on : AllByRecursion (λ a. next_after_asked a ≡ after.Haggling) asked
 
 -- One more option came and was answered, after which something else comes.
 pub record AnswersLast {I O : Type 0} (i : Sources I) (o : Sinks O) (e : Export) (no_zeroes : Bool) (next : Next) (at to : I) (before now : O) : Type 0 where
   pub last : Asked
-  pub gives : GivesBytes i.remaining i.failed at to (asked_bytes last)
-  pub puts : PutsBytes o.contents o.failed before now (answer_to_asked e no_zeroes last)
+  pub gives : Gives i.remaining i.failed at to (asked_bytes last)
+  pub puts : PutsOut o before now (answer_to_asked e no_zeroes last)
   pub comes : next_after_asked last ≡ next
 
 -- Why no option is answered any more, after so many. Where the client or the server goes for another reason than an option, no
@@ -64,7 +67,7 @@ pub record Haggles {I O : Type 0} (i : Sources I) (o : Sinks O) (e : Export) (no
 -- An option came that was not answered, or not surely.
 pub record IsUnanswered {I O : Type 0} (i : Sources I) (o : Sinks O) (at to : I) (before now : O) (why : HaggleFault) : Type 0 where
   pub last : Asked
-  pub gives : GivesBytes i.remaining i.failed at to (asked_bytes last)
+  pub gives : Gives i.remaining i.failed at to (asked_bytes last)
   pub fails : FailsToAnswer o before now why
 
 -- The stream that is named has failed, or there was no memory for an answer.

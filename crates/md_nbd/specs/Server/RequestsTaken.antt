@@ -4,19 +4,19 @@ use Rattle.std.specs.Io.KnownBytes.{IsAtEnd}
 use Rattle.md_nbd.specs.declared.request.Request.{Request}
 use Rattle.md_nbd.specs.Export.{most_bytes}
 use Rattle.md_nbd.specs.NbdRequests.{payload_of, request_bytes}
-use Rattle.md_nbd.specs.declared.server.source.Source.{Ghosts as Sources}
+use Rattle.md_commands.specs.declared.source.Source.{Ghosts as Sources}
 use Rattle.md_nbd.specs.declared.server.transmission.Gone.{Gone}
 use Rattle.md_nbd.specs.declared.server.transmission.Gone.TheVariants as gone
-use Rattle.md_nbd.specs.Server.ByteSource.{GivesBytes}
+use Rattle.md_commands.specs.Source.{Gives}
 
 -- A request came, and the bytes that it writes stand at the front of the buffer.
 pub record TakesRequest {I : Type 0} (i : Sources I) (old new : I) (buf : List ℕ) (r : Request) : Type 0 where
   pub room : payload_of r ≤ length buf
-  pub gives : GivesBytes i.remaining i.failed old new (request_bytes r ++ take (payload_of r) buf)
+  pub gives : Gives i.remaining i.failed old new (request_bytes r ++ take (payload_of r) buf)
 
 -- The source ended before any further byte.
 pub record EndsThere {I : Type 0} (i : Sources I) (old new : I) : Type 0 where
-  pub gives : GivesBytes i.remaining i.failed old new []
+  pub gives : Gives i.remaining i.failed old new []
   pub end : IsAtEnd (i.remaining new)
 
 -- A part of the head of a request, or a head and a part of what is to be written.
@@ -29,7 +29,7 @@ IsPartOfRequest bytes =
 pub record EndsWithin {I : Type 0} (i : Sources I) (old new : I) : Type 0 where
   pub bytes : List ℕ
   pub part : IsPartOfRequest bytes
-  pub gives : GivesBytes i.remaining i.failed old new bytes
+  pub gives : Gives i.remaining i.failed old new bytes
   pub end : IsAtEnd (i.remaining new)
 
 -- As many bytes came as a request's head has, and they are none.
@@ -37,13 +37,13 @@ pub record GivesNoRequest {I : Type 0} (i : Sources I) (old new : I) : Type 0 wh
   pub bytes : List ℕ
   pub whole : length bytes ≡ 28
   pub none : (r : Request) → bytes ≡ request_bytes r → ⊥
-  pub gives : GivesBytes i.remaining i.failed old new bytes
+  pub gives : Gives i.remaining i.failed old new bytes
 
 -- The head of a request came that writes more than the server keeps room for.
 pub record GivesTooLong {I : Type 0} (i : Sources I) (old new : I) : Type 0 where
   pub request : Request
   pub long : most_bytes < payload_of request
-  pub gives : GivesBytes i.remaining i.failed old new (request_bytes request)
+  pub gives : Gives i.remaining i.failed old new (request_bytes request)
 
 -- Why the source gave no request.
 abbrev pub GivesNone : {I : Type 0} → Sources I → I → I → Gone → Type 0

@@ -7,34 +7,34 @@ use Rattle.md_nbd.specs.declared.task.Task.TheVariants.{Disconnect}
 use Rattle.md_nbd.specs.NbdRequests.{payload_of}
 use Rattle.md_nbd.specs.NbdTasks.{task_of}
 use Rattle.md_nbd.specs.declared.server.store.Store.{Ghosts as Stores}
-use Rattle.md_nbd.specs.declared.server.sink.Sink.{Ghosts as Sinks}
-use Rattle.md_nbd.specs.Server.ByteSink.{PutsBytes}
+use Rattle.md_examine.specs.declared.sink.Sink.{Ghosts as Sinks}
+use Rattle.md_commands.specs.Output.{PutsOut}
 use Rattle.md_nbd.specs.Server.Exchanges.{DoesTask}
 
-module _ {S O : Type 0} (s : Stores S) (o : Sinks O) where
-  pub record TellsTask (task : Task) (cookie : ℕ) (payload : List ℕ) (old new : S) (was now : O) : Type 0 where
+module _ {S M O : Type 0} (s : Stores S M) (o : Sinks O) where
+  pub record TellsTask (task : Task) (cookie : ℕ) (payload : List ℕ) (old new : S × M) (was now : O) : Type 0 where
     pub reply : List ℕ
     pub does : DoesTask s task cookie payload old new reply
-    pub puts : PutsBytes o.contents o.failed was now reply
+    pub puts : PutsOut o was now reply
 
   -- The task is done, but the sink failed.
-  pub record FailsToTell (task : Task) (cookie : ℕ) (payload : List ℕ) (old new : S) (now : O) : Type 0 where
+  pub record FailsToTell (task : Task) (cookie : ℕ) (payload : List ℕ) (old new : S × M) (now : O) : Type 0 where
     pub reply : List ℕ
     pub does : DoesTask s task cookie payload old new reply
     pub failed : o.failed now ≡ true
 
-  abbrev pub TellsTaskOrFails : {T E : Type 0} → Task → ℕ → List ℕ → S → S → O → O → Result T E → Type 0
+  abbrev pub TellsTaskOrFails : {T E : Type 0} → Task → ℕ → List ℕ → S × M → S × M → O → O → Result T E → Type 0
   TellsTaskOrFails task cookie payload old new was now result =
       MatchResult result (λ _. TellsTask task cookie payload old new was now) (λ _. FailsToTell task cookie payload old new now)
 
   -- The request asks the server to go, nothing came with it, and nothing is done for it.
-  pub record IsAskedToGo (e : Export) (r : Request) (old new : S) (was now : O) : Type 0 where
+  pub record IsAskedToGo (e : Export) (r : Request) (old new : S × M) (was now : O) : Type 0 where
     pub asked : task_of e r ≡ Disconnect
     pub empty : payload_of r ≡ 0
     pub store : new ≡ old
     pub sink : now ≡ was
 
   -- A request is answered, or it asks the server to go.
-  abbrev pub AnswersOrGoes : Export → Request → List ℕ → S → S → O → O → Bool → Type 0
+  abbrev pub AnswersOrGoes : Export → Request → List ℕ → S × M → S × M → O → O → Bool → Type 0
   AnswersOrGoes e r payload old new was now true = TellsTask (task_of e r) r.cookie payload old new was now
   AnswersOrGoes e r payload old new was now false = IsAskedToGo e r old new was now

@@ -1,5 +1,5 @@
 -- The requests of a session, from the first to the last (the NBD protocol, "Transmission").
-use Rattle.std.specs.Prelude.{◌≡◌, ℕ, ◌-◌, ◌^◌, true, List, length}
+use Rattle.std.specs.Prelude.{◌≡◌, ◌<◌, ℕ, ◌-◌, ◌^◌, true, List, length}
 use Rattle.std.specs.List.{flat_map}
 use Rattle.md_nbd.specs.declared.export.Export.{Export}
 use Rattle.md_nbd.specs.declared.request.Request.{Request}
@@ -7,28 +7,30 @@ use Rattle.md_nbd.specs.declared.task.Task.TheVariants.{Disconnect}
 use Rattle.md_nbd.specs.NbdRequests.{request_bytes}
 use Rattle.md_nbd.specs.NbdTasks.{task_of}
 use Rattle.md_nbd.specs.declared.server.store.Store.{Ghosts as Stores}
-use Rattle.md_nbd.specs.declared.server.source.Source.{Ghosts as Sources}
-use Rattle.md_nbd.specs.declared.server.sink.Sink.{Ghosts as Sinks}
+use Rattle.md_commands.specs.declared.source.Source.{Ghosts as Sources}
+use Rattle.md_examine.specs.declared.sink.Sink.{Ghosts as Sinks}
 use Rattle.md_nbd.specs.declared.server.transmission.Gone.{Gone}
 use Rattle.md_nbd.specs.declared.server.transmission.Gone.TheVariants as gone
 use Rattle.md_nbd.specs.declared.server.transmission.StreamFault.{StreamFault}
 use Rattle.md_nbd.specs.declared.server.transmission.StreamFault.TheVariants as fault
-use Rattle.md_nbd.specs.Server.ByteSource.{GivesBytes}
-use Rattle.md_nbd.specs.Server.ByteSink.{PutsBytes}
+use Rattle.md_commands.specs.Source.{Gives}
+use Rattle.md_examine.specs.Sink.{Puts}
 use Rattle.md_nbd.specs.Server.Exchanges.{AnswersInTurn, AnswersRequest, Exchange, reply_of, exchange_bytes}
 use Rattle.md_nbd.specs.Server.RequestsTaken.{EndsThere, EndsWithin, GivesNoRequest, GivesTooLong}
 
--- The source gave these requests, the sink took their replies in this order and no other byte, and the store is as they left it.
-pub record HasAnswered {S I O : Type 0} (s : Stores S) (i : Sources I) (o : Sinks O) (e : Export) (exchanges : List Exchange) (old new : S) (from to : I) (was now : O) : Type 0 where
-  pub gives : GivesBytes i.remaining i.failed from to (flat_map exchange_bytes exchanges)
-  pub puts : PutsBytes o.contents o.failed was now (flat_map reply_of exchanges)
+-- The source gave these requests, the sink took their replies in this order and no other byte and holds none back, and the store is as
+-- they left it.
+pub record HasAnswered {S M I O : Type 0} (s : Stores S M) (i : Sources I) (o : Sinks O) (e : Export) (exchanges : List Exchange) (old new : S × M) (from to : I) (was now : O) : Type 0 where
+  pub gives : Gives i.remaining i.failed from to (flat_map exchange_bytes exchanges)
+  pub puts : Puts o.contents o.failed was now (flat_map reply_of exchanges)
+  pub flushed : 0 < length exchanges → o.is_flushed now
   pub runs : AnswersInTurn s e old exchanges new
 
 -- A request came that asks the server to go.
 pub record GivesDisconnect {I : Type 0} (i : Sources I) (e : Export) (at to : I) : Type 0 where
   pub request : Request
   pub asked : task_of e request ≡ Disconnect
-  pub gives : GivesBytes i.remaining i.failed at to (request_bytes request)
+  pub gives : Gives i.remaining i.failed at to (request_bytes request)
 
 -- Why no request comes any more, after so many.
 abbrev pub HasGone : {I : Type 0} → Sources I → Export → ℕ → I → I → Gone → Type 0
@@ -40,28 +42,28 @@ HasGone i e count at to gone.TooLong = GivesTooLong i at to
 HasGone i e count at to gone.Exhausted = (count ≡ 2 ^ 64 - 1) × (to ≡ at)
 
 -- Requests came and were answered, and then none came any more, for this reason.
-pub record Transmits {S I O : Type 0} (s : Stores S) (i : Sources I) (o : Sinks O) (e : Export) (old new : S) (from to : I) (was now : O) (why : Gone) : Type 0 where
+pub record Transmits {S M I O : Type 0} (s : Stores S M) (i : Sources I) (o : Sinks O) (e : Export) (old new : S × M) (from to : I) (was now : O) (why : Gone) : Type 0 where
   pub exchanges : List Exchange
   pub at : I
   pub answered : HasAnswered s i o e exchanges old new from at was now
   pub gone : HasGone i e (length exchanges) at to why
 
 -- One more request was done, of which the reply was not put out, or not surely: nobody was told that it stands.
-pub record IsUntold {S I O : Type 0} (s : Stores S) (i : Sources I) (o : Sinks O) (e : Export) (mid new : S) (at to : I) (now : O) : Type 0 where
+pub record IsUntold {S M I O : Type 0} (s : Stores S M) (i : Sources I) (o : Sinks O) (e : Export) (mid new : S × M) (at to : I) (now : O) : Type 0 where
   pub last : Exchange
-  pub gives : GivesBytes i.remaining i.failed at to (exchange_bytes last)
+  pub gives : Gives i.remaining i.failed at to (exchange_bytes last)
   pub answers : AnswersRequest s e mid new last
   pub failed : o.failed now ≡ true
 
 -- The stream that is named has failed. Where that is the source, nothing was done since the last reply.
-abbrev pub HasFailed : {S I O : Type 0} → Stores S → Sources I → Sinks O → Export → S → S → I → I → O → O → StreamFault → Type 0
+abbrev pub HasFailed : {S M I O : Type 0} → Stores S M → Sources I → Sinks O → Export → S × M → S × M → I → I → O → O → StreamFault → Type 0
 HasFailed s i o e mid new at to then now fault.Source = (i.failed to ≡ true) × (new ≡ mid) × (now ≡ then)
 HasFailed s i o e mid new at to then now fault.Sink = IsUntold s i o e mid new at to now
 
 -- Requests came and were answered, and then a stream failed.
-pub record BreaksOff {S I O : Type 0} (s : Stores S) (i : Sources I) (o : Sinks O) (e : Export) (old new : S) (from to : I) (was now : O) (why : StreamFault) : Type 0 where
+pub record BreaksOff {S M I O : Type 0} (s : Stores S M) (i : Sources I) (o : Sinks O) (e : Export) (old new : S × M) (from to : I) (was now : O) (why : StreamFault) : Type 0 where
   pub exchanges : List Exchange
-  pub mid : S
+  pub mid : S × M
   pub at : I
   pub before : O
   pub answered : HasAnswered s i o e exchanges old mid from at was before

@@ -5,8 +5,9 @@ ghost use Rattle.md_nbd.specs.Server.OptionsAnswered.{BreaksHaggling, FailsToAns
 use crate::export::Export;
 use crate::haggling::{Next, answer_option};
 use crate::server::option_taken::take_option;
-use crate::server::sink::{Sink, SinkFault, put};
-use crate::server::source::Source;
+use crate::server::putting::put;
+use md_commands::Source;
+use md_examine::{Sink, SinkFault};
 use std::alloc::Global;
 
 /// Why no more options are answered.

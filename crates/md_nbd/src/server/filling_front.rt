@@ -2,7 +2,7 @@
 ghost use Rattle.std.specs.Prelude.{◌≡◌, MatchResult, true};
 ghost use Rattle.md_nbd.specs.Server.FrontFilled.{FillsFrontOf};
 
-use crate::server::source::{Source, SourceFault};
+use md_commands::{Source, SourceFault};
 
 /// Fills the front of `buf` with the next bytes, and answers how many they are: fewer than there is room for only where the source
 /// ended.

@@ -5,8 +5,8 @@ ghost use Rattle.md_nbd.specs.Server.RequestsTaken.{TakesRequestOrNone};
 
 use crate::request::{Request, decode_request, payload_of};
 use crate::server::filling_front::fill_front;
-use crate::server::source::{Source, SourceFault};
 use crate::server::transmission::Gone;
+use md_commands::{Source, SourceFault};
 
 /// Takes the next request, and what it writes into the front of `buf`; or says why there is none.
 pub(crate) fn take_request<I: Source>(

@@ -9,11 +9,11 @@ ghost use Rattle.md_nbd.specs.Server.Transmission.{BreaksOff, Transmits};
 use crate::export::Export;
 use crate::request::Request;
 use crate::server::request_taken::take_request;
-use crate::server::sink::{Sink, SinkFault};
-use crate::server::source::Source;
 use crate::server::store::Store;
 use crate::server::tasks_done::{do_flush, do_read, do_refuse, do_write};
 use crate::task::{Task, task_of};
+use md_commands::Source;
+use md_examine::{Sink, SinkFault};
 
 /// Why no more requests are answered.
 #[derive(Clone, Copy, Debug, PartialEq, Eq)]
@@ -40,35 +40,37 @@ pub enum StreamFault {
 }
 
 // Does what a request asks for, and answers: false where it asks the server to go.
-fn answer<S: Store, O: Sink>(
+fn answer<M, S: Store<M>, O: Sink>(
     export: &Export,
     store: &mut S,
+    lent: &mut M,
     request: &Request,
     buf: &mut [u8],
     out: &mut O,
 ) -> Result<bool, SinkFault>
     requires room { length buf.old ≡ most_bytes }
-    requires size { export.now.size ≤ sector_bytes * S.sectors store.old }
-    requires sound { S.is_sound store.old }
+    requires size { export.now.size ≤ sector_bytes * S.sectors (store.old, lent.old) }
+    requires sound { S.is_sound (store.old, lent.old) }
     ensures answers { MatchResult result
         (AnswersOrGoes S.Store O.Sink export.now request.now (take (payload_of request.now) buf.old)
-        store.old store.new out.old out.new)
+        (store.old, lent.old) (store.new, lent.new) out.old out.new)
         (λ _. FailsToTell S.Store O.Sink (task_of export.now request.now) request.now.cookie
-        (take (payload_of request.now) buf.old) store.old store.new out.new) }
-    ensures sound { S.is_sound store.new }
-    ensures size { S.sectors store.new ≡ S.sectors store.old }
+        (take (payload_of request.now) buf.old) (store.old, lent.old) (store.new, lent.new) out.new) }
+    ensures sound { S.is_sound (store.new, lent.new) }
+    ensures size { S.sectors (store.new, lent.new) ≡ S.sectors (store.old, lent.old) }
 {
     let cookie = request.cookie;
     match task_of(export, request) {
         Task::Read(sector, sectors) => {
             let room = &mut buf[..512 * sectors as usize];
-            do_read(store, out, cookie, sector, room)?;
+            do_read(store, lent, out, cookie, sector, room)?;
         }
         Task::Write(sector, sectors) => {
-            do_write(store, out, cookie, sector, &buf[..512 * sectors as usize])?;
+            let bytes = &buf[..512 * sectors as usize];
+            do_write(store, lent, out, cookie, sector, bytes)?;
         }
-        Task::Flush => do_flush(store, out, cookie)?,
-        Task::Refuse(error) => do_refuse(store, out, cookie, error)?,
+        Task::Flush => do_flush(store, lent, out, cookie)?,
+        Task::Refuse(error) => do_refuse(store, lent, out, cookie, error)?,
         Task::Disconnect => return Ok(false),
     }
     Ok(true)
@@ -78,21 +80,22 @@ fn answer<S: Store, O: Sink>(
 /// stands in `buf`, which is all the memory that it takes.
 ///
 /// The export may be smaller than the store, and none of its requests goes past it. Where a stream fails no reply is made up for what was not told.
-pub fn answer_requests<S: Store, I: Source, O: Sink>(
+pub fn answer_requests<M, S: Store<M>, I: Source, O: Sink>(
     export: &Export,
     store: &mut S,
+    lent: &mut M,
     buf: &mut [u8],
     input: &mut I,
     out: &mut O,
 ) -> Result<Gone, StreamFault>
     requires room { length buf.old ≡ most_bytes }
-    requires size { export.now.size ≤ sector_bytes * S.sectors store.old }
-    requires sound { S.is_sound store.old }
+    requires size { export.now.size ≤ sector_bytes * S.sectors (store.old, lent.old) }
+    requires sound { S.is_sound (store.old, lent.old) }
     ensures answers { MatchResult result
-        (Transmits S.Store I.Source O.Sink export.now store.old store.new input.old input.new out.old out.new)
-        (BreaksOff S.Store I.Source O.Sink export.now store.old store.new input.old input.new out.old out.new) }
-    ensures sound { S.is_sound store.new }
-    ensures size { S.sectors store.new ≡ S.sectors store.old }
+        (Transmits S.Store I.Source O.Sink export.now (store.old, lent.old) (store.new, lent.new) input.old input.new out.old out.new)
+        (BreaksOff S.Store I.Source O.Sink export.now (store.old, lent.old) (store.new, lent.new) input.old input.new out.old out.new) }
+    ensures sound { S.is_sound (store.new, lent.new) }
+    ensures size { S.sectors (store.new, lent.new) ≡ S.sectors (store.old, lent.old) }
 {
     for answered in 0..u64::MAX {
         let Ok(taken) = take_request(input, buf) else {
@@ -102,7 +105,7 @@ pub fn answer_requests<S: Store, I: Source, O: Sink>(
             Ok(request) => request,
             Err(gone) => return Ok(gone),
         };
-        match answer(export, store, &request, buf, out) {
+        match answer(export, store, lent, &request, buf, out) {
             Ok(true) => {}
             Ok(false) => return Ok(Gone::Disconnected),
             Err(SinkFault) => return Err(StreamFault::Sink),

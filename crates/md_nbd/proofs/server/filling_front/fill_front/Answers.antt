@@ -8,8 +8,8 @@ loop-filled-preserved g c =
     let at = c.loop-filled.filled in
     let n = c.in_ok-taken.taken in
     let buf = c.loop-filled.buf in
-    let both = gives_both s.remaining s.failed c.args.input.now c.loop-filled.input c.take.new.self (take at buf) (take n c.take.new.buf) c.loop-filled.invariant.gives c.in_ok-taken.ensures.gives in
+    let both = gives_both s.remaining s.failed c.args.input.now c.loop-filled.input c.take.new.self (take at buf) (take n c.take.new.buf) c.loop-filled.invariant.gives c.in_ok-taken.ensures.gives.gives in
     record {
-      few = front_fits at n (length buf - at) buf c.take.new.buf c.loop-filled.invariant.few c.in_ok-taken.ensures.few;
-      gives = rw (front_grows at n (length buf - at) buf c.take.new.buf c.loop-filled.invariant.few c.in_ok-taken.ensures.few) both;
+      few = front_fits at n (length buf - at) buf c.take.new.buf c.loop-filled.invariant.few c.in_ok-taken.ensures.gives.few;
+      gives = rw (front_grows at n (length buf - at) buf c.take.new.buf c.loop-filled.invariant.few c.in_ok-taken.ensures.gives.few) both;
     }

@@ -1,11 +1,11 @@
 use Rattle.std.proofs.Common.{◌-◌, ◌≤◌, length, take}
-use Rattle.md_nbd.specs.Server.ByteSource.{GivesBytes}
+use Rattle.md_commands.specs.Source.{Gives}
 use Rattle.md_nbd.proofs.server.filling_front.fill_front.Given as goal
 
 abbrev pub invariant-loop-filled : goal.invariant-loop-filled
 invariant-loop-filled g l = record {
   few : l.filled ≤ length l.buf;
-  gives : GivesBytes g.I.Source.remaining g.I.Source.failed l.fn.input l.input (take l.filled l.buf);
+  gives : Gives g.I.Source.remaining g.I.Source.failed l.fn.input l.input (take l.filled l.buf);
 }
 
 abbrev pub decreases-loop-filled : goal.decreases-loop-filled

@@ -1,4 +1,4 @@
-use Rattle.std.proofs.Common.{length, arith}
+use Rattle.std.proofs.Common.{arith}
 use Rattle.std.proofs.lemmas.List.{length-take-le}
 use Rattle.md_nbd.proofs.ServerLemmas.OptionsEnded.{ends_in_body, no_option}
 use Rattle.md_nbd.proofs.server.option_taken.take_option.Goals as goal

@@ -1,4 +1,4 @@
-use Rattle.std.proofs.Common.{length, arith}
+use Rattle.std.proofs.Common.{arith}
 use Rattle.std.proofs.lemmas.List.{length-take-le}
 use Rattle.md_nbd.specs.NbdRequests.{payload_of}
 use Rattle.md_nbd.proofs.ServerLemmas.RequestsEnded.{ends_in_payload}

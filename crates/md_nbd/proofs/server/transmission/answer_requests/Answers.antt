@@ -10,8 +10,8 @@ returns-in-Ok-false-clause-answers g c =
     let r = c.in-Ok-taken.request in
     let buf = c.take_request.new.buf in
     let t = subst (λ x. TakesRequestOrNone g.I.Source c.loop-answered.input c.take_request.new.input buf x) c.in-Ok-taken.is c.in-Ok.ensures in
-    let l = subst (λ b. AnswersOrGoes g.S.Store g.O.Sink c.args.export.now r (take (payload_of r) buf) c.loop-answered.store c.answer.new.store c.loop-answered.out c.answer.new.out b) c.in-Ok-false.field-0-test c.in-Ok-false.ensures.answers in
-    goes g.S.Store g.I.Source g.O.Sink c.args.export.now c.loop-answered.answered c.args.store.now c.loop-answered.store c.answer.new.store c.args.input.now c.loop-answered.input c.take_request.new.input
+    let l = subst (λ b. AnswersOrGoes g.S.Store g.O.Sink c.args.export.now r (take (payload_of r) buf) (c.loop-answered.store, c.loop-answered.lent) (c.answer.new.store, c.answer.new.lent) c.loop-answered.out c.answer.new.out b) c.in-Ok-false.field-0-test c.in-Ok-false.ensures.answers in
+    goes g.S.Store g.I.Source g.O.Sink c.args.export.now c.loop-answered.answered (c.args.store.now, c.args.lent.now) (c.loop-answered.store, c.loop-answered.lent) (c.answer.new.store, c.answer.new.lent) c.args.input.now c.loop-answered.input c.take_request.new.input
     c.args.out.now c.loop-answered.out c.answer.new.out r buf c.loop-answered.invariant.so_many t l
 
 pub returns-in-Err-answer-clause-answers : goal.returns-in-Err-answer-clause-answers
@@ -19,7 +19,7 @@ returns-in-Err-answer-clause-answers g c =
     let r = c.in-Ok-taken.request in
     let buf = c.take_request.new.buf in
     let t = subst (λ x. TakesRequestOrNone g.I.Source c.loop-answered.input c.take_request.new.input buf x) c.in-Ok-taken.is c.in-Ok.ensures in
-    sink_failed g.S.Store g.I.Source g.O.Sink c.args.export.now c.loop-answered.answered c.args.store.now c.loop-answered.store c.answer.new.store c.args.input.now c.loop-answered.input c.take_request.new.input
+    sink_failed g.S.Store g.I.Source g.O.Sink c.args.export.now c.loop-answered.answered (c.args.store.now, c.args.lent.now) (c.loop-answered.store, c.loop-answered.lent) (c.answer.new.store, c.answer.new.lent) c.args.input.now c.loop-answered.input c.take_request.new.input
     c.args.out.now c.loop-answered.out c.answer.new.out r buf c.loop-answered.invariant.so_many t c.in-Err-answer.ensures.answers
 
 pub loop-answered-preserved : goal.loop-answered-preserved
@@ -27,9 +27,9 @@ loop-answered-preserved g c =
     let r = c.in-Ok-taken.request in
     let buf = c.take_request.new.buf in
     let t = subst (λ x. TakesRequestOrNone g.I.Source c.loop-answered.input c.take_request.new.input buf x) c.in-Ok-taken.is c.in-Ok.ensures in
-    let l = subst (λ b. AnswersOrGoes g.S.Store g.O.Sink c.args.export.now r (take (payload_of r) buf) c.loop-answered.store c.answer.new.store c.loop-answered.out c.answer.new.out b) c.in-Ok-true.field-0-test c.in-Ok-true.ensures.answers in
+    let l = subst (λ b. AnswersOrGoes g.S.Store g.O.Sink c.args.export.now r (take (payload_of r) buf) (c.loop-answered.store, c.loop-answered.lent) (c.answer.new.store, c.answer.new.lent) c.loop-answered.out c.answer.new.out b) c.in-Ok-true.field-0-test c.in-Ok-true.ensures.answers in
     record {
-      so_many = one_more_answered g.S.Store g.I.Source g.O.Sink c.args.export.now c.loop-answered.answered c.args.store.now c.loop-answered.store c.answer.new.store c.args.input.now c.loop-answered.input c.take_request.new.input
+      so_many = one_more_answered g.S.Store g.I.Source g.O.Sink c.args.export.now c.loop-answered.answered (c.args.store.now, c.args.lent.now) (c.loop-answered.store, c.loop-answered.lent) (c.answer.new.store, c.answer.new.lent) c.args.input.now c.loop-answered.input c.take_request.new.input
           c.args.out.now c.loop-answered.out c.answer.new.out r buf c.loop-answered.invariant.so_many t l;
       room = c.answer.auto.buf ∙ c.take_request.auto.buf ∙ c.loop-answered.invariant.room;
       size = omega (arith, c.in-Ok-true.ensures.size, c.loop-answered.invariant.size);
