@@ -373,8 +373,8 @@ PLAN = (
 REBUILT = (PLAN[0], PLAN[1] + "rebuilt member 2, passes 1, orphans 0\n")
 REBUILT_FROM_COPIES = (
     PLAN[0],
-    "rounds 1, chunks 2, orphans 0\n   chunk source    round\n       1      1        0\n       5      0        0\n"
-    "certificate for 0 rounds: 1 5\norphans: none\nrebuilt member 2, passes 2, orphans 0\n",
+    "rounds 1, chunks 2, orphans 0\n   chunk source    round\n       2      1        0\n       5      0        0\n"
+    "certificate for 0 rounds: 2 5\norphans: none\nrebuilt member 2, passes 2, orphans 0\n",
 )
 # Chunk 5 of the array's eight.
 REBUILT_FROM_ONE = (
@@ -827,13 +827,14 @@ CASES = [
     ),
     (
         "a third member is rebuilt from copies that lack what other disks give",
-        dict(TWO_MAPPED, c=ZEROS),
+        dict(TWO_MAPPED, c=ZEROS, third=lacks((16, 1))),
         WITH_A_SPARE
         + [
-            Step("plan --member 2 --map a=early --map b=far a b c", PLAN),
+            # They give the chunks in turn: the first chunks 0, 2, 4 and 6, the second the others.
+            Step("plan --member 2 --map a=third --map b=far a b c", PLAN),
             # What the one does not give the other one does, in a second pass.
-            Step("rebuild --member 2 --map a=early --map b=far a b c", REBUILT_FROM_COPIES, changes="a b c"),
-            Step("examine-badblocks a", "        2056 for 8 sectors\n"),
+            Step("rebuild --member 2 --map a=third --map b=far a b c", REBUILT_FROM_COPIES, changes="a b c"),
+            Step("examine-badblocks a", "        2064 for 8 sectors\n"),
             Step("check a b c", AGREE),
         ],
     ),

@@ -20,9 +20,9 @@ placed_twice first middle last before after = record { counts = λ q. after.coun
 
 -- one class more is given to a source of its mask
 pub placed_more : (first cells : List Cell) (at : ℕ) (d : Cell) (source : ℕ) → at < length cells → has (get_or cells at d).mask source ≡ true → AreClassesPlaced first cells
-    → AreClassesPlaced first (set cells at (record { mask = (get_or cells at d).mask; count = (get_or cells at d).count; source = source }))
+    → AreClassesPlaced first (set cells at (record { mask = (get_or cells at d).mask; count = (get_or cells at d).count; source = source; next = (get_or cells at d).next }))
 placed_more first cells at d source within it before =
-    let y : Cell = record { mask = (get_or cells at d).mask; count = (get_or cells at d).count; source = source } in
+    let y : Cell = record { mask = (get_or cells at d).mask; count = (get_or cells at d).count; source = source; next = (get_or cells at d).next } in
     record {
       counts = λ q. let s = sum_by-set (λ (x : Cell). share (q x.mask) x.count) cells at y d within in let b = before.counts q in omega (arith, s, b);
       allowed = All-set (λ (x : Cell). has x.mask x.source ≡ true) cells at y it before.allowed;

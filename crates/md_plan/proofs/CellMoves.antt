@@ -29,10 +29,10 @@ share_add false n m k e = refl
 
 -- a cell is replaced by one of the same mask
 pub moves_whole : (cells : List Cell) (at : ℕ) (d : Cell) (s t : ℕ) → at < length cells → IsMovable s t (get_or cells at d) → s ≢ t
-    → Moves cells (set cells at (record { mask = (get_or cells at d).mask; count = (get_or cells at d).count; source = t })) s t (get_or cells at d).count
+    → Moves cells (set cells at (record { mask = (get_or cells at d).mask; count = (get_or cells at d).count; source = t; next = (get_or cells at d).next })) s t (get_or cells at d).count
 moves_whole cells at d s t within m apart =
     let c = get_or cells at d in
-    let y : Cell = record { mask = c.mask; count = c.count; source = t } in
+    let y : Cell = record { mask = c.mask; count = c.count; source = t; next = c.next } in
     record {
       counts = λ q. let e = sum_by-set (λ (x : Cell). share (q x.mask) x.count) cells at y d within in omega (arith, e);
       from = let e = sum_by-set (λ (x : Cell). share (eqb x.source s) x.count) cells at y d within in
@@ -51,12 +51,12 @@ moves_whole cells at d s t within m apart =
           };
     }
 
-pub moves_part : (cells : List Cell) (at : ℕ) (d : Cell) (s t most rest : ℕ) → at < length cells → IsMovable s t (get_or cells at d) → s ≢ t → rest + most ≡ (get_or cells at d).count
-    → Moves cells (set (cells ++ record { mask = (get_or cells at d).mask; count = most; source = t } ∷ []) at (record { mask = (get_or cells at d).mask; count = rest; source = (get_or cells at d).source })) s t most
-moves_part cells at d s t most rest within m apart parts =
+pub moves_part : (cells : List Cell) (at : ℕ) (d : Cell) (s t most rest next : ℕ) → at < length cells → IsMovable s t (get_or cells at d) → s ≢ t → rest + most ≡ (get_or cells at d).count
+    → Moves cells (set (cells ++ record { mask = (get_or cells at d).mask; count = most; source = t; next = (get_or cells at d).next } ∷ []) at (record { mask = (get_or cells at d).mask; count = rest; source = (get_or cells at d).source; next = next })) s t most
+moves_part cells at d s t most rest next within m apart parts =
     let c = get_or cells at d in
-    let x : Cell = record { mask = c.mask; count = most; source = t } in
-    let y : Cell = record { mask = c.mask; count = rest; source = c.source } in
+    let x : Cell = record { mask = c.mask; count = most; source = t; next = c.next } in
+    let y : Cell = record { mask = c.mask; count = rest; source = c.source; next = next } in
     let long : length (cells ++ x ∷ []) ≡ length cells + 1 = length-append cells (x ∷ []) in
     let within' : at < length (cells ++ x ∷ []) = omega arith in
     let old : get_or (cells ++ x ∷ []) at d ≡ c = get_or_append_left cells (x ∷ []) d at within in

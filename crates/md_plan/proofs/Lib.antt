@@ -3,6 +3,7 @@ pub mod CellMoves
 pub mod Certified
 pub mod PathPulls
 pub mod ReachSteps
+pub mod Rings
 pub mod RowCounts
 pub mod ShortSets
 pub mod SlotLists

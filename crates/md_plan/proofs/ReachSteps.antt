@@ -68,7 +68,7 @@ reach_more cells reach i d new within some source_within long e before =
 pub reach_all : (cells : List Cell) (reach : List ℕ) → ReachBelow cells reach (length cells) → IsReach cells reach
 reach_all cells reach all = record {
   sound = all.sound;
-  complete = λ s t lt can. let d : Cell = record { mask = 0; count = 0; source = 0 } in all.complete can.at d s t can.within lt (can.movable d);
+  complete = λ s t lt can. let d : Cell = record { mask = 0; count = 0; source = 0; next = 0 } in all.complete can.at d s t can.within lt (can.movable d);
 }
 
 -- how many sources are not in a set

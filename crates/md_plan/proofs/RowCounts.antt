@@ -18,9 +18,9 @@ share_nothing true = refl
 share_nothing false = refl
 
 -- a class with no chunks yet
-pub class_new : (cells : List Cell) (mask source : ℕ) (new : List Cell) → has mask source ≡ true → new ≡ cells ++ record { mask = mask; count = 0; source = source } ∷ [] → HasClass cells new mask (length cells)
-class_new cells mask source new it e =
-    let x : Cell = record { mask = mask; count = 0; source = source } in
+pub class_new : (cells : List Cell) (mask source next : ℕ) (new : List Cell) → has mask source ≡ true → new ≡ cells ++ record { mask = mask; count = 0; source = source; next = next } ∷ [] → HasClass cells new mask (length cells)
+class_new cells mask source next new it e =
+    let x : Cell = record { mask = mask; count = 0; source = source; next = next } in
     let long : length new ≡ length cells + 1 = ap length e ∙ length-append cells (x ∷ []) in
     record {
       within = omega arith;
@@ -78,7 +78,7 @@ grouped_more rows i d cells with_class new_cells class_of new last within some e
     let class_long = class.long in
     let class_within = class.within in
     let one_long = one.long in
-    let x : Cell = record { mask = 0; count = 0; source = 0 } in
+    let x : Cell = record { mask = 0; count = 0; source = 0; next = 0 } in
     record {
       counts = λ q.
           let b = before.counts q in

@@ -1,11 +1,10 @@
 -- Chunks and rounds given out one after the other.
 use Rattle.std.proofs.Common.{◌≡◌, ◌≢◌, ◌∙◌, ℕ, ◌+◌, ◌<◌, ◌≤◌, suc, Bool, true, false, cond, eqb, List, [], ◌∷◌, ◌++◌, length, get_or, set, take, drop, filter, map, refl, sym, ap, subst, arith, inl, inr, get_or-set_same, get_or-set_other, length-append}
-use Rattle.std.specs.List.{list_all, sum_by, swap}
+use Rattle.std.specs.List.{list_all}
 use Rattle.std.proofs.lemmas.Bool.{cases_eq, cases_lt, eqb-true, eq-eqb, ne_eqb}
 use Rattle.std.proofs.lemmas.List.{get_or_default, get_or_append_left, length-set, map-append, append-nil}
-use Rattle.std.proofs.lemmas.List.Elements.{All-push, All-set, filter_more}
-use Rattle.std.proofs.lemmas.List.Sums.{sum_by-set, sum_by-cons, sum_by-drop_more, sum_by-le-sum_by}
-use Rattle.std.proofs.lemmas.List.Edits.{swap_is}
+use Rattle.std.proofs.lemmas.List.Elements.{All-push, filter_more}
+use Rattle.std.proofs.lemmas.List.Sums.{sum_by-cons, sum_by-drop_more, sum_by-le-sum_by}
 use Rattle.std.proofs.lemmas.List.Quantifiers.{all_pairs_push}
 use Rattle.std.proofs.Math.Seq.{get_or-append_seam}
 use Rattle.md_cert.specs.declared.table.Row.{Row}
@@ -18,7 +17,7 @@ use Rattle.md_cert.proofs.Masks.{Rises, mask_hit}
 use Rattle.md_plan.specs.declared.cell.Cell.{Cell}
 use Rattle.md_plan.specs.Cells.{AreAllowed, load_of, count_with}
 use Rattle.md_plan.specs.Classes.{count_rows}
-use Rattle.md_plan.specs.Slots.{IsReordered, SomeChunk, TakesOne, AreCountsLeft, IsSlotting}
+use Rattle.md_plan.specs.Slots.{SomeChunk, TakesOne, AreCountsLeft, IsSlotting}
 use Rattle.md_plan.proofs.RowCounts.{passes, passes_none, passes_some}
 use Rattle.md_plan.proofs.Zeros.{zeros}
 use Rattle.md_plan.proofs.CellMoves.{share, share_le}
@@ -217,43 +216,3 @@ no_second rows i slots used rounds s source round j less second =
     let late = second.turn d in
     let early = second.same d in
     s.single second.earlier j d second.before second.within (early.0 ∙ sym late.0) (early.1 ∙ sym late.1)
-
--- a sum over the cells does not change where two change places
-sum_swapped : (f : Cell → ℕ) (cells : List Cell) (i j : ℕ) (d : Cell) → i < length cells → j < length cells → sum_by f (swap cells i j) ≡ sum_by f cells
-sum_swapped f cells i j d lt_i lt_j =
-    let x : Cell = get_or cells i d in
-    let y : Cell = get_or cells j d in
-    let middle : List Cell = set cells i y in
-    let first = sum_by-set f cells i y d lt_i in
-    let second = sum_by-set f middle j x d (subst (λ n. j < n) (sym (length-set cells i y)) lt_j) in
-    let at_j : get_or middle j d ≡ y = elim (cases_eq i j) [
-      | inl same ↦ subst (λ n. get_or middle n d ≡ y) same (get_or-set_same cells i y d lt_i)
-      | inr other ↦ get_or-set_other cells i j y d (λ e. other (sym e))
-    ] in
-    let total : sum_by f (set middle j x) + f y ≡ sum_by f middle + f x = ap (λ z. sum_by f (set middle j x) + f z) (sym at_j) ∙ second in
-    ap (sum_by f) (sym (swap_is cells i j d lt_i lt_j)) ∙ omega (arith, first, total)
-
--- two cells change places
-pub reordered_swap : (cells : List Cell) (i j : ℕ) (d : Cell) → i < length cells → j < length cells → IsReordered cells (swap cells i j)
-reordered_swap cells i j d lt_i lt_j =
-    let x : Cell = get_or cells i d in
-    let y : Cell = get_or cells j d in
-    let is = swap_is cells i j d lt_i lt_j in
-    record {
-      long = ap length (sym is) ∙ length-set (set cells i y) j x ∙ length-set cells i y;
-      counts = λ q. sum_swapped (λ (c : Cell). share (q c.mask) c.count) cells i j d lt_i lt_j;
-      loads = λ s. sum_swapped (λ (c : Cell). share (eqb c.source s) c.count) cells i j d lt_i lt_j;
-      allowed = λ all. subst AreAllowed is (All-set (λ (c : Cell). has c.mask c.source ≡ true) (set cells i y) j x (all i d lt_i) (All-set (λ (c : Cell). has c.mask c.source ≡ true) cells i y (all j d lt_j) all));
-    }
-
-pub reordered_none : (cells : List Cell) → IsReordered cells cells
-reordered_none cells = record { long = refl; counts = λ q. refl; loads = λ s. refl; allowed = λ all. all }
-
--- what is left does not depend on the cells' order
-pub left_reordered : (rows : List Row) (i : ℕ) (first cells new : List Cell) (used : List ℕ) → IsReordered cells new → AreCountsLeft rows i first cells used → AreCountsLeft rows i first new used
-left_reordered rows i first cells new used same before = record {
-  counts = λ q. same.counts q ∙ before.counts q;
-  allowed = same.allowed before.allowed;
-  long = before.long;
-  each = λ s lt. let e = before.each s lt in let l = same.loads s in omega (arith, e, l);
-}

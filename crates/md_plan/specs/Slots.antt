@@ -21,9 +21,8 @@ pub record SomeChunk (cells : List Cell) (mask : ℕ) : Type 0 where
   pub within : at < length cells
   pub has_chunks : HoldsAt (HasChunksOf mask) cells at
 
--- The new cells are the old ones in another order.
-pub record IsReordered (old new : List Cell) : Type 0 where
-  pub long : length new ≡ length old
+-- The new cells hold as many chunks of each mask, and for each source, as the old ones.
+pub record HoldAsMuch (old new : List Cell) : Type 0 where
   pub counts : (q : ℕ → Bool) → count_with q new ≡ count_with q old
   pub loads : (s : ℕ) → load_of s new ≡ load_of s old
   pub allowed : AreAllowed old → AreAllowed new

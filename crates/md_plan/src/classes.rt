@@ -61,6 +61,7 @@ fn class_for(cells: &mut Vec<Cell>, index: &mut Vec<Entry>, mask: u32) -> Result
         mask,
         count: 0,
         source: mask.trailing_zeros(),
+        next: new as u32,
     })?;
     Ok(new)
 }

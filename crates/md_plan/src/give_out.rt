@@ -6,9 +6,10 @@ ghost use Rattle.md_cert.specs.Tables.{IsTable};
 ghost use Rattle.md_cert.specs.declared.table.Row.{Row};
 ghost use Rattle.md_plan.specs.Cells.{AreAllowed, count_with};
 ghost use Rattle.md_plan.specs.Classes.{count_rows};
-ghost use Rattle.md_plan.specs.Slots.{HasChunksOf, AreGivenOut, IsReordered, SomeChunk, TakesOne};
+ghost use Rattle.md_plan.specs.Slots.{HasChunksOf, AreGivenOut, SomeChunk, TakesOne};
 
 use crate::cell::Cell;
+use crate::ring::{close_rings, turn_on};
 use md_cert::{NoMemory, Row, Slot};
 use std::alloc::Global;
 
@@ -34,38 +35,22 @@ fn first_from(cells: &[Cell], from: usize, mask: u32) -> Option<usize>
     None
 }
 
-// A cell with chunks of this mask: the one of the hint, else one past the classes, where cells were parted.
-fn next_cell(cells: &[Cell], hint: usize, classes: usize, mask: u32) -> usize
+// A cell with chunks of this mask: the one of the class whose turn it is, else any.
+fn next_cell(cells: &[Cell], class: usize, mask: u32) -> usize
     requires { SomeChunk cells.now mask }
     ensures within { result < length cells.now }
     ensures chunks { HoldsAt (HasChunksOf mask) cells.now result }
 {
-    if hint < cells.len() && cells[hint].count > 0 && cells[hint].mask == mask {
-        return hint;
-    }
-    if let Some(at) = first_from(cells, if hint < classes { classes } else { hint }, mask) {
-        return at;
+    if class < cells.len() {
+        let turn = cells[class].next as usize;
+        if turn < cells.len() && cells[turn].count > 0 && cells[turn].mask == mask {
+            return turn;
+        }
     }
     if let Some(at) = first_from(cells, 0, mask) {
         return at;
     }
     unreachable!()
-}
-
-// A cell with chunks of this mask. Another than that of the class changes places with it, so that it is
-// looked at first from now on.
-fn bring_cell(cells: &mut Vec<Cell>, class: usize, classes: usize, mask: u32) -> usize
-    requires { SomeChunk cells.old.items mask }
-    ensures same { IsReordered cells.old.items cells.new.items }
-    ensures within { result < length cells.new.items }
-    ensures chunks { HoldsAt (HasChunksOf mask) cells.new.items result }
-{
-    let at = next_cell(cells, class, classes, mask);
-    if at != class && class < cells.len() {
-        cells.swap(class, at);
-        return class;
-    }
-    at
 }
 
 // Takes a chunk out of a cell.
@@ -81,8 +66,9 @@ fn take_one(cells: &mut Vec<Cell>, at: usize, mask: u32) -> u32
     cell.source
 }
 
-// Gives each chunk a source and a round. Where the first cell of a class is empty, another with
-// chunks of its mask takes its place.
+// Gives each chunk a source and a round. The chunks of a class go to its sources in turn, each to one that has
+// given the fewest so far, as long as the counts allow. So rounds rise with the chunks as far as they can, and a
+// pass that is broken off has copied nearly all chunks up to one, and nearly none after it.
 pub(crate) fn give_out(
     alloc: Global,
     rows: &[Row],
@@ -99,16 +85,18 @@ pub(crate) fn give_out(
 {
     let mut slots: Vec<Slot> = Vec::with_capacity(alloc, rows.len())?;
     let mut orphans: Vec<u32> = Vec::new(alloc);
+    close_rings(cells, classes)?;
     let mut used = [0u32; 32];
     for (i, row) in rows.iter().enumerate() {
         if row.mask == 0 {
             orphans.push(row.chunk)?;
         } else {
             let class = class_of[i] as usize;
-            let at = bring_cell(cells, class, classes, row.mask);
+            let at = next_cell(cells.as_slice(), class, row.mask);
             let source = take_one(cells, at, row.mask);
             let round = used[source as usize];
             used[source as usize] = round + 1;
+            turn_on(cells, &used, class, at);
             slots.push(Slot {
                 chunk: row.chunk,
                 source: source as u8,

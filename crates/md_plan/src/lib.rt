@@ -29,6 +29,7 @@ mod planner;
 mod pull;
 mod ranking;
 mod reach;
+mod ring;
 mod route;
 mod search;
 mod shift;

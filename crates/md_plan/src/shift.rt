@@ -28,13 +28,16 @@ pub(crate) fn move_part(
         target.source = to;
         return Ok(cell.count);
     }
+    let new = u32::try_from(cells.len()).unwrap_or(u32::MAX);
     cells.push(Cell {
         mask: cell.mask,
         count: most,
         source: to,
+        next: cell.next,
     })?;
     let rest = &mut cells[at];
     rest.count = cell.count - most;
+    rest.next = new;
     Ok(most)
 }
 

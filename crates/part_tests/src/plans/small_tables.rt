@@ -88,6 +88,30 @@ fn plan_certificates(rt: HostRuntime) -> Result<(), Fail> {
     judged
 }
 
+fn expect_rising(rt: &impl Abort, plan: &Plan) {
+    let mut round = 0u32;
+    for slot in plan.slots.as_slice() {
+        holds(rt, "the rounds rise", round <= slot.round);
+        round = slot.round;
+    }
+}
+
+fn gives_in_turn(rt: &impl Abort, alloc: Global, masks: &[u32]) -> Result<(), Fail>
+    requires { length masks.now ≤ 2 ^ 20 }
+{
+    let made = plan_masks(rt, alloc, masks)?;
+    expect_rising(rt, &made.plan);
+    drop(made);
+    Ok(())
+}
+
+// Chunks that the same sources have go to them in turn, so that a pass copies nearly the first ones first.
+#[test]
+fn rounds_rise_with_chunks(rt: HostRuntime) -> Result<(), Fail> {
+    gives_in_turn(&rt, rt.alloc(), &[3, 3, 3, 3, 3, 3, 3, 3])?;
+    gives_in_turn(&rt, rt.alloc(), &[7, 7, 7, 7, 7, 7, 7, 7, 7, 7])
+}
+
 #[test]
 fn lone_orphan(rt: HostRuntime) -> Result<(), Fail> {
     plans(&rt, rt.alloc(), &[0], &(0, 0, &[], &[0]))

@@ -11,7 +11,7 @@ pub loop-cell-preserved : goal.loop-cell-preserved
 loop-cell-preserved c =
     let cells = c.args.cells.now in
     let i = c.loop-cell.cell-index in
-    let d : Cell = record { mask = 0; count = 0; source = 0 } in
+    let d : Cell = record { mask = 0; count = 0; source = 0; next = 0 } in
     elim c.if-cell-gt0.branch [
       | then-cell-gt0 w ↦
           reach_more cells c.loop-cell.reach i d c.if-cell-gt0.reach c.loop-cell-test.true w.if-cell-gt0.true (c.requires.sources i d c.loop-cell-test.true)
