@@ -257,7 +257,7 @@ def marked_chunks(member):
 
 
 def freshest(members):
-    """The first of those with the greatest events."""
+    """The first of those with the greatest events: none of these images disputes it."""
     return max(members, key=lambda member: member.facts["events"])
 
 
