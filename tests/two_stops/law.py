@@ -6,7 +6,8 @@ from members import SECTOR
 
 class Law:
     """Members in sync differ only in chunks that each of them has marked, and have no sector but what a member in sync had before or what
-    was written. So a member that was never rebuilt is not among them. What a recovering member has passed is as in these."""
+    was written. So a member that was never rebuilt is not among them. What a recovering member has passed is as in these; so is all before its
+    recovery_offset, in marked chunks too, for whoever asks no mark."""
 
     def __init__(self, contents, is_new, written):
         self.contents = contents
@@ -68,4 +69,8 @@ class Law:
             wrong = [at for at in members.differing(member, source) if member.chunk_of(at) not in lacks]
             if wrong:
                 reasons.append("member %d, recovering, differs at sector %d, which it has passed" % (member.number, wrong[0]))
+            for one in found.in_sync:
+                said = [at for at in members.differing(member, one) if at < member.superblock.recovery_offset]
+                if said:
+                    reasons.append("member %d, recovering, differs at sector %d, before its recovery_offset" % (member.number, said[0]))
         return reasons
