@@ -185,6 +185,18 @@ class States:
         yield State("re-add", run(self.arrays.written_since(), ["re-add", "--device", Image(1)], [0]), [NEW])
         yield State("resync", run(self.arrays.unlike(), ["resync"]), [ONE])
 
+    def after_a_crash_beside_a_recovering_member(self):
+        """As after a crash under a kernel, which writes to such a member too: three contents in a marked chunk below its offset."""
+        for name, command, given, holds in (("resync", ["resync"], b"", ONE), ("write", WRITE, WRITTEN, NEW)):
+            unlike = self.lab.create([ONE, ONE, ONE])
+            for number, other in ((1, OTHER), (2, THIRD)):
+                unlike[number] = members.with_data(unlike[number], 2 * CHUNK, other[2 * CHUNK * SECTOR : 3 * CHUNK * SECTOR])
+            unlike = [members.with_superblock(content, resync_offset=0) for content in unlike]
+            unlike[:2] = [members.with_marks(content, [2]) for content in unlike[:2]]
+            bits = members.BITMAP_BIT | members.RECOVERY_BIT
+            unlike[2] = members.with_superblock(unlike[2], feature_map=bits, recovery_offset=6 * CHUNK)
+            yield State(name, self.lab.run(unlike, command, None, given), [holds])
+
     def after_write_mostly(self):
         mostly, clean = ["--write-mostly", 0], ["--assume-clean", "--write-mostly", 1]
         yield State("the first, unlike", self.lab.create([ONE, OTHER], options=mostly), [ONE, OTHER])

@@ -1,5 +1,5 @@
 -- A resync goes on by its events while nothing is in flight, and how it ends.
-use Rattle.std.proofs.Common.{◌+◌, ◌≡◌, ℕ, ◌<◌, Bool, true, false, List, [], ◌∷◌, ◌++◌, length, slice_get, Option, None, refl, sym, ap, ◌∙◌, subst, arith, inr}
+use Rattle.std.proofs.Common.{◌+◌, ◌≡◌, ℕ, ◌<◌, Bool, true, false, List, [], ◌∷◌, ◌++◌, length, slice_get, Option, None, refl, sym, ap, ◌∙◌, subst, arith}
 use Rattle.std.proofs.lemmas.Option.{none-some, slice_get_within}
 use Rattle.md_assembly.specs.States.{is_in_sync, is_recorded}
 use Rattle.md_assembly.proofs.Indices.{got_within}
@@ -13,7 +13,6 @@ use Rattle.md_state.specs.View.{ArrayView, Disk, MirrorView}
 use Rattle.md_state.specs.Steps.MakeClean.{IsIdle, first_number}
 use Rattle.md_state.specs.Requests.{AreInFlight, IsPending}
 use Rattle.md_state.specs.Members.{IsMember, AllInSync, IsAlone, IsInSync}
-use Rattle.md_array.specs.Consistency.{IsConsistent}
 use Rattle.md_array.specs.InTurn.{InTurn, Leads, Requests}
 use Rattle.md_array.specs.Steps.NoteResynced.{AllAgreeAt, IsHonestMember}
 use Rattle.md_array.proofs.StepLemmas.MakeClean.{none_listed}
@@ -25,9 +24,7 @@ use Rattle.md_laws.proofs.Runs.ReadTurns.{read_on, read_then, unread}
 use Rattle.md_laws.proofs.Runs.Rests.{rests_same}
 use Rattle.md_metadata.specs.Storing.{HasAllMarks, IsNoFailure, IsUpToDate}
 use Rattle.md_metadata.proofs.Going.{fails_after}
-use Rattle.md_resync.specs.declared.fault.ResyncFault.{ResyncFault}
-use Rattle.md_resync.specs.declared.fault.ResyncFault.TheVariants.{Halted, InFlight, MemberFailed, NoMemory, ReadFault}
-use Rattle.md_resync.specs.Resyncing.{ResyncAdvances, EndsUnresynced, FailsToAgree, FailsAtWrite, GivesUp, ResyncGoesOn, GoesUnresynced, HaltsResync, HasSameMembers, IdleFails, IsOfResync, LeavesMarks, LosesMember, ReadingFails, RefusesResync, Unresyncs}
+use Rattle.md_resync.specs.Resyncing.{ResyncAdvances, EndsUnresynced, FailsToAgree, FailsAtWrite, ResyncGoesOn, GoesUnresynced, HasSameMembers, IsOfResync, LeavesMarks, LosesMember, ReadingFails, Unresyncs}
 use Rattle.md_resync.proofs.StepsOn.{by_none, by_on, by_singles}
 use Rattle.md_device.specs.Failing.{failed_read}
 
@@ -140,7 +137,7 @@ fails_on k old mid new idle same g marks h = record {
 }
 
 -- ---- it is kept that the array is not resynced
-goes_unresynced : (old mid new : MirrorView) → IsIdle old.array → ResyncGoesOn old mid → Unresyncs mid new → GoesUnresynced old new
+pub goes_unresynced : (old mid new : MirrorView) → IsIdle old.array → ResyncGoesOn old mid → Unresyncs mid new → GoesUnresynced old new
 goes_unresynced old mid new idle g u = record {
   events = g.events;
   steps = g.steps;
@@ -212,20 +209,3 @@ module _ (old mid new : MirrorView) (idle : IsIdle old.array) (u : Unresyncs mid
     was = f.was;
     faulty = record { member = f.faulty.member; at = ap (λ (xs : List MemberView). slice_get xs k) (members_stay mid new u) ∙ f.faulty.at; faulty = f.faulty.faulty };
   }
-
-pub refuses : (old mid new : MirrorView) (fault : ResyncFault) → IsIdle old.array → IsConsistent old → IdleFails old mid fault → GivesUp mid new → RefusesResync old new fault
-refuses old mid new Halted idle sound h g = inr (subst (HaltsResync old) (sym (g.halted h.halted)) h.halts)
-refuses old mid new (InFlight n) idle sound h g = absurd h
-refuses old mid new NoMemory idle sound h g =
-    let u = subst (λ (m : MirrorView). Unresyncs m new) h (g.running (ap (λ (m : MirrorView). m.array.halted) h ∙ idle.running)) in
-    record { goes = goes_unresynced old old new idle (goes_none old) u; marks = u.marks }
-refuses old mid new (ReadFault k chunk) idle sound h g = stops_reading old mid new idle (g.running h.advances.idle.running) k chunk h
-refuses old mid new (MemberFailed k) idle sound h g = loses_member old mid new idle (g.running h.idle.running) k h
-
--- where it runs still, nothing is in flight
-pub idle_still : (old mid : MirrorView) (fault : ResyncFault) → IsIdle old.array → IdleFails old mid fault → mid.array.halted ≡ false → IsIdle mid.array
-idle_still old mid Halted idle h running = let halted = h.halted in absurd cc
-idle_still old mid (InFlight n) idle h running = absurd h
-idle_still old mid NoMemory idle h running = subst (λ (m : MirrorView). IsIdle m.array) (sym h) idle
-idle_still old mid (ReadFault k chunk) idle h running = h.advances.idle
-idle_still old mid (MemberFailed k) idle h running = h.idle

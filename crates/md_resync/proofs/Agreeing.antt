@@ -59,19 +59,22 @@ alone_agrees v alone s low marked j k m n d e one other free free_too =
     ap (λ (x : MemberView). sector_of x d s) member ∙ ap (λ (x : Disk). sector_of n x s) disk
 
 -- ---- a content along events that leave it
--- an event of a resync but its end
-pub record IsCalm (e : Event) : Type 0 where
-  pub of : IsOfResync e
+pub record LeavesContent (e : Event) : Type 0 where
   pub becomes : (g : Geometry) (w : World) (a : Content) → Becomes g e w a a
   pub whole : (old new : MirrorView) → LeftWhole old e new
 
+-- an event of a resync but its end
+pub record IsCalm (e : Event) : Type 0 where
+  pub of : IsOfResync e
+  pub leaves : LeavesContent e
+
 pub copying_is_calm : (e : Event) → IsCopying e → IsCalm e
-copying_is_calm (Event.WriteFails k (MemberPart.CopiedChunk c)) is = record { of = tt; becomes = λ g w a. refl; whole = λ old new. tt }
-copying_is_calm (Event.Copy from k s) is = record { of = tt; becomes = λ g w a. refl; whole = λ old new. tt }
+copying_is_calm (Event.WriteFails k (MemberPart.CopiedChunk c)) is = record { of = tt; leaves = record { becomes = λ g w a. refl; whole = λ old new. tt } }
+copying_is_calm (Event.Copy from k s) is = record { of = tt; leaves = record { becomes = λ g w a. refl; whole = λ old new. tt } }
 copying_is_calm e is = absurd is
 
 pub clearing_is_calm : (e : Event) → IsClearing e → IsCalm e
-clearing_is_calm (Event.ClearIdle c) is = record { of = tt; becomes = λ g w a. refl; whole = λ old new. tt }
+clearing_is_calm (Event.ClearIdle c) is = record { of = tt; leaves = record { becomes = λ g w a. refl; whole = λ old new. tt } }
 clearing_is_calm e is = absurd is
 
 read_holds : (old new : MirrorView) (requests : Requests) (a : Content) → Rests old new → HoldsBetween (geometry_of old.array) a (world_of old requests) → HoldsBetween (geometry_of new.array) a (world_of new requests)
@@ -79,7 +82,7 @@ read_holds old new requests a rests holds =
     subst (λ (g : Geometry). HoldsBetween g a (world_of new requests)) (sym (geometry_rests old new rests))
     (subst (λ (w : World). HoldsBetween (geometry_of old.array) a w) (sym (world_rests old new rests requests)) holds)
 
-pub held_along : (es : List Event) (previous : Option Event) (old : MirrorView) (before : Requests) (a : Content) (new : MirrorView) (after : Requests) → AllOf IsCalm es → AreHonest old.disks
+pub held_along : (es : List Event) (previous : Option Event) (old : MirrorView) (before : Requests) (a : Content) (new : MirrorView) (after : Requests) → AllOf LeavesContent es → AreHonest old.disks
     → HoldsBetween (geometry_of old.array) a (world_of old before) → LeadsReading previous old before es new after
     → HoldsBetween (geometry_of new.array) a (world_of new after) × (geometry_of new.array ≡ geometry_of old.array)
 held_along [] previous old before a new after all honest holds t =
@@ -95,11 +98,15 @@ held_along (e ∷ es) previous old before a new after all honest holds t =
     let more = held_along es (Some e) t.1 t.2 a new after all.1 does.honest mid t.7 in
     (more.0, more.1 ∙ does.geometry ∙ geometry_rests old t.0 t.3)
 
-pub calm_content : (es : List Event) (old new : MirrorView) → AllOf IsCalm es
+pub left_content : (es : List Event) (old new : MirrorView) → AllOf LeavesContent es
     → ((previous : Option Event) (requests : Requests) → AreInFlight old.array requests → LeadsReading previous old requests es new requests) → KeepsHeldContent old new
-calm_content es old new all leads honest requests in_flight a holds =
+left_content es old new all leads honest requests in_flight a holds =
     let along = held_along es None old requests a new requests all honest holds (leads None requests in_flight) in
     subst (λ (g : Geometry). HoldsBetween g a (world_of new requests)) along.1 along.0
+
+pub calm_content : (es : List Event) (old new : MirrorView) → AllOf IsCalm es
+    → ((previous : Option Event) (requests : Requests) → AreInFlight old.array requests → LeadsReading previous old requests es new requests) → KeepsHeldContent old new
+calm_content es old new all = left_content es old new (all_such IsCalm LeavesContent (λ e is. is.leaves) es all)
 
 -- ---- members in sync agree
 -- where there are two

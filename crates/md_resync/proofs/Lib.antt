@@ -13,3 +13,6 @@ pub mod InLives
 pub mod Cleared
 pub mod Resynced
 pub mod MarksStored
+pub mod Lowered
+pub mod Told
+pub mod ToldRuns

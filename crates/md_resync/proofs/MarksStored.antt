@@ -179,7 +179,7 @@ leaves_along (Event.StoreMarks k b ∷ es) previous old before new after all sou
 leaves_along (e ∷ es) previous old before new after all sound t = absurd all.0
 
 mark_is_calm : (e : Event) → IsMarkStored e → IsCalm e
-mark_is_calm (Event.StoreMarks k b) is = record { of = tt; becomes = λ g w a. refl; whole = λ old new. tt }
+mark_is_calm (Event.StoreMarks k b) is = record { of = tt; leaves = record { becomes = λ g w a. refl; whole = λ old new. tt } }
 mark_is_calm e is = absurd is
 
 mark_is_stored : (e : Event) → IsMarking e → IsNoFailure e → IsMarkStored e

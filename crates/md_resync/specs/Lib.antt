@@ -4,6 +4,8 @@ pub mod Sources
 pub mod Steps
 -- Steps of a mirror are a run of it.
 pub mod StepRuns
+-- Recovering members say no more that they have marked chunks.
+pub mod Telling
 -- A whole resync.
 pub mod Resyncing
 -- What a crash leaves within a whole resync.

@@ -21,6 +21,7 @@ mod marks;
 mod members;
 mod source;
 pub mod steps;
+mod told_first;
 mod whole;
 
 pub use fault::ResyncFault;

@@ -4,19 +4,22 @@ ghost use Rattle.md_inflight.specs.Requests.Pending.{PendingView};
 ghost use Rattle.md_state.specs.Steps.MakeClean.{IsIdle};
 ghost use Rattle.md_state.specs.Requests.{IsPending};
 ghost use Rattle.md_array.specs.Consistency.{IsConsistent};
-ghost use Rattle.md_resync.specs.Resyncing.{IdleFails, RefusesResync, Resyncs};
+ghost use Rattle.md_resync.specs.Resyncing.{IdleFails, RefusesResync, Resyncs, ResyncsTold, ToldFails};
+ghost use Rattle.md_resync.specs.Telling.{AllSayNoneMarked};
 
 use crate::buffer::buffer_for;
 use crate::fault::ResyncFault;
 use crate::giving_up::give_up;
 use crate::making_agree::make_agree;
 use crate::marks::{clear_stored, store_memory_marks};
+use crate::told_first::tell_recovering;
 use md_array::Mirror;
 use md_device::Device;
 use std::alloc::Global;
 
-/// Makes the members in sync agree, so that the array can be read and written. The marks of memory are stored on
-/// each of them first, also where the array is degraded; then each marked chunk is copied, through two buffers of at
+/// Makes the members in sync agree, so that the array can be read and written. Where a recovering member's superblock says that it
+/// has a marked chunk, that is taken back first, and what is due is stored. Then the marks of memory are stored on
+/// each member in sync, also where the array is degraded; then each marked chunk is copied, through two buffers of at
 /// most 1 MiB, where members are not known to agree; and where the array is not degraded, the marks are cleared and that is stored.
 ///
 /// `Halted`, `InFlight` and `NoMemory` are looked for in this order, before a device is used. Then the first failure
@@ -54,11 +57,12 @@ fn resync_idle<D: Device + Drop>(alloc: Global, mirror: &mut Mirror<D>) -> Resul
     else {
         return Err(ResyncFault::NoMemory);
     };
-    resync_through(mirror, &mut buffer, &mut held)
+    tell_recovering(mirror)?;
+    resync_told(mirror, &mut buffer, &mut held)
 }
 
-// Resynchronises while nothing is in flight, through buffers of one length.
-fn resync_through<D: Device + Drop>(
+// Resynchronises once recovering members are told of, through buffers of one length.
+fn resync_told<D: Device + Drop>(
     mirror: &mut Mirror<D>,
     buffer: &mut [u8],
     held: &mut [u8],
@@ -67,7 +71,8 @@ fn resync_through<D: Device + Drop>(
     requires as_much { length held.old ≡ length buffer.old }
     requires sound { IsConsistent mirror.old }
     requires idle { IsIdle mirror.old.array }
-    ensures gives { MatchResult result (λ _. Resyncs mirror.old mirror.new) (IdleFails mirror.old mirror.new) }
+    requires told { AllSayNoneMarked mirror.old.array }
+    ensures gives { MatchResult result (λ _. ResyncsTold mirror.old mirror.new) (ToldFails mirror.old mirror.new) }
     ensures sound { IsConsistent mirror.new }
 {
     store_memory_marks(mirror)?;

@@ -1,7 +1,8 @@
 use Rattle.std.proofs.lemmas.Result.{err_from_is_err_and}
 use Rattle.md_resync.specs.Copying.{IsInMarkedChunk}
 use Rattle.md_resync.proofs.Resynced.{agreeing_fails, all_noted, copying_sound, resyncs_or_stops}
-use Rattle.md_resync.proofs.whole.resync_through.Goals as goal
+use Rattle.md_resync.proofs.Told.{still_told}
+use Rattle.md_resync.proofs.whole.resync_told.Goals as goal
 
 pub returns-in_err-make_agree-clause-gives : goal.returns-in_err-make_agree-clause-gives
 returns-in_err-make_agree-clause-gives g c =
@@ -23,3 +24,8 @@ returns-clause-gives g c =
 pub note_resynced-requires-clause-stored : goal.note_resynced-requires-clause-stored
 note_resynced-requires-clause-stored g c =
     all_noted c.store_memory_marks.new.mirror.array c.make_agree.new.mirror.array c.in_ok-store_memory_marks.ensures.gives.stored c.in_ok-make_agree.ensures.array
+
+pub make_agree-requires-clause-may : goal.make_agree-requires-clause-may
+make_agree-requires-clause-may g c =
+    let s = c.in_ok-store_memory_marks.ensures.gives in
+    record { idle = s.advances.idle; stored = s.stored; told = still_told c.args.mirror.now c.store_memory_marks.new.mirror s c.requires.told }
