@@ -2,7 +2,7 @@
 # SPDX-License-Identifier: MIT OR Apache-2.0
 
 _mdcli_commands() {
-  printf '%s\n' examine examine-bitmap examine-badblocks create assemble detail plan read write check resync stop fail remove add re-add rebuild help
+  printf '%s\n' examine examine-bitmap examine-badblocks create assemble detail plan read serve write check resync stop fail remove add re-add rebuild help
 }
 
 # The options of a command, beside --help and --verbose. A value follows one that ends in =.
@@ -13,6 +13,7 @@ _mdcli_options() {
     assemble | detail) printf '%s\n' --json --readonly --map= ;;
     plan) printf '%s\n' --member= --json --readonly --map= ;;
     read) printf '%s\n' --sector= --count= --fill --map-out= --output= --readonly --map= ;;
+    serve) printf '%s\n' --fill --readonly --map= ;;
     write) printf '%s\n' --sector= ;;
     check) printf '%s\n' --list --json --readonly --map= ;;
     resync) printf '%s\n' --map= ;;

@@ -21,6 +21,9 @@ SET = "00112233-4455-6677-8899-aabbccddeeff"
 VAULT = (TOP / "examples" / "vault.img").read_bytes()
 REPORT = (TOP / "examples" / "vault.examine.txt").read_text()
 ZEROS = bytes(2112 * SECTOR)
+# An NBD client that greets and goes, and what it is answered: the greeting, and that it may go.
+NBD_LEAVE = struct.pack(">I", 3) + b"IHAVEOPT" + struct.pack(">II", 2, 0)
+NBD_LEFT = (b"NBDMAGICIHAVEOPT" + struct.pack(">HQIII", 3, 0x3E889045565A9, 2, 1, 0)).decode("utf-8", "backslashreplace")
 # A sector less than an array of 64 sectors takes of a new member.
 SHORT = bytes(2111 * SECTOR)
 
@@ -862,6 +865,8 @@ CASES = [
             Step("read --readonly --sector 8 --count 2 b a", DATA.decode()),
             Step("read --readonly --sector 63 --count 2 a b", fault="OutOfRange"),
             Step("check --readonly a b", DIFFER),
+            # A client that asks for nothing: what is served is looked at by tests/serve.
+            Step("serve --readonly a b", NBD_LEFT, given=NBD_LEAVE),
             Step("read --sector 8 --count 2 a b", DATA.decode(), changes="b"),
             Step("check --readonly a b", AGREE),
         ],

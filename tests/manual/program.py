@@ -71,7 +71,7 @@ def command(name, says):
     lines = help_of([name])
     usage = next(line for line in lines if line.startswith("Usage: "))
     found = [OPTION.match(line) for line in section(lines, "Options:")]
-    options = [Option(one.group(1), one.group(2), ("--%s <" % one.group(1)) in usage, one.group(3)) for one in found if one]
+    options = [Option(one.group(1), one.group(2), ("--%s " % one.group(1)) in usage, one.group(3)) for one in found if one]
     own = [option for option in options if option.name not in COMMON]
     return Command(name, own, [option for option in options if option.name in COMMON], says)
 

@@ -53,8 +53,10 @@ class Program:
 def against_refusal(step, answer, before, after):
     """The reasons against a run that did not end as with all memory."""
     status, output, errors = answer
-    # A read that goes on has put out what comes before a run of missing sectors for which there is no memory.
-    is_part = "--fill" in step.words and isinstance(step.output, str) and step.output.startswith(output)
+    # A read that goes on has put out what comes before a run of missing sectors for which there is no memory, and a client was answered
+    # what it asked before a message for which there is none.
+    goes_on = "--fill" in step.words or step.words[0] == "serve"
+    is_part = goes_on and isinstance(step.output, str) and step.output.startswith(output)
     reasons = [] if status in (1, 2) and (is_part or not output) and errors else ["the answer is %r" % (answer,)]
     # Without memory for a word it is not said that it is none.
     if "UTF-8" in errors:

@@ -1,5 +1,5 @@
 -- What is read without a resync is what a resync and then a read give.
-use Rattle.std.proofs.Common.{◌≡◌, ◌⊎◌, ◌∙◌, ℕ, ◌+◌, ◌-◌, ◌*◌, ◌/◌, ◌<◌, ◌&&◌, nat_lt, true, List, [], ◌∷◌, ◌++◌, length, slice_get, Some, None, refl, sym, ap, subst, arith, inl, inr, length-append}
+use Rattle.std.proofs.Common.{◌≡◌, ◌⊎◌, ◌∙◌, ℕ, ◌+◌, ◌-◌, ◌*◌, ◌/◌, ◌<◌, ◌&&◌, nat_lt, true, false, List, [], ◌∷◌, ◌++◌, length, slice_get, Option, Some, None, refl, sym, ap, subst, arith, inl, inr, length-append}
 use Rattle.std.specs.List.{concat}
 use Rattle.std.proofs.lemmas.Bool.{cases_lt}
 use Rattle.std.proofs.lemmas.Option.{same_Some, slice_get_within}
@@ -9,6 +9,7 @@ use Rattle.md_assembly.proofs.Indices.{got_within}
 use Rattle.md_device.specs.Device.{held}
 use Rattle.md_device.specs.Splice.{part}
 use Rattle.md_device.proofs.Splices.{length-part, part_part}
+use Rattle.md_model.specs.Events.{Event}
 use Rattle.md_model.specs.Sectors.{Geometry}
 use Rattle.md_kept_members.specs.View.{MemberView}
 use Rattle.md_state.specs.Steps.CopyData.{IsSource, Lists}
@@ -18,42 +19,72 @@ use Rattle.md_state.specs.Rests.{Rests}
 use Rattle.md_state.specs.View.{ArrayView, Disk, MirrorView, geometry_of}
 use Rattle.md_array.specs.Consistency.{IsConsistent}
 use Rattle.md_array.specs.Steps.NoteResynced.{AllAgreeAt, IsHonestMember, sector_of}
+use Rattle.md_array.specs.InTurn.{AllOf, Requests}
 use Rattle.md_array.specs.Worlds.{AreHonest, world_of}
+use Rattle.md_array.proofs.StepLemmas.Turns.{all_on, all_such}
 use Rattle.md_array.proofs.Worlds.SectorCopied.{in_sync_as}
+use Rattle.md_laws.specs.ReadInTurn.{LeadsReading, ReadInTurn}
+use Rattle.md_laws.proofs.Runs.ReadTurns.{read_on, read_then, unread}
+use Rattle.md_metadata.specs.Storing.{IsNoFailure}
 use Rattle.md_read.specs.Unresynced.{GivesPart, IsSectorMarked, IsUnmarkedAt, PartsInTurn}
 use Rattle.md_read.proofs.PartsInTurn.{part_rests, part_whole}
 use Rattle.md_read.proofs.RunsInTurn.{IsHeld, run_held, sector_held}
 use Rattle.md_read.proofs.RunsRead.{held_earlier, is_earlier}
 use Rattle.md_read.proofs.SectorsGiven.{held_end, held_front}
-use Rattle.md_resync.specs.Resyncing.{Resyncs}
+use Rattle.md_resync.specs.Resyncing.{IsOfResync, Resyncs}
+use Rattle.md_resync.specs.Telling.{IsTelling}
+use Rattle.md_resync.proofs.Told.{resynced_array, resynced_many, resynced_member}
 use Rattle.md_read_commands.specs.AsResynced.{HoldsAsMuch, LeavesSources, ReadsAsResynced}
 use Rattle.md_commands.proofs.DeviceCounts.{none_in_flight, nothing}
-use Rattle.md_read_commands.proofs.ResyncedData.{IsSourceIn, StaysIn, along, sector_there, source_step, source_there, stays_step}
+use Rattle.md_read_commands.proofs.ResyncedData.{IsOfWhole, IsSourceIn, StaysIn, along, sector_there, source_step, source_there, stays_step, whole_resync, whole_telling}
 
 -- ---- what a resync leaves
 module _ (old new : MirrorView) (sound : IsConsistent old) (honest : AreHonest old.disks) (resyncs : Resyncs old new) where
   abbrev g : Geometry
   g = geometry_of old.array
 
-  -- a member is the same after it, but for what is stored
-  still : (k : ℕ) (m n : MemberView) → IsMember old.array k m → IsMember new.array k n → n ≡ record m { stored = n.stored }
-  still k m n was is = resyncs.array.members.each k m n was is
+  -- all of its events, one after another
+  abbrev events : List Event
+  events = resyncs.tells.goes.events ++ resyncs.then.goes.events
+
+  of_whole : AllOf IsOfWhole events
+  of_whole = all_on IsOfWhole resyncs.tells.goes.events resyncs.then.goes.events
+      (all_such IsTelling IsOfWhole whole_telling resyncs.tells.goes.events resyncs.tells.goes.steps)
+      (all_such IsOfResync IsOfWhole whole_resync resyncs.then.goes.events resyncs.then.goes.steps)
+
+  unfailing : AllOf IsNoFailure events
+  unfailing = all_on IsNoFailure resyncs.tells.goes.events resyncs.then.goes.events resyncs.tells.unfailing resyncs.then.unfailing
+
+  leads : LeadsReading None old nothing events new nothing
+  leads =
+      read_on resyncs.tells.goes.events resyncs.then.goes.events None old nothing (λ m s. (m ≡ new) × (s ≡ nothing))
+      (read_then resyncs.tells.goes.events None old nothing
+      (λ m s. (m ≡ resyncs.told) × (s ≡ nothing))
+      (λ m s. (last : Option Event) → ReadInTurn last m s resyncs.then.goes.events (λ m s. (m ≡ new) × (s ≡ nothing)))
+      (λ m s at last.
+      subst (λ (x : MirrorView). ReadInTurn last x s resyncs.then.goes.events (λ m s. (m ≡ new) × (s ≡ nothing))) (sym at.0)
+      (subst (λ (x : Requests). ReadInTurn last resyncs.told x resyncs.then.goes.events (λ m s. (m ≡ new) × (s ≡ nothing))) (sym at.1)
+      (resyncs.then.goes.leads last nothing (none_in_flight resyncs.told.array))))
+      (unread resyncs.tells.goes.events None old nothing (λ m s. (m ≡ resyncs.told) × (s ≡ nothing)) (resyncs.tells.goes.leads None nothing (none_in_flight old.array))))
+
+  running : old.array.halted ≡ false
+  running = ap (λ (a : ArrayView). a.halted) (sym resyncs.tells.array) ∙ resyncs.then.idle.running
 
   low_after : (s : ℕ) → s < old.array.chunks.size → s < new.array.chunks.size
-  low_after s low = subst (λ (a : ArrayView). s < a.chunks.size) (sym resyncs.array.array) low
+  low_after s low = subst (λ (a : ArrayView). s < a.chunks.size) (sym (resynced_array old new resyncs)) low
 
   source_after : (s k : ℕ) → s < old.array.chunks.size → IsSource k s old.array
       → AreHonest new.disks × IsConsistent new × IsSourceIn g s k (((world_of old nothing).stored k).content s) (world_of new nothing)
   source_after s k low source =
       along (IsSourceIn g s k (((world_of old nothing).stored k).content s)) g (source_step g s k (((world_of old nothing).stored k).content s))
-      resyncs.goes.events None old nothing new nothing resyncs.goes.steps resyncs.unfailing honest sound (none_in_flight old.array) refl (resyncs.goes.leads None nothing (none_in_flight old.array))
-      (source_there old sound honest nothing (none_in_flight old.array) resyncs.idle.running k s low source)
+      events None old nothing new nothing of_whole unfailing honest sound (none_in_flight old.array) refl leads
+      (source_there old sound honest nothing (none_in_flight old.array) running k s low source)
 
   stays_after : (s k : ℕ) → IsUnmarkedAt old.array s
       → AreHonest new.disks × IsConsistent new × StaysIn g s k (((world_of old nothing).stored k).content s) (world_of new nothing)
   stays_after s k off =
       along (StaysIn g s k (((world_of old nothing).stored k).content s)) g (stays_step g s k (((world_of old nothing).stored k).content s))
-      resyncs.goes.events None old nothing new nothing resyncs.goes.steps resyncs.unfailing honest sound (none_in_flight old.array) refl (resyncs.goes.leads None nothing (none_in_flight old.array))
+      events None old nothing new nothing of_whole unfailing honest sound (none_in_flight old.array) refl leads
       (record { unmarked = ap (λ b. nat_lt (s / old.array.chunks.sectors) old.array.marks.chunks && b) off ∙ and-false (nat_lt (s / old.array.chunks.sectors) old.array.marks.chunks); holds = refl })
 
   marked_left : (s from k : ℕ) (m n : MemberView) (d e : Disk) → s < old.array.chunks.size → IsSectorMarked old.array s → IsSource from s old.array
@@ -61,18 +92,18 @@ module _ (old new : MirrorView) (sound : IsConsistent old) (honest : AreHonest o
   marked_left s from k m n d e low marked source at there served free =
       let after = source_after s from low source in
       let within = slice_get_within old.array.members from m at in
-      let many = resyncs.array.members.as_many in
+      let many = resynced_many old new resyncs in
       let x = got_within new.array.members from (omega arith) in
       let as_many = after.1.fits.as_many in
       let f = got_within new.disks from (omega arith) in
-      let same : x.0 ≡ record m { stored = x.0.stored } = still from m x.0 at x.1 in
+      let same = resynced_member old new resyncs from m x.0 at x.1 in
       let it : source.member ≡ m = same_Some source.member m (sym source.at ∙ at) in
       let unlisted : Lists x.0 s → ⊥ = λ lists. source.unlisted (subst (λ (y : MemberView). Lists y s) (sym it) (subst (λ (y : MemberView). Lists y s) same lists)) in
       let on : IsInSync new.array from x.0 = record {
         member = x.1;
         in_sync = ap (λ (y : MemberView). is_in_sync y.state) same ∙ subst (λ (y : MemberView). is_in_sync y.state ≡ true) it (in_sync_as source.role source.member.state source.in_sync).0;
       } in
-      resyncs.agree s low marked k from n x.0 e f.0 served (record { in_sync = on; disk = f.1; honest = after.0 from f.0 f.1 }) free unlisted
+      resyncs.then.agree s (subst (λ (a : ArrayView). s < a.chunks.size) (sym resyncs.tells.array) low) (subst (λ (a : ArrayView). IsSectorMarked a s) (sym resyncs.tells.array) marked) k from n x.0 e f.0 served (record { in_sync = on; disk = f.1; honest = after.0 from f.0 f.1 }) free unlisted
       ∙ sym (sector_there new nothing from s x.0 f.0 x.1 f.1 (low_after s low))
       ∙ after.2.holds
       ∙ sector_there old nothing from s m d at there low
@@ -89,7 +120,7 @@ module _ (old new : MirrorView) (sound : IsConsistent old) (honest : AreHonest o
   pub honest_after : AreHonest new.disks × IsConsistent new
   honest_after =
       let after = along (λ _. Unit {0}) g (λ w e w' of done free step p. tt)
-      resyncs.goes.events None old nothing new nothing resyncs.goes.steps resyncs.unfailing honest sound (none_in_flight old.array) refl (resyncs.goes.leads None nothing (none_in_flight old.array)) tt in
+      events None old nothing new nothing of_whole unfailing honest sound (none_in_flight old.array) refl leads tt in
       (after.0, after.1)
 
 -- ---- what was read without one, sector by sector
@@ -236,7 +267,7 @@ module _ (old start ready : MirrorView) (sound : IsConsistent old) (honest : Are
       let f = device_of other.from x.0 x.1 in
       let e = device_there old start same other.from f.0 f.1 in
       let at = subst (λ (a : ArrayView). IsMember a other.from x.0) (sym same.array) x.1 in
-      let is = resyncs.array.members.each other.from x.0 other.is.member at other.is.at in
+      let is = resynced_member start ready resyncs other.from x.0 other.is.member at other.is.at in
       let on : IsInSync old.array other.from x.0 = record {
         member = x.1;
         in_sync = ap (λ (y : MemberView). is_in_sync y.state) (sym is) ∙ served.in_sync.in_sync;
@@ -254,7 +285,7 @@ module _ (old start ready : MirrorView) (sound : IsConsistent old) (honest : Are
       was_member : (m : MemberView) × IsMember old.array other.from m
       was_member =
           let there = slice_get_within ready.array.members other.from other.is.member other.is.at in
-          let many = resyncs.array.members.as_many in
+          let many = resynced_many start ready resyncs in
           let as_many = ap (λ (a : ArrayView). length a.members) same.array in
           got_within old.array.members other.from (omega arith)
 

@@ -2,9 +2,11 @@ pub mod AsResynced
 pub mod Filled
 pub mod FilledPut
 pub mod Missing
+pub mod Noted
 pub mod PiecesPut
 pub mod PiecesRead
 pub mod ReadCounts
 pub mod ReadReadied
 pub mod ResyncedData
+pub mod Served
 pub mod Ways

@@ -6,6 +6,7 @@ use Rattle.md_badblocks.specs.declared.run.Run.{Run}
 use Rattle.md_read.specs.declared.fault.UnreadFault.{UnreadFault}
 use Rattle.md_read.specs.declared.fault.UnreadFault.TheVariants.{Halted, NotResynced, OutOfRange, Unreadable}
 use Rattle.md_resync.specs.declared.fault.ResyncFault.TheVariants.{ReadFault}
+use Rattle.md_resync.proofs.Told.{resynced_array}
 use Rattle.md_state.specs.Members.{is_degraded}
 use Rattle.md_state.specs.Trying.{Refuses}
 use Rattle.md_state.specs.View.{ArrayView, MirrorView}
@@ -21,11 +22,11 @@ use Rattle.md_read_commands.specs.Ways.{MayReadBy}
 
 module _ (old ready : MirrorView) (readied : ResyncsIfNeeded old ready) where
   halted_at : (needs : Bool) → needs_resync old.array ≡ needs → ready.array.halted ≡ old.array.halted
-  halted_at true is = ap (λ (a : ArrayView). a.halted) (readied.resynced is).array.array
+  halted_at true is = ap (λ (a : ArrayView). a.halted) (resynced_array old ready (readied.resynced is))
   halted_at false is = ap (λ (v : MirrorView). v.array.halted) (readied.untouched is)
 
   size_at : (needs : Bool) → needs_resync old.array ≡ needs → ready.array.chunks.size ≡ old.array.chunks.size
-  size_at true is = ap (λ (a : ArrayView). a.chunks.size) (readied.resynced is).array.array
+  size_at true is = ap (λ (a : ArrayView). a.chunks.size) (resynced_array old ready (readied.resynced is))
   size_at false is = ap (λ (v : MirrorView). v.array.chunks.size) (readied.untouched is)
 
   not_degraded : (d r : Bool) → r ≡ false → d && not r ≡ false → d ≡ false
@@ -37,7 +38,7 @@ module _ (old ready : MirrorView) (readied : ResyncsIfNeeded old ready) where
     not_resynced not_yet = by (needs_resync old.array) refl
       where
         by : (needs : Bool) → needs_resync old.array ≡ needs → Refuses old ready (MustBeResynced old.array sector count)
-        by true is = let yes = ap (λ (a : ArrayView). a.resynced) (readied.resynced is).array.array in absurd cc
+        by true is = let yes = ap (λ (a : ArrayView). a.resynced) (resynced_array old ready (readied.resynced is)) in absurd cc
         by false is =
             let same = readied.untouched is in
             let still : old.array.resynced ≡ false = sym (ap (λ (v : MirrorView). v.array.resynced) same) ∙ not_yet in

@@ -1,14 +1,15 @@
--- By the events of a resync each sector of a marked chunk stays on its source, and each other on every member.
-use Rattle.std.proofs.Common.{◌≡◌, ◌≢◌, ◌∙◌, ℕ, ◌+◌, ◌*◌, ◌<◌, ◌≤◌, true, false, cond, nat_lt, true≢false, List, [], ◌∷◌, slice_get, Option, Some, refl, sym, ap, subst, arith}
+-- By the events of a resync, of recovering members and then of those in sync, each sector of a marked chunk stays on its source, and each other on every member.
+use Rattle.std.proofs.Common.{◌≡◌, ◌≢◌, ◌∙◌, ℕ, ◌+◌, ◌*◌, ◌<◌, ◌≤◌, Bool, true, false, cond, nat_lt, true≢false, List, [], ◌∷◌, slice_get, Option, Some, refl, sym, ap, subst, arith}
 use Rattle.std.proofs.lemmas.Bool.{and_parts}
 use Rattle.md_device.specs.Splice.{part}
 use Rattle.md_model.specs.Devices.{Stored}
 use Rattle.md_model.specs.Events.{Event, MemberPart, Step}
 use Rattle.md_model.specs.Resyncing.{copied, copied_device}
 use Rattle.md_model.specs.Sectors.{Geometry, chunk_of}
+use Rattle.md_model.specs.Steps.{recorded, recorded_device}
 use Rattle.md_model.specs.Worlds.{IsInSync, World}
 use Rattle.md_model.proofs.Cases.{below-nat_lt, by_test}
-use Rattle.md_model.proofs.Puts.{by_same, put-at, put-miss}
+use Rattle.md_model.proofs.Puts.{by_same, put-at, put-miss, put-same}
 use Rattle.md_model.proofs.Steps.TrackedCalls.{content_copied}
 use Rattle.md_model.proofs.Steps.TrackedSteps.{content_marked}
 use Rattle.md_assembly.specs.States.{takes_role}
@@ -30,6 +31,33 @@ use Rattle.md_array.proofs.Worlds.SectorCopied.{has_role, in_sync_as, unlisted_i
 use Rattle.md_laws.specs.ReadInTurn.{LeadsReading}
 use Rattle.md_metadata.specs.Storing.{IsNoFailure}
 use Rattle.md_resync.specs.Resyncing.{IsOfResync}
+use Rattle.md_resync.specs.Telling.{IsTelling}
+
+-- an event of a resync, also before recovering members are told of
+abbrev pub IsOfWhole : Event → Type 0
+IsOfWhole (Event.LowerOffset k s) = Unit {0}
+IsOfWhole (Event.Record k) = Unit {0}
+IsOfWhole (Event.StoreMarks k b) = Unit {0}
+IsOfWhole (Event.WriteFails k part) = Unit {0}
+IsOfWhole (Event.Copy from k s) = Unit {0}
+IsOfWhole Event.Resynced = Unit {0}
+IsOfWhole (Event.ClearIdle c) = Unit {0}
+IsOfWhole e = ⊥
+
+pub whole_telling : (e : Event) → IsTelling e → IsOfWhole e
+whole_telling (Event.LowerOffset k s) is = tt
+whole_telling (Event.Record k) is = tt
+whole_telling (Event.StoreMarks k b) is = tt
+whole_telling (Event.WriteFails k part) is = tt
+whole_telling e is = absurd is
+
+pub whole_resync : (e : Event) → IsOfResync e → IsOfWhole e
+whole_resync (Event.StoreMarks k b) is = tt
+whole_resync (Event.WriteFails k part) is = tt
+whole_resync (Event.Copy from k s) is = tt
+whole_resync Event.Resynced is = tt
+whole_resync (Event.ClearIdle c) is = tt
+whole_resync e is = absurd is
 
 -- what a copy's own contract says beside the model's event
 abbrev pub CopiesFree : World → Event → Type 0
@@ -37,6 +65,10 @@ CopiesFree w (Event.Copy from k x) = (w.bad from x ≡ false) × (from ≢ k)
 CopiesFree w e = Unit {0}
 
 -- ---- in the model
+-- a superblock that is stored changes no data
+content_recorded : (w : World) (i : ℕ) (listed : ℕ → Bool) (j s : ℕ) → ((recorded w i listed).stored j).content s ≡ (w.stored j).content s
+content_recorded w i listed j s = put-same (λ (d : Stored). d.content s) i (recorded_device w i listed) w.stored j refl
+
 module _ (g : Geometry) (s k : ℕ) (c : List ℕ) where
   -- member k is the one to give the sector, and holds these bytes there
   pub record IsSourceIn (w : World) : Type 0 where
@@ -60,10 +92,14 @@ module _ (g : Geometry) (s k : ℕ) (c : List ℕ) where
       let same : from ≡ k = h.apart from may.source (omega arith) in
       free.1 (same ∙ sym there)
 
-  pub source_step : (w : World) (e : Event) (w' : World) → IsOfResync e → IsNoFailure e → CopiesFree w e → Step g w e w' → IsSourceIn w → IsSourceIn w'
+  pub source_step : (w : World) (e : Event) (w' : World) → IsOfWhole e → IsNoFailure e → CopiesFree w e → Step g w e w' → IsSourceIn w → IsSourceIn w'
   source_step w (Event.StoreMarks i b) w' of done free step h =
       subst IsSourceIn (sym step.1.1) (record { in_sync = h.in_sync; free = h.free; lowest = h.lowest; apart = h.apart; holds = content_marked g w i b k s ∙ h.holds })
   source_step w (Event.WriteFails i which) w' of done free step h = absurd done
+  source_step w (Event.LowerOffset i x) w' of done free step h =
+      subst IsSourceIn (sym step.1.1) (record { in_sync = h.in_sync; free = h.free; lowest = h.lowest; apart = h.apart; holds = h.holds })
+  source_step w (Event.Record i) w' of done free step h =
+      subst IsSourceIn (sym step.1.3) (record { in_sync = h.in_sync; free = h.free; lowest = h.lowest; apart = h.apart; holds = content_recorded w i step.1.0 k s ∙ h.holds })
   source_step w (Event.Copy from j x) w' of done free step h =
       subst IsSourceIn (sym step.1.1) (record {
         in_sync = h.in_sync;
@@ -83,10 +119,13 @@ module _ (g : Geometry) (s k : ℕ) (c : List ℕ) where
     pub unmarked : w.marks (chunk_of g s) ≡ false
     pub holds : (w.stored k).content s ≡ c
 
-  pub stays_step : (w : World) (e : Event) (w' : World) → IsOfResync e → IsNoFailure e → CopiesFree w e → Step g w e w' → StaysIn w → StaysIn w'
+  pub stays_step : (w : World) (e : Event) (w' : World) → IsOfWhole e → IsNoFailure e → CopiesFree w e → Step g w e w' → StaysIn w → StaysIn w'
   stays_step w (Event.StoreMarks i b) w' of done free step h =
       subst StaysIn (sym step.1.1) (record { unmarked = h.unmarked; holds = content_marked g w i b k s ∙ h.holds })
   stays_step w (Event.WriteFails i which) w' of done free step h = absurd done
+  stays_step w (Event.LowerOffset i x) w' of done free step h = subst StaysIn (sym step.1.1) (record { unmarked = h.unmarked; holds = h.holds })
+  stays_step w (Event.Record i) w' of done free step h =
+      subst StaysIn (sym step.1.3) (record { unmarked = h.unmarked; holds = content_recorded w i step.1.0 k s ∙ h.holds })
   stays_step w (Event.Copy from j x) w' of done free step h =
       subst StaysIn (sym step.1.1) (record {
         unmarked = h.unmarked;
@@ -101,14 +140,15 @@ module _ (g : Geometry) (s k : ℕ) (c : List ℕ) where
 
 -- ---- of mirrors
 -- nothing is asked of what such an event left
-left_whole : (e : Event) → IsOfResync e → (old new : MirrorView) → LeftWhole old e new
-left_whole (Event.StoreMarks k b) of old new = tt
-left_whole (Event.WriteFails k (MemberPart.BitmapSector b)) of old new = tt
-left_whole (Event.Copy from k s) of old new = tt
-left_whole (Event.WriteFails k (MemberPart.CopiedChunk c)) of old new = tt
-left_whole Event.Resynced of old new = tt
-left_whole (Event.ClearIdle c) of old new = tt
-left_whole e of old new = absurd of
+left_whole : (e : Event) → IsOfWhole e → IsNoFailure e → (old new : MirrorView) → LeftWhole old e new
+left_whole (Event.LowerOffset k s) of done old new = tt
+left_whole (Event.Record k) of done old new = tt
+left_whole (Event.StoreMarks k b) of done old new = tt
+left_whole (Event.WriteFails k which) of done old new = absurd done
+left_whole (Event.Copy from k s) of done old new = tt
+left_whole Event.Resynced of done old new = tt
+left_whole (Event.ClearIdle c) of done old new = tt
+left_whole e of done old new = absurd of
 
 pub unlisted_off : (v : MirrorView) (requests : Requests) (k s : ℕ) (m : MemberView) → IsMember v.array k m → (Lists m s → ⊥) → (world_of v requests).bad k s ≡ false
 unlisted_off v requests k s m at none =
@@ -117,18 +157,20 @@ unlisted_off v requests k s m at none =
     (λ on. absurd (none (bad_from_test m.bad (m.superblock.data_offset + s) (and_parts (nat_lt s v.array.chunks.size) _ on).1)))
     (λ off. off)
 
-copies_free : (v : MirrorView) (requests : Requests) (e : Event) (new : MirrorView) (after : Requests) → IsOfResync e → Did v requests e new after → CopiesFree (world_of v requests) e
+copies_free : (v : MirrorView) (requests : Requests) (e : Event) (new : MirrorView) (after : Requests) → IsOfWhole e → Did v requests e new after → CopiesFree (world_of v requests) e
 copies_free v requests (Event.Copy from k x) new after of did =
     let source = did.1.may.source x (omega arith) (omega arith) in
     (unlisted_off v requests from x source.member source.at source.unlisted, did.1.may.apart)
+copies_free v requests (Event.LowerOffset k s) new after of did = tt
+copies_free v requests (Event.Record k) new after of did = tt
 copies_free v requests (Event.StoreMarks k b) new after of did = tt
 copies_free v requests (Event.WriteFails k which) new after of did = tt
 copies_free v requests Event.Resynced new after of did = tt
 copies_free v requests (Event.ClearIdle c) new after of did = tt
 copies_free v requests e new after of did = absurd of
 
-module _ (P : World → Type 0) (g : Geometry) (step : (w : World) (e : Event) (w' : World) → IsOfResync e → IsNoFailure e → CopiesFree w e → Step g w e w' → P w → P w') where
-  pub along : (es : List Event) (previous : Option Event) (old : MirrorView) (before : Requests) (new : MirrorView) (after : Requests) → AllOf IsOfResync es → AllOf IsNoFailure es
+module _ (P : World → Type 0) (g : Geometry) (step : (w : World) (e : Event) (w' : World) → IsOfWhole e → IsNoFailure e → CopiesFree w e → Step g w e w' → P w → P w') where
+  pub along : (es : List Event) (previous : Option Event) (old : MirrorView) (before : Requests) (new : MirrorView) (after : Requests) → AllOf IsOfWhole es → AllOf IsNoFailure es
       → AreHonest old.disks → IsConsistent old → AreInFlight old.array before → geometry_of old.array ≡ g → LeadsReading previous old before es new after → P (world_of old before)
       → AreHonest new.disks × IsConsistent new × P (world_of new after)
   along [] previous old before new after all done honest sound in_flight geometry t p = (
@@ -139,7 +181,7 @@ module _ (P : World → Type 0) (g : Geometry) (step : (w : World) (e : Event) (
   )
   along (e ∷ es) previous old before new after all done honest sound in_flight geometry t p =
       let honest_there = same_honest old.disks t.0.disks t.3.disks.same honest in
-      let does = t.6 honest_there (left_whole e all.0 t.0 t.1) in
+      let does = t.6 honest_there (left_whole e all.0 done.0 t.0 t.1) in
       let same : geometry_of t.0.array ≡ g = geometry_rests old t.0 t.3 ∙ geometry in
       let stepped = subst (λ (x : Geometry). Step x (world_of t.0 before) e (world_of t.1 t.2)) same does.step in
       let free = copies_free t.0 before e t.1 t.2 all.0 t.5 in

@@ -6,5 +6,7 @@ pub mod Filling
 pub mod Pieces
 -- The command that reads an array.
 pub mod Reading
+-- An array is served to a client of the NBD protocol.
+pub mod Serving
 -- How sectors of an array are read.
 pub mod Ways

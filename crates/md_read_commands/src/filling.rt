@@ -106,9 +106,9 @@ fn put_filled_piece<D: Device + Drop, S: Sink>(
     Ok(())
 }
 
-// Fills a piece with what is read, and zeros in the place of each sector that is not given. The next read after such a sector
-// asks for one alone, and each that is given doubles it: so in a long bad area each sector is tried once on each member.
-fn fill_piece<D: Device + Drop>(
+/// Fills a piece with what is read, and zeros in the place of each sector that is not given. The next read after such a sector
+/// asks for one alone, and each that is given doubles it: so in a long bad area each sector is tried once on each member.
+pub(crate) fn fill_piece<D: Device + Drop>(
     mirror: &mut Mirror<D>,
     way: Way,
     sector: u64,

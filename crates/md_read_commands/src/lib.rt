@@ -1,10 +1,11 @@
-//! The command that reads an opened array: sectors of it are put out in pieces, which is all the memory that a read takes. A degraded
+//! The commands that read an opened array and serve it: sectors of it are put out in pieces, which is all the memory that a read takes. A degraded
 //! array that is not resynced is resynced first, or read as it would be after that where no image may be changed; and where a
 //! sector is not given the read ends, or zeros stand in its place, and it is told which are missing. Why a read is refused is
 //! `CommandFault` of `md_commands`, which has the other commands on an opened array.
 //!
 //! Start with `read_array` in `reading.rt`: it chooses the way in which the sectors are read (`way.rt`), and puts them out
-//! piece by piece (`pieces.rt`; `filling.rt` with zeros). `laws` has what holds of all that is read so.
+//! piece by piece (`pieces.rt`; `filling.rt` with zeros). `serve_array` in `serving.rt` gives them to a client of the NBD protocol
+//! (`reader.rt`). `laws` has what holds of all that is read so.
 //!
 //! ```
 //! read_array(alloc, &mut mirror, 8, 16, &mut out)?;
@@ -15,9 +16,13 @@
 mod buffer;
 mod filling;
 pub mod laws;
+mod noting;
 mod output;
 mod pieces;
+mod reader;
 mod reading;
+mod serving;
 mod way;
 
 pub use reading::{read_array, read_array_filled, read_array_readonly};
+pub use serving::serve_array;

@@ -136,8 +136,8 @@ fn fill_array<D: Device + Drop, S: Sink>(
     Ok(())
 }
 
-// Says which sector is the first that is missing, if one is.
-fn first_missing(missing: &BadSet) -> Result<(), UnreadFault>
+/// Says which sector is the first that is missing, if one is.
+pub(crate) fn first_missing(missing: &BadSet) -> Result<(), UnreadFault>
     ensures { MatchResult result (λ _. missing.now ≡ []) (IsFirstMissing missing.now) }
 {
     match missing.runs().first() {
@@ -194,8 +194,8 @@ fn make_ready<D: Device + Drop>(
     Ok(Way::Resynced)
 }
 
-// How an array is read that may not be resynced before.
-fn way_as_it_is<D: Device + Drop>(
+/// How an array is read that may not be resynced before.
+pub(crate) fn way_as_it_is<D: Device + Drop>(
     mirror: &Mirror<D>,
     sector: u64,
     count: u64,

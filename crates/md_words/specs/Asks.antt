@@ -35,6 +35,7 @@ pub data Ask : Type 0 where
   details : Bool → Bool → Ask
   plans : ℕ → Bool → Bool → Ask  -- the rebuild of the member with this index
   reads : ℕ → ℕ → Bool → Bool → Ask  -- from a sector on, so many; whether zeros stand for those that are not given
+  serves : Bool → Ask  -- reading only; whether zeros stand for sectors that are not given
   checks : CheckForm → Bool → Ask
   writes : ℕ → Ask  -- from a sector on
   resyncs : Ask
@@ -51,6 +52,7 @@ is_readonly (assembles json readonly) = readonly
 is_readonly (details json readonly) = readonly
 is_readonly (plans k json readonly) = readonly
 is_readonly (reads sector count fill readonly) = readonly
+is_readonly (serves fill) = true
 is_readonly (checks form readonly) = readonly
 is_readonly _ = false
 
@@ -64,6 +66,7 @@ full_access_of (assembles json readonly) = ChangeOrLook
 full_access_of (details json readonly) = ChangeOrLook
 full_access_of (plans k json readonly) = ChangeOrLook
 full_access_of (reads sector count fill readonly) = ChangeOrLook
+full_access_of (serves fill) = ChangeOrLook
 full_access_of (checks form readonly) = ChangeOrLook
 full_access_of _ = Change
 
@@ -82,6 +85,7 @@ opens_array _ = true
 -- whether it puts out zeros for sectors that are not given
 abbrev pub fills : Ask → Bool
 fills (reads sector count fill readonly) = fill
+fills (serves fill) = fill
 fills _ = false
 
 -- the image that is to join it
@@ -162,6 +166,7 @@ ask_of (command.Assemble json readonly) = assembles json readonly
 ask_of (command.Detail json readonly) = details json readonly
 ask_of (command.Plan k json readonly) = plans k json readonly
 ask_of (command.Read sector count fill readonly) = reads sector count fill readonly
+ask_of (command.Serve fill) = serves fill
 ask_of (command.Check form readonly) = checks form readonly
 ask_of (command.Write sector) = writes sector
 ask_of command.Resync = resyncs

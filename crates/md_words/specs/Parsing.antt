@@ -12,7 +12,7 @@ use Rattle.md_words.specs.declared.form.CheckForm.{CheckForm}
 use Rattle.md_words.specs.declared.form.CheckForm.TheVariants as check_form
 use Rattle.md_words.specs.declared.form.ImageForm.{ImageForm}
 use Rattle.md_words.specs.declared.form.ImageForm.TheVariants as image_form
-use Rattle.md_words.specs.Asks.{Ask, Options, examines, examines_bitmap, examines_badblocks, creates, assembles, details, plans, reads, checks, writes, resyncs, stops, fails, removes, adds, re_adds, rebuilds}
+use Rattle.md_words.specs.Asks.{Ask, Options, examines, examines_bitmap, examines_badblocks, creates, assembles, details, plans, reads, serves, checks, writes, resyncs, stops, fails, removes, adds, re_adds, rebuilds}
 
 -- whether the text is a number: one decimal digit or more, and nothing else
 abbrev pub is_number : Text → Bool
@@ -165,6 +165,7 @@ ask_named name rows =
     else if bytes_eq name (codes "plan") then plans (member_in rows) (json_in rows) (readonly_in rows)
     else if bytes_eq name (codes "read") then reads (sector_in rows) (count_in rows) (fill_in rows)
     (readonly_in rows)
+    else if bytes_eq name (codes "serve") then serves (fill_in rows)
     else if bytes_eq name (codes "check") then checks (check_form_in rows) (readonly_in rows)
     else ask_to_change name rows
 

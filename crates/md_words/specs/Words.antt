@@ -126,6 +126,14 @@ read_app =
     with_images
     (with_fill (with_rule (with_sector (new_app (codes "read"))) (required (u64_rule (codes "count")))))
 
+-- a command that is only asked for with `readonly`
+abbrev pub serve_app : App
+serve_app =
+    completed
+    (with_map
+    (with_rule (with_rule (new_app (codes "serve")) (flag_rule (codes "fill")))
+    (required (flag_rule (codes "readonly")))))
+
 abbrev pub write_app : App
 write_app = completed (with_sector (new_app (codes "write")))
 
@@ -179,7 +187,9 @@ abbrev pub with_data_commands : App → App
 with_data_commands a =
     with_subcommand
     (with_subcommand
-    (with_subcommand (with_subcommand (with_subcommand a read_app.top) write_app.top) check_app.top)
+    (with_subcommand
+    (with_subcommand (with_subcommand (with_subcommand a read_app.top) serve_app.top) write_app.top)
+    check_app.top)
     resync_app.top)
     (bare_app (codes "stop")).top
 

@@ -49,6 +49,11 @@ pub enum Command<'a> {
         fill: bool,
         readonly: bool,
     },
+    /// Serves it to a client on the input and the output, reading only, and with `fill` zeros in the place of sectors that are not
+    /// given.
+    Serve {
+        fill: bool,
+    },
     /// Counts the chunks in which its members in sync differ, or shows which they are too.
     Check {
         form: CheckForm,
@@ -103,6 +108,7 @@ impl<'a> Command<'a> {
             | Command::Detail { .. }
             | Command::Plan { .. }
             | Command::Read { .. }
+            | Command::Serve { .. }
             | Command::Check { .. } => Access::ChangeOrLook,
             Command::Create(_)
             | Command::Write { .. }
@@ -125,6 +131,7 @@ impl<'a> Command<'a> {
             Command::Detail { readonly, .. } => readonly,
             Command::Plan { readonly, .. } => readonly,
             Command::Read { readonly, .. } => readonly,
+            Command::Serve { .. } => true,
             Command::Check { readonly, .. } => readonly,
             Command::Examine { .. }
             | Command::ExamineBitmap { .. }
@@ -154,6 +161,7 @@ impl<'a> Command<'a> {
             | Command::Detail { .. }
             | Command::Plan { .. }
             | Command::Read { .. }
+            | Command::Serve { .. }
             | Command::Check { .. }
             | Command::Write { .. }
             | Command::Resync
@@ -172,6 +180,7 @@ impl<'a> Command<'a> {
     {
         match self {
             Command::Read { fill, .. } => fill,
+            Command::Serve { fill } => fill,
             Command::Examine { .. }
             | Command::ExamineBitmap { .. }
             | Command::ExamineBadblocks { .. }
@@ -206,6 +215,7 @@ impl<'a> Command<'a> {
             | Command::Detail { .. }
             | Command::Plan { .. }
             | Command::Read { .. }
+            | Command::Serve { .. }
             | Command::Check { .. }
             | Command::Write { .. }
             | Command::Resync
@@ -232,6 +242,7 @@ impl<'a> Command<'a> {
             | Command::Assemble { .. }
             | Command::Detail { .. }
             | Command::Read { .. }
+            | Command::Serve { .. }
             | Command::Check { .. }
             | Command::Write { .. }
             | Command::Resync
@@ -255,6 +266,7 @@ impl<'a> Command<'a> {
             | Command::Detail { .. }
             | Command::Plan { .. }
             | Command::Read { .. }
+            | Command::Serve { .. }
             | Command::Check { .. }
             | Command::Write { .. }
             | Command::Resync
@@ -280,6 +292,7 @@ impl<'a> Command<'a> {
             | Command::Detail { .. }
             | Command::Plan { .. }
             | Command::Read { .. }
+            | Command::Serve { .. }
             | Command::Check { .. }
             | Command::Write { .. }
             | Command::Resync
@@ -306,6 +319,7 @@ impl<'a> Command<'a> {
             | Command::ExamineBadblocks { .. }
             | Command::Create(_)
             | Command::Read { .. }
+            | Command::Serve { .. }
             | Command::Check { .. }
             | Command::Write { .. }
             | Command::Resync
@@ -332,6 +346,7 @@ impl<'a> Command<'a> {
             | Command::Detail { .. }
             | Command::Plan { .. }
             | Command::Read { .. }
+            | Command::Serve { .. }
             | Command::Check { .. }
             | Command::Write { .. }
             | Command::Resync
@@ -355,6 +370,7 @@ impl<'a> Command<'a> {
             | Command::Detail { .. }
             | Command::Plan { .. }
             | Command::Read { .. }
+            | Command::Serve { .. }
             | Command::Check { .. }
             | Command::Resync
             | Command::Stop
@@ -382,6 +398,7 @@ impl<'a> Command<'a> {
             | Command::Assemble { .. }
             | Command::Detail { .. }
             | Command::Plan { .. }
+            | Command::Serve { .. }
             | Command::Write { .. }
             | Command::Stop
             | Command::Fail { .. }

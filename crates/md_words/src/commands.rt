@@ -41,6 +41,15 @@ const READONLY: OptionWords = OptionWords {
     default: None,
 };
 
+const ONLY_READ: OptionWords = OptionWords {
+    name: "readonly",
+    value: "",
+    help: "Changes no image, and refuses writes: it is needed, since writes are not served yet",
+    kind: Kind::Flag,
+    required: true,
+    default: None,
+};
+
 const ALL: OptionWords = OptionWords {
     name: "all",
     value: "",
@@ -117,6 +126,15 @@ const FILL: OptionWords = OptionWords {
     name: "fill",
     value: "",
     help: "Goes on past sectors that are not given, and writes zeros in their place",
+    kind: Kind::Flag,
+    required: false,
+    default: None,
+};
+
+const FILL_SERVED: OptionWords = OptionWords {
+    name: "fill",
+    value: "",
+    help: "Gives zeros in the place of sectors that are not given, which else are an input/output error",
     kind: Kind::Flag,
     required: false,
     default: None,
@@ -301,12 +319,18 @@ pub(crate) const ARRAY_COMMANDS: [CommandWords; 4] = [
 ];
 
 /// The commands on an array's data.
-pub(crate) const DATA_COMMANDS: [CommandWords; 5] = [
+pub(crate) const DATA_COMMANDS: [CommandWords; 6] = [
     CommandWords {
         name: "read",
         about: "Writes sectors of the array to standard output; may change images",
         after_help: help::READ,
         options: &[SECTOR, COUNT, FILL, MAP_OUT, OUTPUT, READONLY, MAP],
+    },
+    CommandWords {
+        name: "serve",
+        about: "Serves the array as a network block device that is only read",
+        after_help: help::SERVE,
+        options: &[FILL_SERVED, ONLY_READ, MAP],
     },
     CommandWords {
         name: "write",

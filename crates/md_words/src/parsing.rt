@@ -264,6 +264,10 @@ fn command_of<'a>(name: &str, found: &ArgMatches<'a>) -> Command<'a>
             fill: is_fill(found),
             readonly: is_readonly(found),
         }
+    } else if name == "serve" {
+        Command::Serve {
+            fill: is_fill(found),
+        }
     } else if name == "check" {
         Command::Check {
             form: check_form(found),

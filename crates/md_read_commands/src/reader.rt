@@ -1,0 +1,120 @@
+// An array as a store of sectors that are only read.
+ghost use Rattle.std.specs.Prelude.{◌≡◌, ◌/◌, ◌%◌, MatchResult, length};
+ghost use Rattle.md_array.specs.Consistency.{IsConsistent};
+ghost use Rattle.md_state.specs.Rests.{Rests};
+ghost use Rattle.md_read_commands.specs.Serving.{FillsRequest, LacksSector};
+ghost use Rattle.md_read_commands.specs.Ways.{MayReadBy, ReadsBy};
+
+use crate::filling::fill_piece;
+use crate::noting::note_all;
+use crate::way::{Way, read_by};
+use md_array::Mirror;
+use md_badblocks::BadSet;
+use md_device::Device;
+use md_nbd::{Store, StoreFault};
+use std::alloc::{AllocError, Global};
+
+/// How an array is served that is only read, and for which of its sectors zeros were given.
+#[derive(Drop)]
+pub(crate) struct ArrayReader {
+    pub(crate) alloc: Global,
+    pub(crate) way: Way,
+    /// Whether zeros are given in the place of sectors that are not.
+    pub(crate) fill: bool,
+    pub(crate) missing: BadSet,
+}
+
+// Reads the sectors of a request, if each of them is given.
+fn read_given<D: Device + Drop>(
+    mirror: &mut Mirror<D>,
+    way: Way,
+    sector: u64,
+    buf: &mut [u8],
+) -> Result<(), StoreFault>
+    requires whole { length buf.old % 512 ≡ 0 }
+    requires may { MayReadBy way mirror.old.array sector (length buf.old / 512) }
+    requires sound { IsConsistent mirror.old }
+    ensures gives { MatchResult result
+        (λ _. ReadsBy way sector buf.new mirror.old mirror.new)
+        (λ _. LacksSector way sector (length buf.old / 512) mirror.old mirror.new) }
+    ensures rests { Rests mirror.old mirror.new }
+    ensures sound { IsConsistent mirror.new }
+{
+    match read_by(mirror, way, sector, buf) {
+        Ok(()) => Ok(()),
+        Err(_) => Err(StoreFault),
+    }
+}
+
+// Reads them with zeros in the place of those that are not given, which are noted: all of them, or none where there is no memory
+// for that.
+fn read_filled<D: Device + Drop>(
+    alloc: Global,
+    mirror: &mut Mirror<D>,
+    way: Way,
+    sector: u64,
+    buf: &mut [u8],
+    noted: &mut BadSet,
+) -> Result<(), StoreFault>
+    requires whole { length buf.old % 512 ≡ 0 }
+    requires may { MayReadBy way mirror.old.array sector (length buf.old / 512) }
+    requires sound { IsConsistent mirror.old }
+    ensures gives { MatchResult result
+        (λ _. FillsRequest way sector buf.new noted.old noted.new mirror.old mirror.new)
+        (λ _. LacksSector way sector (length buf.old / 512) mirror.old mirror.new
+        × (noted.new ≡ noted.old)) }
+    ensures rests { Rests mirror.old mirror.new }
+    ensures sound { IsConsistent mirror.new }
+{
+    let mut missing = BadSet::new(alloc);
+    let Ok(()) = fill_piece(mirror, way, sector, buf, &mut missing) else {
+        return Err(StoreFault);
+    };
+    match note_all(alloc, noted, &missing) {
+        Ok(()) => Ok(()),
+        Err(AllocError) => Err(StoreFault),
+    }
+}
+
+impl<D: Device + Drop> Store<Mirror<D>> for ArrayReader {
+    ghost use Rattle.std.specs.Prelude.{◌≡◌};
+    ghost use Rattle.md_read_commands.specs.Serving.{GivesRequest, MayBeServed, RefusesRequest};
+
+    ghost is_sound = { λ p. MayBeServed p.0.way p.1 };
+
+    ghost sectors = { λ p. p.1.array.chunks.size };
+
+    ghost reads = { λ p q sector bytes. GivesRequest p q sector bytes };
+
+    ghost unread = { λ p q sector sectors. RefusesRequest p q sector sectors };
+
+    ghost writes = { λ _ _ _ _. ⊥ };
+
+    ghost unwritten = { λ p q _ _. q ≡ p };
+
+    ghost flushes = { λ p q. q ≡ p };
+
+    ghost unflushed = { λ _ _. ⊥ };
+
+    fn read(
+        &mut self,
+        lent: &mut Mirror<D>,
+        sector: u64,
+        buf: &mut [u8],
+    ) -> Result<(), StoreFault> {
+        let (alloc, way) = (self.alloc, self.way);
+        if self.fill {
+            return read_filled(alloc, lent, way, sector, buf, &mut self.missing);
+        }
+        read_given(lent, way, sector, buf)
+    }
+
+    // The export says that it is only read, so that none comes here.
+    fn write(&mut self, _: &mut Mirror<D>, _: u64, _: &[u8]) -> Result<(), StoreFault> {
+        Err(StoreFault)
+    }
+
+    fn flush(&mut self, _: &mut Mirror<D>) -> Result<(), StoreFault> {
+        Ok(())
+    }
+}

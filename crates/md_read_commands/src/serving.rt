@@ -1,0 +1,113 @@
+// The command that serves an array.
+ghost use Rattle.std.specs.Prelude.{◌≡◌, ◌*◌, IfOk, MatchResult, length};
+ghost use Rattle.md_inflight.specs.Requests.Pending.{PendingView};
+ghost use Rattle.md_state.specs.Requests.{IsPending};
+ghost use Rattle.md_state.specs.Rests.{Rests};
+ghost use Rattle.md_array.specs.Consistency.{IsConsistent};
+ghost use Rattle.md_nbd.specs.Export.{most_bytes};
+ghost use Rattle.md_read_commands.specs.Serving.{HasServed, IsFreshReader, MayBeServed, RefusesToBegin, ServesArray};
+
+use crate::buffer::buffer;
+use crate::reader::ArrayReader;
+use crate::reading::{first_missing, way_as_it_is};
+use md_array::Mirror;
+use md_badblocks::BadSet;
+use md_commands::{CommandFault, Source};
+use md_device::Device;
+use md_examine::Sink;
+use md_nbd::{Export, MOST_BYTES, SessionFault, serve_client};
+use std::alloc::Global;
+
+// The sectors that one request reads at most.
+const MOST_SECTORS: u64 = MOST_BYTES as u64 / 512;
+
+/// Serves an array to a client of the NBD protocol until it goes, and writes nothing. Its sectors are those that
+/// `read_array_readonly` puts out. A request of which a sector is not given is answered with EIO, and no other is; or, with
+/// `fill`, with zeros in the place of such sectors, which come back. They take memory, and where there is none the answer is EIO.
+///
+/// That the mirror is halted, or members in sync may differ, is looked for before memory for a request's sectors is taken, which
+/// is 32 MiB, and that before the client is greeted.
+///
+/// `InputFault` says that the input failed, or that the client did not go between two messages, `OutputFault` that the output
+/// failed. `Read` with `Unreadable` says that zeros were given, and the first sector for which they were: the client has gone in
+/// order then.
+pub fn serve_array<D: Device + Drop, I: Source, S: Sink>(
+    alloc: Global,
+    mirror: &mut Mirror<D>,
+    fill: bool,
+    input: &mut I,
+    out: &mut S,
+) -> (BadSet, Result<(), CommandFault>)
+    requires sound { IsConsistent mirror.old }
+    ensures gives { ServesArray I.Source S.Sink fill mirror.old mirror.new result.0
+        input.old input.new out.old out.new result.1 }
+    ensures flushed { IfOk result.1 (λ _. S.is_flushed out.new) }
+    ensures rests { Rests mirror.old mirror.new }
+    ensures sound { IsConsistent mirror.new }
+    ensures pending { (p : PendingView) → IsPending mirror.old.array p → IsPending mirror.new.array p }
+{
+    match begin(alloc, mirror, fill) {
+        Ok((mut reader, mut room)) => {
+            let served = serve(alloc, mirror, &mut reader, &mut room, input, out);
+            (reader.missing, served)
+        }
+        Err(fault) => (BadSet::new(alloc), Err(fault)),
+    }
+}
+
+// A reader of the array, and room for the sectors of a request.
+fn begin<D: Device + Drop>(
+    alloc: Global,
+    mirror: &Mirror<D>,
+    fill: bool,
+) -> Result<(ArrayReader, Vec<u8>), CommandFault>
+    requires sound { IsConsistent mirror.now }
+    ensures gives { MatchResult result
+        (λ r. IsFreshReader fill mirror.now r.0)
+        (RefusesToBegin mirror.now) }
+    ensures may { IfOk result (λ r. MayBeServed r.0.way mirror.now) }
+    ensures room { IfOk result (λ r. length r.1.items ≡ most_bytes) }
+{
+    let way = way_as_it_is(mirror, 0, mirror.chunks().size)?;
+    let room = buffer(alloc, MOST_SECTORS)?;
+    let reader = ArrayReader {
+        alloc,
+        way,
+        fill,
+        missing: BadSet::new(alloc),
+    };
+    Ok((reader, room))
+}
+
+// Serves a client.
+fn serve<D: Device + Drop, I: Source, S: Sink>(
+    alloc: Global,
+    mirror: &mut Mirror<D>,
+    reader: &mut ArrayReader,
+    room: &mut [u8],
+    input: &mut I,
+    out: &mut S,
+) -> Result<(), CommandFault>
+    requires room { length room.old ≡ most_bytes }
+    requires may { MayBeServed reader.old.way mirror.old }
+    ensures gives { HasServed I.Source S.Sink reader.old reader.new mirror.old mirror.new
+        input.old input.new out.old out.new result }
+    ensures flushed { IfOk result (λ _. S.is_flushed out.new) }
+    ensures rests { Rests mirror.old mirror.new }
+    ensures sound { IsConsistent mirror.new }
+{
+    let export = Export {
+        size: 512 * mirror.chunks().size,
+        readonly: true,
+    };
+    match serve_client(alloc, &export, reader, mirror, room, input, out) {
+        Ok(end) if end.is_orderly() => {}
+        Ok(_) => return Err(CommandFault::InputFault),
+        Err(SessionFault::Source) => return Err(CommandFault::InputFault),
+        Err(SessionFault::Sink) => return Err(CommandFault::OutputFault),
+        Err(SessionFault::NoMemory) => return Err(CommandFault::NoPieceMemory),
+    }
+    out.flush()?;
+    first_missing(&reader.missing).map_err(CommandFault::Read)?;
+    Ok(())
+}
