@@ -1,10 +1,12 @@
 //! A Linux md RAID-1 array as a library: what the crates below offer to a caller, under one roof, each with its contract.
-//! There is no code here. The commands of the program are in `md_cli`.
+//! There is no code here.
 //!
 //! Start with `Mirror`, the array with its devices: `Mirror::open` puts it together from its members, and the whole calls
 //! `read`, `write`, `resync`, `stop`, `rebuild` and `check_array` do with it what a caller wants done. Its methods are the
 //! steps that these are made of, and tell of the array. `create` and `lay_out` make new members; `read_super` and
-//! `read_member` read one. Devices are a `FileDevice`, a `MemDevice`, or what you write of the trait `Device`.
+//! `read_member` read one. Devices are a `FileDevice`, a `MemDevice`, or what you write of the trait `Device`; in tests a
+//! `FaultDevice`, whose calls fail where it is told, or a `StopDevice`, which stops at the write that its `Fuse` counts to.
+//! `run` does one command of the program, over images by name.
 //!
 //! A sector is written, and read back:
 //!
@@ -31,7 +33,8 @@
 
 // Devices.
 pub use md_device::{
-    Device, Fault, FaultDevice, FaultList, MemDevice, OverlayDevice, ReadFault, WriteFault,
+    CrashDevice as StopDevice, Device, Fault, FaultDevice, FaultList, Fuse, MemDevice,
+    OverlayDevice, ReadFault, WriteFault,
 };
 pub use md_files::{Backing, FileDevice};
 pub use md_images::{Access, ImageFault};
@@ -73,3 +76,13 @@ pub use md_rebuild_table::{RebuildFault, table};
 // Reports.
 pub use md_examine::{Output, Sink, SinkFault, examine, examine_badblocks, examine_bitmap};
 pub use md_report::{check_report, detail, plan_report, rebuilt_report, summary};
+
+// Commands, over images by name.
+pub use md_cli::{Session, run};
+pub use md_commands::{Input, Source, Watch};
+pub use md_images::{Images, MemImages};
+pub use md_messages::{Asker, Messages};
+pub use md_words::{Request, parse};
+
+// What holds over each life of an array: functions with empty bodies.
+pub use md_laws::laws;
