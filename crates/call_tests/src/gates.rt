@@ -1,4 +1,6 @@
 // Gates: what is told before and after each read of a chunk.
+ghost use Rattle.std.specs.Prelude.{⊤};
+
 use md_copy::Gate;
 use std::sync::atomic::{AtomicBool, AtomicU64, Ordering};
 
@@ -6,6 +8,10 @@ use std::sync::atomic::{AtomicBool, AtomicU64, Ordering};
 pub(crate) struct Silent;
 
 impl Gate for Silent {
+    ghost read_begins = { λ _ _ _. ⊤ };
+
+    ghost read_ended = { λ _ _ _. ⊤ };
+
     fn before_read(&self, _source: u8, _chunk: u32) {}
 
     fn after_read(&self, _source: u8, _chunk: u32) {}
@@ -42,6 +48,10 @@ impl Counting {
 }
 
 impl Gate for Counting {
+    ghost read_begins = { λ _ _ _. ⊤ };
+
+    ghost read_ended = { λ _ _ _. ⊤ };
+
     fn before_read(&self, source: u8, chunk: u32) {
         self.begun.fetch_add(1, Ordering::SeqCst);
         self.sources.fetch_add(u64::from(source), Ordering::SeqCst);
@@ -91,6 +101,10 @@ fn comes(flag: &AtomicBool) -> bool {
 }
 
 impl Gate for Meeting {
+    ghost read_begins = { λ _ _ _. ⊤ };
+
+    ghost read_ended = { λ _ _ _. ⊤ };
+
     fn before_read(&self, source: u8, _chunk: u32) {
         let (own, other) = if source == 0 {
             (&self.first, &self.second)

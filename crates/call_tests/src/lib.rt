@@ -22,8 +22,6 @@ mod checks;
 #[cfg(test)]
 mod data;
 #[cfg(test)]
-mod example;
-#[cfg(test)]
 mod failing_reads;
 #[cfg(test)]
 mod gates;

@@ -2,7 +2,7 @@
 use crate::checks::{holds, reads};
 use crate::errors::Errors;
 use crate::images::{HeldImages, Image, MEMBER, expect_kept_under, held_images};
-use crate::silent::Silent;
+use crate::silent::{Nobody, Silent};
 use crate::sources::{Step, Steps};
 use md_cli::{Session, run};
 use md_commands::{Input, Source};
@@ -16,6 +16,7 @@ use std::test::Fail;
 use std::thread::Threads;
 
 // Images, a command on them, and what comes of it: its status, what it says on the errors, and what it shows.
+#[derive(Drop)]
 pub(crate) struct Case {
     pub(crate) images: &'static [Image],
     pub(crate) words: &'static [&'static str],
@@ -43,7 +44,7 @@ pub(crate) const DONE: Case = Case {
 
 // A run with these words on the errors. Its status.
 fn runs<'a, R: Abort + Threads + Wait + Sync, I: Source + Drop, S: Sink + Drop>(
-    session: &mut Session<'_, R, I, S, Silent>,
+    session: &mut Session<'_, R, I, S, Silent, Nobody>,
     words: &'a [&'a str],
     images: &mut HeldImages,
     messages: Messages,
@@ -57,7 +58,7 @@ fn runs<'a, R: Abort + Threads + Wait + Sync, I: Source + Drop, S: Sink + Drop>(
     Ok(status)
 }
 
-fn give<R: Abort + Threads + Wait + Sync>(
+pub(crate) fn give<R: Abort + Threads + Wait + Sync>(
     rt: &R,
     alloc: Global,
     images: &mut HeldImages,
@@ -69,6 +70,7 @@ fn give<R: Abort + Threads + Wait + Sync>(
         input: Input::new(Steps { steps: case.input }),
         out: Output::new(vec![in alloc]?),
         watch: &Silent,
+        asker: Nobody,
         missing: None,
     };
     let status = runs(&mut session, case.words, images, case.messages, case.says)?;

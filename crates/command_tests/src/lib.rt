@@ -1,5 +1,5 @@
-//! Tests of commands on images in memory: images that fail or are protected, an input of which some reads are
-//! interrupted; and a question that can't be shown.
+//! Tests of commands on images in memory: on images that fail or are protected, with an input of which some reads are
+//! interrupted; of a question that can't be shown, and the library's example.
 //!
 //! Start with `Case` and `play` (`commands.rt`): a case is images, and a command on them.
 //!
@@ -20,6 +20,8 @@ mod commands;
 mod devices;
 #[cfg(test)]
 mod errors;
+#[cfg(test)]
+mod example;
 #[cfg(test)]
 mod faults_in_memory;
 #[cfg(test)]

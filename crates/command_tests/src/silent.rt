@@ -1,4 +1,4 @@
-// A rebuild or a check that nobody watches.
+// A rebuild or a check that nobody watches, and a question that nobody sees.
 ghost use Rattle.std.specs.Prelude.{⊤, false};
 
 use md_commands::{Gate, Watch};
@@ -8,17 +8,35 @@ use md_messages::Asker;
 pub(crate) struct Silent;
 
 impl Gate for Silent {
+    ghost read_begins = { λ _ _ _. ⊤ };
+
+    ghost read_ended = { λ _ _ _. ⊤ };
+
     fn before_read(&self, _source: u8, _chunk: u32) {}
 
     fn after_read(&self, _source: u8, _chunk: u32) {}
 }
 
-impl Asker for Silent {
+impl Watch for Silent {
+    ghost lacks = { λ _ _ _. ⊤ };
+
+    ghost compares = { λ _ _. ⊤ };
+
+    fn begins(&self, _chunks: u32, _first: Option<u32>) {}
+
+    fn begins_check(&self, _sectors: u64) {}
+}
+
+/// Nobody sees what is asked.
+#[derive(Drop)]
+pub(crate) struct Nobody;
+
+impl Asker for Nobody {
     ghost shows = { λ _. false };
 
     ghost told_first = { λ _. false };
 
-    ghost answered = { λ _ _ _. ⊤ };
+    ghost asks = { λ _ _ _ _. ⊤ };
 
     fn is_there(&self) -> bool {
         false
@@ -28,13 +46,7 @@ impl Asker for Silent {
         false
     }
 
-    fn goes_on(&self, _lines: &[u8]) -> bool {
+    fn goes_on(&mut self, _lines: &[u8]) -> bool {
         true
     }
-}
-
-impl Watch for Silent {
-    fn begins(&self, _chunks: u32, _first: Option<u32>) {}
-
-    fn begins_check(&self, _sectors: u64) {}
 }

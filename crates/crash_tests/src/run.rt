@@ -1,5 +1,5 @@
 // A mirror of devices that crash together, and the devices that are in no mirror. Each `Run` is consistent.
-ghost use Rattle.std.specs.Prelude.{◌≡◌, ◌<◌, ◌%◌, ℕ, length, true, false, IsTrue};
+ghost use Rattle.std.specs.Prelude.{◌≡◌, ◌<◌, ◌%◌, ⊤, ℕ, length, true, false, IsTrue};
 ghost use Rattle.md_array.specs.Consistency.{IsConsistent};
 ghost use Rattle.md_array.specs.Steps.NoteResynced.{AreNoted};
 ghost use Rattle.md_assembly.specs.States.{is_recovering};
@@ -32,6 +32,10 @@ pub(crate) type Crashing = CrashDevice<MemDevice>;
 struct Silent;
 
 impl Gate for Silent {
+    ghost read_begins = { λ _ _ _. ⊤ };
+
+    ghost read_ended = { λ _ _ _. ⊤ };
+
     fn before_read(&self, _source: u8, _chunk: u32) {}
 
     fn after_read(&self, _source: u8, _chunk: u32) {}

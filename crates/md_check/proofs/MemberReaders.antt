@@ -12,12 +12,13 @@ use Rattle.md_bitmap.specs.Marks.{Bitmap, count_set, is_set}
 use Rattle.md_badblocks.specs.declared.run.Run.{Run}
 use Rattle.md_badblocks.specs.Runs.{IsBad}
 use Rattle.md_bitmap.specs.declared.chunks.Chunks.{Chunks}
-use Rattle.md_collect.specs.Reading.{CountsFailure, FailsInChunk}
+use Rattle.md_collect.specs.Reading.{CountsFailure}
 use Rattle.md_assembly.specs.States.{is_in_sync}
 use Rattle.md_assembly.proofs.Indices.{got_same, got_within}
 use Rattle.md_kept_members.specs.View.{MemberView}
 use Rattle.md_collect.specs.Workers.Queues.{OnlyRead}
 use Rattle.md_state.specs.DeviceChanges.{EachPair, IsUntouched, LeavesAsWas, StaysHonest}
+use Rattle.md_state.specs.Steps.CopyData.{Lists}
 use Rattle.md_state.specs.Steps.MakeClean.{IsIdle}
 use Rattle.md_state.specs.Members.{IsAlone, IsMember}
 use Rattle.md_state.specs.Rests.{Rests}
@@ -35,8 +36,9 @@ use Rattle.md_check.specs.Differences.{AreCompared, AreDifferent, DifferIn, IsEm
 use Rattle.md_check.specs.Mismatches.{Mismatches, MismatchesBetween, Shows}
 use Rattle.md_check.specs.Pairs.{pair_names, pairs_in_sync}
 use Rattle.md_check.specs.Plans.{AreOrders, IsReaderOf}
-use Rattle.md_check.specs.Readings.{MissesChunk, MissesIn}
+use Rattle.md_check.specs.Readings.{FailsUnlisted, MissesChunk, MissesIn}
 use Rattle.md_check.specs.Readers.{AreReadersHonest, AreReadersRead, HaveNotFailed, HasDataOnDevice, OnlyReaderRead, ReaderShows, on_device}
+use Rattle.md_check.proofs.ChunkFaults.{listed_less}
 use Rattle.md_check.proofs.Compared.{names_stay, pairs_stay, still_sized}
 use Rattle.md_check.proofs.Differing.{between_as, differ_as}
 use Rattle.md_state.proofs.Stays.{stays_read, stays_same}
@@ -54,9 +56,10 @@ alone_same disks a c alone m =
     (sym one.is ∙ ap (λ (x : Disk). held x.content (one.member.superblock.data_offset + m.sector) 512) disk
     ∙ ap (λ (x : MemberView). held other.disk.content (x.superblock.data_offset + m.sector) 512) member ∙ other.is)
 
--- a read of a chunk that failed on a device, as it is seen of the mirror
-shown_there : {D : Type 0} (g : Ghosts D) (d e : Disk) (x y : D) (own offset chunk : ℕ) (chunks : Chunks) → d ≡ disk_of g x → e ≡ disk_of g y → own ≡ offset → FailsInChunk g x y own chunks chunk → FailsInChunk of_disks d e offset chunks chunk
-shown_there g d e x y own offset chunk chunks was now same fails = rw (was, now, ← same) fails
+-- a read of unlisted sectors that failed on a device, as it is seen of the mirror
+shown_there : {D : Type 0} (g : Ghosts D) (d e : Disk) (x y : D) (own offset chunk : ℕ) (chunks : Chunks) (P Q : ℕ → Type 0) → d ≡ disk_of g x → e ≡ disk_of g y → own ≡ offset → ((s : ℕ) → Q s → P s)
+    → FailsUnlisted g x y own chunks P chunk → FailsUnlisted of_disks d e offset chunks Q chunk
+shown_there g d e x y own offset chunk chunks P Q was now same less fails = rw (was, now, ← same) (listed_less (g.faults x) (g.faults y) own chunks P Q chunk less fails)
 
 -- a device that was only read
 module _ {D : Type 0} {g : Ghosts D} (d e : Disk) (x y : D) (was : d ≡ disk_of g x) (now : e ≡ disk_of g y) (only : OnlyRead g x y) where
@@ -337,12 +340,12 @@ module _ {D : Type 0} (g : Ghosts D) (old : MirrorView) (sound : IsConsistent ol
 
     -- and it failed a read of that chunk
     failed_there : (k chunk : ℕ) (m : MemberView) → IsMember old.array k m → ((x : Reader D) → MissesChunk g old.array.chunks 0 old.array.chunks.size (get_or readers k x) (get_or news k x) chunk)
-        → (d e : Disk) → slice_get old.disks k ≡ Some d → slice_get after k ≡ Some e → FailsInChunk of_disks d e m.superblock.data_offset old.array.chunks chunk
+        → (d e : Disk) → slice_get old.disks k ≡ Some d → slice_get after k ≡ Some e → FailsUnlisted of_disks d e m.superblock.data_offset old.array.chunks (Lists m) chunk
     failed_there k chunk m at misses d e here there =
         let w = was_read k d e here there in
-        let it = both_at k w.reader w.new (λ a b. FailsInChunk g a.device b.device a.offset old.array.chunks chunk) w.reader_at w.new_at (misses w.reader).there in
+        let it = both_at k w.reader w.new (λ a b. FailsUnlisted g a.device b.device a.offset old.array.chunks (IsBad a.listed) chunk) w.reader_at w.new_at (misses w.reader).there in
         let is = stands k w.reader d m w.reader_at here at in
-        shown_there g d e w.reader.device w.new.device w.reader.offset m.superblock.data_offset chunk old.array.chunks w.was w.now is.offset it
+        shown_there g d e w.reader.device w.new.device w.reader.offset m.superblock.data_offset chunk old.array.chunks (IsBad w.reader.listed) (Lists m) w.was w.now is.offset (λ s bad. (is.listed s).1 bad) it
 
     -- no device of the first n counted a failure
     pub not_failed : (n : ℕ) → HaveNotFailed g n readers news → EachPair (λ k d e. k < n → e.failures ≡ d.failures) old.disks after

@@ -8,12 +8,12 @@ use Rattle.md_bitmap.specs.declared.chunks.Chunks.{Chunks}
 use Rattle.md_badblocks.specs.declared.run.Run.{Run}
 use Rattle.md_badblocks.specs.Runs.{IsBad}
 use Rattle.md_collect.specs.Places.{HasRoom}
-use Rattle.md_collect.specs.Reading.{CountsFailure, FailsInChunk}
+use Rattle.md_collect.specs.Reading.{CountsFailure}
 use Rattle.md_collect.proofs.WorkerLemmas.OnlyReads.{not_read, read_then}
 use Rattle.md_check.proofs.ChunkFaults.{chunk_since}
 use Rattle.md_check.specs.declared.reader.Reader.{Reader}
 use Rattle.md_check.specs.declared.lent.Missed.{Missed}
-use Rattle.md_check.specs.Readings.{HasReadSectors, HasTurned, HasUnlisted, IsLead, IsToRead, MissesIn}
+use Rattle.md_check.specs.Readings.{FailsUnlisted, HasReadSectors, HasTurned, HasUnlisted, IsLead, IsToRead, MissesIn}
 use Rattle.md_check.specs.Readers.{AreReadersHonest, AreReadersRead, HaveNotFailed, HasDataOnDevice, IsUsed, OnlyReaderRead, ReaderShows, in_window, on_device, shown_of}
 
 -- a chunk that is to be read in a window is to be read in the array
@@ -88,8 +88,8 @@ module _ {D : Type 0} {g : Ghosts D} where
               reads = ap is_some (sym (role_kept (get_or firsts k d) (get_or olds k d) one)) ∙ m.reads;
               read = read_at_all (get_or olds k d).listed (get_or firsts k d).listed (listed_kept (get_or firsts k d) (get_or olds k d) one) m.read;
               fails = λ honest. let up = m.fails (one.only_read.honest_kept ∙ honest) in let before = one.only_read.counted in omega arith;
-              there = chunk_since g (get_or firsts k d).device (get_or olds k d).device (get_or news k d).device (get_or firsts k d).offset chunks missed.chunk one.only_read
-                  (subst (λ (o : ℕ). FailsInChunk g (get_or olds k d).device (get_or news k d).device o chunks missed.chunk) (offset_kept (get_or firsts k d) (get_or olds k d) one) m.there);
+              there = chunk_since g (get_or firsts k d).device (get_or olds k d).device (get_or news k d).device (get_or firsts k d).offset chunks (IsBad (get_or firsts k d).listed) missed.chunk one.only_read
+                  (subst (λ (s : Reader D). FailsUnlisted g (get_or olds k d).device (get_or news k d).device s.offset chunks (IsBad s.listed) missed.chunk) one.kept m.there);
             };
         earlier = turn_unfailing k firsts olds news (omega arith) has first_noted (λ j d below. unfailing j d (omega arith));
       }

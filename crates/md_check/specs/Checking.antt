@@ -1,19 +1,18 @@
 -- The members of a mirror are compared: what comes of it, and why it is refused.
-use Rattle.std.specs.Prelude.{◌≡◌, ℕ, ◌+◌, ◌<◌, ◌↔◌, true, false, List, slice_get}
+use Rattle.std.specs.Prelude.{◌≡◌, ℕ, ◌<◌, ◌↔◌, true, false, List, slice_get}
 use Rattle.std.specs.List.{All}
 use Rattle.md_bitmap.specs.Marks.{Bitmap, is_set}
 use Rattle.md_bitmap.specs.Chunks.{InChunk}
-use Rattle.md_badblocks.specs.Runs.{IsBad}
 use Rattle.md_assembly.specs.States.{is_in_sync}
 use Rattle.md_kept_members.specs.View.{MemberView}
 use Rattle.md_state.specs.DeviceChanges.{EachPair}
 use Rattle.md_state.specs.DiskWrites.{AtDevice}
+use Rattle.md_state.specs.Steps.CopyData.{Lists}
 use Rattle.md_state.specs.Steps.MakeClean.{HasInFlight, IsIdle}
 use Rattle.md_state.specs.Members.{IsAlone, IsInSync, IsMember}
 use Rattle.md_state.specs.Rests.{Rests}
 use Rattle.md_state.specs.Trying.{Refuses, RefusesHalted}
 use Rattle.md_state.specs.View.{ArrayView, Disk, MirrorView, of_disks}
-use Rattle.md_collect.specs.Reading.{FailsInChunk}
 use Rattle.md_array.specs.Worlds.{AreHonest}
 use Rattle.md_check.specs.declared.fault.CheckFault.{CheckFault}
 use Rattle.md_check.specs.declared.fault.CheckFault.TheVariants.{Halted, InFlight, NoMemory, ReadFault}
@@ -22,6 +21,7 @@ use Rattle.md_check.specs.declared.found.Pair.{Pair}
 use Rattle.md_check.specs.Differences.{KeepsPairs}
 use Rattle.md_check.specs.Mismatches.{CountsMismatches, Mismatches, MismatchesBetween}
 use Rattle.md_check.specs.Pairs.{pair_names, pairs_in_sync}
+use Rattle.md_check.specs.Readings.{FailsUnlisted}
 
 -- Of members that are not in sync no device was used, and none at all where one member is in sync.
 pub record UsesInSync (old new : MirrorView) : Type 0 where
@@ -70,7 +70,7 @@ pub record FindsOfPairs (before after : Comparison) (old new : MirrorView) : Typ
   pub between : AreHonest old.disks → All (λ pair. AreBetween old.disks old.array pair) after.pairs.items
 
 -- Member j is in sync, and the first whose device counts one failure more or several: a read of nothing but bytes of this chunk
--- failed, of which it does not list each sector.
+-- failed, and of no sector that it lists.
 pub record FailsChecking (old new : MirrorView) (j c : ℕ) : Type 0 where
   pub idle : IsIdle old.array
   pub rests : Rests old new
@@ -79,9 +79,9 @@ pub record FailsChecking (old new : MirrorView) (j c : ℕ) : Type 0 where
   pub in_sync : IsInSync old.array j member
   pub sector : ℕ
   pub inside : InChunk old.array.chunks.sectors old.array.chunks.size c sector
-  pub unlisted : IsBad member.bad (member.superblock.data_offset + sector) → ⊥
+  pub unlisted : Lists member sector → ⊥
   pub failed : AtDevice j old.disks new.disks (λ d e. d.honest ≡ true → d.failures < e.failures)
-  pub there : AtDevice j old.disks new.disks (λ d e. FailsInChunk of_disks d e member.superblock.data_offset old.array.chunks c)
+  pub there : AtDevice j old.disks new.disks (λ d e. FailsUnlisted of_disks d e member.superblock.data_offset old.array.chunks (Lists member) c)
   pub earlier : EachPair (λ k d e. k < j → e.failures ≡ d.failures) old.disks new.disks
 
 abbrev pub RefusesCheck : MirrorView → MirrorView → CheckFault → Type 0

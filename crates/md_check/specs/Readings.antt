@@ -2,11 +2,13 @@
 use Rattle.std.specs.Prelude.{◌≡◌, ℕ, ◌+◌, ◌*◌, ◌/◌, ◌<◌, ◌≤◌, true, is_some, List, length, slice_index_or, Some, None}
 use Rattle.md_device.specs.Device.{held}
 use Rattle.md_device.specs.declared.device.Device.{Ghosts}
+use Rattle.md_device.specs.declared.fault_list.Fault.{Fault}
+use Rattle.md_device.specs.Failing.{SomeNewFault}
 use Rattle.md_bitmap.specs.declared.chunks.Chunks.{Chunks}
 use Rattle.md_bitmap.specs.Chunks.{InChunk}
 use Rattle.md_badblocks.specs.declared.run.Run.{Run}
 use Rattle.md_badblocks.specs.Runs.{IsBad}
-use Rattle.md_collect.specs.Reading.{CountsFailure, FailsInChunk}
+use Rattle.md_collect.specs.Reading.{CountsFailure, IsReadOfChunk}
 use Rattle.md_check.specs.declared.reader.Reader.{Reader}
 use Rattle.md_check.specs.declared.lent.Missed.{Missed}
 use Rattle.md_check.specs.Readers.{HasNotFailed, HaveNotFailed, OnlyReaderRead, shown_of}
@@ -24,14 +26,23 @@ pub record IsToRead (chunks : Chunks) (listed : List Run) (from n c : ℕ) : Typ
   pub inside : InChunk chunks.sectors chunks.size c sector
   pub unlisted : IsBad listed sector → ⊥
 
+-- a read of nothing but bytes of the chunk, on a member whose data start at this sector, and of no sector that it lists
+pub record IsReadUnlisted (offset : ℕ) (chunks : Chunks) (IsListed : ℕ → Type 0) (chunk : ℕ) (f : Fault) : Type 0 where
+  pub of_chunk : IsReadOfChunk offset chunks chunk f
+  pub unlisted : (s : ℕ) → f.sector ≤ offset + s → 512 * (offset + s) < 512 * f.sector + f.size → IsListed s → ⊥
+
 module _ {D : Type 0} (g : Ghosts D) where
+  -- such a read failed in between
+  abbrev pub FailsUnlisted : D → D → ℕ → Chunks → (ℕ → Type 0) → ℕ → Type 0
+  FailsUnlisted old new offset chunks IsListed chunk = SomeNewFault (g.faults old) (g.faults new) (IsReadUnlisted offset chunks IsListed chunk)
+
   -- the member is read, and could not be in a chunk that has one of these n sectors, which it does not list: a read of nothing but
-  -- bytes of that chunk failed
+  -- bytes of that chunk, and of no listed sector, failed
   pub record MissesChunk (chunks : Chunks) (from n : ℕ) (old new : Reader D) (c : ℕ) : Type 0 where
     pub reads : is_some old.role ≡ true
     pub read : IsToRead chunks old.listed from n c
     pub fails : CountsFailure g old.device new.device
-    pub there : FailsInChunk g old.device new.device old.offset chunks c
+    pub there : FailsUnlisted old.device new.device old.offset chunks (IsBad old.listed) c
 
   -- a reader before and after it was read into its buffer: this many sectors from this one on
   pub record HasReadSectors (chunks : Chunks) (from sectors : ℕ) (old new : Reader D) : Type 0 where

@@ -4,9 +4,9 @@ ghost use Rattle.md_device.specs.Device.{held};
 ghost use Rattle.md_badblocks.specs.Runs.{IsBad};
 ghost use Rattle.md_collect.specs.Places.{HasRoom};
 ghost use Rattle.md_device.specs.Failing.{AddsItself, failed_read};
-ghost use Rattle.md_collect.specs.Reading.{CountsFailure, FailsInChunk};
+ghost use Rattle.md_collect.specs.Reading.{CountsFailure};
 ghost use Rattle.md_collect.specs.Workers.Queues.{OnlyRead};
-ghost use Rattle.md_check.specs.Readings.{HasLed, HasReadSectors, HasTurned, HasUnlisted, IsLead, IsToRead};
+ghost use Rattle.md_check.specs.Readings.{FailsUnlisted, HasLed, HasReadSectors, HasTurned, HasUnlisted, IsLead, IsToRead};
 ghost use Rattle.md_check.specs.Readers.{HasDataOnDevice, IsUsed};
 
 use crate::reader::Reader;
@@ -138,7 +138,7 @@ fn read_beside<D: Device, G: Gate>(
     ensures unfailing { OnOk result (D.failures reader.new.device ≡ D.failures reader.old.device) }
     ensures missed { IfErr result (λ c. IsToRead chunks reader.old.listed from (length lead.now / 512) c) }
     ensures failed { OnErr result (CountsFailure D.Device reader.old.device reader.new.device) }
-    ensures there { IfErr result (λ c. FailsInChunk D.Device reader.old.device reader.new.device reader.old.offset chunks c) }
+    ensures there { IfErr result (λ c. FailsUnlisted D.Device reader.old.device reader.new.device reader.old.offset chunks (IsBad reader.old.listed) c) }
 {
     if is_read_alike(gate, chunks, from, lead, role, reader)? {
         return Ok(true);
@@ -166,7 +166,7 @@ fn is_read_alike<D: Device, G: Gate>(
     ensures unfailing { OnOk result (D.failures reader.new.device ≡ D.failures reader.old.device) }
     ensures missed { IfErr result (λ c. IsToRead chunks reader.old.listed from (length lead.now / 512) c) }
     ensures failed { OnErr result (CountsFailure D.Device reader.old.device reader.new.device) }
-    ensures there { IfErr result (λ c. FailsInChunk D.Device reader.old.device reader.new.device reader.old.offset chunks c) }
+    ensures there { IfErr result (λ c. FailsUnlisted D.Device reader.old.device reader.new.device reader.old.offset chunks (IsBad reader.old.listed) c) }
 {
     let mut done = 0;
     while done < lead.len() {
@@ -202,7 +202,7 @@ fn is_block_alike<D: Device, G: Gate>(
     ensures unfailing { OnOk result (D.failures reader.new.device ≡ D.failures reader.old.device) }
     ensures missed { IfErr result (λ c. IsToRead chunks reader.old.listed from (length block.now / 512) c) }
     ensures failed { OnErr result (CountsFailure D.Device reader.old.device reader.new.device) }
-    ensures there { IfErr result (λ c. FailsInChunk D.Device reader.old.device reader.new.device reader.old.offset chunks c) }
+    ensures there { IfErr result (λ c. FailsUnlisted D.Device reader.old.device reader.new.device reader.old.offset chunks (IsBad reader.old.listed) c) }
 {
     let sectors = block.len() as u64 / 512;
     read_into(gate, chunks, Part { from, sectors }, role, reader)?;
@@ -234,7 +234,7 @@ fn read_into<D: Device, G: Gate>(
     ensures unfailing { OnOk result (D.failures reader.new.device ≡ D.failures reader.old.device) }
     ensures missed { IfErr result (λ c. IsToRead chunks reader.old.listed part.from part.sectors c) }
     ensures failed { OnErr result (CountsFailure D.Device reader.old.device reader.new.device) }
-    ensures there { IfErr result (λ c. FailsInChunk D.Device reader.old.device reader.new.device reader.old.offset chunks c) }
+    ensures there { IfErr result (λ c. FailsUnlisted D.Device reader.old.device reader.new.device reader.old.offset chunks (IsBad reader.old.listed) c) }
 {
     read_part(
         gate,
@@ -268,7 +268,7 @@ fn read_part<D: Device, G: Gate>(
     ensures unfailing { OnOk result (D.failures device.new ≡ D.failures device.old) }
     ensures missed { IfErr result (λ c. IsToRead chunks listed.now part.from part.sectors c) }
     ensures failed { OnErr result (CountsFailure D.Device device.old device.new) }
-    ensures there { IfErr result (λ c. FailsInChunk D.Device device.old device.new offset chunks c) }
+    ensures there { IfErr result (λ c. FailsUnlisted D.Device device.old device.new offset chunks (IsBad listed.now) c) }
 {
     let mut done = 0;
     while done < part.sectors {
@@ -302,7 +302,7 @@ fn read_front<D: Device, G: Gate>(
     ensures unfailing { OnOk result (D.failures device.new ≡ D.failures device.old) }
     ensures missed { IfErr result (λ c. IsToRead chunks listed.now sector 1 c) }
     ensures failed { OnErr result (CountsFailure D.Device device.old device.new) }
-    ensures there { IfErr result (λ c. FailsInChunk D.Device device.old device.new offset chunks c) }
+    ensures there { IfErr result (λ c. FailsUnlisted D.Device device.old device.new offset chunks (IsBad listed.now) c) }
 {
     let chunk = chunks.chunk_of(sector);
     let (start, sectors) = chunks.range(chunk);

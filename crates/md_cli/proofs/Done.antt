@@ -7,11 +7,11 @@ use Rattle.md_examine.specs.declared.sink.Sink.{Ghosts as SinkGhosts}
 use Rattle.md_images.specs.declared.images.Images.{Ghosts as ImagesGhosts}
 use Rattle.md_words.specs.Asks.{Ask, opens_array, examines, examines_bitmap, examines_badblocks, creates}
 use Rattle.md_commands.specs.declared.fault.CommandFault.{CommandFault}
-use Rattle.md_messages.specs.Question.{AskerView}
+use Rattle.md_messages.specs.declared.asker.Asker.{Ghosts as AskerGhosts}
 use Rattle.md_cli.specs.Running.{Obeys, OpensArray}
 use Rattle.md_cli.specs.Streams.{Told}
 
-module _ {I D R S : Type 0} (i : ImagesGhosts I D) (g : DeviceGhosts D) (r : SourceGhosts R) (s : SinkGhosts S) (asker : AskerView) (words : List Text) (before after : I) (old new : Told R S) (result : Result (Unit {0}) CommandFault) where
+module _ {I D R S A : Type 0} (i : ImagesGhosts I D) (g : DeviceGhosts D) (r : SourceGhosts R) (s : SinkGhosts S) (asker : AskerGhosts A) (words : List Text) (before after : I) (old new : Told R S A) (result : Result (Unit {0}) CommandFault) where
   pub does_by : (ask : Ask) → opens_array ask ≡ true → OpensArray i g r s asker ask words before after old new result → Obeys i g r s asker ask words before after old new result
   does_by (examines form) e h = absurd (true≢false (sym e))
   does_by (examines_bitmap form) e h = absurd (true≢false (sym e))

@@ -17,7 +17,7 @@ use Rattle.md_examine.specs.declared.sink.Sink.{Ghosts as SinkGhosts}
 use Rattle.md_state.specs.View.{Disk, disk_of}
 use Rattle.md_images.specs.Taking.{Text}
 use Rattle.md_words.specs.declared.form.CheckForm.TheVariants as check_form
-use Rattle.md_words.specs.Asks.{Ask, device_to_add, leaving_of, examines, examines_bitmap, examines_badblocks, creates, assembles, details, plans, reads, checks, writes, resyncs, stops, fails, removes, adds, re_adds, rebuilds}
+use Rattle.md_words.specs.Asks.{Ask, device_to_add, leaving_of, examines, examines_bitmap, examines_badblocks, creates, assembles, details, plans, reads, serves, checks, writes, resyncs, stops, fails, removes, adds, re_adds, rebuilds}
 use Rattle.md_commands.specs.declared.fault.CommandFault.{CommandFault}
 use Rattle.md_messages.specs.Question.{Question}
 use Rattle.md_messages.specs.declared.notices.Notices.{Notices}
@@ -62,7 +62,7 @@ left_within : (k : ℕ) (before after : List Disk) (beside : Option Disk) → Ha
 left_within k before after None h e = absurd (true≢false (sym e))
 left_within k before after (Some d) h e = let place = slice_get_within before k d h.0 in omega (arith, place, h.1)
 
-module _ {R S : Type 0} (r : SourceGhosts R) (s : SinkGhosts S) (names : List Text) (before after : OpenedView) (old new : Streams R S) where
+module _ {R S A : Type 0} (r : SourceGhosts R) (s : SinkGhosts S) (names : List Text) (before after : OpenedView) (old new : Streams R S A) where
   pub all_kept : (ask : Ask) (result : Result (Unit {0}) CommandFault) → is_some before.beside ≡ is_some (device_to_add ask) → Performs r s names ask before after old new result → AllBack ask before.mirror.disks after.mirror.disks before.beside after.beside
   all_kept (examines form) result brings h = absurd h
   all_kept (examines_bitmap form) result brings h = absurd h
@@ -81,6 +81,7 @@ module _ {R S : Type 0} (r : SourceGhosts R) (s : SinkGhosts S) (names : List Te
       kept _ before after brings h.0 (done_readonly s before.mirror after.mirror old.output new.output sector count h.2)
   all_kept (reads sector count false true) (Err f) brings h =
       kept _ before after brings h.0 (reads_readonly_as_many s before.mirror after.mirror old.output new.output sector count f h.2)
+  all_kept (serves fill) result brings h = kept _ before after brings h.0 h.1.rests.disks.same.as_many
   all_kept (checks check_form.List readonly) (Ok v) brings h = kept _ before after brings h.0 (done_list s before.mirror after.mirror old.output new.output _ h.2)
   all_kept (checks check_form.List readonly) (Err f) brings h =
       kept _ before after brings h.0 (lists_as_many s before.mirror after.mirror old.output new.output f h.2)
@@ -122,6 +123,29 @@ module _ {R S : Type 0} (r : SourceGhosts R) (s : SinkGhosts S) (names : List Te
     moves = λ _. refl;
   }
 
+-- Of who is asked nothing is said there: what is done after a question is done as without it.
+module _ {R S A : Type 0} (r : SourceGhosts R) (s : SinkGhosts S) (names : List Text) (before after : OpenedView) (old new : Streams R S A) (asker : A) (result : Result (Unit {0}) CommandFault) where
+  pub performs_asked : (ask : Ask) → Performs r s names ask before after (record old { asker = asker }) new result → Performs r s names ask before after old new result
+  performs_asked (examines form) h = h
+  performs_asked (examines_bitmap form) h = h
+  performs_asked (examines_badblocks form) h = h
+  performs_asked (creates o) h = h
+  performs_asked (assembles json readonly) h = h
+  performs_asked (details json readonly) h = h
+  performs_asked (plans k json readonly) h = h
+  performs_asked (reads sector count true readonly) h = h
+  performs_asked (reads sector count false readonly) h = h
+  performs_asked (serves fill) h = (h.0, record { missing = h.1.missing; serves = h.1.serves; rests = h.1.rests; noted = h.1.noted })
+  performs_asked (checks form readonly) h = h
+  performs_asked (writes sector) h = h
+  performs_asked resyncs h = h
+  performs_asked stops h = h
+  performs_asked (fails k) h = h
+  performs_asked (removes k) h = h
+  performs_asked (adds name) h = h
+  performs_asked (re_adds name full) h = h
+  performs_asked (rebuilds k) h = h
+
 -- one that is to join comes last
 pub joins_last : (ask : Ask) → is_some (device_to_add ask) ≡ true → leaving_of ask ≡ None
 joins_last (removes k) e = absurd (true≢false (sym e))
@@ -136,7 +160,7 @@ refused_back ask before after was brings same = record {
 }
 
 -- also where it was declined
-pub all_answered : {R S : Type 0} (r : SourceGhosts R) (s : SinkGhosts S) (q : Question) (names : List Text) (n : Notices) (before after : OpenedView) (old new : Streams R S) (ask : Ask) (result : Result (Unit {0}) CommandFault) → is_some before.beside ≡ is_some (device_to_add ask)
+pub all_answered : {R S A : Type 0} (r : SourceGhosts R) (s : SinkGhosts S) (q : Question A) (names : List Text) (n : Notices) (before after : OpenedView) (old new : Streams R S A) (ask : Ask) (result : Result (Unit {0}) CommandFault) → is_some before.beside ≡ is_some (device_to_add ask)
     → PerformsOrDeclines r s q names ask n before after old new result → AllBack ask before.mirror.disks after.mirror.disks before.beside after.beside
 all_answered r s q names n before after old new ask result brings (inl h) = all_kept r s names before after old new ask result brings h.performs
 all_answered r s q names n before after old new ask result brings (inr d) =

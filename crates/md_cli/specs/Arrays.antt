@@ -60,13 +60,13 @@ abbrev pub answer_of_overlays : Result (Unit {0}) CommandFault → Result (Unit 
 answer_of_overlays (Err (Open (MetadataFault k))) = Err NoMemory
 answer_of_overlays result = result
 
-module _ {R S : Type 0} (r : SourceGhosts R) (s : SinkGhosts S) (q : Question) (names : List Text)
+module _ {R S A : Type 0} (r : SourceGhosts R) (s : SinkGhosts S) (q : Question A) (names : List Text)
     (ask : Ask) where
   -- The devices of the members are opened as a mirror, and the command is done with it, where the question allows it. All
   -- devices come back in the order of their images, as it left them: those of the members, and the one beside them. What is noticed
   -- is that of the mirror as it was opened, and as it is left.
   pub record PerformsOnMirror (members : List Disk) (device : Option Disk) (after : List Disk)
-      (old new : Told R S) (result : Result (Unit {0}) CommandFault) : Type 0 where
+      (old new : Told R S A) (result : Result (Unit {0}) CommandFault) : Type 0 where
     pub opened : MirrorView
     pub opens : IsOpenedFrom members opened
     pub first : Notices
@@ -79,12 +79,12 @@ module _ {R S : Type 0} (r : SourceGhosts R) (s : SinkGhosts S) (q : Question) (
 
   -- they are not opened so, and the device that was to join is as it was
   pub record RefusesMembers (members : List Disk) (device : Option Disk) (after : List Disk)
-      (old new : Told R S) (result : Result (Unit {0}) CommandFault) : Type 0 where
+      (old new : Told R S A) (result : Result (Unit {0}) CommandFault) : Type 0 where
     pub left : List Disk
     pub refused : RefusesMirror members left old new result
     pub devices : after ≡ with_beside ask left device
 
-  abbrev pub OpensMembers : List Disk → Option Disk → List Disk → Told R S → Told R S
+  abbrev pub OpensMembers : List Disk → Option Disk → List Disk → Told R S A → Told R S A
       → Result (Unit {0}) CommandFault → Type 0
   OpensMembers members device after old new result =
       PerformsOnMirror members device after old new result
@@ -92,7 +92,7 @@ module _ {R S : Type 0} (r : SourceGhosts R) (s : SinkGhosts S) (q : Question) (
 
   -- The devices are those of the members and, where the command names an image that is to join, after them the one of that image,
   -- which is looked at first.
-  pub record OpensAll (before after : List Disk) (old new : Told R S)
+  pub record OpensAll (before after : List Disk) (old new : Told R S A)
       (result : Result (Unit {0}) CommandFault) : Type 0 where
     pub members : List Disk
     pub device : Option Disk
@@ -104,21 +104,21 @@ module _ {R S : Type 0} (r : SourceGhosts R) (s : SinkGhosts S) (q : Question) (
     pub done : OpensMembers members seen after (record old { notices = noted }) new result
 
   -- a device may leave or join, and there is no memory for the list in which all of them come back then
-  pub record RefusesList (before after : List Disk) (old new : Told R S)
+  pub record RefusesList (before after : List Disk) (old new : Told R S A)
       (result : Result (Unit {0}) CommandFault) : Type 0 where
     pub moves : moves_device ask ≡ true
     pub is : result ≡ Err NoMemory
     pub devices : after ≡ before
     pub unused : new ≡ old
 
-  abbrev pub OpensDevices : List Disk → List Disk → Told R S → Told R S → Result (Unit {0}) CommandFault
+  abbrev pub OpensDevices : List Disk → List Disk → Told R S A → Told R S A → Result (Unit {0}) CommandFault
       → Type 0
   OpensDevices before after old new result =
       OpensAll before after old new result ⊎ RefusesList before after old new result
 
   -- The devices are only looked at, and what is written is kept in memory over them. They are opened so as a mirror, and the
   -- command is done with it. Of what is noticed it is forgotten what was stored, and which writes failed.
-  pub record LooksAtMirror (devices : List Disk) (old new : Told R S)
+  pub record LooksAtMirror (devices : List Disk) (old new : Told R S A)
       (result : Result (Unit {0}) CommandFault) : Type 0 where
     pub seen : List Disk
     pub noted : Notices
@@ -128,20 +128,21 @@ module _ {R S : Type 0} (r : SourceGhosts R) (s : SinkGhosts S) (q : Question) (
     pub told : result ≡ answer_of_overlays answer
 
   -- there is no memory for the list of overlays
-  pub record LooksAtNothing (old new : Told R S) (result : Result (Unit {0}) CommandFault) : Type 0 where
+  pub record LooksAtNothing (old new : Told R S A) (result : Result (Unit {0}) CommandFault) : Type 0 where
     pub is : result ≡ Err NoMemory
     pub unused : new ≡ old
 
-  abbrev pub LooksAtDevices : List Disk → Told R S → Told R S → Result (Unit {0}) CommandFault → Type 0
+  abbrev pub LooksAtDevices : List Disk → Told R S A → Told R S A → Result (Unit {0}) CommandFault → Type 0
   LooksAtDevices devices old new result = LooksAtMirror devices old new result ⊎ LooksAtNothing old new result
 
   -- whether the devices are only looked at
-  abbrev pub WorksBy : Bool → List Disk → List Disk → Told R S → Told R S → Result (Unit {0}) CommandFault
+  abbrev pub WorksBy : Bool → List Disk → List Disk → Told R S A → Told R S A → Result (Unit {0}) CommandFault
       → Type 0
   WorksBy true before after old new result = (after ≡ before) × LooksAtDevices before old new result
   WorksBy false before after old new result = OpensDevices before after old new result
 
-  abbrev pub WorksOn : List Disk → List Disk → Told R S → Told R S → Result (Unit {0}) CommandFault → Type 0
+  abbrev pub WorksOn : List Disk → List Disk → Told R S A → Told R S A
+      → Result (Unit {0}) CommandFault → Type 0
   WorksOn before after old new result = WorksBy (is_readonly ask) before after old new result
 
 -- the image words, and after them the one of the image that is to join the array

@@ -17,7 +17,7 @@ use Rattle.md_messages.specs.Question.{Question}
 use Rattle.md_messages.specs.declared.notices.Notices.{Notices}
 use Rattle.md_cli.specs.Arrays.{ShowsDevices}
 use Rattle.md_cli.specs.Asking.{Declines}
-use Rattle.md_cli.specs.Streams.{Told}
+use Rattle.md_cli.specs.Streams.{Streams, Told}
 use Rattle.md_images.specs.Taking.{Word, image_list, is_missing_word}
 
 -- the sectors of a device
@@ -102,26 +102,27 @@ module _ {S : Type 0} (s : Ghosts S) (list : List Word) (members : List NewMembe
       FailsOnDevice before after old new result ⊎ LaysOutAll before after old new result
 
 -- The members are laid out, where the question allows it.
-pub record LaysOutAgreed {S : Type 0} (s : Ghosts S) (q : Question) (n : Notices) (list : List Word)
-    (members : List NewMember) (before after : List Disk) (old new : S)
+pub record LaysOutAgreed {R S A : Type 0} (s : Ghosts S) (q : Question A) (n : Notices) (list : List Word)
+    (members : List NewMember) (before after : List Disk) (old new : Streams R S A)
     (result : Result (Unit {0}) CommandFault) : Type 0 where
-  pub agreed : q n (Ok tt)
-  pub lays_out : LaysOutOn s list members before after old new result
+  pub agreed : q n old.asker new.asker (Ok tt)
+  pub lays_out : LaysOutOn s list members before after old.output new.output result
 
-module _ {R S : Type 0} (s : Ghosts S) (q : Question) (params : CreateParams) (words : List Text) where
+module _ {R S A : Type 0} (s : Ghosts S) (q : Question A) (params : CreateParams) (words : List Text) where
   -- The devices make an array. What they hold is noted, for which they are only read; then its members are laid out on them, where
   -- the question allows it.
-  pub record MakesMembers (before after : List Disk) (old new : Told R S)
+  pub record MakesMembers (before after : List Disk) (old new : Told R S A)
       (result : Result (Unit {0}) CommandFault) : Type 0 where
     pub members : List NewMember
     pub made : AreNewMembers params words before members
     pub seen : List Disk
     pub looks : NotesHeldOnEach before seen old.notices new.notices
-    pub rest : new.streams ≡ record old.streams { output = new.streams.output }
-    pub done : LaysOutAgreed s q new.notices (image_list true words) members seen after old.streams.output
-        new.streams.output result
-        ⊎ Declines q new.notices seen after old.streams.output new.streams.output result
+    pub rest : new.streams ≡ record old.streams { output = new.streams.output; asker = new.streams.asker }
+    pub done : LaysOutAgreed s q new.notices (image_list true words) members seen after old.streams
+        new.streams result
+        ⊎ Declines q new.notices seen after old.streams new.streams result
 
-  abbrev pub CreatesOn : List Disk → List Disk → Told R S → Told R S → Result (Unit {0}) CommandFault → Type 0
+  abbrev pub CreatesOn : List Disk → List Disk → Told R S A → Told R S A
+      → Result (Unit {0}) CommandFault → Type 0
   CreatesOn before after old new result =
       RefusesDevices params words before after old new result ⊎ MakesMembers before after old new result

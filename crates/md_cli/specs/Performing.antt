@@ -18,12 +18,15 @@ use Rattle.md_commands.specs.Writing.{RefusesToWrite, WritesArray}
 use Rattle.md_commands.specs.declared.fault.CommandFault.{CommandFault}
 use Rattle.md_read_commands.specs.Filling.{ReadsFilled}
 use Rattle.md_read_commands.specs.Reading.{ReadsArray, ReadsReadonly, RefusesReadonly, RefusesToRead}
+use Rattle.md_read_commands.specs.Serving.{ServesArray}
 use Rattle.md_examine.specs.declared.sink.Sink.{Ghosts as SinkGhosts}
 use Rattle.md_images.specs.Taking.{Text}
 use Rattle.md_report.specs.CheckReport.{list_text}
+use Rattle.md_badblocks.specs.declared.run.Run.{Run}
+use Rattle.md_state.specs.Rests.{Rests}
 use Rattle.md_state.specs.Steps.Fail.{FailsMember}
 use Rattle.md_state.specs.View.{Disk}
-use Rattle.md_words.specs.Asks.{Ask, assembles, details, plans, reads, checks, writes, resyncs, stops, fails, removes, adds, re_adds, rebuilds}
+use Rattle.md_words.specs.Asks.{Ask, assembles, details, plans, reads, serves, checks, writes, resyncs, stops, fails, removes, adds, re_adds, rebuilds}
 use Rattle.md_words.specs.declared.form.CheckForm.{CheckForm}
 use Rattle.md_words.specs.declared.form.CheckForm.TheVariants as check_form
 use Rattle.md_cli.specs.Opened.{OpenedView}
@@ -47,8 +50,8 @@ module _ {S : Type 0} (s : SinkGhosts S) where
       (RefusesReadonly s sector count before.mirror after.mirror old new)
 
   -- the same, or with zeros in the place of sectors that are not given; then which these are is noted, where all are put out
-  abbrev pub PerformsRead : {R : Type 0} → ℕ → ℕ → Bool → Bool → OpenedView → OpenedView → Streams R S
-      → Streams R S → Result (Unit {0}) CommandFault → Type 0
+  abbrev pub PerformsRead : {R A : Type 0} → ℕ → ℕ → Bool → Bool → OpenedView → OpenedView → Streams R S A
+      → Streams R S A → Result (Unit {0}) CommandFault → Type 0
   PerformsRead sector count false readonly before after old new result =
       ShowsSectors sector count readonly before after old.output new.output result
   PerformsRead sector count true readonly before after old new result =
@@ -98,10 +101,20 @@ module _ {S : Type 0} (s : SinkGhosts S) where
         (λ _. StopsArrayAfter s (ReAddsDevice extent device before.mirror) after.mirror old new)
         (RefusesToReAdd s extent device after.beside before.mirror after.mirror old new)
 
-module _ {R S : Type 0} (r : SourceGhosts R) (s : SinkGhosts S) (names : List Text) where
+module _ {R S A : Type 0} (r : SourceGhosts R) (s : SinkGhosts S) where
+  -- A client is served from the array, of which nothing is written. Which sectors it got zeros for is noted, where it was to get them.
+  pub record PerformsServe (fill : Bool) (before after : OpenedView) (old new : Streams R S A)
+      (result : Result (Unit {0}) CommandFault) : Type 0 where
+    pub missing : List Run
+    pub serves : ServesArray r s fill before.mirror after.mirror missing old.input new.input old.output
+        new.output result
+    pub rests : Rests before.mirror after.mirror
+    pub noted : fill ≡ true → new.missing ≡ Some missing
+
+module _ {R S A : Type 0} (r : SourceGhosts R) (s : SinkGhosts S) (names : List Text) where
   -- The array as it was opened and as it is left, from the images of these names, that of a device which joins last; and the streams
-  -- before and after. A report leaves the array as it is. The input is read by `write` alone.
-  abbrev pub Performs : Ask → OpenedView → OpenedView → Streams R S → Streams R S
+  -- before and after. A report leaves the array as it is. The input is read by `write` and `serve` alone.
+  abbrev pub Performs : Ask → OpenedView → OpenedView → Streams R S A → Streams R S A
       → Result (Unit {0}) CommandFault → Type 0
   Performs (assembles json readonly) before after old new result =
       (after ≡ before) × (new.input ≡ old.input)
@@ -118,6 +131,8 @@ module _ {R S : Type 0} (r : SourceGhosts R) (s : SinkGhosts S) (names : List Te
   Performs (reads sector count fill readonly) before after old new result =
       (after.beside ≡ before.beside) × (new.input ≡ old.input)
       × PerformsRead s sector count fill readonly before after old new result
+  Performs (serves fill) before after old new result =
+      (after.beside ≡ before.beside) × PerformsServe r s fill before after old new result
   Performs (checks form readonly) before after old new result =
       (after.beside ≡ before.beside) × (new.input ≡ old.input)
       × ShowsMismatches s form names before after old.output new.output result

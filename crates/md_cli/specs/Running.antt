@@ -13,7 +13,8 @@ use Rattle.md_commands.specs.declared.source.Source.{Ghosts as SourceGhosts}
 use Rattle.md_examine.specs.declared.sink.Sink.{Ghosts as SinkGhosts}
 use Rattle.md_examine_commands.specs.Examining.{ExaminesOne}
 use Rattle.md_messages.specs.Noticed.{nothing}
-use Rattle.md_messages.specs.Question.{AskerView, question}
+use Rattle.md_messages.specs.Question.{question}
+use Rattle.md_messages.specs.declared.asker.Asker.{Ghosts as AskerGhosts}
 use Rattle.md_messages.specs.declared.notices.Notices.{Notices}
 use Rattle.md_cli.specs.Arrays.{KeepsImages, UsesImages, WorksOn, names_with}
 use Rattle.md_cli.specs.CreateOptions.{AreParamsOf, create_option_fault}
@@ -48,10 +49,10 @@ pub record RefusesOptions {I X : Type 0} (o : Options) (words : List Text) (befo
   pub refused : result ≡ Err (fault.Options first)
   pub idle : DoesNothing before after old new
 
-module _ {I D R S : Type 0} (i : ImagesGhosts I D) (g : DeviceGhosts D) (s : SinkGhosts S)
-    (asker : AskerView) where
+module _ {I D R S A : Type 0} (i : ImagesGhosts I D) (g : DeviceGhosts D) (s : SinkGhosts S)
+    (asker : AskerGhosts A) where
   -- an array is made: the options are refused, or they say what it is made from
-  pub record Creates (o : Options) (words : List Text) (before after : I) (old new : Told R S)
+  pub record Creates (o : Options) (words : List Text) (before after : I) (old new : Told R S A)
       (result : Result (Unit {0}) CommandFault) : Type 0 where
     pub sound : create_option_fault o (length words) ≡ None
     pub params : CreateParams
@@ -59,23 +60,24 @@ module _ {I D R S : Type 0} (i : ImagesGhosts I D) (g : DeviceGhosts D) (s : Sin
     pub done : UsesImages i g (CreatesOn s (question asker (creates o) words) params words) Change
         (image_list true words) before after old new result
 
-  abbrev pub MakesArray : Options → List Text → I → I → Told R S → Told R S → Result (Unit {0}) CommandFault
-      → Type 0
+  abbrev pub MakesArray : Options → List Text → I → I → Told R S A → Told R S A
+      → Result (Unit {0}) CommandFault → Type 0
   MakesArray o words before after old new result =
       RefusesOptions o words before after old new result ⊎ Creates o words before after old new result
 
-module _ {I D R S : Type 0} (i : ImagesGhosts I D) (g : DeviceGhosts D) (r : SourceGhosts R)
-    (s : SinkGhosts S) (asker : AskerView) where
+module _ {I D R S A : Type 0} (i : ImagesGhosts I D) (g : DeviceGhosts D) (r : SourceGhosts R)
+    (s : SinkGhosts S) (asker : AskerGhosts A) where
   -- A command with the array that the images make. Of one that may change none each of them stays as it is.
-  pub record OpensArray (ask : Ask) (words : List Text) (before after : I) (old new : Told R S)
+  pub record OpensArray (ask : Ask) (words : List Text) (before after : I) (old new : Told R S A)
       (result : Result (Unit {0}) CommandFault) : Type 0 where
     pub kept : is_readonly ask ≡ true → KeepsImages i before after
     pub done : UsesImages i g
         (WorksOn r s (question asker ask (names_with ask words)) (names_with ask words) ask)
         (access_of ask) (image_list false (names_with ask words)) before after old new result
 
-  -- What each command does with the images that its words name. The input is read by `write` alone.
-  abbrev pub Obeys : Ask → List Text → I → I → Told R S → Told R S → Result (Unit {0}) CommandFault → Type 0
+  -- What each command does with the images that its words name. The input is read by `write` and `serve` alone.
+  abbrev pub Obeys : Ask → List Text → I → I → Told R S A → Told R S A
+      → Result (Unit {0}) CommandFault → Type 0
   Obeys (examines form) words before after old new result =
       OnlyPutsOut old new
       × ExaminesImage i g s (examines form) words before after old.streams.output new.streams.output result
@@ -91,7 +93,7 @@ module _ {I D R S : Type 0} (i : ImagesGhosts I D) (g : DeviceGhosts D) (r : Sou
 
   -- the command's own answer, whose status this is, and what it noticed, which is told beside it
   pub record DoesCommand (telling : Result (Unit {0}) CommandFault → Notices → Type 0) (ask : Ask)
-      (words : List Text) (before after : I) (old new : Streams R S) (status : ℕ) : Type 0 where
+      (words : List Text) (before after : I) (old new : Streams R S A) (status : ℕ) : Type 0 where
     pub result : Result (Unit {0}) CommandFault
     pub status_is : status ≡ status_of result
     pub noticed : Notices

@@ -1,4 +1,4 @@
--- The input and the output of a run, and what it noticed.
+-- The input and the output of a run, who is asked, and what it noticed.
 use Rattle.std.specs.Prelude.{◌≡◌, List, Option}
 use Rattle.md_badblocks.specs.declared.run.Run.{Run}
 use Rattle.md_messages.specs.declared.asker.Asker.{Ghosts as AskerGhosts}
@@ -7,26 +7,32 @@ use Rattle.md_messages.specs.declared.messages.Messages.{Messages}
 use Rattle.md_messages.specs.declared.notices.Notices.{Notices}
 use Rattle.md_cli.specs.declared.session.Session.{Session}
 
-pub record Streams (R S : Type 0) : Type 0 where
+pub record Streams (R S A : Type 0) : Type 0 where
   pub input : R
   pub output : S
   pub missing : Option (List Run)  -- the sectors for which zeros were put out
+  pub asker : A  -- who is asked, and was
 
-abbrev pub streams_of : {T R S W : Type 0} → Session T R S W → Streams R S
-streams_of session = record { input = session.input; output = session.out; missing = session.missing }
+abbrev pub streams_of : {T R S W A : Type 0} → Session T R S W A → Streams R S A
+streams_of session = record {
+  input = session.input;
+  output = session.out;
+  missing = session.missing;
+  asker = session.asker;
+}
 
 -- The streams of a command that is done, and what was noticed of the array beside them.
-pub record Told (R S : Type 0) : Type 0 where
-  pub streams : Streams R S
+pub record Told (R S A : Type 0) : Type 0 where
+  pub streams : Streams R S A
   pub notices : Notices
 
-abbrev pub told_of : {T R S W : Type 0} → Session T R S W → Notices → Told R S
+abbrev pub told_of : {T R S W A : Type 0} → Session T R S W A → Notices → Told R S A
 told_of session notices = record { streams = streams_of session; notices = notices }
 
--- Nothing but the output is another: nothing was read from the input, and nothing was noticed.
-abbrev pub OnlyPutsOut : {R S : Type 0} → Told R S → Told R S → Type 0
+-- Nothing but the output is another: nothing was read from the input, nobody was asked, and nothing was noticed.
+abbrev pub OnlyPutsOut : {R S A : Type 0} → Told R S A → Told R S A → Type 0
 OnlyPutsOut old new = new ≡ record old { streams = record old.streams { output = new.streams.output } }
 
--- who reads standard error, where so much is told: what a command is asked of was shown there before, where the session's watch says so
-abbrev pub audience_of : {T R S W : Type 0} → AskerGhosts W → Session T R S W → Messages → Audience
-audience_of w session messages = record { messages = messages; was_shown = w.told_first session.watch.now }
+-- who reads standard error, where so much is told: what a command is asked of was shown there before, where the session's asker says so
+abbrev pub audience_of : {T R S W A : Type 0} → AskerGhosts A → Session T R S W A → Messages → Audience
+audience_of a session messages = record { messages = messages; was_shown = a.told_first session.asker }

@@ -2,9 +2,9 @@
 ghost use Rattle.std.specs.Prelude.{◌≡◌, ◌<◌, ◌++◌, ◌∷◌, [], IfOk, false, is_some, length, true};
 ghost use Rattle.md_images.specs.Taking.{image_list};
 ghost use Rattle.md_words.specs.Asks.{access_of, ask_of, device_to_add, is_readonly, opens_array};
+ghost use Rattle.md_messages.specs.Question.{question};
 ghost use Rattle.md_messages.specs.Telling.{texts};
 ghost use Rattle.md_cli.specs.Arrays.{KeepsImages, UsesImages, WorksOn, names_with};
-ghost use Rattle.md_cli.specs.Asking.{question_of};
 ghost use Rattle.md_cli.specs.Streams.{told_of};
 
 use crate::devices::with_devices;
@@ -25,9 +25,10 @@ pub(crate) fn with_array<
     T: Threads + Wait + Sync,
     R: Source + Drop,
     S: Sink + Drop,
-    W: Watch + Asker + Sync,
+    W: Watch + Sync,
+    A: Asker + Drop,
 >(
-    session: &mut Session<'_, T, R, S, W>,
+    session: &mut Session<'_, T, R, S, W, A>,
     command: Command<'_>,
     images: &mut I,
     names: &[&str],
@@ -35,7 +36,7 @@ pub(crate) fn with_array<
 ) -> Result<(), CommandFault>
     requires opens { opens_array (ask_of command) ≡ true }
     ensures gives { UsesImages I.Images I.Dev.Device
-        (WorksOn R.Source S.Sink (question_of W.Asker session.old (ask_of command.entry)
+        (WorksOn R.Source S.Sink (question A.Asker (ask_of command.entry)
         (names_with (ask_of command.entry) (texts names.now)))
         (names_with (ask_of command.entry) (texts names.now)) (ask_of command.entry))
         (access_of (ask_of command.entry))
@@ -74,9 +75,10 @@ fn with_images<
     T: Threads + Wait + Sync,
     R: Source + Drop,
     S: Sink + Drop,
-    W: Watch + Asker + Sync,
+    W: Watch + Sync,
+    A: Asker + Drop,
 >(
-    session: &mut Session<'_, T, R, S, W>,
+    session: &mut Session<'_, T, R, S, W, A>,
     command: Command<'_>,
     images: &mut I,
     names: &[&str],
@@ -86,7 +88,7 @@ fn with_images<
     requires brings { is_some (device_to_add (ask_of command)) ≡ true → 0 < length names.now }
     ensures gives { UsesImages I.Images I.Dev.Device
         (WorksOn R.Source S.Sink
-        (question_of W.Asker session.old (ask_of command.entry) (texts names.now)) (texts names.now)
+        (question A.Asker (ask_of command.entry) (texts names.now)) (texts names.now)
         (ask_of command.entry))
         (access_of (ask_of command.entry)) (image_list false (texts names.now))
         images.old images.new (told_of session.old notices.old) (told_of session.new notices.new) result }

@@ -2,8 +2,9 @@
 ghost use Rattle.std.specs.Prelude.{◌≡◌, IfOk, is_some, true};
 ghost use Rattle.md_array.specs.Consistency.{IsConsistent};
 ghost use Rattle.md_words.specs.Asks.{ask_of, device_to_add, opens_array};
+ghost use Rattle.md_messages.specs.Question.{question};
 ghost use Rattle.md_messages.specs.Telling.{texts};
-ghost use Rattle.md_cli.specs.Asking.{PerformsOrDeclines, question_of};
+ghost use Rattle.md_cli.specs.Asking.{PerformsOrDeclines};
 ghost use Rattle.md_cli.specs.Opened.{opened_view};
 ghost use Rattle.md_cli.specs.Streams.{streams_of};
 
@@ -25,9 +26,10 @@ pub(crate) fn perform_asked<
     T: Threads + Wait + Sync,
     R: Source + Drop,
     S: Sink + Drop,
-    W: Watch + Asker + Sync,
+    W: Watch + Sync,
+    A: Asker + Drop,
 >(
-    session: &mut Session<'_, T, R, S, W>,
+    session: &mut Session<'_, T, R, S, W, A>,
     command: Command<'_>,
     opened: &mut Opened<D>,
     notices: &Notices,
@@ -37,12 +39,12 @@ pub(crate) fn perform_asked<
     requires opens { opens_array (ask_of command) ≡ true }
     requires brings { is_some opened.old.beside ≡ is_some (device_to_add (ask_of command)) }
     ensures answers { PerformsOrDeclines R.Source S.Sink
-        (question_of W.Asker session.old (ask_of command.entry) (texts names.now)) (texts names.now)
+        (question A.Asker (ask_of command.entry) (texts names.now)) (texts names.now)
         (ask_of command.entry) notices.now (opened_view D.Device opened.old) (opened_view D.Device opened.new)
         (streams_of session.old) (streams_of session.new) result }
     ensures flushed { IfOk result (λ _. S.is_flushed session.new.out) }
 {
-    match ask_first(session.alloc, session.watch, command, notices, names) {
+    match ask_first(session.alloc, &mut session.asker, command, notices, names) {
         Ok(()) => perform(session, command, opened, names),
         Err(fault) => Err(fault),
     }

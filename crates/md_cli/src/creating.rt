@@ -2,9 +2,9 @@
 ghost use Rattle.std.specs.Prelude.{◌≡◌, ◌≢◌, ◌*◌, ◌≤◌, ℕ, Err, IfErr, IfOk, Some, length, map, slice_get, true};
 ghost use Rattle.md_words.specs.Asks.{ask_of};
 ghost use Rattle.md_state.specs.View.{Disk};
+ghost use Rattle.md_messages.specs.Question.{question};
 ghost use Rattle.md_messages.specs.Telling.{texts};
 ghost use Rattle.md_cli.specs.Arrays.{UsesImages, disks};
-ghost use Rattle.md_cli.specs.Asking.{question_of};
 ghost use Rattle.md_cli.specs.Creating.{AreNewMembers, CreatesOn, IsRefusal, LaysOutOn};
 ghost use Rattle.md_cli.specs.Streams.{told_of};
 ghost use Rattle.md_images.specs.Taking.{image_list, word_of};
@@ -72,8 +72,8 @@ fn lay_out_on<D: Device + Drop, S: Sink>(
 
 // Makes an array of the devices, opens it and shows it in a line. What they hold is noted, and may be asked of, before
 // anything is written. The devices come back in their order.
-fn create_on<D: Device + Drop, T, R: Drop, S: Sink + Drop, W: Asker>(
-    session: &mut Session<'_, T, R, S, W>,
+fn create_on<D: Device + Drop, T, R: Drop, S: Sink + Drop, W, A: Asker + Drop>(
+    session: &mut Session<'_, T, R, S, W, A>,
     command: Command<'_>,
     params: &CreateParams,
     names: &[&str],
@@ -85,7 +85,7 @@ fn create_on<D: Device + Drop, T, R: Drop, S: Sink + Drop, W: Asker>(
     requires as_many { length devices.items ≡ length words.now }
     ensures as_many { length result.0.items ≡ length devices.items }
     ensures gives { CreatesOn S.Sink
-        (question_of W.Asker session.old (ask_of command.entry) (texts names.now))
+        (question A.Asker (ask_of command.entry) (texts names.now))
         params.now (texts names.now)
         (disks D.Device devices.items) (disks D.Device result.0.items)
         (told_of session.old notices.old) (told_of session.new notices.new) result.1 }
@@ -101,7 +101,7 @@ fn create_on<D: Device + Drop, T, R: Drop, S: Sink + Drop, W: Asker>(
     {
         return (devices, Err(CommandFault::NoMemory));
     }
-    match ask_first(session.alloc, session.watch, command, notices, names) {
+    match ask_first(session.alloc, &mut session.asker, command, notices, names) {
         Ok(()) => {
             let out = &mut session.out;
             lay_out_on(session.alloc, words, devices, members.as_slice(), out)
@@ -111,8 +111,8 @@ fn create_on<D: Device + Drop, T, R: Drop, S: Sink + Drop, W: Asker>(
 }
 
 /// Makes an array of the images, shows it in a line, and puts the images back. `notices` gets what they held.
-pub(crate) fn create_images<I: Images, T, R: Drop, S: Sink + Drop, W: Asker>(
-    session: &mut Session<'_, T, R, S, W>,
+pub(crate) fn create_images<I: Images, T, R: Drop, S: Sink + Drop, W, A: Asker + Drop>(
+    session: &mut Session<'_, T, R, S, W, A>,
     command: Command<'_>,
     params: &CreateParams,
     images: &mut I,
@@ -120,7 +120,7 @@ pub(crate) fn create_images<I: Images, T, R: Drop, S: Sink + Drop, W: Asker>(
     notices: &mut Notices,
 ) -> Result<(), CommandFault>
     ensures gives { UsesImages I.Images I.Dev.Device
-        (CreatesOn S.Sink (question_of W.Asker session.old (ask_of command.entry) (texts names.now))
+        (CreatesOn S.Sink (question A.Asker (ask_of command.entry) (texts names.now))
         params.now (texts names.now))
         Access.Change (image_list true (texts names.now))
         images.old images.new (told_of session.old notices.old) (told_of session.new notices.new) result }

@@ -2,9 +2,9 @@
 ghost use Rattle.std.specs.Prelude.{◌≡◌, ◌+◌, ◌<◌, ◌≤◌, [], IfOk, is_some, length, option_map, true, vec_capacity};
 ghost use Rattle.md_state.specs.View.{disk_of};
 ghost use Rattle.md_words.specs.Asks.{ask_of, device_to_add, is_readonly, opens_array};
+ghost use Rattle.md_messages.specs.Question.{question};
 ghost use Rattle.md_messages.specs.Telling.{texts};
 ghost use Rattle.md_cli.specs.Arrays.{LooksAtDevices, OpensDevices, OpensMembers, WorksOn, answer_of_overlays, disks};
-ghost use Rattle.md_cli.specs.Asking.{question_of};
 ghost use Rattle.md_cli.specs.Opened.{count, moves_device};
 ghost use Rattle.md_cli.specs.Streams.{told_of};
 
@@ -28,9 +28,10 @@ pub(crate) fn with_devices<
     T: Threads + Wait + Sync,
     R: Source + Drop,
     S: Sink + Drop,
-    W: Watch + Asker + Sync,
+    W: Watch + Sync,
+    A: Asker + Drop,
 >(
-    session: &mut Session<'_, T, R, S, W>,
+    session: &mut Session<'_, T, R, S, W, A>,
     command: Command<'_>,
     devices: Vec<D>,
     notices: &mut Notices,
@@ -41,7 +42,7 @@ pub(crate) fn with_devices<
     ensures as_many { length result.0.items ≡ length devices.items }
     ensures kept { is_readonly (ask_of command.entry) ≡ true → result.0.items ≡ devices.items }
     ensures gives { WorksOn R.Source S.Sink
-        (question_of W.Asker session.old (ask_of command.entry) (texts names.now)) (texts names.now)
+        (question A.Asker (ask_of command.entry) (texts names.now)) (texts names.now)
         (ask_of command.entry)
         (disks D.Device devices.items) (disks D.Device result.0.items)
         (told_of session.old notices.old) (told_of session.new notices.new) result.1 }
@@ -60,9 +61,10 @@ fn look_at_devices<
     T: Threads + Wait + Sync,
     R: Source + Drop,
     S: Sink + Drop,
-    W: Watch + Asker + Sync,
+    W: Watch + Sync,
+    A: Asker + Drop,
 >(
-    session: &mut Session<'_, T, R, S, W>,
+    session: &mut Session<'_, T, R, S, W, A>,
     command: Command<'_>,
     devices: &[D],
     notices: &mut Notices,
@@ -71,7 +73,7 @@ fn look_at_devices<
     requires opens { opens_array (ask_of command) ≡ true }
     requires brings { is_some (device_to_add (ask_of command)) ≡ true → 0 < length devices.now }
     ensures gives { LooksAtDevices R.Source S.Sink
-        (question_of W.Asker session.old (ask_of command.entry) (texts names.now)) (texts names.now)
+        (question A.Asker (ask_of command.entry) (texts names.now)) (texts names.now)
         (ask_of command.entry)
         (disks D.Device devices.now)
         (told_of session.old notices.old) (told_of session.new notices.new) result }
@@ -105,9 +107,10 @@ fn open_devices<
     T: Threads + Wait + Sync,
     R: Source + Drop,
     S: Sink + Drop,
-    W: Watch + Asker + Sync,
+    W: Watch + Sync,
+    A: Asker + Drop,
 >(
-    session: &mut Session<'_, T, R, S, W>,
+    session: &mut Session<'_, T, R, S, W, A>,
     command: Command<'_>,
     mut devices: Vec<D>,
     notices: &mut Notices,
@@ -117,7 +120,7 @@ fn open_devices<
     requires brings { is_some (device_to_add (ask_of command)) ≡ true → 0 < length devices.items }
     ensures as_many { length result.0.items ≡ length devices.items }
     ensures gives { OpensDevices R.Source S.Sink
-        (question_of W.Asker session.old (ask_of command.entry) (texts names.now)) (texts names.now)
+        (question A.Asker (ask_of command.entry) (texts names.now)) (texts names.now)
         (ask_of command.entry)
         (disks D.Device devices.items) (disks D.Device result.0.items)
         (told_of session.old notices.old) (told_of session.new notices.new) result.1 }
@@ -153,9 +156,10 @@ fn open_members<
     T: Threads + Wait + Sync,
     R: Source + Drop,
     S: Sink + Drop,
-    W: Watch + Asker + Sync,
+    W: Watch + Sync,
+    A: Asker + Drop,
 >(
-    session: &mut Session<'_, T, R, S, W>,
+    session: &mut Session<'_, T, R, S, W, A>,
     command: Command<'_>,
     members: Vec<D>,
     beside: Option<D>,
@@ -170,7 +174,7 @@ fn open_members<
         length members.items + count beside ≤ vec_capacity list }
     ensures as_many { length result.0.items ≡ length members.items + count beside }
     ensures gives { OpensMembers R.Source S.Sink
-        (question_of W.Asker session.old (ask_of command.entry) (texts names.now)) (texts names.now)
+        (question A.Asker (ask_of command.entry) (texts names.now)) (texts names.now)
         (ask_of command.entry)
         (disks D.Device members.items) (option_map (disk_of D.Device) beside)
         (disks D.Device result.0.items)

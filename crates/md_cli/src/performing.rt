@@ -8,7 +8,7 @@ ghost use Rattle.md_commands.specs.Planning.{RefusesToPlan, ShowsPlan};
 ghost use Rattle.md_read_commands.specs.Filling.{ReadsFilled};
 ghost use Rattle.md_messages.specs.Telling.{texts};
 ghost use Rattle.md_cli.specs.Opened.{opened_view};
-ghost use Rattle.md_cli.specs.Performing.{PerformsAdd, Performs, PerformsReAdd, PerformsRead, PerformsRemove, ShowsMismatches, ShowsSectors};
+ghost use Rattle.md_cli.specs.Performing.{PerformsAdd, Performs, PerformsReAdd, PerformsRead, PerformsRemove, PerformsServe, ShowsMismatches, ShowsSectors};
 ghost use Rattle.md_cli.specs.Streams.{streams_of};
 
 use crate::opened::Opened;
@@ -22,13 +22,13 @@ use md_commands::{
 };
 use md_device::Device;
 use md_examine::Sink;
-use md_read_commands::{read_array, read_array_filled, read_array_readonly};
+use md_read_commands::{read_array, read_array_filled, read_array_readonly, serve_array};
 use md_words::{CheckForm, Command};
 use std::alloc::Global;
 use std::sync::Wait;
 use std::thread::Threads;
 
-/// Does a command with an opened array; the names are those of its images. The input is read by `Write` alone. `Check`,
+/// Does a command with an opened array; the names are those of its images. The input is read by `Write` and `Serve` alone. `Check`,
 /// `Rebuild` and `ReAdd` alone start threads, and tell the session's `watch` of their reads.
 pub(crate) fn perform<
     D: Device + Drop + Send,
@@ -36,8 +36,9 @@ pub(crate) fn perform<
     R: Source + Drop,
     S: Sink + Drop,
     W: Watch + Sync,
+    A: Drop,
 >(
-    session: &mut Session<'_, T, R, S, W>,
+    session: &mut Session<'_, T, R, S, W, A>,
     command: Command<'_>,
     opened: &mut Opened<D>,
     names: &[&str],
@@ -49,6 +50,7 @@ pub(crate) fn perform<
         (opened_view D.Device opened.old) (opened_view D.Device opened.new)
         (streams_of session.old) (streams_of session.new) result }
     ensures noted { fills (ask_of command.entry) ≡ false → session.new.missing ≡ session.old.missing }
+    ensures unasked { session.new.asker ≡ session.old.asker }
     ensures flushed { IfOk result (λ _. S.is_flushed session.new.out) }
 {
     let (rt, alloc, watch) = (session.rt, session.alloc, session.watch);
@@ -70,6 +72,7 @@ pub(crate) fn perform<
             fill,
             readonly,
         } => { read_sectors(session, opened, sector, count, fill, readonly) }
+        Command::Serve { fill } => serve(session, opened, fill),
         Command::Check { form, .. } => {
             check(rt, alloc, opened, form, watch, names, &mut session.out)
         }
@@ -156,8 +159,8 @@ fn plan<D: Device + Drop, S: Sink>(
 }
 
 // Puts out sectors of the array, perhaps with zeros in the place of those that are not given.
-fn read_sectors<D: Device + Drop, T, R: Source + Drop, S: Sink + Drop, W>(
-    session: &mut Session<'_, T, R, S, W>,
+fn read_sectors<D: Device + Drop, T, R: Source + Drop, S: Sink + Drop, W, A: Drop>(
+    session: &mut Session<'_, T, R, S, W, A>,
     opened: &mut Opened<D>,
     sector: u64,
     count: u64,
@@ -171,6 +174,7 @@ fn read_sectors<D: Device + Drop, T, R: Source + Drop, S: Sink + Drop, W>(
         (opened_view D.Device opened.old) (opened_view D.Device opened.new)
         (streams_of session.old) (streams_of session.new) result }
     ensures noted { fill ≡ false → session.new.missing ≡ session.old.missing }
+    ensures unasked { session.new.asker ≡ session.old.asker }
     ensures flushed { IfOk result (λ _. S.is_flushed session.new.out) }
 {
     if fill {
@@ -204,8 +208,8 @@ fn read<D: Device + Drop, S: Sink>(
 
 // Puts out sectors with zeros in the place of those that are not given. Which these are is noted, where all
 // sectors are put out.
-fn read_filled<D: Device + Drop, T, R: Source + Drop, S: Sink + Drop, W>(
-    session: &mut Session<'_, T, R, S, W>,
+fn read_filled<D: Device + Drop, T, R: Source + Drop, S: Sink + Drop, W, A: Drop>(
+    session: &mut Session<'_, T, R, S, W, A>,
     opened: &mut Opened<D>,
     sector: u64,
     count: u64,
@@ -216,6 +220,7 @@ fn read_filled<D: Device + Drop, T, R: Source + Drop, S: Sink + Drop, W>(
     ensures input { session.new.input ≡ session.old.input }
     ensures reads { ReadsFilled S.Sink readonly sector count opened.old.mirror opened.new.mirror
         session.old.out session.new.out session.new.missing result }
+    ensures unasked { session.new.asker ≡ session.old.asker }
     ensures flushed { IfOk result (λ _. S.is_flushed session.new.out) }
 {
     let (alloc, mirror) = (session.alloc, &mut opened.mirror);
@@ -223,6 +228,30 @@ fn read_filled<D: Device + Drop, T, R: Source + Drop, S: Sink + Drop, W>(
     let (missing, done) = read_array_filled(alloc, mirror, sector, count, readonly, out);
     session.missing = missing;
     Ok(done?)
+}
+
+// Serves the array to a client. For which sectors it got zeros is noted, where it was to get them.
+fn serve<D: Device + Drop, T, R: Source + Drop, S: Sink + Drop, W, A: Drop>(
+    session: &mut Session<'_, T, R, S, W, A>,
+    opened: &mut Opened<D>,
+    fill: bool,
+) -> Result<(), CommandFault>
+    requires sound { IsConsistent opened.old.mirror }
+    ensures kept { (opened_view D.Device opened.new).beside ≡ (opened_view D.Device opened.old).beside }
+    ensures serves { PerformsServe R.Source S.Sink fill
+        (opened_view D.Device opened.old) (opened_view D.Device opened.new)
+        (streams_of session.old) (streams_of session.new) result }
+    ensures noted { fill ≡ false → session.new.missing ≡ session.old.missing }
+    ensures unasked { session.new.asker ≡ session.old.asker }
+    ensures flushed { IfOk result (λ _. S.is_flushed session.new.out) }
+{
+    let (alloc, mirror) = (session.alloc, &mut opened.mirror);
+    let (input, out) = (&mut session.input, &mut session.out);
+    let (missing, served) = serve_array(alloc, mirror, fill, input, out);
+    if fill {
+        session.missing = Some(missing);
+    }
+    Ok(served?)
 }
 
 // Compares the members in sync, and puts out in how many chunks two differ, or which these are.

@@ -3,7 +3,6 @@ ghost use Rattle.std.specs.Prelude.{◌≡◌, ◌≢◌, ◌⊎◌, [], IfOk, f
 ghost use Rattle.clap.specs.Words.{FailsBy};
 ghost use Rattle.md_words.specs.Parsing.{asked, image_words, words_fault};
 ghost use Rattle.md_words.specs.Asks.{ask_of, options_of};
-ghost use Rattle.md_messages.specs.Question.{asker_view};
 ghost use Rattle.md_messages.specs.Telling.{PutsTold, TellsNoticed, TellsRefusal, has_advice, refused_text, texts};
 ghost use Rattle.md_cli.specs.Running.{Obeys, DoesCommand, DoesNothing, MakesArray, status_of};
 ghost use Rattle.md_cli.specs.Streams.{audience_of, streams_of, told_of};
@@ -19,7 +18,8 @@ use md_examine::Sink;
 use md_examine_commands::examine_images;
 use md_images::Images;
 use md_messages::{
-    Asker, Audience, Messages, Notices, advise, put_missing_lines, put_refused, put_told,
+    Asker, Audience, Messages, Notices, advise, put_fault_line, put_missing_lines, put_refused,
+    put_told,
 };
 use md_words::{Command, CreateOptions, Request};
 use std::alloc::Global;
@@ -33,11 +33,11 @@ use std::thread::Threads;
 /// Out of memory in the parse is status 2 too, and no other cause is one where the words are taken. That a parse of such words
 /// fails only then is tested, since no clause can tell whether memory was there.
 ///
-/// The session's input is read by `write` alone. A refusal's line goes to `err`, as `mdcli: BadImage 0`, then for which
+/// The session's input is read by `write` and `serve` alone. A refusal's line goes to `err`, as `mdcli: BadImage 0`, then for which
 /// sectors zeros were put out, and with advice further lines; so does the parser's text. Of a command that is done it is
 /// told what was noticed (`Noticed.antt` in the specs of `md_messages`), in lines whose text and order are in `Telling.antt`
-/// beside it. Where one can't be written, nothing else changes. Of a refused one it is told last, where there is advice; no
-/// clause speaks of the fault's own text.
+/// beside it. Where one can't be written, nothing else changes. Of a refused one it is told last, where there is advice, of
+/// whose words no clause speaks. The fault's line is `refusal_line` (`FaultText/Commands.antt` there).
 ///
 /// The session's watch is told of a rebuild, by `rebuild` and `re-add`, and of a check, whose workers its `rt` starts. It is
 /// asked before a command overwrites what perhaps should stay; where the answer is not yes the command is refused.
@@ -47,10 +47,11 @@ pub fn run<
     T: Threads + Wait + Sync,
     R: Source + Drop,
     S: Sink + Drop,
-    W: Watch + Asker + Sync,
+    W: Watch + Sync,
+    A: Asker + Drop,
     E: Write + Sink,
 >(
-    session: &mut Session<'_, T, R, S, W>,
+    session: &mut Session<'_, T, R, S, W, A>,
     words: &'a [&'a str],
     parsed: Result<Request<'a>, Error>,
     images: &mut I,
@@ -65,8 +66,8 @@ pub fn run<
     ensures taken { words_fault (texts words.entry.now) ≡ [] →
         ((is_err parsed.entry ≡ true) × (result ≡ 2)
         × DoesNothing images.old images.new (streams_of session.old) (streams_of session.new))
-        ⊎ DoesCommand I.Images I.Dev.Device R.Source S.Sink (asker_view W.Asker session.old.watch.now)
-        (TellsNoticed E.Sink (audience_of W.Asker session.old messages) (asked (texts words.entry.now))
+        ⊎ DoesCommand I.Images I.Dev.Device R.Source S.Sink A.Asker
+        (TellsNoticed E.Sink (audience_of A.Asker session.old messages) (asked (texts words.entry.now))
         (image_words (texts words.entry.now)) (streams_of session.new).missing err.old err.new)
         (asked (texts words.entry.now)) (image_words (texts words.entry.now))
         images.old images.new (streams_of session.old) (streams_of session.new) result }
@@ -83,7 +84,7 @@ pub fn run<
     let mut notices = Notices::none();
     let audience = Audience {
         messages,
-        was_shown: session.watch.is_told_first(),
+        was_shown: session.asker.is_told_first(),
     };
     let outcome = act(session, request.command, images, names, &mut notices);
     let missing = &session.missing;
@@ -104,15 +105,16 @@ fn act<
     T: Threads + Wait + Sync,
     R: Source + Drop,
     S: Sink + Drop,
-    W: Watch + Asker + Sync,
+    W: Watch + Sync,
+    A: Asker + Drop,
 >(
-    session: &mut Session<'_, T, R, S, W>,
+    session: &mut Session<'_, T, R, S, W, A>,
     command: Command<'_>,
     images: &mut I,
     names: &[&str],
     notices: &mut Notices,
 ) -> Result<(), CommandFault>
-    ensures gives { Obeys I.Images I.Dev.Device R.Source S.Sink (asker_view W.Asker session.old.watch.now)
+    ensures gives { Obeys I.Images I.Dev.Device R.Source S.Sink A.Asker
         (ask_of command.entry) (texts names.now)
         images.old images.new (told_of session.old notices.old) (told_of session.new notices.new) result }
     ensures flushed { IfOk result (λ _. S.is_flushed session.new.out) }
@@ -140,14 +142,14 @@ fn act<
 }
 
 // Makes an array. No image is touched before the options are accepted.
-fn create_array<I: Images, T, R: Source + Drop, S: Sink + Drop, W: Asker>(
-    session: &mut Session<'_, T, R, S, W>,
+fn create_array<I: Images, T, R: Source + Drop, S: Sink + Drop, W, A: Asker + Drop>(
+    session: &mut Session<'_, T, R, S, W, A>,
     options: CreateOptions<'_>,
     images: &mut I,
     names: &[&str],
     notices: &mut Notices,
 ) -> Result<(), CommandFault>
-    ensures gives { MakesArray I.Images I.Dev.Device S.Sink (asker_view W.Asker session.old.watch.now)
+    ensures gives { MakesArray I.Images I.Dev.Device S.Sink A.Asker
         (options_of options.entry) (texts names.now)
         images.old images.new (told_of session.old notices.old) (told_of session.new notices.new) result }
     ensures flushed { IfOk result (λ _. S.is_flushed session.new.out) }
@@ -199,9 +201,9 @@ fn tell_refusal<E: Write + Sink>(
     err: &mut E,
 )
     ensures { TellsRefusal E.Sink audience (ask_of command.entry) (texts names.now) missing.now
-        err.new fault.now notices.now }
+        err.old err.new fault.now notices.now }
 {
-    let _ = writeln!(err, "mdcli: {fault}");
+    let _ = put_fault_line(err, fault);
     let _ = put_missing_lines(err, command, missing);
     tell_more(fault, command, names, notices, audience, err);
 }

@@ -3,14 +3,15 @@ use md_badblocks::BadSet;
 use std::alloc::Global;
 
 /// What each command is given of the machine that it runs on: what starts threads, the memory, the input, the output,
-/// and who is told of a rebuild or a check. And, of a read that was to put out zeros for sectors that are not given, and
-/// has put out all, which sectors these are.
+/// who is told of a rebuild or a check, and who is asked. And, of a read that was to put out zeros for sectors that are not
+/// given, and has put out all, which sectors these are.
 #[derive(Drop)]
-pub struct Session<'a, T, R: Drop, S: Drop, W> {
+pub struct Session<'a, T, R: Drop, S: Drop, W, A: Drop> {
     pub rt: &'a T,
     pub alloc: Global,
     pub input: R,
     pub out: S,
     pub watch: &'a W,
+    pub asker: A,
     pub missing: Option<BadSet>,
 }

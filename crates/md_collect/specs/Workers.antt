@@ -4,3 +4,5 @@ pub mod Tally
 pub mod Batches
 -- A queue: a source, and the chunks that it reads one after another.
 pub mod Queues
+-- What a gate is told of reads.
+pub mod Gates

@@ -30,7 +30,7 @@ use Rattle.md_members.specs.DeviceWrites.Writes.{Write as DiskWrite}
 use Rattle.md_laws.specs.ReadInTurn.{LeadsReading}
 use Rattle.md_metadata.specs.declared.stop_fault.StopFault.{StopFault}
 use Rattle.md_metadata.specs.declared.stop_fault.StopFault.TheVariants as stop
-use Rattle.md_metadata.specs.Going.{LeadsBy}
+use Rattle.md_metadata.specs.Going.{GoesOn, LeadsBy, only_others}
 use Rattle.md_metadata.specs.Stopping.{IsStopping, RefusesStop, StopsMirror}
 use Rattle.md_check.specs.declared.fault.CheckFault.{CheckFault}
 use Rattle.md_check.specs.declared.fault.CheckFault.TheVariants as check
@@ -38,7 +38,8 @@ use Rattle.md_check.specs.Checking.{RefusesCheck}
 use Rattle.md_check.specs.declared.found.Comparison.{Comparison}
 use Rattle.md_resync.specs.declared.fault.ResyncFault.{ResyncFault}
 use Rattle.md_resync.specs.declared.fault.ResyncFault.TheVariants as resync
-use Rattle.md_resync.specs.Resyncing.{ResyncGoesOn, GoesUnresynced, IsOfResync, RefusesResync, Resyncs}
+use Rattle.md_resync.specs.Resyncing.{GoesUnresynced, HaltsResync, IsOfResync, LosesMember, ReadingFails, RefusesResync, ResyncGoesOn, Resyncs, ResyncsTold}
+use Rattle.md_resync.specs.Telling.{AfterTelling, IsTelling}
 use Rattle.md_write.specs.Progress.{IsOfRequest}
 use Rattle.md_write.specs.Writing.{RefusesWrite, Writes, events_of_write}
 use Rattle.md_examine.specs.declared.sink.Sink.{Ghosts as SinkGhosts}
@@ -148,6 +149,9 @@ stopping_keeps = record { removes = λ k of. of; adds = λ d left of. of; re_add
 resync_keeps : KeepsMembers IsOfResync
 resync_keeps = record { removes = λ k of. of; adds = λ d left of. of; re_adds = λ own offset device left of. of; enrols = λ k role listed of. of }
 
+telling_keeps : KeepsMembers IsTelling
+telling_keeps = record { removes = λ k of. of; adds = λ d left of. of; re_adds = λ own offset device left of. of; enrols = λ k role listed of. of }
+
 request_keeps : (chunks : Chunks) (p : PendingView) → KeepsMembers (IsOfRequest chunks p)
 request_keeps chunks p = record { removes = λ k of. of; adds = λ d left of. of; re_adds = λ own offset device left of. of; enrols = λ k role listed of. of }
 
@@ -183,16 +187,30 @@ not_stopped (stop.InFlight n) old new h = refused old new _ h
 not_stopped stop.EventsFull old new h = refused old new _ h
 not_stopped (stop.MemberFailed k) old new h = led_by IsStopping stopping_keeps old new h.goes
 
+by_telling : (old new : MirrorView) → GoesOn only_others only_others IsTelling old new → AsMany old new
+by_telling old new g = led IsTelling telling_keeps g.events None old new nothing nothing g.steps (g.leads None nothing (none_in_flight old.array))
+
+after_telling : (Then : MirrorView → MirrorView → Type 0) (old new : MirrorView) → ((told : MirrorView) → Then told new → AsMany told new) → AfterTelling Then old new → AsMany old new
+after_telling Then old new by h = by h.told h.then ∙ by_telling old h.told h.tells.goes
+
 resynced : (old new : MirrorView) → Resyncs old new → AsMany old new
-resynced old new r = gone_on old new r.goes
+resynced old new = after_telling ResyncsTold old new (λ told r. gone_on told new r.goes)
 
 not_resynced : (fault : ResyncFault) (old new : MirrorView) → RefusesResync old new fault → AsMany old new
 not_resynced resync.Halted old new h =
-    ⊎_elim (λ r. refused old new _ r) (λ r. halts r.failing r.mid new nothing (r.halts nothing) ∙ gone_on old r.mid r.goes) h
+    ⊎_elim (λ r. refused old new _ r)
+    (⊎_elim
+    (λ r. halts r.halts.halts.failing r.halts.halts.mid new nothing (r.halts.halts.halts nothing) ∙ by_telling old r.halts.halts.mid r.halts.halts.goes)
+    (after_telling HaltsResync old new (λ told r. halts r.failing r.mid new nothing (r.halts nothing) ∙ gone_on told r.mid r.goes)))
+    h
 not_resynced (resync.InFlight n) old new h = refused old new _ h
 not_resynced resync.NoMemory old new h = gone_unresynced old new h.goes
-not_resynced (resync.ReadFault k c) old new h = gone_unresynced old new h.stops.goes
-not_resynced (resync.MemberFailed k) old new h = gone_unresynced old new h.stops.goes
+not_resynced (resync.ReadFault k c) old new h = after_telling (ReadingFails k c) old new (λ told r. gone_unresynced told new r.stops.goes) h
+not_resynced (resync.MemberFailed k) old new h =
+    ⊎_elim
+    (λ r. ap length r.unresyncs.marks.disks ∙ by_telling old r.lost r.loses.loses.goes)
+    (after_telling (LosesMember k) old new (λ told r. gone_unresynced told new r.stops.goes))
+    h
 
 wrote : (sector : ℕ) (bytes : List ℕ) (old new : MirrorView) → Writes sector bytes old new → AsMany old new
 wrote sector bytes old new w =

@@ -1,5 +1,7 @@
 pub mod Checked
 pub mod DeviceCounts
+pub mod InputRead
+pub mod Lacked
 pub mod Listed
 pub mod Planned
 pub mod RebuildCounts

@@ -89,7 +89,7 @@ between k m before old new Why after e =
 
 broken_pass : (fault : RebuildFault) (k : ℕ) (m : MemberView) (slots : List Slot) (before after : Bitmap) (old new : MirrorView)
     → BreaksPass k m slots before after old new fault → AsMany old new
-broken_pass rebuild.NoMemory k m slots before after old new h = h.filling.as_many
+broken_pass rebuild.NoMemory k m slots before after old new h = h.copies.filling.as_many
 broken_pass rebuild.TargetFault k m slots before after old new h = h.filling.as_many
 broken_pass fault k m slots before after old new h = absurd h
 

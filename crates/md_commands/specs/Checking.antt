@@ -1,13 +1,18 @@
 -- The command that compares the members in sync.
-use Rattle.std.specs.Prelude.{◌≡◌, ℕ, true, List}
+use Rattle.std.specs.Prelude.{◌≡◌, ◌*◌, ◌-◌, ◌^◌, ℕ, true, List, min}
 use Rattle.md_check.specs.Checking.{Checks, ComparesMembers, RefusesCheck}
 use Rattle.md_check.specs.declared.found.Comparison.{Comparison}
 use Rattle.md_examine.specs.declared.sink.Sink.{Ghosts}
 use Rattle.md_report.specs.CheckReport.{check_text}
-use Rattle.md_state.specs.View.{MirrorView}
+use Rattle.md_report.specs.SummaryReport.{in_sync_members}
+use Rattle.md_state.specs.View.{ArrayView, MirrorView}
 use Rattle.md_commands.specs.declared.fault.CommandFault.{CommandFault}
 use Rattle.md_commands.specs.declared.fault.CommandFault.TheVariants.{Check, OutputFault}
 use Rattle.md_commands.specs.Output.{PutsOut}
+
+-- how many sectors of the array those in sync have in all, or the most that a u64 tells
+abbrev pub sectors_to_read : ArrayView → ℕ
+sectors_to_read a = min (in_sync_members a * a.chunks.size) (2 ^ 64 - 1)
 
 module _ {S : Type 0} (s : Ghosts S) where
   -- they are compared, and in how many chunks two of them differ is shown

@@ -1,6 +1,6 @@
 -- The input of a write is read.
 use Rattle.std.specs.Prelude.{◌≡◌, ◌≢◌, ℕ, ◌+◌, ◌*◌, ◌%◌, ◌<◌, ◌≤◌, true, List, ◌++◌, length}
-use Rattle.std.specs.Io.KnownBytes.{IsAtEnd}
+use Rattle.std.specs.Io.KnownBytes.{Consumes, IsAtEnd}
 use Rattle.md_commands.specs.declared.source.Source.{Ghosts}
 use Rattle.md_commands.specs.declared.fault.CommandFault.{CommandFault}
 use Rattle.md_commands.specs.declared.fault.CommandFault.TheVariants.{BadLength, InputFault, NoPieceMemory, OutOfRange}
@@ -43,16 +43,35 @@ module _ {I : Type 0} (i : Ghosts I) where
     pub few : length bytes ≤ 512 * size
     pub uneven : length bytes % 512 ≢ 0
 
-  -- It failed, or there was no memory. That memory was short is not said.
-  abbrev pub ReadingInputFails : I → CommandFault → Type 0
-  ReadingInputFails new InputFault = i.failed new ≡ true
-  ReadingInputFails new NoPieceMemory = Unit {0}
-  ReadingInputFails new fault = ⊥
+  -- Bytes came, so many at most, and then a call failed that took none.
+  pub record FailsAfter (most : ℕ) (old new : I) : Type 0 where
+    pub bytes : List ℕ
+    pub few : length bytes ≤ most
+    pub taken : Consumes (i.remaining old) (i.remaining new) bytes
+    pub has_failed : i.failed new ≡ true
+
+  -- Bytes came, so many at most, and no call failed: there was no memory for them. That memory was short is not said.
+  pub record LacksMemoryFor (most : ℕ) (old new : I) : Type 0 where
+    pub bytes : List ℕ
+    pub few : length bytes ≤ most
+    pub gives : Gives i.remaining i.failed old new bytes
+
+  -- an input for an array of so many sectors is not read
+  abbrev pub ReadingInputFails : ℕ → I → I → CommandFault → Type 0
+  ReadingInputFails size old new InputFault = FailsAfter (512 * size) old new
+  ReadingInputFails size old new NoPieceMemory = LacksMemoryFor (512 * size + 1) old new
+  ReadingInputFails size old new fault = ⊥
+
+  -- a piece of so many bytes is not
+  abbrev pub AppendingFails : ℕ → I → I → CommandFault → Type 0
+  AppendingFails room old new InputFault = FailsAfter 0 old new
+  AppendingFails room old new NoPieceMemory = LacksMemoryFor room old new
+  AppendingFails room old new fault = ⊥
 
   abbrev pub RefusesInput : ℕ → I → I → CommandFault → Type 0
   RefusesInput size old new OutOfRange = IsTooLong size old new
   RefusesInput size old new BadLength = IsUneven size old new
-  RefusesInput size old new fault = ReadingInputFails new fault
+  RefusesInput size old new fault = ReadingInputFails size old new fault
 
   -- a piece of so many bytes was taken, and appended to those before it
   pub record AppendsPiece (room : ℕ) (old new : I) (was bytes : List ℕ) (n : ℕ) : Type 0 where

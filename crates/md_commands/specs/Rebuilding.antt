@@ -1,18 +1,29 @@
 -- The command that rebuilds a member.
-use Rattle.std.specs.Prelude.{◌≡◌, ℕ, true, length}
+use Rattle.std.specs.Prelude.{◌≡◌, ℕ, Option, true, length, slice_get}
 use Rattle.md_rebuild_table.specs.declared.fault.RebuildFault.{RebuildFault}
 use Rattle.md_copy.specs.declared.rebuilt.Rebuilt.{Rebuilt}
 use Rattle.md_copy.specs.Rebuilding.{Rebuilds, RefusesRebuild}
 use Rattle.md_examine.specs.declared.sink.Sink.{Ghosts}
 use Rattle.md_report.specs.RebuiltReport.{rebuilt_text}
 use Rattle.md_state.specs.Trying.{Refuses}
-use Rattle.md_state.specs.View.{MirrorView}
+use Rattle.md_state.specs.View.{ArrayView, MirrorView}
+use Rattle.md_kept_members.specs.View.{MemberView}
+use Rattle.md_rebuild_table.specs.Sources.{missing_chunks}
 use Rattle.md_commands.specs.declared.fault.CommandFault.{CommandFault}
 use Rattle.md_commands.specs.declared.fault.CommandFault.TheVariants.{BadMember, OutputFault, Rebuild, Resync, Stop}
 use Rattle.md_commands.specs.Failing.{HasMember, LacksMember}
 use Rattle.md_commands.specs.Output.{PutsOut}
 use Rattle.md_commands.specs.Resyncing.{RefusesNeededResync, ResyncsIfNeeded}
 use Rattle.md_commands.specs.Stopping.{FailsToStop, StopsAfter}
+
+-- how many chunks the member lacks, and the first of them
+pub record IsToRebuild (a : ArrayView) (m : MemberView) (chunks : ℕ) (first : Option ℕ) : Type 0 where
+  pub count : chunks ≡ length (missing_chunks a m)
+  pub first_is : first ≡ slice_get (missing_chunks a m) 0
+
+-- a watch is told of these totals
+abbrev pub IsToldOfTotals : {W : Type 0} → (W → ℕ → Option ℕ → Type 0) → W → ArrayView → MemberView → Type 0
+IsToldOfTotals lacks watch a m = lacks watch (length (missing_chunks a m)) (slice_get (missing_chunks a m) 0)
 
 -- the array is resynced where it has to be, and then member k is rebuilt, and this is told of it
 pub record RebuildsResynced (k : ℕ) (told : Rebuilt) (old new : MirrorView) : Type 0 where

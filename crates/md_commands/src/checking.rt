@@ -1,11 +1,11 @@
 // The command that compares the members in sync.
-ghost use Rattle.std.specs.Prelude.{MatchResult};
+ghost use Rattle.std.specs.Prelude.{◌≡◌, MatchResult};
 ghost use Rattle.md_inflight.specs.Requests.Pending.{PendingView};
 ghost use Rattle.md_state.specs.Requests.{IsPending};
 ghost use Rattle.md_array.specs.Consistency.{IsConsistent};
 ghost use Rattle.md_report.specs.AsJson.MemberObjects.{texts_of};
 ghost use Rattle.md_report.specs.CheckReport.{list_text};
-ghost use Rattle.md_commands.specs.Checking.{ChecksMembers, ListsMismatches, RefusesToCheck, RefusesToList};
+ghost use Rattle.md_commands.specs.Checking.{ChecksMembers, ListsMismatches, RefusesToCheck, RefusesToList, sectors_to_read};
 ghost use Rattle.md_commands.specs.Objects.{checked_line};
 
 use crate::fault::CommandFault;
@@ -16,6 +16,7 @@ use md_array::Mirror;
 use md_check::{check_array, compare_members};
 use md_device::Device;
 use md_examine::Sink;
+use md_report::members_in_sync;
 use std::alloc::Global;
 use std::thread::Threads;
 
@@ -36,6 +37,7 @@ pub fn check_members<D: Device + Drop + Send, W: Watch + Sync, S: Sink, T: Threa
     ensures gives { MatchResult result
         (λ _. ChecksMembers S.Sink mirror.old mirror.new out.old out.new)
         (RefusesToCheck S.Sink mirror.old mirror.new out.old out.new) }
+    ensures told { W.compares watch.now (sectors_to_read mirror.old.array) }
     ensures sound { IsConsistent mirror.new }
     ensures pending { (p : PendingView) → IsPending mirror.old.array p → IsPending mirror.new.array p }
 {
@@ -57,6 +59,7 @@ pub fn list_mismatches<D: Device + Drop + Send, W: Watch + Sync, S: Sink, T: Thr
         (λ _. ListsMismatches S.Sink (list_text mirror.old.array.chunks)
         mirror.old mirror.new out.old out.new)
         (RefusesToList S.Sink mirror.old mirror.new out.old out.new) }
+    ensures told { W.compares watch.now (sectors_to_read mirror.old.array) }
     ensures sound { IsConsistent mirror.new }
     ensures pending { (p : PendingView) → IsPending mirror.old.array p → IsPending mirror.new.array p }
 {
@@ -80,6 +83,7 @@ pub fn check_members_json<D: Device + Drop + Send, W: Watch + Sync, S: Sink, T: 
         (λ _. ListsMismatches S.Sink (checked_line mirror.old.array (texts_of images.now))
         mirror.old mirror.new out.old out.new)
         (RefusesToList S.Sink mirror.old mirror.new out.old out.new) }
+    ensures told { W.compares watch.now (sectors_to_read mirror.old.array) }
     ensures sound { IsConsistent mirror.new }
     ensures pending { (p : PendingView) → IsPending mirror.old.array p → IsPending mirror.new.array p }
 {
@@ -89,12 +93,9 @@ pub fn check_members_json<D: Device + Drop + Send, W: Watch + Sync, S: Sink, T: 
 }
 
 // How many sectors a check reads where none is listed as bad: those of the array, on each member in sync.
-fn sectors_to_read<D: Device + Drop>(mirror: &Mirror<D>) -> u64 {
-    let mut sectors: u64 = 0;
-    for k in 0..mirror.members() {
-        if mirror.state(k).is_in_sync() {
-            sectors = sectors.saturating_add(mirror.chunks().size);
-        }
-    }
-    sectors
+fn sectors_to_read<D: Device + Drop>(mirror: &Mirror<D>) -> u64
+    ensures { result ≡ sectors_to_read mirror.now.array }
+{
+    let members = members_in_sync(mirror) as u64;
+    members.saturating_mul(mirror.chunks().size)
 }

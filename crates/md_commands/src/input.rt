@@ -1,6 +1,6 @@
 // The input of a write.
 ghost use Rattle.std.specs.Prelude.{◌≡◌, ◌+◌, ◌*◌, ◌-◌, ◌<◌, ◌≤◌, ◌++◌, MatchResult, length};
-ghost use Rattle.md_commands.specs.ReadingInput.{AppendsPiece, HasGoodLength, IsInput, ReadingInputFails, RefusesInput, RefusesLength, TakesUpTo};
+ghost use Rattle.md_commands.specs.ReadingInput.{AppendingFails, AppendsPiece, HasGoodLength, IsInput, ReadingInputFails, RefusesInput, RefusesLength, TakesUpTo};
 
 use crate::fault::CommandFault;
 use crate::source::Source;
@@ -28,7 +28,7 @@ pub(crate) fn whole_input<I: Source>(
 fn read_input<I: Source>(alloc: Global, input: &mut I, size: u64) -> Result<Vec<u8>, CommandFault>
     ensures { MatchResult result
         (λ bytes. TakesUpTo I.Source (512 * size + 1) input.old input.new bytes.items)
-        (ReadingInputFails I.Source input.new) }
+        (ReadingInputFails I.Source size input.old input.new) }
 {
     let mut piece = vec![in alloc; 0; PIECE_BYTES]?;
     read_pieces(alloc, input, size, &mut piece)
@@ -45,7 +45,7 @@ fn read_pieces<I: Source>(
     requires some { 0 < length piece.old }
     ensures { MatchResult result
         (λ bytes. TakesUpTo I.Source (512 * size + 1) input.old input.new bytes.items)
-        (ReadingInputFails I.Source input.new) }
+        (ReadingInputFails I.Source size input.old input.new) }
 {
     let mut bytes = Vec::new(alloc);
     loop {
@@ -75,7 +75,7 @@ fn append_piece<I: Source>(
 ) -> Result<usize, CommandFault>
     ensures { MatchResult result
         (AppendsPiece I.Source (length piece.old) input.old input.new bytes.old.items bytes.new.items)
-        (ReadingInputFails I.Source input.new) }
+        (AppendingFails I.Source (length piece.old) input.old input.new) }
 {
     let taken = input.take(piece)?;
     bytes.extend_from_slice(&piece[..taken])?;

@@ -1,10 +1,12 @@
 // The command that rebuilds a member.
 ghost use Rattle.std.specs.Prelude.{◌≡◌, ◌<◌, MatchResult, length};
+ghost use Rattle.md_kept_members.specs.View.{MemberView};
 ghost use Rattle.md_inflight.specs.Requests.Pending.{PendingView};
+ghost use Rattle.md_state.specs.Members.{IsMember};
 ghost use Rattle.md_state.specs.Requests.{IsPending};
 ghost use Rattle.md_array.specs.Consistency.{IsConsistent};
 ghost use Rattle.md_copy.specs.Rebuilding.{Rebuilds, RefusesRebuild};
-ghost use Rattle.md_commands.specs.Rebuilding.{RebuildsArray, RebuildsResynced, RefusesReadied, RefusesToRebuild};
+ghost use Rattle.md_commands.specs.Rebuilding.{IsToRebuild, IsToldOfTotals, RebuildsArray, RebuildsResynced, RefusesReadied, RefusesToRebuild};
 ghost use Rattle.md_commands.specs.Stopping.{StopsAfter};
 
 use crate::fault::CommandFault;
@@ -72,8 +74,7 @@ fn rebuild_and_stop<D: Device + Drop + Send, W: Watch + Sync, T: Threads + Wait 
     Ok(rebuilt)
 }
 
-/// Rebuilds member k. `watch` is told how many chunks it lacks and which is the first, where there is memory to
-/// say so, and of each read.
+/// Rebuilds member k. `watch` is told how many chunks it lacks and which is the first, and of each read.
 pub(crate) fn rebuild_watched<D: Device + Drop + Send, W: Watch + Sync, T: Threads + Wait + Sync>(
     rt: &T,
     alloc: Global,
@@ -86,11 +87,30 @@ pub(crate) fn rebuild_watched<D: Device + Drop + Send, W: Watch + Sync, T: Threa
     ensures gives { MatchResult result
         (λ rebuilt. Rebuilds k rebuilt mirror.old mirror.new)
         (RefusesRebuild k mirror.old mirror.new) }
+    ensures begins { (m : MemberView) → IsMember mirror.old.array k m
+        → IsToldOfTotals W.lacks watch.now mirror.old.array m }
     ensures sound { IsConsistent mirror.new }
     ensures pending { (p : PendingView) → IsPending mirror.old.array p → IsPending mirror.new.array p }
 {
-    if let Ok(missing) = mirror.missing(alloc, k) {
-        watch.begins(missing.count(), missing.next_marked(0));
-    }
+    let lacked = chunks_lacked(mirror, k);
+    watch.begins(lacked.0, lacked.1);
     rebuild(rt, alloc, mirror, k, watch)
+}
+
+// How many chunks member k lacks, and the first of them. It takes no memory.
+fn chunks_lacked<D: Device + Drop>(mirror: &Mirror<D>, k: usize) -> (u32, Option<u32>)
+    requires member { k < length mirror.now.array.members }
+    requires sound { IsConsistent mirror.now }
+    ensures { (m : MemberView) → IsMember mirror.now.array k m
+        → IsToRebuild mirror.now.array m result.0 result.1 }
+{
+    let mut count = 0;
+    let mut first = None;
+    for chunk in 0..mirror.chunks().count() {
+        if mirror.is_missing(k, chunk) {
+            count += 1;
+            first = first.or(Some(chunk));
+        }
+    }
+    (count, first)
 }

@@ -22,8 +22,8 @@ pub trait Source {
     /// How many bytes are still to come, where that is told before any is read.
     ghost told: { Self → Option ℕ };
 
-    /// Fills the front of `buf` with the next bytes, and answers how many they are, or fails. No byte comes
-    /// only at the end of the source, or where `buf` is empty.
+    /// Fills the front of `buf` with the next bytes, and answers how many they are, or fails and takes none. No
+    /// byte comes only at the end of the source, or where `buf` is empty.
     fn take(&mut self, buf: &mut [u8]) -> Result<usize, SourceFault>
         ensures gives { GivesOrFails remaining failed self.old self.new buf.new result }
         ensures untold { told self.new ≡ None };

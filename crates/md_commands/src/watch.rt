@@ -1,14 +1,25 @@
 // What is told of a rebuild and of a check.
+ghost use Rattle.std.specs.Prelude.{ℕ, Option};
+
 use md_copy::Gate;
 
 /// Is told of a rebuild, or of a check, so that its progress can be shown: what it has to do, and as a gate of
 /// each read.
 pub trait Watch: Gate {
+    /// It was told that the member which is rebuilt lacks so many chunks, of which this is the first. Only `begins` says
+    /// it, so that a call of which a contract says it has told the watch.
+    ghost lacks: { Self → ℕ → Option ℕ → Type 0 };
+
+    /// It was told that the members which are compared have so many sectors in all. Only `begins_check` says it.
+    ghost compares: { Self → ℕ → Type 0 };
+
     /// The member that is rebuilt lacks so many chunks, of which this is the first. Not each of them need be
     /// read: some may be on no other member. One that can't be read on a member may be read again from another.
-    fn begins(&self, chunks: u32, first: Option<u32>);
+    fn begins(&self, chunks: u32, first: Option<u32>)
+        ensures { lacks self.now chunks first };
 
     /// The members in sync that are compared have so many sectors of the array in all. Not each of them need be
     /// read: some may be listed as bad, and a single member is not read.
-    fn begins_check(&self, sectors: u64);
+    fn begins_check(&self, sectors: u64)
+        ensures { compares self.now sectors };
 }

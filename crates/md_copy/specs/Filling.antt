@@ -1,15 +1,19 @@
 -- The target gets chunks, each from a member that serves it. No other device is written.
-use Rattle.std.specs.Prelude.{◌≡◌, ◌≢◌, ℕ, ◌+◌, ◌≤◌, true, List, length, count_by, slice_get, Some, All, Contains}
+use Rattle.std.specs.Prelude.{◌≡◌, ◌≢◌, ℕ, ◌+◌, ◌≤◌, true, false, List, length, count_by, slice_get, Some, All, Contains}
 use Rattle.md_bitmap.specs.Marks.{Bitmap, is_set}
+use Rattle.md_bitmap.specs.declared.chunks.Chunks.{Chunks}
 use Rattle.md_cert.specs.declared.slots.Slot.{Slot}
 use Rattle.md_collect.specs.Places.{chunk_on}
-use Rattle.md_collect.specs.Reading.{CountsFailure, FailsInChunk}
+use Rattle.md_collect.specs.Reading.{CountsFailure, FailsInChunk, IsReadOfChunk}
+use Rattle.md_collect.specs.Reports.{is_planned}
+use Rattle.md_device.specs.declared.fault_list.Fault.{Fault}
+use Rattle.md_device.specs.Failing.{EachNewFault}
 use Rattle.md_assembly.specs.States.{is_in_sync_as}
 use Rattle.md_kept_members.specs.View.{MemberView}
 use Rattle.md_pass.specs.Beside.{KeepsBeside, SameBesideCopied}
 use Rattle.md_pass.specs.Copied.{AreJoined, failed_slots}
 use Rattle.md_collect.specs.Workers.Queues.{OnlyRead}
-use Rattle.md_pass.specs.Readings.{is_of}
+use Rattle.md_pass.specs.Readings.{has_slot, is_of}
 use Rattle.md_pass.specs.Sources.{copy_of}
 use Rattle.md_state.specs.DiskWrites.{AtDevice}
 use Rattle.md_state.specs.Members.{IsMember}
@@ -57,20 +61,41 @@ HaveFailedThere failed old new =
     (slot : Slot) → Contains failed slot → (k : ℕ) (m : MemberView) → IsMember old.array k m → is_in_sync_as slot.source m.state ≡ true
     → AtDevice k old.disks new.disks (λ d e. FailsInChunk of_disks d e m.superblock.data_offset old.array.chunks slot.chunk)
 
+-- a read of nothing but bytes of the chunk of a slot in this role, which was not copied, on a member whose data start at this sector
+pub record IsOfUncopiedSlot (slots : List Slot) (after : Bitmap) (chunks : Chunks) (role offset : ℕ) (f : Fault) : Type 0 where
+  pub chunk : ℕ
+  pub planned : is_planned slots chunk role ≡ true
+  pub uncopied : is_set after.bytes chunk ≡ false
+  pub there : IsReadOfChunk offset chunks chunk f
+
+-- Of the device of a member in sync in a role that has a slot, no call failed but such reads.
+abbrev pub HaveFailedOnlyThere : List Slot → Bitmap → MirrorView → MirrorView → Type 0
+HaveFailedOnlyThere slots after old new =
+    (k role : ℕ) (m : MemberView) → IsMember old.array k m → is_in_sync_as role m.state ≡ true → has_slot slots role ≡ true
+    → AtDevice k old.disks new.disks (λ d e. EachNewFault d.faults e.faults (IsOfUncopiedSlot slots after old.array.chunks role m.superblock.data_offset))
+
 -- All slots were read. Those failed whose chunk was not copied, so many, and the devices have counted them: in each a read failed.
 pub record FillsPass (target : ℕ) (m : MemberView) (slots : List Slot) (before after : Bitmap) (old new : MirrorView) (failed : ℕ) : Type 0 where
   pub copies : CopiesChunks target m slots before after old new
   pub failed_are : failed ≡ length (failed_slots slots after)
   pub counted : CountsFailed (failed_slots slots after) old new
   pub there : HaveFailedThere (failed_slots slots after) old new
+  pub only : HaveFailedOnlyThere slots after old new
 
 -- A write to the target failed. Of what was copied nothing is said.
 pub record FailsOnWrite (target : ℕ) (m : MemberView) (slots : List Slot) (old new : MirrorView) : Type 0 where
   pub filling : IsFilling target m slots old new
   pub failed : AtDevice target old.disks new.disks (CountsFailure of_disks)
 
+-- Memory was refused. Of the plan as much was copied as it came to. No call of the target's device failed, nor any of a source's but reads of
+-- chunks that were not copied.
+pub record LacksMemoryToFill (target : ℕ) (m : MemberView) (slots : List Slot) (before after : Bitmap) (old new : MirrorView) : Type 0 where
+  pub copies : CopiesChunks target m slots before after old new
+  pub unfailing : AtDevice target old.disks new.disks (λ d e. e.faults ≡ d.faults)
+  pub only : HaveFailedOnlyThere slots after old new
+
 -- why not all slots were: memory was refused, or the target could not be written
 abbrev pub BreaksPass : ℕ → MemberView → List Slot → Bitmap → Bitmap → MirrorView → MirrorView → RebuildFault → Type 0
-BreaksPass target m slots before after old new NoMemory = CopiesChunks target m slots before after old new
+BreaksPass target m slots before after old new NoMemory = LacksMemoryToFill target m slots before after old new
 BreaksPass target m slots before after old new TargetFault = FailsOnWrite target m slots old new
 BreaksPass target m slots before after old new fault = ⊥

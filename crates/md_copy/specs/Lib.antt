@@ -30,3 +30,5 @@ pub mod Refused
 pub mod RebuildEvents
 -- The passes of a rebuild, as plans one after another.
 pub mod PassLaws
+-- What a gate is told of a rebuild.
+pub mod Told

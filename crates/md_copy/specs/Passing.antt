@@ -17,7 +17,7 @@ use Rattle.md_rebuild_table.specs.declared.fault.RebuildFault.{RebuildFault}
 use Rattle.md_rebuild_table.specs.declared.fault.RebuildFault.TheVariants.{LogFull, MetadataFault, NoMemory, TargetFault}
 use Rattle.md_rebuild_table.specs.Sources.{HasSources, IsTableIn, missing_chunks}
 use Rattle.md_copy.specs.declared.passes.Passed.{Passed}
-use Rattle.md_copy.specs.Filling.{BreaksPass, CopiesChunks, CountsFailed, HaveFailedThere}
+use Rattle.md_copy.specs.Filling.{BreaksPass, CopiesChunks, CountsFailed, HaveFailedOnlyThere, HaveFailedThere}
 use Rattle.md_copy.specs.Held.{AreHeld}
 use Rattle.md_copy.specs.Listing.{ListsAll, EndsListing}
 use Rattle.md_copy.specs.Preparing.{IsNoMemory}
@@ -33,6 +33,7 @@ pub record MakesPass (target : ℕ) (chunks : List ℕ) (p : PassView) (before a
   pub failed : IsFailedOf p after
   pub counted : CountsFailed p.failed old new
   pub there : HaveFailedThere p.failed old new
+  pub only : HaveFailedOnlyThere (slots_of_pass p) after old new
   pub sound : IsConsistent new
 
 -- A pass is made, and how far the target is rebuilt by it is recorded on the target.

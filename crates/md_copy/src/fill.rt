@@ -1,5 +1,5 @@
 // The target gets chunks.
-ghost use Rattle.std.specs.Prelude.{◌≡◌, ◌<◌, MatchResult, length, true};
+ghost use Rattle.std.specs.Prelude.{◌≡◌, ◌<◌, MatchResult, OnOk, length, true};
 ghost use Rattle.std.specs.Int.{div_ceil};
 ghost use Rattle.md_kept_members.specs.View.{MemberView};
 ghost use Rattle.md_pass.specs.Copied.{AreUncopied, OnFault};
@@ -7,8 +7,9 @@ ghost use Rattle.md_state.specs.Steps.MakeClean.{IsIdle};
 ghost use Rattle.md_state.specs.Members.{IsMember};
 ghost use Rattle.md_state.specs.Missing.{is_rebuilt};
 ghost use Rattle.md_array.specs.Consistency.{IsConsistent};
-ghost use Rattle.md_copy.specs.Filling.{BreaksPass, CopiesChunks, FailsOnWrite, FillsPass};
+ghost use Rattle.md_copy.specs.Filling.{BreaksPass, FailsOnWrite, FillsPass, LacksMemoryToFill};
 ghost use Rattle.md_copy.specs.RebuildSources.{AreSources, IsPlanOf};
+ghost use Rattle.md_copy.specs.Told.{IsToldOfSlots};
 
 use crate::one_pass::copy_beside;
 use md_array::Mirror;
@@ -45,6 +46,7 @@ pub(crate) fn fill<D: Device + Drop + Send, G: Gate + Sync, R: Threads + Wait + 
     ensures gives { (m : MemberView) → IsMember mirror.old.array target m → MatchResult result
         (FillsPass target m plan.now.slots copied.old copied.new mirror.old mirror.new)
         (BreaksPass target m plan.now.slots copied.old copied.new mirror.old mirror.new) }
+    ensures told { OnOk result (IsToldOfSlots G.Gate gate.now plan.now.slots) }
     ensures sound { IsConsistent mirror.new }
 {
     let result = fill_devices(rt, alloc, mirror, target, gate, plan, sources, copied);
@@ -77,8 +79,9 @@ fn fill_devices<D: Device + Drop + Send, G: Gate + Sync, R: Threads + Wait + Syn
 
     ensures gives { (m : MemberView) → IsMember mirror.old.array target m → MatchResult result
         (λ counts. FillsPass target m plan.now.slots copied.old copied.new mirror.old mirror.new counts.failed)
-        (OnFault (CopiesChunks target m plan.now.slots copied.old copied.new mirror.old mirror.new)
+        (OnFault (LacksMemoryToFill target m plan.now.slots copied.old copied.new mirror.old mirror.new)
         (FailsOnWrite target m plan.now.slots mirror.old mirror.new)) }
+    ensures told { OnOk result (IsToldOfSlots G.Gate gate.now plan.now.slots) }
     ensures sound { IsConsistent mirror.new }
 {
     let chunks = mirror.chunks();

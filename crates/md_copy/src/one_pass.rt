@@ -1,5 +1,5 @@
 // A pass over the devices of a mirror, among which the target's stands.
-ghost use Rattle.std.specs.Prelude.{◌≡◌, ◌<◌, MatchResult, length, remove, slice_index_or};
+ghost use Rattle.std.specs.Prelude.{◌≡◌, ◌<◌, MatchResult, OnOk, length, remove, slice_index_or};
 ghost use Rattle.std.specs.Int.{div_ceil};
 ghost use Rattle.md_collect.specs.Collecting.{ArePlanned};
 ghost use Rattle.md_collect.specs.Places.{HasRoom};
@@ -7,6 +7,7 @@ ghost use Rattle.md_pass.specs.Beside.{KeepsBeside};
 ghost use Rattle.md_pass.specs.Copied.{AreUncopied, BreaksOff, EndsPass, pass_state};
 ghost use Rattle.md_collect.specs.Workers.Queues.{AreOnlyRead};
 ghost use Rattle.md_pass.specs.Sources.{MayRead, copy_of};
+ghost use Rattle.md_copy.specs.Told.{IsToldOfSlots};
 
 use md_bitmap::{Chunks, Marks};
 use md_cert::Plan;
@@ -45,6 +46,7 @@ pub(crate) fn copy_beside<D: Device + Drop + Send, G: Gate + Sync, R: Threads + 
         (pass_state (remove devices.old.items target) (slice_index_or devices.old.items target d) copied.old)
         (pass_state (remove devices.new.items target) (slice_index_or devices.new.items target d) copied.new)) }
 
+    ensures told { OnOk result (IsToldOfSlots G.Gate gate.now plan.now.slots) }
     ensures as_many { length devices.new.items ≡ length devices.old.items }
     ensures others { AreOnlyRead D.Device (remove devices.old.items target) (remove devices.new.items target) }
     ensures target { (d : D) → KeepsBeside D.Device (copy_of plan.now.slots chunks offset)

@@ -18,6 +18,7 @@ ghost use Rattle.md_copy.specs.Passing.{FailsOne, GoesOnWith, IsTableFor, MakesO
 ghost use Rattle.md_copy.specs.Preparing.{IsNoMemory};
 ghost use Rattle.md_copy.specs.Ready.{IsReadyToCopy};
 ghost use Rattle.md_copy.specs.RebuildSources.{AreSources};
+ghost use Rattle.md_copy.specs.Told.{IsToldOfPlans, IsToldOfSlots};
 
 use crate::fill::fill;
 use crate::list_failed::{list_failed, store_lists};
@@ -60,6 +61,7 @@ pub(crate) fn copy_passes<D: Device + Drop + Send, G: Gate + Sync, R: Threads + 
     ensures gives { (m : MemberView) → IsMember mirror.old.array target m → MatchResult result
         (λ plans. PassesAll target m copied.old copied.new mirror.old mirror.new plans.items)
         (PassesFail target m copied.old copied.new mirror.old mirror.new) }
+    ensures told { IfOk result (λ plans. IsToldOfPlans G.Gate gate.now plans.items) }
     ensures leaves { IfErr result (MayRecordAtEnd target copied.new mirror.new) }
     ensures sound { IsConsistent mirror.new }
 {
@@ -99,6 +101,7 @@ fn make_pass<D: Device + Drop + Send, G: Gate + Sync, R: Threads + Wait + Sync>(
     requires few { length rows.now ≤ 2 ^ 20 }
     ensures gives { MatchResult result (MakesOne target rows.now copied.old copied.new mirror.old mirror.new)
         (FailsOne target rows.now copied.old copied.new mirror.old mirror.new) }
+    ensures told { IfOk result (λ passed. IsToldOfSlots G.Gate gate.now passed.planned.plan.slots) }
     ensures sound { IsConsistent mirror.new }
 {
     let Prepared { planned, sources } = prepare(alloc, mirror, target, rows)?;

@@ -9,6 +9,7 @@ ghost use Rattle.md_copy.specs.Ready.{IsReadyToCopy};
 ghost use Rattle.md_copy.specs.Rebuilding.{RebuildsReadied, Rebuilds, RefusesRebuild, EndsAfterReady};
 ghost use Rattle.md_copy.specs.Rebuilt.{HasRebuilt};
 ghost use Rattle.md_copy.specs.Refused.{HasEnded};
+ghost use Rattle.md_copy.specs.Told.{IsToldOfPlans};
 
 use crate::enrol_filled::enrol_copied;
 use crate::leave::leave;
@@ -43,6 +44,7 @@ pub fn rebuild<D: Device + Drop + Send, G: Gate + Sync, R: Threads + Wait + Sync
     ensures gives { MatchResult result (λ told. Rebuilds target told mirror.old mirror.new) (RefusesRebuild target mirror.old mirror.new) }
     ensures rebuilt { IfOk result (λ told. HasRebuilt target told mirror.old mirror.new) }
     ensures refused { IfErr result (λ fault. HasEnded target fault mirror.old mirror.new) }
+    ensures told { IfOk result (λ told. IsToldOfPlans G.Gate gate.now told.plans.items) }
     ensures sound { IsConsistent mirror.new }
 {
     rebuild_by_steps(rt, alloc, mirror, target, gate)
@@ -59,6 +61,7 @@ fn rebuild_by_steps<D: Device + Drop + Send, G: Gate + Sync, R: Threads + Wait +
     requires within { target < length mirror.old.array.members }
     requires sound { IsConsistent mirror.old }
     ensures gives { MatchResult result (λ told. Rebuilds target told mirror.old mirror.new) (RefusesRebuild target mirror.old mirror.new) }
+    ensures told { IfOk result (λ told. IsToldOfPlans G.Gate gate.now told.plans.items) }
     ensures sound { IsConsistent mirror.new }
 {
     check_rebuild(mirror, target)?;
@@ -92,6 +95,7 @@ fn rebuild_readied<D: Device + Drop + Send, G: Gate + Sync, R: Threads + Wait + 
     ensures gives { (m : MemberView) → IsMember mirror.old.array target m → MatchResult result
         (RebuildsReadied target m copied.old mirror.old mirror.new)
         (EndsAfterReady target m copied.old copied.new mirror.old mirror.new) }
+    ensures told { IfOk result (λ told. IsToldOfPlans G.Gate gate.now told.plans.items) }
     ensures leaves { IfErr result (MayRecordAtEnd target copied.new mirror.new) }
     ensures sound { IsConsistent mirror.new }
 {

@@ -2,6 +2,8 @@
 pub mod Holding
 -- What is noticed of an array beside what a command gives.
 pub mod Noticed
+-- A fault's text.
+pub mod FaultText
 -- The question before a command is done.
 pub mod Question
 -- What standard error is told of what was noticed.

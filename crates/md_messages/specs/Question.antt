@@ -1,5 +1,5 @@
 -- The question before a command is done: what is asked, and what the answer allows.
-use Rattle.std.specs.Prelude.{◌≡◌, ℕ, Bool, true, false, List, Result, MatchResult}
+use Rattle.std.specs.Prelude.{◌≡◌, ◌&&◌, Bool, true, false, List, Result, MatchResult}
 use Rattle.clap.specs.Words.{Text}
 use Rattle.md_words.specs.Asks.{Ask}
 use Rattle.md_commands.specs.declared.fault.CommandFault.{CommandFault}
@@ -9,33 +9,34 @@ use Rattle.md_messages.specs.declared.notices.Notices.{Notices}
 use Rattle.md_messages.specs.Noticed.{asks_first}
 use Rattle.md_messages.specs.Telling.{first_text}
 
--- Who is asked: whether lines are shown to anybody, and what was answered to lines that were, which is whether the command goes on.
-pub record AskerView : Type 1 where
-  pub shows : Bool
-  pub answered : List ℕ → Bool → Type 0
+-- A relation between what was noticed, who is asked, before and after that, and whether the command goes on (`Ok`), or why it does
+-- not.
+abbrev pub Question : Type 0 → Type 1
+Question A = Notices → A → A → Result (Unit {0}) CommandFault → Type 0
 
-abbrev pub asker_view : {W : Type 0} → Ghosts W → W → AskerView
-asker_view w watch = record { shows = w.shows watch; answered = w.answered watch }
+module _ {A : Type 0} (g : Ghosts A) (ask : Ask) (names : List Text) where
+  -- There is a question: the command is to be asked first, and lines are shown to somebody.
+  abbrev pub has_question : Notices → A → Bool
+  has_question n asker = asks_first ask n && g.shows asker
 
--- A relation between what was noticed and whether the command goes on (`Ok`), or why it does not.
-abbrev pub Question : Type 1
-Question = Notices → Result (Unit {0}) CommandFault → Type 0
+  -- It was asked once, with these very lines, and this was the answer.
+  abbrev pub IsAnswered : Notices → Bool → A → A → Type 0
+  IsAnswered n goes_on old new = g.asks old new (first_text ask names n) goes_on
 
-module _ (asker : AskerView) (ask : Ask) (names : List Text) where
-  -- It goes on. Where it is to be asked first, and lines are shown to somebody, it was these very lines, and the answer was yes.
-  abbrev pub IsConfirmed : Notices → Type 0
-  IsConfirmed n = asker.shows ≡ true → asks_first ask n ≡ true → asker.answered (first_text ask names n) true
+  -- The command goes on: the answer was yes, or there is no question, and nobody was asked.
+  pub record IsAgreed (n : Notices) (old new : A) : Type 0 where
+    pub asked : has_question n old ≡ true → IsAnswered n true old new
+    pub unasked : has_question n old ≡ false → new ≡ old
 
-  -- why it does not: the answer was no, or there was no memory for the lines
-  abbrev pub IsWhyNot : Notices → CommandFault → Type 0
-  IsWhyNot n Declined = asker.answered (first_text ask names n) false
-  IsWhyNot n NoMemory = Unit {0}
-  IsWhyNot n fault = ⊥
+  -- why it does not: the answer was no; or there was no memory for the lines, and nobody was asked
+  abbrev pub IsWhyNot : Notices → A → A → CommandFault → Type 0
+  IsWhyNot n old new Declined = IsAnswered n false old new
+  IsWhyNot n old new NoMemory = new ≡ old
+  IsWhyNot n old new fault = ⊥
 
-  pub record IsDeclined (n : Notices) (fault : CommandFault) : Type 0 where
-    pub shown : asker.shows ≡ true
-    pub asked : asks_first ask n ≡ true
-    pub why : IsWhyNot n fault
+  pub record IsDeclined (n : Notices) (old new : A) (fault : CommandFault) : Type 0 where
+    pub asks : has_question n old ≡ true
+    pub why : IsWhyNot n old new fault
 
-  abbrev pub question : Question
-  question n result = MatchResult result (λ _. IsConfirmed n) (IsDeclined n)
+  abbrev pub question : Question A
+  question n old new result = MatchResult result (λ _. IsAgreed n old new) (IsDeclined n old new)

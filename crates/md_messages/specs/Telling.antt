@@ -18,6 +18,7 @@ use Rattle.md_notices.specs.Signatures.Texts.{text_of}
 use Rattle.md_words.specs.Asks.{Ask, adds, checks, device_to_add, overwritten_by}
 use Rattle.md_words.specs.declared.overwritten.Overwritten.{Overwritten}
 use Rattle.md_words.specs.declared.overwritten.Overwritten.TheVariants as overwritten
+use Rattle.md_messages.specs.FaultText.Commands.{refusal_line}
 use Rattle.md_messages.specs.declared.messages.Audience.{Audience}
 use Rattle.md_messages.specs.declared.messages.Messages.{Messages}
 use Rattle.md_messages.specs.declared.messages.Messages.TheVariants.{Plain, WithAdvice}
@@ -189,21 +190,22 @@ refused_text audience ask names n why =
 abbrev pub PutsTold : {E : Type 0} → Ghosts E → E → E → List ℕ → Type 0
 PutsTold e old new text = Puts e.contents e.failed old new text ⊎ (e.failed new ≡ true)
 
--- What standard error is told of a command that is refused, after the fault: for which sectors zeros were put out, and last what was
--- noticed, where more is told of a fault than its line.
+-- What standard error is told of a command that is refused: the fault's line, for which sectors zeros were put out, and last what was
+-- noticed, where more is told of a fault than its line. Before that it is told what to do, of which nothing is said here.
 pub record TellsRefusal {E : Type 0} (e : Ghosts E) (audience : Audience) (ask : Ask) (names : List Text)
-    (missing : Option (List Run)) (new : E) (why : CommandFault) (n : Notices) : Type 0 where
+    (missing : Option (List Run)) (old new : E) (why : CommandFault) (n : Notices) : Type 0 where
   pub told : E
   pub next : E
+  pub line : PutsTold e old told (refusal_line why)
   pub lines : PutsTold e told next (missing_lines ask missing)
   pub plain : has_advice audience.messages ≡ false → new ≡ next
   pub last : has_advice audience.messages ≡ true
       → (mid : E) × PutsTold e mid new (refused_text audience ask names n why)
 
--- What it is told of what was noticed. Nothing is said here of the fault's line and of what to do.
+-- What it is told of what a command answers, and of what was noticed.
 abbrev pub TellsNoticed : {E : Type 0} → Ghosts E → Audience → Ask → List Text → Option (List Run) → E → E
     → Result (Unit {0}) CommandFault → Notices → Type 0
 TellsNoticed e audience ask names missing old new (Ok _) n =
     PutsTold e old new (told_text audience ask names n)
 TellsNoticed e audience ask names missing old new (Err why) n =
-    TellsRefusal e audience ask names missing new why n
+    TellsRefusal e audience ask names missing old new why n

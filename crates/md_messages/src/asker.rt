@@ -9,9 +9,9 @@ pub trait Asker {
     /// Whether they are shown where standard error goes, which is told of them no more after the command.
     ghost told_first: { Self → Bool };
 
-    /// What was answered where these lines were shown: whether the command goes on. Only `goes_on` says it, so that a call
-    /// of which a contract says what was answered has asked.
-    ghost answered: { Self → List ℕ → Bool → Type 0 };
+    /// The asker before one question and after it, with the lines that were shown, and what was answered: whether the command
+    /// goes on. Only `goes_on` says it, and of no two questions: so where a contract says it, it was asked, and once.
+    ghost asks: { Self → Self → List ℕ → Bool → Type 0 };
 
     /// Whether lines are shown to anybody. Where not, whatever they are, the command goes on.
     fn is_there(&self) -> bool
@@ -22,6 +22,6 @@ pub trait Asker {
         ensures { result ≡ told_first self.now };
 
     /// Shows these lines, and asks whether to go on. Where nobody can be asked, or is to be, the answer is yes.
-    fn goes_on(&self, lines: &[u8]) -> bool
-        ensures { answered self.now lines.now result };
+    fn goes_on(&mut self, lines: &[u8]) -> bool
+        ensures { asks self.old self.new lines.now result };
 }

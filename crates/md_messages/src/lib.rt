@@ -7,18 +7,19 @@
 //! `Questions` (`src/terminal.rt`). The rules by which a member gets a line, and the text of each line, are those of
 //! `md_notices`.
 //!
-//! `advice/`: what a terminal's second line says of a command that is refused.
+//! `fault_text/`: what standard error is told of a fault. `advice/`: what a terminal's second line says of a command that is refused.
 //!
 //! ```
 //! let mut notices = Notices::none();
 //! notices.note_held(alloc, &mut device);
-//! ask_first(alloc, &watch, command, &notices, &names)?;
+//! ask_first(alloc, &mut asker, command, &notices, &names)?;
 //! let told = put_told(&mut err, &notices, command, &names, audience);
 //! ```
 #![tactic(auto)]
 
 mod advice;
 mod asker;
+mod fault_text;
 mod messages;
 mod missing;
 mod notices;
@@ -28,6 +29,7 @@ mod terminal;
 
 pub use advice::advise;
 pub use asker::Asker;
+pub use fault_text::put_fault_line;
 pub use messages::{Audience, Messages};
 pub use missing::put_missing_lines;
 pub use notices::Notices;

@@ -1,7 +1,7 @@
 // The question before a command is done.
 ghost use Rattle.std.specs.Prelude.{◌≡◌, IfOk};
 ghost use Rattle.md_words.specs.Asks.{ask_of};
-ghost use Rattle.md_messages.specs.Question.{asker_view, question};
+ghost use Rattle.md_messages.specs.Question.{question};
 ghost use Rattle.md_messages.specs.Telling.{first_text, texts};
 
 use crate::asker::Asker;
@@ -12,25 +12,25 @@ use md_examine::{Output, SinkFault};
 use md_words::Command;
 use std::alloc::Global;
 
-/// Asks whether a command goes on, where it would overwrite what perhaps should stay, by what was noticed. The names are
-/// those of all images. Without memory for the lines that are asked with it does not go on.
-pub fn ask_first<W: Asker>(
+/// Asks whether a command goes on, where it would overwrite what perhaps should stay, by what was noticed: once, and the
+/// answer stands. The names are those of all images. Without memory for the lines that are asked with it does not go on.
+pub fn ask_first<A: Asker>(
     alloc: Global,
-    watch: &W,
+    asker: &mut A,
     command: Command<'_>,
     notices: &Notices,
     names: &[&str],
 ) -> Result<(), CommandFault>
-    ensures { question (asker_view W.Asker watch.now) (ask_of command.entry) (texts names.now)
-        notices.now result }
+    ensures { question A.Asker (ask_of command.entry) (texts names.now) notices.now asker.old asker.new
+        result }
 {
-    if !notices.asks_first(command) || !watch.is_there() {
+    if !notices.asks_first(command) || !asker.is_there() {
         return Ok(());
     }
     let Ok(lines) = lines_first(alloc, command, notices, names) else {
         return Err(CommandFault::NoMemory);
     };
-    if watch.goes_on(&lines) {
+    if asker.goes_on(&lines) {
         Ok(())
     } else {
         Err(CommandFault::Declined)

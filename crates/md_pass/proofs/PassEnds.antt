@@ -16,6 +16,8 @@ use Rattle.md_collect.specs.Reports.{Copying, is_planned}
 use Rattle.md_device.specs.Failing.{EachNewFault}
 use Rattle.md_device.proofs.Failing.{fails_weaker}
 use Rattle.md_collect.specs.declared.workers.queue.Queue.{Queue}
+use Rattle.md_collect.specs.declared.workers.gate.Gate.{Ghosts as GateGhosts}
+use Rattle.md_collect.specs.Workers.Gates.{IsTold, IsToldOfReads}
 use Rattle.md_collect.specs.Workers.Queues.{OnlyRead, AreOnlyRead, IsOfWaiting, is_failed}
 use Rattle.md_collect.proofs.WorkerLemmas.OnlyReads.{not_read}
 use Rattle.md_collect.proofs.WorkerLemmas.Workers.{chunks_kept}
@@ -31,7 +33,8 @@ use Rattle.md_pass.specs.TakingReports.{Books, books}
 use Rattle.md_pass.specs.Copied.{AreJoined, CountFailed, FailOnlyThere, FailThere, HasCopied, IsOfFailedSlot, OnFault, PassState, failed_slots, is_failed_slot, pass_state}
 use Rattle.md_pass.specs.Preparing.{CanCopy}
 use Rattle.md_pass.specs.Sources.{MayRead}
-use Rattle.md_pass.specs.Passes.{HasLanded, IsOfTaken, IsPassing, IsUnderWay, QueuesOnlyRead, count_left, is_left}
+use Rattle.md_pass.specs.Passes.{HasLanded, IsOfTaken, IsOfUncopied, IsPassing, IsUnderWay, LackMemory, QueuesOnlyRead, count_left, is_left}
+use Rattle.md_pass.proofs.Besides.{planned_has}
 use Rattle.md_pass.proofs.Departures.{related}
 use Rattle.md_pass.proofs.Orders.{order_covers}
 use Rattle.md_pass.proofs.PassStarts.{all_fit, device_at, in_turn, reading_like, source_at}
@@ -276,10 +279,12 @@ module _ {D L M : Type 0} {g : Ghosts D} where
         | inr w ↦ absurd (let n = ap length (done k d there).1 in let b = w.waits in omega (arith, n, b))
       ]) (way.only (fed k d there))
 
-  pub fail_only_there : {th : Bool} {start now : Books} {devices rest : List D} {places : List ℕ} {rs : List Reading} {firsts queues : List (Queue D L M)} → HaveLeft g start devices rest places rs firsts → IsPassing g th firsts queues start now → All (λ queue. (queue.done ≡ length queue.chunks.items) × (queue.reports ≡ [])) queues
-      → All (λ queue. queue.starved ≡ false) queues → (news : List D) → length news ≡ length devices → AreTaken news places (map (λ (l : Queue D L M). l.device) queues) rest
+  -- so of each source
+  fail_only : {th : Bool} {start now : Books} {devices rest : List D} {places : List ℕ} {rs : List Reading} {firsts queues : List (Queue D L M)} → HaveLeft g start devices rest places rs firsts → IsPassing g th firsts queues start now
+      → ((k : ℕ) (d : Queue D L M) (s : Source) → k < length rs → EachNewFault (g.faults (get_or firsts k d).device) (g.faults (get_or queues k d).device) (IsOfFailedSlot (copying start.collector) now.copied (get_or (map (λ (r : Reading). r.source) rs) k s)))
+      → (news : List D) → length news ≡ length devices → AreTaken news places (map (λ (l : Queue D L M). l.device) queues) rest
       → FailOnlyThere g (copying start.collector) now.copied (map (λ (r : Reading). r.source) rs) devices news
-  fail_only_there {start = start} {now = now} {devices = devices} {rest = rest} {places = places} {rs = rs} {firsts = firsts} {queues = queues} t p done fed news long taken' k s wk has e = by firsts refl
+  fail_only {start = start} {now = now} {devices = devices} {rest = rest} {places = places} {rs = rs} {firsts = firsts} {queues = queues} t p each news long taken' k s wk has e = by firsts refl
     where
       by : (ls : List (Queue D L M)) → firsts ≡ ls
           → EachNewFault (g.faults (get_or devices (get_or (map (λ (r : Reading). r.source) rs) k s).place e)) (g.faults (get_or news (get_or (map (λ (r : Reading). r.source) rs) k s).place e))
@@ -294,7 +299,83 @@ module _ {D L M : Type 0} {g : Ghosts D} where
           let new : (get_or queues k f).device ≡ get_or news (get_or (map (λ (r : Reading). r.source) rs) k s).place e
           = sym (get_or-map (λ (l : Queue D L M). l.device) queues k f e (omega (arith, here, p.as_many))) ∙ device_at devices news (map (λ (l : Queue D L M). l.device) queues) rest rs places t.may t.turn long taken' k e e s below in
           subst (λ x. EachNewFault (g.faults x) (g.faults (get_or news (get_or (map (λ (r : Reading). r.source) rs) k s).place e)) P) old
-          (subst (λ x. EachNewFault (g.faults (get_or firsts k f).device) (g.faults x) P) new (queue_only t p done fed k f s below))
+          (subst (λ x. EachNewFault (g.faults (get_or firsts k f).device) (g.faults x) P) new (each k f s below))
+
+  pub fail_only_there : {th : Bool} {start now : Books} {devices rest : List D} {places : List ℕ} {rs : List Reading} {firsts queues : List (Queue D L M)} → HaveLeft g start devices rest places rs firsts → IsPassing g th firsts queues start now → All (λ queue. (queue.done ≡ length queue.chunks.items) × (queue.reports ≡ [])) queues
+      → All (λ queue. queue.starved ≡ false) queues → (news : List D) → length news ≡ length devices → AreTaken news places (map (λ (l : Queue D L M). l.device) queues) rest
+      → FailOnlyThere g (copying start.collector) now.copied (map (λ (r : Reading). r.source) rs) devices news
+  fail_only_there t p done fed news long taken' = fail_only t p (λ k d s below. queue_only t p done fed k d s below) news long taken'
+
+  -- where memory was refused
+  queue_uncopied : {th : Bool} {start now : Books} {devices rest : List D} {places : List ℕ} {rs : List Reading} {firsts queues : List (Queue D L M)} → HaveLeft g start devices rest places rs firsts → IsPassing g th firsts queues start now → LackMemory g now firsts queues
+      → (k : ℕ) (d : Queue D L M) (s : Source) → k < length rs
+      → EachNewFault (g.faults (get_or firsts k d).device) (g.faults (get_or queues k d).device) (IsOfFailedSlot (copying start.collector) now.copied (get_or (map (λ (r : Reading). r.source) rs) k s))
+  queue_uncopied {start = start} {now = now} {rs = rs} {firsts = firsts} {queues = queues} t p lack k d s below =
+      let first = get_or firsts k d in
+      let source = get_or (map (λ (r : Reading). r.source) rs) k s in
+      let here : k < length firsts = omega (arith, t.same, below) in
+      let is = t.are k (reading_like d) d below in
+      let from = source_at rs k (reading_like d) s below in
+      let role : first.role ≡ source.role = is.role ∙ ap (λ (x : Source). x.role) (sym from) in
+      let offset : first.offset ≡ source.offset = is.offset ∙ ap (λ (x : Source). x.offset) (sym from) in
+      let chunks : now.collector.chunks ≡ start.collector.chunks = ap (λ (c : Copying). c.chunks) p.books.same_copy in
+      fails_weaker (g.faults first.device) (g.faults (get_or queues k d).device) (IsOfUncopied now first) (IsOfFailedSlot (copying start.collector) now.copied source)
+      (λ f x. record {
+        chunk = slice_index first.chunks.items x.slot;
+        planned = subst (λ n. is_planned start.collector.slots (slice_index first.chunks.items x.slot) n ≡ true) role ((p.begins k d here).planned x.slot x.within);
+        uncopied = x.uncopied;
+        there = rw (← offset, ← chunks) x.there;
+      }) (lack.only k d here)
+
+  pub fail_only_uncopied : {th : Bool} {start now : Books} {devices rest : List D} {places : List ℕ} {rs : List Reading} {firsts queues : List (Queue D L M)} → HaveLeft g start devices rest places rs firsts → IsPassing g th firsts queues start now → LackMemory g now firsts queues
+      → (news : List D) → length news ≡ length devices → AreTaken news places (map (λ (l : Queue D L M). l.device) queues) rest
+      → FailOnlyThere g (copying start.collector) now.copied (map (λ (r : Reading). r.source) rs) devices news
+  fail_only_uncopied t p lack news long taken' = fail_only t p (λ k d s below. queue_uncopied t p lack k d s below) news long taken'
+
+  pub lacks_chunk : {th : Bool} {start now : Books} {firsts queues : List (Queue D L M)} → IsPassing g th firsts queues start now → LackMemory g now firsts queues → (c : ℕ) × (has_chunk start.collector.slots c ≡ true) × (is_set now.copied.bytes c ≡ false)
+  lacks_chunk {start = start} {now = now} {firsts = firsts} p lack = by firsts refl
+    where
+      by : (ls : List (Queue D L M)) → firsts ≡ ls → (c : ℕ) × (has_chunk start.collector.slots c ≡ true) × (is_set now.copied.bytes c ≡ false)
+      by [] none = absurd (let z = ap length none in let b = lack.queue in omega (arith, z, b))
+      by (f ∷ fs) some =
+          let first = get_or firsts lack.at f in
+          (slice_index first.chunks.items lack.slot, planned_has start.collector.slots (slice_index first.chunks.items lack.slot) first.role ((p.begins lack.at f lack.queue).planned lack.slot (lack.within f)), lack.uncopied f)
+
+  -- a slot of source k was read, and the gate told of it
+  slot_told : {th : Bool} {start now : Books} {devices rest : List D} {places : List ℕ} {rs : List Reading} {firsts queues : List (Queue D L M)} → HaveLeft g start devices rest places rs firsts → IsPassing g th firsts queues start now → All (λ queue. (queue.done ≡ length queue.chunks.items) × (queue.reports ≡ [])) queues
+      → {W : Type 0} (w : GateGhosts W) (gate : W) → ((k : ℕ) (d : Queue D L M) → k < length firsts → IsToldOfReads w gate (get_or firsts k d) (get_or queues k d))
+      → (slot : Slot) → Contains start.collector.slots slot → (k : ℕ) (s : Source) (d : Queue D L M) → k < length rs → (get_or (map (λ (r : Reading). r.source) rs) k s).role ≡ slot.source → IsTold w gate slot.source slot.chunk
+  slot_told {rs = rs} {firsts = firsts} {queues = queues} t p done w gate told slot there k s d below role =
+      let r = get_or rs k (reading_like d) in
+      let is : r.source.role ≡ slot.source = ap (λ (x : Source). x.role) (sym (source_at rs k (reading_like d) s below)) ∙ role in
+      let (j, within, at) = order_covers (t.orders k (reading_like d) below) slot there (sym is) in
+      let own = t.are k (reading_like d) d below in
+      let here : k < length firsts = omega (arith, t.same, below) in
+      let none : length (get_or firsts k d).reports ≡ 0 = ap length own.none_waits in
+      let short : j < length (get_or firsts k d).chunks.items = rw own.chunks within in
+      let ends = done k d (omega (arith, p.as_many, here)) in
+      let n = ap (λ (v : _). length v.items) (chunks_kept (p.each k d here).read) in
+      let before = own.none_done in
+      let all = ends.0 in
+      subst (λ c. IsTold w gate slot.source c) (ap (λ (v : _). slice_index v.items j) own.chunks ∙ at)
+      (subst (λ x. IsTold w gate x (slice_index (get_or firsts k d).chunks.items j)) (own.role ∙ is)
+      (told k d here j (omega (arith, before, none)) (omega (arith, short, n, all))))
+
+  -- the gate was told of each slot
+  pub all_told : {th : Bool} {start now : Books} {devices rest : List D} {places : List ℕ} {rs : List Reading} {firsts queues : List (Queue D L M)} → HaveLeft g start devices rest places rs firsts → IsPassing g th firsts queues start now → All (λ queue. (queue.done ≡ length queue.chunks.items) × (queue.reports ≡ [])) queues
+      → {W : Type 0} (w : GateGhosts W) (gate : W) → ((k : ℕ) (d : Queue D L M) → k < length firsts → IsToldOfReads w gate (get_or firsts k d) (get_or queues k d))
+      → All (λ (slot : Slot). IsTold w gate slot.source slot.chunk) start.collector.slots
+  all_told {start = start} {rs = rs} {firsts = firsts} t p done w gate told i slot wi = found (t.may.serves i slot wi)
+    where
+      at : Slot
+      at = get_or start.collector.slots i slot
+
+      by : (k : ℕ) (s : Source) → k < length rs → (get_or (map (λ (r : Reading). r.source) rs) k s).role ≡ at.source → (ls : List (Queue D L M)) → firsts ≡ ls → IsTold w gate at.source at.chunk
+      by k s below role [] none = absurd (let z = ap length none in omega (arith, below, t.same, z))
+      by k s below role (f ∷ fs) some = slot_told t p done w gate told at (Contains-get_or start.collector.slots i slot wi) k s f below role
+
+      found : Any (λ (s : Source). s.role ≡ at.source) (map (λ (r : Reading). r.source) rs) → IsTold w gate at.source at.chunk
+      found (k, s, wk, is, role) = by k s (let n = length-map rs (λ (r : Reading). r.source) in omega (arith, wk, n)) (ap (λ (x : Source). x.role) is ∙ role) firsts refl
 
   -- the shares of queues that are done
   pub none_left : {th : Bool} {start now : Books} {devices rest : List D} {places : List ℕ} {rs : List Reading} {firsts queues : List (Queue D L M)} → HaveLeft g start devices rest places rs firsts → IsPassing g th firsts queues start now → All (λ queue. (queue.done ≡ length queue.chunks.items) × (queue.reports ≡ [])) queues

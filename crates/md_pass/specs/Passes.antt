@@ -47,6 +47,13 @@ pub record IsOfTaken {D L M : Type 0} (now : Books) (first queue : Queue D L M) 
   pub uncopied : is_set now.copied.bytes (slice_index first.chunks.items slot) ≡ false
   pub there : IsReadOfChunk first.offset now.collector.chunks (slice_index first.chunks.items slot) f
 
+-- a read of nothing but bytes of a slot's chunk, which was not copied
+pub record IsOfUncopied {D L M : Type 0} (now : Books) (first : Queue D L M) (f : Fault) : Type 0 where
+  pub slot : ℕ
+  pub within : slot < length first.chunks.items
+  pub uncopied : is_set now.copied.bytes (slice_index first.chunks.items slot) ≡ false
+  pub there : IsReadOfChunk first.offset now.collector.chunks (slice_index first.chunks.items slot) f
+
 module _ {D L M : Type 0} (g : Ghosts D) where
   -- a queue as a pass begins
   pub record IsAtStart (first : Books) (queue : Queue D L M) : Type 0 where
@@ -85,6 +92,16 @@ module _ {D L M : Type 0} (g : Ghosts D) where
     pub as_many : length queues ≡ length firsts
     pub each : (k : ℕ) (d : Queue D L M) → k < length firsts → IsUnderWay honest now (slice_index_or firsts k d) (slice_index_or queues k d)
     pub books : HasBooks first now
+
+  -- Memory was refused while a slot was left. No call of a source failed but reads of chunks that were not copied.
+  pub record LackMemory (now : Books) (firsts queues : List (Queue D L M)) : Type 0 where
+    pub at : ℕ
+    pub queue : at < length firsts
+    pub slot : ℕ
+    pub within : (d : Queue D L M) → slot < length (slice_index_or firsts at d).chunks.items
+    pub uncopied : (d : Queue D L M) → is_set now.copied.bytes (slice_index (slice_index_or firsts at d).chunks.items slot) ≡ false
+    pub only : (k : ℕ) (d : Queue D L M) → k < length firsts
+        → EachNewFault (g.faults (slice_index_or firsts k d).device) (g.faults (slice_index_or queues k d).device) (IsOfUncopied now (slice_index_or firsts k d))
 
   -- queues whose sources were only read
   pub record QueuesOnlyRead (firsts queues : List (Queue D L M)) : Type 0 where

@@ -1,8 +1,9 @@
 // One pass, from the list of devices and back to it.
-ghost use Rattle.std.specs.Prelude.{◌≡◌, ◌≤◌, MatchResult, vec_capacity};
+ghost use Rattle.std.specs.Prelude.{◌≡◌, ◌≤◌, All, MatchResult, OnOk, vec_capacity};
 ghost use Rattle.std.specs.Int.{div_ceil};
 ghost use Rattle.md_collect.specs.Places.{HasRoom};
 ghost use Rattle.md_collect.specs.Collecting.{ArePlanned, copying};
+ghost use Rattle.md_collect.specs.Workers.Gates.{IsTold};
 ghost use Rattle.md_pass.specs.Copied.{AreUncopied, BreaksOff, EndsPass, WritesPlanned, pass_state};
 ghost use Rattle.md_pass.specs.Preparing.{CanCopy, sources_of};
 ghost use Rattle.md_pass.specs.Sources.{MayRead, copy_of};
@@ -45,7 +46,7 @@ pub struct BoardCounts {
 /// source could not be read there, and the target has in that chunk what it had. The board counts them.
 ///
 /// `NoMemory` says that a worker, or the pass itself, got no memory. `copied` tells then what was copied until
-/// then. A write that fails ends the pass with `TargetFault`: by then later chunks of the turn may have been
+/// then. No write of the target failed by then, and of the sources no call but reads of chunks that were not copied. A write that fails ends the pass with `TargetFault`: by then later chunks of the turn may have been
 /// read, the target may have any bytes in the chunks of the plan, and nothing is said of `copied`.
 pub fn copy_pass<D: Device + Drop + Send, G: Gate + Sync, R: Threads + Wait + Sync>(
     rt: &R,
@@ -72,6 +73,7 @@ pub fn copy_pass<D: Device + Drop + Send, G: Gate + Sync, R: Threads + Wait + Sy
         (pass_state devices.old.items target.old copied.old) (pass_state devices.new.items target.new copied.new)) }
     ensures writes { WritesPlanned D.Device (copy_of plan.now.slots chunks offset)
         (pass_state devices.old.items target.old copied.old) (pass_state devices.new.items target.new copied.new) }
+    ensures told { OnOk result (All (λ slot. IsTold G.Gate gate.now slot.source slot.chunk) plan.now.slots) }
     ensures capacity { vec_capacity devices.old ≤ vec_capacity devices.new }
 {
     let prepared = prepare(alloc, plan, chunks, sources, offset)?;
@@ -112,6 +114,7 @@ fn copy_prepared<
         (pass_state devices.old.items target.old copied.old) (pass_state devices.new.items target.new copied.new)) }
     ensures writes { WritesPlanned D.Device (copying prepared.collector)
         (pass_state devices.old.items target.old copied.old) (pass_state devices.new.items target.new copied.new) }
+    ensures told { OnOk result (All (λ slot. IsTold G.Gate gate.now slot.source slot.chunk) prepared.collector.slots) }
     ensures capacity { vec_capacity devices.old ≤ vec_capacity devices.new }
 {
     let Preparation {

@@ -27,6 +27,7 @@ pub(crate) fn take_report<D: Device, L: Ledger, M: Ledger>(
         (books collector.old (D.content target.old) copied.old)
         (books collector.new (D.content target.new) copied.new) queue.old queue.new queue.old.reports) }
     ensures failed { OnErr result (CountsFailure D.Device target.old target.new) }
+    ensures none_failed { OnOk result (D.faults target.new ≡ D.faults target.old) }
     ensures writes { WritesBeside D.Device collector.old collector.new target.old target.new }
     ensures device { queue.new.device ≡ queue.old.device }
 {
@@ -64,6 +65,7 @@ fn take_round<D: Device, L: Ledger, M: Ledger>(
     ensures taken { OnOk result ((k : ℕ) (d : _) → k < length queues.old.items
         → length (slice_index_or queues.new.items k d).reports ≡ length (slice_index_or queues.old.items k d).reports - 1) }
     ensures failed { OnErr result (CountsFailure D.Device target.old target.new) }
+    ensures none_failed { OnOk result (D.faults target.new ≡ D.faults target.old) }
     ensures writes { WritesBeside D.Device collector.old collector.new target.old target.new }
     ensures devices { SameDevices queues.old.items queues.new.items }
 {
@@ -90,6 +92,7 @@ pub(crate) fn take_reports<D: Device, L: Ledger, M: Ledger>(
         (books collector.new (D.content target.new) copied.new) queues.old.items queues.new.items) }
     ensures taken { OnOk result (All (λ queue. queue.reports ≡ []) queues.new.items) }
     ensures failed { OnErr result (CountsFailure D.Device target.old target.new) }
+    ensures none_failed { OnOk result (D.faults target.new ≡ D.faults target.old) }
     ensures writes { WritesBeside D.Device collector.old collector.new target.old target.new }
     ensures devices { SameDevices queues.old.items queues.new.items }
 {

@@ -1,12 +1,13 @@
 // All turns of a pass.
-ghost use Rattle.std.specs.Prelude.{◌≡◌, ◌+◌, ◌<◌, ◌≤◌, length, true, false, [], ℕ, IfErr, OnOk};
-ghost use Rattle.std.specs.List.{All};
+ghost use Rattle.std.specs.Prelude.{◌≡◌, ◌+◌, ◌<◌, ◌≤◌, length, true, false, [], ℕ, IfErr, OnOk, slice_index_or};
+ghost use Rattle.std.specs.List.{All, list_any};
 ghost use Rattle.md_collect.specs.Reading.{CountsFailure};
 ghost use Rattle.md_collect.specs.Collecting.{copying};
+ghost use Rattle.md_collect.specs.Workers.Gates.{IsToldOfReads};
 ghost use Rattle.md_pass.specs.Beside.{KeepsBeside};
 ghost use Rattle.md_pass.specs.Copied.{OnFault};
 ghost use Rattle.md_pass.specs.TakingReports.{books};
-ghost use Rattle.md_pass.specs.Passes.{IsPassing, QueuesOnlyRead};
+ghost use Rattle.md_pass.specs.Passes.{IsPassing, LackMemory, QueuesOnlyRead};
 
 use crate::fault::PassFault;
 use crate::take_report::take_reports;
@@ -21,6 +22,7 @@ use std::thread::Threads;
 /// Goes turn by turn until each queue has read all of its chunks: the workers read the next chunks of each
 /// queue, at least one, and then the collector takes their reports. So as many turns as a queue has chunks
 /// are enough.
+#[tactic(auto, using(md_collect::proofs::WorkerLemmas::Gates::told_none))]
 pub(crate) fn run_turns<
     D: Device + Send,
     G: Gate + Sync,
@@ -50,9 +52,13 @@ pub(crate) fn run_turns<
         queues.new.items) }
     ensures fed { OnOk result (All (λ queue. queue.starved ≡ false) queues.new.items) }
     ensures broken { IfErr result (OnFault
-        (IsPassing D.Device (D.honest target.old) queues.old.items queues.new.items
+        ((IsPassing D.Device (D.honest target.old) queues.old.items queues.new.items
         (books collector.old (D.content target.old) copied.old) (books collector.new (D.content target.new) copied.new))
+        × LackMemory D.Device (books collector.new (D.content target.new) copied.new) queues.old.items queues.new.items
+        × (D.faults target.new ≡ D.faults target.old))
         (CountsFailure D.Device target.old target.new)) }
+    ensures told { OnOk result ((k : ℕ) (d : _) → k < length queues.old.items
+        → IsToldOfReads G.Gate gate.now (slice_index_or queues.old.items k d) (slice_index_or queues.new.items k d)) }
 
     ensures sources { QueuesOnlyRead D.Device queues.old.items queues.new.items }
     ensures target { KeepsBeside D.Device (copying collector.old) target.old target.new }
@@ -72,14 +78,9 @@ pub(crate) fn run_turns<
 
 // Whether memory was refused to a worker.
 fn is_starved<D, L: Ledger, M: Ledger>(queues: &[Queue<D, L, M>]) -> bool
-    ensures { result ≡ false → All (λ queue. queue.starved ≡ false) queues.now }
+    ensures { result ≡ list_any (λ queue. queue.starved) queues.now }
 {
-    for queue in queues {
-        if queue.starved {
-            return true;
-        }
-    }
-    false
+    queues.iter().any(|queue| queue.starved)
 }
 
 // Whether the collector has taken all reports of each queue.

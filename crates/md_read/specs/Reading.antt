@@ -141,6 +141,11 @@ RefusesRead sector bytes old new OutOfRange = Refuses old new (IsOutOfRange old.
 RefusesRead sector bytes old new NotResynced = Refuses old new (IsUnreadUnresynced old.array sector (length bytes / 512))
 RefusesRead sector bytes old new (Unreadable s) = MayReadAt old.array sector (length bytes / 512) × IsUnreadable sector s bytes old new
 
+-- Where the sectors are refused before a device is read, the buffer stays as it was.
+abbrev pub LeavesBuffer : List ℕ → List ℕ → UnreadFault → Type 0
+LeavesBuffer was bytes (Unreadable s) = ⊤
+LeavesBuffer was bytes fault = bytes ≡ was
+
 -- ---- one role
 -- the run has so many sectors from this one on
 abbrev pub has_all : ℕ → ℕ → Run → Bool

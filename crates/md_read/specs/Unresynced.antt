@@ -1,6 +1,6 @@
 -- Sectors of an array whose members in sync may differ in marked chunks are read as a resync would leave them: there from the member that
 -- a resync copies (this project's own). Nothing is copied.
-use Rattle.std.specs.Prelude.{◌≡◌, ◌⊎◌, ℕ, ◌+◌, ◌*◌, ◌-◌, ◌/◌, ◌%◌, ◌<◌, ◌≤◌, true, false, List, [], ◌∷◌, length, take}
+use Rattle.std.specs.Prelude.{◌≡◌, ◌⊎◌, ⊤, ℕ, ◌+◌, ◌*◌, ◌-◌, ◌/◌, ◌%◌, ◌<◌, ◌≤◌, true, false, List, [], ◌∷◌, length, take}
 use Rattle.std.specs.List.{concat}
 use Rattle.md_bitmap.specs.Marks.{is_set}
 use Rattle.md_kept_members.specs.View.{MemberView}
@@ -111,6 +111,12 @@ RefusesUnresynced sector bytes old new (fault.Unreadable s) =
     MayReadSectors old.array sector (length bytes / 512) × EndsAt sector s bytes (fault.Unreadable s) old new
 RefusesUnresynced sector bytes old new (fault.ReadFault k s) =
     MayReadSectors old.array sector (length bytes / 512) × EndsAt sector s bytes (fault.ReadFault k s) old new
+
+-- Where the sectors are refused before a device is read, the buffer stays as it was.
+abbrev pub LeavesUnresyncedBuffer : List ℕ → List ℕ → UnresyncedFault → Type 0
+LeavesUnresyncedBuffer was bytes fault.Halted = bytes ≡ was
+LeavesUnresyncedBuffer was bytes fault.OutOfRange = bytes ≡ was
+LeavesUnresyncedBuffer was bytes reason = ⊤
 
 -- ---- the member that a resync copies from
 -- The source of these sectors.

@@ -1,9 +1,9 @@
 // Reading an array that is not resynced as a resync would leave it.
-ghost use Rattle.std.specs.Prelude.{◌≡◌, ◌+◌, ◌*◌, ◌/◌, ◌%◌, ◌^◌, ◌<◌, ◌≤◌, ℕ, IfOk, MatchResult, length};
+ghost use Rattle.std.specs.Prelude.{◌≡◌, ◌+◌, ◌*◌, ◌/◌, ◌%◌, ◌^◌, ◌<◌, ◌≤◌, ℕ, IfErr, IfOk, MatchResult, length};
 ghost use Rattle.md_inflight.specs.Requests.Pending.{PendingView};
 ghost use Rattle.md_state.specs.Requests.{IsPending};
 ghost use Rattle.md_array.specs.Consistency.{IsConsistent};
-ghost use Rattle.md_read.specs.Unresynced.{AllFrom, GivesNoPart, GivesPartFront, GivesParts, IsEndedBy, MayReadSectors, ReadsUnresynced, RefusesUnresynced};
+ghost use Rattle.md_read.specs.Unresynced.{AllFrom, GivesNoPart, GivesPartFront, GivesParts, IsEndedBy, LeavesUnresyncedBuffer, MayReadSectors, ReadsUnresynced, RefusesUnresynced};
 
 use crate::runs::read_front;
 use crate::sources::read_marked;
@@ -15,7 +15,7 @@ use md_device::Device;
 /// may not be: each sector of a marked chunk is read from the member that a resync copies it from, and from no
 /// other, and each other sector as `read` reads it.
 /// Nothing is written, and no memory is taken. At `Unreadable(s)` and `ReadFault(k, s)` the sectors before s stand in `buf`, and
-/// any bytes after them.
+/// any bytes after them; at each other fault `buf` stays as it was.
 pub fn read_unresynced<D: Device + Drop>(
     mirror: &mut Mirror<D>,
     sector: u64,
@@ -24,6 +24,7 @@ pub fn read_unresynced<D: Device + Drop>(
     requires whole { length buf.old % 512 ≡ 0 }
     requires sound { IsConsistent mirror.old }
     ensures gives { MatchResult result (λ _. ReadsUnresynced sector buf.new mirror.old mirror.new) (RefusesUnresynced sector buf.new mirror.old mirror.new) }
+    ensures buffer { IfErr result (LeavesUnresyncedBuffer buf.old buf.new) }
     ensures sound { IsConsistent mirror.new }
     ensures pending { (p : PendingView) → IsPending mirror.old.array p → IsPending mirror.new.array p }
 {

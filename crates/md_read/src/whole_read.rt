@@ -1,9 +1,9 @@
 // Reading an array.
-ghost use Rattle.std.specs.Prelude.{◌≡◌, ◌+◌, ◌/◌, ◌%◌, ◌^◌, ◌<◌, IfOk, MatchResult, length};
+ghost use Rattle.std.specs.Prelude.{◌≡◌, ◌+◌, ◌/◌, ◌%◌, ◌^◌, ◌<◌, IfErr, IfOk, MatchResult, length};
 ghost use Rattle.md_inflight.specs.Requests.Pending.{PendingView};
 ghost use Rattle.md_state.specs.Requests.{IsPending};
 ghost use Rattle.md_array.specs.Consistency.{IsConsistent};
-ghost use Rattle.md_read.specs.Reading.{MayReadAt, Reads, RefusesRead};
+ghost use Rattle.md_read.specs.Reading.{LeavesBuffer, MayReadAt, Reads, RefusesRead};
 
 use crate::fault::UnreadFault;
 use crate::runs::read_runs;
@@ -14,7 +14,8 @@ use md_device::Device;
 /// the lowest role that does not list it, and from the next where that fails; members that are write-mostly
 /// come after all others. Sectors that are read at once
 /// are passed over at once: those around a bad one come from another member, where that gives all of them.
-/// Nothing is written, and no memory is taken. At `Unreadable(s)` the sectors before s stand in `buf`, and any bytes after them.
+/// Nothing is written, and no memory is taken. At `Unreadable(s)` the sectors before s stand in `buf`, and any bytes after them;
+/// at each other fault `buf` stays as it was.
 pub fn read<D: Device + Drop>(
     mirror: &mut Mirror<D>,
     sector: u64,
@@ -23,6 +24,7 @@ pub fn read<D: Device + Drop>(
     requires whole { length buf.old % 512 ≡ 0 }
     requires sound { IsConsistent mirror.old }
     ensures gives { MatchResult result (λ _. Reads sector buf.new mirror.old mirror.new) (RefusesRead sector buf.new mirror.old mirror.new) }
+    ensures buffer { IfErr result (LeavesBuffer buf.old buf.new) }
     ensures sound { IsConsistent mirror.new }
     ensures pending { (p : PendingView) → IsPending mirror.old.array p → IsPending mirror.new.array p }
 {

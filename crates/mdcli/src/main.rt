@@ -21,6 +21,7 @@ mod output_file;
 mod pace;
 mod person;
 mod progress;
+mod prompt;
 mod standard_input;
 
 use crate::arguments::arguments;
@@ -30,6 +31,7 @@ use crate::maps::{masked_images, tell_refusal};
 use crate::output_file::{destination_of, is_file_ended, output_of};
 use crate::person::Person;
 use crate::progress::Progress;
+use crate::prompt::Prompt;
 use crate::standard_input::bytes_left_if_taken;
 use md_cli::{Session, run};
 use md_commands::Input;
@@ -77,7 +79,7 @@ fn main(rt: HostRuntime) -> ExitCode {
     } else {
         Messages::Plain
     };
-    let progress = Progress::new(&rt, task, person);
+    let progress = Progress::new(&rt, task);
     // Output that goes elsewhere leaves the line as it is.
     let is_beside = rt.stdout().is_terminal();
     let standard = Cleared::new(io::writer(&rt), &progress, is_beside);
@@ -115,6 +117,7 @@ fn main(rt: HostRuntime) -> ExitCode {
         input: Input::of_length(rt.stdin(), told),
         out: CodedJson::new(Buffered::new(rt.alloc(), out), is_json(&parsed)),
         watch: &progress,
+        asker: Prompt::new(&rt, &progress, person),
         missing: None,
     };
     let status = run(&mut session, words, parsed, &mut images, &mut err, messages);

@@ -1,14 +1,11 @@
 // What a command that takes long shows of its progress.
-ghost use Rattle.std.specs.Prelude.{◌≡◌, false, true};
-ghost use Rattle.md_messages.specs.Terminal.{are_asked, are_shown};
+ghost use Rattle.std.specs.Prelude.{⊤};
 
 use crate::comparing::Comparing;
 use crate::copying::Copying;
-use crate::person::Person;
 use md_commands::{Gate, Watch};
 use md_files::Line;
 use md_images::Traffic;
-use md_messages::Asker;
 use md_words::LongTask;
 use std::alloc::AllocError;
 use std::io::Write;
@@ -31,7 +28,6 @@ pub struct Progress<'a> {
     rt: &'a HostRuntime,
     // Nothing is drawn where there is none.
     task: Option<LongTask>,
-    person: Person,
     began: Option<Instant>,
     read: AtomicU64,
     written: AtomicU64,
@@ -43,11 +39,10 @@ pub struct Progress<'a> {
 }
 
 impl<'a> Progress<'a> {
-    pub fn new(rt: &'a HostRuntime, task: Option<LongTask>, person: Person) -> Progress<'a> {
+    pub fn new(rt: &'a HostRuntime, task: Option<LongTask>) -> Progress<'a> {
         Progress {
             rt,
             task,
-            person,
             began: Instant::now(rt).ok(),
             read: AtomicU64::new(0),
             written: AtomicU64::new(0),
@@ -167,6 +162,10 @@ impl<'a> Line for Progress<'a> {
 }
 
 impl<'a> Gate for Progress<'a> {
+    ghost read_begins = { λ _ _ _. ⊤ };
+
+    ghost read_ended = { λ _ _ _. ⊤ };
+
     fn before_read(&self, _source: u8, _chunk: u32) {}
 
     fn after_read(&self, _source: u8, _chunk: u32) {
@@ -175,29 +174,11 @@ impl<'a> Gate for Progress<'a> {
     }
 }
 
-impl<'a> Asker for Progress<'a> {
-    ghost shows = { λ p. are_shown p.person.questions };
-
-    ghost told_first = { λ p. p.person.is_err_shown };
-
-    // No contract says what a terminal gives; but where nobody is asked, the answer is yes.
-    ghost answered = { λ p _ goes_on. are_asked p.person.questions ≡ false → goes_on ≡ true };
-
-    fn is_there(&self) -> bool {
-        self.person.are_shown()
-    }
-
-    fn is_told_first(&self) -> bool {
-        self.person.is_err_shown()
-    }
-
-    fn goes_on(&self, lines: &[u8]) -> bool {
-        self.clear();
-        self.person.goes_on(self.rt, lines)
-    }
-}
-
 impl<'a> Watch for Progress<'a> {
+    ghost lacks = { λ _ _ _. ⊤ };
+
+    ghost compares = { λ _ _. ⊤ };
+
     fn begins(&self, chunks: u32, first: Option<u32>) {
         let Some(now) = self.milliseconds() else {
             return;

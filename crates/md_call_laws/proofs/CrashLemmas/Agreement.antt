@@ -1,6 +1,6 @@
 -- The members in sync of a resynced array agree in sectors at rest, as the invariant of the model says; and a resync that is done is a run to
 -- such an array.
-use Rattle.std.proofs.Common.{◌≡◌, ℕ, ◌<◌, true, false, cond, nat_lt, ◌&&◌, List, [], ◌∷◌, None, refl, sym, ap, ◌∙◌, subst}
+use Rattle.std.proofs.Common.{◌≡◌, ℕ, ◌<◌, true, false, cond, nat_lt, ◌&&◌, List, [], ◌∷◌, ◌++◌, None, refl, sym, ap, ◌∙◌, subst}
 use Rattle.std.proofs.Math.Bool.{and-false}
 use Rattle.md_kept_members.specs.View.{MemberView}
 use Rattle.md_model.specs.Devices.{Stored}
@@ -10,6 +10,7 @@ use Rattle.md_model.specs.Worlds.{World, IsQuiet}
 use Rattle.md_model.proofs.Cases.{below-nat_lt, none_some}
 use Rattle.md_model.proofs.Steps.Keeps.{IsKept, kept_run}
 use Rattle.md_state.specs.Steps.CopyData.{Lists}
+use Rattle.md_state.specs.Requests.{AreInFlight}
 use Rattle.md_state.specs.View.{ArrayView, Disk, MirrorView, geometry_of}
 use Rattle.md_array.specs.InTurn.{AllOf}
 use Rattle.md_array.specs.Steps.NoteResynced.{IsHonestMember, sector_of}
@@ -24,11 +25,13 @@ use Rattle.md_laws.proofs.Runs.Rests.{at_rest}
 use Rattle.md_laws.specs.Lives.{AtEachMoment, MirrorLife}
 use Rattle.md_laws.specs.ReadInTurn.{IsNoFailedRecord}
 use Rattle.md_laws.specs.Runs.{IsStart, MirrorRun, Moment, history_of, opened_as}
-use Rattle.md_laws.proofs.Runs.Moments.{IsSoundAt, life_keeps, run_keeps, sound_when_opened}
+use Rattle.md_laws.proofs.Runs.Moments.{IsSoundAt, life_keeps, run_keeps, run_then, sound_when_opened}
 use Rattle.md_laws.proofs.Runs.MirrorLives.{keeps_geometry, life_kept}
 use Rattle.md_laws.proofs.Runs.MirrorRuns.{model_run, starts}
 use Rattle.md_laws.proofs.Runs.ReadTurns.{reading_call_is_run}
 use Rattle.md_resync.specs.Resyncing.{IsOfResync, Resyncs}
+use Rattle.md_resync.proofs.Told.{resynced_array}
+use Rattle.md_resync.proofs.ToldRuns.{at_told, told_run, told_sound}
 use Rattle.md_call_laws.specs.Crashes.Agreement.{IsAgreed, AgreesAtRest, IsUnlistedOn, LeavesAgreed, ResyncsAgree}
 
 pub agrees_at_rest : AtEachMoment AgreesAtRest
@@ -36,7 +39,7 @@ agrees_at_rest before m start es rest final last life resynced j k s on_j on_k q
     (life_kept before m start es rest final last life).tracked.quiet resynced j k s on_j on_k quiet
 
 -- ---- a resync
--- none of its events writes a superblock
+-- none of its events writes a superblock, once recovering members are told of
 pub no_record : (e : Event) → IsOfResync e → IsNoFailedRecord e
 no_record (Event.StoreMarks k b) of = tt
 no_record (Event.WriteFails k (MemberPart.BitmapSector b)) of = tt
@@ -58,17 +61,28 @@ module _ (before : List Disk) (m : MirrorView) (start : IsStart before m) (es : 
   at : IsSoundAt t
   at = life_keeps m es rest final t (sound_when_opened before m start.honest start.opened) life
 
-  abbrev events : List Event
-  events = r.goes.events
+  -- recovering members are told of
+  abbrev there : Moment
+  there = at_told t at r.told r.tells
 
-  reaches : (last : Moment) × MirrorRun t events last × ((last.mirror ≡ new) × (last.requests ≡ t.requests))
-  reaches = reading_call_is_run events None t new t.requests (r.goes.leads None t.requests at.in_flight) (no_records events r.goes.steps) at.honest
+  at_there : IsSoundAt there
+  at_there = told_sound t at r.told r.tells
+
+  -- and then it goes on
+  reaches : (last : Moment) × MirrorRun there r.then.goes.events last × ((last.mirror ≡ new) × (last.requests ≡ t.requests))
+  unfolding at_told
+  reaches =
+      reading_call_is_run r.then.goes.events None there new t.requests (r.then.goes.leads None t.requests at_there.in_flight) (no_records r.then.goes.events r.then.goes.steps) at_there.honest
 
   abbrev last : Moment
   last = record reaches.0 { mirror = new; requests = t.requests }
 
+  abbrev events : List Event
+  events = r.tells.goes.events ++ r.then.goes.events
+
   run : MirrorRun t events last
-  run = subst (MirrorRun t events) (λ i. record reaches.0 { mirror = reaches.2.0 i; requests = reaches.2.1 i }) reaches.1
+  run = run_then r.tells.goes.events r.then.goes.events t there last (told_run t at r.told r.tells)
+      (subst (MirrorRun there r.then.goes.events) (λ i. record reaches.0 { mirror = reaches.2.0 i; requests = reaches.2.1 i }) reaches.1)
 
   at_last : IsSoundAt last
   at_last = run_keeps events t last run at
@@ -81,10 +95,14 @@ module _ (before : List Disk) (m : MirrorView) (start : IsStart before m) (es : 
   w = world_of new t.requests
 
   is_resynced : new.array.resynced ≡ true
-  is_resynced = ap (λ (a : ArrayView). a.resynced) r.array.array
+  is_resynced = ap (λ (a : ArrayView). a.resynced) (resynced_array t.mirror new r)
+
+  told_in_flight : AreInFlight r.told.array t.requests
+  unfolding at_told
+  told_in_flight = at_there.in_flight
 
   quiet : (s : ℕ) → IsQuiet w s
-  quiet s n p e = absurd (none_some p (sym (none_there t.mirror.array t.requests at.in_flight r.idle.none n) ∙ e))
+  quiet s n p e = absurd (none_some p (sym (none_there r.told.array t.requests told_in_flight r.then.idle.none n) ∙ e))
 
   -- what stands in a sector of a member in sync is what its world says
   held_there : (k : ℕ) (n : MemberView) (d : Disk) → IsHonestMember new k n d → (s : ℕ) → s < new.array.chunks.size → (w.stored k).content s ≡ sector_of n d s
@@ -105,7 +123,7 @@ module _ (before : List Disk) (m : MirrorView) (start : IsStart before m) (es : 
       ∙ held_there j n e other s low
 
   running : new.array.halted ≡ false
-  running = ap (λ (a : ArrayView). a.halted) r.array.array ∙ r.idle.running
+  running = ap (λ (a : ArrayView). a.halted) r.then.array.array ∙ r.then.idle.running
 
   unlisted : (s : ℕ) → s < new.array.chunks.size → (k : ℕ) (n : MemberView) (d : Disk) → IsHonestMember new k n d → (Lists n s → ⊥) → (w.stored k).listed s ≡ false
   unlisted s low k n d served = unlisted_there new at_last.sound at_last.honest t.requests at_last.in_flight running k s n served.in_sync low

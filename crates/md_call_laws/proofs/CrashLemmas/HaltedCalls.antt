@@ -1,5 +1,5 @@
 -- A write that halted the mirror, and that was left done or not done: what was left stands on the devices before it, or after the same step done.
-use Rattle.std.proofs.Common.{◌≡◌, ◌⊎◌, ◌∙◌, inl, inr, ℕ, Bool, true, false, List, [], ◌∷◌, Option, Some, None, refl, sym, ap, subst}
+use Rattle.std.proofs.Common.{◌≡◌, ◌⊎◌, ◌∙◌, inl, inr, ℕ, Bool, true, false, List, [], ◌∷◌, ◌++◌, Option, Some, None, refl, sym, ap, subst}
 use Rattle.std.proofs.lemmas.List.{append-nil}
 use Rattle.md_model.specs.Events.{Event, MemberPart}
 use Rattle.md_state.specs.Requests.{among}
@@ -21,10 +21,12 @@ use Rattle.md_laws.proofs.Crashes.CopyCrashes.{crashes_at_halted_copies}
 use Rattle.md_metadata.specs.Storing.{IsStoring}
 use Rattle.md_metadata.specs.Stopping.{IsStoringIf, clears_marks}
 use Rattle.md_resync.specs.Resyncing.{IsOfResync}
+use Rattle.md_resync.specs.Telling.{IsTelling}
+use Rattle.md_resync.proofs.ToldRuns.{at_told, told_run, told_sound}
 use Rattle.md_write.proofs.WriteCrashes.{crashes_halting_write}
 use Rattle.md_write.specs.WriteCrashes.{begun_events}
 use Rattle.md_write.specs.Writing.{HaltsWrite}
-use Rattle.md_call_laws.specs.Crashes.HaltedCalls.{IsInstead, IsLeftByHalt, IsLeftSince, IsCrashAtHalt, CrashesAtEachHalt, CrashesAtHaltedResync, CrashesAtHaltedStop, CrashesAtHaltedWrite}
+use Rattle.md_call_laws.specs.Crashes.HaltedCalls.{IsInstead, IsLeftByHalt, IsLeftSince, IsCrashAtHalt, CrashesAtEachHalt, CrashesAtHaltedResync, CrashesAtHaltedStop, CrashesAtHaltedWrite, CrashesAtUntoldResync}
 use Rattle.md_call_laws.proofs.CrashLemmas.Agreement.{no_records}
 use Rattle.md_call_laws.proofs.CrashLemmas.ToldAfter.{HasPair, halting_pair, member_of, told_asked, told_at, told_mirror, told_within}
 
@@ -188,8 +190,26 @@ no_data_copied (Event.WriteFails k (MemberPart.RequestData n)) of is = of
 no_data_copied e of is = is
 
 pub crashes_at_halted_resync : CrashesAtHaltedResync
+unfolding at_told
 crashes_at_halted_resync before m start events rest final t life new h left since asked =
     let at = life_keeps m events rest final t (sound_when_opened before m start.honest start.opened) life in
-    let es = h.goes.events in
-    let reaches = reading_call_is_run es None t h.mid t.requests (h.goes.leads None t.requests at.in_flight) (no_records es h.goes.steps) at.honest in
-    behind es t at h.mid t.requests reaches h.failing new (h.halts t.requests) left since asked (λ other g within is. absurd (no_data_copied h.failing h.of is))
+    let there = at_told t at h.told h.tells in
+    let sound_there = told_sound t at h.told h.tells in
+    let es = h.then.goes.events in
+    let reaches = reading_call_is_run es None there h.then.mid t.requests (h.then.goes.leads None t.requests sound_there.in_flight) (no_records es h.then.goes.steps) sound_there.honest in
+    let whole = run_then h.tells.goes.events es t there reaches.0 (told_run t at h.told h.tells) reaches.1 in
+    behind (h.tells.goes.events ++ es) t at h.then.mid t.requests (reaches.0, whole, reaches.2) h.then.failing new (h.then.halts t.requests) left since asked
+    (λ other g within is. absurd (no_data_copied h.then.failing h.then.of is))
+
+-- nor the superblocks before it
+no_data_told : (e : Event) → IsTelling e → IsData e → ⊥
+no_data_told (Event.WriteFails k (MemberPart.RequestData n)) of is = of
+no_data_told e of is = is
+
+pub crashes_at_untold_resync : CrashesAtUntoldResync
+crashes_at_untold_resync before m start events rest final t life new h in_flight all left since asked =
+    let at = life_keeps m events rest final t (sound_when_opened before m start.honest start.opened) life in
+    let halts = h.halts.halts in
+    behind halts.goes.events t at halts.mid t.requests (call_is_run halts.goes.events None t halts.mid t.requests (halts.goes.leads None t.requests in_flight) at.honest all)
+    halts.failing new (halts.halts t.requests) left since asked
+    (λ other g within is. absurd (no_data_told halts.failing halts.of is))

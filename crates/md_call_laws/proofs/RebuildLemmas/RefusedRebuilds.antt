@@ -104,7 +104,7 @@ module _ (target : ℕ) (t : Moment) (at : IsSteadyAt t) (copied : Bitmap) (stop
   ends_so (inl (inl e)) un = ends_now target (end begun) (end_steady begun at) b.now none so e.passes e.left e.copied e.now e.passed (between_unshifted target t.mirror ready none b e.passes e.left e.copied e.now e.passed un) stopped e.why.1
   ends_so (inl (inr (inl e))) un =
       ends_filling target (end begun) (end_steady begun at) b.now none so e.passes e.left e.copied e.now e.passed (between_unshifted target t.mirror ready none b e.passes e.left e.copied e.now e.passed un) e.why.pass e.why.is e.why.member e.why.at
-      stopped e.why.breaks.filling
+      stopped e.why.breaks.copies.filling
   ends_so (inl (inr (inr (inl e)))) un =
       ends_noting target (end begun) (end_steady begun at) b.now none so e.passes e.left e.copied e.now e.passed (between_unshifted target t.mirror ready none b e.passes e.left e.copied e.now e.passed un) e.why.pass copied e.why.recorded stopped
       e.why.records e.why.fails.taken e.why.fails.notes

@@ -12,7 +12,8 @@ use Rattle.md_laws.specs.CallCrashes.{HaveWholeSectors, AtMoments, IsCrashOf, Le
 use Rattle.md_laws.specs.CopyCrashes.{copies_at}
 use Rattle.md_laws.specs.CrashesWithin.{MayAllBeLeft}
 use Rattle.md_metadata.specs.Stopping.{HaltsStop}
-use Rattle.md_resync.specs.Resyncing.{HaltsResync}
+use Rattle.md_resync.specs.Resyncing.{HaltsResync, HaltsUntold}
+use Rattle.md_resync.specs.Telling.{AfterTelling}
 use Rattle.md_write.specs.WriteCrashes.{begun_events}
 use Rattle.md_write.specs.Writing.{HaltsWrite}
 
@@ -84,10 +85,19 @@ CrashesAtHaltedStop =
     → (left : List Disk) → IsLeftSince h.halts.mid.disks new.disks left
     → IsLeftByHalt h.halts.failing h.halts.mid new t.requests (h.halts.halts t.requests) left → IsCrashAtHalt h.goes.events h.halts.failing t left))
 
--- A crash within a `resync` that halts the mirror, or after it, is one of a run.
+-- A crash within a `resync` that halts the mirror, or after it, is one of a run: where a write failed by which recovering members are told of.
+abbrev pub CrashesAtUntoldResync : Type 0
+CrashesAtUntoldResync =
+    AtMoments (λ t.
+    ((new : MirrorView) (h : HaltsUntold t.mirror new) (in_flight : AreInFlight t.mirror.array t.requests)
+    → AllLeftWhole h.halts.halts.goes.events None t.mirror t.requests (λ m r. (m ≡ h.halts.halts.mid) × (r ≡ t.requests)) (h.halts.halts.goes.leads None t.requests in_flight)
+    → (left : List Disk) → IsLeftSince h.halts.halts.mid.disks new.disks left
+    → IsLeftByHalt h.halts.halts.failing h.halts.halts.mid new t.requests (h.halts.halts.halts t.requests) left → IsCrashAtHalt h.halts.halts.goes.events h.halts.halts.failing t left))
+
+-- A crash within a `resync` that halts the mirror once recovering members are told of, or after it, is one of a run.
 abbrev pub CrashesAtHaltedResync : Type 0
 CrashesAtHaltedResync =
     AtMoments (λ t.
-    ((new : MirrorView) (h : HaltsResync t.mirror new)
-    → (left : List Disk) → IsLeftSince h.mid.disks new.disks left
-    → IsLeftByHalt h.failing h.mid new t.requests (h.halts t.requests) left → IsCrashAtHalt h.goes.events h.failing t left))
+    ((new : MirrorView) (h : AfterTelling HaltsResync t.mirror new)
+    → (left : List Disk) → IsLeftSince h.then.mid.disks new.disks left
+    → IsLeftByHalt h.then.failing h.then.mid new t.requests (h.then.halts t.requests) left → IsCrashAtHalt (h.tells.goes.events ++ h.then.goes.events) h.then.failing t left))

@@ -4,7 +4,7 @@ ghost use Rattle.md_laws.specs.Lives.{AtEachMoment};
 ghost use Rattle.md_call_laws.specs.Crashes.Agreement.{AgreesAtRest, ResyncsAgree};
 ghost use Rattle.md_call_laws.specs.Crashes.Departed.{FindsOutSince, LeavesOut, StaleIsOut, StartsSince, StaysAway, StaysOutNext, StaysOutSince};
 ghost use Rattle.md_call_laws.specs.Crashes.FirstOpening.{IsFoundAsOpened, LeavesAsOpened};
-ghost use Rattle.md_call_laws.specs.Crashes.HaltedCalls.{CrashesAtEachHalt, CrashesAtHaltedResync, CrashesAtHaltedStop, CrashesAtHaltedWrite};
+ghost use Rattle.md_call_laws.specs.Crashes.HaltedCalls.{CrashesAtEachHalt, CrashesAtHaltedResync, CrashesAtHaltedStop, CrashesAtHaltedWrite, CrashesAtUntoldResync};
 ghost use Rattle.md_call_laws.specs.Crashes.JoiningCrashes.{NoneIsOpened, CrashesInAdd, CrashesInFailedAdd, CrashesInFailedReAdd, CrashesInReAdd, CrashesInRefusedAdd, CrashesInRefusedReAdd};
 ghost use Rattle.md_call_laws.specs.Crashes.TornWrites.{ContentAfterCopy, ContentAfterLoneLog, ContentAfterLoneMarks, StartsAfterCopy, StartsAfterLoneLog, StartsAfterLoneMarks};
 
@@ -23,6 +23,7 @@ pub fn halted_calls()
     ensures steps { CrashesAtEachHalt }
     ensures write { CrashesAtHaltedWrite }
     ensures stop { CrashesAtHaltedStop }
+    ensures untold { CrashesAtUntoldResync }
     ensures resync { CrashesAtHaltedResync }
 {}
 

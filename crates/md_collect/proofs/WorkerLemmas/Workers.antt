@@ -1,5 +1,5 @@
 -- What a worker leaves of its queue.
-use Rattle.std.proofs.Common.{◌≡◌, ℕ, ◌+◌, ◌<◌, ◌≤◌, ◌++◌, ◌∷◌, [], Bool, true, false, inl, inr, List, length, Option, Some, None, is_none, count_by, slice_index, get_or, not, cond, refl, ap, sym, ◌∙◌, arith, subst, length-append}
+use Rattle.std.proofs.Common.{◌≡◌, ℕ, ◌+◌, ◌<◌, ◌≤◌, ◌⊎◌, ◌++◌, ◌∷◌, [], Bool, true, false, inl, inr, List, length, Option, Some, None, is_none, count_by, slice_index, get_or, not, cond, refl, ap, sym, ◌∙◌, arith, subst, length-append}
 use Rattle.std.specs.List.{slice_get}
 use Rattle.std.proofs.lemmas.Bool.{cases_lt}
 use Rattle.std.proofs.lemmas.Option.{slice_get_cases}
@@ -16,7 +16,7 @@ use Rattle.md_collect.specs.Reading.{IsReadOfChunk}
 use Rattle.md_collect.specs.Reports.{ReportView}
 use Rattle.md_collect.specs.declared.workers.queue.Queue.{Queue}
 use Rattle.md_collect.specs.Workers.Tally.{Tally}
-use Rattle.md_collect.specs.Workers.Queues.{ReadsNextSlot, HasRead, IsSlotRead, IsReadyForTurn, IsOfWaiting, IsReport, IsUnread, MayReadOn, OnlyRead, is_failed, slots_read}
+use Rattle.md_collect.specs.Workers.Queues.{ReadsNextSlot, HasRead, IsSlotRead, IsReadyForTurn, IsOfNext, IsOfWaiting, IsReport, IsUnread, MayReadOn, OnlyRead, is_failed, slots_read}
 use Rattle.md_collect.proofs.WorkerLemmas.OnlyReads.{Reads, not_read, read_then}
 
 pub some_at : (xs : List ℕ) (i x : ℕ) → slice_get xs i ≡ Some x → (i < length xs) × (x ≡ slice_index xs i)
@@ -145,7 +145,7 @@ module _ {D L M : Type 0} {g : Ghosts D} {chunks : Chunks} where
       last : Has (length queue.reports) is.report
       last = rw (← chunks_kept read, ← offset_kept read, ← role_kept read) (report_since read.only_read is.is)
 
-  none_more : (first queue new : Queue D L M) → HasRead g chunks 0 first queue → new.done ≡ queue.done → OnlyRead g queue.device new.device → IsUnread g queue new
+  none_more : (first queue new : Queue D L M) → HasRead g chunks 0 first queue → new.done ≡ queue.done → OnlyRead g queue.device new.device → IsUnread g chunks queue new
       → new ≡ record queue { device = new.device; share = new.share; reports = new.reports; starved = new.starved } → HasRead g chunks 0 first new
   none_more first queue new read done later is kept = record {
     kept = kept ∙ ap (λ (l : Queue D L M). record l { device = new.device; share = new.share; reports = new.reports; starved = new.starved }) read.kept ∙ rw done refl;
@@ -231,3 +231,21 @@ module _ {D L M : Type 0} {g : Ghosts D} (chunks : Chunks) (queue new : Queue D 
       subst (λ xs. EachNewFault past xs (IsOfWaiting chunks new)) (sym (goes.next.only fed))
       (fails_weaker past (g.faults queue.device) (IsOfWaiting chunks queue) (IsOfWaiting chunks new)
       (λ f w. record { place = w.place; waits = rw goes.next.reports w.waits; failed = λ r. rw goes.next.reports (w.failed r); there = rw (offset, same, done) w.there }) before)
+
+  -- where it was not, the next slot is left, and no report tells of a read of it that failed
+  pub none_more_lacks : (past : List Fault) (more : Bool) → ReadsNextSlot g chunks queue new more → more ≡ false → queue.starved ≡ false → new.starved ≡ true → EachNewFault past (g.faults queue.device) (IsOfWaiting chunks queue)
+      → (slots_read new < length queue.chunks.items) × EachNewFault past (g.faults new.device) (λ f. IsOfWaiting chunks new f ⊎ IsOfNext chunks new f)
+  none_more_lacks past true goes e fed starved before = absurd cc
+  none_more_lacks past false goes e fed starved before =
+      let offset : new.offset ≡ queue.offset = ap (λ (l : Queue D L M). l.offset) goes.kept in
+      let same : new.chunks ≡ queue.chunks = ap (λ (l : Queue D L M). l.chunks) goes.kept in
+      let done : new.done ≡ queue.done = ap (λ (l : Queue D L M). l.done) goes.kept in
+      let n : length new.reports ≡ length queue.reports = ap length goes.next.reports in
+      let left = goes.next.refused fed starved in (
+        (let below = left.0 in omega (arith, n, done, below)),
+        fails_then past (g.faults queue.device) (g.faults new.device) (λ f. IsOfWaiting chunks new f ⊎ IsOfNext chunks new f)
+            (fails_weaker past (g.faults queue.device) (IsOfWaiting chunks queue) (λ f. IsOfWaiting chunks new f ⊎ IsOfNext chunks new f)
+            (λ f w. inl (record { place = w.place; waits = rw goes.next.reports w.waits; failed = λ r. rw goes.next.reports (w.failed r); there = rw (offset, same, done) w.there })) before)
+            (fails_weaker (g.faults queue.device) (g.faults new.device) (IsOfNext chunks queue) (λ f. IsOfWaiting chunks new f ⊎ IsOfNext chunks new f)
+            (λ f h. inr (rw (offset, same, done, goes.next.reports) h)) left.1),
+      )

@@ -1,5 +1,5 @@
 -- A queue: a source, and the chunks that it reads one after another. Before and after its worker reads the next of them.
-use Rattle.std.specs.Prelude.{◌≡◌, ℕ, ◌+◌, ◌-◌, ◌<◌, ◌≤◌, ◌++◌, ◌∷◌, [], Bool, true, false, List, length, Some, None, count_by, slice_index, slice_index_or, not, is_none}
+use Rattle.std.specs.Prelude.{◌≡◌, ◌⊎◌, ℕ, ◌+◌, ◌-◌, ◌<◌, ◌≤◌, ◌++◌, ◌∷◌, [], Bool, true, false, List, length, Some, None, count_by, slice_index, slice_index_or, not, is_none}
 use Rattle.md_device.specs.declared.device.Device.{Ghosts}
 use Rattle.md_device.specs.declared.fault_list.Fault.{Fault}
 use Rattle.md_device.specs.Failing.{EachNewFault}
@@ -50,6 +50,10 @@ pub record IsOfWaiting {D L M : Type 0} (chunks : Chunks) (queue : Queue D L M) 
   pub failed : (r : ReportView) → is_failed (slice_index_or queue.reports place r) ≡ true
   pub there : IsReadOfChunk queue.offset chunks (slice_index queue.chunks.items (queue.done + place)) f
 
+-- a read of nothing but bytes of the chunk of the slot that is next
+abbrev pub IsOfNext : {D L M : Type 0} → Chunks → Queue D L M → Fault → Type 0
+IsOfNext chunks queue = IsReadOfChunk queue.offset chunks (slice_index queue.chunks.items (slots_read queue))
+
 module _ {D L M : Type 0} (g : Ghosts D) where
   -- A queue since it was `first`: slots were read, and the reports of some of them were taken. The reports of the others wait, in order. Its share has no slot more that
   -- was read, and as failed those whose report was taken and that could not be read, so many, and those that wait and could not. The device has
@@ -77,6 +81,11 @@ module _ {D L M : Type 0} (g : Ghosts D) where
     pub goes : MayReadOn chunks queue
     pub none_waits : queue.reports ≡ []
 
+  -- Of the next slot no report could be kept. No call failed but reads of it, and of slots that wait whose report says so.
+  pub record LacksReport (chunks : Chunks) (old new : Queue D L M) : Type 0 where
+    pub some : slots_read new < length old.chunks.items
+    pub only : EachNewFault (g.faults old.device) (g.faults new.device) (λ f. IsOfWaiting chunks new f ⊎ IsOfNext chunks new f)
+
   -- A queue before and after its worker: its next slots were read, no more than a batch has, and at least one unless there was none or memory was
   -- refused. Where it was not, no call failed but reads of those of them whose report says so.
   pub record HasWorked (chunks : Chunks) (old new : Queue D L M) : Type 0 where
@@ -85,6 +94,7 @@ module _ {D L M : Type 0} (g : Ghosts D) where
     pub few : length new.reports ≤ batch_of chunks
     pub some : new.starved ≡ false → old.done < length old.chunks.items → 0 < length new.reports
     pub only : new.starved ≡ false → EachNewFault (g.faults old.device) (g.faults new.device) (IsOfWaiting chunks new)
+    pub lacks : new.starved ≡ true → LacksReport chunks old new
 
   -- the next slot was read, and noted on the share
   pub record IsSlotRead (chunks : Chunks) (old new : Queue D L M) : Type 0 where
@@ -97,15 +107,17 @@ module _ {D L M : Type 0} (g : Ghosts D) where
     pub is : IsReport g old.device new.device old.offset chunks (slice_index old.chunks.items (slots_read old)) old.role report
 
   -- there was none, or memory for it was refused
-  pub record IsUnread (old new : Queue D L M) : Type 0 where
+  pub record IsUnread (chunks : Chunks) (old new : Queue D L M) : Type 0 where
     pub reports : new.reports ≡ old.reports
     pub share : new.share ≡ old.share
     pub why : new.starved ≡ false → length old.chunks.items ≤ slots_read old
     pub only : new.starved ≡ false → g.faults new.device ≡ g.faults old.device
+    pub refused : old.starved ≡ false → new.starved ≡ true
+        → (slots_read old < length old.chunks.items) × EachNewFault (g.faults old.device) (g.faults new.device) (IsOfNext chunks old)
 
   abbrev pub IsReadOrNot : Chunks → Queue D L M → Queue D L M → Bool → Type 0
   IsReadOrNot chunks old new true = IsSlotRead chunks old new
-  IsReadOrNot chunks old new false = IsUnread old new
+  IsReadOrNot chunks old new false = IsUnread chunks old new
 
   -- a queue before and after its next slot was read, or was not
   pub record ReadsNextSlot (chunks : Chunks) (old new : Queue D L M) (read : Bool) : Type 0 where

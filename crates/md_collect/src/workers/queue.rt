@@ -1,6 +1,7 @@
 // A source with the chunks that it reads, and the worker that reads the next of them.
 ghost use Rattle.std.specs.Prelude.{◌≡◌, ◌<◌, ◌≤◌, length, slice_get};
 ghost use Rattle.md_collect.specs.Workers.Batches.{batch_of};
+ghost use Rattle.md_collect.specs.Workers.Gates.{IsToldOfReads};
 ghost use Rattle.md_collect.specs.Workers.Queues.{ReadsNextSlot, HasWorked, IsReadyForTurn, MayReadOn, slots_read};
 ghost use Rattle.md_collect.specs.Workers.Tally.{noted};
 
@@ -57,7 +58,8 @@ pub(crate) fn work<D: Device, G: Gate, L: Ledger, M: Ledger, R: Wait>(
 )
     requires ready { IsReadyForTurn D.Device chunks queue.old }
     requires most { (0 < most) × (most ≤ batch_of chunks) }
-    ensures { HasWorked D.Device chunks queue.old queue.new }
+    ensures worked { HasWorked D.Device chunks queue.old queue.new }
+    ensures told { IsToldOfReads G.Gate gate.now queue.old queue.new }
 {
     queue.starved = false;
     for _slot in 0..most {
@@ -78,7 +80,8 @@ fn read_next<D: Device, G: Gate, L: Ledger, M: Ledger, R: Wait>(
     queue: &mut Queue<D, L, M>,
 ) -> bool
     requires { MayReadOn D.Device chunks queue.old }
-    ensures { ReadsNextSlot D.Device chunks queue.old queue.new result }
+    ensures reads { ReadsNextSlot D.Device chunks queue.old queue.new result }
+    ensures told { IsToldOfReads G.Gate gate.now queue.old queue.new }
 {
     let Some(chunk) = queue.next_chunk() else {
         return false;

@@ -1,6 +1,7 @@
 // A turn: each queue's worker reads chunks.
 ghost use Rattle.std.specs.Prelude.{◌≡◌, ◌+◌, ◌-◌, ◌<◌, ◌≤◌, length, ℕ, slice_index_or};
 ghost use Rattle.std.specs.List.{All};
+ghost use Rattle.md_collect.specs.Workers.Gates.{IsToldOfReads};
 ghost use Rattle.md_collect.specs.Workers.Queues.{IsReadyForTurn, HasWorked};
 
 use crate::workers::batch::turn_of;
@@ -35,6 +36,8 @@ pub fn turn<
     ensures len { length queues.new.items ≡ length queues.old.items }
     ensures worked { (k : ℕ) (d : _) → k < length queues.old.items
         → HasWorked D.Device chunks (slice_index_or queues.old.items k d) (slice_index_or queues.new.items k d) }
+    ensures told { (k : ℕ) (d : _) → k < length queues.old.items
+        → IsToldOfReads G.Gate gate.now (slice_index_or queues.old.items k d) (slice_index_or queues.new.items k d) }
 {
     let threads = queues.len().max(1);
     let most = turn_of(chunks, threads);

@@ -10,6 +10,8 @@ use Rattle.md_collect.specs.Places.{HasRoom, chunk_on}
 use Rattle.md_collect.specs.Reading.{CountsFailure, FailsInChunk}
 use Rattle.md_collect.specs.Reports.{Copying}
 use Rattle.md_device.specs.declared.device.Device.{Ghosts}
+use Rattle.md_device.specs.declared.fault_list.Fault.{Fault}
+use Rattle.md_device.specs.Failing.{EachNewFault}
 use Rattle.md_pass.specs.Beside.{KeepsBeside, SameBesideCopied}
 use Rattle.md_collect.specs.Workers.Queues.{AreOnlyRead, OnlyRead}
 use Rattle.md_pass.specs.Copied.{AreCopied}
@@ -86,6 +88,14 @@ module _ {D : Type 0} (g : Ghosts D) where
         (subst (CountsFailure g (get_or olds target x.from)) (get_or_from_slice_get news target y.from x.from y.at) (fails x.from)) in
         subst (λ (z : Disk). CountsFailure of_disks z e) x.is (subst (CountsFailure of_disks (disk_of g x.from)) y.is both)
 
+    pub target_unfailing : ((d : D) → g.faults (slice_index_or news target d) ≡ g.faults (slice_index_or olds target d)) → (d e : Disk) → slice_get (seen olds) target ≡ Some d → slice_get (seen news) target ≡ Some e → e.faults ≡ d.faults
+    target_unfailing same d e at_d at_e =
+        let x = mapped_from (disk_of g) olds target d at_d in
+        let y = mapped_from (disk_of g) news target e at_e in
+        let both = subst (λ (z : D). g.faults y.from ≡ g.faults z) (get_or_from_slice_get olds target x.from x.from x.at)
+        (subst (λ (z : D). g.faults z ≡ g.faults (get_or olds target x.from)) (get_or_from_slice_get news target y.from x.from y.at) (same x.from)) in
+        subst (λ (z : Disk). e.faults ≡ z.faults) x.is (subst (λ (z : Disk). z.faults ≡ g.faults x.from) y.is both)
+
     pub target_beside : (chunks : Chunks) (offset : ℕ) (before after : Bitmap) → ((d : D) → SameBesideCopied chunks offset before after (g.content (slice_index_or olds target d)) (g.content (slice_index_or news target d)))
         → AtDevice target (seen olds) (seen news) (λ d e. SameBesideCopied chunks offset before after d.content e.content)
     target_beside chunks offset before after same d e at_d at_e =
@@ -123,6 +133,19 @@ module _ {D : Type 0} (g : Ghosts D) where
         let both = subst (λ (z : D). FailsInChunk g x.from z offset chunks chunk) new
         (subst (λ (z : D). FailsInChunk g z (slice_index_or (remove news target) (place_beside target j) x.from) offset chunks chunk) old (fails x.from)) in
         subst (λ (z : Disk). FailsInChunk of_disks z e offset chunks chunk) x.is (subst (λ (z : Disk). FailsInChunk of_disks (disk_of g x.from) z offset chunks chunk) y.is both)
+
+    -- no other call of it failed
+    pub other_only : (j : ℕ) (P : Fault → Type 0) → j ≢ target
+        → ((d : D) → EachNewFault (g.faults (slice_index_or (remove olds target) (place_beside target j) d)) (g.faults (slice_index_or (remove news target) (place_beside target j) d)) P)
+        → (d e : Disk) → slice_get (seen olds) j ≡ Some d → slice_get (seen news) j ≡ Some e → EachNewFault d.faults e.faults P
+    other_only j P other only d e at_d at_e =
+        let x = mapped_from (disk_of g) olds j d at_d in
+        let y = mapped_from (disk_of g) news j e at_e in
+        let old = beside_old j x.from other x.at x.from in
+        let new = beside_new j y.from other y.at x.from in
+        let both = subst (λ (z : D). EachNewFault (g.faults x.from) (g.faults z) P) new
+        (subst (λ (z : D). EachNewFault (g.faults z) (g.faults (slice_index_or (remove news target) (place_beside target j) x.from)) P) old (only x.from)) in
+        subst (λ (z : Disk). EachNewFault z.faults e.faults P) x.is (subst (λ (z : Disk). EachNewFault (g.faults x.from) z.faults P) y.is both)
 
     -- a slot was copied
     module _ (v w : MirrorView) (v_is : v.disks ≡ seen olds) (w_is : w.disks ≡ seen news) (offset : ℕ) (slots : List Slot) (sources : List Source) (are : AreSources v target slots sources) where

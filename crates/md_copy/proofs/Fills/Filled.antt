@@ -10,14 +10,16 @@ use Rattle.md_assembly.specs.States.{is_in_sync, is_in_sync_as}
 use Rattle.md_bitmap.specs.Marks.{Bitmap, is_set}
 use Rattle.md_cert.specs.declared.plan.Plan.{Plan}
 use Rattle.md_cert.specs.declared.slots.Slot.{Slot}
-use Rattle.md_collect.specs.Reading.{FailsInChunk}
-use Rattle.md_collect.specs.Reports.{Copying}
+use Rattle.md_collect.specs.Reading.{FailsInChunk, IsReadOfChunk}
+use Rattle.md_collect.specs.Reports.{Copying, is_planned}
 use Rattle.md_device.specs.declared.device.Device.{Ghosts}
+use Rattle.md_device.specs.Failing.{EachNewFault}
+use Rattle.md_device.proofs.Failing.{fails_weaker}
 use Rattle.md_kept_members.specs.View.{MemberView}
 use Rattle.md_pass.specs.Beside.{KeepsBeside}
-use Rattle.md_pass.specs.Copied.{BreaksOff, CountFailed, EndsPass, FailThere, HasCopied, OnFault, PassState, failed_slots, is_failed_slot, pass_state}
+use Rattle.md_pass.specs.Copied.{BreaksOff, CountFailed, EndsPass, FailOnlyThere, FailThere, HasCopied, IsOfFailedSlot, OnFault, PassState, failed_slots, is_failed_slot, pass_state}
 use Rattle.md_collect.specs.Workers.Queues.{AreOnlyRead}
-use Rattle.md_pass.specs.Readings.{is_of}
+use Rattle.md_pass.specs.Readings.{has_slot, is_of}
 use Rattle.md_pass.specs.Sources.{copy_of}
 use Rattle.md_pass.specs.declared.fault.PassFault.{PassFault}
 use Rattle.md_pass.specs.declared.fault.PassFault.TheVariants.{NoMemory, TargetFault}
@@ -29,9 +31,9 @@ use Rattle.md_state.specs.Missing.{is_rebuilt}
 use Rattle.md_state.specs.View.{Disk, MirrorView}
 use Rattle.md_array.specs.Consistency.{IsConsistent}
 use Rattle.md_rebuild_table.proofs.Served.{in_sync_as}
-use Rattle.md_copy.specs.Filling.{CopiesChunks, CountsFailed, FailsOnWrite, FillsPass, HaveFailedThere, IsFilling}
+use Rattle.md_copy.specs.Filling.{CopiesChunks, CountsFailed, FailsOnWrite, FillsPass, HaveFailedOnlyThere, HaveFailedThere, IsFilling, IsOfUncopiedSlot, LacksMemoryToFill}
 use Rattle.md_copy.specs.RebuildSources.{AreSources, IsPlanOf, IsServedBy, IsSourceAt, place_beside}
-use Rattle.md_copy.proofs.Fills.Carried.{other_counts, other_there, seen, slot_copied, target_beside, target_fails}
+use Rattle.md_copy.proofs.Fills.Carried.{other_counts, other_only, other_there, seen, slot_copied, target_beside, target_fails, target_unfailing}
 use Rattle.md_copy.proofs.Fills.LentBack.{filling, rebuilt_out, within}
 use Rattle.md_copy.proofs.Plans.SourcesChosen.{takes_as}
 
@@ -151,9 +153,42 @@ module _ {D : Type 0} (g : Ghosts D) (v : MirrorView) (sound : IsConsistent v) (
       (subst (λ o. (x : D) → FailsInChunk g (slice_index_or (remove olds target) s.place x) (slice_index_or (remove news target) s.place x) o v.array.chunks slot.chunk) offset there_is))
       d e (in_v k d at_d) (in_w k e at_e)
 
+  -- and no other call of it failed
+  failed_only : ((d : D) → FailOnlyThere g copy after sources (remove olds target) (remove news target)) → HaveFailedOnlyThere slots after v w
+  failed_only fails k role m at_m in_role has d e at_d at_e =
+      let hit = Any-from_list_any (is_of role) slots has in
+      let role_is : hit.1.source ≡ role = eqb-true hit.1.source role hit.4 in
+      let by = subst (λ (t : Slot). Any (IsServedBy v target t) sources) hit.3 (are.served hit.0 hit.1 hit.2) in
+      let s = by.1 in
+      let source = by.4.is in
+      let s_role : s.role ≡ role = by.4.role ∙ role_is in
+      let one : by.4.at ≡ k = sound.roles.one_each by.4.at k role by.4.member m source.listed at_m
+      (takes_as role by.4.member.state (subst (λ r. is_in_sync_as r by.4.member.state ≡ true) s_role source.in_sync)) (takes_as role m.state in_role) in
+      let is : by.4.member ≡ m = same_Some by.4.member m (sym source.listed ∙ ap (slice_get v.array.members) one ∙ at_m) in
+      let offset : s.offset ≡ m.superblock.data_offset = source.offset ∙ ap (λ (z : MemberView). z.superblock.data_offset) is in
+      let place : s.place ≡ place_beside target k = source.place ∙ ap (place_beside target) one in
+      let P = IsOfUncopiedSlot slots after v.array.chunks role m.superblock.data_offset in
+      let only = λ (x : D).
+      fails_weaker (g.faults (slice_index_or (remove olds target) s.place x)) (g.faults (slice_index_or (remove news target) s.place x)) (IsOfFailedSlot copy after s) P
+      (λ f h. record {
+        chunk = h.chunk;
+        planned = subst (λ r. is_planned slots h.chunk r ≡ true) s_role h.planned;
+        uncopied = h.uncopied;
+        there = subst (λ o. IsReadOfChunk o v.array.chunks h.chunk f) offset h.there;
+      })
+      (subst (λ (z : Source). EachNewFault (g.faults (slice_index_or (remove olds target) z.place x)) (g.faults (slice_index_or (remove news target) z.place x)) (IsOfFailedSlot copy after z)) by.3
+      (fails x by.0 s by.2 (subst (λ (z : Source). has_slot slots z.role ≡ true) (sym by.3) (subst (λ r. has_slot slots r ≡ true) (sym s_role) has)) x)) in
+      other_only g olds news target there as_many k P (is_other k role m at_m in_role)
+      (subst (λ n. (x : D) → EachNewFault (g.faults (slice_index_or (remove olds target) n x)) (g.faults (slice_index_or (remove news target) n x)) P) place only)
+      d e (in_v k d at_d) (in_w k e at_e)
+
   -- ---- the whole answer
   pub passed : (result : Result BoardCounts PassFault) → ((d : D) → MatchResult result (EndsPass g copy sources (old d) (new d)) (BreaksOff g copy sources (old d) (new d)))
-      → MatchResult result (λ counts. FillsPass target member slots before after v w counts.failed) (OnFault (CopiesChunks target member slots before after v w) (FailsOnWrite target member slots v w))
-  passed (Ok counts) h = record { copies = copies (λ d. (h d).copied); failed_are = (h some).failed; counted = counted (λ d. (h d).counted); there = failed_there (λ d. (h d).there) }
-  passed (Err NoMemory) h = copies h
+      → MatchResult result (λ counts. FillsPass target member slots before after v w counts.failed) (OnFault (LacksMemoryToFill target member slots before after v w) (FailsOnWrite target member slots v w))
+  passed (Ok counts) h = record { copies = copies (λ d. (h d).copied); failed_are = (h some).failed; counted = counted (λ d. (h d).counted); there = failed_there (λ d. (h d).there); only = failed_only (λ d. (h d).only_there) }
+  passed (Err NoMemory) h = record {
+    copies = copies (λ d. (h d).copied);
+    unfailing = λ d e at_d at_e. target_unfailing g olds news target there as_many (λ x. (h x).unfailing) d e (in_v target d at_d) (in_w target e at_e);
+    only = failed_only (λ d. (h d).only_there);
+  }
   passed (Err TargetFault) h = record { filling = filled; failed = λ d e at_d at_e. target_fails g olds news target there as_many h d e (in_v target d at_d) (in_w target e at_e) }

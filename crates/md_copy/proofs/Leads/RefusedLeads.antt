@@ -465,7 +465,7 @@ module _ (target : ℕ) where
     -- ---- memory was refused, a log had no room, or a member failed
     lacks_memory : (after : Bitmap) (new : MirrorView) → LacksMemoryToRebuild target m none after ready new → ComesTo old new
     lacks_memory after new (inl e) = then_comes (λ left copied now. (after ≡ copied) × (new ≡ now)) e new e.why.1
-    lacks_memory after new (inr (inl e)) = broken_off NoMemory new (with_set target m none ready (λ b left copied now. BreaksOffPass target NoMemory left copied b now new) after e) e.why.breaks.filling
+    lacks_memory after new (inr (inl e)) = broken_off NoMemory new (with_set target m none ready (λ b left copied now. BreaksOffPass target NoMemory left copied b now new) after e) e.why.breaks.copies.filling
     lacks_memory after new (inr (inr (inl e))) = noted_comes NoMemory new (with_set target m none ready (λ b left copied now. FailsListing target NoMemory left copied b now new) after e) e.why.fails
     lacks_memory after new (inr (inr (inr e))) = copied_comes e.passes e.copied new new e.copies refl
 

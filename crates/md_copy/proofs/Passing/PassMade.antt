@@ -121,7 +121,7 @@ module _ (target : ℕ) (v : MirrorView) (ready : IsReadyToCopy target v) (withi
       makes failed fills =
           let at = got_within a.members target within in
           let f = fills at.0 at.1 in
-          record { is = is_pass after; member = at.0; at = at.1; uncopied = uncopied; copies = f.copies; failed = refl; counted = f.counted; there = f.there; sound = sound }
+          record { is = is_pass after; member = at.0; at = at.1; uncopied = uncopied; copies = f.copies; failed = refl; counted = f.counted; there = f.there; only = f.only; sound = sound }
 
       pub made_one : (failed : ℕ) → Fills failed → (x : MirrorView) → Checkpoints target after w x → IsConsistent x → (told : Passed) → told.planned ≡ planned → told.failed ≡ failed
           → MakesOne target rows before after v x told

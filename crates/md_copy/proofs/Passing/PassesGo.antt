@@ -154,7 +154,7 @@ module _ (target : ℕ) (m : MemberView) (none : Bitmap) (first now : MirrorView
 
   -- ---- one that was not made
   off_ready : (after : Bitmap) (new : MirrorView) (b : BreaksOffPass target NoMemory (chunks_of_rows rows) copied after now new) → IsReadyToCopy target new
-  off_ready after new b = ready_filled target now new b.breaks.filling.array b.sound so.ready
+  off_ready after new b = ready_filled target now new b.breaks.copies.filling.array b.sound so.ready
 
   off_lacks : (after : Bitmap) (new : MirrorView) (b : BreaksOffPass target NoMemory (chunks_of_rows rows) copied after now new) → (c : ℕ) → has_chunk (slots_of_pass b.pass) c ≡ true → is_missing now.array b.member c ≡ true
   off_lacks after new b c planned =
@@ -165,7 +165,7 @@ module _ (target : ℕ) (m : MemberView) (none : Bitmap) (first now : MirrorView
       subst (λ n. is_missing now.array b.member n ≡ true) chunk lacks.missing
 
   off_held : (after : Bitmap) (new : MirrorView) (b : BreaksOffPass target NoMemory (chunks_of_rows rows) copied after now new) → AreHeld new target after
-  off_held after new b = held_filled target b.member (slots_of_pass b.pass) copied after now new b.at b.breaks (off_lacks after new b) so.held
+  off_held after new b = held_filled target b.member (slots_of_pass b.pass) copied after now new b.at b.breaks.copies (off_lacks after new b) so.held
 
   abbrev Between : (List ℕ → Bitmap → MirrorView → Type 0) → Type 0
   Between Why = EndsBetween target m none first Why

@@ -636,10 +636,10 @@ module _ (target : ℕ) (old ready : MirrorView) (none : Bitmap) (b : BeginsRebu
       let p = bare e.why.pass in
       record {
         s = ended e.passes (p ∷ []) [] e.copied;
-        ends = ends_filled Why e e.why.pass e.why.is e.why.member e.why.at stopped e.why.breaks.filling e.why.sound;
+        ends = ends_filled Why e e.why.pass e.why.is e.why.member e.why.at stopped e.why.breaks.copies.filling e.why.sound;
         noted = inl refl;
         has = has_now Why e (p ∷ []) [];
-        left = inl (λ c low set. e.why.breaks.joined.kept c set, has_more Why e [] e.why.pass after e.why.breaks.joined, (so_far Why e).held.chunks ∙ ap (λ (b : Bitmap). b.chunks) (there Why e).marks);
+        left = inl (λ c low set. e.why.breaks.copies.joined.kept c set, has_more Why e [] e.why.pass after e.why.breaks.copies.joined, (so_far Why e).held.chunks ∙ ap (λ (b : Bitmap). b.chunks) (there Why e).marks);
       }
   lacks_memory after stopped (inr (inr (inl e))) =
       let Why : List ℕ → Bitmap → MirrorView → Type 0 = λ left copied now. FailsListing target NoMemory left copied after now stopped in

@@ -4,7 +4,6 @@ use Rattle.md_device.specs.Device.{held}
 use Rattle.md_bitmap.specs.Chunks.{InChunk}
 use Rattle.md_badblocks.specs.Runs.{IsBad}
 use Rattle.md_check.proofs.ChunkSectors.{before_end, in_its_chunk}
-use Rattle.md_collect.specs.Places.{sectors_of_chunk, start_of}
 use Rattle.md_check.proofs.ChunkFaults.{run_failed}
 use Rattle.md_check.proofs.SectorsRead.{front_read}
 use Rattle.md_check.proofs.work.read_front.Goals as goal
@@ -66,5 +65,5 @@ returns-in-Err-clause-there g c =
     let from = here.from in
     let least = c.min-most.ensures in
     let positive : 0 < run = (let not = c.if-run-eq0.false in omega arith) in
-    run_failed (g.D.Device.faults c.args.device.now) (g.D.Device.faults c.read_run-answer.new.device) c.args.offset (start_of chunks chunk) (sectors_of_chunk chunks chunk) sector run (length (take (512 * run) xs))
-    c.in-Err.ensures.there from (omega (arith, most, least, ends, at, from, positive)) positive long
+    run_failed (g.D.Device.faults c.args.device.now) (g.D.Device.faults c.read_run-answer.new.device) c.args.offset chunk chunks (IsBad c.args.listed.now) sector run (length (take (512 * run) xs))
+    c.in-Err.ensures.there from (omega (arith, most, least, ends, at, from, positive)) positive long c.clear_run-run.ensures.clear

@@ -2,6 +2,7 @@ use Rattle.std.proofs.Common.{◌≡◌, ◌∙◌, ◌+◌, ◌*◌, ◌-◌, �
 use Rattle.std.proofs.lemmas.List.{length-take-le}
 use Rattle.std.proofs.lemmas.Result.{err_from_is_err_and}
 use Rattle.md_collect.proofs.WorkerLemmas.OnlyReads.{read_then}
+use Rattle.md_badblocks.specs.Runs.{IsBad}
 use Rattle.md_check.specs.Readings.{HasUnlisted}
 use Rattle.md_check.proofs.ChunkFaults.{chunk_since}
 use Rattle.md_check.proofs.SectorsRead.{length-replaced, more_read}
@@ -39,4 +40,4 @@ pub returns-in_err-passed-clause-there : goal.returns-in_err-passed-clause-there
 returns-in_err-passed-clause-there g c =
     let p = err_from_is_err_and c.from_residual.result c.from_residual.ensures.1 in
     rw (p.1, p.2)
-    (chunk_since g.D.Device c.args.device.now c.loop-done.device c.read_front.new.device c.args.offset c.args.chunks c.in_err-passed.field-0.0 c.loop-done.invariant.only_read c.in_err-passed.ensures.there)
+    (chunk_since g.D.Device c.args.device.now c.loop-done.device c.read_front.new.device c.args.offset c.args.chunks (IsBad c.args.listed.now) c.in_err-passed.field-0.0 c.loop-done.invariant.only_read c.in_err-passed.ensures.there)

@@ -40,3 +40,26 @@ returns-in-Ok-ask_first-clause-gives g c =
             (subst (λ members. LaysOutOn g.S.Sink (map word_of c.args.words.now) members seen after c.args.session.now.out c.lay_out_on.new.out c.lay_out_on.result.1) c.as_slice-in-Ok-ask_first.ensures.value c.lay_out_on.ensures.gives);
       });
     })
+
+pub returns-clause-gives : goal.returns-clause-gives
+returns-clause-gives g c =
+    let disk = disk_of g.D.Device in
+    let names = texts c.args.names.now in
+    let before = map disk c.args.devices.items in
+    let seen = map disk c.note_held_on_each.new.devices.items in
+    let new : AreNewMembers c.args.params.now names before c.in-Ok.members.items = subst (λ ds. AreNewMembers c.args.params.now names (map disk ds) c.in-Ok.members.items) c.as_slice.ensures.value c.in-Ok.ensures.members in
+    let looks = when_ok c.note_held_on_each.result c.is_err.result (NotesHeldOnEach before seen c.args.notices.now c.note_held_on_each.new.self) c.is_err.ensures.value c.if-is_err.false c.note_held_on_each.ensures.looks in
+    inr (record {
+      members = c.in-Ok.members.items;
+      made = new;
+      seen = seen;
+      looks = looks;
+      rest = refl;
+      done = inr (record {
+        why = c.in-Err-ask_first.fault;
+        is = refl;
+        declined = c.in-Err-ask_first.ensures;
+        same = refl;
+        unused = refl;
+      });
+    })

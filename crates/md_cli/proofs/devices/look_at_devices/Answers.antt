@@ -3,7 +3,7 @@ use Rattle.md_state.specs.View.{Disk, disk_of}
 use Rattle.md_words.specs.Asks.{ask_of}
 use Rattle.md_messages.specs.Telling.{texts}
 use Rattle.md_cli.specs.Arrays.{OpensDevices, disks, overlaid}
-use Rattle.md_cli.specs.Asking.{question_of}
+use Rattle.md_messages.specs.Question.{question}
 use Rattle.md_cli.specs.Streams.{told_of}
 use Rattle.md_cli.proofs.Overlaid.{overlay_ghosts, shown_over}
 use Rattle.md_cli.proofs.devices.look_at_devices.Goals as goal
@@ -19,5 +19,5 @@ returns-clause-gives g c =
       forgotten = c.forget_stored.ensures;
       answer = done.result.1;
       told = c.answer_of_overlays.ensures.told;
-      opened = subst (λ (all : List Disk). OpensDevices g.R.Source g.S.Sink (question_of g.W.Asker c.args.session.now (ask_of c.args.command) (texts c.args.names.now)) (texts c.args.names.now) (ask_of c.args.command) all seen (told_of c.args.session.now c.args.notices.now) (told_of done.new.session done.new.notices) done.result.1) over done.ensures.gives;
+      opened = subst (λ (all : List Disk). OpensDevices g.R.Source g.S.Sink (question g.A.Asker (ask_of c.args.command) (texts c.args.names.now)) (texts c.args.names.now) (ask_of c.args.command) all seen (told_of c.args.session.now c.args.notices.now) (told_of done.new.session done.new.notices) done.result.1) over done.ensures.gives;
     })

@@ -4,7 +4,7 @@ use Rattle.md_state.specs.View.{disk_of}
 use Rattle.md_words.specs.Asks.{ask_of}
 use Rattle.md_messages.specs.Noticed.{with_dropped}
 use Rattle.md_messages.specs.Telling.{texts}
-use Rattle.md_cli.specs.Asking.{question_of}
+use Rattle.md_messages.specs.Question.{question}
 use Rattle.md_cli.specs.Opened.{opened_view}
 use Rattle.md_cli.specs.Streams.{streams_of}
 use Rattle.md_cli.proofs.Performed.{all_answered, as_many_back, refused_back, room_back, shown_back, there_same, within_back}
@@ -17,7 +17,7 @@ all_back-requires-clause-room g c =
     let new = c.perform_asked-done.new.opened in
     let ask = ask_of c.args.command in
     let many = c.in-Ok.ensures.gives.marked.same.as_many ∙ length-map c.args.members.items (disk_of d) in
-    let back = all_answered g.R.Source g.S.Sink (question_of g.W.Asker c.args.session.now (ask_of c.args.command) (texts c.args.names.now)) (texts c.args.names.now) c.note.new.self (record { mirror = c.in-Ok.mirror; beside = option_map (disk_of d) c.args.beside }) (opened_view d new) (streams_of c.args.session.now) (streams_of c.perform_asked-done.new.session) ask c.perform_asked-done.result (there_same (disk_of d) c.args.beside ∙ c.requires.brings) c.perform_asked-done.ensures.answers in
+    let back = all_answered g.R.Source g.S.Sink (question g.A.Asker (ask_of c.args.command) (texts c.args.names.now)) (texts c.args.names.now) c.note.new.self (record { mirror = c.in-Ok.mirror; beside = option_map (disk_of d) c.args.beside }) (opened_view d new) (streams_of c.args.session.now) (streams_of c.perform_asked-done.new.session) ask c.perform_asked-done.result (there_same (disk_of d) c.args.beside ∙ c.requires.brings) c.perform_asked-done.ensures.answers in
     room_back d ask c.args.members.items c.into_devices-members.result.items c.args.beside new.beside c.in-Ok.mirror.disks new.mirror.disks many c.into_devices-members.ensures back _ c.requires.room
 
 pub all_back-requires-clause-within : goal.all_back-requires-clause-within
@@ -26,7 +26,7 @@ all_back-requires-clause-within g c =
     let new = c.perform_asked-done.new.opened in
     let ask = ask_of c.args.command in
     let many = c.in-Ok.ensures.gives.marked.same.as_many ∙ length-map c.args.members.items (disk_of d) in
-    let back = all_answered g.R.Source g.S.Sink (question_of g.W.Asker c.args.session.now (ask_of c.args.command) (texts c.args.names.now)) (texts c.args.names.now) c.note.new.self (record { mirror = c.in-Ok.mirror; beside = option_map (disk_of d) c.args.beside }) (opened_view d new) (streams_of c.args.session.now) (streams_of c.perform_asked-done.new.session) ask c.perform_asked-done.result (there_same (disk_of d) c.args.beside ∙ c.requires.brings) c.perform_asked-done.ensures.answers in
+    let back = all_answered g.R.Source g.S.Sink (question g.A.Asker (ask_of c.args.command) (texts c.args.names.now)) (texts c.args.names.now) c.note.new.self (record { mirror = c.in-Ok.mirror; beside = option_map (disk_of d) c.args.beside }) (opened_view d new) (streams_of c.args.session.now) (streams_of c.perform_asked-done.new.session) ask c.perform_asked-done.result (there_same (disk_of d) c.args.beside ∙ c.requires.brings) c.perform_asked-done.ensures.answers in
     within_back d ask c.args.members.items c.into_devices-members.result.items c.args.beside new.beside c.in-Ok.mirror.disks new.mirror.disks many c.into_devices-members.ensures back
 
 pub returns-in-Ok-clause-as_many : goal.returns-in-Ok-clause-as_many
@@ -35,7 +35,7 @@ returns-in-Ok-clause-as_many g c =
     let new = c.perform_asked-done.new.opened in
     let ask = ask_of c.args.command in
     let many = c.in-Ok.ensures.gives.marked.same.as_many ∙ length-map c.args.members.items (disk_of d) in
-    let back = all_answered g.R.Source g.S.Sink (question_of g.W.Asker c.args.session.now (ask_of c.args.command) (texts c.args.names.now)) (texts c.args.names.now) c.note.new.self (record { mirror = c.in-Ok.mirror; beside = option_map (disk_of d) c.args.beside }) (opened_view d new) (streams_of c.args.session.now) (streams_of c.perform_asked-done.new.session) ask c.perform_asked-done.result (there_same (disk_of d) c.args.beside ∙ c.requires.brings) c.perform_asked-done.ensures.answers in
+    let back = all_answered g.R.Source g.S.Sink (question g.A.Asker (ask_of c.args.command) (texts c.args.names.now)) (texts c.args.names.now) c.note.new.self (record { mirror = c.in-Ok.mirror; beside = option_map (disk_of d) c.args.beside }) (opened_view d new) (streams_of c.args.session.now) (streams_of c.perform_asked-done.new.session) ask c.perform_asked-done.result (there_same (disk_of d) c.args.beside ∙ c.requires.brings) c.perform_asked-done.ensures.answers in
     as_many_back d ask c.args.members.items c.into_devices-members.result.items c.args.beside new.beside c.in-Ok.mirror.disks new.mirror.disks many c.into_devices-members.ensures back c.all_back.result.items c.all_back.ensures
 
 pub returns-in-Ok-clause-gives : goal.returns-in-Ok-clause-gives
@@ -44,7 +44,7 @@ returns-in-Ok-clause-gives g c =
     let new = c.perform_asked-done.new.opened in
     let ask = ask_of c.args.command in
     let many = c.in-Ok.ensures.gives.marked.same.as_many ∙ length-map c.args.members.items (disk_of d) in
-    let back = all_answered g.R.Source g.S.Sink (question_of g.W.Asker c.args.session.now (ask_of c.args.command) (texts c.args.names.now)) (texts c.args.names.now) c.note.new.self (record { mirror = c.in-Ok.mirror; beside = option_map (disk_of d) c.args.beside }) (opened_view d new) (streams_of c.args.session.now) (streams_of c.perform_asked-done.new.session) ask c.perform_asked-done.result (there_same (disk_of d) c.args.beside ∙ c.requires.brings) c.perform_asked-done.ensures.answers in
+    let back = all_answered g.R.Source g.S.Sink (question g.A.Asker (ask_of c.args.command) (texts c.args.names.now)) (texts c.args.names.now) c.note.new.self (record { mirror = c.in-Ok.mirror; beside = option_map (disk_of d) c.args.beside }) (opened_view d new) (streams_of c.args.session.now) (streams_of c.perform_asked-done.new.session) ask c.perform_asked-done.result (there_same (disk_of d) c.args.beside ∙ c.requires.brings) c.perform_asked-done.ensures.answers in
     inl (record {
       opened = c.in-Ok.mirror;
       opens = c.in-Ok.ensures.gives;

@@ -2,7 +2,7 @@ use Rattle.std.proofs.Common.{◌≡◌, ◌∙◌, Bool, refl, rules, subst, sy
 use Rattle.md_words.specs.Asks.{ask_of}
 use Rattle.md_messages.specs.Telling.{texts}
 use Rattle.md_cli.specs.Arrays.{LooksAtDevices, WorksBy, disks}
-use Rattle.md_cli.specs.Asking.{question_of}
+use Rattle.md_messages.specs.Question.{question}
 use Rattle.md_cli.specs.Streams.{told_of}
 use Rattle.md_cli.proofs.devices.with_devices.Goals as goal
 
@@ -12,5 +12,5 @@ returns-then-is_readonly-clause-gives g c =
     let call = c.look_at_devices-result in
     let all = disks g.D.Device c.args.devices.items in
     let same : c.deref.result.now ≡ c.args.devices.items = search rules in
-    let looks = subst (λ items. LooksAtDevices g.R.Source g.S.Sink (question_of g.W.Asker c.args.session.now (ask_of c.args.command) (texts c.args.names.now)) (texts c.args.names.now) ask (disks g.D.Device items) (told_of c.args.session.now c.args.notices.now) (told_of call.new.session call.new.notices) call.result) same call.ensures.gives in
-    subst (λ (b : Bool). WorksBy g.R.Source g.S.Sink (question_of g.W.Asker c.args.session.now (ask_of c.args.command) (texts c.args.names.now)) (texts c.args.names.now) ask b all all (told_of c.args.session.now c.args.notices.now) (told_of call.new.session call.new.notices) call.result) (sym c.if-is_readonly.true ∙ c.is_readonly.ensures) (refl, looks)
+    let looks = subst (λ items. LooksAtDevices g.R.Source g.S.Sink (question g.A.Asker (ask_of c.args.command) (texts c.args.names.now)) (texts c.args.names.now) ask (disks g.D.Device items) (told_of c.args.session.now c.args.notices.now) (told_of call.new.session call.new.notices) call.result) same call.ensures.gives in
+    subst (λ (b : Bool). WorksBy g.R.Source g.S.Sink (question g.A.Asker (ask_of c.args.command) (texts c.args.names.now)) (texts c.args.names.now) ask b all all (told_of c.args.session.now c.args.notices.now) (told_of call.new.session call.new.notices) call.result) (sym c.if-is_readonly.true ∙ c.is_readonly.ensures) (refl, looks)

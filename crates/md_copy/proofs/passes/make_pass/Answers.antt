@@ -51,3 +51,6 @@ returns-in-Err-TargetFault-clause-gives g c =
     not_recorded c.args.target c.args.mirror.now c.requires.ready c.requires.within c.args.rows.now c.args.copied.now c.requires.held c.requires.table c.in_ok-planned.field-0.planned c.in_ok-planned.ensures.certified
     c.in_ok-planned.ensures.least c.in_ok-planned.ensures.orphans c.fill.new.copied c.fill.new.mirror c.fill.ensures.sound c.in_ok-failed.failed c.in_ok-failed.ensures.gives
     c.checkpoint.new.self (subst (RefusesCheckpoint c.args.target c.fill.new.copied c.fill.new.mirror c.checkpoint.new.self) c.in-Err-TargetFault.field-0-is c.in-Err-TargetFault.ensures.gives) c.checkpoint.ensures.sound
+
+pub returns-in-Ok-clause-told : goal.returns-in-Ok-clause-told
+returns-in-Ok-clause-told g c = c.in_ok-failed.ensures.told

@@ -1,4 +1,7 @@
+use Rattle.std.proofs.Common.{List, subst, sym}
 use Rattle.std.proofs.lemmas.Result.{err_from_is_err_and}
+use Rattle.md_plan.specs.declared.planner.Planned.{Planned}
+use Rattle.md_copy.specs.Told.{IsToldOfPlans}
 use Rattle.md_assembly.proofs.Indices.{got_within}
 use Rattle.md_copy.proofs.Steps.Answered.{enrol_stops, passes_stop, rebuilds_readied}
 use Rattle.md_copy.proofs.whole_rebuild.rebuild_readied.Goals as goal
@@ -34,3 +37,6 @@ pub returns-clause-gives : goal.returns-clause-gives
 returns-clause-gives g c m at =
     rebuilds_readied c.args.target m c.args.copied.now c.args.mirror.now at c.requires.ready c.copy_passes.new.copied c.copy_passes.new.mirror c.in_ok-plans.plans.items (c.in_ok-plans.ensures.gives m at)
     c.enrol_copied.new.mirror c.store_until_done.new.mirror c.in_ok-told.told c.in_ok-told.ensures.gives c.enrol_copied.ensures.sound c.store_until_done.ensures.stores_until_done
+
+pub returns-clause-told : goal.returns-clause-told
+returns-clause-told g c = subst (λ (xs : List Planned). IsToldOfPlans g.G.Gate c.args.gate.now xs) (sym c.in_ok-told.ensures.gives.plans_are) c.in_ok-plans.ensures.told

@@ -8,4 +8,4 @@ returns-in-Ok g c =
     inl (record { buf = c.take.new.buf; count = c.in-Ok.count; room = room; gives = c.in-Ok.ensures.gives; is = c.is_yes.ensures })
 
 pub returns-in-Err : goal.returns-in-Err
-returns-in-Err g c = inr (record { failed = c.in-Err.ensures.gives; is = refl })
+returns-in-Err g c = inr (record { failed = c.in-Err.ensures.gives.has_failed; is = refl })

@@ -1,17 +1,20 @@
-use Rattle.std.proofs.Common.{rules, ◌≡◌, Err, subst}
-use Rattle.std.specs.Prelude.{MatchResult}
+use Rattle.std.proofs.Common.{rules, ◌≡◌, ap, Err, List, subst}
+use Rattle.std.specs.List.{All}
+use Rattle.std.specs.Prelude.{MatchResult, OnOk}
+use Rattle.md_cert.specs.declared.slots.Slot.{Slot}
+use Rattle.md_collect.specs.Workers.Gates.{IsTold}
 use Rattle.md_collect.specs.Reports.{Copying}
 use Rattle.md_pass.specs.declared.fault.PassFault.TheVariants.{NoMemory}
 use Rattle.md_pass.specs.Copied.{BreaksOff, EndsPass, WritesPlanned, pass_state}
 use Rattle.md_pass.specs.Preparing.{sources_of}
 use Rattle.md_pass.specs.Sources.{copy_of}
-use Rattle.md_pass.proofs.PassSources.{can_copy, gives_of_all, nothing_copied, nothing_written}
+use Rattle.md_pass.proofs.PassSources.{can_copy, gives_of_all, nothing_done, nothing_written}
 use Rattle.md_pass.proofs.pass.copy_pass.Goals as goal
 
 pub returns-in_err-prepared-clause-gives : goal.returns-in_err-prepared-clause-gives
 returns-in_err-prepared-clause-gives g c =
     let is : c.from_residual.result ≡ Err NoMemory = search rules in
-    rw is (nothing_copied g.D.Device (copy_of c.args.plan.now.slots c.args.chunks c.args.offset) c.args.sources.now (pass_state c.args.devices.now.items c.args.target.now c.args.copied.now) c.requires.uncopied)
+    rw is (nothing_done g.D.Device (copy_of c.args.plan.now.slots c.args.chunks c.args.offset) c.args.sources.now (pass_state c.args.devices.now.items c.args.target.now c.args.copied.now) c.requires.uncopied)
 
 pub returns-in_err-prepared-clause-writes : goal.returns-in_err-prepared-clause-writes
 returns-in_err-prepared-clause-writes g c =
@@ -38,3 +41,7 @@ pub returns-clause-writes : goal.returns-clause-writes
 returns-clause-writes g c =
     subst (λ (x : Copying). WritesPlanned g.D.Device x (pass_state c.args.devices.now.items c.args.target.now c.args.copied.now) (pass_state c.copy_prepared.new.devices.items c.copy_prepared.new.target c.copy_prepared.new.copied))
     c.in_ok-prepared.ensures.copy c.copy_prepared.ensures.writes
+
+pub returns-clause-told : goal.returns-clause-told
+returns-clause-told g c =
+    subst (λ (slots : List Slot). OnOk c.copy_prepared.result (All (λ (slot : Slot). IsTold g.G.Gate c.args.gate.now slot.source slot.chunk) slots)) (ap (λ (x : Copying). x.slots) c.in_ok-prepared.ensures.copy) c.copy_prepared.ensures.told

@@ -34,6 +34,7 @@ loop-round-preserved g c =
       reports_taken = taken_then (g.D.Device.honest c.args.target.now) start now next first olds news many inv.reports_taken
           (subst (λ (b : Bool). HaveTakenReports g.D.Device b now next olds news) inv.writes.target.honest_kept c.in_ok-take_round.ensures.reports_taken);
       writes = writes_then c.args.collector.now c.loop-round.collector c.take_round.new.collector c.args.target.now c.loop-round.target c.take_round.new.target inv.writes c.take_round.ensures.writes;
+      none_failed = c.in_ok-take_round.ensures.none_failed ∙ inv.none_failed;
     }
 
 pub returns-clause-taken : goal.returns-clause-taken

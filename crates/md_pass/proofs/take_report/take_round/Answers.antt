@@ -49,6 +49,7 @@ loop-k-preserved g c =
             j d d below;
       };
       writes = writes_then c.args.collector.now c.loop-k.collector c.take_report.new.collector c.args.target.now c.loop-k.target c.take_report.new.target inv.writes c.take_report.ensures.writes;
+      none_failed = c.in_ok-take_report.ensures.none_failed ∙ inv.none_failed;
     }
 
 pub returns-in_err-take_report-clause-failed : goal.returns-in_err-take_report-clause-failed

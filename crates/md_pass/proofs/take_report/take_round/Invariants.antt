@@ -12,4 +12,5 @@ invariant-loop-k g l = record {
   reports_taken : HaveTakenReports g.D.Device (g.D.Device.honest l.initial.target) (books l.initial.collector (g.D.Device.content l.initial.target) l.initial.copied)
       (books l.collector (g.D.Device.content l.target) l.copied) l.initial.queues.items l.queues.items;
   writes : WritesBeside g.D.Device l.initial.collector l.collector l.initial.target l.target;
+  none_failed : g.D.Device.faults l.target ≡ g.D.Device.faults l.initial.target;
 }

@@ -2,15 +2,19 @@ use Rattle.std.proofs.Common.{◌≡◌, not, ap, Some, None, refl, ◌∙◌, a
 use Rattle.std.specs.List.{slice_get}
 use Rattle.md_collect.specs.Workers.Queues.{slots_read}
 use Rattle.md_collect.specs.Workers.Tally.{noted}
+use Rattle.md_collect.proofs.WorkerLemmas.Gates.{told_next}
 use Rattle.md_collect.proofs.WorkerLemmas.OnlyReads.{not_read, reads_failed, reads_only, reads_report}
 use Rattle.md_collect.proofs.WorkerLemmas.Workers.{some_at, none_at}
 use Rattle.md_collect.proofs.workers.queue.read_next.Goals as goal
 
-pub returns-in_default : goal.returns-in_default
-returns-in_default g c =
+pub returns-in_default-clause-told : goal.returns-in_default-clause-told
+returns-in_default-clause-told g c = λ j from below. absurd (omega (arith, from, below))
+
+pub returns-in_default-clause-reads : goal.returns-in_default-clause-reads
+returns-in_default-clause-reads g c =
     let queue = c.args.queue.now in
     let none : slice_get queue.chunks.items (slots_read queue) ≡ None = search rules in
-    record { kept = refl; only_read = not_read queue.device; next = record { reports = refl; share = refl; why = λ fed. none_at queue.chunks.items (slots_read queue) none; only = λ fed. refl } }
+    record { kept = refl; only_read = not_read queue.device; next = record { reports = refl; share = refl; why = λ fed. none_at queue.chunks.items (slots_read queue) none; only = λ fed. refl; refused = λ fed starved. absurd cc } }
 
 pub read_chunk_into-answer-requires-clause-chunk : goal.read_chunk_into-answer-requires-clause-chunk
 read_chunk_into-answer-requires-clause-chunk g c =
@@ -26,8 +30,16 @@ note-requires g c =
     let there = some_at queue.chunks.items (slots_read queue) c.in-Some.chunk some in
     omega (arith, c.requires.left, there.0)
 
-pub returns : goal.returns
-returns g c =
+pub returns-clause-told : goal.returns-clause-told
+returns-clause-told g c =
+    let queue = c.args.queue.now in
+    let some : slice_get queue.chunks.items (slots_read queue) ≡ Some c.in-Some.chunk = search rules in
+    let there = some_at queue.chunks.items (slots_read queue) c.in-Some.chunk some in
+    told_next g.G.Gate c.args.gate.now queue (record queue { device = c.read_chunk_into-answer.new.device; share = c.note.new.share; reports = c.push.new.self }) c.in-Ok.report (search rules) refl
+    (rw (← there.1) (record { begins = c.before_read.ensures; ended = c.after_read.ensures }))
+
+pub returns-clause-reads : goal.returns-clause-reads
+returns-clause-reads g c =
     let queue = c.args.queue.now in
     let some : slice_get queue.chunks.items (slots_read queue) ≡ Some c.in-Some.chunk = search rules in
     let there = some_at queue.chunks.items (slots_read queue) c.in-Some.chunk some in

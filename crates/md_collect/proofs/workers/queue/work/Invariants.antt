@@ -1,5 +1,6 @@
 use Rattle.std.proofs.Common.{◌≡◌, false, length}
 use Rattle.md_device.specs.Failing.{EachNewFault}
+use Rattle.md_collect.specs.Workers.Gates.{IsToldOfReads}
 use Rattle.md_collect.specs.Workers.Queues.{HasRead, IsOfWaiting}
 use Rattle.md_collect.proofs.workers.queue.work.Given as goal
 
@@ -10,4 +11,5 @@ invariant-loop-slot g l = record {
   fed : l.queue.starved ≡ false;
   count : length l.queue.reports ≡ l._slot;
   only : EachNewFault (g.D.Device.faults l.initial.queue.device) (g.D.Device.faults l.queue.device) (IsOfWaiting l.chunks l.queue);
+  told : IsToldOfReads g.G.Gate l.gate l.initial.queue l.queue;
 }

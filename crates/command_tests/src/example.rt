@@ -22,6 +22,6 @@ fn example(rt: HostRuntime) -> Result<(), Fail> {
     let alloc = rt.alloc();
     let disks = vec![in alloc; small_member(alloc, 0)?, small_member(alloc, 1)?]?;
     let sector = write_and_read(alloc, disks)?;
-    holds(&rt, &"the sector", sector == [0xa5; 512]);
+    holds(&rt, "the sector", sector == [0xa5; 512]);
     Ok(())
 }

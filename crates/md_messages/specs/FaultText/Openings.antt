@@ -1,0 +1,48 @@
+-- Why devices are not opened as an array, and why none is made of them, as text.
+use Rattle.std.specs.Prelude.{ℕ, List, ◌++◌, codes, decimal}
+use Rattle.md_array.specs.declared.fault.OpenFault.{OpenFault}
+use Rattle.md_array.specs.declared.fault.OpenFault.TheVariants as open_fault
+use Rattle.md_assembly.specs.declared.fault.AssembleFault.{AssembleFault}
+use Rattle.md_assembly.specs.declared.fault.AssembleFault.TheVariants as assemble
+use Rattle.md_commands.specs.declared.option_fault.OptionFault.{OptionFault}
+use Rattle.md_commands.specs.declared.option_fault.OptionFault.TheVariants as option
+use Rattle.md_create.specs.declared.fault.CreateFault.{CreateFault}
+use Rattle.md_create.specs.declared.fault.CreateFault.TheVariants as create
+use Rattle.md_messages.specs.FaultText.Members.{member_refusal_text}
+
+-- two devices of one number, by their places
+abbrev pub double_number_text : ℕ → ℕ → List ℕ
+double_number_text j k = (codes "DoubleNumber " ++ decimal j) ++ (codes " " ++ decimal k)
+
+abbrev pub assemble_text : AssembleFault → List ℕ
+assemble_text assemble.Empty = codes "Empty"
+assemble_text assemble.TooMany = codes "TooMany"
+assemble_text (assemble.Stranger k) = codes "Stranger " ++ decimal k
+assemble_text (assemble.DoubleNumber j k) = double_number_text j k
+assemble_text (assemble.NoBitmap k) = codes "NoBitmap " ++ decimal k
+assemble_text (assemble.Geometry k) = codes "Geometry " ++ decimal k
+assemble_text (assemble.DoubleRole role) = codes "DoubleRole " ++ decimal role
+assemble_text assemble.NotEnough = codes "NotEnough"
+assemble_text assemble.NoMemory = codes "NoMemory"
+
+-- a device that is not read as a member is named by its place
+abbrev pub unread_member_text : ℕ → List ℕ → List ℕ
+unread_member_text k why = (codes "Member " ++ decimal k) ++ (codes " " ++ why)
+
+abbrev pub open_refusal_text : OpenFault → List ℕ
+open_refusal_text (open_fault.Member k why) = unread_member_text k (member_refusal_text why)
+open_refusal_text (open_fault.Assemble why) = codes "Assemble " ++ assemble_text why
+open_refusal_text (open_fault.MetadataFault k) = codes "MetadataFault " ++ decimal k
+open_refusal_text open_fault.NoMemory = codes "NoMemory"
+
+abbrev pub create_text : CreateFault → List ℕ
+create_text create.BadGeometry = codes "BadGeometry"
+create_text create.NoMemory = codes "NoMemory"
+
+abbrev pub option_text : OptionFault → List ℕ
+option_text option.BadLevel = codes "BadLevel"
+option_text option.BadUuid = codes "BadUuid"
+option_text option.BadName = codes "BadName"
+option_text option.BadCount = codes "BadCount"
+option_text option.BadChunk = codes "BadChunk"
+option_text option.BadSize = codes "BadSize"
