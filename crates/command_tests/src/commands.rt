@@ -107,3 +107,33 @@ pub(crate) fn play<R: Abort + Threads + Wait + Sync>(
     }
     Ok(())
 }
+
+fn give_each<R: Abort + Threads + Wait + Sync>(
+    rt: &R,
+    alloc: Global,
+    images: &mut HeldImages,
+    cases: &[Case],
+) -> Result<(), Fail> {
+    for case in cases {
+        give(rt, alloc, images, case)?;
+    }
+    Ok(())
+}
+
+// The cases one after the other on these images. Those of the cases themselves are not asked.
+pub(crate) fn play_in_turn<R: Abort + Threads + Wait + Sync>(
+    rt: &R,
+    alloc: Global,
+    images: &[Image],
+    parts: &[&[Case]],
+) -> Result<(), Fail> {
+    let mut held = held_images(alloc, images)?;
+    for cases in parts {
+        if let Err(fault) = give_each(rt, alloc, &mut held, cases) {
+            drop(held);
+            return Err(fault);
+        }
+    }
+    drop(held);
+    Ok(())
+}

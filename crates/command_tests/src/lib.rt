@@ -1,5 +1,6 @@
 //! Tests of commands on images in memory: on images that fail or are protected, with an input of which some reads are
-//! interrupted; of a question that can't be shown, and the library's example.
+//! interrupted; a sequence of them, in which an array is made and a member comes back; of a question that can't be shown, and
+//! the library's example.
 //!
 //! Start with `Case` and `play` (`commands.rt`): a case is images, and a command on them.
 //!
@@ -14,6 +15,8 @@
 
 #[cfg(test)]
 mod checks;
+#[cfg(test)]
+mod command_rows;
 #[cfg(test)]
 mod commands;
 #[cfg(test)]

@@ -64,11 +64,11 @@ pub record AreNewMembers (params : CreateParams) (words : List Text) (disks : Li
   pub as_many : length members ≡ length disks
 
 module _ (params : CreateParams) (words : List Text) where
-  -- Before the first write: the devices make no array, or there is no memory.
+  -- Before the first write: the devices make no array, or they do, and there is no memory.
   abbrev pub IsRefusal : List Disk → CommandFault → Type 0
   IsRefusal disks (fault.Create BadGeometry) = (size : ℕ) → IsGeometry params (sizes_of words disks) size → ⊥
   IsRefusal disks (fault.Create NoMemory) = (size : ℕ) × IsGeometry params (sizes_of words disks) size
-  IsRefusal disks fault.NoMemory = Unit {0}
+  IsRefusal disks fault.NoMemory = (size : ℕ) × IsGeometry params (sizes_of words disks) size
   IsRefusal disks _ = ⊥
 
   pub record RefusesDevices {X : Type 0} (before after : List Disk) (old new : X)

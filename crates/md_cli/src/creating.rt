@@ -14,7 +14,7 @@ use crate::session::Session;
 use crate::show_devices::show_devices;
 use crate::sizing::sizes_of;
 use md_commands::CommandFault;
-use md_create::{CreateParams, NewMember, create};
+use md_create::{CreateFault, CreateParams, NewMember, create};
 use md_device::Device;
 use md_examine::Sink;
 use md_images::{Access, ImageWord, Images, image_list, put_back, take_images};
@@ -34,8 +34,8 @@ fn members_of<D: Device>(
         AreNewMembers params.now (texts names.now) (disks D.Device devices.now) members.items) }
     ensures refused { IfErr result (IsRefusal params.now (texts names.now) (disks D.Device devices.now)) }
 {
-    let Ok(sizes) = sizes_of(alloc, names, devices) else {
-        return Err(CommandFault::NoMemory);
+    let Some(sizes) = sizes_of(names, devices) else {
+        return Err(CommandFault::Create(CreateFault::BadGeometry));
     };
     match create(alloc, params, sizes.as_slice()) {
         Ok(members) => Ok(members),

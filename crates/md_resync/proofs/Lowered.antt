@@ -76,6 +76,9 @@ module _ (sector : ℕ) (m n : MemberView) (same : n ≡ record (lowered_member 
   offset_is : n.superblock.recovery_offset ≡ sure (is_recovering m.state)
   offset_is = ap (λ (x : MemberView). x.superblock.recovery_offset) same
 
+  pub goes_on_from : is_recovering m.state ≡ true → n.superblock.recovery_offset ≡ min m.superblock.recovery_offset sector
+  goes_on_from on = offset_is ∙ ap sure on
+
   pub is_as_told : IsAsTold m n
   is_as_told = record {
     same = same ∙ ap (λ (o : ℕ). record m { superblock = record m.superblock { recovery_offset = o }; stored = n.stored; due = n.due; stored_offset = n.stored_offset }) (sym offset_is);
@@ -106,6 +109,7 @@ tells_nothing m sound none = record {
   };
   array = refl;
   told = λ k x at on c marked. absurd (none c marked);
+  as_far = λ chunk first. absurd (none chunk first.marked);
   unmarked = λ _. refl;
 }
 
@@ -156,6 +160,7 @@ module _ (sector : ℕ) (old mid : MirrorView) (l : LowersAll sector old mid) wh
         from : MemberView
         at : IsMember old.array k from
         as_told : IsAsTold from n
+        goes_on : is_recovering from.state ≡ true → n.superblock.recovery_offset ≡ min from.superblock.recovery_offset sector
         says : is_recovering n.state ≡ true → n.stored_offset ≤ sector
 
       was_lowered : (k : ℕ) (n : MemberView) → IsMember new.array k n → WasLowered k n
@@ -170,6 +175,7 @@ module _ (sector : ℕ) (old mid : MirrorView) (l : LowersAll sector old mid) wh
             from = x.from;
             at = x.at;
             as_told = is_as_told sector x.from n same recorded told (s.done k n at);
+            goes_on = goes_on_from sector x.from n same recorded told (s.done k n at);
             says = says_below sector x.from n same recorded told (s.done k n at);
           }
 
@@ -192,8 +198,18 @@ module _ (sector : ℕ) (old mid : MirrorView) (l : LowersAll sector old mid) wh
             let there : IsMarked old.array.marks c = subst (λ (a : ArrayView). IsMarked a.marks c) array_is marked in
             subst (λ (a : ArrayView). n.stored_offset ≤ c * a.chunks.sectors) (sym array_is)
             (below_chunk chunk c old.array.chunks.sectors sector n.stored_offset is (first.least c (omega arith) there) (w.says on));
+        as_far = λ other also k m n was at on.
+            let w = was_lowered k n at in
+            let from : m ≡ w.from = got_same old.array.members k m w.from was w.at in
+            let same : other ≡ chunk = one_least other chunk (also.least chunk (omega arith) first.marked) (first.least other (omega arith) also.marked) in
+            subst (λ (o : ℕ). n.superblock.recovery_offset ≡ min m.superblock.recovery_offset o) (is ∙ ap (λ (c : ℕ). c * old.array.chunks.sectors) (sym same))
+            (subst (λ (x : MemberView). n.superblock.recovery_offset ≡ min x.superblock.recovery_offset sector) (sym from)
+            (w.goes_on (sym (ap (λ (x : MemberView). is_recovering x.state) from) ∙ on)));
         unmarked = λ none. absurd (none chunk first.marked);
       }
         where
+          one_least : (a b : ℕ) → a ≤ b → b ≤ a → a ≡ b
+          one_least a b up down = omega arith
+
           below_chunk : (low c width at offset : ℕ) → at ≡ low * width → low ≤ c → offset ≤ at → offset ≤ c * width
           below_chunk low c width at offset same below most = let more = mul-le-mul_right width below in let at_most = subst (λ (x : ℕ). offset ≤ x) same most in omega arith

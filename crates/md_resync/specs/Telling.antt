@@ -1,7 +1,7 @@
 -- Before members in sync are made to agree in marked chunks, no recovering member's superblock says any more that the member has them: whoever
 -- goes on from its recovery_offset reads what is below it, and asks no mark (md_p.h; this project's own order).
-use Rattle.std.specs.Prelude.{◌≡◌, ℕ, ◌*◌, ◌≤◌, true, false, length}
-use Rattle.md_bitmap.specs.Marks.{IsMarked}
+use Rattle.std.specs.Prelude.{◌≡◌, ℕ, ◌*◌, ◌≤◌, true, false, length, min}
+use Rattle.md_bitmap.specs.Marks.{IsMarked, IsNextMarked}
 use Rattle.md_model.specs.Events.{Event, MemberPart}
 use Rattle.md_assembly.specs.States.{is_recovering}
 use Rattle.md_kept_members.specs.View.{MemberView}
@@ -42,6 +42,11 @@ pub record AreAsTold (old new : ArrayView) : Type 0 where
   pub as_many : length new.members ≡ length old.members
   pub each : (k : ℕ) (m n : MemberView) → IsMember old k m → IsMember new k n → IsAsTold m n
 
+-- Each recovering member goes on from this sector, or from where it was if that is below it: no more of its progress is lost.
+abbrev pub GoOnFrom : ℕ → ArrayView → ArrayView → Type 0
+GoOnFrom sector old new =
+    (k : ℕ) (m n : MemberView) → IsMember old k m → IsMember new k n → is_recovering m.state ≡ true → n.superblock.recovery_offset ≡ min m.superblock.recovery_offset sector
+
 -- What recovering members have is told anew, where a superblock said too much. Where no chunk is marked nothing is done.
 pub record Tells (old new : MirrorView) : Type 0 where
   pub goes : GoesOn only_others only_others IsTelling old new
@@ -49,6 +54,7 @@ pub record Tells (old new : MirrorView) : Type 0 where
   pub members : AreAsTold old.array new.array
   pub array : new.array ≡ record old.array { members = new.array.members }
   pub told : AllSayNoneMarked new.array
+  pub as_far : (chunk : ℕ) → IsNextMarked old.array.marks 0 chunk → GoOnFrom (chunk * old.array.chunks.sectors) old.array new.array
   pub unmarked : ((c : ℕ) → IsMarked old.array.marks c → ⊥) → new ≡ old
 
 -- A call was done after that.
