@@ -3,7 +3,7 @@ use Rattle.std.specs.Prelude.{◌≡◌, ℕ, ◌<◌, ◌&&◌, List, length}
 use Rattle.md_bitmap.specs.Marks.{Bitmap, is_set}
 use Rattle.md_kept_members.specs.View.{MemberView}
 use Rattle.md_plan.specs.declared.planner.Planned.{Planned}
-use Rattle.md_state.specs.Steps.Enrol.{HasFullLog}
+use Rattle.md_state.specs.Steps.Enrol.{HasFullLog, HasRoomInLog}
 use Rattle.md_state.specs.Missing.{is_missing}
 use Rattle.md_state.specs.View.{MirrorView}
 use Rattle.md_array.specs.Steps.Enrol.{Enrols, FailsToEnrol, MayEnrol}
@@ -27,7 +27,7 @@ pub record LacksOwnRoom (target : ℕ) (copied orphans after : Bitmap) (old new 
 -- why it does not
 abbrev pub RefusesFilledTarget : ℕ → Bitmap → Bitmap → MirrorView → MirrorView → RebuildFault → Type 0
 RefusesFilledTarget target copied orphans old new (LogFull k) = (k ≡ target) × HasNoRoom target copied orphans old new
-RefusesFilledTarget target copied orphans old new NoMemory = new ≡ old
+RefusesFilledTarget target copied orphans old new NoMemory = (new ≡ old) × HasRoomInLog target copied orphans old.array
 RefusesFilledTarget target copied orphans old new TargetFault = FailsToEnrol target copied orphans old new
 RefusesFilledTarget target copied orphans old new fault = ⊥
 

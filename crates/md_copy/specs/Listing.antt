@@ -16,7 +16,7 @@ use Rattle.md_super.specs.declared.superblock.Superblock.{Superblock}
 use Rattle.md_state.specs.DeviceChanges.{StaysHonest}
 use Rattle.md_state.specs.DiskWrites.{AtDevice}
 use Rattle.md_state.specs.Members.{AllInSync, IsInSync, IsMember}
-use Rattle.md_state.specs.Steps.NoteBad.{HasFullLogFor}
+use Rattle.md_state.specs.Steps.NoteBad.{HasFullLogFor, MayNote}
 use Rattle.md_state.specs.View.{ArrayView, Disk, MirrorView, of_disks}
 use Rattle.md_state.specs.Steps.WriteMember.{IsNotDue}
 use Rattle.md_array.specs.Steps.Enrol.{KeepsData}
@@ -58,10 +58,10 @@ pub record NotesLists (failed : List Slot) (old new : MirrorView) : Type 0 where
   pub others : new.array ≡ record old.array { members = new.array.members }
   pub room : HaveRoom failed new.array
 
--- Why the slot's chunk is not listed: its source's log has no room for it, or memory was refused.
+-- Why the slot's chunk is not listed: its source's log has no room for it, or it has, and memory was refused.
 abbrev pub WhyNotNoted : Slot → ArrayView → RebuildFault → Type 0
 WhyNotNoted slot a (LogFull k) = IsSourceInRole a k slot.source × HasFullLogFor k slot.chunk a
-WhyNotNoted slot a NoMemory = Unit {0}
+WhyNotNoted slot a NoMemory = (k : ℕ) × IsSourceInRole a k slot.source × ((list : List Run) × MayNote k slot.chunk a list)
 WhyNotNoted slot a fault = ⊥
 
 -- The chunk of this slot is not listed, for this fault, and all is as before.

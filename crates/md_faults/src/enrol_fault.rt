@@ -3,7 +3,7 @@
 use thiserror::Error;
 
 /// Why a member that was rebuilt does not come into sync, in the order in which it is looked for. All
-/// memory is taken after `EventsFull` and before anything is written.
+/// memory is taken after `LogFull` and before anything is written.
 #[derive(Clone, Copy, Debug, PartialEq, Eq, Error)]
 pub enum EnrolFault {
     /// The mirror is halted.

@@ -2,6 +2,12 @@
 pub mod BlockCopied
 -- Sectors of chunks are taken from a list, or added to it, chunk by chunk.
 pub mod ChunksListed
+-- How many entries a list takes, by going through its sectors.
+pub mod EntryCounts
+-- What a list has of the sectors of a chunk, and below the first and past the last.
+pub mod ListedParts
+-- There is a list of each set of sectors that can be decided.
+pub mod ListsFound
 -- What is kept of the members that were read.
 pub mod Kept
 -- Members by their indices, and what is found by going through them.

@@ -20,6 +20,8 @@ pub mod TakingBack
 pub mod Spares
 -- What is kept in memory of a member that was rebuilt, and comes into sync: its list, and its own fields (this project's own).
 pub mod Enrolling
+-- How many entries a member's log takes for a list that is not made.
+pub mod Entries
 -- What an array's superblock and its members say of device numbers and roles.
 pub mod Membership
 -- All of a member but its data, stored on its device.

@@ -14,7 +14,7 @@ use Rattle.md_kept_members.specs.View.{MemberView}
 use Rattle.md_faults.specs.declared.enrol_fault.EnrolFault.{EnrolFault}
 use Rattle.md_faults.specs.declared.enrol_fault.EnrolFault.TheVariants.{Halted, EventsFull, LogFull, TargetFault, NoMemory}
 use Rattle.md_state.specs.DiskWrites.{AtDevice}
-use Rattle.md_state.specs.Steps.Enrol.{ComesWith, HasFullLog, MayTakeRole, RefusesRole, enrolled}
+use Rattle.md_state.specs.Steps.Enrol.{ComesWith, HasFullLog, HasRoomInLog, MayTakeRole, RefusesRole, enrolled}
 use Rattle.md_state.specs.Headers.{IsHeaderFor}
 use Rattle.md_state.specs.Steps.MakeClean.{first_number}
 use Rattle.md_state.specs.Members.{IsInSync, IsMember}
@@ -105,7 +105,7 @@ RefusesEnrol k copied orphans old new Halted = Refuses old new (RefusesRole old.
 RefusesEnrol k copied orphans old new EventsFull = Refuses old new (RefusesRole old.array EventsFull)
 RefusesEnrol k copied orphans old new (LogFull j) = Refuses old new ((j ≡ k) × ((role : ℕ) × MayTakeRole k old.array role) × HasFullLog k copied orphans old.array)
 RefusesEnrol k copied orphans old new TargetFault = FailsToEnrol k copied orphans old new
-RefusesEnrol k copied orphans old new NoMemory = Refuses old new ((role : ℕ) × MayTakeRole k old.array role)
+RefusesEnrol k copied orphans old new NoMemory = Refuses old new (((role : ℕ) × MayTakeRole k old.array role) × HasRoomInLog k copied orphans old.array)
 
 -- An opening would read of the devices what is kept of the members, as before, once it is in sync; and it is not spoiled any more.
 abbrev pub EnrolReads : ℕ → MirrorView → MirrorView → {T E : Type 0} → Result T E → Type 0

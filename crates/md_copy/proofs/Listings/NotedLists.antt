@@ -26,7 +26,7 @@ use Rattle.md_pass.specs.Copied.{failed_slots, is_failed_slot}
 use Rattle.md_copy.specs.PassLaws.Listed.{IsSourceInRole}
 use Rattle.md_copy.proofs.PassLemmas.Listing.{lists_add}
 use Rattle.md_rebuild_table.specs.declared.fault.RebuildFault.{RebuildFault}
-use Rattle.md_rebuild_table.specs.declared.fault.RebuildFault.TheVariants.{LogFull}
+use Rattle.md_rebuild_table.specs.declared.fault.RebuildFault.TheVariants.{LogFull, NoMemory}
 use Rattle.md_rebuild_table.proofs.Served.{in_sync_as}
 use Rattle.md_copy.specs.Listing.{ChangesListAlone, FitsLog, HaveRoom, IsNoting, NotesLists, RefusesSlot, EndsNoting, WhyNotNoted}
 use Rattle.md_copy.proofs.Plans.SourcesChosen.{takes_as}
@@ -102,6 +102,13 @@ slot_full k slot a b sound within j r =
     let full = r.reason.1 in
     let here : RefusesSlot slot a b (LogFull k) = record { unchanged = r.unchanged; why = (source_of k slot a sound within full.member full.at, full) } in
     subst (λ i. RefusesSlot slot a b (LogFull i)) (sym r.reason.0) here
+
+-- its log has room, and memory was refused
+pub slot_unnoted : (k : ℕ) (slot : Slot) (a b : MirrorView) → IsConsistent a → ((m : MemberView) → IsMember a.array k m → is_in_sync_as slot.source m.state ≡ true)
+    → RefusesChunk k slot.chunk a b note.NoMemory → RefusesSlot slot a b NoMemory
+slot_unnoted k slot a b sound within r =
+    let may = r.reason.1 in
+    record { unchanged = r.unchanged; why = (k, source_of k slot a sound within may.member may.at, r.reason) }
 
 -- ---- one after another
 pub notes_none : (a : MirrorView) → IsConsistent a → NotesLists [] a a

@@ -1,6 +1,6 @@
 -- A member that was rebuilt comes into sync (raid1_spare_active of the kernel's md driver; that the count rises at once, and what is
 -- stored of it before, are this project's own).
-use Rattle.std.specs.Prelude.{◌≡◌, ℕ, ◌+◌, ⊤, Bool, true, false, not, cond, List, map, set}
+use Rattle.std.specs.Prelude.{◌≡◌, ℕ, ◌+◌, Bool, true, false, not, cond, List, map, set}
 use Rattle.md_bitmap.specs.Marks.{Bitmap}
 use Rattle.md_badblocks.specs.declared.run.Run.{Run}
 use Rattle.md_assembly.specs.declared.state.MemberState.TheVariants.{Recovering}
@@ -53,10 +53,18 @@ pub record HasFullLog (k : ℕ) (copied orphans : Bitmap) (a : ArrayView) : Type
   pub list_is : IsListAfter a.chunks member copied orphans list
   pub full : HasRoomFor member.superblock list → ⊥
 
--- why there is no such member. That memory was short is not said.
+-- Member k's log has room for its list.
+pub record HasRoomInLog (k : ℕ) (copied orphans : Bitmap) (a : ArrayView) : Type 0 where
+  pub member : MemberView
+  pub at : IsMember a k member
+  pub list : List Run
+  pub list_is : IsListAfter a.chunks member copied orphans list
+  pub room : HasRoomFor member.superblock list
+
+-- Why there is no such member. Where memory is refused the log has room: a full log is found before any is taken.
 abbrev pub RefusesEnrolledMember : ℕ → Bitmap → Bitmap → ArrayView → EnrolFault → Type 0
 RefusesEnrolledMember k copied orphans a (LogFull j) = (j ≡ k) × HasFullLog k copied orphans a
-RefusesEnrolledMember k copied orphans a NoMemory = ⊤
+RefusesEnrolledMember k copied orphans a NoMemory = HasRoomInLog k copied orphans a
 RefusesEnrolledMember k copied orphans a Halted = ⊥
 RefusesEnrolledMember k copied orphans a EventsFull = ⊥
 RefusesEnrolledMember k copied orphans a TargetFault = ⊥

@@ -32,10 +32,11 @@ pub record HasFullLogFor (k chunk : ℕ) (a : ArrayView) : Type 0 where
   pub list_is : IsListWith a.chunks chunk member list
   pub full : HasRoomFor member.superblock list → ⊥
 
+-- Where memory is refused the log has room: a full log is found before any is taken.
 abbrev pub WhyUnlisted : ℕ → ℕ → ArrayView → NoteFault → Type 0
 WhyUnlisted k chunk a Halted = a.halted ≡ true
 WhyUnlisted k chunk a (LogFull j) = (j ≡ k) × HasFullLogFor k chunk a
-WhyUnlisted k chunk a NoMemory = a.halted ≡ false
+WhyUnlisted k chunk a NoMemory = (list : List Run) × MayNote k chunk a list
 
 -- The chunk is not listed, for this reason, and all is as before.
 pub record RefusesNote (k chunk : ℕ) (old new : ArrayView) (fault : NoteFault) : Type 0 where

@@ -13,7 +13,7 @@ use crate::array::Array;
 use md_assembly::MemberState;
 use md_bitmap::Marks;
 use md_faults::EnrolFault;
-use md_kept_members::{Member, in_sync, list_after, log_room, make_due};
+use md_kept_members::{Member, entries_after, in_sync, list_after, log_room, make_due};
 use md_super::Superblock;
 use std::alloc::Global;
 
@@ -53,12 +53,12 @@ impl Array {
         ensures { MatchResult result (ComesWith k role copied.now orphans.now self.now) (RefusesEnrolledMember k copied.now orphans.now self.now) }
     {
         let member = &self.members[k];
+        if entries_after(member, self.chunks, copied, orphans) > log_room(&member.superblock) {
+            return Err(EnrolFault::LogFull(k));
+        }
         let Ok(list) = list_after(alloc, member, self.chunks, copied, orphans) else {
             return Err(EnrolFault::NoMemory);
         };
-        if list.entries_needed() > log_room(&member.superblock) {
-            return Err(EnrolFault::LogFull(k));
-        }
         match in_sync(alloc, member, role, list, &self.marks) {
             Ok(member) => Ok(member),
             Err(_) => Err(EnrolFault::NoMemory),

@@ -8,7 +8,7 @@ ghost use Rattle.md_state.specs.Steps.NoteBad.{MayNote, NotesBad, RefusesNote, W
 use crate::array::Array;
 use md_badblocks::BadSet;
 use md_faults::NoteFault;
-use md_kept_members::{list_with, log_room};
+use md_kept_members::{entries_with, list_with, log_room};
 use std::alloc::Global;
 
 impl Array {
@@ -34,12 +34,12 @@ impl Array {
             return Err(NoteFault::Halted);
         }
         let member = &self.members[k];
+        if entries_with(member, self.chunks, chunk) > log_room(&member.superblock) {
+            return Err(NoteFault::LogFull(k));
+        }
         let Ok(list) = list_with(alloc, member, self.chunks, chunk) else {
             return Err(NoteFault::NoMemory);
         };
-        if list.entries_needed() > log_room(&member.superblock) {
-            return Err(NoteFault::LogFull(k));
-        }
         Ok(list)
     }
 

@@ -1,7 +1,7 @@
 use Rattle.std.proofs.Common.{subst}
 use Rattle.md_array.specs.Steps.NoteBad.{RefusesChunk}
 use Rattle.md_rebuild_table.proofs.Served.{in_sync_as}
-use Rattle.md_copy.proofs.Listings.NotedLists.{nothing_noted, one_noted, slot_failed, slot_full, slot_noted}
+use Rattle.md_copy.proofs.Listings.NotedLists.{nothing_noted, one_noted, slot_failed, slot_full, slot_noted, slot_unnoted}
 use Rattle.md_copy.proofs.list_failed.note_if_failed.Goals as goal
 
 pub returns-then-is_marked-clause-gives : goal.returns-then-is_marked-clause-gives
@@ -26,6 +26,12 @@ returns-in-Err-LogFull-clause-gives g c =
 
 pub returns-in-Err-LogFull-clause-failed : goal.returns-in-Err-LogFull-clause-failed
 returns-in-Err-LogFull-clause-failed g c = slot_failed c.args.copied.now c.args.slot.now c.is_marked.result c.is_marked.ensures c.if-is_marked.false
+
+pub returns-in-Err-NoMemory-clause-gives : goal.returns-in-Err-NoMemory-clause-gives
+returns-in-Err-NoMemory-clause-gives g c =
+    let at = c.in-Err-NoMemory in
+    slot_unnoted c.member_in-k.result c.args.slot.now c.args.mirror.now c.note_bad.new.self c.requires.sound c.member_in-k.ensures.in_sync
+    (subst (RefusesChunk c.member_in-k.result c.args.slot.now.chunk c.args.mirror.now c.note_bad.new.self) at.field-0-is at.ensures.gives)
 
 pub returns-in-Err-NoMemory-clause-failed : goal.returns-in-Err-NoMemory-clause-failed
 returns-in-Err-NoMemory-clause-failed g c = slot_failed c.args.copied.now c.args.slot.now c.is_marked.result c.is_marked.ensures c.if-is_marked.false
