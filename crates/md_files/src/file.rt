@@ -108,14 +108,6 @@ impl FileDevice {
     pub fn backing(&self) -> Backing {
         self.backing
     }
-
-    /// Whether it was opened to be written. Where not, each write of one sector or more answers
-    /// `WriteFault`.
-    pub fn is_writable(&self) -> bool
-        ensures { result ≡ self.now.writable }
-    {
-        self.writable
-    }
 }
 
 impl FileDevice {

@@ -46,7 +46,8 @@ pub struct BoardCounts {
 /// source could not be read there, and the target has in that chunk what it had. The board counts them.
 ///
 /// `NoMemory` says that a worker, or the pass itself, got no memory. `copied` tells then what was copied until
-/// then. No write of the target failed by then, and of the sources no call but reads of chunks that were not copied. A write that fails ends the pass with `TargetFault`: by then later chunks of the turn may have been
+/// then. No write of the target failed by then, and of the sources no call but reads of chunks that were not
+/// copied. A write that fails ends the pass with `TargetFault`: by then later chunks of the turn may have been
 /// read, the target may have any bytes in the chunks of the plan, and nothing is said of `copied`.
 pub fn copy_pass<D: Device + Drop + Send, G: Gate + Sync, R: Threads + Wait + Sync>(
     rt: &R,

@@ -66,9 +66,9 @@ fn take_one(cells: &mut Vec<Cell>, at: usize, mask: u32) -> u32
     cell.source
 }
 
-// Gives each chunk a source and a round. The chunks of a class go to its sources in turn, each to one that has
-// given the fewest so far, as long as the counts allow. So rounds rise with the chunks as far as they can, and a
-// pass that is broken off has copied nearly all chunks up to one, and nearly none after it.
+// Gives each chunk a source and a round. The chunks of a class go to its sources in turn, as far as the counts
+// allow: each to one that has given few so far, though not always the fewest. So rounds rise with the chunks nearly
+// throughout, and a pass that is broken off has copied most of the chunks up to one, and few after it.
 pub(crate) fn give_out(
     alloc: Global,
     rows: &[Row],

@@ -75,13 +75,6 @@ impl<D> MaskedDevice<D> {
         };
         (moved, copy)
     }
-
-    /// The copy. Takes no memory.
-    pub fn into_inner(self) -> D
-        ensures { result ≡ self.inner }
-    {
-        self.inner
-    }
 }
 
 #[tactic(auto, using(crate::proofs::DeviceLemmas::Disks::disks, md_device::proofs::Leaving::leaves_none))]

@@ -82,11 +82,3 @@ pub record IsSpareOf (a : ArrayView) (number sectors : ℕ) (m : NewMember) : Ty
 -- ---- the array with it
 abbrev pub added : ArrayView → NewMember → ArrayView
 added a m = joined a (kept_spare m.superblock m.header m.marks) spare_role
-
--- a device of so many sectors has come in
-pub record AddsSpare (sectors : ℕ) (old new : ArrayView) : Type 0 where
-  pub number : ℕ
-  pub may : MayAdd old sectors number
-  pub laid : NewMember
-  pub spare : IsSpareOf old number sectors laid
-  pub array : new ≡ added old laid
