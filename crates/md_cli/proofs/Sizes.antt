@@ -1,6 +1,6 @@
 -- The sizes of devices by the image words, one word at a time.
 use Rattle.md_device.specs.declared.device.Device.{Ghosts}
-use Rattle.std.proofs.Common.{◌≡◌, ◌∙◌, ◌+◌, ◌*◌, ◌/◌, ◌<◌, ◌≤◌, ℕ, zero, suc, true, false, cond, List, [], ◌∷◌, ◌++◌, drop, length, map, Option, Some, None, refl, sym, ap, subst, arith, append_assoc, append-nil}
+use Rattle.std.proofs.Common.{◌≡◌, ◌∙◌, ◌+◌, ◌*◌, ◌/◌, ◌<◌, ◌≤◌, ℕ, zero, suc, Bool, true, false, cond, List, [], ◌∷◌, ◌++◌, drop, length, map, Option, Some, None, refl, sym, ap, subst, arith, append_assoc, append-nil}
 use Rattle.std.specs.Prelude.{slice_get, slice_index_or}
 use Rattle.std.specs.Borrow.{Bor}
 use Rattle.std.proofs.lemmas.List.{drop_more, length-map}
@@ -19,6 +19,17 @@ sizes_step word words disks = refl
 sizes_end : (disks : List Disk) → sizes_of [] disks ≡ []
 unfolding sizes_of
 sizes_end disks = refl
+
+one_more : (b : Bool) (some other : List (Option ℕ)) (n : ℕ) → length some ≡ n → length other ≡ n → (size : Option ℕ) → length (cond b (None ∷ some) (size ∷ other)) ≡ suc n
+one_more true some other n long also size = ap suc long
+one_more false some other n long also size = ap suc also
+
+-- a size for each word
+pub sizes_long : (words : List Text) (disks : List Disk) → length (sizes_of words disks) ≡ length words
+sizes_long [] disks = ap length (sizes_end disks)
+sizes_long (word ∷ words) disks =
+    ap length (sizes_step word words disks)
+    ∙ one_more (is_missing_word true word) (sizes_of words disks) (sizes_of words (drop 1 disks)) (length words) (sizes_long words disks) (sizes_long words (drop 1 disks)) (first_size disks)
 
 drop_one : {X : Type 0} (xs : List X) (n : ℕ) → drop 1 (drop n xs) ≡ drop (n + 1) xs
 drop_one xs zero = refl
