@@ -17,11 +17,12 @@ use Rattle.md_kept_members.specs.View.{MemberView}
 use Rattle.md_kept_members.specs.Membership.Joining.{joined_shared}
 use Rattle.md_kept_members.specs.OnDevices.Storing.{IsStorable, member_writes}
 use Rattle.md_kept_members.specs.OnDevices.Superblocks.{IsReadable}
-use Rattle.md_state.specs.Steps.Enrol.{ComesWith, MayTakeRole, enrolled, is_full_with}
+use Rattle.md_faults.specs.declared.enrol_fault.EnrolFault.TheVariants.{NoMemory}
+use Rattle.md_state.specs.Steps.Enrol.{ComesWith, HasRoomInLog, MayTakeRole, enrolled, is_full_with}
 use Rattle.md_state.specs.Headers.{IsHeaderFor}
 use Rattle.md_state.specs.View.{ArrayView, Disk, MirrorView, disk_of, of_disks}
 use Rattle.md_array.specs.Consistency.{IsConsistent}
-use Rattle.md_array.specs.Steps.Enrol.{Enrols, FailsToEnrol, IsUsedAlone, KeepsData}
+use Rattle.md_array.specs.Steps.Enrol.{Enrols, FailsToEnrol, IsUsedAlone, KeepsData, RefusesEnrol}
 use Rattle.md_array.proofs.General.Indices.{got_other}
 use Rattle.md_array.proofs.Rebuilding.EnrolledArray.{storable}
 use Rattle.md_array.proofs.StepLemmas.OneWrite.{at_device, here}
@@ -39,6 +40,19 @@ module _ (k role : ℕ) (copied orphans : Bitmap) (v : MirrorView) (c : IsConsis
   pub can_store : (d : Disk) → slice_get v.disks k ≡ Some d → IsStorable n d.content
   can_store d found = storable v c k comes.member n comes.list d comes.at comes.comes.superblock comes.comes.stored.chunks
       (subst (HasRoomFor n.superblock) (sym comes.comes.bad) (subst (λ (o : Superblock). HasRoomFor o comes.list) (sym comes.comes.superblock) comes.room)) found
+
+-- its log has room, and memory was refused
+pub short_of_memory : (k role : ℕ) (copied orphans : Bitmap) (v old : MirrorView) (n : MemberView) → v ≡ old → MayTakeRole k v.array role → ComesWith k role copied orphans v.array n
+    → RefusesEnrol k copied orphans old v NoMemory
+short_of_memory k role copied orphans v old n same may comes =
+    let room : HasRoomInLog k copied orphans v.array = record { member = comes.member; at = comes.at; list = comes.list; list_is = comes.list_is; room = comes.room } in
+    record {
+      unchanged = same;
+      reason = (
+        (role, subst (λ (x : MirrorView). MayTakeRole k x.array role) same may),
+        subst (λ (x : MirrorView). HasRoomInLog k copied orphans x.array) same room,
+      );
+    }
 
 -- ---- what is stored
 -- the count and events_cleared in the header are those that are to come

@@ -13,7 +13,7 @@ use Rattle.md_array.proofs.General.Answered.{err_of, ok_of}
 use Rattle.md_array.proofs.StepLemmas.OneWrite.{here, within_devices}
 use Rattle.md_array.proofs.Rebuilding.MemberEnrolled.{enrolled_is_consistent, enrolled_read}
 use Rattle.md_array.proofs.Rebuilding.EnrolUnstored.{out_of_sync, idle_pending, unenrolled_is_consistent}
-use Rattle.md_array.proofs.Rebuilding.Enrol.{can_store, enrolled_is, enrols_by, failed_alone, fails_by, header_enrolled, header_sound, stored_alone}
+use Rattle.md_array.proofs.Rebuilding.Enrol.{can_store, enrolled_is, enrols_by, failed_alone, fails_by, header_enrolled, header_sound, short_of_memory, stored_alone}
 use Rattle.md_array.proofs.mirror.Mirror.enrol.Given as given
 use Rattle.md_array.proofs.mirror.Mirror.enrol.Goals as goal
 use Rattle.md_array.proofs.mirror.Mirror.enrol.Goals.{After-index_mut, After-header_under-header, After-store_member, else-full, then-full}
@@ -39,6 +39,11 @@ store_member-requires g c =
     let v : MirrorView = record { disks = map of devices; array = c.self.inside.array } in
     can_store c.args.k c.in_ok-role.role c.args.copied.now c.args.orphans.now v (subst IsConsistent (sym c.self.view_is) c.requires.sound) c.in_ok-member.member c.in_ok-member.ensures
     (of c.index_mut.result.now) (here g.D.Device devices c.args.k c.index_mut.result.now c.index_mut.ensures.value (on_device g at))
+
+pub returns-in_default-clause-gives : goal.returns-in_default-clause-gives
+returns-in_default-clause-gives g c =
+    let v : MirrorView = record { disks = map (disk_of g.D.Device) c.self.inside.devices.items; array = c.self.inside.array } in
+    short_of_memory c.args.k c.in_ok-role.role c.args.copied.now c.args.orphans.now v c.args.self.now c.in_ok-member.member c.self.view_is c.in_ok-role.ensures c.in_ok-member.ensures
 
 -- the array's fields as they are written
 same_shared : (g : given.Over) (c : After-header_under-header g) → c.in-Ok.shared ≡ joined_shared c.self.inside.array.shared c.self.inside.array.members c.in_ok-member.member.superblock.dev_number c.in_ok-role.role
