@@ -1,5 +1,5 @@
 -- What `enrol` answers, by what was stored on the device.
-use Rattle.std.proofs.Common.{◌≡◌, ℕ, ◌+◌, ◌<◌, Bool, cond, List, get_or, length, length-set, map, set, slice_get, Some, sym, ap, ◌∙◌, subst, arith}
+use Rattle.std.proofs.Common.{◌≡◌, ℕ, ◌+◌, ◌<◌, Bool, cond, List, get_or, length, length-set, map, set, slice_get, Some, refl, sym, ap, ◌∙◌, subst, arith}
 use Rattle.std.proofs.lemmas.List.{map-set}
 use Rattle.std.proofs.lemmas.Option.{slice_get_within}
 use Rattle.md_device.specs.declared.device.Device.{Ghosts}
@@ -43,11 +43,11 @@ module _ (k role : ℕ) (copied orphans : Bitmap) (v : MirrorView) (c : IsConsis
 
 -- its log has room, and memory was refused
 pub short_of_memory : (k role : ℕ) (copied orphans : Bitmap) (v old : MirrorView) (n : MemberView) → v ≡ old → MayTakeRole k v.array role → ComesWith k role copied orphans v.array n
-    → RefusesEnrol k copied orphans old v NoMemory
+    → RefusesEnrol k copied orphans old old NoMemory
 short_of_memory k role copied orphans v old n same may comes =
     let room : HasRoomInLog k copied orphans v.array = record { member = comes.member; at = comes.at; list = comes.list; list_is = comes.list_is; room = comes.room } in
     record {
-      unchanged = same;
+      unchanged = refl;
       reason = (
         (role, subst (λ (x : MirrorView). MayTakeRole k x.array role) same may),
         subst (λ (x : MirrorView). HasRoomInLog k copied orphans x.array) same room,
