@@ -10,7 +10,7 @@ use Rattle.clap.specs.Values.{kind_of}
 use Rattle.clap.specs.Words.{HasKind, Row, Text}
 use Rattle.clap.specs.declared.error.Error.{Error}
 use Rattle.clap.specs.declared.error.kind.ErrorKind.TheVariants as kind
-use Rattle.md_words.specs.Parsing.{fits_bits, map_out_fault, member_at, member_fault, names_map_alone, names_no_member, number_or_zero, place_in}
+use Rattle.md_words.specs.Parsing.{fits_bits, map_out_fault, member_at, member_fault, names_map_alone, names_no_member, needs_readonly, number_or_zero, place_in, readonly_fault}
 use Rattle.md_words.proofs.Numbers.{is_no_number_refused, is_number_parsed, number_read}
 
 prefix_len-map : {X Y : Type 0} (p : Y → Bool) (f : X → Y) (xs : List X) → prefix_len p (map f xs) ≡ prefix_len (λ x. p (f x)) xs
@@ -60,3 +60,10 @@ map_alone_fails o name rows e is alone told =
     let among : HasKind (cond (names_map_alone rows) (kind.MissingRequiredArgument ∷ []) []) e =
     subst (λ (b : Bool). HasKind (cond b (kind.MissingRequiredArgument ∷ []) []) e) (sym alone) (inr (inl told)) in
     subst (λ (p : Option (Text × List Row)). HasKind (map_out_fault p) e) (sym is) among
+
+-- what is only for reading is refused of an array that is served for writing
+pub unreadonly_fails : (o : Option (Text × List Row)) (name : Text) (rows : List Row) (e : Error) → o ≡ Some (name, rows) → needs_readonly name rows ≡ true → kind_of e ≡ kind.MissingRequiredArgument → HasKind (readonly_fault o) e
+unreadonly_fails o name rows e is needs told =
+    let among : HasKind (cond (needs_readonly name rows) (kind.MissingRequiredArgument ∷ []) []) e =
+    subst (λ (b : Bool). HasKind (cond b (kind.MissingRequiredArgument ∷ []) []) e) (sym needs) (inr (inl told)) in
+    subst (λ (p : Option (Text × List Row)). HasKind (readonly_fault p) e) (sym is) among
