@@ -1,5 +1,4 @@
-use Rattle.std.proofs.Common.{◌≡◌, ◌∙◌, Option, Some, None, List, ap, codes, is_some, map, option_map, refl, rules, sym}
-use Rattle.std.specs.Borrow.{Bor}
+use Rattle.std.proofs.Common.{◌≡◌, ◌∙◌, Option, Some, None, List, ap, codes, is_some, option_map, refl, rules, sym}
 use Rattle.clap.proofs.WalkLemmas.{raw_values-rows}
 use Rattle.clap.specs.Words.{Text, found_of}
 use Rattle.md_words.proofs.parsing.has_maps.Goals as goal

@@ -1,0 +1,3 @@
+pub mod Exchanged
+pub mod ServeCounts
+pub mod Written
