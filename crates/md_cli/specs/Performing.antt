@@ -19,7 +19,7 @@ use Rattle.md_commands.specs.declared.fault.CommandFault.{CommandFault}
 use Rattle.md_read_commands.specs.Filling.{ReadsFilled}
 use Rattle.md_read_commands.specs.Reading.{ReadsArray, ReadsReadonly, RefusesReadonly, RefusesToRead}
 use Rattle.md_read_commands.specs.Serving.{ServesArray}
-use Rattle.md_serve_commands.specs.Serving.{ServesWritable}
+use Rattle.md_serve_commands.specs.Writable.{ServesWritable}
 use Rattle.md_examine.specs.declared.sink.Sink.{Ghosts as SinkGhosts}
 use Rattle.md_images.specs.Taking.{Text}
 use Rattle.md_report.specs.CheckReport.{list_text}

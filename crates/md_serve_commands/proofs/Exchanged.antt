@@ -16,7 +16,7 @@ use Rattle.md_nbd.specs.Server.Exchanges.{AnswersInTurn, DoesTask, Exchange}
 use Rattle.md_nbd.specs.Server.Sessions.{BreaksSession, EndsSession}
 use Rattle.md_nbd.specs.Server.Transmission.{HasFailed}
 use Rattle.md_serve_commands.specs.declared.writer.ArrayWriter.{ArrayWriter}
-use Rattle.md_serve_commands.specs.Serving.{ClearsMarks, FailsToClear, FailsToGive, FailsToWrite, GivesSectors, WritesSectors, writer_store}
+use Rattle.md_serve_commands.specs.Writable.{ClearsMarks, FailsToClear, FailsToGive, FailsToWrite, GivesSectors, WritesSectors, writer_store}
 
 -- what each call of the store keeps
 pub record EachKeeps (R : MirrorView → MirrorView → Type 0) : Type 0 where

@@ -23,7 +23,7 @@ use Rattle.md_commands.specs.declared.fault.CommandFault.{CommandFault}
 use Rattle.md_commands.specs.declared.fault.CommandFault.TheVariants.{InputFault, NoPieceMemory, OutputFault, Read, Resync}
 use Rattle.md_commands.specs.declared.source.Source.{Ghosts as Sources}
 use Rattle.md_commands.proofs.DeviceCounts.{AsMany, KeepsMembers, fails_after, halts, led, none_in_flight, not_readied, nothing, readied, refused, same, stopped}
-use Rattle.md_serve_commands.specs.Serving.{ClearsMarks, HasServed, IsUnserved, RefusesToBegin, RefusesToServe, RunsOn, ServesAndStops, ServesWritable, StopsServing, StopsThen, writer_of, export_of}
+use Rattle.md_serve_commands.specs.Writable.{ClearsMarks, HasServed, IsUnserved, RefusesToReady, RefusesToServe, RunsOn, ServesAndStops, ServesWritable, StopsServing, StopsThen, array_writer, writable_export}
 use Rattle.md_serve_commands.proofs.Exchanged.{EachKeeps, broken_keeps, session_keeps}
 
 -- ---- a write
@@ -88,7 +88,7 @@ runs_on stop.EventsFull old new h = not_stopped stop.EventsFull old new h
 runs_on (stop.MemberFailed k) old new h = not_stopped (stop.MemberFailed k) old new h
 
 cleared : (old new : MirrorView) → ClearsMarks old new → AsMany old new
-cleared old new h = ⊎_elim (λ s. stopped old new s) (λ r. runs_on r.0 old new r.1) h.0
+cleared old new h = ⊎_elim (λ s. stopped old new s) (λ r. runs_on r.0 old new r.1) h.stops
 
 each_as_many : EachKeeps AsMany
 each_as_many = record {
@@ -99,18 +99,18 @@ each_as_many = record {
   written = λ sector bytes old new h. wrote sector bytes old new h.0;
   unwritten = λ sector bytes old new h. not_written h.fault sector bytes old new h.refused;
   cleared = cleared;
-  uncleared = λ old new h. not_stopped stop.Halted old new h.0;
+  uncleared = λ old new h. ⊎_elim (λ r. refused old new _ r) (λ r. not_stopped stop.Halted old new r.1) h.0;
 }
 
 -- ---- the command
 module _ {I S : Type 0} (i : Sources I) (o : Sinks S) (old new : MirrorView) (from to : I) (was now : S) where
   client_served : (result : Result (Unit {0}) CommandFault) → HasServed i o old new from to was now result → AsMany old new
-  client_served (Ok x) h = session_keeps AsMany each_as_many i o (export_of old.array) (writer_of old.array, old) (h.ends.last, new) from to was h.told h.end h.ends.session
-  client_served (Err InputFault) (inl h) = session_keeps AsMany each_as_many i o (export_of old.array) (writer_of old.array, old) (h.ends.last, new) from to was now h.end h.ends.session
-  client_served (Err InputFault) (inr h) = broken_keeps AsMany each_as_many i o (export_of old.array) (writer_of old.array, old) (h.last, new) from to was now _ h.session
-  client_served (Err OutputFault) (inl h) = broken_keeps AsMany each_as_many i o (export_of old.array) (writer_of old.array, old) (h.last, new) from to was now _ h.session
-  client_served (Err OutputFault) (inr h) = session_keeps AsMany each_as_many i o (export_of old.array) (writer_of old.array, old) (h.ends.last, new) from to was h.told h.end h.ends.session
-  client_served (Err NoPieceMemory) h = broken_keeps AsMany each_as_many i o (export_of old.array) (writer_of old.array, old) (h.last, new) from to was now _ h.session
+  client_served (Ok x) h = session_keeps AsMany each_as_many i o (writable_export old.array) (array_writer old.array, old) (h.ends.last, new) from to was h.told h.end h.ends.session
+  client_served (Err InputFault) (inl h) = session_keeps AsMany each_as_many i o (writable_export old.array) (array_writer old.array, old) (h.ends.last, new) from to was now h.end h.ends.session
+  client_served (Err InputFault) (inr h) = broken_keeps AsMany each_as_many i o (writable_export old.array) (array_writer old.array, old) (h.last, new) from to was now _ h.session
+  client_served (Err OutputFault) (inl h) = broken_keeps AsMany each_as_many i o (writable_export old.array) (array_writer old.array, old) (h.last, new) from to was now _ h.session
+  client_served (Err OutputFault) (inr h) = session_keeps AsMany each_as_many i o (writable_export old.array) (array_writer old.array, old) (h.ends.last, new) from to was h.told h.end h.ends.session
+  client_served (Err NoPieceMemory) h = broken_keeps AsMany each_as_many i o (writable_export old.array) (array_writer old.array, old) (h.last, new) from to was now _ h.session
   client_served (Err fault) h = absurd h
 
 stopped_then : (told : Result (Unit {0}) CommandFault) (old new : MirrorView) (result : Result (Unit {0}) CommandFault) → StopsThen told old new result → AsMany old new
@@ -131,7 +131,7 @@ module _ {I S : Type 0} (i : Sources I) (o : Sinks S) (old new : MirrorView) (fr
       not_served unread.NotResynced r = refused old new _ r
       not_served f r = absurd r
 
-      by : (f : CommandFault) → RefusesToBegin old new f → AsMany old new
+      by : (f : CommandFault) → RefusesToReady old new f → AsMany old new
       by (Read f) r = not_served f r
       by NoPieceMemory r = same old new r.1
       by (Resync f) r = not_readied f old new r.1

@@ -17,7 +17,7 @@ use Rattle.md_nbd.specs.declared.server.session.SessionFault.{SessionFault}
 use Rattle.md_nbd.specs.Export.{sector_bytes}
 use Rattle.md_nbd.specs.Server.Sessions.{BreaksSession, EndsSession, is_orderly}
 use Rattle.md_serve_commands.specs.declared.writer.ArrayWriter.{ArrayWriter}
-use Rattle.md_serve_commands.specs.Serving.{BreaksSo, EndsSo, KeepsPending, ServesClient, export_of, writer_of, writer_store}
+use Rattle.md_serve_commands.specs.Writable.{BreaksSo, EndsSo, KeepsPending, ServesClient, writable_export, array_writer, writer_store}
 use Rattle.md_serve_commands.proofs.Exchanged.{EachKeeps, broken_keeps, session_keeps}
 
 -- ---- requests in flight stay so
@@ -29,8 +29,8 @@ pending_keeps = record {
   ungiven = λ sector sectors old new h. h.pending;
   written = λ sector bytes old new h. h.1;
   unwritten = λ sector bytes old new h. h.pending;
-  cleared = λ old new h. h.1;
-  uncleared = λ old new h. h.1;
+  cleared = λ old new h. h.pending;
+  uncleared = λ old new h. h.pending;
 }
 
 module _ {I S : Type 0} (i : Sources I) (o : Sinks S) (e : Export) (old new : ArrayWriter × MirrorView) (from to : I) (was now : S) where
@@ -59,7 +59,7 @@ module _ {I S : Type 0} (i : Sources I) (o : Sinks S) (k : Chunks) (last : Array
       → BreaksSo i o old new from to was now named
   breaks_so fault named same h = record {
     last = last;
-    session = subst (λ (f : SessionFault). BreaksSession writer_store i o (export_of old.array) (writer_of old.array, old) (last, new) from to was now f) same
+    session = subst (λ (f : SessionFault). BreaksSession writer_store i o (writable_export old.array) (array_writer old.array, old) (last, new) from to was now f) same
         (subst (λ (c : Chunks). BreaksSession writer_store i o (export_by c) (writer_by c, old) (last, new) from to was now fault) is h);
   }
 

@@ -2,14 +2,15 @@
 //! requests are done one after another, and at the end, however it comes, the array is stopped. `md_read_commands` serves arrays
 //! that are only read, and why a client is not served is `CommandFault` of `md_commands`.
 //!
-//! Start with `serve_writable` in `serving.rt`. `ArrayWriter` in `writer.rt` is the array as `md_nbd`'s store of sectors.
+//! Start with `serve_writable` in `writable.rt`. `ArrayWriter` in `writer.rt` is the array as `md_nbd`'s store of sectors.
 //!
 //! ```
 //! serve_writable(alloc, &mut mirror, &mut input, &mut out)?;
 //! ```
 #![tactic(auto)]
 
-mod serving;
+pub mod laws;
+mod writable;
 mod writer;
 
-pub use serving::serve_writable;
+pub use writable::serve_writable;

@@ -15,7 +15,7 @@ pub(crate) struct ArrayWriter {
 impl<D: Device + Drop> Store<Mirror<D>> for ArrayWriter {
     ghost use Rattle.std.specs.Prelude.{◌≡◌};
     ghost use Rattle.md_array.specs.Consistency.{IsConsistent};
-    ghost use Rattle.md_serve_commands.specs.Serving.{ClearsMarks, FailsToClear, FailsToGive, FailsToWrite, GivesSectors, WritesSectors};
+    ghost use Rattle.md_serve_commands.specs.Writable.{ClearsMarks, FailsToClear, FailsToGive, FailsToWrite, GivesSectors, WritesSectors};
 
     ghost is_sound = { λ p. IsConsistent p.1 };
 
@@ -55,6 +55,9 @@ impl<D: Device + Drop> Store<Mirror<D>> for ArrayWriter {
 
     // What was written stands already, so that the marks may go. Where they don't it stands all the same, unless the mirror is halted.
     fn flush(&mut self, lent: &mut Mirror<D>) -> Result<(), StoreFault> {
+        if lent.halted() {
+            return Err(StoreFault);
+        }
         match stop(lent) {
             Ok(()) => Ok(()),
             Err(StopFault::Halted) => Err(StoreFault),

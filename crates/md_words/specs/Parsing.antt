@@ -233,10 +233,6 @@ member_fault (Some p) = if names_no_member p.1 then kind.ValueValidation ∷ [] 
 abbrev pub names_map_alone : List Row → Bool
 names_map_alone rows = is_some (map_out_in rows) && not (fill_in rows)
 
-abbrev pub map_out_fault : Option (Text × List Row) → Kinds
-map_out_fault None = []
-map_out_fault (Some p) = if names_map_alone p.1 then kind.MissingRequiredArgument ∷ [] else []
-
 -- whether what is only for reading is asked of an array that is served for writing
 abbrev pub has_maps : List Row → Bool
 has_maps rows = is_some (all_of (codes "map") rows)
@@ -245,13 +241,13 @@ abbrev pub needs_readonly : Text → List Row → Bool
 needs_readonly name rows =
     bytes_eq name (codes "serve") && not (readonly_in rows) && (fill_in rows || has_maps rows)
 
-abbrev pub readonly_fault : Option (Text × List Row) → Kinds
-readonly_fault None = []
-readonly_fault (Some p) = if needs_readonly p.0 p.1 then kind.MissingRequiredArgument ∷ [] else []
+-- whether an option is named without one that it needs
+abbrev pub lacks_option : Text → List Row → Bool
+lacks_option name rows = names_map_alone rows || needs_readonly name rows
 
--- why options of a command are not taken
 abbrev pub option_fault : Option (Text × List Row) → Kinds
-option_fault command = or_else (map_out_fault command) (readonly_fault command)
+option_fault None = []
+option_fault (Some p) = if lacks_option p.0 p.1 then kind.MissingRequiredArgument ∷ [] else []
 
 -- why the words of a command are not taken: for the member that they name, or else for its options
 abbrev pub command_fault : Option (Text × List Row) → Kinds

@@ -1,14 +1,13 @@
-use Rattle.std.proofs.Common.{subst, sym}
-use Rattle.clap.specs.Kinds.{or_else}
-use Rattle.clap.specs.Words.{FailsBy, Kinds, subcommand_rows_of}
-use Rattle.md_words.specs.Parsing.{map_out_fault, readonly_fault}
-use Rattle.md_words.proofs.CommandLine.{first_fails}
+use Rattle.std.proofs.Common.{◌≡◌, Some, rules, sym, true}
+use Rattle.clap.specs.Words.{found_of, rows_of, subcommand_rows_of}
+use Rattle.md_words.specs.Parsing.{lacks_option}
+use Rattle.md_words.proofs.CommandLine.{subcommand_is}
+use Rattle.md_words.proofs.Members.{lacking_fails}
 use Rattle.md_words.proofs.parsing.check_options.Goals as goal
 
-pub returns-in-Ok : goal.returns-in-Ok
-returns-in-Ok c =
-    subst (λ (first : Kinds). FailsBy (or_else first (readonly_fault (subcommand_rows_of c.args.matches.now))) c.check_readonly.result) (sym c.in-Ok.ensures) c.check_readonly.ensures
-
-pub returns-in-Err : goal.returns-in-Err
-returns-in-Err c =
-    first_fails (map_out_fault (subcommand_rows_of c.args.matches.now)) (readonly_fault (subcommand_rows_of c.args.matches.now)) c.in-Err.error c.in-Err.ensures
+pub returns : goal.returns
+returns c =
+    let found = found_of c.in-Some.found.now in
+    let is : subcommand_rows_of c.args.matches.now ≡ Some (c.in-Some.name.now, rows_of found) = subcommand_is c.args.matches.now c.in-Some.name.now (rows_of found) (sym c.in-Some.ensures.name) (sym c.in-Some.ensures.rows) in
+    let lacks : lacks_option c.in-Some.name.now (rows_of found) ≡ true = search rules in
+    lacking_fails _ c.in-Some.name.now (rows_of found) c.in_ok-error.field-0 is lacks c.in_ok-error.ensures.kind

@@ -4,7 +4,7 @@ ghost use Rattle.md_inflight.specs.Requests.Pending.{PendingView};
 ghost use Rattle.md_state.specs.Requests.{IsPending};
 ghost use Rattle.md_array.specs.Consistency.{IsConsistent};
 ghost use Rattle.md_nbd.specs.Export.{most_bytes};
-ghost use Rattle.md_serve_commands.specs.Serving.{HasServed, IsReadyToServe, MayBeServed, RefusesToBegin, RefusesToServe, ServesWritable};
+ghost use Rattle.md_serve_commands.specs.Writable.{HasServed, IsReadyToServe, MayBeWritten, RefusesToReady, RefusesToServe, ServesWritable};
 
 use crate::writer::ArrayWriter;
 use md_array::Mirror;
@@ -56,7 +56,7 @@ fn begin<D: Device + Drop>(alloc: Global, mirror: &mut Mirror<D>) -> Result<Vec<
     requires sound { IsConsistent mirror.old }
     ensures gives { MatchResult result
         (λ _. IsReadyToServe mirror.old mirror.new)
-        (RefusesToBegin mirror.old mirror.new) }
+        (RefusesToReady mirror.old mirror.new) }
     ensures room { IfOk result (λ room. length room.items ≡ most_bytes) }
     ensures sound { IsConsistent mirror.new }
     ensures pending { (p : PendingView) → IsPending mirror.old.array p → IsPending mirror.new.array p }
@@ -70,7 +70,7 @@ fn begin<D: Device + Drop>(alloc: Global, mirror: &mut Mirror<D>) -> Result<Vec<
 // Whether the mirror runs, and its sectors can be read, perhaps after a resync.
 fn check_may_serve<D: Device + Drop>(mirror: &Mirror<D>) -> Result<(), UnreadFault>
     ensures { MatchResult result
-        (λ _. MayBeServed mirror.now.array)
+        (λ _. MayBeWritten mirror.now.array)
         (RefusesToServe mirror.now mirror.now) }
 {
     if mirror.halted() {

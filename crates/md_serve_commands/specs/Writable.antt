@@ -61,12 +61,16 @@ module _ (old new : MirrorView) where
   RunsOn fault = RefusesStop old new fault
 
   -- All that was written stands already. The array was stopped, by which it has no marks, unless it is degraded; or it was not.
-  abbrev pub ClearsMarks : Type 0
-  ClearsMarks = (StopsMirror old new ⊎ ((fault : StopFault) × RunsOn fault)) × KeepsPending old new
+  pub record ClearsMarks : Type 0 where
+    pub running : old.array.halted ≡ false
+    pub stops : StopsMirror old new ⊎ ((fault : StopFault) × RunsOn fault)
+    pub pending : KeepsPending old new
 
-  -- The mirror is halted.
+  -- The mirror was halted, or is halted by this.
   abbrev pub FailsToClear : Type 0
-  FailsToClear = RefusesStop old new stop.Halted × KeepsPending old new
+  FailsToClear =
+      (RefusesHalted old new ⊎ ((old.array.halted ≡ false) × RefusesStop old new stop.Halted))
+      × KeepsPending old new
 
 abbrev pub writer_store : Stores ArrayWriter MirrorView
 writer_store = record {
@@ -81,23 +85,23 @@ writer_store = record {
 }
 
 -- what clients are told of it: all of it
-abbrev pub export_of : ArrayView → Export
-export_of a = record { size = sector_bytes * a.chunks.size; readonly = false }
+abbrev pub writable_export : ArrayView → Export
+writable_export a = record { size = sector_bytes * a.chunks.size; readonly = false }
 
-abbrev pub writer_of : ArrayView → ArrayWriter
-writer_of a = record { sectors = a.chunks.size }
+abbrev pub array_writer : ArrayView → ArrayWriter
+array_writer a = record { sectors = a.chunks.size }
 
 -- ---- a session
 module _ {I S : Type 0} (i : Sources I) (o : Sinks S) (old new : MirrorView) (from to : I) (was now : S) where
   -- A client was served so, until it went for this reason.
   pub record EndsSo (told : S) (end : SessionEnd) : Type 0 where
     pub last : ArrayWriter
-    pub session : EndsSession writer_store i o (export_of old.array) (writer_of old.array, old) (last, new)
+    pub session : EndsSession writer_store i o (writable_export old.array) (array_writer old.array, old) (last, new)
         from to was told end
 
   pub record BreaksSo (fault : SessionFault) : Type 0 where
     pub last : ArrayWriter
-    pub session : BreaksSession writer_store i o (export_of old.array) (writer_of old.array, old) (last, new)
+    pub session : BreaksSession writer_store i o (writable_export old.array) (array_writer old.array, old) (last, new)
         from to was now fault
 
   -- The client went between two of its messages, and the output holds nothing back.
@@ -133,33 +137,33 @@ module _ {I S : Type 0} (i : Sources I) (o : Sinks S) (old new : MirrorView) (fr
 
 -- ---- the command
 -- The mirror runs, and its sectors can be read, perhaps after a resync.
-pub record MayBeServed (a : ArrayView) : Type 0 where
+pub record MayBeWritten (a : ArrayView) : Type 0 where
   pub running : a.halted ≡ false
   pub ready : (a.resynced ≡ true) ⊎ (needs_resync a ≡ true)
 
 -- Members in sync may differ, and the array is not degraded: it is not resynced before it is served.
-pub record MustBeResynced (a : ArrayView) : Type 0 where
+pub record MustResyncFirst (a : ArrayView) : Type 0 where
   pub running : a.halted ≡ false
   pub not_yet : a.resynced ≡ false
   pub complete : is_degraded a ≡ false
 
 abbrev pub RefusesToServe : MirrorView → MirrorView → UnreadFault → Type 0
 RefusesToServe old new Halted = RefusesHalted old new
-RefusesToServe old new NotResynced = Refuses old new (MustBeResynced old.array)
+RefusesToServe old new NotResynced = Refuses old new (MustResyncFirst old.array)
 RefusesToServe old new fault = ⊥
 
 -- The array is resynced where it has to be.
 pub record IsReadyToServe (old ready : MirrorView) : Type 0 where
-  pub may : MayBeServed old.array
+  pub may : MayBeWritten old.array
   pub readied : ResyncsIfNeeded old ready
   pub resynced : ready.array.resynced ≡ true
 
 -- The array may not be served, or there is no memory for its sectors, or it can't be resynced.
-abbrev pub RefusesToBegin : MirrorView → MirrorView → CommandFault → Type 0
-RefusesToBegin old new (Read fault) = RefusesToServe old new fault
-RefusesToBegin old new NoPieceMemory = MayBeServed old.array × (new ≡ old)
-RefusesToBegin old new (Resync fault) = MayBeServed old.array × RefusesNeededResync old new fault
-RefusesToBegin old new fault = ⊥
+abbrev pub RefusesToReady : MirrorView → MirrorView → CommandFault → Type 0
+RefusesToReady old new (Read fault) = RefusesToServe old new fault
+RefusesToReady old new NoPieceMemory = MayBeWritten old.array × (new ≡ old)
+RefusesToReady old new (Resync fault) = MayBeWritten old.array × RefusesNeededResync old new fault
+RefusesToReady old new fault = ⊥
 
 -- The array is stopped, and then this is answered; or it is not, and that is answered.
 abbrev pub StopsThen : Result (Unit {0}) CommandFault → MirrorView → MirrorView
@@ -180,7 +184,7 @@ module _ {I S : Type 0} (i : Sources I) (o : Sinks S) (old new : MirrorView) (fr
 
   -- Nobody was greeted.
   pub record IsUnserved (fault : CommandFault) : Type 0 where
-    pub refused : RefusesToBegin old new fault
+    pub refused : RefusesToReady old new fault
     pub input : to ≡ from
     pub output : now ≡ was
 
