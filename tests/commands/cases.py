@@ -869,6 +869,7 @@ CASES = [
             Step("serve --readonly a b", NBD_LEFT, given=NBD_LEAVE),
             Step("read --sector 8 --count 2 a b", DATA.decode(), changes="b"),
             Step("check --readonly a b", AGREE),
+            Step("serve a b", NBD_LEFT, given=NBD_LEAVE, changes="a b"),
         ],
     ),
     (

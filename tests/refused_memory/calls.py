@@ -126,6 +126,7 @@ ANSWERS = {
     "md_read_commands::read_array_filled": "read --fill",
     "md_read_commands::read_array_readonly": "read --readonly",
     "md_read_commands::serve_array": "serve --readonly",
+    "md_serve_commands::serve_writable": "serve",
     # Whoever has no memory for it goes on, and says that nobody looked.
     "md_notices::find_signatures": "add, unseen",
 }

@@ -1,5 +1,5 @@
-"""The NBD protocol (fixed newstyle, simple replies) from the client's side, and what a server answers that offers one export which is
-only read: written down from the protocol's document, and not from the program's sources."""
+"""The NBD protocol (fixed newstyle, simple replies) from the client's side, and what a server answers that offers one export: written
+down from the protocol's document, and not from the program's sources."""
 
 import struct
 
@@ -9,9 +9,10 @@ EXPORT_NAME, ABORT, LIST, STRUCTURED_REPLY, INFO, GO = 1, 2, 3, 8, 6, 7
 ACK, SERVER, INFORMATION = 1, 2, 3
 UNSUPPORTED, INVALID, UNKNOWN = 0x80000001, 0x80000003, 0x80000006
 READ, WRITE, DISCONNECT, FLUSH, TRIM, CACHE, WRITE_ZEROES, BLOCK_STATUS = range(8)
-EPERM, EIO, EINVAL, EOVERFLOW = 1, 5, 22, 75
-# HAS_FLAGS, READ_ONLY, SEND_FLUSH, CAN_MULTI_CONN
-FLAGS = 0x107
+EPERM, EIO, EINVAL, ENOSPC, EOVERFLOW = 1, 5, 22, 28, 75
+# HAS_FLAGS and SEND_FLUSH, with READ_ONLY and CAN_MULTI_CONN or with SEND_FUA.
+READONLY_FLAGS, WRITABLE_FLAGS = 0x107, 0x0D
+FUA = 1
 SECTOR = 512
 LONGEST_OPTION = 65536
 MOST = 1 << 25
@@ -39,11 +40,11 @@ def option_reply(number, kind, body=b""):
 
 
 class Server:
-    """What is answered to a stream of bytes, and whether the client went in order then. `data` is what is read, and `missing` are the
-    sectors that are not given."""
+    """What is answered to a stream of bytes, and whether the client went in order then. `data` is what is read, and written where the
+    export is writable, and `missing` are the sectors that are not given."""
 
-    def __init__(self, data, missing=()):
-        self.data, self.missing = data, frozenset(missing)
+    def __init__(self, data, missing=(), writable=False):
+        self.data, self.missing, self.writable = bytearray(data), frozenset(missing), writable
 
     def answers(self, stream):
         """The bytes that come for these, and whether the client went between two messages."""
@@ -81,7 +82,7 @@ class Server:
                 return True
 
     def export(self):
-        return struct.pack(">QH", len(self.data), FLAGS)
+        return struct.pack(">QH", len(self.data), WRITABLE_FLAGS if self.writable else READONLY_FLAGS)
 
     def haggle(self, number, body, no_zeroes):
         put = lambda kind, more=b"": self.out.append(option_reply(number, kind, more))
@@ -123,20 +124,26 @@ class Server:
             if len(head) < 28 or head[:4] != b"\x25\x60\x95\x13":
                 return False
             flags, kind, cookie, offset, length = struct.unpack(">HHQQI", head[4:])
+            payload = b""
             if kind == WRITE:
-                if length > MOST or len(self.take(length)) < length:
+                if length > MOST:
+                    return False
+                payload = self.take(length)
+                if len(payload) < length:
                     return False
             if kind == DISCONNECT:
                 return True
-            self.out.append(self.answer(flags, kind, cookie, offset, length))
+            self.out.append(self.answer(flags, kind, cookie, offset, length, payload))
 
-    def answer(self, flags, kind, cookie, offset, length):
-        if kind == WRITE:
+    def answer(self, flags, kind, cookie, offset, length, payload):
+        if kind == WRITE and not self.writable:
             return reply(EPERM, cookie)
-        if flags:
+        if flags & ~(FUA if self.writable else 0):
             return reply(EINVAL, cookie)
         if kind == FLUSH:
             return reply(0, cookie)
+        if kind == WRITE:
+            return self.write(cookie, offset, payload)
         if kind != READ:
             return reply(EINVAL, cookie)
         if length > MOST:
@@ -146,6 +153,14 @@ class Server:
         if self.missing & set(range(offset // SECTOR, (offset + length) // SECTOR)):
             return reply(EIO, cookie)
         return reply(0, cookie, self.data[offset : offset + length])
+
+    def write(self, cookie, offset, payload):
+        if offset + len(payload) > len(self.data):
+            return reply(ENOSPC, cookie)
+        if offset % SECTOR or len(payload) % SECTOR or not payload:
+            return reply(EINVAL, cookie)
+        self.data[offset : offset + len(payload)] = payload
+        return reply(0, cookie)
 
 
 def name_in(body):

@@ -10,6 +10,7 @@ use Rattle.std.proofs.lemmas.Option.{slice_get_within}
 use Rattle.md_commands.proofs.DeviceCounts.{AsMany, checks_as_many, done_check, done_fail, done_list, done_resync, done_write, fails_as_many, lists_as_many, resyncs_as_many, stops_as_many, writes_as_many, stopped}
 use Rattle.md_commands.proofs.RebuildCounts.{done_rebuild, rebuilds_as_many}
 use Rattle.md_read_commands.proofs.ReadCounts.{done_read, done_readonly, fills_as_many, reads_as_many, reads_readonly_as_many}
+use Rattle.md_serve_commands.proofs.ServeCounts.{serves_as_many}
 use Rattle.md_commands.specs.declared.source.Source.{Ghosts as SourceGhosts}
 use Rattle.md_commands.specs.Adding.{KeepsDevice}
 use Rattle.md_commands.specs.Removing.{HandsBack}
@@ -17,7 +18,7 @@ use Rattle.md_examine.specs.declared.sink.Sink.{Ghosts as SinkGhosts}
 use Rattle.md_state.specs.View.{Disk, disk_of}
 use Rattle.md_images.specs.Taking.{Text}
 use Rattle.md_words.specs.declared.form.CheckForm.TheVariants as check_form
-use Rattle.md_words.specs.Asks.{Ask, device_to_add, leaving_of, examines, examines_bitmap, examines_badblocks, creates, assembles, details, plans, reads, serves, checks, writes, resyncs, stops, fails, removes, adds, re_adds, rebuilds}
+use Rattle.md_words.specs.Asks.{Ask, device_to_add, leaving_of, examines, examines_bitmap, examines_badblocks, creates, assembles, details, plans, reads, serves, serves_writable, checks, writes, resyncs, stops, fails, removes, adds, re_adds, rebuilds}
 use Rattle.md_commands.specs.declared.fault.CommandFault.{CommandFault}
 use Rattle.md_messages.specs.Question.{Question}
 use Rattle.md_messages.specs.declared.notices.Notices.{Notices}
@@ -82,6 +83,8 @@ module _ {R S A : Type 0} (r : SourceGhosts R) (s : SinkGhosts S) (names : List 
   all_kept (reads sector count false true) (Err f) brings h =
       kept _ before after brings h.0 (reads_readonly_as_many s before.mirror after.mirror old.output new.output sector count f h.2)
   all_kept (serves fill) result brings h = kept _ before after brings h.0 h.1.rests.disks.same.as_many
+  all_kept serves_writable result brings h =
+      kept _ before after brings h.0 (serves_as_many r s before.mirror after.mirror old.input new.input old.output new.output result h.1)
   all_kept (checks check_form.List readonly) (Ok v) brings h = kept _ before after brings h.0 (done_list s before.mirror after.mirror old.output new.output _ h.2)
   all_kept (checks check_form.List readonly) (Err f) brings h =
       kept _ before after brings h.0 (lists_as_many s before.mirror after.mirror old.output new.output f h.2)
@@ -136,6 +139,7 @@ module _ {R S A : Type 0} (r : SourceGhosts R) (s : SinkGhosts S) (names : List 
   performs_asked (reads sector count true readonly) h = h
   performs_asked (reads sector count false readonly) h = h
   performs_asked (serves fill) h = (h.0, record { missing = h.1.missing; serves = h.1.serves; rests = h.1.rests; noted = h.1.noted })
+  performs_asked serves_writable h = h
   performs_asked (checks form readonly) h = h
   performs_asked (writes sector) h = h
   performs_asked resyncs h = h

@@ -19,6 +19,7 @@ use Rattle.md_commands.specs.declared.fault.CommandFault.{CommandFault}
 use Rattle.md_read_commands.specs.Filling.{ReadsFilled}
 use Rattle.md_read_commands.specs.Reading.{ReadsArray, ReadsReadonly, RefusesReadonly, RefusesToRead}
 use Rattle.md_read_commands.specs.Serving.{ServesArray}
+use Rattle.md_serve_commands.specs.Writable.{ServesWritable}
 use Rattle.md_examine.specs.declared.sink.Sink.{Ghosts as SinkGhosts}
 use Rattle.md_images.specs.Taking.{Text}
 use Rattle.md_report.specs.CheckReport.{list_text}
@@ -26,7 +27,7 @@ use Rattle.md_badblocks.specs.declared.run.Run.{Run}
 use Rattle.md_state.specs.Rests.{Rests}
 use Rattle.md_state.specs.Steps.Fail.{FailsMember}
 use Rattle.md_state.specs.View.{Disk}
-use Rattle.md_words.specs.Asks.{Ask, assembles, details, plans, reads, serves, checks, writes, resyncs, stops, fails, removes, adds, re_adds, rebuilds}
+use Rattle.md_words.specs.Asks.{Ask, assembles, details, plans, reads, serves, serves_writable, checks, writes, resyncs, stops, fails, removes, adds, re_adds, rebuilds}
 use Rattle.md_words.specs.declared.form.CheckForm.{CheckForm}
 use Rattle.md_words.specs.declared.form.CheckForm.TheVariants as check_form
 use Rattle.md_cli.specs.Opened.{OpenedView}
@@ -133,6 +134,9 @@ module _ {R S A : Type 0} (r : SourceGhosts R) (s : SinkGhosts S) (names : List 
       × PerformsRead s sector count fill readonly before after old new result
   Performs (serves fill) before after old new result =
       (after.beside ≡ before.beside) × PerformsServe r s fill before after old new result
+  Performs serves_writable before after old new result =
+      (after.beside ≡ before.beside)
+      × ServesWritable r s before.mirror after.mirror old.input new.input old.output new.output result
   Performs (checks form readonly) before after old new result =
       (after.beside ≡ before.beside) × (new.input ≡ old.input)
       × ShowsMismatches s form names before after old.output new.output result

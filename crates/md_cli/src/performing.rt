@@ -23,13 +23,14 @@ use md_commands::{
 use md_device::Device;
 use md_examine::Sink;
 use md_read_commands::{read_array, read_array_filled, read_array_readonly, serve_array};
+use md_serve_commands::serve_writable;
 use md_words::{CheckForm, Command};
 use std::alloc::Global;
 use std::sync::Wait;
 use std::thread::Threads;
 
-/// Does a command with an opened array; the names are those of its images. The input is read by `Write` and `Serve` alone. `Check`,
-/// `Rebuild` and `ReAdd` alone start threads, and tell the session's `watch` of their reads.
+/// Does a command with an opened array; the names are those of its images. The input is read by `Write`, `Serve` and
+/// `ServeWritable` alone. `Check`, `Rebuild` and `ReAdd` alone start threads, and tell the session's `watch` of their reads.
 pub(crate) fn perform<
     D: Device + Drop + Send,
     T: Threads + Wait + Sync,
@@ -73,6 +74,10 @@ pub(crate) fn perform<
             readonly,
         } => { read_sectors(session, opened, sector, count, fill, readonly) }
         Command::Serve { fill } => serve(session, opened, fill),
+        Command::ServeWritable => {
+            let input = &mut session.input;
+            Ok(serve_writable(alloc, &mut opened.mirror, input, &mut session.out)?)
+        }
         Command::Check { form, .. } => {
             check(rt, alloc, opened, form, watch, names, &mut session.out)
         }

@@ -10,7 +10,7 @@ use Rattle.clap.specs.Values.{kind_of}
 use Rattle.clap.specs.Words.{HasKind, Row, Text}
 use Rattle.clap.specs.declared.error.Error.{Error}
 use Rattle.clap.specs.declared.error.kind.ErrorKind.TheVariants as kind
-use Rattle.md_words.specs.Parsing.{fits_bits, map_out_fault, member_at, member_fault, names_map_alone, names_no_member, number_or_zero, place_in}
+use Rattle.md_words.specs.Parsing.{fits_bits, lacks_option, member_at, member_fault, names_no_member, number_or_zero, option_fault, place_in}
 use Rattle.md_words.proofs.Numbers.{is_no_number_refused, is_number_parsed, number_read}
 
 prefix_len-map : {X Y : Type 0} (p : Y → Bool) (f : X → Y) (xs : List X) → prefix_len p (map f xs) ≡ prefix_len (λ x. p (f x)) xs
@@ -54,9 +54,9 @@ unknown_fails o name rows e is unknown told =
     subst (λ (b : Bool). HasKind (cond b (kind.ValueValidation ∷ []) []) e) (sym unknown) (inr (inl told)) in
     subst (λ (p : Option (Text × List Row)). HasKind (member_fault p) e) (sym is) among
 
--- a map of a read that is not filled is refused
-pub map_alone_fails : (o : Option (Text × List Row)) (name : Text) (rows : List Row) (e : Error) → o ≡ Some (name, rows) → names_map_alone rows ≡ true → kind_of e ≡ kind.MissingRequiredArgument → HasKind (map_out_fault o) e
-map_alone_fails o name rows e is alone told =
-    let among : HasKind (cond (names_map_alone rows) (kind.MissingRequiredArgument ∷ []) []) e =
-    subst (λ (b : Bool). HasKind (cond b (kind.MissingRequiredArgument ∷ []) []) e) (sym alone) (inr (inl told)) in
-    subst (λ (p : Option (Text × List Row)). HasKind (map_out_fault p) e) (sym is) among
+-- an option without one that it needs is refused
+pub lacking_fails : (o : Option (Text × List Row)) (name : Text) (rows : List Row) (e : Error) → o ≡ Some (name, rows) → lacks_option name rows ≡ true → kind_of e ≡ kind.MissingRequiredArgument → HasKind (option_fault o) e
+lacking_fails o name rows e is lacks told =
+    let among : HasKind (cond (lacks_option name rows) (kind.MissingRequiredArgument ∷ []) []) e =
+    subst (λ (b : Bool). HasKind (cond b (kind.MissingRequiredArgument ∷ []) []) e) (sym lacks) (inr (inl told)) in
+    subst (λ (p : Option (Text × List Row)). HasKind (option_fault p) e) (sym is) among

@@ -36,6 +36,7 @@ pub data Ask : Type 0 where
   plans : ℕ → Bool → Bool → Ask  -- the rebuild of the member with this index
   reads : ℕ → ℕ → Bool → Bool → Ask  -- from a sector on, so many; whether zeros stand for those that are not given
   serves : Bool → Ask  -- reading only; whether zeros stand for sectors that are not given
+  serves_writable : Ask
   checks : CheckForm → Bool → Ask
   writes : ℕ → Ask  -- from a sector on
   resyncs : Ask
@@ -167,6 +168,7 @@ ask_of (command.Detail json readonly) = details json readonly
 ask_of (command.Plan k json readonly) = plans k json readonly
 ask_of (command.Read sector count fill readonly) = reads sector count fill readonly
 ask_of (command.Serve fill) = serves fill
+ask_of command.ServeWritable = serves_writable
 ask_of (command.Check form readonly) = checks form readonly
 ask_of (command.Write sector) = writes sector
 ask_of command.Resync = resyncs

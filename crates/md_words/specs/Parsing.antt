@@ -1,5 +1,5 @@
 -- How a command comes from the words.
-use Rattle.std.specs.Prelude.{ℕ, ◌^◌, Bool, false, List, [], ◌∷◌, Option, Some, None, ◌&&◌, codes, is_none, length, min, nat_lt, option_map, position, unwrap_or, if◌then◌else◌, is_some, not}
+use Rattle.std.specs.Prelude.{ℕ, ◌^◌, Bool, false, List, [], ◌∷◌, Option, Some, None, ◌&&◌, ◌||◌, codes, is_none, length, min, nat_lt, option_map, position, unwrap_or, if◌then◌else◌, is_some, not}
 use Rattle.std.specs.List.{list_all}
 use Rattle.std.specs.Str.{bytes_eq}
 use Rattle.std.specs.Str.Parse.{digits_value, without_leading_plus}
@@ -12,7 +12,7 @@ use Rattle.md_words.specs.declared.form.CheckForm.{CheckForm}
 use Rattle.md_words.specs.declared.form.CheckForm.TheVariants as check_form
 use Rattle.md_words.specs.declared.form.ImageForm.{ImageForm}
 use Rattle.md_words.specs.declared.form.ImageForm.TheVariants as image_form
-use Rattle.md_words.specs.Asks.{Ask, Options, examines, examines_bitmap, examines_badblocks, creates, assembles, details, plans, reads, serves, checks, writes, resyncs, stops, fails, removes, adds, re_adds, rebuilds}
+use Rattle.md_words.specs.Asks.{Ask, Options, examines, examines_bitmap, examines_badblocks, creates, assembles, details, plans, reads, serves, serves_writable, checks, writes, resyncs, stops, fails, removes, adds, re_adds, rebuilds}
 
 -- whether the text is a number: one decimal digit or more, and nothing else
 abbrev pub is_number : Text → Bool
@@ -154,6 +154,10 @@ ask_to_change name rows =
     else if bytes_eq name (codes "rebuild") then rebuilds (member_in rows)
     else examines (image_form_in rows)
 
+-- what `serve` asks for
+abbrev pub serve_in : List Row → Ask
+serve_in rows = if readonly_in rows then serves (fill_in rows) else serves_writable
+
 -- what the command of any name asks for
 abbrev pub ask_named : Text → List Row → Ask
 ask_named name rows =
@@ -165,7 +169,7 @@ ask_named name rows =
     else if bytes_eq name (codes "plan") then plans (member_in rows) (json_in rows) (readonly_in rows)
     else if bytes_eq name (codes "read") then reads (sector_in rows) (count_in rows) (fill_in rows)
     (readonly_in rows)
-    else if bytes_eq name (codes "serve") then serves (fill_in rows)
+    else if bytes_eq name (codes "serve") then serve_in rows
     else if bytes_eq name (codes "check") then checks (check_form_in rows) (readonly_in rows)
     else ask_to_change name rows
 
@@ -229,13 +233,25 @@ member_fault (Some p) = if names_no_member p.1 then kind.ValueValidation ∷ [] 
 abbrev pub names_map_alone : List Row → Bool
 names_map_alone rows = is_some (map_out_in rows) && not (fill_in rows)
 
-abbrev pub map_out_fault : Option (Text × List Row) → Kinds
-map_out_fault None = []
-map_out_fault (Some p) = if names_map_alone p.1 then kind.MissingRequiredArgument ∷ [] else []
+-- whether what is only for reading is asked of an array that is served for writing
+abbrev pub has_maps : List Row → Bool
+has_maps rows = is_some (all_of (codes "map") rows)
 
--- why the words of a command are not taken: for the member that they name, or else for such a map
+abbrev pub needs_readonly : Text → List Row → Bool
+needs_readonly name rows =
+    bytes_eq name (codes "serve") && not (readonly_in rows) && (fill_in rows || has_maps rows)
+
+-- whether an option is named without one that it needs
+abbrev pub lacks_option : Text → List Row → Bool
+lacks_option name rows = names_map_alone rows || needs_readonly name rows
+
+abbrev pub option_fault : Option (Text × List Row) → Kinds
+option_fault None = []
+option_fault (Some p) = if lacks_option p.0 p.1 then kind.MissingRequiredArgument ∷ [] else []
+
+-- why the words of a command are not taken: for the member that they name, or else for its options
 abbrev pub command_fault : Option (Text × List Row) → Kinds
-command_fault command = or_else (member_fault command) (map_out_fault command)
+command_fault command = or_else (member_fault command) (option_fault command)
 
 -- why the words are not taken: for what the parser says, or else for what the command is given
 unfoldable pub words_fault : List Text → Kinds

@@ -126,13 +126,8 @@ read_app =
     with_images
     (with_fill (with_rule (with_sector (new_app (codes "read"))) (required (u64_rule (codes "count")))))
 
--- a command that is only asked for with `readonly`
 abbrev pub serve_app : App
-serve_app =
-    completed
-    (with_map
-    (with_rule (with_rule (new_app (codes "serve")) (flag_rule (codes "fill")))
-    (required (flag_rule (codes "readonly")))))
+serve_app = with_images (with_rule (new_app (codes "serve")) (flag_rule (codes "fill")))
 
 abbrev pub write_app : App
 write_app = completed (with_sector (new_app (codes "write")))

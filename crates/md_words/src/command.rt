@@ -54,6 +54,8 @@ pub enum Command<'a> {
     Serve {
         fill: bool,
     },
+    /// Serves it to a client that may write to it, and stops it.
+    ServeWritable,
     /// Counts the chunks in which its members in sync differ, or shows which they are too.
     Check {
         form: CheckForm,
@@ -111,6 +113,7 @@ impl<'a> Command<'a> {
             | Command::Serve { .. }
             | Command::Check { .. } => Access::ChangeOrLook,
             Command::Create(_)
+            | Command::ServeWritable
             | Command::Write { .. }
             | Command::Resync
             | Command::Stop
@@ -137,6 +140,7 @@ impl<'a> Command<'a> {
             | Command::ExamineBitmap { .. }
             | Command::ExamineBadblocks { .. }
             | Command::Create(_)
+            | Command::ServeWritable
             | Command::Write { .. }
             | Command::Resync
             | Command::Stop
@@ -162,6 +166,7 @@ impl<'a> Command<'a> {
             | Command::Plan { .. }
             | Command::Read { .. }
             | Command::Serve { .. }
+            | Command::ServeWritable
             | Command::Check { .. }
             | Command::Write { .. }
             | Command::Resync
@@ -188,6 +193,7 @@ impl<'a> Command<'a> {
             | Command::Assemble { .. }
             | Command::Detail { .. }
             | Command::Plan { .. }
+            | Command::ServeWritable
             | Command::Check { .. }
             | Command::Write { .. }
             | Command::Resync
@@ -216,6 +222,7 @@ impl<'a> Command<'a> {
             | Command::Plan { .. }
             | Command::Read { .. }
             | Command::Serve { .. }
+            | Command::ServeWritable
             | Command::Check { .. }
             | Command::Write { .. }
             | Command::Resync
@@ -243,6 +250,7 @@ impl<'a> Command<'a> {
             | Command::Detail { .. }
             | Command::Read { .. }
             | Command::Serve { .. }
+            | Command::ServeWritable
             | Command::Check { .. }
             | Command::Write { .. }
             | Command::Resync
@@ -267,6 +275,7 @@ impl<'a> Command<'a> {
             | Command::Plan { .. }
             | Command::Read { .. }
             | Command::Serve { .. }
+            | Command::ServeWritable
             | Command::Check { .. }
             | Command::Write { .. }
             | Command::Resync
@@ -293,6 +302,7 @@ impl<'a> Command<'a> {
             | Command::Plan { .. }
             | Command::Read { .. }
             | Command::Serve { .. }
+            | Command::ServeWritable
             | Command::Check { .. }
             | Command::Write { .. }
             | Command::Resync
@@ -320,6 +330,7 @@ impl<'a> Command<'a> {
             | Command::Create(_)
             | Command::Read { .. }
             | Command::Serve { .. }
+            | Command::ServeWritable
             | Command::Check { .. }
             | Command::Write { .. }
             | Command::Resync
@@ -347,6 +358,7 @@ impl<'a> Command<'a> {
             | Command::Plan { .. }
             | Command::Read { .. }
             | Command::Serve { .. }
+            | Command::ServeWritable
             | Command::Check { .. }
             | Command::Write { .. }
             | Command::Resync
@@ -371,6 +383,7 @@ impl<'a> Command<'a> {
             | Command::Plan { .. }
             | Command::Read { .. }
             | Command::Serve { .. }
+            | Command::ServeWritable
             | Command::Check { .. }
             | Command::Resync
             | Command::Stop
@@ -399,6 +412,7 @@ impl<'a> Command<'a> {
             | Command::Detail { .. }
             | Command::Plan { .. }
             | Command::Serve { .. }
+            | Command::ServeWritable
             | Command::Write { .. }
             | Command::Stop
             | Command::Fail { .. }

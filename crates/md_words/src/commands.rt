@@ -44,9 +44,9 @@ const READONLY: OptionWords = OptionWords {
 const ONLY_READ: OptionWords = OptionWords {
     name: "readonly",
     value: "",
-    help: "Changes no image, and refuses writes: it is needed, since writes are not served yet",
+    help: "Changes no image, and refuses writes",
     kind: Kind::Flag,
-    required: true,
+    required: false,
     default: None,
 };
 
@@ -134,7 +134,7 @@ const FILL: OptionWords = OptionWords {
 const FILL_SERVED: OptionWords = OptionWords {
     name: "fill",
     value: "",
-    help: "Gives zeros in the place of sectors that are not given, which else are an input/output error",
+    help: "With --readonly: gives zeros in the place of sectors that are not given, which else are an input/output error",
     kind: Kind::Flag,
     required: false,
     default: None,
@@ -257,6 +257,15 @@ const MAP: OptionWords = OptionWords {
     default: None,
 };
 
+const MAP_SERVED: OptionWords = OptionWords {
+    name: "map",
+    value: "IMAGE=FILE",
+    help: "With --readonly: the image is a copy of a disk, and FILE ddrescue's map of it: what it lacks is not read; of each image one",
+    kind: Kind::Texts,
+    required: false,
+    default: None,
+};
+
 /// The commands on one image.
 pub(crate) const EXAMINE_COMMANDS: [CommandWords; 3] = [
     CommandWords {
@@ -328,9 +337,9 @@ pub(crate) const DATA_COMMANDS: [CommandWords; 6] = [
     },
     CommandWords {
         name: "serve",
-        about: "Serves the array as a network block device that is only read",
+        about: "Serves the array as a network block device, and stops it",
         after_help: help::SERVE,
-        options: &[FILL_SERVED, ONLY_READ, MAP],
+        options: &[FILL_SERVED, ONLY_READ, MAP_SERVED],
     },
     CommandWords {
         name: "write",

@@ -3,7 +3,7 @@ ghost use Rattle.std.specs.Prelude.{◌≡◌, IfOk, [], codes, map, option_map,
 ghost use Rattle.std.specs.Str.{bytes_eq};
 ghost use Rattle.clap.specs.Words.{FailsBy, fault_of, first_of, found_of, matched_of, raw_values, rows_of, subcommand_of, subcommand_rows_of};
 ghost use Rattle.md_words.specs.Words.{mdcli};
-ghost use Rattle.md_words.specs.Parsing.{all_in, ask_found, ask_named, ask_to_change, asked, check_form_in, command_fault, fill_in, full_in, image_form_in, image_words, images_found, is_verbose, json_in, list_in, map_out_fault, map_out_found, map_out_in, map_out_word, map_words, maps_found, member_at, member_fault, member_in, member_named, names_map_alone, names_no_member, number_in, number_or_zero, options_in, output_found, output_in, output_word, place_in, readonly_in, run_found, run_in, runs, text_in, verbose_found, verbose_in, words_fault};
+ghost use Rattle.md_words.specs.Parsing.{all_in, ask_found, ask_named, ask_to_change, asked, check_form_in, command_fault, fill_in, full_in, has_maps, image_form_in, image_words, images_found, is_verbose, json_in, lacks_option, list_in, map_out_found, map_out_in, map_out_word, map_words, maps_found, member_at, member_fault, member_in, member_named, names_map_alone, names_no_member, needs_readonly, number_in, number_or_zero, option_fault, options_in, output_found, output_in, output_word, place_in, readonly_in, run_found, run_in, runs, serve_in, text_in, verbose_found, verbose_in, words_fault};
 ghost use Rattle.md_words.specs.Asks.{ask_of, options_of};
 
 use crate::command::Command;
@@ -225,6 +225,19 @@ fn names_no_member(found: &ArgMatches<'_>) -> bool
     }
 }
 
+// The command `serve`, with the values of its options.
+fn serve_command<'a>(found: &ArgMatches<'a>) -> Command<'a>
+    ensures { ask_of result ≡ serve_in (rows_of (found_of found.now)) }
+{
+    if is_readonly(found) {
+        Command::Serve {
+            fill: is_fill(found),
+        }
+    } else {
+        Command::ServeWritable
+    }
+}
+
 // The command of a name, with the values of its options.
 fn command_of<'a>(name: &str, found: &ArgMatches<'a>) -> Command<'a>
     ensures { ask_of result ≡ ask_named name.now (rows_of (found_of found.now)) }
@@ -265,9 +278,7 @@ fn command_of<'a>(name: &str, found: &ArgMatches<'a>) -> Command<'a>
             readonly: is_readonly(found),
         }
     } else if name == "serve" {
-        Command::Serve {
-            fill: is_fill(found),
-        }
+        serve_command(found)
     } else if name == "check" {
         Command::Check {
             form: check_form(found),
@@ -400,18 +411,43 @@ fn names_map_alone(found: &ArgMatches<'_>) -> bool
     map_out_of(found).is_some() && !is_fill(found)
 }
 
-// Refuses such a map, as the parser refuses an option without one that it requires.
-fn check_map_out(alloc: Global, matches: &ArgMatches<'_>) -> Result<(), Error>
-    ensures { FailsBy (map_out_fault (subcommand_rows_of matches.now)) result }
+// Whether maps of images are named.
+fn has_maps(found: &ArgMatches<'_>) -> bool
+    ensures { result ≡ has_maps (rows_of (found_of found.now)) }
 {
-    let Some((_, found)) = matches.subcommand() else {
+    found.get_strs("map").is_some()
+}
+
+// Whether what is only for reading is asked of an array that is served for writing.
+fn needs_readonly(name: &str, found: &ArgMatches<'_>) -> bool
+    ensures { result ≡ needs_readonly name.now (rows_of (found_of found.now)) }
+{
+    name == "serve" && !is_readonly(found) && (is_fill(found) || has_maps(found))
+}
+
+// Whether an option is named without one that it needs.
+fn lacks_option(name: &str, found: &ArgMatches<'_>) -> bool
+    ensures { result ≡ lacks_option name.now (rows_of (found_of found.now)) }
+{
+    names_map_alone(found) || needs_readonly(name, found)
+}
+
+// Refuses that, as the parser refuses an option without one that it requires.
+fn check_options(alloc: Global, matches: &ArgMatches<'_>) -> Result<(), Error>
+    ensures { FailsBy (option_fault (subcommand_rows_of matches.now)) result }
+{
+    let Some((name, found)) = matches.subcommand() else {
         return Ok(());
     };
-    if !names_map_alone(found) {
+    if !lacks_option(name, found) {
         return Ok(());
     }
+    let message = if names_map_alone(found) {
+        "the argument '--map-out <FILE>' requires '--fill'"
+    } else {
+        "the arguments '--fill' and '--map <IMAGE=FILE>' require '--readonly'"
+    };
     let mut program = command_line(alloc)?;
-    let message = "the argument '--map-out <FILE>' requires '--fill'";
     Err(program.error(ErrorKind::MissingRequiredArgument, message)?)
 }
 
@@ -420,7 +456,7 @@ fn check_command(alloc: Global, matches: &ArgMatches<'_>) -> Result<(), Error>
     ensures { FailsBy (command_fault (subcommand_rows_of matches.now)) result }
 {
     match check_member(alloc, matches) {
-        Ok(()) => check_map_out(alloc, matches),
+        Ok(()) => check_options(alloc, matches),
         Err(error) => Err(error),
     }
 }

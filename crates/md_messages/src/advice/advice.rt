@@ -34,7 +34,7 @@ pub(crate) fn advice(fault: &CommandFault) -> &'static str {
         CommandFault::Declined => {
             "nothing was overwritten: name another image, or answer `yes`, which `--run` does"
         }
-        CommandFault::InputFault => "see why its file or program fails; nothing was written",
+        CommandFault::InputFault => "see why its file or program fails; `write` has written nothing",
         CommandFault::BadLength => "give it a multiple of 512 bytes",
         CommandFault::OutOfRange => WITHIN_ARRAY,
         CommandFault::BadMember => {

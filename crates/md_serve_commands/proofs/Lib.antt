@@ -1,0 +1,5 @@
+pub mod Exchanged
+pub mod Halted
+pub mod ServeCounts
+pub mod SessionEvents
+pub mod Written

@@ -1,0 +1,74 @@
+-- An array is served, and written to.
+use Rattle.std.proofs.Common.{◌≡◌, ◌⊎◌, inl, inr, ℕ, ◌*◌, Bool, true, false, List, [], Result, Ok, Err, MatchResult, refl, sym, ap, subst}
+use Rattle.md_bitmap.specs.declared.chunks.Chunks.{Chunks}
+use Rattle.md_inflight.specs.Requests.Pending.{PendingView}
+use Rattle.md_state.specs.Requests.{IsPending}
+use Rattle.md_state.specs.View.{MirrorView}
+use Rattle.md_metadata.specs.declared.stop_fault.StopFault.{StopFault}
+use Rattle.md_metadata.specs.Stopping.{RefusesStop, StopsMirror}
+use Rattle.md_examine.specs.declared.sink.Sink.{Ghosts as Sinks}
+use Rattle.md_examine.specs.Sink.{Flushes}
+use Rattle.md_commands.specs.declared.fault.CommandFault.{CommandFault}
+use Rattle.md_commands.specs.declared.fault.CommandFault.TheVariants.{Stop}
+use Rattle.md_commands.specs.declared.source.Source.{Ghosts as Sources}
+use Rattle.md_nbd.specs.declared.export.Export.{Export}
+use Rattle.md_nbd.specs.declared.server.session.SessionEnd.{SessionEnd}
+use Rattle.md_nbd.specs.declared.server.session.SessionFault.{SessionFault}
+use Rattle.md_nbd.specs.Export.{sector_bytes}
+use Rattle.md_nbd.specs.Server.Sessions.{BreaksSession, EndsSession, is_orderly}
+use Rattle.md_serve_commands.specs.declared.writer.ArrayWriter.{ArrayWriter}
+use Rattle.md_serve_commands.specs.Writable.{BreaksSo, EndsSo, KeepsPending, ServesClient, writable_export, array_writer, writer_store}
+use Rattle.md_serve_commands.proofs.Exchanged.{EachKeeps, broken_keeps, session_keeps}
+
+-- ---- requests in flight stay so
+pending_keeps : EachKeeps KeepsPending
+pending_keeps = record {
+  same = λ v p h. h;
+  on = λ a b c ab bc p h. bc p (ab p h);
+  given = λ sector bytes old new h. h.1;
+  ungiven = λ sector sectors old new h. h.pending;
+  written = λ sector bytes old new h. h.1;
+  unwritten = λ sector bytes old new h. h.pending;
+  cleared = λ old new h. h.pending;
+  uncleared = λ old new h. h.pending;
+}
+
+module _ {I S : Type 0} (i : Sources I) (o : Sinks S) (e : Export) (old new : ArrayWriter × MirrorView) (from to : I) (was now : S) where
+  pub session_pending : (end : SessionEnd) → EndsSession writer_store i o e old new from to was now end → KeepsPending old.1 new.1
+  session_pending end h = session_keeps KeepsPending pending_keeps i o e old new from to was now end h
+
+  pub broken_pending : (fault : SessionFault) → BreaksSession writer_store i o e old new from to was now fault → KeepsPending old.1 new.1
+  broken_pending fault h = broken_keeps KeepsPending pending_keeps i o e old new from to was now fault h
+
+-- ---- the session of an array
+-- what clients are told of, and who serves them, by the mirror's chunks
+abbrev pub export_by : Chunks → Export
+export_by k = record { size = sector_bytes * k.size; readonly = false }
+
+abbrev pub writer_by : Chunks → ArrayWriter
+writer_by k = record { sectors = k.size }
+
+module _ {I S : Type 0} (i : Sources I) (o : Sinks S) (k : Chunks) (last : ArrayWriter) (old new : MirrorView) (from to : I) (was now : S) (is : k ≡ old.array.chunks) where
+  pub ends_so : (end : SessionEnd) → EndsSession writer_store i o (export_by k) (writer_by k, old) (last, new) from to was now end → EndsSo i o old new from to was now end
+  ends_so end h = record {
+    last = last;
+    session = subst (λ (c : Chunks). EndsSession writer_store i o (export_by c) (writer_by c, old) (last, new) from to was now end) is h;
+  }
+
+  pub breaks_so : (fault named : SessionFault) → fault ≡ named → BreaksSession writer_store i o (export_by k) (writer_by k, old) (last, new) from to was now fault
+      → BreaksSo i o old new from to was now named
+  breaks_so fault named same h = record {
+    last = last;
+    session = subst (λ (f : SessionFault). BreaksSession writer_store i o (writable_export old.array) (array_writer old.array, old) (last, new) from to was now f) same
+        (subst (λ (c : Chunks). BreaksSession writer_store i o (export_by c) (writer_by c, old) (last, new) from to was now fault) is h);
+  }
+
+pub served_client : {I S : Type 0} (i : Sources I) (o : Sinks S) (old new : MirrorView) (from to : I) (was told now : S) (end : SessionEnd) → is_orderly end ≡ true → EndsSo i o old new from to was told end
+    → Flushes o.contents o.failed o.is_flushed told now → ServesClient i o old new from to was now
+served_client i o old new from to was told now end orderly ends flushes = record {
+  end = end;
+  orderly = orderly;
+  told = told;
+  ends = ends;
+  flushed = record { puts = flushes.puts; flushed = flushes.flushed };
+}
