@@ -26,6 +26,11 @@ pub enum Command<'a> {
     },
     /// Makes an array of the images, and shows it in one line.
     Create(CreateOptions<'a>),
+    /// Gives the members of the array a bitmap of this kind, with chunks of so many KiB, and shows it in one line.
+    Grow {
+        bitmap: &'a str,
+        chunk: u32,
+    },
     /// Shows the array that the images make in one line.
     Assemble {
         json: bool,
@@ -111,6 +116,7 @@ impl<'a> Command<'a> {
             | Command::Serve { .. }
             | Command::Check { .. } => Access::ChangeOrLook,
             Command::Create(_)
+            | Command::Grow { .. }
             | Command::Write { .. }
             | Command::Resync
             | Command::Stop
@@ -137,6 +143,7 @@ impl<'a> Command<'a> {
             | Command::ExamineBitmap { .. }
             | Command::ExamineBadblocks { .. }
             | Command::Create(_)
+            | Command::Grow { .. }
             | Command::Write { .. }
             | Command::Resync
             | Command::Stop
@@ -156,7 +163,8 @@ impl<'a> Command<'a> {
             Command::Examine { .. }
             | Command::ExamineBitmap { .. }
             | Command::ExamineBadblocks { .. }
-            | Command::Create(_) => false,
+            | Command::Create(_)
+            | Command::Grow { .. } => false,
             Command::Assemble { .. }
             | Command::Detail { .. }
             | Command::Plan { .. }
@@ -185,6 +193,7 @@ impl<'a> Command<'a> {
             | Command::ExamineBitmap { .. }
             | Command::ExamineBadblocks { .. }
             | Command::Create(_)
+            | Command::Grow { .. }
             | Command::Assemble { .. }
             | Command::Detail { .. }
             | Command::Plan { .. }
@@ -211,6 +220,7 @@ impl<'a> Command<'a> {
             | Command::ExamineBitmap { .. }
             | Command::ExamineBadblocks { .. }
             | Command::Create(_)
+            | Command::Grow { .. }
             | Command::Assemble { .. }
             | Command::Detail { .. }
             | Command::Plan { .. }
@@ -239,6 +249,7 @@ impl<'a> Command<'a> {
             | Command::ExamineBitmap { .. }
             | Command::ExamineBadblocks { .. }
             | Command::Create(_)
+            | Command::Grow { .. }
             | Command::Assemble { .. }
             | Command::Detail { .. }
             | Command::Read { .. }
@@ -262,6 +273,7 @@ impl<'a> Command<'a> {
             | Command::ExamineBitmap { .. }
             | Command::ExamineBadblocks { .. }
             | Command::Create(_)
+            | Command::Grow { .. }
             | Command::Assemble { .. }
             | Command::Detail { .. }
             | Command::Plan { .. }
@@ -288,6 +300,7 @@ impl<'a> Command<'a> {
             | Command::ExamineBitmap { .. }
             | Command::ExamineBadblocks { .. }
             | Command::Create(_)
+            | Command::Grow { .. }
             | Command::Assemble { .. }
             | Command::Detail { .. }
             | Command::Plan { .. }
@@ -318,6 +331,7 @@ impl<'a> Command<'a> {
             | Command::ExamineBitmap { .. }
             | Command::ExamineBadblocks { .. }
             | Command::Create(_)
+            | Command::Grow { .. }
             | Command::Read { .. }
             | Command::Serve { .. }
             | Command::Check { .. }
@@ -342,6 +356,7 @@ impl<'a> Command<'a> {
             Command::Examine { .. }
             | Command::ExamineBitmap { .. }
             | Command::ExamineBadblocks { .. }
+            | Command::Grow { .. }
             | Command::Assemble { .. }
             | Command::Detail { .. }
             | Command::Plan { .. }
@@ -366,6 +381,7 @@ impl<'a> Command<'a> {
             | Command::ExamineBitmap { .. }
             | Command::ExamineBadblocks { .. }
             | Command::Create(_)
+            | Command::Grow { .. }
             | Command::Assemble { .. }
             | Command::Detail { .. }
             | Command::Plan { .. }
@@ -395,6 +411,7 @@ impl<'a> Command<'a> {
             | Command::ExamineBitmap { .. }
             | Command::ExamineBadblocks { .. }
             | Command::Create(_)
+            | Command::Grow { .. }
             | Command::Assemble { .. }
             | Command::Detail { .. }
             | Command::Plan { .. }

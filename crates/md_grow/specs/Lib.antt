@@ -1,0 +1,8 @@
+-- Where the bitmap comes.
+pub mod Places
+-- What each member gets, and why none gets anything.
+pub mod Growth
+-- A member gets its bitmap on its device.
+pub mod Stored
+-- The members get their bitmaps, one after another.
+pub mod Growing

@@ -1,0 +1,19 @@
+//! A write-intent bitmap for an array that has none: it is put on each member, and all else stays as it was.
+//!
+//! Start with `grow`. `growth.rt` finds what each member gets, and refuses before anything is written; `storing.rt` writes it.
+//! `laws.rt` says what stands on the devices then.
+//!
+//! ```
+//! grow(alloc, &mut devices, 64 << 20)?;
+//! ```
+#![tactic(auto)]
+
+mod fault;
+mod growing;
+mod growth;
+
+mod places;
+mod storing;
+
+pub use fault::GrowFault;
+pub use growing::grow;
