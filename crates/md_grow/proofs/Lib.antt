@@ -8,3 +8,7 @@ pub mod StoredEach
 pub mod Refused
 -- What the members have that get a bitmap.
 pub mod Room
+-- A member is read back as it was, with the bitmap.
+pub mod ReadBack
+-- The members are in sync as they were.
+pub mod InSync

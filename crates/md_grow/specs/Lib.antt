@@ -6,3 +6,5 @@ pub mod Growth
 pub mod Stored
 -- The members get their bitmaps, one after another.
 pub mod Growing
+-- What is read of the devices then, and the array that they make: it is what it was.
+pub mod AsItWas

@@ -11,9 +11,11 @@
 mod fault;
 mod growing;
 mod growth;
+mod laws;
 
 mod places;
 mod storing;
 
 pub use fault::GrowFault;
 pub use growing::grow;
+pub use laws::{keeps_data, reads_back, stays_in_sync};
