@@ -38,13 +38,15 @@ module _ (infos : List MemberInfo) (chunk_bytes chunks : ℕ) (has : HasChunks i
     freshest_within index v decides = omega (arith, slice_get_within (superblocks members) index v decides.listed, length-map members (λ (m : MemberInfo). m.superblock))
 
     -- any superblock of theirs has the first's size
-    pub sound_size : NoAssembleFault members → (index : ℕ) (v : Superblock) → slice_get (superblocks members) index ≡ Some v → IsSoundHeader v.size chunk_bytes
-    sound_size sound index v at =
+    pub first_size : NoAssembleFault members → (index : ℕ) (v : Superblock) → slice_get (superblocks members) index ≡ Some v → v.size ≡ has.first.superblock.size
+    first_size sound index v at =
         let found = at_map (λ (m : MemberInfo). m.superblock) members index v at in
         let first : slice_get members 0 ≡ Some (with_bitmap header start has.first) =
         subst (λ (ms : List MemberInfo). slice_get ms 0 ≡ Some (with_bitmap header start has.first)) (sym are) (got_in_map (with_bitmap header start) infos 0 has.first has.is_first) in
-        let size : v.size ≡ has.first.superblock.size = ap (λ (w : Superblock). w.size) found.2 ∙ sizes_same members sound index 0 found.0 (with_bitmap header start has.first) found.1 first in
-        subst (λ (n : ℕ). IsSoundHeader n chunk_bytes) (sym size) has.sound
+        ap (λ (w : Superblock). w.size) found.2 ∙ sizes_same members sound index 0 found.0 (with_bitmap header start has.first) found.1 first
+
+    pub sound_size : NoAssembleFault members → (index : ℕ) (v : Superblock) → slice_get (superblocks members) index ≡ Some v → IsSoundHeader v.size chunk_bytes
+    sound_size sound index v at = subst (λ (n : ℕ). IsSoundHeader n chunk_bytes) (sym (first_size sound index v at)) has.sound
 
 -- the place is near, and after the superblock
 pub near : (sectors : ℕ) (infos : List MemberInfo) (start : ℕ) → IsFirstPlace sectors infos start → start ≤ 65536

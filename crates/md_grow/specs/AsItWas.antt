@@ -6,7 +6,7 @@ use Rattle.md_super.specs.Merge.{merged}
 use Rattle.md_badblocks.specs.Runs.{IsBad}
 use Rattle.md_members.specs.declared.info.MemberInfo.{MemberInfo}
 use Rattle.md_assembly.specs.States.{is_in_sync, state_of}
-use Rattle.md_create.specs.ReadBack.{HasSameMarks, sealed}
+use Rattle.md_create.specs.ReadBack.{HasSameMarks}
 use Rattle.md_grow.specs.declared.growth.Growth.{Growth}
 use Rattle.md_grow.specs.Growth.{with_place}
 
@@ -18,7 +18,8 @@ own_of g was = with_place g.start was.superblock
 -- lists the same sectors.
 pub record ReadsGrown (g : Growth) (was read : MemberInfo) : Type 0 where
   pub sectors : read.sectors ≡ was.sectors
-  pub superblock : read.superblock ≡ sealed (merged g.shared (own_of g was))
+  pub sum : ℕ  -- the checksum of its bytes
+  pub superblock : read.superblock ≡ record (merged g.shared (own_of g was)) { sb_csum = sum }
   pub header : read.header ≡ Some g.header
   pub marks : IfSome read.marks (HasSameMarks g.marks)
   pub bad : (sector : ℕ) → IsBad read.bad sector ↔ IsBad was.bad sector

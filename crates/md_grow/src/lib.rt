@@ -12,7 +12,6 @@ mod fault;
 mod growing;
 mod growth;
 mod laws;
-
 mod places;
 mod storing;
 
