@@ -15,15 +15,15 @@ use md_images::{Access, Images, image_list, put_back, take_images};
 use std::alloc::Global;
 
 // The bytes of a chunk that the options ask for.
-fn chunk_asked(bitmap: &str, kib: u32) -> Result<u32, OptionFault>
+fn chunk_asked(bitmap: &str, kib: u32) -> Result<u32, CommandFault>
     ensures { result ≡ chunk_asked bitmap.now kib }
 {
     if bitmap != "internal" {
-        return Err(OptionFault::BadBitmap);
+        return Err(CommandFault::Options(OptionFault::BadBitmap));
     }
     match bytes_of(kib) {
         Some(bytes) => Ok(bytes),
-        None => Err(OptionFault::BadChunk),
+        None => Err(CommandFault::Options(OptionFault::BadChunk)),
     }
 }
 
@@ -80,8 +80,6 @@ pub(crate) fn grow_array<I: Images, S: Sink>(
         images.old images.new out.old out.new result }
     ensures flushed { IfOk result (λ _. S.is_flushed out.new) }
 {
-    match chunk_asked(bitmap, kib) {
-        Ok(chunk_bytes) => grow_images(alloc, chunk_bytes, images, names, out),
-        Err(fault) => Err(CommandFault::Options(fault)),
-    }
+    let chunk_bytes = chunk_asked(bitmap, kib)?;
+    grow_images(alloc, chunk_bytes, images, names, out)
 }
