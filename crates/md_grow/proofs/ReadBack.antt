@@ -1,6 +1,6 @@
 -- A member is read back as it was, with the bitmap.
-use Rattle.std.proofs.Common.{◌≡◌, ℕ, ◌+◌, ◌-◌, ◌*◌, ◌/◌, ◌%◌, ◌<◌, ◌≤◌, ◌↔◌, true, false, List, [], ◌++◌, length, drop, map, slice_index, Option, Some, None, IfSome, refl, ap, sym, subst, ◌∙◌, arith, inl, inr}
-use Rattle.std.specs.Prelude.{ℤ, pos, ◌+ℤ◌, ◌≤ℤ◌, not, bit_and, ◌==◌, ◌&&◌, Bool, slice_get}
+use Rattle.std.proofs.Common.{◌≡◌, ℕ, ◌+◌, ◌-◌, ◌*◌, ◌/◌, ◌%◌, ◌<◌, ◌≤◌, ◌↔◌, true, List, ◌++◌, length, drop, slice_index, Option, Some, None, IfSome, refl, ap, sym, subst, ◌∙◌, arith, inl, inr}
+use Rattle.std.specs.Prelude.{pos, ◌+ℤ◌, not, ◌==◌, ◌&&◌, slice_get}
 use Rattle.std.proofs.Math.Bool.{Bool-set}
 use Rattle.std.proofs.Math.Bridge.{le_prop}
 use mathlib.Core.HLevel.{is_prop→PathP}
@@ -24,21 +24,20 @@ use Rattle.md_bitmap.specs.Sound.{IsSoundHeader, chunk_count}
 use Rattle.md_bitmap.specs.Sectors.{bitmap_sector, bitmap_sectors}
 use Rattle.md_bitmap.proofs.Blocks.{from_start, sector_bit}
 use Rattle.md_badblocks.specs.declared.run.Run.{Run}
-use Rattle.md_badblocks.specs.Log.{IsReadAs, named_runs}
+use Rattle.md_badblocks.specs.Log.{IsReadAs}
 use Rattle.md_badblocks.specs.Runs.{IsBad}
-use Rattle.md_members.specs.declared.area.Area.{Area}
 use Rattle.md_members.specs.declared.info.MemberInfo.{MemberInfo}
-use Rattle.md_members.specs.Areas.{AreApart, has_bitmap, log_area, super_area}
+use Rattle.md_members.specs.Areas.{has_bitmap, log_area}
 use Rattle.md_members.specs.Members.{IsReadMember, HasBitmap, HasBadSet, reads_log, sectors_of_device as sectors_in}
-use Rattle.md_members.specs.Reading.{BitmapStartsAt, IsRead, LogStartsAt, ReadsSuper, ReadsBitmap, ReadsHeader, ReadsLog, chunks_of, front_of}
+use Rattle.md_members.specs.Reading.{BitmapStartsAt, IsRead, LogStartsAt, ReadsBitmap, ReadsHeader, chunks_of, front_of}
 use Rattle.md_kept_members.specs.OnDevices.Superblocks.{IsReadable}
 use Rattle.md_kept_members.proofs.OnDeviceLemmas.Beside.{apart}
 use Rattle.md_create.specs.ReadBack.{HasSameMarks}
 use Rattle.md_grow.specs.declared.growth.Growth.{Growth}
-use Rattle.md_grow.specs.AsItWas.{KeepsData, ReadsGrown, own_of}
+use Rattle.md_grow.specs.AsItWas.{KeepsMemberData, ReadsGrown, own_of}
 use Rattle.md_grow.specs.Growth.{IsGrowth}
 use Rattle.md_grow.specs.Places.{HasRoomAt, reserved_for}
-use Rattle.md_grow.specs.Stored.{IsStored, KeepsOthers, sectors_of}
+use Rattle.md_grow.specs.Stored.{IsStored, KeepsAllBeside, sectors_of}
 use Rattle.md_grow.proofs.Room.{after_super, first_size, reserved_holds}
 
 IsSound-prop : (size chunksize : ℕ) → IsProp (IsSoundHeader size chunksize)
@@ -118,7 +117,7 @@ module _ (infos : List MemberInfo) (chunk_bytes : ℕ) (g : Growth) (growth : Is
       ∙ ap (chunk_count growth.has_chunks.first.superblock.size) growth.made.header.chunksize
       ∙ sym growth.has_chunks.count ∙ sym growth.made.marks.chunks_are
 
-  pub data_kept : (old new : List ℕ) → KeepsOthers g.start (sectors_of g) old new → KeepsData was old new
+  pub data_kept : (old new : List ℕ) → KeepsAllBeside g.start (sectors_of g) old new → KeepsMemberData was old new
   data_kept old new kept i n from to =
       kept.others i n (inr (omega (arith, room_of.before_data, late))) (inr (omega (arith, room_of.before_data, holds)))
 

@@ -17,7 +17,7 @@ use Rattle.md_array.proofs.Openings.DevicesInTurn.{same_place}
 use Rattle.md_array.proofs.Openings.Sound.{sizes_same}
 use Rattle.md_grow.specs.declared.growth.Growth.{Growth}
 use Rattle.md_grow.specs.Growth.{HasChunks, with_bitmap}
-use Rattle.md_grow.specs.Growing.{HaveRoom, IsFound}
+use Rattle.md_grow.specs.Growing.{FitGrowth, FindsGrowth}
 use Rattle.md_grow.specs.Places.{IsFirstPlace, reserved_for}
 
 -- the array has few chunks, and a member
@@ -59,7 +59,7 @@ pub reserved_holds : (chunks : ℕ) → bitmap_sectors chunks ≤ reserved_for c
 reserved_holds chunks = omega arith
 
 -- each device has room for the bitmap
-module _ (chunk_bytes : ℕ) (before seen : List Disk) (g : Growth) (found : IsFound chunk_bytes before seen g) where
+module _ (chunk_bytes : ℕ) (before seen : List Disk) (g : Growth) (found : FindsGrowth chunk_bytes before seen g) where
   chunks_are : g.marks.chunks ≡ found.growth.chunks
   chunks_are = found.growth.made.marks.chunks_are
 
@@ -80,7 +80,7 @@ module _ (chunk_bytes : ℕ) (before seen : List Disk) (g : Growth) (found : IsF
       let holds : bitmap_sectors g.marks.chunks ≤ reserved_for found.growth.chunks = subst (λ (n : ℕ). bitmap_sectors n ≤ reserved_for found.growth.chunks) (sym chunks_are) (reserved_holds found.growth.chunks) in
       omega (arith, same, read.placed.data_within, free.before_data, holds)
 
-  pub have_room : HaveRoom g seen
+  pub have_room : FitGrowth g seen
   have_room = record {
     few = omega (arith, chunks_are, few_chunks found.infos chunk_bytes found.growth.chunks found.growth.has_chunks);
     after_super = after_super (reserved_for found.growth.chunks) found.infos g.start found.growth.place;

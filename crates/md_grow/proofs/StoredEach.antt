@@ -10,8 +10,8 @@ use Rattle.md_array.proofs.Openings.DevicesInTurn.{each_after, none_touched, sti
 use Rattle.md_array.proofs.Openings.MarksStored.{left_alone}
 use Rattle.md_assembly.proofs.Indices.{got_same}
 use Rattle.md_grow.specs.declared.growth.Growth.{Growth}
-use Rattle.md_grow.specs.Growing.{AreStored, EndsAtMember, IsStoredAt}
-use Rattle.md_grow.specs.Stored.{FailsOn, StoresOn}
+use Rattle.md_grow.specs.Growing.{AllGrown, EndsGrowthAt, IsStoredAt}
+use Rattle.md_grow.specs.Stored.{FailsOn, GrowsMemberOn}
 
 -- the first k members have theirs, and the devices from there on are what they were
 pub record AreStoredTo (g : Growth) (before now : List Disk) (k : ℕ) : Type 0 where
@@ -28,7 +28,7 @@ stored_none g disks = record {
 
 module _ (g : Growth) (before now : List Disk) (k : ℕ) (d e : Disk) (to : AreStoredTo g before now k) (here : slice_get now k ≡ Some d) (stays : StaysHonest d e)
     (m : MemberInfo) (at : slice_get g.members.items k ≡ Some m) where
-  pub stored_more : StoresOn g m.superblock d e → AreStoredTo g before (set now k e) (k + 1)
+  pub stored_more : GrowsMemberOn g m.superblock d e → AreStoredTo g before (set now k e) (k + 1)
   stored_more stores = record {
     same = still_same before now k d e here to.same stays;
     earlier = each_after (λ j x y. j < k → IsStoredAt g j x y) (λ j x y. j < k + 1 → IsStoredAt g j x y) before now k d e here to.earlier
@@ -39,7 +39,7 @@ module _ (g : Growth) (before now : List Disk) (k : ℕ) (d e : Disk) (to : AreS
     rest = λ j x from at_j. to.rest j x (omega arith) (sym (got_other now k j e (λ same. absurd (omega arith))) ∙ at_j);
   }
 
-  pub stopped_at : FailsOn g m.superblock d e → EndsAtMember g before (set now k e) k
+  pub stopped_at : FailsOn g m.superblock d e → EndsGrowthAt g before (set now k e) k
   stopped_at fails = record {
     same = still_same before now k d e here to.same stays;
     member = m;
@@ -54,7 +54,7 @@ module _ (g : Growth) (before now : List Disk) (k : ℕ) (d e : Disk) (to : AreS
         subst (IsLeftAlone x) kept (left_alone x);
   }
 
-pub stored_all : (g : Growth) (before now : List Disk) (k : ℕ) → AreStoredTo g before now k → length now ≤ k → AreStored g before now
+pub stored_all : (g : Growth) (before now : List Disk) (k : ℕ) → AreStoredTo g before now k → length now ≤ k → AllGrown g before now
 stored_all g before now k to end = record {
   same = to.same;
   each = λ j d e was is. let within = slice_get_within now j e is in to.earlier j d e was is (omega arith);

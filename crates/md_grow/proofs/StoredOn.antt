@@ -1,29 +1,29 @@
 -- What stands on a device where its bitmap was put.
-use Rattle.std.proofs.Common.{◌≡◌, ◌⊎◌, ℕ, ◌+◌, ◌*◌, ◌<◌, ◌≤◌, true, List, [], ◌∷◌, ◌++◌, length, Result, Ok, Err, OnOk, OnErr, inl, inr, sym, ◌∙◌, arith, subst}
+use Rattle.std.proofs.Common.{◌≡◌, ℕ, ◌+◌, ◌*◌, ◌<◌, ◌≤◌, List, [], ◌∷◌, length, Result, Ok, Err, OnOk, OnErr, inl, inr, sym, ◌∙◌, arith, subst}
 use Rattle.md_device.specs.declared.device.Device.{Ghosts}
-use Rattle.md_device.specs.Splice.{SameOutside, part, spliced}
+use Rattle.md_device.specs.Splice.{SameOutside, spliced}
 use Rattle.md_device.proofs.Splices.{part-spliced, part_before, part_after, spliced_outside}
 use Rattle.md_super.specs.declared.superblock.Superblock.{Superblock}
 use Rattle.md_super.specs.Encoding.{super_bytes}
 use Rattle.md_super.specs.Merge.{merged}
 use Rattle.md_members.specs.DeviceWrites.Bitmaps.{bitmap_writes}
-use Rattle.md_members.specs.DeviceWrites.Writes.{DoesWrites, FailsInWrites, MakesWrites, after}
+use Rattle.md_members.specs.DeviceWrites.Writes.{FailsInWrites, MakesWrites, after}
 use Rattle.md_members.proofs.DeviceWriteLemmas.Frames.{outside_around}
 use Rattle.md_members.proofs.DeviceWriteLemmas.Runs.{after-append}
 use Rattle.md_members.proofs.DeviceWriteLemmas.Stored.{AreStored, stored_all}
 use Rattle.md_kept_members.specs.OnDevices.Superblocks.{IsReadable, own_write}
 use Rattle.md_state.specs.View.{disk_of, of_disks}
 use Rattle.md_grow.specs.declared.growth.Growth.{Growth}
-use Rattle.md_grow.specs.Stored.{FailsOn, IsStored, KeepsOthers, StoresOn, grow_writes, sectors_of}
+use Rattle.md_grow.specs.Stored.{FailsOn, IsStored, KeepsAllBeside, GrowsMemberOn, grow_writes, sectors_of}
 
 -- ---- no other part changes
-pub keeps_then : (start n : ℕ) (old mid new : List ℕ) → KeepsOthers start n old mid → KeepsOthers start n mid new → KeepsOthers start n old new
+pub keeps_then : (start n : ℕ) (old mid new : List ℕ) → KeepsAllBeside start n old mid → KeepsAllBeside start n mid new → KeepsAllBeside start n old new
 keeps_then start n old mid new first second = record {
   size = second.size ∙ first.size;
   others = λ at count super bitmap. second.others at count super bitmap ∙ first.others at count super bitmap;
 }
 
-pub keeps_bitmap : (start n : ℕ) (old new : List ℕ) → SameOutside (512 * start) (512 * n) old new → KeepsOthers start n old new
+pub keeps_bitmap : (start n : ℕ) (old new : List ℕ) → SameOutside (512 * start) (512 * n) old new → KeepsAllBeside start n old new
 keeps_bitmap start n old new same = record {
   size = same.size;
   others = λ at count super bitmap. elim bitmap [
@@ -32,7 +32,7 @@ keeps_bitmap start n old new same = record {
   ];
 }
 
-pub keeps_super : (start n : ℕ) (old new : List ℕ) → SameOutside (512 * 8) 4096 old new → KeepsOthers start n old new
+pub keeps_super : (start n : ℕ) (old new : List ℕ) → SameOutside (512 * 8) 4096 old new → KeepsAllBeside start n old new
 keeps_super start n old new same = record {
   size = same.size;
   others = λ at count super bitmap. elim super [
@@ -75,7 +75,7 @@ module _ (g : Growth) (own : Superblock) (old : List ℕ) (after_super : 16 ≤ 
 -- ---- what came of its writes
 module _ {D : Type 0} (d : Ghosts D) (g : Growth) (own : Superblock) (old new : D) where
   pub stores : {T E : Type 0} (result : Result T E) → 16 ≤ g.start → 0 < sectors_of g → 512 * (g.start + sectors_of g) ≤ length (d.content old) → IsReadable (merged g.shared own)
-      → MakesWrites d (grow_writes g own) old new result → OnOk result (StoresOn g own (disk_of d old) (disk_of d new))
+      → MakesWrites d (grow_writes g own) old new result → OnOk result (GrowsMemberOn g own (disk_of d old) (disk_of d new))
   stores (Ok x) after_super some room readable does = record {
     stored = λ honest. subst (IsStored g own (d.content old)) (sym (does.all_done honest)) (stored g own (d.content old) after_super some room readable.size);
     within = does.within;
@@ -96,7 +96,7 @@ module _ {D : Type 0} (d : Ghosts D) (g : Growth) (own : Superblock) (old new : 
     within = stops.within;
   }
 
-  pub fails : {T E : Type 0} (result : Result T E) → KeepsOthers g.start (sectors_of g) (d.content old) (d.content new)
+  pub fails : {T E : Type 0} (result : Result T E) → KeepsAllBeside g.start (sectors_of g) (d.content old) (d.content new)
       → MakesWrites d (grow_writes g own) old new result → OnErr result (FailsOn g own (disk_of d old) (disk_of d new))
   fails (Ok x) kept does = tt
   fails (Err e) kept stops = record { stops = fails_as_disk stops; kept = kept }

@@ -29,9 +29,9 @@ pub record AreReadGrown (g : Growth) (infos reads : List MemberInfo) : Type 0 wh
   pub as_many : length reads ≡ length infos
   pub each : (k : ℕ) (was read : MemberInfo) → slice_get infos k ≡ Some was → slice_get reads k ≡ Some read → ReadsGrown g was read
 
--- its data are what they were
-abbrev pub KeepsData : MemberInfo → List ℕ → List ℕ → Type 0
-KeepsData was old new =
+-- a member's data are what they were
+abbrev pub KeepsMemberData : MemberInfo → List ℕ → List ℕ → Type 0
+KeepsMemberData was old new =
     (at n : ℕ) → 512 * was.superblock.data_offset ≤ at → at + n ≤ 512 * (was.superblock.data_offset + was.superblock.data_size)
     → part new at n ≡ part old at n
 

@@ -10,10 +10,10 @@ use Rattle.md_grow.specs.declared.fault.GrowFault.{GrowFault}
 use Rattle.md_grow.specs.declared.fault.GrowFault.TheVariants.{Member, MetadataFault, NoMemory}
 use Rattle.md_grow.specs.declared.growth.Growth.{Growth}
 use Rattle.md_grow.specs.Growth.{IsGrowth, RefusesGrowth}
-use Rattle.md_grow.specs.Stored.{FailsOn, StoresOn, sectors_of}
+use Rattle.md_grow.specs.Stored.{FailsOn, GrowsMemberOn, sectors_of}
 
 -- as many devices as members, and each has room for the bitmap after the superblock
-pub record HaveRoom (g : Growth) (disks : List Disk) : Type 0 where
+pub record FitGrowth (g : Growth) (disks : List Disk) : Type 0 where
   pub few : g.marks.chunks ≤ 1048576
   pub after_super : 16 ≤ g.start
   pub as_many : length disks ≡ length g.members.items
@@ -21,15 +21,15 @@ pub record HaveRoom (g : Growth) (disks : List Disk) : Type 0 where
 
 -- member k got its bitmap
 abbrev pub IsStoredAt : Growth → ℕ → Disk → Disk → Type 0
-IsStoredAt g k d e = (info : MemberInfo) → slice_get g.members.items k ≡ Some info → StoresOn g info.superblock d e
+IsStoredAt g k d e = (info : MemberInfo) → slice_get g.members.items k ≡ Some info → GrowsMemberOn g info.superblock d e
 
 -- each member did
-pub record AreStored (g : Growth) (before after : List Disk) : Type 0 where
+pub record AllGrown (g : Growth) (before after : List Disk) : Type 0 where
   pub same : AreSame before after
   pub each : EachPair (IsStoredAt g) before after
 
 -- a write failed on member k: the members before it got their bitmaps, and nothing was done to those after it
-pub record EndsAtMember (g : Growth) (before after : List Disk) (k : ℕ) : Type 0 where
+pub record EndsGrowthAt (g : Growth) (before after : List Disk) (k : ℕ) : Type 0 where
   pub same : AreSame before after
   pub member : MemberInfo
   pub at : slice_get g.members.items k ≡ Some member
@@ -38,7 +38,7 @@ pub record EndsAtMember (g : Growth) (before after : List Disk) (k : ℕ) : Type
   pub later : EachPair (λ j d e. k < j → IsLeftAlone d e) before after
 
 abbrev pub RefusesStoring : Growth → List Disk → List Disk → GrowFault → Type 0
-RefusesStoring g before after (MetadataFault k) = EndsAtMember g before after k
+RefusesStoring g before after (MetadataFault k) = EndsGrowthAt g before after k
 RefusesStoring g before after _ = ⊥
 
 -- the fault where device k is not read as a member for this reason
@@ -47,13 +47,13 @@ fault_of k member_fault.NoMemory = NoMemory
 fault_of k fault = Member k fault
 
 -- a device is not read as a member
-abbrev pub RefusesReading : List Disk → List Disk → GrowFault → Type 0
-RefusesReading before after (Member k fault) = RefusesDeviceRead before after k fault
-RefusesReading before after NoMemory = Unit {0}
-RefusesReading before after _ = ⊥
+abbrev pub RefusesGrowReading : List Disk → List Disk → GrowFault → Type 0
+RefusesGrowReading before after (Member k fault) = RefusesDeviceRead before after k fault
+RefusesGrowReading before after NoMemory = Unit {0}
+RefusesGrowReading before after _ = ⊥
 
 -- the devices were read, for which nothing is written, and the members get this
-pub record IsFound (chunk_bytes : ℕ) (before seen : List Disk) (g : Growth) : Type 0 where
+pub record FindsGrowth (chunk_bytes : ℕ) (before seen : List Disk) (g : Growth) : Type 0 where
   pub untouched : IsUntouched before seen
   pub infos : List MemberInfo
   pub read : AreRead before infos
@@ -63,14 +63,14 @@ pub record IsFound (chunk_bytes : ℕ) (before seen : List Disk) (g : Growth) : 
 pub record Grows (chunk_bytes : ℕ) (before after : List Disk) : Type 0 where
   pub growth : Growth
   pub seen : List Disk
-  pub found : IsFound chunk_bytes before seen growth
-  pub stored : AreStored growth seen after
+  pub found : FindsGrowth chunk_bytes before seen growth
+  pub stored : AllGrown growth seen after
 
 -- all were found, and a write failed
 pub record FailsToGrow (chunk_bytes : ℕ) (before after : List Disk) (fault : GrowFault) : Type 0 where
   pub growth : Growth
   pub seen : List Disk
-  pub found : IsFound chunk_bytes before seen growth
+  pub found : FindsGrowth chunk_bytes before seen growth
   pub stopped : RefusesStoring growth seen after fault
 
 -- the members that were read get nothing
@@ -82,5 +82,5 @@ pub record RefusesMembers (chunk_bytes : ℕ) (before : List Disk) (fault : Grow
 -- why the members get no bitmap: nothing was written, but where a write failed
 abbrev pub RefusesToGrow : ℕ → List Disk → List Disk → GrowFault → Type 0
 RefusesToGrow chunk_bytes before after fault =
-    (IsUntouched before after × (RefusesReading before after fault ⊎ RefusesMembers chunk_bytes before fault))
+    (IsUntouched before after × (RefusesGrowReading before after fault ⊎ RefusesMembers chunk_bytes before fault))
     ⊎ FailsToGrow chunk_bytes before after fault

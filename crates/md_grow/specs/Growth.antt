@@ -1,6 +1,6 @@
 -- What each member gets, and why none gets anything (the superblock's fields are those of md_p.h, the bitmap's those of md-bitmap.h;
 -- which values they get is this project's own).
-use Rattle.std.specs.Prelude.{◌≡◌, ◌⊎◌, ℕ, ◌+◌, ◌-◌, ◌*◌, ◌^◌, ◌<◌, ◌==◌, ◌||◌, Bool, true, false, not, min, bit_or, ℤ, List, map, length, position, replicate, Option, Some, None, is_none, is_some, slice_get, if◌then◌else◌, pos, refl}
+use Rattle.std.specs.Prelude.{◌≡◌, ◌⊎◌, ℕ, ◌+◌, ◌-◌, ◌^◌, ◌==◌, ◌||◌, Bool, true, false, not, min, bit_or, List, map, length, position, replicate, Option, Some, None, is_none, is_some, slice_get, if◌then◌else◌, pos, refl}
 use Rattle.std.specs.List.{list_any}
 use Rattle.std.proofs.Common.{◌∙◌}
 use Rattle.std.proofs.lemmas.Nat.{and_or_apart}
@@ -10,7 +10,6 @@ use Rattle.md_bitmap.specs.declared.header.BitmapHeader.{BitmapHeader}
 use Rattle.md_bitmap.specs.Marks.{Bitmap}
 use Rattle.md_bitmap.specs.Sound.{IsSoundHeader, chunk_count}
 use Rattle.md_members.specs.declared.info.MemberInfo.{MemberInfo}
-use Rattle.md_assembly.specs.declared.fault.AssembleFault.{AssembleFault}
 use Rattle.md_assembly.specs.declared.fault.AssembleFault.TheVariants as assemble_fault
 use Rattle.md_assembly.specs.Assembled.{DecidesRoles, superblocks}
 use Rattle.md_assembly.specs.Faults.{IsFirstAssembleFault, NoAssembleFault}
@@ -53,7 +52,7 @@ has_header info = is_some info.header
 abbrev pub lacks_header : MemberInfo → Bool
 lacks_header info = is_none info.header
 
--- its superblock is not the freshest, but one event older
+-- a member whose superblock is not as new as the freshest
 abbrev pub is_behind : ℕ → MemberInfo → Bool
 is_behind events info = not (info.superblock.events == events)
 
@@ -64,7 +63,7 @@ events_after had infos events =
     if had || list_any (is_behind events) infos then events else min (events + 1) (2 ^ 64 - 1)
 
 -- the header of each member's bitmap
-pub record IsNewHeader (chunk_bytes reserved : ℕ) (shared : Superblock) (h : BitmapHeader) : Type 0 where
+pub record IsGrownHeader (chunk_bytes reserved : ℕ) (shared : Superblock) (h : BitmapHeader) : Type 0 where
   pub uuid : h.uuid ≡ shared.set_uuid
   pub events : h.events ≡ shared.events
   pub events_cleared : h.events_cleared ≡ shared.events
@@ -94,12 +93,12 @@ pub record MakeArray (members : List MemberInfo) (index : ℕ) (v : Superblock) 
   pub freshest : DecidesRoles (superblocks members) index v
 
 -- why these are not all in sync in an array to which some bitmap is lacking
-abbrev pub RefusesArray : List MemberInfo → Bool → GrowFault → Type 0
-RefusesArray members some_lack (Assemble f) = IsFirstAssembleFault members f
-RefusesArray members some_lack HasBitmap = some_lack ≡ false
-RefusesArray members some_lack (NotInSync k) = (index : ℕ) × (v : Superblock) × MakeArray members index v × (first_not_in_sync v members ≡ Some k)
-RefusesArray members some_lack NoMemory = Unit {0}
-RefusesArray members some_lack _ = ⊥
+abbrev pub RefusesInSync : List MemberInfo → Bool → GrowFault → Type 0
+RefusesInSync members some_lack (Assemble f) = IsFirstAssembleFault members f
+RefusesInSync members some_lack HasBitmap = some_lack ≡ false
+RefusesInSync members some_lack (NotInSync k) = (index : ℕ) × (v : Superblock) × MakeArray members index v × (first_not_in_sync v members ≡ Some k)
+RefusesInSync members some_lack NoMemory = Unit {0}
+RefusesInSync members some_lack _ = ⊥
 
 -- all are in sync, and some lacks a bitmap
 pub record AreInSync (members : List MemberInfo) (some_lack : Bool) (index : ℕ) (v : Superblock) : Type 0 where
@@ -111,7 +110,7 @@ pub record AreInSync (members : List MemberInfo) (some_lack : Bool) (index : ℕ
 -- all are.
 pub record IsMade (had : Bool) (members : List MemberInfo) (chunk_bytes chunks : ℕ) (v shared : Superblock) (h : BitmapHeader) (m : Bitmap) : Type 0 where
   pub shared_is : shared ≡ record v { events = events_after had members v.events }
-  pub header : IsNewHeader chunk_bytes (reserved_for chunks) shared h
+  pub header : IsGrownHeader chunk_bytes (reserved_for chunks) shared h
   pub marks : HasFirstMarks (is_clean v) chunks m
 
 -- The members get this: they are what was read, with a bitmap at one place, and an array in which each is in sync.
@@ -129,20 +128,15 @@ pub record IsGrowth (infos : List MemberInfo) (chunk_bytes : ℕ) (g : Growth) :
 -- with some bitmap of chunks of so many bytes the members are refused as an array
 abbrev pub RefusedAsArray : List MemberInfo → ℕ → GrowFault → Type 0
 RefusedAsArray infos chunk_bytes fault =
-    (header : BitmapHeader) × (start : ℕ) × (header.chunksize ≡ chunk_bytes) × RefusesArray (map (with_bitmap header start) infos) (list_any lacks_header infos) fault
-
--- the fault of assembly
-abbrev pub assembly_refusal_of : AssembleFault → GrowFault
-assembly_refusal_of assemble_fault.NoMemory = NoMemory
-assembly_refusal_of f = Assemble f
+    (header : BitmapHeader) × (start : ℕ) × (header.chunksize ≡ chunk_bytes) × RefusesInSync (map (with_bitmap header start) infos) (list_any lacks_header infos) fault
 
 -- why there is no place for a bitmap
-abbrev pub RefusesPlace : List MemberInfo → ℕ → GrowFault → Type 0
-RefusesPlace infos chunk_bytes BadChunk = (first : MemberInfo) × (slice_get infos 0 ≡ Some first) × (IsSoundHeader first.superblock.size chunk_bytes → ⊥)
-RefusesPlace infos chunk_bytes NoRoom = (chunks : ℕ) × HasChunks infos chunk_bytes chunks × NoPlace (reserved_for chunks) infos
-RefusesPlace infos chunk_bytes (Assemble f) = (length infos ≡ 0) × (f ≡ assemble_fault.Empty)
-RefusesPlace infos chunk_bytes _ = ⊥
+abbrev pub RefusesBitmapPlace : List MemberInfo → ℕ → GrowFault → Type 0
+RefusesBitmapPlace infos chunk_bytes BadChunk = (first : MemberInfo) × (slice_get infos 0 ≡ Some first) × (IsSoundHeader first.superblock.size chunk_bytes → ⊥)
+RefusesBitmapPlace infos chunk_bytes NoRoom = (chunks : ℕ) × HasChunks infos chunk_bytes chunks × NoPlace (reserved_for chunks) infos
+RefusesBitmapPlace infos chunk_bytes (Assemble f) = (length infos ≡ 0) × (f ≡ assemble_fault.Empty)
+RefusesBitmapPlace infos chunk_bytes _ = ⊥
 
 -- why none gets anything
 abbrev pub RefusesGrowth : List MemberInfo → ℕ → GrowFault → Type 0
-RefusesGrowth infos chunk_bytes fault = RefusesPlace infos chunk_bytes fault ⊎ RefusedAsArray infos chunk_bytes fault
+RefusesGrowth infos chunk_bytes fault = RefusesBitmapPlace infos chunk_bytes fault ⊎ RefusedAsArray infos chunk_bytes fault

@@ -1,3 +1,5 @@
+-- The fault of members that make no array.
+pub mod Faults
 -- Where the bitmap comes.
 pub mod Places
 -- What each member gets, and why none gets anything.

@@ -26,7 +26,7 @@ abbrev pub AreBeside : ℕ → ℕ → ℕ → ℕ → Type 0
 AreBeside start n at count = (at + count ≤ 512 * start) ⊎ (512 * (start + n) ≤ at)
 
 -- all bytes beside the superblock and the bitmap's place are as before
-pub record KeepsOthers (start n : ℕ) (old new : List ℕ) : Type 0 where
+pub record KeepsAllBeside (start n : ℕ) (old new : List ℕ) : Type 0 where
   pub size : length new ≡ length old
   pub others : (at count : ℕ) → AreBeside 8 8 at count → AreBeside start n at count → part new at count ≡ part old at count
 
@@ -34,10 +34,10 @@ pub record KeepsOthers (start n : ℕ) (old new : List ℕ) : Type 0 where
 pub record IsStored (g : Growth) (own : Superblock) (old new : List ℕ) : Type 0 where
   pub superblock : held new 8 4096 ≡ super_bytes (merged g.shared own)
   pub bitmap : (i : ℕ) → i < sectors_of g → held new (g.start + i) 512 ≡ bitmap_sector g.header g.marks i
-  pub kept : KeepsOthers g.start (sectors_of g) old new
+  pub kept : KeepsAllBeside g.start (sectors_of g) old new
 
 -- A device before and after: at each moment a crash leaves the first of the writes done, and the next one cut short.
-pub record StoresOn (g : Growth) (own : Superblock) (d e : Disk) : Type 0 where
+pub record GrowsMemberOn (g : Growth) (own : Superblock) (d e : Disk) : Type 0 where
   pub stored : d.honest ≡ true → IsStored g own d.content e.content
   pub within : d.honest ≡ true → LeavesOn (IsCutShort d.content (grow_writes g own)) d e
   pub readable : IsReadable (merged g.shared own)
@@ -45,4 +45,4 @@ pub record StoresOn (g : Growth) (own : Superblock) (d e : Disk) : Type 0 where
 -- one of the writes failed, and nothing else changed
 pub record FailsOn (g : Growth) (own : Superblock) (d e : Disk) : Type 0 where
   pub stops : FailsInWrites of_disks (grow_writes g own) d e
-  pub kept : KeepsOthers g.start (sectors_of g) d.content e.content
+  pub kept : KeepsAllBeside g.start (sectors_of g) d.content e.content

@@ -33,6 +33,20 @@ pub enum GrowFault {
     NoMemory,
 }
 
+impl From<AssembleFault> for GrowFault {
+    ghost use Rattle.std.specs.Prelude.{◌≡◌};
+    ghost use Rattle.md_grow.specs.Faults.{grow_refusal_of};
+
+    ghost from_gives = { λ f e. e ≡ grow_refusal_of f };
+
+    fn from(fault: AssembleFault) -> GrowFault {
+        match fault {
+            AssembleFault::NoMemory => GrowFault::NoMemory,
+            _ => GrowFault::Assemble(fault),
+        }
+    }
+}
+
 impl From<AllocError> for GrowFault {
     ghost use Rattle.std.specs.Prelude.{◌≡◌};
     ghost use Rattle.md_grow.specs.declared.fault.GrowFault.TheVariants.{NoMemory};

@@ -6,7 +6,7 @@ ghost use Rattle.md_super.specs.declared.superblock.Superblock.{Superblock as Su
 ghost use Rattle.md_create.specs.Values.{HasFirstMarks};
 ghost use Rattle.md_assembly.specs.Assembled.{superblocks};
 ghost use Rattle.md_assembly.specs.States.{is_in_sync};
-ghost use Rattle.md_grow.specs.Growth.{AreInSync, HasChunks, IsGrowth, IsMade, IsNewHeader, RefusesArray, RefusesGrowth, RefusesPlace, assembly_refusal_of, events_after, has_header, is_behind, is_clean, lacks_header, with_bitmap, with_place};
+ghost use Rattle.md_grow.specs.Growth.{AreInSync, HasChunks, IsGrowth, IsMade, IsGrownHeader, RefusesInSync, RefusesGrowth, RefusesBitmapPlace, events_after, has_header, is_behind, is_clean, lacks_header, with_bitmap, with_place};
 ghost use Rattle.md_grow.specs.Places.{IsFirstPlace, reserved_for};
 
 use crate::fault::GrowFault;
@@ -57,7 +57,7 @@ pub(crate) fn growth_of(
 // How many chunks the array has, and where the bitmap comes.
 fn place_of(infos: &[MemberInfo], chunk_bytes: u32) -> Result<(u32, u32), GrowFault>
     ensures { MatchResult result (λ p. HasChunks infos.now chunk_bytes p.0 × IsFirstPlace (reserved_for p.0) infos.now p.1)
-        (RefusesPlace infos.now chunk_bytes) }
+        (RefusesBitmapPlace infos.now chunk_bytes) }
 {
     let Some(first) = infos.first() else {
         return Err(GrowFault::Assemble(AssembleFault::Empty));
@@ -100,7 +100,7 @@ fn lacks_any_header(infos: &[MemberInfo]) -> bool
 // The header of each member's bitmap, beside these fields of the array.
 fn new_header(shared: &Superblock, chunk_bytes: u32, reserved: u32) -> BitmapHeader
     requires { IsSoundHeader shared.now.size chunk_bytes }
-    ensures { IsNewHeader chunk_bytes reserved shared.now result }
+    ensures { IsGrownHeader chunk_bytes reserved shared.now result }
 {
     BitmapHeader {
         uuid: shared.set_uuid,
@@ -173,12 +173,9 @@ fn freshest_in_sync(
     members: &[MemberInfo],
     some_lack: bool,
 ) -> Result<usize, GrowFault>
-    ensures { MatchResult result (λ i. (v : SuperblockView) × AreInSync members.now some_lack i v) (RefusesArray members.now some_lack) }
+    ensures { MatchResult result (λ i. (v : SuperblockView) × AreInSync members.now some_lack i v) (RefusesInSync members.now some_lack) }
 {
-    let assembly = match assemble(alloc, members) {
-        Ok(assembly) => assembly,
-        Err(fault) => return Err(assembly_refusal(fault)),
-    };
+    let assembly = assemble(alloc, members)?;
     if !some_lack {
         return Err(GrowFault::HasBitmap);
     }
@@ -193,16 +190,6 @@ fn first_not_in_sync(states: &[MemberState]) -> Option<usize>
     ensures { result ≡ position (λ s. not (is_in_sync s)) states.now }
 {
     states.iter().position(|state| !state.is_in_sync())
-}
-
-// The fault of assembly.
-fn assembly_refusal(fault: AssembleFault) -> GrowFault
-    ensures { result ≡ assembly_refusal_of fault }
-{
-    match fault {
-        AssembleFault::NoMemory => GrowFault::NoMemory,
-        _ => GrowFault::Assemble(fault),
-    }
 }
 
 // The array's fields, the header and the marks that the members get, where the superblock of this one decides.

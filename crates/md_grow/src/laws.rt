@@ -7,9 +7,9 @@ ghost use Rattle.md_members.specs.Members.{IsReadMember};
 ghost use Rattle.md_members.specs.declared.info.MemberInfo.{MemberInfo};
 ghost use Rattle.md_super.specs.Merge.{merged};
 ghost use Rattle.md_grow.specs.declared.growth.Growth.{Growth};
-ghost use Rattle.md_grow.specs.AsItWas.{AreReadGrown, KeepsData, ReadsGrown, StaysInSync, own_of};
+ghost use Rattle.md_grow.specs.AsItWas.{AreReadGrown, KeepsMemberData, ReadsGrown, StaysInSync, own_of};
 ghost use Rattle.md_grow.specs.Growth.{IsGrowth};
-ghost use Rattle.md_grow.specs.Stored.{IsStored, KeepsOthers, sectors_of};
+ghost use Rattle.md_grow.specs.Stored.{IsStored, KeepsAllBeside, sectors_of};
 
 use md_bitmap::{BitmapHeader, HEADER_BYTES};
 
@@ -27,14 +27,12 @@ pub fn reads_back(header: &BitmapHeader)
 /// The law that its data are what they were, whichever write fails.
 pub fn keeps_data()
     ensures { (infos : List MemberInfo) (chunk_bytes : ℕ) (g : Growth) (k : ℕ) (was : MemberInfo) (old new : List ℕ)
-        → IsGrowth infos chunk_bytes g → slice_get infos k ≡ Some was → KeepsOthers g.start (sectors_of g) old new → KeepsData was old new }
-{
-}
+        → IsGrowth infos chunk_bytes g → slice_get infos k ≡ Some was → KeepsAllBeside g.start (sectors_of g) old new → KeepsMemberData was old new }
+{}
 
 /// The law that the array is what it was. Where the members are assembled that are read back, each of them is in sync as it was.
 pub fn stays_in_sync()
     ensures { (infos reads : List MemberInfo) (chunk_bytes : ℕ) (g : Growth) (assembly : Assembly) (growth : IsGrowth infos chunk_bytes g)
         → AreReadGrown g infos reads → (assembled : IsAssembled reads assembly) → (k : ℕ) (was read : MemberInfo)
         → slice_get infos k ≡ Some was → slice_get reads k ≡ Some read → StaysInSync growth.freshest assembled.superblock was read }
-{
-}
+{}

@@ -1,10 +1,10 @@
-use Rattle.std.proofs.Common.{◌≡◌, ◌∙◌, ℕ, Bool, List, inl, inr, map, ap, sym, subst}
+use Rattle.std.proofs.Common.{◌≡◌, ◌∙◌, Bool, List, inl, inr, ap, sym, subst}
 use Rattle.std.specs.Prelude.{slice_get, Some}
 use Rattle.std.specs.List.{list_any}
 use Rattle.std.proofs.lemmas.Result.{err_from_is_err_and}
 use Rattle.md_members.specs.declared.info.MemberInfo.{MemberInfo}
 use Rattle.md_assembly.specs.Assembled.{superblocks}
-use Rattle.md_grow.specs.Growth.{AreInSync, HasChunks, IsMade, RefusesArray, RefusesPlace, has_header, lacks_header, with_bitmap}
+use Rattle.md_grow.specs.Growth.{AreInSync, HasChunks, IsMade, RefusesInSync, RefusesBitmapPlace, has_header, lacks_header}
 use Rattle.md_grow.specs.Places.{IsFirstPlace, reserved_for}
 use Rattle.md_grow.proofs.Room.{freshest_within, sound_first, sound_size}
 use Rattle.md_grow.proofs.growth.growth_of.Goals as goal
@@ -12,7 +12,7 @@ use Rattle.md_grow.proofs.growth.growth_of.Goals as goal
 pub returns-in_err-chunks : goal.returns-in_err-chunks
 returns-in_err-chunks c =
     let p = err_from_is_err_and c.from_residual.result c.from_residual.ensures.1 in
-    rw (p.1, p.2) (inl (subst (λ (infos : List MemberInfo). RefusesPlace infos c.args.chunk_bytes c.in_err-chunks.field-0.0) c.deref.ensures.value c.in_err-chunks.ensures))
+    rw (p.1, p.2) (inl (subst (λ (infos : List MemberInfo). RefusesBitmapPlace infos c.args.chunk_bytes c.in_err-chunks.field-0.0) c.deref.ensures.value c.in_err-chunks.ensures))
 
 pub new_header-header-requires : goal.new_header-header-requires
 new_header-header-requires c =
@@ -30,9 +30,13 @@ returns-in_err-freshest c =
     let p = err_from_is_err_and c.from_residual-in_err-freshest.result c.from_residual-in_err-freshest.ensures.1 in
     let fault = c.in_err-freshest.field-0.0 in
     let lack = c.lacks_any_header-lack.ensures ∙ ap (list_any lacks_header) c.deref-3.ensures.value in
-    rw (p.1, p.2) (inr (c.new_header-header.result, c.in_ok-chunks.start, c.new_header-header.ensures.chunksize,
-    subst (λ (members : List MemberInfo). RefusesArray members (list_any lacks_header c.args.infos.items) fault) (c.deref-5.ensures.value ∙ c.in_ok-members.ensures)
-    (subst (λ (b : Bool). RefusesArray c.deref-5.result.now b fault) lack c.in_err-freshest.ensures)))
+    rw (p.1, p.2) (inr (
+      c.new_header-header.result,
+      c.in_ok-chunks.start,
+      c.new_header-header.ensures.chunksize,
+      subst (λ (members : List MemberInfo). RefusesInSync members (list_any lacks_header c.args.infos.items) fault) (c.deref-5.ensures.value ∙ c.in_ok-members.ensures)
+          (subst (λ (b : Bool). RefusesInSync c.deref-5.result.now b fault) lack c.in_err-freshest.ensures),
+    ))
 
 pub parts_of-requires-clause-within : goal.parts_of-requires-clause-within
 parts_of-requires-clause-within c =

@@ -2,7 +2,7 @@ use Rattle.std.proofs.Common.{inr, map}
 use Rattle.std.proofs.lemmas.Result.{MatchResult-weaker}
 use Rattle.md_state.specs.View.{disk_of}
 use Rattle.md_grow.proofs.Room.{have_room}
-use Rattle.md_grow.proofs.growing.grow.Goals as goal
+use Rattle.md_grow.proofs.whole_grow.grow.Goals as goal
 
 pub store_each-requires : goal.store_each-requires
 store_each-requires g c =

@@ -5,12 +5,12 @@ use Rattle.std.proofs.lemmas.Option.{slice_get_read}
 use Rattle.md_members.specs.declared.info.MemberInfo.{MemberInfo}
 use Rattle.md_state.specs.View.{Disk, disk_of}
 use Rattle.md_grow.specs.declared.growth.Growth.{Growth}
-use Rattle.md_grow.specs.Growing.{EndsAtMember}
-use Rattle.md_grow.specs.Stored.{FailsOn, StoresOn}
+use Rattle.md_grow.specs.Growing.{EndsGrowthAt}
+use Rattle.md_grow.specs.Stored.{FailsOn, GrowsMemberOn}
 use Rattle.md_array.proofs.General.Answered.{err_gives, ok_gives}
 use Rattle.md_array.proofs.Openings.DevicesInTurn.{disk_at}
 use Rattle.md_grow.proofs.StoredEach.{AreStoredTo, stored_all, stored_more, stored_none, stopped_at}
-use Rattle.md_grow.proofs.storing.store_each.Goals as goal
+use Rattle.md_grow.proofs.store.store_each.Goals as goal
 
 -- the member at an index
 member_at : (g : Growth) (k n : ℕ) (m : MemberInfo) → n ≡ length g.members.items → k < n → m ≡ get_or g.members.items k m → slice_get g.members.items k ≡ Some m
@@ -32,7 +32,7 @@ returns-then-is_err g c =
     let e = disk c.store_on.new.device in
     let here = disk_at disk c.loop-k.devices c.loop-k.k c.index-devices-k.result (omega arith) in
     let many = sym (length-map c.args.devices.now disk) ∙ c.requires.as_many in
-    subst (λ (after : List Disk). EndsAtMember w (map disk c.args.devices.now) after c.loop-k.k) (sym (map-set disk c.loop-k.devices c.loop-k.k c.store_on.new.device))
+    subst (λ (after : List Disk). EndsGrowthAt w (map disk c.args.devices.now) after c.loop-k.k) (sym (map-set disk c.loop-k.devices c.loop-k.k c.store_on.new.device))
     (stopped_at w (map disk c.args.devices.now) (map disk c.loop-k.devices) c.loop-k.k d e c.loop-k.invariant.stored here c.store_on.ensures.stays m
     (member_at w c.loop-k.k (length c.args.devices.now) m many c.loop-k-test.true c.index-member.ensures)
     (err_gives c.store_on.result (FailsOn w m.superblock d e) c.if-is_err.ensures.value c.store_on.ensures.fails))
@@ -50,7 +50,7 @@ loop-k-preserved g c =
       stored = subst (λ (after : List Disk). AreStoredTo w (map disk c.args.devices.now) after (c.loop-k.k + 1)) (sym (map-set disk c.loop-k.devices c.loop-k.k c.store_on.new.device))
           (stored_more w (map disk c.args.devices.now) (map disk c.loop-k.devices) c.loop-k.k d e c.loop-k.invariant.stored here c.store_on.ensures.stays m
           (member_at w c.loop-k.k (length c.args.devices.now) m many c.loop-k-test.true c.index-member.ensures)
-          (ok_gives c.store_on.result (StoresOn w m.superblock d e) c.if-is_err.ensures.value c.store_on.ensures.ok));
+          (ok_gives c.store_on.result (GrowsMemberOn w m.superblock d e) c.if-is_err.ensures.value c.store_on.ensures.ok));
       size = length-set c.loop-k.devices c.loop-k.k c.store_on.new.device ∙ c.loop-k.invariant.size;
     }
 

@@ -1,4 +1,4 @@
-use Rattle.std.proofs.Common.{◌≡◌, ◌*◌, ◌∙◌, ◌∷◌, [], ◌++◌, List, ℕ, OnOk, OnErr, ap, arith, length, subst, sym}
+use Rattle.std.proofs.Common.{◌≡◌, ◌*◌, ◌∙◌, ◌∷◌, [], List, ℕ, ap, arith, length, subst, sym}
 use Rattle.md_device.specs.Splice.{SameOutside}
 use Rattle.md_super.specs.Faults.{NoSuperFault}
 use Rattle.md_super.specs.Format.{IsSuper}
@@ -11,7 +11,7 @@ use Rattle.md_members.proofs.DeviceWriteLemmas.Runs.{does_any, stops_any, stops_
 use Rattle.md_array.proofs.Openings.StoredOn.{stays_made}
 use Rattle.md_grow.specs.Stored.{grow_writes, sectors_of}
 use Rattle.md_grow.proofs.StoredOn.{fails, keeps_bitmap, keeps_super, keeps_then, stores}
-use Rattle.md_grow.proofs.storing.store_on.Goals as goal
+use Rattle.md_grow.proofs.store.store_on.Goals as goal
 
 stopped : (g : _) (c : goal.After-from_residual g) → MakesWrites g.D.Device (grow_writes c.args.growth.now c.args.own.now) c.args.device.now c.store_bitmap.new.device c.from_residual.result
 stopped g c =

@@ -4,11 +4,11 @@ use Rattle.std.proofs.lemmas.Option.{slice_get_within}
 use Rattle.md_state.specs.View.{Disk, disk_of}
 use Rattle.md_state.specs.DeviceChanges.{IsUntouched, LeavesAsWas, StaysHonest}
 use Rattle.md_members.specs.declared.info.MemberInfo.{MemberInfo}
-use Rattle.md_grow.specs.Growing.{RefusesReading, fault_of}
+use Rattle.md_grow.specs.Growing.{RefusesGrowReading, fault_of}
 use Rattle.md_grow.proofs.Refused.{refused_as}
 use Rattle.md_array.proofs.Openings.DevicesInTurn.{disk_at, none_touched, still_untouched}
 use Rattle.md_array.proofs.Openings.MembersRead.{AreReadSoFar, read_more, short_more}
-use Rattle.md_grow.proofs.growing.read_members.Goals as goal
+use Rattle.md_grow.proofs.whole_grow.read_members.Goals as goal
 use Rattle.md_array.proofs.StepLemmas.Add.{told_short}
 use Rattle.md_state.proofs.Stays.{stays_read}
 
@@ -26,8 +26,8 @@ returns-in-Err g c =
       as_many = length-set c.loop-k.devices c.loop-k.k c.read_member.new.device ∙ c.loop-k.invariant.size;
       untouched = untouched disk (map disk c.args.devices.now) c.loop-k.devices c.loop-k.k c.index-devices-k-in-loop-k.result c.read_member.new.device (omega arith) c.loop-k.invariant.untouched
           (stays_read g.D.Device _ c.read_member.new.device c.read_member.ensures.honest c.read_member.ensures.counted c.read_member.ensures.grown) c.read_member.ensures.kept c.read_member.ensures.within;
-      read = subst (RefusesReading (map disk c.args.devices.now) (map disk (set c.loop-k.devices c.loop-k.k c.read_member.new.device))) (sym c.refusal.ensures)
-          (subst (λ (now : List Disk). RefusesReading (map disk c.args.devices.now) now (fault_of c.loop-k.k c.in-Err.fault)) (sym (map-set disk c.loop-k.devices c.loop-k.k c.read_member.new.device))
+      read = subst (RefusesGrowReading (map disk c.args.devices.now) (map disk (set c.loop-k.devices c.loop-k.k c.read_member.new.device))) (sym c.refusal.ensures)
+          (subst (λ (now : List Disk). RefusesGrowReading (map disk c.args.devices.now) now (fault_of c.loop-k.k c.in-Err.fault)) (sym (map-set disk c.loop-k.devices c.loop-k.k c.read_member.new.device))
           (refused_as (map disk c.args.devices.now) (map disk c.loop-k.devices) c.loop-k.infos.items c.loop-k.k (disk was) (disk c.read_member.new.device) c.in-Err.fault c.loop-k.invariant.count
           (disk_at disk c.loop-k.devices c.loop-k.k c.index-devices-k-in-loop-k.result (omega arith))
           c.loop-k.invariant.untouched c.loop-k.invariant.read c.in-Err.ensures.reads));

@@ -1,7 +1,7 @@
 use Rattle.std.proofs.Common.{◌≡◌, length, map}
 use Rattle.md_state.specs.View.{disk_of}
 use Rattle.md_grow.proofs.StoredEach.{AreStoredTo}
-use Rattle.md_grow.proofs.storing.store_each.Given as goal
+use Rattle.md_grow.proofs.store.store_each.Given as goal
 
 abbrev pub invariant-loop-k : goal.invariant-loop-k
 invariant-loop-k g l =

@@ -2,7 +2,7 @@ use Rattle.std.proofs.Common.{◌≡◌, ◌≤◌, length, map}
 use Rattle.md_state.specs.DeviceChanges.{IsUntouched}
 use Rattle.md_state.specs.View.{disk_of}
 use Rattle.md_array.proofs.Openings.MembersRead.{AreReadSoFar, AreShortSoFar}
-use Rattle.md_grow.proofs.growing.read_members.Given as goal
+use Rattle.md_grow.proofs.whole_grow.read_members.Given as goal
 
 abbrev pub invariant-loop-k : goal.invariant-loop-k
 invariant-loop-k g l =
