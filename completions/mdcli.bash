@@ -2,7 +2,7 @@
 # SPDX-License-Identifier: MIT OR Apache-2.0
 
 _mdcli_commands() {
-  printf '%s\n' examine examine-bitmap examine-badblocks create assemble detail plan read serve write check resync stop fail remove add re-add rebuild help
+  printf '%s\n' examine examine-bitmap examine-badblocks create grow assemble detail plan read serve write check resync stop fail remove add re-add rebuild help
 }
 
 # The options of a command, beside --help and --verbose. A value follows one that ends in =.
@@ -10,6 +10,7 @@ _mdcli_options() {
   case $1 in
     examine | examine-bitmap | examine-badblocks) printf '%s\n' --all --json --readonly ;;
     create) printf '%s\n' --level= --raid-devices= --uuid= --name= --bitmap-chunk= --size= --time= --write-mostly= --assume-clean --run ;;
+    grow) printf '%s\n' --bitmap= --bitmap-chunk= ;;
     assemble | detail) printf '%s\n' --json --readonly --map= ;;
     plan) printf '%s\n' --member= --json --readonly --map= ;;
     read) printf '%s\n' --sector= --count= --fill --map-out= --output= --readonly --map= ;;
@@ -27,6 +28,7 @@ _mdcli_options() {
 # The values of an option, where there are few.
 _mdcli_values() {
   case $1 in
+    --bitmap) printf '%s\n' internal ;;
     --level) printf '%s\n' raid1 mirror 1 ;;
   esac
 }

@@ -584,6 +584,25 @@ CASES = [
     ("examine --json", {"a": VAULT}, [Step("examine --json a", OBJECT)]),
     ("examine-bitmap", {"a": LOGGED}, [Step("examine-bitmap a", BITMAP_REPORT)]),
     ("examine-bitmap, no bitmap", {"a": WITHOUT_BITMAP}, [Step("examine-bitmap a", fault="NoBitmap")]),
+    (
+        "grow",
+        {"a": WITHOUT_BITMAP},
+        [
+            Step("detail a", fault="Assemble NoBitmap 0"),
+            Step("grow --bitmap external a", fault="BadBitmap"),
+            Step("grow --bitmap internal --bitmap-chunk 3 a", fault="BadChunk"),
+            Step("grow --bitmap internal a", "in sync 1 of 2, events 11, marked 0\n", changes="a"),
+            Step("grow --bitmap internal a", fault="HasBitmap"),
+        ],
+    ),
+    (
+        "grow, an array that was not stopped",
+        {"a": members.with_superblock(WITHOUT_BITMAP, resync_offset=0), "b": members.with_superblock(OTHER, feature_map=0, resync_offset=0, events=8)},
+        [
+            Step("grow --bitmap internal a b", fault="NotInSync 1"),
+            Step("grow --bitmap internal --bitmap-chunk 4 a", "in sync 1 of 2, events 11, marked 8\n", changes="a"),
+        ],
+    ),
     ("examine-badblocks, no log", {"a": LOGGED}, [Step("examine-badblocks a", "no bad blocks\n")]),
     ("examine-badblocks", {"a": LISTED}, [Step("examine-badblocks a", "        2000 for 10 sectors\n")]),
     ("examine, a checksum of 0", {"a": UNSUMMED}, [Step("examine a", fault="Super Checksum")]),

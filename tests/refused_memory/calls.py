@@ -114,6 +114,7 @@ ANSWERS = {
     "md_commands::stop_array": "stop",
     "md_commands::write_array": "write",
     "md_create::create": "create",
+    "md_grow::grow": "grow",
     "md_examine_commands::examine_images": "examine-bitmap",
     "md_notices::held_on_each": "create",
     "md_images::take_images": "assemble",

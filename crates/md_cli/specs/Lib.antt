@@ -6,6 +6,8 @@ pub mod Asking
 pub mod CreateOptions
 -- What `create` does with the devices of the images.
 pub mod Creating
+-- What `grow` does with the devices of the images.
+pub mod Growing
 -- An opened array, and a device beside it.
 pub mod Opened
 -- What commands do with an opened array.

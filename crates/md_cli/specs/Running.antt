@@ -8,7 +8,7 @@ use Rattle.md_create.specs.declared.params.CreateParams.{CreateParams}
 use Rattle.md_commands.specs.declared.fault.CommandFault.{CommandFault}
 use Rattle.md_commands.specs.declared.fault.CommandFault.TheVariants as fault
 use Rattle.md_commands.specs.declared.option_fault.OptionFault.{OptionFault}
-use Rattle.md_words.specs.Asks.{Ask, Options, access_of, creates, examines, examines_badblocks, examines_bitmap, is_readonly}
+use Rattle.md_words.specs.Asks.{Ask, Options, access_of, creates, grows, examines, examines_badblocks, examines_bitmap, is_readonly}
 use Rattle.md_commands.specs.declared.source.Source.{Ghosts as SourceGhosts}
 use Rattle.md_examine.specs.declared.sink.Sink.{Ghosts as SinkGhosts}
 use Rattle.md_examine_commands.specs.Examining.{ExaminesOne}
@@ -19,6 +19,7 @@ use Rattle.md_messages.specs.declared.notices.Notices.{Notices}
 use Rattle.md_cli.specs.Arrays.{KeepsImages, UsesImages, WorksOn, names_with}
 use Rattle.md_cli.specs.CreateOptions.{AreParamsOf, create_option_fault}
 use Rattle.md_cli.specs.Creating.{CreatesOn}
+use Rattle.md_cli.specs.Growing.{GrowsArray}
 use Rattle.md_cli.specs.Streams.{OnlyPutsOut, Streams, Told}
 use Rattle.md_images.specs.Taking.{image_list}
 
@@ -89,6 +90,9 @@ module _ {I D R S A : Type 0} (i : ImagesGhosts I D) (g : DeviceGhosts D) (r : S
       after old.streams.output new.streams.output result
   Obeys (creates o) words before after old new result =
       MakesArray i g s asker o words before after old new result
+  Obeys (grows bitmap kib) words before after old new result =
+      OnlyPutsOut old new
+      × GrowsArray i g s bitmap kib words before after old.streams.output new.streams.output result
   Obeys ask words before after old new result = OpensArray ask words before after old new result
 
   -- the command's own answer, whose status this is, and what it noticed, which is told beside it

@@ -36,7 +36,7 @@ fn set_name_of(name: &str) -> Option<[u8; 32]>
     Some(set_name)
 }
 
-fn bytes_of(kib: u32) -> Option<u32>
+pub(crate) fn bytes_of(kib: u32) -> Option<u32>
     ensures { result ≡ bytes_of_kib kib }
 {
     kib.checked_mul(1024)

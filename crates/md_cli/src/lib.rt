@@ -17,6 +17,7 @@ mod asking;
 mod create_options;
 mod creating;
 mod devices;
+mod growing;
 mod lay_out_each;
 mod opened;
 mod performing;

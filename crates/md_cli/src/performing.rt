@@ -59,7 +59,8 @@ pub(crate) fn perform<
         Command::Examine { .. }
         | Command::ExamineBitmap { .. }
         | Command::ExamineBadblocks { .. }
-        | Command::Create(_) => unreachable!(),
+        | Command::Create(_)
+        | Command::Grow { .. } => unreachable!(),
         Command::Assemble { json, .. } => {
             assemble(&opened.mirror, json, names, &mut session.out)
         }

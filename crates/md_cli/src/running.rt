@@ -10,6 +10,7 @@ ghost use Rattle.md_cli.specs.Streams.{audience_of, streams_of, told_of};
 use crate::arrays::with_array;
 use crate::create_options::params_of;
 use crate::creating::create_images;
+use crate::growing::grow_array;
 use crate::session::Session;
 use clap::Error;
 use md_badblocks::BadSet;
@@ -125,6 +126,9 @@ fn act<
     let alloc = session.alloc;
     match command {
         Command::Create(options) => create_array(session, options, images, names, notices),
+        Command::Grow { bitmap, chunk } => {
+            grow_array(alloc, bitmap, chunk, images, names, &mut session.out)
+        }
         Command::Examine { .. } => examine_images(alloc, command, images, names, &mut session.out),
         Command::ExamineBitmap { .. } => examine_images(
             alloc,

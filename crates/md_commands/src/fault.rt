@@ -6,6 +6,7 @@ use md_array::{AddFault, BeginFault, FailFault, OpenFault, ReAddFault, RemoveFau
 use md_check::CheckFault;
 use md_create::CreateFault;
 use md_examine::SinkFault;
+use md_grow::GrowFault;
 use md_images::{ImageRefusal, ImagesFault};
 use md_members::MemberFault;
 use md_metadata::StopFault;
@@ -26,7 +27,7 @@ pub enum CommandFault {
     /// can't be opened in the way that the command needs.
     #[error("BadImage {0}")]
     BadImage(usize, ImageRefusal),
-    /// The options of `create` are refused.
+    /// The options of `create` or `grow` are refused.
     #[error("{0}")]
     Options(OptionFault),
     /// An image is not read as a member.
@@ -38,6 +39,9 @@ pub enum CommandFault {
     /// No array can be made of the images.
     #[error("{0}")]
     Create(CreateFault),
+    /// The members get no bitmap.
+    #[error("{0}")]
+    Grow(GrowFault),
     /// A write failed while a new member was laid out on the image of the word with this index,
     /// counted from 0.
     #[error("MetadataFault {0}")]

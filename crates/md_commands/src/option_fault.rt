@@ -1,8 +1,8 @@
-// Why the options of `create` are refused. A message is the fault's name.
+// Why the options of `create` or `grow` are refused. A message is the fault's name.
 use thiserror::Error;
 
-/// Why `create` refuses its options, before any image is touched; in the order in which it is looked
-/// for.
+/// Why `create` or `grow` refuses its options, before any image is touched; in the order in which it is
+/// looked for.
 #[derive(Clone, Copy, Debug, PartialEq, Eq, Error)]
 pub enum OptionFault {
     /// The level is not RAID 1: `1`, `raid1` or `mirror`.
@@ -17,6 +17,9 @@ pub enum OptionFault {
     /// There are not as many image words as members.
     #[error("BadCount")]
     BadCount,
+    /// The bitmap that `grow` is to give is not `internal`.
+    #[error("BadBitmap")]
+    BadBitmap,
     /// The bitmap's chunk size in bytes doesn't fit 32 bits.
     #[error("BadChunk")]
     BadChunk,

@@ -31,6 +31,7 @@ pub data Ask : Type 0 where
   examines_bitmap : ImageForm → Ask
   examines_badblocks : ImageForm → Ask
   creates : Options → Ask
+  grows : Text → ℕ → Ask  -- the members get a bitmap of this kind, with chunks of so many KiB
   assembles : Bool → Bool → Ask
   details : Bool → Bool → Ask
   plans : ℕ → Bool → Bool → Ask  -- the rebuild of the member with this index
@@ -81,6 +82,7 @@ opens_array (examines form) = false
 opens_array (examines_bitmap form) = false
 opens_array (examines_badblocks form) = false
 opens_array (creates o) = false
+opens_array (grows bitmap kib) = false
 opens_array _ = true
 
 -- whether it puts out zeros for sectors that are not given
@@ -163,6 +165,7 @@ ask_of (command.Examine form) = examines form
 ask_of (command.ExamineBitmap form) = examines_bitmap form
 ask_of (command.ExamineBadblocks form) = examines_badblocks form
 ask_of (command.Create options) = creates (options_of options)
+ask_of (command.Grow bitmap kib) = grows bitmap.now kib
 ask_of (command.Assemble json readonly) = assembles json readonly
 ask_of (command.Detail json readonly) = details json readonly
 ask_of (command.Plan k json readonly) = plans k json readonly

@@ -12,7 +12,7 @@ use Rattle.md_words.specs.declared.form.CheckForm.{CheckForm}
 use Rattle.md_words.specs.declared.form.CheckForm.TheVariants as check_form
 use Rattle.md_words.specs.declared.form.ImageForm.{ImageForm}
 use Rattle.md_words.specs.declared.form.ImageForm.TheVariants as image_form
-use Rattle.md_words.specs.Asks.{Ask, Options, examines, examines_bitmap, examines_badblocks, creates, assembles, details, plans, reads, serves, serves_writable, checks, writes, resyncs, stops, fails, removes, adds, re_adds, rebuilds}
+use Rattle.md_words.specs.Asks.{Ask, Options, examines, examines_bitmap, examines_badblocks, creates, grows, assembles, details, plans, reads, serves, serves_writable, checks, writes, resyncs, stops, fails, removes, adds, re_adds, rebuilds}
 
 -- whether the text is a number: one decimal digit or more, and nothing else
 abbrev pub is_number : Text → Bool
@@ -164,6 +164,8 @@ ask_named name rows =
     if bytes_eq name (codes "examine-bitmap") then examines_bitmap (image_form_in rows)
     else if bytes_eq name (codes "examine-badblocks") then examines_badblocks (image_form_in rows)
     else if bytes_eq name (codes "create") then creates (options_in rows)
+    else if bytes_eq name (codes "grow") then grows (text_in (codes "bitmap") rows)
+    (number_in 32 (codes "bitmap-chunk") rows)
     else if bytes_eq name (codes "assemble") then assembles (json_in rows) (readonly_in rows)
     else if bytes_eq name (codes "detail") then details (json_in rows) (readonly_in rows)
     else if bytes_eq name (codes "plan") then plans (member_in rows) (json_in rows) (readonly_in rows)

@@ -155,6 +155,13 @@ with_optional a =
 abbrev pub create_app : App
 create_app = completed (with_run (with_optional (with_required (new_app (codes "create")))))
 
+-- `grow`: the bitmap that the members get
+abbrev pub grow_app : App
+grow_app =
+    completed
+    (with_rule (with_rule (new_app (codes "grow")) (required (value_rule (codes "bitmap"))))
+    (by_default (codes "65536") (u32_rule (codes "bitmap-chunk"))))
+
 -- the program itself has a version, and asks for a command
 abbrev pub with_version : App → App
 with_version a = record a { top = record a.top { has_version = true } }
@@ -174,7 +181,8 @@ abbrev pub with_array_commands : App → App
 with_array_commands a =
     with_subcommand
     (with_subcommand
-    (with_subcommand (with_subcommand a create_app.top) (array_app (codes "assemble")).top)
+    (with_subcommand (with_subcommand (with_subcommand a create_app.top) grow_app.top)
+    (array_app (codes "assemble")).top)
     (array_app (codes "detail")).top)
     plan_app.top
 

@@ -26,6 +26,11 @@ pub enum Command<'a> {
     },
     /// Makes an array of the images, and shows it in one line.
     Create(CreateOptions<'a>),
+    /// Gives the members of the array a bitmap of this kind, with chunks of so many KiB, and shows it in one line.
+    Grow {
+        bitmap: &'a str,
+        chunk: u32,
+    },
     /// Shows the array that the images make in one line.
     Assemble {
         json: bool,
@@ -113,6 +118,7 @@ impl<'a> Command<'a> {
             | Command::Serve { .. }
             | Command::Check { .. } => Access::ChangeOrLook,
             Command::Create(_)
+            | Command::Grow { .. }
             | Command::ServeWritable
             | Command::Write { .. }
             | Command::Resync
@@ -140,6 +146,7 @@ impl<'a> Command<'a> {
             | Command::ExamineBitmap { .. }
             | Command::ExamineBadblocks { .. }
             | Command::Create(_)
+            | Command::Grow { .. }
             | Command::ServeWritable
             | Command::Write { .. }
             | Command::Resync
@@ -160,7 +167,8 @@ impl<'a> Command<'a> {
             Command::Examine { .. }
             | Command::ExamineBitmap { .. }
             | Command::ExamineBadblocks { .. }
-            | Command::Create(_) => false,
+            | Command::Create(_)
+            | Command::Grow { .. } => false,
             Command::Assemble { .. }
             | Command::Detail { .. }
             | Command::Plan { .. }
@@ -190,6 +198,7 @@ impl<'a> Command<'a> {
             | Command::ExamineBitmap { .. }
             | Command::ExamineBadblocks { .. }
             | Command::Create(_)
+            | Command::Grow { .. }
             | Command::Assemble { .. }
             | Command::Detail { .. }
             | Command::Plan { .. }
@@ -217,6 +226,7 @@ impl<'a> Command<'a> {
             | Command::ExamineBitmap { .. }
             | Command::ExamineBadblocks { .. }
             | Command::Create(_)
+            | Command::Grow { .. }
             | Command::Assemble { .. }
             | Command::Detail { .. }
             | Command::Plan { .. }
@@ -246,6 +256,7 @@ impl<'a> Command<'a> {
             | Command::ExamineBitmap { .. }
             | Command::ExamineBadblocks { .. }
             | Command::Create(_)
+            | Command::Grow { .. }
             | Command::Assemble { .. }
             | Command::Detail { .. }
             | Command::Read { .. }
@@ -270,6 +281,7 @@ impl<'a> Command<'a> {
             | Command::ExamineBitmap { .. }
             | Command::ExamineBadblocks { .. }
             | Command::Create(_)
+            | Command::Grow { .. }
             | Command::Assemble { .. }
             | Command::Detail { .. }
             | Command::Plan { .. }
@@ -297,6 +309,7 @@ impl<'a> Command<'a> {
             | Command::ExamineBitmap { .. }
             | Command::ExamineBadblocks { .. }
             | Command::Create(_)
+            | Command::Grow { .. }
             | Command::Assemble { .. }
             | Command::Detail { .. }
             | Command::Plan { .. }
@@ -328,6 +341,7 @@ impl<'a> Command<'a> {
             | Command::ExamineBitmap { .. }
             | Command::ExamineBadblocks { .. }
             | Command::Create(_)
+            | Command::Grow { .. }
             | Command::Read { .. }
             | Command::Serve { .. }
             | Command::ServeWritable
@@ -353,6 +367,7 @@ impl<'a> Command<'a> {
             Command::Examine { .. }
             | Command::ExamineBitmap { .. }
             | Command::ExamineBadblocks { .. }
+            | Command::Grow { .. }
             | Command::Assemble { .. }
             | Command::Detail { .. }
             | Command::Plan { .. }
@@ -378,6 +393,7 @@ impl<'a> Command<'a> {
             | Command::ExamineBitmap { .. }
             | Command::ExamineBadblocks { .. }
             | Command::Create(_)
+            | Command::Grow { .. }
             | Command::Assemble { .. }
             | Command::Detail { .. }
             | Command::Plan { .. }
@@ -408,6 +424,7 @@ impl<'a> Command<'a> {
             | Command::ExamineBitmap { .. }
             | Command::ExamineBadblocks { .. }
             | Command::Create(_)
+            | Command::Grow { .. }
             | Command::Assemble { .. }
             | Command::Detail { .. }
             | Command::Plan { .. }

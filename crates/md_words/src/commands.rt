@@ -203,6 +203,15 @@ const BITMAP_CHUNK: OptionWords = OptionWords {
     default: Some("65536"),
 };
 
+const BITMAP: OptionWords = OptionWords {
+    name: "bitmap",
+    value: "internal",
+    help: "The bitmap that the members get: one on each of them",
+    kind: Kind::Text,
+    required: true,
+    default: None,
+};
+
 const SIZE: OptionWords = OptionWords {
     name: "size",
     value: "KIB",
@@ -289,7 +298,7 @@ pub(crate) const EXAMINE_COMMANDS: [CommandWords; 3] = [
 ];
 
 /// The commands that make an array or show it.
-pub(crate) const ARRAY_COMMANDS: [CommandWords; 4] = [
+pub(crate) const ARRAY_COMMANDS: [CommandWords; 5] = [
     CommandWords {
         name: "create",
         about: "Makes an array of the images; what they held is lost",
@@ -306,6 +315,12 @@ pub(crate) const ARRAY_COMMANDS: [CommandWords; 4] = [
             ASSUME_CLEAN,
             RUN,
         ],
+    },
+    CommandWords {
+        name: "grow",
+        about: "Gives the members of an array a write-intent bitmap that it lacks",
+        after_help: help::GROW,
+        options: &[BITMAP, BITMAP_CHUNK],
     },
     CommandWords {
         name: "assemble",

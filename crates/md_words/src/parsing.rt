@@ -252,6 +252,11 @@ fn command_of<'a>(name: &str, found: &ArgMatches<'a>) -> Command<'a>
         }
     } else if name == "create" {
         Command::Create(create_options(found))
+    } else if name == "grow" {
+        Command::Grow {
+            bitmap: text_in(found, "bitmap"),
+            chunk: u32_or_zero(text_in(found, "bitmap-chunk")),
+        }
     } else if name == "assemble" {
         Command::Assemble {
             json: is_json(found),

@@ -4,7 +4,7 @@ use Rattle.md_commands.specs.declared.fault.CommandFault.{CommandFault}
 use Rattle.md_commands.specs.declared.fault.CommandFault.TheVariants as command
 use Rattle.md_messages.specs.FaultText.Calls.{check_refusal_text, rebuild_text, resync_text, stop_text, unread_refusal_text}
 use Rattle.md_messages.specs.FaultText.Members.{member_refusal_text}
-use Rattle.md_messages.specs.FaultText.Openings.{create_text, open_refusal_text, option_text}
+use Rattle.md_messages.specs.FaultText.Openings.{create_text, grow_text, open_refusal_text, option_text}
 use Rattle.md_messages.specs.FaultText.Steps.{add_text, begin_text, fail_text, re_add_text, remove_text}
 
 -- An image is named by the place of its word.
@@ -15,6 +15,7 @@ fault_text (command.Options why) = option_text why
 fault_text (command.Member why) = member_refusal_text why
 fault_text command.NoBitmap = codes "NoBitmap"
 fault_text (command.Create why) = create_text why
+fault_text (command.Grow why) = grow_text why
 fault_text (command.MetadataFault word) = codes "MetadataFault " ++ decimal word
 fault_text command.NoMemory = codes "NoMemory"
 fault_text command.Declined = codes "Declined"

@@ -1,4 +1,4 @@
--- Why devices are not opened as an array, and why none is made of them, as text.
+-- Why devices are not opened as an array, why none is made of them, and why one gets no bitmap, as text.
 use Rattle.std.specs.Prelude.{ℕ, List, ◌++◌, codes, decimal}
 use Rattle.md_array.specs.declared.fault.OpenFault.{OpenFault}
 use Rattle.md_array.specs.declared.fault.OpenFault.TheVariants as open_fault
@@ -8,6 +8,8 @@ use Rattle.md_commands.specs.declared.option_fault.OptionFault.{OptionFault}
 use Rattle.md_commands.specs.declared.option_fault.OptionFault.TheVariants as option
 use Rattle.md_create.specs.declared.fault.CreateFault.{CreateFault}
 use Rattle.md_create.specs.declared.fault.CreateFault.TheVariants as create
+use Rattle.md_grow.specs.declared.fault.GrowFault.{GrowFault}
+use Rattle.md_grow.specs.declared.fault.GrowFault.TheVariants as grow
 use Rattle.md_messages.specs.FaultText.Members.{member_refusal_text}
 
 -- two devices of one number, by their places
@@ -39,10 +41,21 @@ abbrev pub create_text : CreateFault → List ℕ
 create_text create.BadGeometry = codes "BadGeometry"
 create_text create.NoMemory = codes "NoMemory"
 
+abbrev pub grow_text : GrowFault → List ℕ
+grow_text (grow.Member k why) = unread_member_text k (member_refusal_text why)
+grow_text grow.BadChunk = codes "BadChunk"
+grow_text grow.NoRoom = codes "NoRoom"
+grow_text (grow.Assemble why) = codes "Assemble " ++ assemble_text why
+grow_text grow.HasBitmap = codes "HasBitmap"
+grow_text (grow.NotInSync k) = codes "NotInSync " ++ decimal k
+grow_text (grow.MetadataFault k) = codes "MetadataFault " ++ decimal k
+grow_text grow.NoMemory = codes "NoMemory"
+
 abbrev pub option_text : OptionFault → List ℕ
 option_text option.BadLevel = codes "BadLevel"
 option_text option.BadUuid = codes "BadUuid"
 option_text option.BadName = codes "BadName"
 option_text option.BadCount = codes "BadCount"
+option_text option.BadBitmap = codes "BadBitmap"
 option_text option.BadChunk = codes "BadChunk"
 option_text option.BadSize = codes "BadSize"

@@ -5,6 +5,7 @@ use md_assembly::AssembleFault;
 use md_check::CheckFault;
 use md_commands::{CommandFault, OptionFault};
 use md_create::CreateFault;
+use md_grow::GrowFault;
 use md_members::MemberFault;
 use md_metadata::StopFault;
 use md_read::UnreadFault;
@@ -26,6 +27,7 @@ pub(crate) fn advice(fault: &CommandFault) -> &'static str {
         CommandFault::Member(fault) => member_advice(*fault),
         CommandFault::NoBitmap => "there is nothing to show",
         CommandFault::Create(CreateFault::BadGeometry) => SMALLEST_IMAGE,
+        CommandFault::Grow(fault) => grow_advice(*fault),
         CommandFault::Open(OpenFault::Member(_, fault)) => member_advice(*fault),
         CommandFault::Open(OpenFault::Assemble(fault)) => array_advice(*fault),
         CommandFault::MetadataFault(_) | CommandFault::Open(OpenFault::MetadataFault(_)) => {
@@ -223,6 +225,25 @@ fn stop_advice(fault: StopFault) -> &'static str {
     }
 }
 
+fn grow_advice(fault: GrowFault) -> &'static str {
+    match fault {
+        GrowFault::Member(_, fault) => member_advice(fault),
+        GrowFault::BadChunk => {
+            "choose a power of two of KiB, and a larger one where the array would have more than 1,048,576 chunks"
+        }
+        GrowFault::NoRoom => {
+            "choose a larger chunk, for which the bitmap takes less room; else copy the data to a new array"
+        }
+        GrowFault::Assemble(fault) => array_advice(fault),
+        GrowFault::HasBitmap => "there is nothing to do",
+        GrowFault::NotInSync(_) => {
+            "leave it out, and `add` it once the others have a bitmap; `examine` shows its events and its role"
+        }
+        GrowFault::MetadataFault(_) => SEE_DEVICE,
+        GrowFault::NoMemory => MORE_MEMORY,
+    }
+}
+
 fn option_advice(fault: OptionFault) -> &'static str {
     match fault {
         OptionFault::BadLevel => "fix the option: only RAID-1 is made",
@@ -233,6 +254,7 @@ fn option_advice(fault: OptionFault) -> &'static str {
         OptionFault::BadCount => {
             "name one image alone, and in `create` as many as `--raid-devices` says, where `missing` stands for a member that is not there"
         }
+        OptionFault::BadBitmap => "fix the option: only `internal` is given",
         OptionFault::BadChunk => "choose a smaller chunk, below 4,194,304 KiB",
         OptionFault::BadSize => "choose a smaller size",
     }
@@ -282,7 +304,7 @@ fn array_advice(fault: AssembleFault) -> &'static str {
         AssembleFault::Stranger(_) => "leave it out; `examine` shows the UUID of the array",
         AssembleFault::DoubleNumber(_, _) => "leave one out: often one is a copy of the other",
         AssembleFault::NoBitmap(_) => {
-            "arrays without a bitmap are not for this program; `losetup --find --show --read-only --offset BYTES` gives the data of one member, from its Data Offset on, which `examine` shows in sectors of 512 bytes"
+            "give the array one by `grow --bitmap internal`; or `losetup --find --show --read-only --offset BYTES` gives the data of one member, from its Data Offset on, which `examine` shows in sectors of 512 bytes"
         }
         AssembleFault::Geometry(_) => "leave it out",
         AssembleFault::DoubleRole(_) => "leave one out: `examine` shows which has fewer events",

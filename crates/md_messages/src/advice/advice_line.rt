@@ -7,6 +7,7 @@ use md_check::CheckFault;
 use md_commands::CommandFault;
 use md_create::CreateFault;
 use md_examine::{Output, put_name};
+use md_grow::GrowFault;
 use md_images::{ImageFault, ImageRefusal, is_missing};
 use md_metadata::StopFault;
 use md_rebuild_table::RebuildFault;
@@ -33,6 +34,7 @@ fn culprit_of(fault: &CommandFault) -> Option<Culprit> {
         CommandFault::MetadataFault(word) => Some(Culprit::Word(*word)),
         CommandFault::Member(_) | CommandFault::NoBitmap => Some(Culprit::Word(0)),
         CommandFault::Open(fault) => culprit_of_opening(*fault),
+        CommandFault::Grow(fault) => culprit_of_growth(*fault),
         CommandFault::Resync(ResyncFault::ReadFault(device, _)) => Some(Culprit::Device(*device)),
         CommandFault::Resync(ResyncFault::MemberFailed(device)) => Some(Culprit::Device(*device)),
         CommandFault::Check(CheckFault::ReadFault(device, _)) => Some(Culprit::Device(*device)),
@@ -57,6 +59,16 @@ fn culprit_of_opening(fault: OpenFault) -> Option<Culprit> {
         }
         OpenFault::Assemble(AssembleFault::NoBitmap(device)) => Some(Culprit::Device(device)),
         OpenFault::Assemble(AssembleFault::Geometry(device)) => Some(Culprit::Device(device)),
+        _ => None,
+    }
+}
+
+fn culprit_of_growth(fault: GrowFault) -> Option<Culprit> {
+    match fault {
+        GrowFault::Member(device, fault) => culprit_of_opening(OpenFault::Member(device, fault)),
+        GrowFault::Assemble(fault) => culprit_of_opening(OpenFault::Assemble(fault)),
+        GrowFault::NotInSync(device) => Some(Culprit::Device(device)),
+        GrowFault::MetadataFault(device) => Some(Culprit::Device(device)),
         _ => None,
     }
 }

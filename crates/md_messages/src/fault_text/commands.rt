@@ -4,7 +4,7 @@ ghost use Rattle.md_messages.specs.FaultText.Commands.{refusal_line, fault_text}
 
 use crate::fault_text::calls::{put_check, put_rebuild, put_resync, put_stop, put_unread};
 use crate::fault_text::members::put_member;
-use crate::fault_text::openings::{put_create, put_open, put_option};
+use crate::fault_text::openings::{put_create, put_grow, put_open, put_option};
 use crate::fault_text::steps::{put_add, put_begin, put_fail, put_re_add, put_remove};
 use md_commands::CommandFault;
 use md_examine::{Sink, SinkFault, number_after};
@@ -20,6 +20,7 @@ fn put_fault<S: Sink>(out: &mut S, fault: &CommandFault) -> Result<(), SinkFault
         CommandFault::Member(fault) => put_member(out, *fault),
         CommandFault::NoBitmap => out.put(b"NoBitmap"),
         CommandFault::Create(fault) => put_create(out, *fault),
+        CommandFault::Grow(fault) => put_grow(out, *fault),
         CommandFault::MetadataFault(word) => number_after(out, b"MetadataFault ", *word),
         CommandFault::NoMemory | CommandFault::NoPieceMemory => out.put(b"NoMemory"),
         CommandFault::Declined => out.put(b"Declined"),

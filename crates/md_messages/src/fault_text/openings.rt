@@ -1,8 +1,8 @@
-// The text of a fault of devices that are opened as an array, or made one.
+// The text of a fault of devices that are opened as an array, made one, or given a bitmap.
 ghost use Rattle.std.specs.Prelude.{◌++◌};
 ghost use Rattle.md_examine.specs.Sink.{PutsOrFails};
 ghost use Rattle.md_messages.specs.FaultText.Members.{member_refusal_text};
-ghost use Rattle.md_messages.specs.FaultText.Openings.{assemble_text, create_text, double_number_text, open_refusal_text, option_text, unread_member_text};
+ghost use Rattle.md_messages.specs.FaultText.Openings.{assemble_text, create_text, double_number_text, grow_text, open_refusal_text, option_text, unread_member_text};
 
 use crate::fault_text::members::put_member;
 use md_array::OpenFault;
@@ -10,6 +10,7 @@ use md_assembly::AssembleFault;
 use md_commands::OptionFault;
 use md_create::CreateFault;
 use md_examine::{Sink, SinkFault, number_after};
+use md_grow::GrowFault;
 use md_members::MemberFault;
 
 fn put_double_number<S: Sink>(out: &mut S, first: usize, second: usize) -> Result<(), SinkFault>
@@ -83,7 +84,23 @@ pub(crate) fn put_create<S: Sink>(out: &mut S, fault: CreateFault) -> Result<(),
     }
 }
 
-/// Puts out why `create` refuses its options.
+/// Puts out why the members get no bitmap.
+pub(crate) fn put_grow<S: Sink>(out: &mut S, fault: GrowFault) -> Result<(), SinkFault>
+    ensures { PutsOrFails S.contents S.failed out.old out.new (grow_text fault) result }
+{
+    match fault {
+        GrowFault::Member(device, fault) => put_unread_member(out, device, fault),
+        GrowFault::BadChunk => out.put(b"BadChunk"),
+        GrowFault::NoRoom => out.put(b"NoRoom"),
+        GrowFault::Assemble(fault) => put_assembly(out, fault),
+        GrowFault::HasBitmap => out.put(b"HasBitmap"),
+        GrowFault::NotInSync(device) => number_after(out, b"NotInSync ", device),
+        GrowFault::MetadataFault(device) => number_after(out, b"MetadataFault ", device),
+        GrowFault::NoMemory => out.put(b"NoMemory"),
+    }
+}
+
+/// Puts out why `create` or `grow` refuses its options.
 pub(crate) fn put_option<S: Sink>(out: &mut S, fault: OptionFault) -> Result<(), SinkFault>
     ensures { PutsOrFails S.contents S.failed out.old out.new (option_text fault) result }
 {
@@ -92,6 +109,7 @@ pub(crate) fn put_option<S: Sink>(out: &mut S, fault: OptionFault) -> Result<(),
         OptionFault::BadUuid => out.put(b"BadUuid"),
         OptionFault::BadName => out.put(b"BadName"),
         OptionFault::BadCount => out.put(b"BadCount"),
+        OptionFault::BadBitmap => out.put(b"BadBitmap"),
         OptionFault::BadChunk => out.put(b"BadChunk"),
         OptionFault::BadSize => out.put(b"BadSize"),
     }

@@ -1,0 +1,65 @@
+-- What `grow` does with the devices of the images.
+use Rattle.std.specs.Prelude.{◌≡◌, ◌⊎◌, ℕ, false, List, Option, Some, None, Result, Ok, Err, MatchResult, codes, if◌then◌else◌}
+use Rattle.std.specs.Str.{bytes_eq}
+use Rattle.clap.specs.Words.{Text}
+use Rattle.md_device.specs.declared.device.Device.{Ghosts as DeviceGhosts}
+use Rattle.md_images.specs.declared.access.Access.TheVariants.{Change}
+use Rattle.md_images.specs.declared.images.Images.{Ghosts as ImagesGhosts}
+use Rattle.md_images.specs.Taking.{image_list}
+use Rattle.md_examine.specs.declared.sink.Sink.{Ghosts as SinkGhosts}
+use Rattle.md_state.specs.View.{Disk}
+use Rattle.md_grow.specs.Growing.{Grows, RefusesToGrow}
+use Rattle.md_grow.specs.declared.fault.GrowFault.{GrowFault}
+use Rattle.md_commands.specs.declared.fault.CommandFault.{CommandFault}
+use Rattle.md_commands.specs.declared.fault.CommandFault.TheVariants as fault
+use Rattle.md_commands.specs.declared.option_fault.OptionFault.TheVariants.{BadBitmap, BadChunk}
+use Rattle.md_cli.specs.Arrays.{ShowsDevices, UsesImages}
+use Rattle.md_cli.specs.CreateOptions.{bytes_of_kib}
+
+-- the bytes of a chunk, where they fit 32 bits
+abbrev pub chunk_or_fault : Option ℕ → Result ℕ CommandFault
+chunk_or_fault None = Err (fault.Options BadChunk)
+chunk_or_fault (Some bytes) = Ok bytes
+
+-- what the options ask for: an internal bitmap, with chunks of so many bytes
+abbrev pub chunk_asked : Text → ℕ → Result ℕ CommandFault
+chunk_asked bitmap kib =
+    if bytes_eq bitmap (codes "internal") then chunk_or_fault (bytes_of_kib kib)
+    else Err (fault.Options BadBitmap)
+
+module _ {S : Type 0} (s : SinkGhosts S) (chunk_bytes : ℕ) where
+  -- The members get their bitmaps, and the devices are opened and shown in a line.
+  pub record ShowsGrown (before after : List Disk) (old new : S)
+      (result : Result (Unit {0}) CommandFault) : Type 0 where
+    pub middle : List Disk
+    pub grown : Grows chunk_bytes before middle
+    pub opened : ShowsDevices s middle after old new result
+
+  -- No member gets a bitmap, or not all of them do.
+  pub record RefusesGrown (before after : List Disk) (old new : S)
+      (result : Result (Unit {0}) CommandFault) : Type 0 where
+    pub why : GrowFault
+    pub is : result ≡ Err (fault.Grow why)
+    pub refused : RefusesToGrow chunk_bytes before after why
+    pub unwritten : new ≡ old
+
+  abbrev pub GrowsOn : List Disk → List Disk → S → S → Result (Unit {0}) CommandFault → Type 0
+  GrowsOn before after old new result =
+      ShowsGrown before after old new result ⊎ RefusesGrown before after old new result
+
+module _ {I D S : Type 0} (i : ImagesGhosts I D) (g : DeviceGhosts D) (s : SinkGhosts S) where
+  -- the options are refused, and nothing is done
+  pub record RefusesKind (why : CommandFault) (before after : I) (old new : S)
+      (result : Result (Unit {0}) CommandFault) : Type 0 where
+    pub is : result ≡ Err why
+    pub untouched : after ≡ before
+    pub unwritten : new ≡ old
+
+  -- What `grow` does with the images that its words name.
+  abbrev pub GrowsArray : Text → ℕ → List Text → I → I → S → S
+      → Result (Unit {0}) CommandFault → Type 0
+  GrowsArray bitmap kib words before after old new result =
+      MatchResult (chunk_asked bitmap kib)
+      (λ chunk_bytes. UsesImages i g (GrowsOn s chunk_bytes) Change (image_list false words)
+      before after old new result)
+      (λ why. RefusesKind why before after old new result)

@@ -1,0 +1,85 @@
+// The command that gives an array a bitmap.
+ghost use Rattle.std.specs.Prelude.{◌≡◌, IfOk, false, length};
+ghost use Rattle.md_images.specs.Taking.{image_list};
+ghost use Rattle.md_messages.specs.Telling.{texts};
+ghost use Rattle.md_cli.specs.Arrays.{UsesImages, disks};
+ghost use Rattle.md_cli.specs.Growing.{GrowsArray, GrowsOn, chunk_asked};
+
+use crate::create_options::bytes_of;
+use crate::show_devices::show_devices;
+use md_commands::{CommandFault, OptionFault};
+use md_device::Device;
+use md_examine::Sink;
+use md_grow::grow;
+use md_images::{Access, Images, image_list, put_back, take_images};
+use std::alloc::Global;
+
+// The bytes of a chunk that the options ask for.
+fn chunk_asked(bitmap: &str, kib: u32) -> Result<u32, CommandFault>
+    ensures { result ≡ chunk_asked bitmap.now kib }
+{
+    if bitmap != "internal" {
+        return Err(CommandFault::Options(OptionFault::BadBitmap));
+    }
+    match bytes_of(kib) {
+        Some(bytes) => Ok(bytes),
+        None => Err(CommandFault::Options(OptionFault::BadChunk)),
+    }
+}
+
+// Gives the members a bitmap, opens them and shows the array in a line. The devices come back in their order.
+fn grow_on<D: Device + Drop, S: Sink>(
+    alloc: Global,
+    mut devices: Vec<D>,
+    chunk_bytes: u32,
+    out: &mut S,
+) -> (Vec<D>, Result<(), CommandFault>)
+    ensures as_many { length result.0.items ≡ length devices.items }
+    ensures gives { GrowsOn S.Sink chunk_bytes (disks D.Device devices.items)
+        (disks D.Device result.0.items) out.old out.new result.1 }
+    ensures flushed { IfOk result.1 (λ _. S.is_flushed out.new) }
+{
+    match grow(alloc, devices.as_mut_slice(), chunk_bytes) {
+        Ok(()) => show_devices(alloc, devices, out),
+        Err(fault) => (devices, Err(CommandFault::Grow(fault))),
+    }
+}
+
+// Gives the members on the images a bitmap, and puts the images back.
+fn grow_images<I: Images, S: Sink>(
+    alloc: Global,
+    chunk_bytes: u32,
+    images: &mut I,
+    names: &[&str],
+    out: &mut S,
+) -> Result<(), CommandFault>
+    ensures gives { UsesImages I.Images I.Dev.Device (GrowsOn S.Sink chunk_bytes) Access.Change
+        (image_list false (texts names.now)) images.old images.new out.old out.new result }
+    ensures flushed { IfOk result (λ _. S.is_flushed out.new) }
+{
+    let Ok(list) = image_list(alloc, names, false) else {
+        return Err(CommandFault::NoMemory);
+    };
+    let words = list.as_slice();
+    let devices = take_images(alloc, Access::Change, images, words)?;
+    let (devices, result) = grow_on(alloc, devices, chunk_bytes, out);
+    put_back(images, words, devices);
+    result
+}
+
+/// Gives the members on the images a bitmap of this kind. No image is touched before the options are accepted.
+pub(crate) fn grow_array<I: Images, S: Sink>(
+    alloc: Global,
+    bitmap: &str,
+    kib: u32,
+    images: &mut I,
+    names: &[&str],
+    out: &mut S,
+) -> Result<(), CommandFault>
+    ensures gives { GrowsArray I.Images I.Dev.Device S.Sink bitmap.now kib (texts names.now)
+        images.old images.new out.old out.new result }
+    ensures flushed { IfOk result (λ _. S.is_flushed out.new) }
+{
+    let chunk_bytes = chunk_asked(bitmap, kib)?;
+    grow_images(alloc, chunk_bytes, images, names, out)
+}

@@ -1,0 +1,86 @@
+-- The members get their bitmaps, one after another.
+use Rattle.std.specs.Prelude.{◌≡◌, ◌⊎◌, ℕ, ◌+◌, ◌*◌, ◌<◌, ◌≤◌, List, length, slice_get, Some}
+use Rattle.md_members.specs.declared.fault.MemberFault.{MemberFault}
+use Rattle.md_members.specs.declared.fault.MemberFault.TheVariants as member_fault
+use Rattle.md_members.specs.declared.info.MemberInfo.{MemberInfo}
+use Rattle.md_array.specs.Open.Members.{AreRead, RefusesDeviceRead}
+use Rattle.md_state.specs.View.{Disk}
+use Rattle.md_state.specs.DeviceChanges.{AreSame, EachPair, IsLeftAlone, IsUntouched}
+use Rattle.md_grow.specs.declared.fault.GrowFault.{GrowFault}
+use Rattle.md_grow.specs.declared.fault.GrowFault.TheVariants.{Member, MetadataFault, NoMemory}
+use Rattle.md_grow.specs.declared.growth.Growth.{Growth}
+use Rattle.md_grow.specs.Growth.{IsGrowth, RefusesGrowth}
+use Rattle.md_grow.specs.Stored.{FailsOn, GrowsMemberOn, sectors_of}
+
+-- as many devices as members, and each has room for the bitmap after the superblock
+pub record FitGrowth (g : Growth) (disks : List Disk) : Type 0 where
+  pub few : g.marks.chunks ≤ 1048576
+  pub after_super : 16 ≤ g.start
+  pub as_many : length disks ≡ length g.members.items
+  pub room : (k : ℕ) (d : Disk) → slice_get disks k ≡ Some d → 512 * (g.start + sectors_of g) ≤ length d.content
+
+-- member k got its bitmap
+abbrev pub IsStoredAt : Growth → ℕ → Disk → Disk → Type 0
+IsStoredAt g k d e = (info : MemberInfo) → slice_get g.members.items k ≡ Some info → GrowsMemberOn g info.superblock d e
+
+-- each member did
+pub record AllGrown (g : Growth) (before after : List Disk) : Type 0 where
+  pub same : AreSame before after
+  pub each : EachPair (IsStoredAt g) before after
+
+-- a write failed on member k: the members before it got their bitmaps, and nothing was done to those after it
+pub record EndsGrowthAt (g : Growth) (before after : List Disk) (k : ℕ) : Type 0 where
+  pub same : AreSame before after
+  pub member : MemberInfo
+  pub at : slice_get g.members.items k ≡ Some member
+  pub failed : (d e : Disk) → slice_get before k ≡ Some d → slice_get after k ≡ Some e → FailsOn g member.superblock d e
+  pub earlier : EachPair (λ j d e. j < k → IsStoredAt g j d e) before after
+  pub later : EachPair (λ j d e. k < j → IsLeftAlone d e) before after
+
+abbrev pub RefusesStoring : Growth → List Disk → List Disk → GrowFault → Type 0
+RefusesStoring g before after (MetadataFault k) = EndsGrowthAt g before after k
+RefusesStoring g before after _ = ⊥
+
+-- the fault where device k is not read as a member for this reason
+abbrev pub fault_of : ℕ → MemberFault → GrowFault
+fault_of k member_fault.NoMemory = NoMemory
+fault_of k fault = Member k fault
+
+-- a device is not read as a member
+abbrev pub RefusesGrowReading : List Disk → List Disk → GrowFault → Type 0
+RefusesGrowReading before after (Member k fault) = RefusesDeviceRead before after k fault
+RefusesGrowReading before after NoMemory = Unit {0}
+RefusesGrowReading before after _ = ⊥
+
+-- the devices were read, for which nothing is written, and the members get this
+pub record FindsGrowth (chunk_bytes : ℕ) (before seen : List Disk) (g : Growth) : Type 0 where
+  pub untouched : IsUntouched before seen
+  pub infos : List MemberInfo
+  pub read : AreRead before infos
+  pub growth : IsGrowth infos chunk_bytes g
+
+-- all were found, and got their bitmaps
+pub record Grows (chunk_bytes : ℕ) (before after : List Disk) : Type 0 where
+  pub growth : Growth
+  pub seen : List Disk
+  pub found : FindsGrowth chunk_bytes before seen growth
+  pub stored : AllGrown growth seen after
+
+-- all were found, and a write failed
+pub record FailsToGrow (chunk_bytes : ℕ) (before after : List Disk) (fault : GrowFault) : Type 0 where
+  pub growth : Growth
+  pub seen : List Disk
+  pub found : FindsGrowth chunk_bytes before seen growth
+  pub stopped : RefusesStoring growth seen after fault
+
+-- the members that were read get nothing
+pub record RefusesMembers (chunk_bytes : ℕ) (before : List Disk) (fault : GrowFault) : Type 0 where
+  pub infos : List MemberInfo
+  pub read : AreRead before infos
+  pub refused : RefusesGrowth infos chunk_bytes fault
+
+-- why the members get no bitmap: nothing was written, but where a write failed
+abbrev pub RefusesToGrow : ℕ → List Disk → List Disk → GrowFault → Type 0
+RefusesToGrow chunk_bytes before after fault =
+    (IsUntouched before after × (RefusesGrowReading before after fault ⊎ RefusesMembers chunk_bytes before fault))
+    ⊎ FailsToGrow chunk_bytes before after fault
