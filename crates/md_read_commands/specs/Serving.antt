@@ -146,7 +146,7 @@ pub record IsFreshReader (fill : Bool) (v : MirrorView) (first : ArrayReader) : 
 
 -- The array may not be read so, or there is no memory for its sectors.
 abbrev pub RefusesToBegin : MirrorView → CommandFault → Type 0
-RefusesToBegin v NoPieceMemory = Unit {0}
+RefusesToBegin v NoPieceMemory = (way : Way) × IsReadyTo true 0 v.array.chunks.size v way v
 RefusesToBegin v fault = RefusesReady true 0 v.array.chunks.size v v fault
 
 module _ {I S : Type 0} (i : Sources I) (o : Sinks S) (fill : Bool) (old new : MirrorView)

@@ -36,7 +36,8 @@ pub(crate) fn advice(fault: &CommandFault) -> &'static str {
         CommandFault::Declined => {
             "nothing was overwritten: name another image, or answer `yes`, which `--run` does"
         }
-        CommandFault::InputFault => "see why its file or program fails; `write` has written nothing",
+        CommandFault::InputFault =>
+            "see why its file or program fails; `write` has written nothing",
         CommandFault::BadLength => "give it a multiple of 512 bytes",
         CommandFault::OutOfRange => WITHIN_ARRAY,
         CommandFault::BadMember => {
