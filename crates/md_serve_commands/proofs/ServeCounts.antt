@@ -23,7 +23,7 @@ use Rattle.md_commands.specs.declared.fault.CommandFault.{CommandFault}
 use Rattle.md_commands.specs.declared.fault.CommandFault.TheVariants.{InputFault, NoPieceMemory, OutputFault, Read, Resync}
 use Rattle.md_commands.specs.declared.source.Source.{Ghosts as Sources}
 use Rattle.md_commands.proofs.DeviceCounts.{AsMany, KeepsMembers, fails_after, halts, led, none_in_flight, not_readied, nothing, readied, refused, same, stopped}
-use Rattle.md_serve_commands.specs.Writable.{ClearsMarks, HasServed, IsUnserved, RefusesToReady, RefusesToServe, RunsOn, ServesAndStops, ServesWritable, StopsServing, StopsThen, array_writer, writable_export}
+use Rattle.md_serve_commands.specs.Writable.{ClearsMarks, HasServed, IsUnserved, RefusesToMakeReady, RefusesToServe, RunsOn, ServesAndStops, ServesWritable, StopsServing, StopsThen, array_writer, writable_export}
 use Rattle.md_serve_commands.proofs.Exchanged.{EachKeeps, broken_keeps, session_keeps}
 
 -- ---- a write
@@ -131,7 +131,7 @@ module _ {I S : Type 0} (i : Sources I) (o : Sinks S) (old new : MirrorView) (fr
       not_served unread.NotResynced r = refused old new _ r
       not_served f r = absurd r
 
-      by : (f : CommandFault) → RefusesToReady old new f → AsMany old new
+      by : (f : CommandFault) → RefusesToMakeReady old new f → AsMany old new
       by (Read f) r = not_served f r
       by NoPieceMemory r = same old new r.1
       by (Resync f) r = not_readied f old new r.1
