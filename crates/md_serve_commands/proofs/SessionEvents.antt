@@ -4,8 +4,7 @@ use Rattle.md_model.specs.Events.{Event}
 use Rattle.md_faults.specs.declared.step_fault.BeginFault.{BeginFault}
 use Rattle.md_faults.specs.declared.step_fault.BeginFault.TheVariants as begin
 use Rattle.md_inflight.specs.Inflight.{lookup}
-use Rattle.md_model.specs.Worlds.{Request}
-use Rattle.md_state.specs.Requests.{AreInFlight, among}
+use Rattle.md_state.specs.Requests.{among}
 use Rattle.md_state.specs.Rests.{Rests}
 use Rattle.md_state.specs.View.{ArrayView, MirrorView}
 use Rattle.md_array.specs.InTurn.{Leads, Requests}
@@ -20,7 +19,7 @@ use Rattle.md_read.specs.declared.fault.UnreadFault.{UnreadFault}
 use Rattle.md_read.specs.declared.fault.UnreadFault.TheVariants as unread
 use Rattle.md_read.specs.Reading.{RefusesRead}
 use Rattle.md_write.specs.Writing.{RefusesWrite, Writes, events_of_write}
-use Rattle.md_commands.proofs.DeviceCounts.{none_in_flight, nothing}
+use Rattle.md_commands.proofs.DeviceCounts.{nothing}
 use Rattle.md_nbd.specs.declared.export.Export.{Export}
 use Rattle.md_nbd.specs.declared.task.Task.{Task}
 use Rattle.md_nbd.specs.declared.task.Task.TheVariants as task
