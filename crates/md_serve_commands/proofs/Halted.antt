@@ -1,5 +1,5 @@
 -- Of a halted mirror nothing is done any more.
-use Rattle.std.proofs.Common.{◌≡◌, ◌∙◌, inl, inr, ℕ, true, false, List, [], ◌∷◌, sym, ap, subst, arith, true≢false}
+use Rattle.std.proofs.Common.{◌≡◌, ◌∙◌, inl, inr, ⊎_elim, ℕ, true, false, List, [], ◌∷◌, sym, ap, subst, arith, true≢false}
 use Rattle.std.specs.Prelude.{slice_index_or}
 use Rattle.md_faults.specs.declared.step_fault.BeginFault.{BeginFault}
 use Rattle.md_faults.specs.declared.step_fault.BeginFault.TheVariants as begin
@@ -16,7 +16,7 @@ use Rattle.md_nbd.specs.NbdTasks.{task_of}
 use Rattle.md_nbd.specs.SimpleReplies.{error_reply, success_reply}
 use Rattle.md_nbd.specs.Server.Exchanges.{AnswersInTurn, AnswersRequest, DoesTask, Exchange}
 use Rattle.md_serve_commands.specs.declared.writer.ArrayWriter.{ArrayWriter}
-use Rattle.md_serve_commands.specs.Writable.{writer_store}
+use Rattle.md_serve_commands.specs.Writable.{FailsToClear, writer_store}
 use Rattle.md_serve_commands.specs.Told.{IsForArray}
 
 -- ---- a reply without an error is none with one
@@ -58,6 +58,9 @@ module _ (old new : MirrorView) (halted : old.array.halted ≡ true) where
   unwritten_halted begin.NumbersSpent sector bytes h = h.unchanged
   unwritten_halted begin.NoMemory sector bytes h = h.unchanged
 
+  unflushed_halted : FailsToClear old new → new ≡ old
+  unflushed_halted h = ⊎_elim (λ r. r.unchanged) (λ r. runs_not r.0) h.0
+
 abbrev StaysWithError : Task → ℕ → ArrayWriter × MirrorView → ArrayWriter × MirrorView → List ℕ → Type 0
 StaysWithError t cookie old new reply = (new.1 ≡ old.1) × (IsForArray t → reply ≡ error_reply Io cookie)
 
@@ -68,11 +71,7 @@ task_halted (task.Read sector sectors) cookie payload old new reply halted (inr 
 task_halted (task.Write sector sectors) cookie payload old new reply halted (inl h) = runs_not old.1 new.1 halted h.0.0.begins.may.running
 task_halted (task.Write sector sectors) cookie payload old new reply halted (inr h) = (unwritten_halted old.1 new.1 halted h.0.fault sector payload h.0.refused, λ _. h.1)
 task_halted task.Flush cookie payload old new reply halted (inl h) = runs_not old.1 new.1 halted h.0.running
-task_halted task.Flush cookie payload old new reply halted (inr h) = (flush_halted h.0.0, λ _. h.1)
-  where
-    flush_halted : _ → new.1 ≡ old.1
-    flush_halted (inl r) = r.unchanged
-    flush_halted (inr r) = runs_not old.1 new.1 halted r.0
+task_halted task.Flush cookie payload old new reply halted (inr h) = (unflushed_halted old.1 new.1 halted h.0, λ _. h.1)
 task_halted task.Disconnect cookie payload old new reply halted h = absurd h
 task_halted (task.Refuse error) cookie payload old new reply halted h = (ap (λ (p : ArrayWriter × MirrorView). p.1) h.0, λ no. absurd no)
 

@@ -1,6 +1,5 @@
 -- No request wins or loses a device, and so no session does.
-use Rattle.std.proofs.Common.{◌≡◌, ◌∙◌, inl, inr, ⊎_elim, ℕ, List, [], ◌∷◌, ◌++◌, Option, None, Result, Ok, Err, refl, sym, ap}
-use Rattle.std.specs.Prelude.{MatchResult}
+use Rattle.std.proofs.Common.{◌≡◌, ◌∙◌, inl, inr, ⊎_elim, ℕ, List, [], ◌∷◌, None, Result, Ok, Err, refl}
 use Rattle.md_bitmap.specs.declared.chunks.Chunks.{Chunks}
 use Rattle.md_model.specs.Events.{Event}
 use Rattle.md_inflight.specs.Requests.Pending.{PendingView}
@@ -23,7 +22,7 @@ use Rattle.md_commands.specs.declared.fault.CommandFault.{CommandFault}
 use Rattle.md_commands.specs.declared.fault.CommandFault.TheVariants.{InputFault, NoPieceMemory, OutputFault, Read, Resync}
 use Rattle.md_commands.specs.declared.source.Source.{Ghosts as Sources}
 use Rattle.md_commands.proofs.DeviceCounts.{AsMany, KeepsMembers, fails_after, halts, led, none_in_flight, not_readied, nothing, readied, refused, same, stopped}
-use Rattle.md_serve_commands.specs.Writable.{ClearsMarks, HasServed, IsUnserved, RefusesToReady, RefusesToServe, RunsOn, ServesAndStops, ServesWritable, StopsServing, StopsThen, array_writer, writable_export}
+use Rattle.md_serve_commands.specs.Writable.{ClearsMarks, HasServed, IsUnserved, RefusesToMakeReady, RefusesToServe, RunsOn, ServesAndStops, ServesWritable, StopsThen, array_writer, writable_export}
 use Rattle.md_serve_commands.proofs.Exchanged.{EachKeeps, broken_keeps, session_keeps}
 
 -- ---- a write
@@ -131,7 +130,7 @@ module _ {I S : Type 0} (i : Sources I) (o : Sinks S) (old new : MirrorView) (fr
       not_served unread.NotResynced r = refused old new _ r
       not_served f r = absurd r
 
-      by : (f : CommandFault) → RefusesToReady old new f → AsMany old new
+      by : (f : CommandFault) → RefusesToMakeReady old new f → AsMany old new
       by (Read f) r = not_served f r
       by NoPieceMemory r = same old new r.1
       by (Resync f) r = not_readied f old new r.1

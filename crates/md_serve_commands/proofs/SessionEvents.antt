@@ -1,11 +1,10 @@
 -- A session is a list of events, between which devices are read.
-use Rattle.std.proofs.Common.{◌≡◌, ◌∙◌, inl, inr, ℕ, Bool, true, false, List, [], ◌∷◌, ◌++◌, Option, Some, refl, sym, ap, subst, true≢false}
+use Rattle.std.proofs.Common.{◌≡◌, ◌∙◌, inl, inr, ⊎_elim, ℕ, Bool, true, false, List, [], ◌∷◌, ◌++◌, Option, Some, refl, sym, ap, subst, true≢false}
 use Rattle.md_model.specs.Events.{Event}
 use Rattle.md_faults.specs.declared.step_fault.BeginFault.{BeginFault}
 use Rattle.md_faults.specs.declared.step_fault.BeginFault.TheVariants as begin
 use Rattle.md_inflight.specs.Inflight.{lookup}
-use Rattle.md_model.specs.Worlds.{Request}
-use Rattle.md_state.specs.Requests.{AreInFlight, among}
+use Rattle.md_state.specs.Requests.{among}
 use Rattle.md_state.specs.Rests.{Rests}
 use Rattle.md_state.specs.View.{ArrayView, MirrorView}
 use Rattle.md_array.specs.InTurn.{Leads, Requests}
@@ -20,7 +19,7 @@ use Rattle.md_read.specs.declared.fault.UnreadFault.{UnreadFault}
 use Rattle.md_read.specs.declared.fault.UnreadFault.TheVariants as unread
 use Rattle.md_read.specs.Reading.{RefusesRead}
 use Rattle.md_write.specs.Writing.{RefusesWrite, Writes, events_of_write}
-use Rattle.md_commands.proofs.DeviceCounts.{none_in_flight, nothing}
+use Rattle.md_commands.proofs.DeviceCounts.{nothing}
 use Rattle.md_nbd.specs.declared.export.Export.{Export}
 use Rattle.md_nbd.specs.declared.task.Task.{Task}
 use Rattle.md_nbd.specs.declared.task.Task.TheVariants as task
@@ -116,18 +115,10 @@ module _ (old new : MirrorView) (running : new.array.halted ≡ false) where
   stop_halted (inr h) = absurd (true≢false (sym (halted_then h.halts.mid new nothing h.halts.failing (h.halts.halts nothing)) ∙ running))
 
   cleared : ClearsMarks old new → GoesByEvents old new
-  cleared h = by h.stops
-    where
-      by : _ → GoesByEvents old new
-      by (inl s) = goes_stopping old new s.goes
-      by (inr r) = runs_on r.0 r.1
+  cleared h = ⊎_elim (λ s. goes_stopping old new s.goes) (λ r. runs_on r.0 r.1) h.stops
 
   uncleared : FailsToClear old new → GoesByEvents old new
-  uncleared h = by h.0
-    where
-      by : _ → GoesByEvents old new
-      by (inl r) = goes_nowhere old new r.unchanged
-      by (inr r) = stop_halted r.1
+  uncleared h = ⊎_elim (λ r. goes_nowhere old new r.unchanged) (λ r. stop_halted r.1) h.0
 
 task_goes : (t : Task) (cookie : ℕ) (payload : List ℕ) (old new : ArrayWriter × MirrorView) (reply : List ℕ) → new.1.array.halted ≡ false → DoesTask writer_store t cookie payload old new reply
     → GoesByEvents old.1 new.1

@@ -1,15 +1,11 @@
 -- An array is served, and written to.
-use Rattle.std.proofs.Common.{◌≡◌, ◌⊎◌, inl, inr, ℕ, ◌*◌, Bool, true, false, List, [], Result, Ok, Err, MatchResult, refl, sym, ap, subst}
+use Rattle.std.proofs.Common.{◌≡◌, ◌∙◌, ◌*◌, ⊎_elim, Bool, true, false, refl, sym, ap, subst, true≢false}
 use Rattle.md_bitmap.specs.declared.chunks.Chunks.{Chunks}
-use Rattle.md_inflight.specs.Requests.Pending.{PendingView}
-use Rattle.md_state.specs.Requests.{IsPending}
-use Rattle.md_state.specs.View.{MirrorView}
-use Rattle.md_metadata.specs.declared.stop_fault.StopFault.{StopFault}
-use Rattle.md_metadata.specs.Stopping.{RefusesStop, StopsMirror}
+use Rattle.md_resync.proofs.Told.{resynced_array}
+use Rattle.md_state.specs.View.{ArrayView, MirrorView}
 use Rattle.md_examine.specs.declared.sink.Sink.{Ghosts as Sinks}
 use Rattle.md_examine.specs.Sink.{Flushes}
-use Rattle.md_commands.specs.declared.fault.CommandFault.{CommandFault}
-use Rattle.md_commands.specs.declared.fault.CommandFault.TheVariants.{Stop}
+use Rattle.md_commands.specs.Resyncing.{ResyncsIfNeeded, needs_resync}
 use Rattle.md_commands.specs.declared.source.Source.{Ghosts as Sources}
 use Rattle.md_nbd.specs.declared.export.Export.{Export}
 use Rattle.md_nbd.specs.declared.server.session.SessionEnd.{SessionEnd}
@@ -17,7 +13,7 @@ use Rattle.md_nbd.specs.declared.server.session.SessionFault.{SessionFault}
 use Rattle.md_nbd.specs.Export.{sector_bytes}
 use Rattle.md_nbd.specs.Server.Sessions.{BreaksSession, EndsSession, is_orderly}
 use Rattle.md_serve_commands.specs.declared.writer.ArrayWriter.{ArrayWriter}
-use Rattle.md_serve_commands.specs.Writable.{BreaksSo, EndsSo, KeepsPending, ServesClient, writable_export, array_writer, writer_store}
+use Rattle.md_serve_commands.specs.Writable.{BreaksSo, EndsSo, IsReadyToServe, KeepsPending, MayBeWritten, ServesClient, array_writer, writable_export, writer_store}
 use Rattle.md_serve_commands.proofs.Exchanged.{EachKeeps, broken_keeps, session_keeps}
 
 -- ---- requests in flight stay so
@@ -30,7 +26,7 @@ pending_keeps = record {
   written = λ sector bytes old new h. h.1;
   unwritten = λ sector bytes old new h. h.pending;
   cleared = λ old new h. h.pending;
-  uncleared = λ old new h. h.pending;
+  uncleared = λ old new h. h.1;
 }
 
 module _ {I S : Type 0} (i : Sources I) (o : Sinks S) (e : Export) (old new : ArrayWriter × MirrorView) (from to : I) (was now : S) where
@@ -72,3 +68,12 @@ served_client i o old new from to was told now end orderly ends flushes = record
   ends = ends;
   flushed = record { puts = flushes.puts; flushed = flushes.flushed };
 }
+
+-- ---- before it
+pub is_ready : (old ready : MirrorView) → MayBeWritten old.array → ResyncsIfNeeded old ready → IsReadyToServe old ready
+is_ready old ready may readied = record { may = may; readied = readied; resynced = by (needs_resync old.array) refl }
+  where
+    by : (needs : Bool) → needs_resync old.array ≡ needs → ready.array.resynced ≡ true
+    by true is = ap (λ (a : ArrayView). a.resynced) (resynced_array old ready (readied.resynced is))
+    by false is = ap (λ (v : MirrorView). v.array.resynced) (readied.untouched is)
+        ∙ ⊎_elim (λ yes. yes) (λ needs. absurd (true≢false (sym needs ∙ is))) may.ready

@@ -7,7 +7,7 @@ use Rattle.md_array.specs.InTurn.{Requests}
 use Rattle.md_laws.specs.ReadInTurn.{LeadsReading}
 use Rattle.md_nbd.specs.declared.export.Export.{Export}
 use Rattle.md_nbd.specs.declared.task.Task.{Task}
-use Rattle.md_nbd.specs.declared.task.Task.TheVariants.{Disconnect, Flush, Read, Refuse, Write}
+use Rattle.md_nbd.specs.declared.task.Task.TheVariants.{Flush, Read, Write}
 use Rattle.md_nbd.specs.declared.reply.ErrorCode.TheVariants.{Io}
 use Rattle.md_nbd.specs.NbdTasks.{task_of}
 use Rattle.md_nbd.specs.SimpleReplies.{error_reply, success_reply}

@@ -1,5 +1,5 @@
 -- An array is served to a client of the NBD protocol, which reads it and writes to it.
-use Rattle.std.specs.Prelude.{◌≡◌, ◌⊎◌, ℕ, ◌*◌, Bool, true, false, List, [], Result, Err, MatchResult, length}
+use Rattle.std.specs.Prelude.{◌≡◌, ◌⊎◌, ℕ, ◌*◌, true, false, List, [], Result, Err, MatchResult, length}
 use Rattle.md_inflight.specs.Requests.Pending.{PendingView}
 use Rattle.md_faults.specs.declared.step_fault.BeginFault.{BeginFault}
 use Rattle.md_state.specs.Members.{is_degraded}
@@ -92,13 +92,14 @@ abbrev pub array_writer : ArrayView → ArrayWriter
 array_writer a = record { sectors = a.chunks.size }
 
 -- ---- a session
-module _ {I S : Type 0} (i : Sources I) (o : Sinks S) (old new : MirrorView) (from to : I) (was now : S) where
+module _ {I S : Type 0} (i : Sources I) (o : Sinks S) (old new : MirrorView) (from to : I) (was : S) where
   -- A client was served so, until it went for this reason.
   pub record EndsSo (told : S) (end : SessionEnd) : Type 0 where
     pub last : ArrayWriter
-    pub session : EndsSession writer_store i o (writable_export old.array) (array_writer old.array, old) (last, new)
-        from to was told end
+    pub session : EndsSession writer_store i o (writable_export old.array) (array_writer old.array, old)
+        (last, new) from to was told end
 
+module _ {I S : Type 0} (i : Sources I) (o : Sinks S) (old new : MirrorView) (from to : I) (was now : S) where
   pub record BreaksSo (fault : SessionFault) : Type 0 where
     pub last : ArrayWriter
     pub session : BreaksSession writer_store i o (writable_export old.array) (array_writer old.array, old) (last, new)
@@ -109,7 +110,7 @@ module _ {I S : Type 0} (i : Sources I) (o : Sinks S) (old new : MirrorView) (fr
     pub end : SessionEnd
     pub orderly : is_orderly end ≡ true
     pub told : S
-    pub ends : EndsSo told end
+    pub ends : EndsSo i o old new from to was told end
     pub flushed : PutsOut o told now []
 
   -- It went so, and the output failed then.
@@ -117,14 +118,14 @@ module _ {I S : Type 0} (i : Sources I) (o : Sinks S) (old new : MirrorView) (fr
     pub end : SessionEnd
     pub orderly : is_orderly end ≡ true
     pub told : S
-    pub ends : EndsSo told end
+    pub ends : EndsSo i o old new from to was told end
     pub failed : o.failed now ≡ true
 
   -- It did not go so.
   pub record EndsOtherwise : Type 0 where
     pub end : SessionEnd
     pub otherwise : is_orderly end ≡ false
-    pub ends : EndsSo now end
+    pub ends : EndsSo i o old new from to was now end
 
   abbrev pub StopsServing : CommandFault → Type 0
   StopsServing InputFault = EndsOtherwise ⊎ BreaksSo session.Source
@@ -159,11 +160,11 @@ pub record IsReadyToServe (old ready : MirrorView) : Type 0 where
   pub resynced : ready.array.resynced ≡ true
 
 -- The array may not be served, or there is no memory for its sectors, or it can't be resynced.
-abbrev pub RefusesToReady : MirrorView → MirrorView → CommandFault → Type 0
-RefusesToReady old new (Read fault) = RefusesToServe old new fault
-RefusesToReady old new NoPieceMemory = MayBeWritten old.array × (new ≡ old)
-RefusesToReady old new (Resync fault) = MayBeWritten old.array × RefusesNeededResync old new fault
-RefusesToReady old new fault = ⊥
+abbrev pub RefusesToMakeReady : MirrorView → MirrorView → CommandFault → Type 0
+RefusesToMakeReady old new (Read fault) = RefusesToServe old new fault
+RefusesToMakeReady old new NoPieceMemory = MayBeWritten old.array × (new ≡ old)
+RefusesToMakeReady old new (Resync fault) = MayBeWritten old.array × RefusesNeededResync old new fault
+RefusesToMakeReady old new fault = ⊥
 
 -- The array is stopped, and then this is answered; or it is not, and that is answered.
 abbrev pub StopsThen : Result (Unit {0}) CommandFault → MirrorView → MirrorView
@@ -184,7 +185,7 @@ module _ {I S : Type 0} (i : Sources I) (o : Sinks S) (old new : MirrorView) (fr
 
   -- Nobody was greeted.
   pub record IsUnserved (fault : CommandFault) : Type 0 where
-    pub refused : RefusesToReady old new fault
+    pub refused : RefusesToMakeReady old new fault
     pub input : to ≡ from
     pub output : now ≡ was
 

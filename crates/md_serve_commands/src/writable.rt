@@ -4,7 +4,7 @@ ghost use Rattle.md_inflight.specs.Requests.Pending.{PendingView};
 ghost use Rattle.md_state.specs.Requests.{IsPending};
 ghost use Rattle.md_array.specs.Consistency.{IsConsistent};
 ghost use Rattle.md_nbd.specs.Export.{most_bytes};
-ghost use Rattle.md_serve_commands.specs.Writable.{HasServed, IsReadyToServe, MayBeWritten, RefusesToReady, RefusesToServe, ServesWritable};
+ghost use Rattle.md_serve_commands.specs.Writable.{HasServed, IsReadyToServe, MayBeWritten, RefusesToMakeReady, RefusesToServe, ServesWritable};
 
 use crate::writer::ArrayWriter;
 use md_array::Mirror;
@@ -56,15 +56,32 @@ fn begin<D: Device + Drop>(alloc: Global, mirror: &mut Mirror<D>) -> Result<Vec<
     requires sound { IsConsistent mirror.old }
     ensures gives { MatchResult result
         (λ _. IsReadyToServe mirror.old mirror.new)
-        (RefusesToReady mirror.old mirror.new) }
+        (RefusesToMakeReady mirror.old mirror.new) }
     ensures room { IfOk result (λ room. length room.items ≡ most_bytes) }
     ensures sound { IsConsistent mirror.new }
     ensures pending { (p : PendingView) → IsPending mirror.old.array p → IsPending mirror.new.array p }
 {
     check_may_serve(mirror).map_err(CommandFault::Read)?;
     let room = vec![in alloc; 0; MOST_BYTES as usize]?;
-    resync_if_needed(alloc, mirror).map_err(CommandFault::Resync)?;
+    make_ready(alloc, mirror)?;
     Ok(room)
+}
+
+// Resyncs an array that needs it.
+fn make_ready<D: Device + Drop>(
+    alloc: Global,
+    mirror: &mut Mirror<D>,
+) -> Result<(), CommandFault>
+    requires may { MayBeWritten mirror.old.array }
+    requires sound { IsConsistent mirror.old }
+    ensures gives { MatchResult result
+        (λ _. IsReadyToServe mirror.old mirror.new)
+        (RefusesToMakeReady mirror.old mirror.new) }
+    ensures sound { IsConsistent mirror.new }
+    ensures pending { (p : PendingView) → IsPending mirror.old.array p → IsPending mirror.new.array p }
+{
+    resync_if_needed(alloc, mirror).map_err(CommandFault::Resync)?;
+    Ok(())
 }
 
 // Whether the mirror runs, and its sectors can be read, perhaps after a resync.
