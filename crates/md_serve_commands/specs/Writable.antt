@@ -102,8 +102,8 @@ module _ {I S : Type 0} (i : Sources I) (o : Sinks S) (old new : MirrorView) (fr
 module _ {I S : Type 0} (i : Sources I) (o : Sinks S) (old new : MirrorView) (from to : I) (was now : S) where
   pub record BreaksSo (fault : SessionFault) : Type 0 where
     pub last : ArrayWriter
-    pub session : BreaksSession writer_store i o (writable_export old.array) (array_writer old.array, old) (last, new)
-        from to was now fault
+    pub session : BreaksSession writer_store i o (writable_export old.array) (array_writer old.array, old)
+        (last, new) from to was now fault
 
   -- The client went between two of its messages, and the output holds nothing back.
   pub record ServesClient : Type 0 where

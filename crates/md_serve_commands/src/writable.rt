@@ -68,10 +68,7 @@ fn begin<D: Device + Drop>(alloc: Global, mirror: &mut Mirror<D>) -> Result<Vec<
 }
 
 // Resyncs an array that needs it.
-fn make_ready<D: Device + Drop>(
-    alloc: Global,
-    mirror: &mut Mirror<D>,
-) -> Result<(), CommandFault>
+fn make_ready<D: Device + Drop>(alloc: Global, mirror: &mut Mirror<D>) -> Result<(), CommandFault>
     requires may { MayBeWritten mirror.old.array }
     requires sound { IsConsistent mirror.old }
     ensures gives { MatchResult result
