@@ -8,6 +8,7 @@ import random
 import shutil
 import struct
 import subprocess
+import time
 from pathlib import Path
 
 import members
@@ -434,7 +435,15 @@ def check_mounted(tally, folder):
     if not reasons:
         files, reasons = files_written(folder, mount.file)
     mount.close()
+    wait_until_free(pair)
     tally.judge(name, reasons or files_against(folder, pair, files))
+
+
+def wait_until_free(pair):
+    """nbdfuse does not wait for its server, which stops the array yet."""
+    until = time.monotonic() + SECONDS
+    while Answer(["detail", "--readonly", *pair]).status != 0 and time.monotonic() < until:
+        time.sleep(0.05)
 
 
 def files_written(folder, file):
