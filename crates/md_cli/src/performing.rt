@@ -77,7 +77,7 @@ pub(crate) fn perform<
         Command::Serve { fill } => serve(session, opened, fill),
         Command::ServeWritable => {
             let input = &mut session.input;
-            Ok(serve_writable(alloc, &mut opened.mirror, input, &mut session.out)?)
+            serve_writable(alloc, &mut opened.mirror, input, &mut session.out)
         }
         Command::Check { form, .. } => {
             check(rt, alloc, opened, form, watch, names, &mut session.out)
