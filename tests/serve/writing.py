@@ -96,12 +96,12 @@ def check_all(tally, scratch):
 
 
 class Pair:
-    """An array whose members are alike and clean, and that is as it was made before each session."""
+    """An array whose members are alike and clean, unless they are not said to be, and that is as it was made before each session."""
 
-    def __init__(self, folder, names, *options):
+    def __init__(self, folder, names, alike=True):
         images = Images(folder)
         self.folder, self.data = Path(folder), images.data
-        self.paths = images.array(names, self.data, *(options or ["--assume-clean"]))
+        self.paths = images.array(names, self.data, *(["--assume-clean"] if alike else []))
         self.contents = [Path(path).read_bytes() for path in self.paths]
 
     def fresh(self):
@@ -160,7 +160,7 @@ def check_session(tally, pair):
     answer = pair.fresh().serve(stream)
     tally.judge("writing: each member has what was written", judged(pair, answer, stream))
     done = Answer(["check", "--readonly", *pair.paths])
-    tally.judge("writing: no chunk differs then", done.against(0, b"mismatched chunks 0\n"))
+    tally.judge("writing: no chunk differs then", done.against(0, b"mismatched chunks: 0\n"))
     stream = OPENING + LEAVE
     before = pair.fresh().contents
     answer = pair.serve(stream)
@@ -234,11 +234,11 @@ def check_beside(tally, pair):
 def check_other_arrays(tally, folder):
     """One that is degraded and not resynced is resynced first, and one that is not degraded is refused."""
     stream = OPENING + write_of(5, new(1, 3)) + LEAVE
-    one = Pair(folder, ["one.img", "missing"], "--bitmap-chunk", "64")
+    one = Pair(folder, ["one.img", "missing"], alike=False)
     server, output, _ = answers(one, stream)
     reasons = one.serve(stream).against(0, output) + one.against(server.data, in_sync=1)
     tally.judge("writing: a degraded array that is not resynced", reasons)
-    two = Pair(folder, ["c.img", "d.img"], "--bitmap-chunk", "64")
+    two = Pair(folder, ["c.img", "d.img"], alike=False)
     reasons = two.serve(stream).against(1, b"", "mdcli: NotResynced\n")
     changed = [path for path, content in zip(two.paths, two.contents) if Path(path).read_bytes() != content]
     tally.judge("writing: members that may differ", reasons + changed)
@@ -305,7 +305,7 @@ def stopped(pair, library, how, number):
 
 def check_failed(tally, folder, library):
     """A member to which a write fails is faulty from then on, and no client sees it."""
-    pair = Pair(folder, ["e.img", "f.img"], "--assume-clean")
+    pair = Pair(folder, ["e.img", "f.img"])
     stream = OPENING + b"".join(CALLS) + LEAVE
     server, output, _ = answers(pair, stream)
     for how in ("fail", "torn"):
@@ -327,7 +327,7 @@ def check_failed(tally, folder, library):
 
 def check_halted(tally, folder, library):
     """Once a write fails to the last member in sync, all further requests are errors."""
-    pair = Pair(folder, ["g.img", "missing"], "--assume-clean")
+    pair = Pair(folder, ["g.img", "missing"])
     for how in ("fail", "torn"):
         reasons, halted = [], 0
         for number in range(1, calls_of(pair, library, folder / "calls") + 1):
@@ -349,7 +349,7 @@ def check_halted(tally, folder, library):
 
 def check_killed(tally, folder, library):
     """After the process was killed, and a resync, what was answered 0 stands."""
-    pair = Pair(folder, ["h.img", "i.img"], "--assume-clean")
+    pair = Pair(folder, ["h.img", "i.img"])
     for how in ("before", "half"):
         reasons = []
         for number in range(1, calls_of(pair, library, folder / "calls") + 1):
@@ -361,7 +361,7 @@ def check_killed(tally, folder, library):
             done = Answer(["resync", *pair.paths])
             wrong += [] if done.status == 0 else ["resync: %r" % done.errors]
             done = Answer(["check", "--readonly", *pair.paths])
-            wrong += done.against(0, b"mismatched chunks 0\n")
+            wrong += done.against(0, b"mismatched chunks: 0\n")
             wrong += against_either(pair, Path(pair.paths[0]).read_bytes(), len(errors))
             reasons += ["call %d: %s" % (number, reason) for reason in wrong]
         tally.judge("writing: killed at each call, %s" % how, reasons[:5])
