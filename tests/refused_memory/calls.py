@@ -50,7 +50,6 @@ WITHIN = {
     "md_super::Roles::try_clone": "md_array::Mirror::re_add",
     "md_super::Superblock::try_clone": "md_array::Mirror::re_add",
     "md_collect::Reports::none": "md_copy::rebuild",
-    "md_collect::Reports::push": "md_copy::rebuild",
 }
 
 # A test that makes the call as a step, which answers that it found no memory, leaves the mirror as it was, and is made again: the

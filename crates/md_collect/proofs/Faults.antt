@@ -1,5 +1,5 @@
 -- Which calls a read of a chunk adds to those that failed.
-use Rattle.std.proofs.Common.{◌≡◌, ℕ, ◌+◌, ◌*◌, ◌<◌, ◌≤◌, List, [], ◌++◌, ◌∷◌, refl, arith}
+use Rattle.std.proofs.Common.{◌≡◌, ℕ, ◌<◌, List, [], ◌++◌, ◌∷◌, refl, arith}
 use Rattle.md_device.specs.declared.fault_list.Fault.{Fault}
 use Rattle.md_device.specs.Failing.{EachNewFault, SomeNewFault, IsReadWithin, failed_read}
 use Rattle.md_device.proofs.Failing.{fails_none, fails_now, fails_just}

@@ -1,5 +1,5 @@
 -- A chunk is read from a source.
-use Rattle.std.specs.Prelude.{◌≡◌, ◌+◌, ◌<◌, ◌≤◌, ℕ, List, length, true, None, IfOk, IfSome, IsSome, OnErr, Result}
+use Rattle.std.specs.Prelude.{◌≡◌, ◌+◌, ◌<◌, ◌≤◌, ℕ, List, length, true, None, IfOk, IfSome, IsSome, Ok, OnErr, Result}
 use Rattle.md_device.specs.declared.device.Device.{Ghosts}
 use Rattle.md_device.specs.declared.fault_list.Fault.{Fault}
 use Rattle.md_device.specs.Crashes.{LeavesMore}
@@ -44,3 +44,7 @@ module _ {D : Type 0} (g : Ghosts D) where
     pub honest : g.honest new ≡ g.honest old
     pub counted : g.failures old ≤ g.failures new
     pub within : LeavesContent old new
+
+  -- it was read, and this is what is reported of it
+  abbrev pub ReportsChunk : D → D → ℕ → ℕ → Chunks → ℕ → ReportView → Type 0
+  ReportsChunk old new source offset chunks chunk r = ReadsChunk {E = Unit {0}} old new source offset chunks chunk (Ok r)

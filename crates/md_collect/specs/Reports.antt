@@ -1,6 +1,7 @@
 -- Copy events: what is reported of planned chunks, and which reports count.
-use Rattle.std.specs.Prelude.{ℕ, Bool, true, List, [], ◌∷◌, ◌++◌, Option, Some, None, ◌==◌, ◌&&◌, not, cond, length}
+use Rattle.std.specs.Prelude.{ℕ, Bool, true, List, [], ◌∷◌, ◌++◌, Option, Some, None, ◌==◌, ◌&&◌, not, cond, length, vec_capacity}
 use Rattle.std.specs.List.{list_any}
+use Rattle.std_alloc.specs.declared.vec.Vec.{Vec}
 use Rattle.md_cert.specs.declared.slots.Slot.{Slot}
 use Rattle.md_bitmap.specs.declared.chunks.Chunks.{Chunks}
 use Rattle.md_collect.specs.Places.{bytes_of_chunk, with_chunk}
@@ -10,6 +11,13 @@ pub record ReportView : Type 0 where
   pub chunk : ℕ
   pub source : ℕ
   pub bytes : Option (List ℕ)
+  pub room : ℕ  -- for how many bytes it has memory
+
+-- For how many bytes a report has memory: in the list of its bytes, or in the one that a read that failed left.
+abbrev pub room_of : {X Z : Type 0} → Option (Vec X Z) → Option (Vec X Z) → ℕ
+room_of (Some bytes) unused = vec_capacity bytes
+room_of None (Some unused) = vec_capacity unused
+room_of None None = 0
 
 -- what is copied, and where to
 pub record Copying : Type 0 where

@@ -21,8 +21,6 @@ use Rattle.md_collect.specs.Workers.Gates.{IsTold, IsToldOfReads}
 use Rattle.md_collect.specs.Workers.Queues.{OnlyRead, AreOnlyRead, IsOfWaiting, is_failed}
 use Rattle.md_collect.proofs.WorkerLemmas.OnlyReads.{not_read}
 use Rattle.md_collect.proofs.WorkerLemmas.Workers.{chunks_kept}
-use Rattle.md_pass.specs.declared.fault.PassFault.{PassFault}
-use Rattle.md_pass.specs.declared.fault.PassFault.TheVariants.{NoMemory, TargetFault}
 use Rattle.md_pass.specs.declared.preparing.Preparation.{Preparation}
 use Rattle.md_pass.specs.declared.source_reading.Reading.{Reading}
 use Rattle.md_pass.specs.declared.source.Source.{Source}
@@ -30,11 +28,10 @@ use Rattle.md_pass.specs.Beside.{has_chunk}
 use Rattle.md_pass.specs.Places.{AreInTurn, AreTaken}
 use Rattle.md_pass.specs.Readings.{IsQueueOf, IsOrderOf, is_of, slot_count_of}
 use Rattle.md_pass.specs.TakingReports.{Books, books}
-use Rattle.md_pass.specs.Copied.{AreJoined, CountFailed, FailOnlyThere, FailThere, HasCopied, IsOfFailedSlot, OnFault, PassState, failed_slots, is_failed_slot, pass_state}
+use Rattle.md_pass.specs.Copied.{AreJoined, CountFailed, FailOnlyThere, FailThere, HasCopied, IsOfFailedSlot, PassState, failed_slots, is_failed_slot, pass_state}
 use Rattle.md_pass.specs.Preparing.{CanCopy}
 use Rattle.md_pass.specs.Sources.{MayRead}
-use Rattle.md_pass.specs.Passes.{HasLanded, IsOfTaken, IsOfUncopied, IsPassing, IsUnderWay, LackMemory, QueuesOnlyRead, count_left, is_left}
-use Rattle.md_pass.proofs.Besides.{planned_has}
+use Rattle.md_pass.specs.Passes.{HasLanded, IsOfTaken, IsPassing, IsUnderWay, QueuesOnlyRead, count_left, is_left}
 use Rattle.md_pass.proofs.Departures.{related}
 use Rattle.md_pass.proofs.Orders.{order_covers}
 use Rattle.md_pass.proofs.PassStarts.{all_fit, device_at, in_turn, reading_like, source_at}
@@ -63,11 +60,6 @@ pub have_left : {D L M : Type 0} {g : Ghosts D} (p : Preparation) (old : PassSta
     → length firsts ≡ length p.readings.items → AreTaken old.devices places (map (λ (l : Queue D L M). l.device) firsts) rest → ((i : ℕ) (r : Reading) (d : Queue D L M) → i < length p.readings.items → IsQueueOf (get_or p.readings.items i r) (get_or firsts i d))
     → HaveLeft g (books p.collector (g.content old.target) old.copied) old.devices rest places p.readings.items firsts
 have_left p old rest places firsts can at same taken are = record { may = can.sources; orders = can.ordered.orders; turn = in_turn p places at can.ordered; same = same; taken = taken; are = are }
-
--- why a pass was broken off decides what holds
-pub on_fault : {P Q P' Q' : Type 0} (fault : PassFault) → (P → P') → (Q → Q') → OnFault P Q fault → OnFault P' Q' fault
-on_fault NoMemory p q holds = p holds
-on_fault TargetFault p q holds = q holds
 
 -- the slots of queues, by their shares
 pub queues_parts : {D L M : Type 0} (rs : List Reading) (queues : List (Queue D L M)) → length queues ≡ length rs → ((i : ℕ) (r : Reading) (d : Queue D L M) → i < length rs → IsQueueOf (get_or rs i r) (get_or queues i d))
@@ -170,7 +162,7 @@ module _ {D L M : Type 0} {g : Ghosts D} where
   }
 
   -- the slots of source k that failed, by the share of its queue
-  queue_failed : {th : Bool} {start now : Books} {devices rest : List D} {places : List ℕ} {rs : List Reading} {firsts queues : List (Queue D L M)} → HaveLeft g start devices rest places rs firsts → IsPassing g th firsts queues start now → All (λ queue. (queue.done ≡ length queue.chunks.items) × (queue.reports ≡ [])) queues
+  queue_failed : {th : Bool} {start now : Books} {devices rest : List D} {places : List ℕ} {rs : List Reading} {firsts queues : List (Queue D L M)} → HaveLeft g start devices rest places rs firsts → IsPassing g th firsts queues start now → All (λ queue. (queue.done ≡ length queue.chunks.items) × (queue.reports.waiting ≡ [])) queues
       → (k : ℕ) (d : Queue D L M) (s : Source) → k < length rs → (get_or queues k d).share.failed ≡ count_by (is_of (get_or (map (λ (r : Reading). r.source) rs) k s).role) (failed_slots start.collector.slots now.copied)
   queue_failed {start = start} {now = now} {rs = rs} {firsts = firsts} {queues = queues} t p done k d s below =
       let here : k < length firsts = omega (arith, t.same, below) in
@@ -179,7 +171,7 @@ module _ {D L M : Type 0} {g : Ghosts D} where
       let queue = get_or queues k d in
       let first = get_or firsts k d in
       let there = done k d (omega (arith, p.as_many, here)) in
-      let none : count_by is_failed queue.reports ≡ 0 = ap (count_by is_failed) there.1 in
+      let none : count_by is_failed queue.reports.waiting ≡ 0 = ap (count_by is_failed) there.1 in
       let zero : first.share.failed ≡ 0 = is.none_failed in
       let whole : queue.done ≡ length first.chunks.items = there.0 ∙ ap (λ (v : _). length v.items) (chunks_kept way.read) in
       let all : count_left now.copied first.chunks.items queue.done ≡ count_by (is_left now.copied) first.chunks.items
@@ -187,10 +179,10 @@ module _ {D L M : Type 0} {g : Ghosts D} where
       let own : count_by (is_left now.copied) first.chunks.items ≡ count_by (is_of (get_or rs k (reading_like d)).source.role) (failed_slots start.collector.slots now.copied)
       = ap (λ (v : _). count_by (is_left now.copied) v.items) is.chunks ∙ order_left now.copied start.collector.slots (get_or rs k (reading_like d)).source.role (get_or rs k (reading_like d)).chunks.items (t.orders k (reading_like d) below) in
       let role = ap (λ (x : Source). count_by (is_of x.role) (failed_slots start.collector.slots now.copied)) (sym (source_at rs k (reading_like d) s below)) in
-      way.read.failed ∙ (let z : first.share.failed + (count_left now.copied first.chunks.items queue.done + count_by is_failed queue.reports) ≡ count_left now.copied first.chunks.items queue.done = omega (arith, none, zero) in z) ∙ all ∙ own ∙ role
+      way.read.failed ∙ (let z : first.share.failed + (count_left now.copied first.chunks.items queue.done + count_by is_failed queue.reports.waiting) ≡ count_left now.copied first.chunks.items queue.done = omega (arith, none, zero) in z) ∙ all ∙ own ∙ role
 
   -- the devices have counted them
-  pub count_failed : {th : Bool} {start now : Books} {devices rest : List D} {places : List ℕ} {rs : List Reading} {firsts queues : List (Queue D L M)} → HaveLeft g start devices rest places rs firsts → IsPassing g th firsts queues start now → All (λ queue. (queue.done ≡ length queue.chunks.items) × (queue.reports ≡ [])) queues
+  pub count_failed : {th : Bool} {start now : Books} {devices rest : List D} {places : List ℕ} {rs : List Reading} {firsts queues : List (Queue D L M)} → HaveLeft g start devices rest places rs firsts → IsPassing g th firsts queues start now → All (λ queue. (queue.done ≡ length queue.chunks.items) × (queue.reports.waiting ≡ [])) queues
       → (news : List D) → length news ≡ length devices → AreTaken news places (map (λ (l : Queue D L M). l.device) queues) rest
       → CountFailed g start.collector.slots now.copied (map (λ (r : Reading). r.source) rs) devices news
   count_failed {start = start} {now = now} {devices = devices} {rest = rest} {places = places} {rs = rs} {firsts = firsts} {queues = queues} t p done news long taken' k s wk e h = by firsts refl
@@ -215,7 +207,7 @@ module _ {D L M : Type 0} {g : Ghosts D} where
           omega (arith, up, zero, all, a, b)
 
   -- a slot of source k whose chunk was not copied
-  slot_failed : {th : Bool} {start now : Books} {devices rest : List D} {places : List ℕ} {rs : List Reading} {firsts queues : List (Queue D L M)} → HaveLeft g start devices rest places rs firsts → IsPassing g th firsts queues start now → All (λ queue. (queue.done ≡ length queue.chunks.items) × (queue.reports ≡ [])) queues
+  slot_failed : {th : Bool} {start now : Books} {devices rest : List D} {places : List ℕ} {rs : List Reading} {firsts queues : List (Queue D L M)} → HaveLeft g start devices rest places rs firsts → IsPassing g th firsts queues start now → All (λ queue. (queue.done ≡ length queue.chunks.items) × (queue.reports.waiting ≡ [])) queues
       → (slot : Slot) → Contains start.collector.slots slot → is_set now.copied.bytes slot.chunk ≡ false → (k : ℕ) (s : Source) (d : Queue D L M) → k < length rs → (get_or (map (λ (r : Reading). r.source) rs) k s).role ≡ slot.source
       → FailsInChunk g (get_or firsts k d).device (get_or queues k d).device (get_or firsts k d).offset now.collector.chunks slot.chunk
   slot_failed {now = now} {rs = rs} {firsts = firsts} {queues = queues} t p done slot there unset k s d below role =
@@ -232,7 +224,7 @@ module _ {D L M : Type 0} {g : Ghosts D} where
       (way.failed j (omega (arith, short, whole)) (ap (is_set now.copied.bytes) place ∙ unset))
 
   -- the devices failed reads there
-  pub fail_there : {th : Bool} {start now : Books} {devices rest : List D} {places : List ℕ} {rs : List Reading} {firsts queues : List (Queue D L M)} → HaveLeft g start devices rest places rs firsts → IsPassing g th firsts queues start now → All (λ queue. (queue.done ≡ length queue.chunks.items) × (queue.reports ≡ [])) queues
+  pub fail_there : {th : Bool} {start now : Books} {devices rest : List D} {places : List ℕ} {rs : List Reading} {firsts queues : List (Queue D L M)} → HaveLeft g start devices rest places rs firsts → IsPassing g th firsts queues start now → All (λ queue. (queue.done ≡ length queue.chunks.items) × (queue.reports.waiting ≡ [])) queues
       → (news : List D) → length news ≡ length devices → AreTaken news places (map (λ (l : Queue D L M). l.device) queues) rest
       → FailThere g (copying start.collector) now.copied (map (λ (r : Reading). r.source) rs) devices news
   fail_there {start = start} {now = now} {devices = devices} {rest = rest} {places = places} {rs = rs} {firsts = firsts} {queues = queues} t p done news long taken' i slot wi unset k s wk role e = by firsts refl
@@ -253,10 +245,10 @@ module _ {D L M : Type 0} {g : Ghosts D} where
           rw (← old, ← new, ← offset, ← chunks) (slot_failed t p done (get_or start.collector.slots i slot) (Contains-get_or start.collector.slots i slot wi) unset k s f below role)
 
   -- of the device of source k no other call failed
-  queue_only : {th : Bool} {start now : Books} {devices rest : List D} {places : List ℕ} {rs : List Reading} {firsts queues : List (Queue D L M)} → HaveLeft g start devices rest places rs firsts → IsPassing g th firsts queues start now → All (λ queue. (queue.done ≡ length queue.chunks.items) × (queue.reports ≡ [])) queues
-      → All (λ queue. queue.starved ≡ false) queues → (k : ℕ) (d : Queue D L M) (s : Source) → k < length rs
+  queue_only : {th : Bool} {start now : Books} {devices rest : List D} {places : List ℕ} {rs : List Reading} {firsts queues : List (Queue D L M)} → HaveLeft g start devices rest places rs firsts → IsPassing g th firsts queues start now → All (λ queue. (queue.done ≡ length queue.chunks.items) × (queue.reports.waiting ≡ [])) queues
+      → (k : ℕ) (d : Queue D L M) (s : Source) → k < length rs
       → EachNewFault (g.faults (get_or firsts k d).device) (g.faults (get_or queues k d).device) (IsOfFailedSlot (copying start.collector) now.copied (get_or (map (λ (r : Reading). r.source) rs) k s))
-  queue_only {start = start} {now = now} {rs = rs} {firsts = firsts} {queues = queues} t p done fed k d s below =
+  queue_only {start = start} {now = now} {rs = rs} {firsts = firsts} {queues = queues} t p done k d s below =
       let first = get_or firsts k d in
       let queue = get_or queues k d in
       let source = get_or (map (λ (r : Reading). r.source) rs) k s in
@@ -277,7 +269,7 @@ module _ {D L M : Type 0} {g : Ghosts D} where
           there = rw (← offset, ← chunks) x.there;
         }
         | inr w ↦ absurd (let n = ap length (done k d there).1 in let b = w.waits in omega (arith, n, b))
-      ]) (way.only (fed k d there))
+      ]) way.only
 
   -- so of each source
   fail_only : {th : Bool} {start now : Books} {devices rest : List D} {places : List ℕ} {rs : List Reading} {firsts queues : List (Queue D L M)} → HaveLeft g start devices rest places rs firsts → IsPassing g th firsts queues start now
@@ -301,48 +293,13 @@ module _ {D L M : Type 0} {g : Ghosts D} where
           subst (λ x. EachNewFault (g.faults x) (g.faults (get_or news (get_or (map (λ (r : Reading). r.source) rs) k s).place e)) P) old
           (subst (λ x. EachNewFault (g.faults (get_or firsts k f).device) (g.faults x) P) new (each k f s below))
 
-  pub fail_only_there : {th : Bool} {start now : Books} {devices rest : List D} {places : List ℕ} {rs : List Reading} {firsts queues : List (Queue D L M)} → HaveLeft g start devices rest places rs firsts → IsPassing g th firsts queues start now → All (λ queue. (queue.done ≡ length queue.chunks.items) × (queue.reports ≡ [])) queues
-      → All (λ queue. queue.starved ≡ false) queues → (news : List D) → length news ≡ length devices → AreTaken news places (map (λ (l : Queue D L M). l.device) queues) rest
-      → FailOnlyThere g (copying start.collector) now.copied (map (λ (r : Reading). r.source) rs) devices news
-  fail_only_there t p done fed news long taken' = fail_only t p (λ k d s below. queue_only t p done fed k d s below) news long taken'
-
-  -- where memory was refused
-  queue_uncopied : {th : Bool} {start now : Books} {devices rest : List D} {places : List ℕ} {rs : List Reading} {firsts queues : List (Queue D L M)} → HaveLeft g start devices rest places rs firsts → IsPassing g th firsts queues start now → LackMemory g now firsts queues
-      → (k : ℕ) (d : Queue D L M) (s : Source) → k < length rs
-      → EachNewFault (g.faults (get_or firsts k d).device) (g.faults (get_or queues k d).device) (IsOfFailedSlot (copying start.collector) now.copied (get_or (map (λ (r : Reading). r.source) rs) k s))
-  queue_uncopied {start = start} {now = now} {rs = rs} {firsts = firsts} {queues = queues} t p lack k d s below =
-      let first = get_or firsts k d in
-      let source = get_or (map (λ (r : Reading). r.source) rs) k s in
-      let here : k < length firsts = omega (arith, t.same, below) in
-      let is = t.are k (reading_like d) d below in
-      let from = source_at rs k (reading_like d) s below in
-      let role : first.role ≡ source.role = is.role ∙ ap (λ (x : Source). x.role) (sym from) in
-      let offset : first.offset ≡ source.offset = is.offset ∙ ap (λ (x : Source). x.offset) (sym from) in
-      let chunks : now.collector.chunks ≡ start.collector.chunks = ap (λ (c : Copying). c.chunks) p.books.same_copy in
-      fails_weaker (g.faults first.device) (g.faults (get_or queues k d).device) (IsOfUncopied now first) (IsOfFailedSlot (copying start.collector) now.copied source)
-      (λ f x. record {
-        chunk = slice_index first.chunks.items x.slot;
-        planned = subst (λ n. is_planned start.collector.slots (slice_index first.chunks.items x.slot) n ≡ true) role ((p.begins k d here).planned x.slot x.within);
-        uncopied = x.uncopied;
-        there = rw (← offset, ← chunks) x.there;
-      }) (lack.only k d here)
-
-  pub fail_only_uncopied : {th : Bool} {start now : Books} {devices rest : List D} {places : List ℕ} {rs : List Reading} {firsts queues : List (Queue D L M)} → HaveLeft g start devices rest places rs firsts → IsPassing g th firsts queues start now → LackMemory g now firsts queues
+  pub fail_only_there : {th : Bool} {start now : Books} {devices rest : List D} {places : List ℕ} {rs : List Reading} {firsts queues : List (Queue D L M)} → HaveLeft g start devices rest places rs firsts → IsPassing g th firsts queues start now → All (λ queue. (queue.done ≡ length queue.chunks.items) × (queue.reports.waiting ≡ [])) queues
       → (news : List D) → length news ≡ length devices → AreTaken news places (map (λ (l : Queue D L M). l.device) queues) rest
       → FailOnlyThere g (copying start.collector) now.copied (map (λ (r : Reading). r.source) rs) devices news
-  fail_only_uncopied t p lack news long taken' = fail_only t p (λ k d s below. queue_uncopied t p lack k d s below) news long taken'
-
-  pub lacks_chunk : {th : Bool} {start now : Books} {firsts queues : List (Queue D L M)} → IsPassing g th firsts queues start now → LackMemory g now firsts queues → (c : ℕ) × (has_chunk start.collector.slots c ≡ true) × (is_set now.copied.bytes c ≡ false)
-  lacks_chunk {start = start} {now = now} {firsts = firsts} p lack = by firsts refl
-    where
-      by : (ls : List (Queue D L M)) → firsts ≡ ls → (c : ℕ) × (has_chunk start.collector.slots c ≡ true) × (is_set now.copied.bytes c ≡ false)
-      by [] none = absurd (let z = ap length none in let b = lack.queue in omega (arith, z, b))
-      by (f ∷ fs) some =
-          let first = get_or firsts lack.at f in
-          (slice_index first.chunks.items lack.slot, planned_has start.collector.slots (slice_index first.chunks.items lack.slot) first.role ((p.begins lack.at f lack.queue).planned lack.slot (lack.within f)), lack.uncopied f)
+  fail_only_there t p done news long taken' = fail_only t p (λ k d s below. queue_only t p done k d s below) news long taken'
 
   -- a slot of source k was read, and the gate told of it
-  slot_told : {th : Bool} {start now : Books} {devices rest : List D} {places : List ℕ} {rs : List Reading} {firsts queues : List (Queue D L M)} → HaveLeft g start devices rest places rs firsts → IsPassing g th firsts queues start now → All (λ queue. (queue.done ≡ length queue.chunks.items) × (queue.reports ≡ [])) queues
+  slot_told : {th : Bool} {start now : Books} {devices rest : List D} {places : List ℕ} {rs : List Reading} {firsts queues : List (Queue D L M)} → HaveLeft g start devices rest places rs firsts → IsPassing g th firsts queues start now → All (λ queue. (queue.done ≡ length queue.chunks.items) × (queue.reports.waiting ≡ [])) queues
       → {W : Type 0} (w : GateGhosts W) (gate : W) → ((k : ℕ) (d : Queue D L M) → k < length firsts → IsToldOfReads w gate (get_or firsts k d) (get_or queues k d))
       → (slot : Slot) → Contains start.collector.slots slot → (k : ℕ) (s : Source) (d : Queue D L M) → k < length rs → (get_or (map (λ (r : Reading). r.source) rs) k s).role ≡ slot.source → IsTold w gate slot.source slot.chunk
   slot_told {rs = rs} {firsts = firsts} {queues = queues} t p done w gate told slot there k s d below role =
@@ -351,7 +308,7 @@ module _ {D L M : Type 0} {g : Ghosts D} where
       let (j, within, at) = order_covers (t.orders k (reading_like d) below) slot there (sym is) in
       let own = t.are k (reading_like d) d below in
       let here : k < length firsts = omega (arith, t.same, below) in
-      let none : length (get_or firsts k d).reports ≡ 0 = ap length own.none_waits in
+      let none : length (get_or firsts k d).reports.waiting ≡ 0 = ap length own.none_waits in
       let short : j < length (get_or firsts k d).chunks.items = rw own.chunks within in
       let ends = done k d (omega (arith, p.as_many, here)) in
       let n = ap (λ (v : _). length v.items) (chunks_kept (p.each k d here).read) in
@@ -362,7 +319,7 @@ module _ {D L M : Type 0} {g : Ghosts D} where
       (told k d here j (omega (arith, before, none)) (omega (arith, short, n, all))))
 
   -- the gate was told of each slot
-  pub all_told : {th : Bool} {start now : Books} {devices rest : List D} {places : List ℕ} {rs : List Reading} {firsts queues : List (Queue D L M)} → HaveLeft g start devices rest places rs firsts → IsPassing g th firsts queues start now → All (λ queue. (queue.done ≡ length queue.chunks.items) × (queue.reports ≡ [])) queues
+  pub all_told : {th : Bool} {start now : Books} {devices rest : List D} {places : List ℕ} {rs : List Reading} {firsts queues : List (Queue D L M)} → HaveLeft g start devices rest places rs firsts → IsPassing g th firsts queues start now → All (λ queue. (queue.done ≡ length queue.chunks.items) × (queue.reports.waiting ≡ [])) queues
       → {W : Type 0} (w : GateGhosts W) (gate : W) → ((k : ℕ) (d : Queue D L M) → k < length firsts → IsToldOfReads w gate (get_or firsts k d) (get_or queues k d))
       → All (λ (slot : Slot). IsTold w gate slot.source slot.chunk) start.collector.slots
   all_told {start = start} {rs = rs} {firsts = firsts} t p done w gate told i slot wi = found (t.may.serves i slot wi)
@@ -378,7 +335,7 @@ module _ {D L M : Type 0} {g : Ghosts D} where
       found (k, s, wk, is, role) = by k s (let n = length-map rs (λ (r : Reading). r.source) in omega (arith, wk, n)) (ap (λ (x : Source). x.role) is ∙ role) firsts refl
 
   -- the shares of queues that are done
-  pub none_left : {th : Bool} {start now : Books} {devices rest : List D} {places : List ℕ} {rs : List Reading} {firsts queues : List (Queue D L M)} → HaveLeft g start devices rest places rs firsts → IsPassing g th firsts queues start now → All (λ queue. (queue.done ≡ length queue.chunks.items) × (queue.reports ≡ [])) queues
+  pub none_left : {th : Bool} {start now : Books} {devices rest : List D} {places : List ℕ} {rs : List Reading} {firsts queues : List (Queue D L M)} → HaveLeft g start devices rest places rs firsts → IsPassing g th firsts queues start now → All (λ queue. (queue.done ≡ length queue.chunks.items) × (queue.reports.waiting ≡ [])) queues
       → (sum_by (λ (l : Queue D L M). l.share.left) queues ≡ 0) × (sum_by (λ (l : Queue D L M). l.share.failed) queues ≡ length (failed_slots start.collector.slots now.copied)) × (sum_by (λ (l : Queue D L M). l.share.parts) queues ≡ sum_by (λ (l : Queue D L M). l.share.parts) firsts)
   none_left {th = th} {start = start} {now = now} {rs = rs} {firsts = firsts} {queues = queues} t p done = (
     sum_none (λ (l : Queue D L M). l.share.left) queues left,

@@ -1,10 +1,10 @@
 -- A pass reads those of its sources that have a slot.
-use Rattle.std.proofs.Common.{◌≡◌, ◌≢◌, ℕ, ◌+◌, ◌<◌, ◌≤◌, ◌==◌, ◌||◌, Bool, true, false, cond, inl, List, [], ◌∷◌, length, filter, count_by, get_or, Result, Ok, Err, MatchResult, refl, ap, sym, ◌∙◌, arith}
+use Rattle.std.proofs.Common.{◌≡◌, ◌≢◌, ℕ, ◌+◌, ◌<◌, ◌≤◌, ◌==◌, ◌||◌, Bool, true, false, cond, List, [], ◌∷◌, length, filter, count_by, get_or, Result, Ok, Err, MatchResult, refl, ap, sym, ◌∙◌, arith}
 use Rattle.std.specs.Int.{div_ceil}
 use Rattle.std.specs.List.{All}
 use Rattle.std.proofs.lemmas.List.Sums.{sum_by-cons}
 use Rattle.md_bitmap.specs.declared.chunks.Chunks.{Chunks}
-use Rattle.md_bitmap.specs.Marks.{Bitmap, is_set}
+use Rattle.md_bitmap.specs.Marks.{Bitmap}
 use Rattle.std.proofs.lemmas.Bool.Decides.{nat_tests}
 use Rattle.std.proofs.lemmas.List.{get_or_default}
 use Rattle.std.proofs.lemmas.List.Elements.{All-filter}
@@ -13,19 +13,17 @@ use Rattle.std.proofs.lemmas.List.Kept.{AllPairs-filter}
 use Rattle.md_cert.specs.declared.slots.Slot.{Slot}
 use Rattle.md_device.specs.declared.device.Device.{Ghosts}
 use Rattle.md_device.specs.Failing.{EachNewFault}
-use Rattle.md_device.proofs.Failing.{fails_none}
 use Rattle.md_collect.specs.Places.{HasRoom}
 use Rattle.md_collect.specs.Collecting.{ArePlanned}
 use Rattle.md_collect.specs.Reading.{FailsInChunk}
 use Rattle.md_collect.specs.Reports.{Copying}
 use Rattle.md_pass.specs.declared.fault.PassFault.{PassFault}
-use Rattle.md_pass.specs.declared.fault.PassFault.TheVariants.{NoMemory, TargetFault}
 use Rattle.md_pass.specs.declared.pass.BoardCounts.{BoardCounts}
 use Rattle.md_pass.specs.declared.preparing.Preparation.{Preparation}
 use Rattle.md_pass.specs.declared.source.Source.{Source}
 use Rattle.md_pass.specs.Readings.{has_slot, is_of}
 use Rattle.md_collect.specs.Workers.Queues.{AreOnlyRead}
-use Rattle.md_pass.specs.Copied.{AreCopied, AreUncopied, BreaksOff, CountFailed, EndsPass, FailOnlyThere, FailThere, HasCopied, HoldsChunkOf, IsOfFailedSlot, LacksMemory, PassState, WritesPlanned, failed_slots, is_failed_slot}
+use Rattle.md_pass.specs.Copied.{AreCopied, AreUncopied, BreaksOff, CountFailed, EndsPass, FailOnlyThere, FailThere, HasCopied, HoldsChunkOf, IsOfFailedSlot, PassState, WritesPlanned, failed_slots, is_failed_slot}
 use Rattle.md_pass.specs.Preparing.{CanCopy, IsPreparedFor}
 use Rattle.md_pass.specs.Sources.{MayRead}
 use Rattle.md_pass.proofs.Besides.{none_copied}
@@ -115,7 +113,7 @@ module _ {D : Type 0} (g : Ghosts D) where
 
   -- what a pass gives, of all sources
   pub gives_of_all : (copy : Copying) (sources : List Source) (old new : PassState D) (r : Result BoardCounts PassFault) → AreOnlyRead g old.devices new.devices → All (λ (s : Source). s.place < length old.devices) sources
-      → MatchResult r (EndsPass g copy (with_slots copy.slots sources) old new) (BreaksOff g copy (with_slots copy.slots sources) old new) → MatchResult r (EndsPass g copy sources old new) (BreaksOff g copy sources old new)
+      → MatchResult r (EndsPass g copy (with_slots copy.slots sources) old new) (BreaksOff g old new) → MatchResult r (EndsPass g copy sources old new) (BreaksOff g old new)
   gives_of_all copy sources old new (Ok counts) read within gives = record {
     copied = has_of_all copy sources old new gives.copied;
     none_left = gives.none_left;
@@ -124,32 +122,8 @@ module _ {D : Type 0} (g : Ghosts D) where
     there = there_of_all copy new.copied sources old.devices new.devices gives.there;
     only_there = only_of_all copy new.copied sources old.devices new.devices gives.only_there;
   }
-  gives_of_all copy sources old new (Err NoMemory) read within gives = record {
-    copied = has_of_all copy sources old new gives.copied;
-    left = gives.left;
-    unfailing = gives.unfailing;
-    only_there = only_of_all copy new.copied sources old.devices new.devices gives.only_there;
-  }
-  gives_of_all copy sources old new (Err TargetFault) read within gives = gives
+  gives_of_all copy sources old new (Err why) read within gives = gives
 
   -- nothing was done yet
-  nothing_copied : (copy : Copying) (sources : List Source) (now : PassState D) → AreUncopied copy.slots now.copied → HasCopied g copy sources now now
-  nothing_copied copy sources now uncopied = record {
-    joined = record { chunks = refl; kept = λ c set. set; planned = λ c none. refl };
-    holds = λ i slot below mark. absurd (set_and_unset (is_set now.copied.bytes (get_or copy.slots i slot).chunk) mark (uncopied i slot below));
-    beside = record { size = refl; beside = λ at n beside. refl };
-  }
-    where
-      set_and_unset : (b : Bool) → b ≡ true → b ≡ false → ⊥
-      set_and_unset b t f = cc
-
-  pub nothing_done : (copy : Copying) (sources : List Source) (now : PassState D) → AreUncopied copy.slots now.copied → LacksMemory g copy sources now now
-  nothing_done copy sources now uncopied = record {
-    copied = nothing_copied copy sources now uncopied;
-    left = inl refl;
-    unfailing = refl;
-    only_there = λ k s below has d. fails_none (g.faults (get_or now.devices (get_or sources k s).place d)) (IsOfFailedSlot copy now.copied (get_or sources k s));
-  }
-
   pub nothing_written : (copy : Copying) (now : PassState D) → WritesPlanned g copy now now
   nothing_written copy now = record { sources = record { as_many = refl; each = λ k d below. not_read (get_or now.devices k d) }; target = none_copied copy now.target }

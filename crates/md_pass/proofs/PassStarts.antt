@@ -13,6 +13,7 @@ use Rattle.md_collect.specs.Collecting.{ArePlanned, IsUnreported}
 use Rattle.md_collect.specs.declared.workers.queue.Queue.{Queue}
 use Rattle.md_device.proofs.Failing.{fails_none}
 use Rattle.md_collect.specs.Workers.Queues.{HasRead, IsOfWaiting}
+use Rattle.md_collect.specs.Workers.Waiting.{HasTurnMemory}
 use Rattle.md_collect.proofs.WorkerLemmas.Workers.{none_read}
 use Rattle.md_pass.specs.declared.preparing.Preparation.{Preparation}
 use Rattle.md_pass.specs.declared.source_reading.Reading.{Reading}
@@ -101,7 +102,7 @@ still start fresh = record {
 
 -- a reading as long as the queue's
 pub reading_like : {D L M : Type 0} → Queue D L M → Reading
-reading_like queue = record { source = no_source; chunks = queue.chunks; reports = []; none_waits = refl }
+reading_like queue = record { source = no_source; chunks = queue.chunks; reports = record { waiting = []; room = 0; longest = 0 }; none_waits = refl }
 
 module _ {D L M : Type 0} {g : Ghosts D} where
   begun : (th : Bool) (start : Books) (queue : Queue D L M) → IsAtStart g start queue → IsUnderWay g th start queue queue
@@ -109,13 +110,13 @@ module _ {D L M : Type 0} {g : Ghosts D} where
     read = subst (λ n. HasRead g start.collector.chunks (count_left start.copied queue.chunks.items n) queue queue) (sym first.none_done) (none_read queue (record { goes = first_goes start start.collector.chunks queue first refl; none_waits = first.none_waits }));
     landed = λ j below. absurd (let z = first.none_done in omega (arith, z, below));
     failed = λ j below. absurd (let z = first.none_done in omega (arith, z, below));
-    only = λ fed. fails_none (g.faults queue.device) (λ f. IsOfTaken start queue queue f ⊎ IsOfWaiting start.collector.chunks queue f);
+    only = fails_none (g.faults queue.device) (λ f. IsOfTaken start queue queue f ⊎ IsOfWaiting start.collector.chunks queue f);
     waiting = λ j from below. first.unreported j below;
   }
 
   first_of : (start : Books) (r : Reading) (queue : Queue D L M) → IsUnreported start.collector → ArePlanned start.collector.chunks start.collector.slots → All (λ slot. is_set start.copied.bytes slot.chunk ≡ false) start.collector.slots → IsOrderOf start.collector.slots r.source.role r.chunks.items → IsQueueOf r queue
-      → HasRoom (g.content queue.device) r.source.offset start.collector.chunks → IsAtStart g start queue
-  first_of start r queue fresh planned uncopied order is room = record {
+      → HasTurnMemory start.collector.chunks (length r.chunks.items) r.reports → HasRoom (g.content queue.device) r.source.offset start.collector.chunks → IsAtStart g start queue
+  first_of start r queue fresh planned uncopied order is memory room = record {
     room = rw is.offset room;
     planned = rw (is.chunks, is.role) (order_planned order);
     chunk = rw is.chunks (order_chunk order start.collector.chunks planned);
@@ -123,7 +124,7 @@ module _ {D L M : Type 0} {g : Ghosts D} where
     uncopied = rw is.chunks (λ j below. let at = slot_at order j below in subst (λ c. is_set start.copied.bytes c ≡ false) at.chunk_is (All-contains (λ (s : _). is_set start.copied.bytes s.chunk ≡ false) start.collector.slots at.slot uncopied at.there));
     none_done = is.none_done;
     none_waits = is.none_waits;
-    fed = is.fed;
+    memory = rw (is.chunks, is.reports) memory;
     left = is.left ∙ ap (λ (v : _). length v.items) (sym is.chunks);
     none_failed = is.none_failed;
   }
@@ -131,11 +132,11 @@ module _ {D L M : Type 0} {g : Ghosts D} where
   -- queues that were made of readings
   pub starts : (th : Bool) (start : Books) (devices rest : List D) (places : List ℕ) (rs : List Reading) (queues : List (Queue D L M)) → IsUnreported start.collector → ArePlanned start.collector.chunks start.collector.slots → All (λ slot. is_set start.copied.bytes slot.chunk ≡ false) start.collector.slots
       → MayRead g start.collector.chunks start.collector.slots (map (λ (r : Reading). r.source) rs) devices → All (λ (r : Reading). IsOrderOf start.collector.slots r.source.role r.chunks.items) rs
-      → AreInTurn (map (λ (r : Reading). r.source.place) rs) places → HasRoom start.target start.collector.offset start.collector.chunks → start.copied.chunks ≡ div_ceil start.collector.chunks.size start.collector.chunks.sectors
+      → All (λ (r : Reading). HasTurnMemory start.collector.chunks (length r.chunks.items) r.reports) rs → AreInTurn (map (λ (r : Reading). r.source.place) rs) places → HasRoom start.target start.collector.offset start.collector.chunks → start.copied.chunks ≡ div_ceil start.collector.chunks.size start.collector.chunks.sectors
       → length queues ≡ length rs → AreTaken devices places (map (λ (l : Queue D L M). l.device) queues) rest
       → ((i : ℕ) (r : Reading) (d : Queue D L M) → i < length rs → IsQueueOf (get_or rs i r) (get_or queues i d))
       → IsPassing g th queues queues start start
-  starts th start devices rest places rs queues fresh planned uncopied may orders turn room marks same taken are = record {
+  starts th start devices rest places rs queues fresh planned uncopied may orders memory turn room marks same taken are = record {
     begins = firsts;
     apart = apart;
     room = room;
@@ -160,7 +161,7 @@ module _ {D L M : Type 0} {g : Ghosts D} where
           = sym (get_or-map (λ (l : Queue D L M). l.device) queues k d d.device within) ∙ device_at devices devices (map (λ (l : Queue D L M). l.device) queues) rest rs places may turn refl taken k d.device d.device no_source here ∙ ap (λ (s : Source). get_or devices s.place d.device) from in
           let wide : HasRoom (g.content (get_or devices r.source.place d.device)) r.source.offset start.collector.chunks
           = subst (λ (s : Source). HasRoom (g.content (get_or devices s.place d.device)) s.offset start.collector.chunks) from (may.room k no_source (omega (arith, here, length-map rs (λ (x : Reading). x.source))) d.device) in
-          first_of start r (get_or queues k d) fresh planned uncopied (orders k (reading_like d) here) (are k (reading_like d) d here) (rw at wide)
+          first_of start r (get_or queues k d) fresh planned uncopied (orders k (reading_like d) here) (are k (reading_like d) d here) (memory k (reading_like d) here) (rw at wide)
 
       apart : (k m i j : ℕ) (d : Queue D L M) → k < length queues → m < length queues → i < length (get_or queues k d).chunks.items → j < length (get_or queues m d).chunks.items
           → slice_index (get_or queues k d).chunks.items i ≡ slice_index (get_or queues m d).chunks.items j → (k ≡ m) × (i ≡ j)

@@ -135,26 +135,26 @@ module _ {D L M : Type 0} {th : Bool} {old new : Books} {taken taken' : Queue D 
 
 module _ {D L M : Type 0} {g : Ghosts D} {th : Bool} where
   -- of the report that waits first
-  pub first_waits : {now : Books} {first queue : Queue D L M} (r : ReportView) (rest : List ReportView) → IsUnderWay g th now first queue → queue.reports ≡ r ∷ rest
+  pub first_waits : {now : Books} {first queue : Queue D L M} (r : ReportView) (rest : List ReportView) → IsUnderWay g th now first queue → queue.reports.waiting ≡ r ∷ rest
       → (queue.done < length first.chunks.items) × IsReport g first.device queue.device first.offset now.collector.chunks (slice_index first.chunks.items queue.done) first.role r
   first_waits {now = now} {first = first} {queue = queue} r rest way e =
-      let n : length queue.reports ≡ suc (length rest) = ap length e in
+      let n : length queue.reports.waiting ≡ suc (length rest) = ap length e in
       let within = way.read.within in
-      let at : get_or queue.reports 0 r ≡ r = ap (λ rs. get_or rs 0 r) e in
+      let at : get_or queue.reports.waiting 0 r ≡ r = ap (λ rs. get_or rs 0 r) e in
       let is = way.read.each 0 r (omega (arith, n)) in (
         omega (arith, within, n),
         subst (λ x. IsReport g first.device queue.device first.offset now.collector.chunks (slice_index first.chunks.items queue.done) first.role x) at
-            (subst (λ i. IsReport g first.device queue.device first.offset now.collector.chunks (slice_index first.chunks.items i) first.role (get_or queue.reports 0 r)) (let z : queue.done + 0 ≡ queue.done = omega arith in z) is),
+            (subst (λ i. IsReport g first.device queue.device first.offset now.collector.chunks (slice_index first.chunks.items i) first.role (get_or queue.reports.waiting 0 r)) (let z : queue.done + 0 ≡ queue.done = omega arith in z) is),
       )
 
-  pub planned_by : {start now : Books} {first queue : Queue D L M} (r : ReportView) (rest : List ReportView) → IsAtStart g start first → IsUnderWay g th now first queue → queue.reports ≡ r ∷ rest → is_planned start.collector.slots r.chunk r.source ≡ true
+  pub planned_by : {start now : Books} {first queue : Queue D L M} (r : ReportView) (rest : List ReportView) → IsAtStart g start first → IsUnderWay g th now first queue → queue.reports.waiting ≡ r ∷ rest → is_planned start.collector.slots r.chunk r.source ≡ true
   planned_by {queue = queue} r rest begins way e = let (some, is) = first_waits r rest way e in rw (is.chunk_is, is.role_is) (begins.planned queue.done some)
 
   -- its chunk was not copied before the pass, nor in it
-  pub first_uncopied : {start now : Books} {first queue : Queue D L M} (r : ReportView) (rest : List ReportView) → IsAtStart g start first → IsUnderWay g th now first queue → queue.reports ≡ r ∷ rest → is_set start.copied.bytes r.chunk ≡ false
+  pub first_uncopied : {start now : Books} {first queue : Queue D L M} (r : ReportView) (rest : List ReportView) → IsAtStart g start first → IsUnderWay g th now first queue → queue.reports.waiting ≡ r ∷ rest → is_set start.copied.bytes r.chunk ≡ false
   first_uncopied {queue = queue} r rest begins way e = let (some, is) = first_waits r rest way e in rw is.chunk_is (begins.uncopied queue.done some)
 
-  pub now_uncopied : {start now : Books} {first queue : Queue D L M} (r : ReportView) (rest : List ReportView) → IsAtStart g start first → HasBooks start now → IsUnderWay g th now first queue → queue.reports ≡ r ∷ rest → is_set now.copied.bytes r.chunk ≡ false
+  pub now_uncopied : {start now : Books} {first queue : Queue D L M} (r : ReportView) (rest : List ReportView) → IsAtStart g start first → HasBooks start now → IsUnderWay g th now first queue → queue.reports.waiting ≡ r ∷ rest → is_set now.copied.bytes r.chunk ≡ false
   now_uncopied {start = start} {now = now} {first = first} {queue = queue} r rest begins has way e =
       elim (set_or_not (is_set now.copied.bytes r.chunk)) [
         | inl set ↦
@@ -198,11 +198,11 @@ module _ {D L M : Type 0} {g : Ghosts D} {th : Bool} where
           read = rw (same_chunks is, left) way.read;
           landed = λ j below. landed_stays is out first _ (apart j (let w = way.read.within in omega (arith, w))) (way.landed j below);
           failed = λ j below unset. rw (same_chunks is) (way.failed j below (sym (other_mark is _ (apart j (let w = way.read.within in omega (arith, w)))) ∙ unset));
-          only = λ fed. fails_weaker (g.faults first.device) (g.faults queue.device) (λ f. IsOfTaken old first queue f ⊎ IsOfWaiting old.collector.chunks queue f) (λ f. IsOfTaken new first queue f ⊎ IsOfWaiting new.collector.chunks queue f)
+          only = fails_weaker (g.faults first.device) (g.faults queue.device) (λ f. IsOfTaken old first queue f ⊎ IsOfWaiting old.collector.chunks queue f) (λ f. IsOfTaken new first queue f ⊎ IsOfWaiting new.collector.chunks queue f)
               (λ f h. elim h [
                 | inl t ↦ inl (record { slot = t.slot; taken = t.taken; uncopied = other_mark is _ (apart t.slot (let w = way.read.within in let b = t.taken in omega (arith, w, b))) ∙ t.uncopied; there = rw (same_chunks is) t.there })
                 | inr w ↦ inr (rw (same_chunks is) w)
-              ]) (way.only fed);
+              ]) way.only;
           waiting = λ j from below. has_neither (is_set new.collector.reported.bytes) (is_set old.collector.reported.bytes) r.chunk is.counted.reported _ (apart j below) (way.waiting j from below);
         }
 
@@ -223,17 +223,16 @@ module _ {D L M : Type 0} {g : Ghosts D} {th : Bool} where
             (chunk_written old.collector.chunks old.collector.offset c old.target bytes (a.whole bytes e) (chunk_fits old.collector.chunks old.collector.offset c old.target room chunk) ∙ a.delivered bytes e h)
 
     -- what the queue has read stays, but for the report that was taken
-    still_read : (first : Queue D L M) → IsReportTaken th old new taken taken' r rest → taken.reports ≡ r ∷ rest → (lost lost' : ℕ) → lost' ≡ lost + cond (is_failed r) 1 0 → HasRead g old.collector.chunks lost first taken → HasRead g old.collector.chunks lost' first taken'
+    still_read : (first : Queue D L M) → IsReportTaken th old new taken taken' r rest → taken.reports.waiting ≡ r ∷ rest → (lost lost' : ℕ) → lost' ≡ lost + cond (is_failed r) 1 0 → HasRead g old.collector.chunks lost first taken → HasRead g old.collector.chunks lost' first taken'
     still_read first is e lost lost' more read =
         let device : taken'.device ≡ taken.device = ap (λ (l : Queue D L M). l.device) is.kept in
         let share : taken'.share ≡ taken.share = ap (λ (l : Queue D L M). l.share) is.kept in
         let done : taken'.done ≡ taken.done + 1 = ap (λ (l : Queue D L M). l.done) is.kept in
-        let reports : taken'.reports ≡ rest = ap (λ (l : Queue D L M). l.reports) is.kept in
-        let starved : taken'.starved ≡ taken.starved = ap (λ (l : Queue D L M). l.starved) is.kept in
-        let n : length taken.reports ≡ suc (length rest) = ap length e in
+        let reports : taken'.reports.waiting ≡ rest = ap (λ (l : Queue D L M). l.reports.waiting) is.kept in
+        let n : length taken.reports.waiting ≡ suc (length rest) = ap length e in
         let same : slots_read taken' ≡ slots_read taken = ap (λ k. taken'.done + k) (ap length reports) ∙ omega (arith, done, n) in
         record {
-          kept = is.kept ∙ ap (λ (l : Queue D L M). record l { done = taken.done + 1; reports = rest }) read.kept ∙ rw (device, share, done, reports, starved) refl;
+          kept = is.kept ∙ ap (λ (l : Queue D L M). record l { done = taken.done + 1; reports = record l.reports { waiting = rest } }) read.kept ∙ rw (device, share, done, reports) refl;
           only_read = rw device read.only_read;
           within = rw same read.within;
           each = rw (device, reports, done) at;
@@ -245,17 +244,17 @@ module _ {D L M : Type 0} {g : Ghosts D} {th : Bool} where
       where
         at : (i : ℕ) (x : ReportView) → i < length rest → IsReport g first.device taken.device first.offset old.collector.chunks (slice_index first.chunks.items (taken.done + 1 + i)) first.role (get_or rest i x)
         at i x below =
-            let n : length taken.reports ≡ suc (length rest) = ap length e in
+            let n : length taken.reports.waiting ≡ suc (length rest) = ap length e in
             let next : taken.done + suc i ≡ taken.done + 1 + i = omega arith in
             subst (λ k. IsReport g first.device taken.device first.offset old.collector.chunks (slice_index first.chunks.items k) first.role (get_or rest i x)) next
             (subst (λ rs. IsReport g first.device taken.device first.offset old.collector.chunks (slice_index first.chunks.items (taken.done + suc i)) first.role (get_or rs (suc i) x)) e (read.each (suc i) x (omega (arith, n, below))))
 
     -- of the report that was taken, and of the others
-    waits_on : {lost : ℕ} (first : Queue D L M) → IsReportTaken th old new taken taken' r rest → is_set old.copied.bytes r.chunk ≡ false → taken.reports ≡ r ∷ rest → HasRead g old.collector.chunks lost first taken
+    waits_on : {lost : ℕ} (first : Queue D L M) → IsReportTaken th old new taken taken' r rest → is_set old.copied.bytes r.chunk ≡ false → taken.reports.waiting ≡ r ∷ rest → HasRead g old.collector.chunks lost first taken
         → IsReport g first.device taken.device first.offset old.collector.chunks (slice_index first.chunks.items taken.done) first.role r → taken'.done ≡ taken.done + 1
         → (f : Fault) (w : IsOfWaiting old.collector.chunks taken f) (p : ℕ) → w.place ≡ p → IsOfTaken new first taken' f ⊎ IsOfWaiting new.collector.chunks taken' f
     waits_on first is none e read a done f w zero at =
-        let failed : is_failed r ≡ true = ap (λ rs. is_failed (get_or rs 0 r)) (sym e) ∙ ap (λ n. is_failed (get_or taken.reports n r)) (sym at) ∙ w.failed r in
+        let failed : is_failed r ≡ true = ap (λ rs. is_failed (get_or rs 0 r)) (sym e) ∙ ap (λ n. is_failed (get_or taken.reports.waiting n r)) (sym at) ∙ w.failed r in
         let here : taken.done + w.place ≡ taken.done = omega (arith, at) in
         inl (record {
           slot = taken.done;
@@ -264,16 +263,16 @@ module _ {D L M : Type 0} {g : Ghosts D} {th : Bool} where
           there = rw (same_chunks is, ← offset_kept read, ← chunks_kept read) (subst (λ n. IsReadOfChunk taken.offset old.collector.chunks (slice_index taken.chunks.items n) f) here w.there);
         })
     waits_on first is none e read a done f w (suc i) at =
-        let reports : taken'.reports ≡ rest = ap (λ (l : Queue D L M). l.reports) is.kept in
+        let reports : taken'.reports.waiting ≡ rest = ap (λ (l : Queue D L M). l.reports.waiting) is.kept in
         let offset : taken'.offset ≡ taken.offset = ap (λ (l : Queue D L M). l.offset) is.kept in
         let chunks : taken'.chunks ≡ taken.chunks = ap (λ (l : Queue D L M). l.chunks) is.kept in
-        let n : length taken.reports ≡ suc (length rest) = ap length e in
-        let long : length taken'.reports ≡ length rest = ap length reports in
+        let n : length taken.reports.waiting ≡ suc (length rest) = ap length e in
+        let long : length taken'.reports.waiting ≡ length rest = ap length reports in
         let here : taken.done + w.place ≡ taken.done + 1 + i = omega (arith, at) in
         inr (record {
           place = i;
           waits = (let b = w.waits in omega (arith, b, n, long, at));
-          failed = λ x. ap (λ rs. is_failed (get_or rs i x)) reports ∙ ap (λ rs. is_failed (get_or rs (suc i) x)) (sym e) ∙ ap (λ m. is_failed (get_or taken.reports m x)) (sym at) ∙ w.failed x;
+          failed = λ x. ap (λ rs. is_failed (get_or rs i x)) reports ∙ ap (λ rs. is_failed (get_or rs (suc i) x)) (sym e) ∙ ap (λ m. is_failed (get_or taken.reports.waiting m x)) (sym at) ∙ w.failed x;
           there = rw (same_chunks is, offset, chunks, done) (subst (λ m. IsReadOfChunk taken.offset old.collector.chunks (slice_index taken.chunks.items m) f) here w.there);
         })
 
@@ -281,7 +280,7 @@ module _ {D L M : Type 0} {g : Ghosts D} {th : Bool} where
     pub same_stays : (first : Queue D L M) → IsReportTaken th old new taken taken' r rest → Changes old new r.chunk → is_set old.copied.bytes r.chunk ≡ false
         → ((i j : ℕ) → i < length first.chunks.items → j < length first.chunks.items → slice_index first.chunks.items i ≡ slice_index first.chunks.items j → i ≡ j)
         → HasRoom old.target old.collector.offset old.collector.chunks → IsChunk old.collector.chunks r.chunk
-        → taken.reports ≡ r ∷ rest
+        → taken.reports.waiting ≡ r ∷ rest
         → IsUnderWay g th old first taken → IsUnderWay g th new first taken'
     same_stays first is out none apart room chunk e way =
         let (some, a) = first_waits r rest way e in
@@ -309,12 +308,12 @@ module _ {D L M : Type 0} {g : Ghosts D} {th : Bool} where
                     rw (same_chunks is, same_device) (subst (λ i. FailsInChunk g first.device taken.device first.offset old.collector.chunks (slice_index first.chunks.items i)) last
                     (a.failed_there (none_given r (failed_then (is_failed r) (sym (own_mark is none) ∙ ap (is_set new.copied.bytes) a.chunk_is ∙ ap (λ i. is_set new.copied.bytes (slice_index first.chunks.items i)) last ∙ unset)))))
               ];
-          only = λ fed. subst (λ x. EachNewFault (g.faults first.device) (g.faults x) (λ f. IsOfTaken new first taken' f ⊎ IsOfWaiting new.collector.chunks taken' f)) (sym same_device)
+          only = subst (λ x. EachNewFault (g.faults first.device) (g.faults x) (λ f. IsOfTaken new first taken' f ⊎ IsOfWaiting new.collector.chunks taken' f)) (sym same_device)
               (fails_weaker (g.faults first.device) (g.faults taken.device) (λ f. IsOfTaken old first taken f ⊎ IsOfWaiting old.collector.chunks taken f) (λ f. IsOfTaken new first taken' f ⊎ IsOfWaiting new.collector.chunks taken' f)
               (λ f h. elim h [
                 | inl t ↦ inl (record { slot = t.slot; taken = (let b = t.taken in omega (arith, b, done)); uncopied = other_mark is _ (other t.slot (let w = way.read.within in let b = t.taken in omega (arith, w, b)) (let b = t.taken in λ e. absurd (omega (arith, b, e)))) ∙ t.uncopied; there = rw (same_chunks is) t.there })
                 | inr w ↦ waits_on first is none e way.read a done f w w.place refl
-              ]) (way.only (sym (ap (λ (l : Queue D L M). l.starved) is.kept) ∙ fed)));
+              ]) way.only);
           waiting = λ j from below. has_neither (is_set new.collector.reported.bytes) (is_set old.collector.reported.bytes) r.chunk is.counted.reported _ (other j below (λ e. absurd (omega (arith, done)))) (way.waiting j (omega (arith, done)) below);
         }
       where

@@ -1,5 +1,6 @@
 -- The collector takes the reports of all queues.
-use Rattle.std.proofs.Common.{◌≡◌, ◌≢◌, ℕ, suc, ◌+◌, ◌-◌, ◌<◌, ◌∷◌, [], Bool, ◌⊎◌, inl, inr, List, length, set, slice_index, get_or, refl, ap, sym, ◌∙◌, arith, subst, length-set}
+use Rattle.std.specs.Prelude.{IsErr, OnErr}
+use Rattle.std.proofs.Common.{Err, Ok, Result, ◌≡◌, ◌≢◌, ℕ, suc, ◌+◌, ◌-◌, ◌<◌, ◌∷◌, [], Bool, ◌⊎◌, inl, inr, List, length, set, slice_index, get_or, refl, ap, sym, ◌∙◌, arith, subst, length-set}
 use Rattle.std.proofs.lemmas.List.{get_or_default, get_or-set_same, get_or-set_other}
 use Rattle.std.proofs.lemmas.Bool.{cases_lt}
 use Rattle.md_device.specs.declared.device.Device.{Ghosts}
@@ -46,7 +47,7 @@ module _ {D L M : Type 0} {g : Ghosts D} {th : Bool} {firsts queues : List (Queu
 
   -- a report was taken, of queue k
   taken_one : {new : Books} (k : ℕ) (queue queue' : Queue D L M) (r : ReportView) (rest : List ReportView) → IsPassing g th firsts queues start old → k < length queues → queue ≡ get_or queues k queue
-      → queue.reports ≡ r ∷ rest → IsReportTaken th old new queue queue' r rest → Changes old new r.chunk
+      → queue.reports.waiting ≡ r ∷ rest → IsReportTaken th old new queue queue' r rest → Changes old new r.chunk
       → IsPassing g th firsts (set queues k queue') start new
   taken_one {new = new} k queue queue' r rest p within is e taken out =
       let here : k < length firsts = omega (arith, p.as_many, within) in
@@ -75,11 +76,11 @@ module _ {D L M : Type 0} {g : Ghosts D} {th : Bool} {firsts queues : List (Queu
       }
 
   pub one_taken : {new : Books} (k : ℕ) (queue queue' : Queue D L M) → IsPassing g th firsts queues start old → k < length queues → queue ≡ get_or queues k queue
-      → AreReportsTaken th old new queue queue' queue.reports
+      → AreReportsTaken th old new queue queue' queue.reports.waiting
       → IsPassing g th firsts (set queues k queue') start new
-  one_taken {new = new} k queue queue' p within is reports_taken = by queue.reports refl reports_taken
+  one_taken {new = new} k queue queue' p within is reports_taken = by queue.reports.waiting refl reports_taken
     where
-      by : (o : List ReportView) → queue.reports ≡ o → AreReportsTaken th old new queue queue' o → IsPassing g th firsts (set queues k queue') start new
+      by : (o : List ReportView) → queue.reports.waiting ≡ o → AreReportsTaken th old new queue queue' o → IsPassing g th firsts (set queues k queue') start new
       by (r ∷ rest) e s = taken_one k queue queue' r rest p within is e s s.changes
       by [] e s =
           record {
@@ -96,19 +97,19 @@ module _ {D L M : Type 0} {g : Ghosts D} {th : Bool} {firsts queues : List (Queu
           }
 
 -- a queue before and after the report that waits first is taken
-pub goes_one : {D L M : Type 0} (th : Bool) (old new : Books) (queue queue' : Queue D L M) → AreReportsTaken th old new queue queue' queue.reports → Goes queue queue' × (length queue'.reports ≡ length queue.reports - 1)
-goes_one {D = D} {L = L} {M = M} th old new queue queue' is = by queue.reports refl is
+pub goes_one : {D L M : Type 0} (th : Bool) (old new : Books) (queue queue' : Queue D L M) → AreReportsTaken th old new queue queue' queue.reports.waiting → Goes queue queue' × (length queue'.reports.waiting ≡ length queue.reports.waiting - 1)
+goes_one {D = D} {L = L} {M = M} th old new queue queue' is = by queue.reports.waiting refl is
   where
-    by : (o : List ReportView) → queue.reports ≡ o → AreReportsTaken th old new queue queue' o → Goes queue queue' × (length queue'.reports ≡ length queue.reports - 1)
-    by [] e s = (rw s.1 (record { starved = refl; read = refl }), let n : length queue.reports ≡ 0 = ap length e in ap (λ (l : Queue D L M). length l.reports) s.1 ∙ omega (arith, n))
+    by : (o : List ReportView) → queue.reports.waiting ≡ o → AreReportsTaken th old new queue queue' o → Goes queue queue' × (length queue'.reports.waiting ≡ length queue.reports.waiting - 1)
+    by [] e s = (rw s.1 refl, let n : length queue.reports.waiting ≡ 0 = ap length e in ap (λ (l : Queue D L M). length l.reports.waiting) s.1 ∙ omega (arith, n))
     by (r ∷ rest) e s =
-        let one : length queue'.reports ≡ length rest = ap (λ (l : Queue D L M). length l.reports) s.kept in
-        let n : length queue.reports ≡ suc (length rest) = ap length e in
+        let one : length queue'.reports.waiting ≡ length rest = ap (λ (l : Queue D L M). length l.reports.waiting) s.kept in
+        let n : length queue.reports.waiting ≡ suc (length rest) = ap length e in
         let done : queue'.done ≡ queue.done + 1 = ap (λ (l : Queue D L M). l.done) s.kept in
-        (record { starved = ap (λ (l : Queue D L M). l.starved) s.kept; read = omega (arith, one, n, done) }, omega (arith, one, n))
+        (omega (arith, one, n, done), omega (arith, one, n))
 
 pub goes_on : {D L M : Type 0} (a b c : Queue D L M) → Goes a b → Goes b c → Goes a c
-goes_on a b c first second = record { starved = second.starved ∙ first.starved; read = second.read ∙ first.read }
+goes_on a b c first second = second ∙ first
 
 pub devices_then : {D L M : Type 0} (xs ys zs : List (Queue D L M)) → SameDevices xs ys → SameDevices ys zs → SameDevices xs zs
 devices_then xs ys zs first second = record {
@@ -135,3 +136,7 @@ taken_then th a b c xs ys zs many first second = record {
 pub none_left : {X : Type 0} (xs : List X) → length xs ≡ 0 → xs ≡ []
 none_left [] none = refl
 none_left (x ∷ xs) none = absurd (omega (arith, none))
+
+pub on_err : {A E P : Type 0} (r : Result A E) → IsErr r → P → OnErr r P
+on_err (Ok x) is p = cc
+on_err (Err e) is p = p

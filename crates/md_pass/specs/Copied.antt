@@ -1,5 +1,5 @@
 -- What a pass has done by the time that it answers. Which slots failed is told by the marks of the chunks that were copied.
-use Rattle.std.specs.Prelude.{◌≡◌, ◌⊎◌, ℕ, ◌+◌, ◌≤◌, Bool, true, false, not, List, length, filter, count_by, slice_index_or, All}
+use Rattle.std.specs.Prelude.{◌≡◌, ℕ, ◌+◌, ◌≤◌, Bool, true, false, not, List, length, filter, count_by, slice_index_or, All}
 use Rattle.md_cert.specs.declared.slots.Slot.{Slot}
 use Rattle.md_device.specs.declared.device.Device.{Ghosts}
 use Rattle.md_device.specs.declared.fault_list.Fault.{Fault}
@@ -100,17 +100,10 @@ module _ {D : Type 0} (g : Ghosts D) where
     pub there : FailThere copy new.copied sources old.devices new.devices
     pub only_there : FailOnlyThere copy new.copied sources old.devices new.devices
 
-  -- Memory was refused, before anything was done or while a chunk of the plan was not copied. No call of the target's device failed, and of the
-  -- sources that have slots none but reads of chunks that were not copied.
-  pub record LacksMemory (copy : Copying) (sources : List Source) (old new : PassState D) : Type 0 where
-    pub copied : HasCopied copy sources old new
-    pub left : (new ≡ old) ⊎ ((c : ℕ) × (has_chunk copy.slots c ≡ true) × (is_set new.copied.bytes c ≡ false))
-    pub unfailing : g.faults new.target ≡ g.faults old.target
-    pub only_there : FailOnlyThere copy new.copied sources old.devices new.devices
-
-  -- The pass was broken off. Where the target could not be written, nothing is said of what was copied.
-  abbrev pub BreaksOff : Copying → List Source → PassState D → PassState D → PassFault → Type 0
-  BreaksOff copy sources old new = OnFault (LacksMemory copy sources old new) (CountsFailure g old.target new.target)
+  -- Memory was refused before anything was done. Or the pass was broken off, since the target could not be written; then nothing is said of what
+  -- was copied.
+  abbrev pub BreaksOff : PassState D → PassState D → PassFault → Type 0
+  BreaksOff old new = OnFault (new ≡ old) (CountsFailure g old.target new.target)
 
   -- whatever the answer is: the devices were only read, and of the target no more than chunks of the plan was written
   pub record WritesPlanned (copy : Copying) (old new : PassState D) : Type 0 where

@@ -11,6 +11,7 @@ use Rattle.md_collect.specs.Collecting.{copying}
 use Rattle.md_collect.specs.declared.workers.queue.Queue.{Queue}
 use Rattle.md_pass.specs.Beside.{SameBesideCopied, has_chunk}
 use Rattle.md_collect.specs.Workers.Queues.{HasRead, IsOfWaiting, OnlyRead, slots_read}
+use Rattle.md_collect.specs.Workers.Waiting.{HasTurnMemory}
 use Rattle.md_pass.specs.TakingReports.{Books}
 
 -- The chunk was not copied.
@@ -47,13 +48,6 @@ pub record IsOfTaken {D L M : Type 0} (now : Books) (first queue : Queue D L M) 
   pub uncopied : is_set now.copied.bytes (slice_index first.chunks.items slot) ≡ false
   pub there : IsReadOfChunk first.offset now.collector.chunks (slice_index first.chunks.items slot) f
 
--- a read of nothing but bytes of a slot's chunk, which was not copied
-pub record IsOfUncopied {D L M : Type 0} (now : Books) (first : Queue D L M) (f : Fault) : Type 0 where
-  pub slot : ℕ
-  pub within : slot < length first.chunks.items
-  pub uncopied : is_set now.copied.bytes (slice_index first.chunks.items slot) ≡ false
-  pub there : IsReadOfChunk first.offset now.collector.chunks (slice_index first.chunks.items slot) f
-
 module _ {D L M : Type 0} (g : Ghosts D) where
   -- a queue as a pass begins
   pub record IsAtStart (first : Books) (queue : Queue D L M) : Type 0 where
@@ -63,8 +57,8 @@ module _ {D L M : Type 0} (g : Ghosts D) where
     pub unreported : (j : ℕ) → j < length queue.chunks.items → is_set first.collector.reported.bytes (slice_index queue.chunks.items j) ≡ false
     pub uncopied : (j : ℕ) → j < length queue.chunks.items → is_set first.copied.bytes (slice_index queue.chunks.items j) ≡ false
     pub none_done : queue.done ≡ 0
-    pub none_waits : queue.reports ≡ []
-    pub fed : queue.starved ≡ false
+    pub none_waits : queue.reports.waiting ≡ []
+    pub memory : HasTurnMemory first.collector.chunks (length queue.chunks.items) queue.reports
     pub left : queue.share.left ≡ length queue.chunks.items
     pub none_failed : queue.share.failed ≡ 0
 
@@ -80,7 +74,7 @@ module _ {D L M : Type 0} (g : Ghosts D) where
     pub landed : (j : ℕ) → j < queue.done → HasLanded honest now first (slice_index first.chunks.items j)
     pub failed : (j : ℕ) → j < queue.done → is_set now.copied.bytes (slice_index first.chunks.items j) ≡ false
         → FailsInChunk g first.device queue.device first.offset now.collector.chunks (slice_index first.chunks.items j)
-    pub only : queue.starved ≡ false → EachNewFault (g.faults first.device) (g.faults queue.device) (λ f. IsOfTaken now first queue f ⊎ IsOfWaiting now.collector.chunks queue f)
+    pub only : EachNewFault (g.faults first.device) (g.faults queue.device) (λ f. IsOfTaken now first queue f ⊎ IsOfWaiting now.collector.chunks queue f)
     pub waiting : (j : ℕ) → queue.done ≤ j → j < length first.chunks.items → is_set now.collector.reported.bytes (slice_index first.chunks.items j) ≡ false
 
   -- a pass as it began, and now
@@ -93,25 +87,14 @@ module _ {D L M : Type 0} (g : Ghosts D) where
     pub each : (k : ℕ) (d : Queue D L M) → k < length firsts → IsUnderWay honest now (slice_index_or firsts k d) (slice_index_or queues k d)
     pub books : HasBooks first now
 
-  -- Memory was refused while a slot was left. No call of a source failed but reads of chunks that were not copied.
-  pub record LackMemory (now : Books) (firsts queues : List (Queue D L M)) : Type 0 where
-    pub at : ℕ
-    pub queue : at < length firsts
-    pub slot : ℕ
-    pub within : (d : Queue D L M) → slot < length (slice_index_or firsts at d).chunks.items
-    pub uncopied : (d : Queue D L M) → is_set now.copied.bytes (slice_index (slice_index_or firsts at d).chunks.items slot) ≡ false
-    pub only : (k : ℕ) (d : Queue D L M) → k < length firsts
-        → EachNewFault (g.faults (slice_index_or firsts k d).device) (g.faults (slice_index_or queues k d).device) (IsOfUncopied now (slice_index_or firsts k d))
-
   -- queues whose sources were only read
   pub record QueuesOnlyRead (firsts queues : List (Queue D L M)) : Type 0 where
     pub as_many : length queues ≡ length firsts
     pub each : (k : ℕ) (d : Queue D L M) → k < length firsts → OnlyRead g (slice_index_or firsts k d).device (slice_index_or queues k d).device
 
 -- a queue before and after some of its reports were taken
-pub record Goes {D L M : Type 0} (old new : Queue D L M) : Type 0 where
-  pub starved : new.starved ≡ old.starved
-  pub read : slots_read new ≡ slots_read old
+abbrev pub Goes : {D L M : Type 0} → Queue D L M → Queue D L M → Type 0
+Goes old new = slots_read new ≡ slots_read old
 
 -- queues whose devices nobody used
 pub record SameDevices {D L M : Type 0} (olds news : List (Queue D L M)) : Type 0 where

@@ -7,6 +7,7 @@ use Rattle.md_device.specs.declared.device.Device.{Ghosts}
 use Rattle.md_bitmap.specs.declared.chunks.Chunks.{Chunks}
 use Rattle.md_collect.specs.Places.{HasRoom}
 use Rattle.md_collect.specs.Collecting.{ArePlanned, IsUnreported, copying}
+use Rattle.md_collect.specs.Workers.Waiting.{HasTurnMemory}
 use Rattle.md_pass.specs.declared.preparing.Preparation.{Preparation}
 use Rattle.md_pass.specs.declared.source_reading.Reading.{Reading}
 use Rattle.md_pass.specs.declared.source.Source.{Source}
@@ -19,12 +20,13 @@ use Rattle.md_pass.specs.Sources.{MayRead, copy_of}
 abbrev pub sources_of : Preparation → List Source
 sources_of p = map (λ (r : Reading). r.source) p.readings.items
 
--- A collector that has no report yet, the chunks that each source reads, and the places at which the sources' devices leave, one after another.
+-- A collector that has no report yet, the chunks that each source reads with memory for their reports, and the places at which the sources' devices leave, one after another.
 pub record IsOrdered (p : Preparation) : Type 0 where
   pub fresh : IsUnreported p.collector
   pub chunks : p.chunks ≡ p.collector.chunks
   pub slots : length p.collector.slots ≡ p.slots
   pub orders : All (λ r. IsOrderOf p.collector.slots r.source.role r.chunks.items) p.readings.items
+  pub memory : All (λ r. HasTurnMemory p.collector.chunks (length r.chunks.items) r.reports) p.readings.items
   pub places : AreInTurn (map (λ (r : Reading). r.source.place) p.readings.items) p.places.items
 
 -- A preparation of this plan, for those of these sources that have a slot.

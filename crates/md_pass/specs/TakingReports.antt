@@ -26,9 +26,9 @@ pub record IsMarkedIfDelivered (delivered : Bool) (chunk : ℕ) (old new : Bitma
 module _ {D L M : Type 0} where
   -- the collector will take the report that waits first
   pub record IsAllowed (collector : CollectorView) (copied : Bitmap) (queue : Queue D L M) : Type 0 where
-    pub counts : (r : ReportView) (rest : List ReportView) → queue.reports ≡ r ∷ rest → report_refusal collector r ≡ None
-    pub planned : (r : ReportView) (rest : List ReportView) → queue.reports ≡ r ∷ rest → has_chunk collector.slots r.chunk ≡ true
-    pub chunk : (r : ReportView) (rest : List ReportView) → queue.reports ≡ r ∷ rest → r.chunk < copied.chunks
+    pub counts : (r : ReportView) (rest : List ReportView) → queue.reports.waiting ≡ r ∷ rest → report_refusal collector r ≡ None
+    pub planned : (r : ReportView) (rest : List ReportView) → queue.reports.waiting ≡ r ∷ rest → has_chunk collector.slots r.chunk ≡ true
+    pub chunk : (r : ReportView) (rest : List ReportView) → queue.reports.waiting ≡ r ∷ rest → r.chunk < copied.chunks
     pub within : slots_read queue ≤ length queue.chunks.items
 
   -- It was taken. The bytes of one that was delivered stand on the target, and its chunk is marked.
@@ -37,7 +37,7 @@ module _ {D L M : Type 0} where
     pub marked : IsMarkedIfDelivered (not (is_failed r)) r.chunk old.copied new.copied
     pub changes : ChangesChunk old.collector r.chunk old.target new.target
     pub unwritten : is_failed r ≡ true → new.target ≡ old.target
-    pub kept : queue' ≡ record queue { done = queue.done + 1; reports = rest }
+    pub kept : queue' ≡ record queue { done = queue.done + 1; reports = record queue.reports { waiting = rest } }
     pub holds : (bytes : List ℕ) → r.bytes ≡ Some bytes → honest ≡ true → new.target ≡ with_chunk old.target old.collector.offset old.collector.chunks r.chunk bytes
 
   -- a queue and the books before and after the first of these reports is taken

@@ -45,10 +45,9 @@ pub struct BoardCounts {
 /// `copied` gets a mark for each chunk that was copied. After `Ok` a slot whose chunk has no mark failed: its
 /// source could not be read there, and the target has in that chunk what it had. The board counts them.
 ///
-/// `NoMemory` says that a worker, or the pass itself, got no memory. `copied` tells then what was copied until
-/// then. No write of the target failed by then, and of the sources no call but reads of chunks that were not
-/// copied. A write that fails ends the pass with `TargetFault`: by then later chunks of the turn may have been
-/// read, the target may have any bytes in the chunks of the plan, and nothing is said of `copied`.
+/// `NoMemory` says that the pass got no memory; nothing was read then. A write that fails ends the pass with
+/// `TargetFault`: by then later chunks of the turn may have been read, the target may have any bytes in the chunks
+/// of the plan, and nothing is said of `copied`.
 pub fn copy_pass<D: Device + Drop + Send, G: Gate + Sync, R: Threads + Wait + Sync>(
     rt: &R,
     alloc: Global,
@@ -70,7 +69,7 @@ pub fn copy_pass<D: Device + Drop + Send, G: Gate + Sync, R: Threads + Wait + Sy
     ensures gives { MatchResult result
         (EndsPass D.Device (copy_of plan.now.slots chunks offset) sources.now
         (pass_state devices.old.items target.old copied.old) (pass_state devices.new.items target.new copied.new))
-        (BreaksOff D.Device (copy_of plan.now.slots chunks offset) sources.now
+        (BreaksOff D.Device
         (pass_state devices.old.items target.old copied.old) (pass_state devices.new.items target.new copied.new)) }
     ensures writes { WritesPlanned D.Device (copy_of plan.now.slots chunks offset)
         (pass_state devices.old.items target.old copied.old) (pass_state devices.new.items target.new copied.new) }
@@ -111,7 +110,7 @@ fn copy_prepared<
     ensures gives { MatchResult result
         (EndsPass D.Device (copying prepared.collector) (sources_of prepared)
         (pass_state devices.old.items target.old copied.old) (pass_state devices.new.items target.new copied.new))
-        (BreaksOff D.Device (copying prepared.collector) (sources_of prepared)
+        (BreaksOff D.Device
         (pass_state devices.old.items target.old copied.old) (pass_state devices.new.items target.new copied.new)) }
     ensures writes { WritesPlanned D.Device (copying prepared.collector)
         (pass_state devices.old.items target.old copied.old) (pass_state devices.new.items target.new copied.new) }
@@ -133,7 +132,6 @@ fn copy_prepared<
     let rest = take_out(devices, places, &mut readings, &mut queues, share);
     let result = run_turns(
         rt,
-        alloc,
         gate,
         &board,
         turns,

@@ -25,22 +25,22 @@ pub(crate) fn take_report<D: Device, L: Ledger, M: Ledger>(
 
     ensures reports_taken { OnOk result (AreReportsTaken (D.honest target.old)
         (books collector.old (D.content target.old) copied.old)
-        (books collector.new (D.content target.new) copied.new) queue.old queue.new queue.old.reports) }
+        (books collector.new (D.content target.new) copied.new) queue.old queue.new queue.old.reports.waiting) }
     ensures failed { OnErr result (CountsFailure D.Device target.old target.new) }
     ensures none_failed { OnOk result (D.faults target.new ≡ D.faults target.old) }
     ensures writes { WritesBeside D.Device collector.old collector.new target.old target.new }
     ensures device { queue.new.device ≡ queue.old.device }
 {
-    let Some(report) = queue.reports.pop() else {
+    let Some(report) = queue.reports.first() else {
         return Ok(());
     };
-    if collector.take_ref(target, &report).is_err() {
+    if collector.take_ref(target, report).is_err() {
         return Err(WriteFault);
     }
     let chunk = report.chunk();
     let failed = report.is_failed();
     queue.done += 1;
-    queue.reports.keep(report);
+    queue.reports.retire();
     if failed {
         return Ok(());
     }
@@ -63,7 +63,7 @@ fn take_round<D: Device, L: Ledger, M: Ledger>(
         (books collector.old (D.content target.old) copied.old)
         (books collector.new (D.content target.new) copied.new) queues.old.items queues.new.items) }
     ensures taken { OnOk result ((k : ℕ) (d : _) → k < length queues.old.items
-        → length (slice_index_or queues.new.items k d).reports ≡ length (slice_index_or queues.old.items k d).reports - 1) }
+        → length (slice_index_or queues.new.items k d).reports.waiting ≡ length (slice_index_or queues.old.items k d).reports.waiting - 1) }
     ensures failed { OnErr result (CountsFailure D.Device target.old target.new) }
     ensures none_failed { OnOk result (D.faults target.new ≡ D.faults target.old) }
     ensures writes { WritesBeside D.Device collector.old collector.new target.old target.new }
@@ -90,7 +90,7 @@ pub(crate) fn take_reports<D: Device, L: Ledger, M: Ledger>(
     ensures reports_taken { OnOk result (HaveTakenReports D.Device (D.honest target.old)
         (books collector.old (D.content target.old) copied.old)
         (books collector.new (D.content target.new) copied.new) queues.old.items queues.new.items) }
-    ensures taken { OnOk result (All (λ queue. queue.reports ≡ []) queues.new.items) }
+    ensures taken { OnOk result (All (λ queue. queue.reports.waiting ≡ []) queues.new.items) }
     ensures failed { OnErr result (CountsFailure D.Device target.old target.new) }
     ensures none_failed { OnOk result (D.faults target.new ≡ D.faults target.old) }
     ensures writes { WritesBeside D.Device collector.old collector.new target.old target.new }
@@ -104,7 +104,7 @@ pub(crate) fn take_reports<D: Device, L: Ledger, M: Ledger>(
 
 // How many reports wait in the queue that has most of them.
 fn most_waiting<D, L: Ledger, M: Ledger>(queues: &[Queue<D, L, M>]) -> usize
-    ensures { All (λ queue. length queue.reports ≤ result) queues.now }
+    ensures { All (λ queue. length queue.reports.waiting ≤ result) queues.now }
 {
     let mut most = 0;
     for queue in queues {

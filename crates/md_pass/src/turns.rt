@@ -1,27 +1,24 @@
 // All turns of a pass.
-ghost use Rattle.std.specs.Prelude.{◌≡◌, ◌+◌, ◌<◌, ◌≤◌, length, true, false, [], ℕ, IfErr, OnOk, slice_index_or};
-ghost use Rattle.std.specs.List.{All, list_any};
+ghost use Rattle.std.specs.Prelude.{◌≡◌, ◌+◌, ◌<◌, ◌≤◌, length, true, [], ℕ, OnErr, OnOk, slice_index_or};
+ghost use Rattle.std.specs.List.{All};
 ghost use Rattle.md_collect.specs.Reading.{CountsFailure};
 ghost use Rattle.md_collect.specs.Collecting.{copying};
 ghost use Rattle.md_collect.specs.Workers.Gates.{IsToldOfReads};
 ghost use Rattle.md_pass.specs.Beside.{KeepsBeside};
-ghost use Rattle.md_pass.specs.Copied.{OnFault};
 ghost use Rattle.md_pass.specs.TakingReports.{books};
-ghost use Rattle.md_pass.specs.Passes.{IsPassing, LackMemory, QueuesOnlyRead};
+ghost use Rattle.md_pass.specs.Passes.{IsPassing, QueuesOnlyRead};
 
-use crate::fault::PassFault;
 use crate::take_report::take_reports;
 use md_bitmap::{Chunks, Marks};
 use md_collect::{Board, Collector, Gate, Queue, turn};
-use md_device::Device;
-use std::alloc::Global;
+use md_device::{Device, WriteFault};
 use std::sync::ledger::Ledger;
 use std::sync::{Mutex, Wait};
 use std::thread::Threads;
 
 /// Goes turn by turn until each queue has read all of its chunks: the workers read the next chunks of each
 /// queue, at least one, and then the collector takes their reports. So as many turns as a queue has chunks
-/// are enough.
+/// are enough. It takes no memory, so only a failed write of the target ends it before.
 #[tactic(auto, using(md_collect::proofs::WorkerLemmas::Gates::told_none))]
 pub(crate) fn run_turns<
     D: Device + Send,
@@ -31,7 +28,6 @@ pub(crate) fn run_turns<
     R: Threads + Wait + Sync,
 >(
     rt: &R,
-    alloc: Global,
     gate: &G,
     board: &Mutex<Board<L, M>>,
     turns: usize,
@@ -40,7 +36,7 @@ pub(crate) fn run_turns<
     target: &mut D,
     copied: &mut Marks,
     queues: &mut Vec<Queue<D, L, M>>,
-) -> Result<(), PassFault>
+) -> Result<(), WriteFault>
     requires chunks { chunks ≡ collector.old.chunks }
     requires turns { All (λ queue. length queue.chunks.items ≤ turns) queues.old.items }
     requires fresh { IsPassing D.Device (D.honest target.old) queues.old.items queues.old.items
@@ -48,15 +44,9 @@ pub(crate) fn run_turns<
 
     ensures passed { OnOk result (IsPassing D.Device (D.honest target.old) queues.old.items queues.new.items
         (books collector.old (D.content target.old) copied.old) (books collector.new (D.content target.new) copied.new)) }
-    ensures done { OnOk result (All (λ queue. (queue.done ≡ length queue.chunks.items) × (queue.reports ≡ []))
+    ensures done { OnOk result (All (λ queue. (queue.done ≡ length queue.chunks.items) × (queue.reports.waiting ≡ []))
         queues.new.items) }
-    ensures fed { OnOk result (All (λ queue. queue.starved ≡ false) queues.new.items) }
-    ensures broken { IfErr result (OnFault
-        ((IsPassing D.Device (D.honest target.old) queues.old.items queues.new.items
-        (books collector.old (D.content target.old) copied.old) (books collector.new (D.content target.new) copied.new))
-        × LackMemory D.Device (books collector.new (D.content target.new) copied.new) queues.old.items queues.new.items
-        × (D.faults target.new ≡ D.faults target.old))
-        (CountsFailure D.Device target.old target.new)) }
+    ensures failed { OnErr result (CountsFailure D.Device target.old target.new) }
     ensures told { OnOk result ((k : ℕ) (d : _) → k < length queues.old.items
         → IsToldOfReads G.Gate gate.now (slice_index_or queues.old.items k d) (slice_index_or queues.new.items k d)) }
 
@@ -67,20 +57,10 @@ pub(crate) fn run_turns<
         if are_done(queues.as_slice()) {
             return Ok(());
         }
-        turn(rt, alloc, gate, board, chunks, queues);
-        if is_starved(queues.as_slice()) {
-            return Err(PassFault::NoMemory);
-        }
+        turn(rt, gate, board, chunks, queues);
         take_reports(collector, target, copied, queues)?;
     }
     Ok(())
-}
-
-// Whether memory was refused to a worker.
-fn is_starved<D, L: Ledger, M: Ledger>(queues: &[Queue<D, L, M>]) -> bool
-    ensures { result ≡ list_any (λ queue. queue.starved) queues.now }
-{
-    queues.iter().any(|queue| queue.starved)
 }
 
 // Whether the collector has taken all reports of each queue.

@@ -1,5 +1,5 @@
 -- What a gate is told of, over several calls.
-use Rattle.std.proofs.Common.{◌≡◌, ◌+◌, ◌<◌, ◌≤◌, ◌++◌, ◌∷◌, ◌∙◌, [], ap, arith, inl, inr, length, length-append, ℕ, slice_index, subst}
+use Rattle.std.proofs.Common.{◌≡◌, ◌+◌, ◌++◌, ◌∷◌, ◌∙◌, [], ap, arith, inl, inr, length, length-append, slice_index, subst}
 use Rattle.std.proofs.lemmas.Bool.{cases_lt}
 use Rattle.md_collect.specs.declared.workers.gate.Gate.{Ghosts}
 use Rattle.md_collect.specs.Reports.{ReportView}
@@ -23,11 +23,11 @@ told_then t gate first queue new role chunks before after j from below =
     ]
 
 -- of the next slot, which was read
-pub told_next : {G D L M : Type 0} (t : Ghosts G) (gate : G) (queue new : Queue D L M) (report : ReportView) → new.reports ≡ queue.reports ++ report ∷ [] → new.done ≡ queue.done
+pub told_next : {G D L M : Type 0} (t : Ghosts G) (gate : G) (queue new : Queue D L M) (report : ReportView) → new.reports.waiting ≡ queue.reports.waiting ++ report ∷ [] → new.done ≡ queue.done
     → IsTold t gate queue.role (slice_index queue.chunks.items (slots_read queue)) → IsToldOfReads t gate queue new
 told_next t gate queue new report reports done is j from below =
-    let n = length-append queue.reports (report ∷ []) in
-    let one : length new.reports ≡ length queue.reports + 1 = ap length reports ∙ omega (arith, n) in
+    let n = length-append queue.reports.waiting (report ∷ []) in
+    let one : length new.reports.waiting ≡ length queue.reports.waiting + 1 = ap length reports ∙ omega (arith, n) in
     let here : slots_read queue ≡ j = omega (arith, one, done, from, below) in
     subst (λ i. IsTold t gate queue.role (slice_index queue.chunks.items i)) here is
 

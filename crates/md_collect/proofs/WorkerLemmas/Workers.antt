@@ -1,5 +1,5 @@
 -- What a worker leaves of its queue.
-use Rattle.std.proofs.Common.{◌≡◌, ℕ, ◌+◌, ◌<◌, ◌≤◌, ◌⊎◌, ◌++◌, ◌∷◌, [], Bool, true, false, inl, inr, List, length, Option, Some, None, is_none, count_by, slice_index, get_or, not, cond, refl, ap, sym, ◌∙◌, arith, subst, length-append}
+use Rattle.std.proofs.Common.{◌≡◌, ℕ, ◌+◌, ◌<◌, ◌≤◌, ◌++◌, ◌∷◌, [], Bool, true, false, inl, inr, List, length, Option, Some, None, is_none, count_by, slice_index, get_or, not, cond, refl, ap, sym, ◌∙◌, arith, subst, length-append}
 use Rattle.std.specs.List.{slice_get}
 use Rattle.std.proofs.lemmas.Bool.{cases_lt}
 use Rattle.std.proofs.lemmas.Option.{slice_get_cases}
@@ -16,7 +16,8 @@ use Rattle.md_collect.specs.Reading.{IsReadOfChunk}
 use Rattle.md_collect.specs.Reports.{ReportView}
 use Rattle.md_collect.specs.declared.workers.queue.Queue.{Queue}
 use Rattle.md_collect.specs.Workers.Tally.{Tally}
-use Rattle.md_collect.specs.Workers.Queues.{ReadsNextSlot, HasRead, IsSlotRead, IsReadyForTurn, IsOfNext, IsOfWaiting, IsReport, IsUnread, MayReadOn, OnlyRead, is_failed, slots_read}
+use Rattle.md_collect.specs.Workers.Queues.{ReadsNextSlot, HasRead, IsSlotRead, IsReadyForTurn, IsOfWaiting, IsReport, MayReadOn, OnlyRead, is_failed, slots_read}
+use Rattle.md_collect.specs.Workers.Waiting.{HasTurnMemory}
 use Rattle.md_collect.proofs.WorkerLemmas.OnlyReads.{Reads, not_read, read_then}
 
 pub some_at : (xs : List ℕ) (i x : ℕ) → slice_get xs i ≡ Some x → (i < length xs) × (x ≡ slice_index xs i)
@@ -79,6 +80,12 @@ module _ {D L M : Type 0} {g : Ghosts D} {chunks : Chunks} where
   pub offset_kept : {first queue : Queue D L M} {lost : ℕ} → HasRead g chunks lost first queue → queue.offset ≡ first.offset
   offset_kept read = ap (λ (l : Queue D L M). l.offset) read.kept
 
+  -- nor the memory for reports
+  memory_kept : {first queue : Queue D L M} {lost : ℕ} → HasRead g chunks lost first queue → HasTurnMemory chunks (length first.chunks.items) first.reports → HasTurnMemory chunks (length first.chunks.items) queue.reports
+  memory_kept {first = first} {queue = queue} read memory =
+      let same : queue.reports ≡ record first.reports { waiting = queue.reports.waiting } = ap (λ (l : Queue D L M). l.reports) read.kept in
+      subst (HasTurnMemory chunks (length first.chunks.items)) (sym same) (record { room = memory.room; long = memory.long })
+
   -- no report waits
   pub none_read : (queue : Queue D L M) → IsReadyForTurn g chunks queue → HasRead g chunks 0 queue queue
   none_read queue ready = record {
@@ -87,17 +94,10 @@ module _ {D L M : Type 0} {g : Ghosts D} {chunks : Chunks} where
     within = ready.goes.within;
     each = λ i r below. absurd (let n = ap length ready.none_waits in omega (arith, n, below));
     left = ready.goes.left;
-    failed = let n : count_by is_failed queue.reports ≡ 0 = ap (count_by is_failed) ready.none_waits in omega (arith, n);
+    failed = let n : count_by is_failed queue.reports.waiting ≡ 0 = ap (count_by is_failed) ready.none_waits in omega (arith, n);
     risen = λ h. omega arith;
     parts = refl;
   }
-
-  -- what was said of memory before does not matter
-  pub ready_anew : (queue : Queue D L M) → IsReadyForTurn g chunks queue → IsReadyForTurn g chunks (record queue { starved = false })
-  ready_anew queue ready = record { goes = record { room = ready.goes.room; chunk = ready.goes.chunk; within = ready.goes.within; left = ready.goes.left }; none_waits = ready.none_waits }
-
-  pub read_anew : (first queue : Queue D L M) → HasRead g chunks 0 (record first { starved = false }) queue → HasRead g chunks 0 first queue
-  read_anew first queue read = record { kept = read.kept; only_read = read.only_read; within = read.within; each = read.each; left = read.left; failed = read.failed; risen = read.risen; parts = read.parts }
 
   -- the next slot may be read too
   pub may_go_on : {lost : ℕ} (first queue : Queue D L M) → MayReadOn g chunks first → HasRead g chunks lost first queue → MayReadOn g chunks queue
@@ -108,22 +108,22 @@ module _ {D L M : Type 0} {g : Ghosts D} {chunks : Chunks} where
         chunk = rw same may.chunk;
         within = rw same read.within;
         left = rw same read.left;
+        memory = rw same (memory_kept read may.memory);
       }
 
-  one_more : (first queue new : Queue D L M) → HasRead g chunks 0 first queue → new.done ≡ queue.done → OnlyRead g queue.device new.device → IsSlotRead g chunks queue new
-      → new ≡ record queue { device = new.device; share = new.share; reports = new.reports; starved = new.starved } → HasRead g chunks 0 first new
-  one_more first queue new read done later is kept =
+  one_more : (first queue new : Queue D L M) → HasRead g chunks 0 first queue → new.done ≡ queue.done → OnlyRead g queue.device new.device → IsSlotRead g chunks queue new → HasRead g chunks 0 first new
+  one_more first queue new read done later is =
       let same : queue.chunks ≡ first.chunks = chunks_kept read in
-      let n = length-append queue.reports (is.report ∷ []) in
-      let one : length new.reports ≡ length queue.reports + 1 = ap length is.reports ∙ omega (arith, n) in
+      let n = length-append queue.reports.waiting (is.report ∷ []) in
+      let one : length new.reports.waiting ≡ length queue.reports.waiting + 1 = ap length is.reports ∙ omega (arith, n) in
       let below : slots_read queue < length first.chunks.items = subst (λ (v : _). slots_read queue < length v.items) same is.within in
       record {
-        kept = kept ∙ ap (λ (l : Queue D L M). record l { device = new.device; share = new.share; reports = new.reports; starved = new.starved }) read.kept ∙ rw done refl;
+        kept = is.kept ∙ ap (λ (l : Queue D L M). record l { device = new.device; share = new.share; reports = record l.reports { waiting = new.reports.waiting } }) read.kept ∙ rw done refl;
         only_read = read_then read.only_read later;
         within = omega (arith, one, done, below);
-        each = rw (is.reports, done) (pushed Has queue.reports is.report before last);
+        each = rw (is.reports, done) (pushed Has queue.reports.waiting is.report before last);
         left = ap (λ (t : Tally). t.left) is.share ∙ (let e = read.left in omega (arith, one, done));
-        failed = ap (λ (t : Tally). t.failed) is.share ∙ (let e = read.failed in let b = failed_or_not (is_failed is.report) in let more = sum_by_push (λ (r : ReportView). cond (is_failed r) 1 0) queue.reports is.report in omega (arith, e, b, more)) ∙ ap (λ rs. first.share.failed + (0 + count_by is_failed rs)) (sym is.reports);
+        failed = ap (λ (t : Tally). t.failed) is.share ∙ (let e = read.failed in let b = failed_or_not (is_failed is.report) in let more = sum_by_push (λ (r : ReportView). cond (is_failed r) 1 0) queue.reports.waiting is.report in omega (arith, e, b, more)) ∙ ap (λ rs. first.share.failed + (0 + count_by is_failed rs)) (sym is.reports);
         risen = λ h.
             let before = read.risen h in
             let since = rises (is_failed is.report) refl (read.only_read.honest_kept ∙ h) in
@@ -135,117 +135,76 @@ module _ {D L M : Type 0} {g : Ghosts D} {chunks : Chunks} where
       Has : ℕ → ReportView → Type 0
       Has i r = IsReport g first.device new.device first.offset chunks (slice_index first.chunks.items (queue.done + i)) first.role r
 
-      before : (i : ℕ) (r : ReportView) → i < length queue.reports → Has i (get_or queue.reports i r)
+      before : (i : ℕ) (r : ReportView) → i < length queue.reports.waiting → Has i (get_or queue.reports.waiting i r)
       before i r below = report_stays (read.each i r below) later
 
       rises : (b : Bool) → is_failed is.report ≡ b → g.honest queue.device ≡ true → g.failures queue.device + cond (not b) 0 1 ≤ g.failures new.device
       rises true e h = let up = is.is.failed (none_given is.report e) h in omega (arith, up)
       rises false e h = let up = later.counted in omega (arith, up)
 
-      last : Has (length queue.reports) is.report
+      last : Has (length queue.reports.waiting) is.report
       last = rw (← chunks_kept read, ← offset_kept read, ← role_kept read) (report_since read.only_read is.is)
-
-  none_more : (first queue new : Queue D L M) → HasRead g chunks 0 first queue → new.done ≡ queue.done → OnlyRead g queue.device new.device → IsUnread g chunks queue new
-      → new ≡ record queue { device = new.device; share = new.share; reports = new.reports; starved = new.starved } → HasRead g chunks 0 first new
-  none_more first queue new read done later is kept = record {
-    kept = kept ∙ ap (λ (l : Queue D L M). record l { device = new.device; share = new.share; reports = new.reports; starved = new.starved }) read.kept ∙ rw done refl;
-    only_read = read_then read.only_read later;
-    within = rw (done, is.reports) read.within;
-    each = rw (done, is.reports) (λ i r below. report_stays (read.each i r below) later);
-    left = rw (is.share, done, is.reports) read.left;
-    failed = rw (is.share, is.reports) read.failed;
-    risen = λ h. let before = read.risen h in let since = later.counted in let e : new.share.failed ≡ queue.share.failed = ap (λ (t : Tally). t.failed) is.share in omega (arith, before, since, e);
-    parts = rw is.share read.parts;
-  }
 
   -- one step of a worker after others
   pub went_on : (first queue new : Queue D L M) (more : Bool) → HasRead g chunks 0 first queue → ReadsNextSlot g chunks queue new more → HasRead g chunks 0 first new
-  went_on first queue new true read goes = one_more first queue new read (ap (λ (l : Queue D L M). l.done) goes.kept) goes.only_read goes.next goes.kept
-  went_on first queue new false read goes = none_more first queue new read (ap (λ (l : Queue D L M). l.done) goes.kept) goes.only_read goes.next goes.kept
+  went_on first queue new true read goes = one_more first queue new read (ap (λ (l : Queue D L M). l.done) goes.kept) goes.only_read goes
+  went_on first queue new false read goes = rw goes.0 read
 
   -- a worker of a queue of which no report waits, after all that the pass has done
-  pub worked : {lost : ℕ} (first queue new : Queue D L M) → HasRead g chunks lost first queue → queue.reports ≡ [] → HasRead g chunks 0 queue new → new.done ≡ queue.done → HasRead g chunks lost first new
+  pub worked : {lost : ℕ} (first queue new : Queue D L M) → HasRead g chunks lost first queue → queue.reports.waiting ≡ [] → HasRead g chunks 0 queue new → new.done ≡ queue.done → HasRead g chunks lost first new
   worked {lost = lost} first queue new before none read done =
       let same : queue.chunks ≡ first.chunks = chunks_kept before in
       record {
-        kept = read.kept ∙ ap (λ (l : Queue D L M). record l { device = new.device; done = new.done; share = new.share; reports = new.reports; starved = new.starved }) before.kept;
+        kept = read.kept ∙ ap (λ (l : Queue D L M). record l { device = new.device; done = new.done; share = new.share; reports = record l.reports { waiting = new.reports.waiting } }) before.kept;
         only_read = read_then before.only_read read.only_read;
         within = rw (← same) read.within;
         each = rw (← same, ← offset_kept before, ← role_kept before) (λ i r below. report_since before.only_read (read.each i r below));
         left = rw (← same) read.left;
-        failed = let a = before.failed in let b = read.failed in let n : count_by is_failed queue.reports ≡ 0 = ap (count_by is_failed) none in omega (arith, a, b, n);
+        failed = let a = before.failed in let b = read.failed in let n : count_by is_failed queue.reports.waiting ≡ 0 = ap (count_by is_failed) none in omega (arith, a, b, n);
         risen = λ h. let a = before.risen h in let b = read.risen (before.only_read.honest_kept ∙ h) in omega (arith, a, b);
         parts = read.parts ∙ before.parts;
       }
 
 module _ {D L M : Type 0} (chunks : Chunks) (queue new : Queue D L M) where
   -- the reports that wait tell of each call that failed
-  still_waiting : (report : ReportView) → new.reports ≡ queue.reports ++ report ∷ [] → new.offset ≡ queue.offset → new.chunks ≡ queue.chunks → new.done ≡ queue.done → (f : Fault) → IsOfWaiting chunks queue f → IsOfWaiting chunks new f
+  still_waiting : (report : ReportView) → new.reports.waiting ≡ queue.reports.waiting ++ report ∷ [] → new.offset ≡ queue.offset → new.chunks ≡ queue.chunks → new.done ≡ queue.done → (f : Fault) → IsOfWaiting chunks queue f → IsOfWaiting chunks new f
   still_waiting report reports offset same done f is = record {
     place = is.place;
-    waits = let n = length-append queue.reports (report ∷ []) in let one : length new.reports ≡ length queue.reports + 1 = ap length reports ∙ omega (arith, n) in let w = is.waits in omega (arith, one, w);
-    failed = λ r. ap (λ rs. is_failed (get_or rs is.place r)) reports ∙ ap is_failed (get_or_append_left queue.reports (report ∷ []) r is.place is.waits) ∙ is.failed r;
+    waits = let n = length-append queue.reports.waiting (report ∷ []) in let one : length new.reports.waiting ≡ length queue.reports.waiting + 1 = ap length reports ∙ omega (arith, n) in let w = is.waits in omega (arith, one, w);
+    failed = λ r. ap (λ rs. is_failed (get_or rs is.place r)) reports ∙ ap is_failed (get_or_append_left queue.reports.waiting (report ∷ []) r is.place is.waits) ∙ is.failed r;
     there = rw (offset, same, done) is.there;
   }
 
 -- after a step of a worker
-module _ {D L M : Type 0} {g : Ghosts D} (chunks : Chunks) (queue new : Queue D L M) where
-  pub one_more_read : (more : Bool) → ReadsNextSlot g chunks queue new more → more ≡ true → (length new.reports ≡ length queue.reports + 1) × (new.starved ≡ queue.starved)
+module _ {D L M : Type 0} (g : Ghosts D) (chunks : Chunks) (queue new : Queue D L M) where
+  pub one_more_read : (more : Bool) → ReadsNextSlot g chunks queue new more → more ≡ true → length new.reports.waiting ≡ length queue.reports.waiting + 1
   one_more_read false goes e = absurd cc
-  one_more_read true goes e = (ap length goes.next.reports ∙ (let n = length-append queue.reports (goes.next.report ∷ []) in omega (arith, n)), goes.next.starved)
+  one_more_read true goes e = ap length goes.reports ∙ (let n = length-append queue.reports.waiting (goes.report ∷ []) in omega (arith, n))
 
-  pub none_more_read : (more : Bool) → ReadsNextSlot g chunks queue new more → more ≡ false → length new.reports ≡ length queue.reports
+  -- all slots were read
+  pub none_more_read : (more : Bool) → ReadsNextSlot g chunks queue new more → more ≡ false → (new ≡ queue) × (length queue.chunks.items ≤ slots_read queue)
   none_more_read true goes e = absurd cc
-  none_more_read false goes e = ap length goes.next.reports
+  none_more_read false goes e = goes
 
-  -- where memory was found, all slots were read
-  pub none_left : (more : Bool) → ReadsNextSlot g chunks queue new more → more ≡ false → new.starved ≡ false → length queue.chunks.items ≤ slots_read queue
-  none_left true goes e fed = absurd cc
-  none_left false goes e fed = goes.next.why fed
+  pub done_kept : (more : Bool) → ReadsNextSlot g chunks queue new more → new.done ≡ queue.done
+  done_kept true goes = ap (λ (l : Queue D L M). l.done) goes.kept
+  done_kept false goes = ap (λ (l : Queue D L M). l.done) goes.0
 
   pub one_more_waits : (past : List Fault) (more : Bool) → ReadsNextSlot g chunks queue new more → more ≡ true → EachNewFault past (g.faults queue.device) (IsOfWaiting chunks queue) → EachNewFault past (g.faults new.device) (IsOfWaiting chunks new)
   one_more_waits past false goes e before = absurd cc
   one_more_waits past true goes e before =
-      let is = goes.next in
+      let is = goes in
       let offset : new.offset ≡ queue.offset = ap (λ (l : Queue D L M). l.offset) goes.kept in
       let same : new.chunks ≡ queue.chunks = ap (λ (l : Queue D L M). l.chunks) goes.kept in
       let done : new.done ≡ queue.done = ap (λ (l : Queue D L M). l.done) goes.kept in
-      let n = length-append queue.reports (is.report ∷ []) in
-      let one : length new.reports ≡ length queue.reports + 1 = ap length is.reports ∙ omega (arith, n) in
+      let n = length-append queue.reports.waiting (is.report ∷ []) in
+      let one : length new.reports.waiting ≡ length queue.reports.waiting + 1 = ap length is.reports ∙ omega (arith, n) in
       fails_then past (g.faults queue.device) (g.faults new.device) (IsOfWaiting chunks new)
       (fails_weaker past (g.faults queue.device) (IsOfWaiting chunks queue) (IsOfWaiting chunks new) (still_waiting chunks queue new is.report is.reports offset same done) before)
       (fails_weaker (g.faults queue.device) (g.faults new.device) (λ f. (is_failed is.report ≡ true) × IsReadOfChunk queue.offset chunks (slice_index queue.chunks.items (slots_read queue)) f) (IsOfWaiting chunks new)
       (λ f h. record {
-        place = length queue.reports;
+        place = length queue.reports.waiting;
         waits = omega (arith, one);
-        failed = λ r. ap (λ rs. is_failed (get_or rs (length queue.reports) r)) is.reports ∙ ap is_failed (get_or-append_seam queue.reports is.report [] r) ∙ h.0;
+        failed = λ r. ap (λ rs. is_failed (get_or rs (length queue.reports.waiting) r)) is.reports ∙ ap is_failed (get_or-append_seam queue.reports.waiting is.report [] r) ∙ h.0;
         there = rw (offset, same, done) h.1;
       }) is.only)
-
-  pub none_more_waits : (past : List Fault) (more : Bool) → ReadsNextSlot g chunks queue new more → more ≡ false → new.starved ≡ false → EachNewFault past (g.faults queue.device) (IsOfWaiting chunks queue) → EachNewFault past (g.faults new.device) (IsOfWaiting chunks new)
-  none_more_waits past true goes e fed before = absurd cc
-  none_more_waits past false goes e fed before =
-      let offset : new.offset ≡ queue.offset = ap (λ (l : Queue D L M). l.offset) goes.kept in
-      let same : new.chunks ≡ queue.chunks = ap (λ (l : Queue D L M). l.chunks) goes.kept in
-      let done : new.done ≡ queue.done = ap (λ (l : Queue D L M). l.done) goes.kept in
-      subst (λ xs. EachNewFault past xs (IsOfWaiting chunks new)) (sym (goes.next.only fed))
-      (fails_weaker past (g.faults queue.device) (IsOfWaiting chunks queue) (IsOfWaiting chunks new)
-      (λ f w. record { place = w.place; waits = rw goes.next.reports w.waits; failed = λ r. rw goes.next.reports (w.failed r); there = rw (offset, same, done) w.there }) before)
-
-  -- where it was not, the next slot is left, and no report tells of a read of it that failed
-  pub none_more_lacks : (past : List Fault) (more : Bool) → ReadsNextSlot g chunks queue new more → more ≡ false → queue.starved ≡ false → new.starved ≡ true → EachNewFault past (g.faults queue.device) (IsOfWaiting chunks queue)
-      → (slots_read new < length queue.chunks.items) × EachNewFault past (g.faults new.device) (λ f. IsOfWaiting chunks new f ⊎ IsOfNext chunks new f)
-  none_more_lacks past true goes e fed starved before = absurd cc
-  none_more_lacks past false goes e fed starved before =
-      let offset : new.offset ≡ queue.offset = ap (λ (l : Queue D L M). l.offset) goes.kept in
-      let same : new.chunks ≡ queue.chunks = ap (λ (l : Queue D L M). l.chunks) goes.kept in
-      let done : new.done ≡ queue.done = ap (λ (l : Queue D L M). l.done) goes.kept in
-      let n : length new.reports ≡ length queue.reports = ap length goes.next.reports in
-      let left = goes.next.refused fed starved in (
-        (let below = left.0 in omega (arith, n, done, below)),
-        fails_then past (g.faults queue.device) (g.faults new.device) (λ f. IsOfWaiting chunks new f ⊎ IsOfNext chunks new f)
-            (fails_weaker past (g.faults queue.device) (IsOfWaiting chunks queue) (λ f. IsOfWaiting chunks new f ⊎ IsOfNext chunks new f)
-            (λ f w. inl (record { place = w.place; waits = rw goes.next.reports w.waits; failed = λ r. rw goes.next.reports (w.failed r); there = rw (offset, same, done) w.there })) before)
-            (fails_weaker (g.faults queue.device) (g.faults new.device) (IsOfNext chunks queue) (λ f. IsOfWaiting chunks new f ⊎ IsOfNext chunks new f)
-            (λ f h. inr (rw (offset, same, done, goes.next.reports) h)) left.1),
-      )

@@ -1,5 +1,5 @@
 -- A queue: a source, and the chunks that it reads one after another. Before and after its worker reads the next of them.
-use Rattle.std.specs.Prelude.{◌≡◌, ◌⊎◌, ℕ, ◌+◌, ◌-◌, ◌<◌, ◌≤◌, ◌++◌, ◌∷◌, [], Bool, true, false, List, length, Some, None, count_by, slice_index, slice_index_or, not, is_none}
+use Rattle.std.specs.Prelude.{◌≡◌, ℕ, ◌+◌, ◌-◌, ◌<◌, ◌≤◌, ◌++◌, ◌∷◌, [], Bool, true, false, List, length, Some, None, count_by, slice_index, slice_index_or, not, is_none}
 use Rattle.md_device.specs.declared.device.Device.{Ghosts}
 use Rattle.md_device.specs.declared.fault_list.Fault.{Fault}
 use Rattle.md_device.specs.Failing.{EachNewFault}
@@ -10,6 +10,7 @@ use Rattle.md_collect.specs.Reports.{ReportView}
 use Rattle.md_collect.specs.declared.workers.queue.Queue.{Queue}
 use Rattle.md_collect.specs.Workers.Batches.{batch_of}
 use Rattle.md_collect.specs.Workers.Tally.{noted}
+use Rattle.md_collect.specs.Workers.Waiting.{HasTurnMemory}
 
 module _ {D : Type 0} (g : Ghosts D) where
   -- reads leave a device as it was, but that more of its calls may have failed; so does a crash within them
@@ -41,86 +42,64 @@ is_failed r = is_none r.bytes
 
 -- how many of a queue's slots were read
 abbrev pub slots_read : {D L M : Type 0} → Queue D L M → ℕ
-slots_read queue = queue.done + length queue.reports
+slots_read queue = queue.done + length queue.reports.waiting
 
 -- a read of nothing but bytes of a slot's chunk, of which the report waits and says that it failed
 pub record IsOfWaiting {D L M : Type 0} (chunks : Chunks) (queue : Queue D L M) (f : Fault) : Type 0 where
   pub place : ℕ
-  pub waits : place < length queue.reports
-  pub failed : (r : ReportView) → is_failed (slice_index_or queue.reports place r) ≡ true
+  pub waits : place < length queue.reports.waiting
+  pub failed : (r : ReportView) → is_failed (slice_index_or queue.reports.waiting place r) ≡ true
   pub there : IsReadOfChunk queue.offset chunks (slice_index queue.chunks.items (queue.done + place)) f
-
--- a read of nothing but bytes of the chunk of the slot that is next
-abbrev pub IsOfNext : {D L M : Type 0} → Chunks → Queue D L M → Fault → Type 0
-IsOfNext chunks queue = IsReadOfChunk queue.offset chunks (slice_index queue.chunks.items (slots_read queue))
 
 module _ {D L M : Type 0} (g : Ghosts D) where
   -- A queue since it was `first`: slots were read, and the reports of some of them were taken. The reports of the others wait, in order. Its share has no slot more that
   -- was read, and as failed those whose report was taken and that could not be read, so many, and those that wait and could not. The device has
   -- counted at least as many failures.
   pub record HasRead (chunks : Chunks) (lost : ℕ) (first queue : Queue D L M) : Type 0 where
-    pub kept : queue ≡ record first { device = queue.device; done = queue.done; share = queue.share; reports = queue.reports; starved = queue.starved }
+    pub kept : queue ≡ record first { device = queue.device; done = queue.done; share = queue.share; reports = record first.reports { waiting = queue.reports.waiting } }
     pub only_read : OnlyRead g first.device queue.device
     pub within : slots_read queue ≤ length first.chunks.items
-    pub each : (i : ℕ) (r : ReportView) → i < length queue.reports
-        → IsReport g first.device queue.device first.offset chunks (slice_index first.chunks.items (queue.done + i)) first.role (slice_index_or queue.reports i r)
+    pub each : (i : ℕ) (r : ReportView) → i < length queue.reports.waiting
+        → IsReport g first.device queue.device first.offset chunks (slice_index first.chunks.items (queue.done + i)) first.role (slice_index_or queue.reports.waiting i r)
     pub left : queue.share.left ≡ length first.chunks.items - slots_read queue
-    pub failed : queue.share.failed ≡ first.share.failed + (lost + count_by is_failed queue.reports)
+    pub failed : queue.share.failed ≡ first.share.failed + (lost + count_by is_failed queue.reports.waiting)
     pub risen : g.honest first.device ≡ true → g.failures first.device + queue.share.failed ≤ g.failures queue.device + first.share.failed
     pub parts : queue.share.parts ≡ first.share.parts
 
-  -- its slots are chunks that lie on the device, and the share has those that were not read
+  -- its slots are chunks that lie on the device, the share has those that were not read, and there is memory for a turn
   pub record MayReadOn (chunks : Chunks) (queue : Queue D L M) : Type 0 where
     pub room : HasRoom (g.content queue.device) queue.offset chunks
     pub chunk : (j : ℕ) → j < length queue.chunks.items → IsChunk chunks (slice_index queue.chunks.items j)
     pub within : slots_read queue ≤ length queue.chunks.items
     pub left : queue.share.left ≡ length queue.chunks.items - slots_read queue
+    pub memory : HasTurnMemory chunks (length queue.chunks.items) queue.reports
 
   -- before a turn: no report waits
   pub record IsReadyForTurn (chunks : Chunks) (queue : Queue D L M) : Type 0 where
     pub goes : MayReadOn chunks queue
-    pub none_waits : queue.reports ≡ []
+    pub none_waits : queue.reports.waiting ≡ []
 
-  -- Of the next slot no report could be kept. No call failed but reads of it, and of slots that wait whose report says so.
-  pub record LacksReport (chunks : Chunks) (old new : Queue D L M) : Type 0 where
-    pub some : slots_read new < length old.chunks.items
-    pub only : EachNewFault (g.faults old.device) (g.faults new.device) (λ f. IsOfWaiting chunks new f ⊎ IsOfNext chunks new f)
-
-  -- A queue before and after its worker: its next slots were read, no more than a batch has, and at least one unless there was none or memory was
-  -- refused. Where it was not, no call failed but reads of those of them whose report says so.
+  -- A queue before and after its worker: its next slots were read, no more than a batch has, and at least one unless there was none. No call failed
+  -- but reads of those of them whose report says so.
   pub record HasWorked (chunks : Chunks) (old new : Queue D L M) : Type 0 where
     pub read : HasRead chunks 0 old new
     pub done : new.done ≡ old.done
-    pub few : length new.reports ≤ batch_of chunks
-    pub some : new.starved ≡ false → old.done < length old.chunks.items → 0 < length new.reports
-    pub only : new.starved ≡ false → EachNewFault (g.faults old.device) (g.faults new.device) (IsOfWaiting chunks new)
-    pub lacks : new.starved ≡ true → LacksReport chunks old new
+    pub few : length new.reports.waiting ≤ batch_of chunks
+    pub some : old.done < length old.chunks.items → 0 < length new.reports.waiting
+    pub only : EachNewFault (g.faults old.device) (g.faults new.device) (IsOfWaiting chunks new)
 
   -- the next slot was read, and noted on the share
   pub record IsSlotRead (chunks : Chunks) (old new : Queue D L M) : Type 0 where
+    pub kept : new ≡ record old { device = new.device; share = new.share; reports = record old.reports { waiting = new.reports.waiting } }
+    pub only_read : OnlyRead g old.device new.device
     pub within : slots_read old < length old.chunks.items
     pub report : ReportView
-    pub reports : new.reports ≡ old.reports ++ report ∷ []
+    pub reports : new.reports.waiting ≡ old.reports.waiting ++ report ∷ []
     pub share : new.share ≡ noted old.share (not (is_failed report))
-    pub starved : new.starved ≡ old.starved
     pub only : EachNewFault (g.faults old.device) (g.faults new.device) (λ f. (is_failed report ≡ true) × IsReadOfChunk old.offset chunks (slice_index old.chunks.items (slots_read old)) f)
     pub is : IsReport g old.device new.device old.offset chunks (slice_index old.chunks.items (slots_read old)) old.role report
 
-  -- there was none, or memory for it was refused
-  pub record IsUnread (chunks : Chunks) (old new : Queue D L M) : Type 0 where
-    pub reports : new.reports ≡ old.reports
-    pub share : new.share ≡ old.share
-    pub why : new.starved ≡ false → length old.chunks.items ≤ slots_read old
-    pub only : new.starved ≡ false → g.faults new.device ≡ g.faults old.device
-    pub refused : old.starved ≡ false → new.starved ≡ true
-        → (slots_read old < length old.chunks.items) × EachNewFault (g.faults old.device) (g.faults new.device) (IsOfNext chunks old)
-
-  abbrev pub IsReadOrNot : Chunks → Queue D L M → Queue D L M → Bool → Type 0
-  IsReadOrNot chunks old new true = IsSlotRead chunks old new
-  IsReadOrNot chunks old new false = IsUnread chunks old new
-
-  -- a queue before and after its next slot was read, or was not
-  pub record ReadsNextSlot (chunks : Chunks) (old new : Queue D L M) (read : Bool) : Type 0 where
-    pub kept : new ≡ record old { device = new.device; share = new.share; reports = new.reports; starved = new.starved }
-    pub only_read : OnlyRead g old.device new.device
-    pub next : IsReadOrNot chunks old new read
+  -- a queue before and after its next slot was read, and where there was none
+  abbrev pub ReadsNextSlot : Chunks → Queue D L M → Queue D L M → Bool → Type 0
+  ReadsNextSlot chunks old new true = IsSlotRead chunks old new
+  ReadsNextSlot chunks old new false = (new ≡ old) × (length old.chunks.items ≤ slots_read old)

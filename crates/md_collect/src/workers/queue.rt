@@ -5,13 +5,11 @@ ghost use Rattle.md_collect.specs.Workers.Gates.{IsToldOfReads};
 ghost use Rattle.md_collect.specs.Workers.Queues.{ReadsNextSlot, HasWorked, IsReadyForTurn, MayReadOn, slots_read};
 ghost use Rattle.md_collect.specs.Workers.Tally.{noted};
 
-use crate::chunk_read::read_chunk_into;
 use crate::workers::board::{Board, Share};
 use crate::workers::gate::Gate;
 use crate::workers::reports::Reports;
 use md_bitmap::Chunks;
 use md_device::Device;
-use std::alloc::Global;
 use std::sync::ledger::Ledger;
 use std::sync::{Mutex, Wait};
 
@@ -31,8 +29,6 @@ pub struct Queue<D, L: Ledger, M: Ledger> {
     pub share: Share<L, M>,
     /// What the collector has not yet taken: of the chunks that come next.
     pub reports: Reports,
-    /// Whether memory for the next chunk was refused.
-    pub starved: bool,
 }
 
 impl<D, L: Ledger, M: Ledger> Queue<D, L, M> {
@@ -45,11 +41,9 @@ impl<D, L: Ledger, M: Ledger> Queue<D, L, M> {
     }
 }
 
-/// Reads the queue's next chunks one after another, so many or as many as there are. Where memory was
-/// refused it ends there.
+/// Reads the queue's next chunks one after another, so many or as many as there are. It takes no memory.
 pub(crate) fn work<D: Device, G: Gate, L: Ledger, M: Ledger, R: Wait>(
     rt: &R,
-    alloc: Global,
     gate: &G,
     board: &Mutex<Board<L, M>>,
     chunks: Chunks,
@@ -61,52 +55,35 @@ pub(crate) fn work<D: Device, G: Gate, L: Ledger, M: Ledger, R: Wait>(
     ensures worked { HasWorked D.Device chunks queue.old queue.new }
     ensures told { IsToldOfReads G.Gate gate.now queue.old queue.new }
 {
-    queue.starved = false;
     for _slot in 0..most {
-        if !read_next(rt, alloc, gate, board, chunks, queue) {
+        if !read_next(rt, gate, board, chunks, queue) {
             return;
         }
     }
 }
 
 // Reads the queue's next chunk, if there is one, notes it on the board, and answers whether it did. Neither
-// the read nor the gate is under the board's lock. Where memory was refused nothing is noted.
+// the read nor the gate is under the board's lock.
 fn read_next<D: Device, G: Gate, L: Ledger, M: Ledger, R: Wait>(
     rt: &R,
-    alloc: Global,
     gate: &G,
     board: &Mutex<Board<L, M>>,
     chunks: Chunks,
     queue: &mut Queue<D, L, M>,
 ) -> bool
-    requires { MayReadOn D.Device chunks queue.old }
+    requires may { MayReadOn D.Device chunks queue.old }
+    requires few { length queue.old.reports.waiting < batch_of chunks }
     ensures reads { ReadsNextSlot D.Device chunks queue.old queue.new result }
     ensures told { IsToldOfReads G.Gate gate.now queue.old queue.new }
 {
     let Some(chunk) = queue.next_chunk() else {
         return false;
     };
-    let spare = queue.reports.spare(alloc);
     gate.before_read(queue.role, chunk);
-    let answer = read_chunk_into(
-        alloc,
-        spare,
-        &mut queue.device,
-        queue.role,
-        queue.offset,
-        chunks,
-        chunk,
-    );
+    let delivered = queue
+        .reports
+        .read(&mut queue.device, queue.role, queue.offset, chunks, chunk);
     gate.after_read(queue.role, chunk);
-    let Ok(report) = answer else {
-        queue.starved = true;
-        return false;
-    };
-    let delivered = !report.is_failed();
-    if queue.reports.push(report).is_err() {
-        queue.starved = true;
-        return false;
-    }
     note(rt, board, &mut queue.share, delivered);
     true
 }

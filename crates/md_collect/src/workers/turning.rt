@@ -10,7 +10,6 @@ use crate::workers::gate::Gate;
 use crate::workers::queue::{Queue, work};
 use md_bitmap::Chunks;
 use md_device::Device;
-use std::alloc::Global;
 use std::sync::ledger::Ledger;
 use std::sync::{Mutex, Wait};
 use std::thread;
@@ -18,20 +17,14 @@ use std::thread::Threads;
 
 /// Each queue reads its next chunks in a worker of its own: the list of queues is halved until each thread has
 /// one. With one queue no thread is started, and where the system starts none they go one after another.
+/// The queues have memory for what is read.
 pub fn turn<
     D: Device + Send,
     G: Gate + Sync,
     L: Ledger + Send + Sync,
     M: Ledger + Send + Sync,
     R: Threads + Wait + Sync,
->(
-    rt: &R,
-    alloc: Global,
-    gate: &G,
-    board: &Mutex<Board<L, M>>,
-    chunks: Chunks,
-    queues: &mut Vec<Queue<D, L, M>>,
-)
+>(rt: &R, gate: &G, board: &Mutex<Board<L, M>>, chunks: Chunks, queues: &mut Vec<Queue<D, L, M>>)
     requires { All (λ queue. IsReadyForTurn D.Device chunks queue) queues.old.items }
     ensures len { length queues.new.items ≡ length queues.old.items }
     ensures worked { (k : ℕ) (d : _) → k < length queues.old.items
@@ -45,6 +38,6 @@ pub fn turn<
         rt,
         queues.as_mut_slice(),
         threads,
-        &|_, queue| work(rt, alloc, gate, board, chunks, most, queue),
+        &|_, queue| work(rt, gate, board, chunks, most, queue),
     );
 }

@@ -1,4 +1,4 @@
-use Rattle.std.proofs.Common.{rules, ◌≡◌, ap, Err, List, subst}
+use Rattle.std.proofs.Common.{rules, ◌≡◌, ap, refl, Err, List, subst}
 use Rattle.std.specs.List.{All}
 use Rattle.std.specs.Prelude.{MatchResult, OnOk}
 use Rattle.md_cert.specs.declared.slots.Slot.{Slot}
@@ -8,13 +8,13 @@ use Rattle.md_pass.specs.declared.fault.PassFault.TheVariants.{NoMemory}
 use Rattle.md_pass.specs.Copied.{BreaksOff, EndsPass, WritesPlanned, pass_state}
 use Rattle.md_pass.specs.Preparing.{sources_of}
 use Rattle.md_pass.specs.Sources.{copy_of}
-use Rattle.md_pass.proofs.PassSources.{can_copy, gives_of_all, nothing_done, nothing_written}
+use Rattle.md_pass.proofs.PassSources.{can_copy, gives_of_all, nothing_written}
 use Rattle.md_pass.proofs.pass.copy_pass.Goals as goal
 
 pub returns-in_err-prepared-clause-gives : goal.returns-in_err-prepared-clause-gives
 returns-in_err-prepared-clause-gives g c =
     let is : c.from_residual.result ≡ Err NoMemory = search rules in
-    rw is (nothing_done g.D.Device (copy_of c.args.plan.now.slots c.args.chunks c.args.offset) c.args.sources.now (pass_state c.args.devices.now.items c.args.target.now c.args.copied.now) c.requires.uncopied)
+    rw is refl
 
 pub returns-in_err-prepared-clause-writes : goal.returns-in_err-prepared-clause-writes
 returns-in_err-prepared-clause-writes g c =
@@ -34,8 +34,8 @@ returns-clause-gives g c =
     let old = pass_state c.args.devices.now.items c.args.target.now c.args.copied.now in
     let new = pass_state c.copy_prepared.new.devices.items c.copy_prepared.new.target c.copy_prepared.new.copied in
     gives_of_all g.D.Device copy sources old new c.copy_prepared.result c.copy_prepared.ensures.writes.sources c.requires.sources.within
-    (subst (λ (ss : _). MatchResult c.copy_prepared.result (EndsPass g.D.Device copy ss old new) (BreaksOff g.D.Device copy ss old new)) c.in_ok-prepared.ensures.reads
-    (subst (λ (x : Copying). MatchResult c.copy_prepared.result (EndsPass g.D.Device x (sources_of p) old new) (BreaksOff g.D.Device x (sources_of p) old new)) c.in_ok-prepared.ensures.copy c.copy_prepared.ensures.gives))
+    (subst (λ (ss : _). MatchResult c.copy_prepared.result (EndsPass g.D.Device copy ss old new) (BreaksOff g.D.Device old new)) c.in_ok-prepared.ensures.reads
+    (subst (λ (x : Copying). MatchResult c.copy_prepared.result (EndsPass g.D.Device x (sources_of p) old new) (BreaksOff g.D.Device old new)) c.in_ok-prepared.ensures.copy c.copy_prepared.ensures.gives))
 
 pub returns-clause-writes : goal.returns-clause-writes
 returns-clause-writes g c =

@@ -1,16 +1,15 @@
-use Rattle.std.proofs.Common.{rules, ◌≡◌, ◌+◌, Err, inr, length, ap, sym, ◌∙◌, arith, subst}
+use Rattle.std.proofs.Common.{rules, ◌≡◌, ◌+◌, Err, length, ap, refl, sym, ◌∙◌, arith, subst}
 use Rattle.std.proofs.lemmas.List.{length-map}
 use Rattle.md_collect.specs.Collecting.{copying}
-use Rattle.md_pass.specs.declared.fault.PassFault.TheVariants.{NoMemory}
+use Rattle.md_pass.specs.declared.fault.PassFault.TheVariants.{NoMemory, TargetFault}
 use Rattle.md_pass.specs.declared.source_reading.Reading.{Reading}
 use Rattle.md_pass.specs.TakingReports.{books}
 use Rattle.md_pass.specs.Places.{FitPlaces}
 use Rattle.md_pass.specs.Copied.{failed_slots, pass_state}
-use Rattle.md_pass.specs.Preparing.{sources_of}
 use Rattle.md_pass.proofs.Orders.{few_slots}
 use Rattle.md_pass.proofs.PassStarts.{all_fit, in_turn, starts, turns_enough}
-use Rattle.md_pass.proofs.PassEnds.{all_told, count_failed, devices_read, fail_only_there, fail_only_uncopied, fail_there, has_copied, have_left, lacks_chunk, queues_parts, none_left, on_fault}
-use Rattle.md_pass.proofs.PassSources.{nothing_done, nothing_written}
+use Rattle.md_pass.proofs.PassEnds.{all_told, count_failed, devices_read, fail_only_there, fail_there, has_copied, have_left, queues_parts, none_left}
+use Rattle.md_pass.proofs.PassSources.{nothing_written}
 use Rattle.md_pass.proofs.Totals.{total_slots}
 use Rattle.md_pass.proofs.pass.copy_prepared.Goals as goal
 use Rattle.md_collect.specs.Workers.Tally.{Tally}
@@ -41,7 +40,7 @@ run_turns-result-requires-clause-fresh g c κs within =
     let can = c.requires.can in
     let places = c.as_slice-places.result.now in
     starts (g.D.Device.honest c.args.target.now) (books c.args.prepared.collector (g.D.Device.content c.args.target.now) c.args.copied.now) c.args.devices.now.items c.take_out-rest.new.devices.items places c.args.prepared.readings.items
-    c.take_out-rest.new.queues.items can.ordered.fresh can.planned can.uncopied can.sources can.ordered.orders (in_turn c.args.prepared places c.as_slice-places.ensures.value can.ordered) can.room can.marks c.take_out-rest.ensures.len c.take_out-rest.ensures.taken c.take_out-rest.ensures.queues
+    c.take_out-rest.new.queues.items can.ordered.fresh can.planned can.uncopied can.sources can.ordered.orders can.ordered.memory (in_turn c.args.prepared places c.as_slice-places.ensures.value can.ordered) can.room can.marks c.take_out-rest.ensures.len c.take_out-rest.ensures.taken c.take_out-rest.ensures.queues
 
 pub put_back-all-requires-clause-fits : goal.put_back-all-requires-clause-fits
 put_back-all-requires-clause-fits g c =
@@ -54,27 +53,15 @@ put_back-all-requires-clause-fits g c =
 pub returns-in_err-queues-clause-gives : goal.returns-in_err-queues-clause-gives
 returns-in_err-queues-clause-gives g c =
     let is : c.from_residual.result ≡ Err NoMemory = search rules in
-    rw is (nothing_done g.D.Device (copying c.args.prepared.collector) (sources_of c.args.prepared) (pass_state c.args.devices.now.items c.args.target.now c.args.copied.now) c.requires.can.uncopied)
+    rw is refl
 
 pub returns-in_err-queues-clause-writes : goal.returns-in_err-queues-clause-writes
 returns-in_err-queues-clause-writes g c = nothing_written g.D.Device (copying c.args.prepared.collector) (pass_state c.args.devices.now.items c.args.target.now c.args.copied.now)
 
--- where memory was refused within the pass, what the collector has taken by then is what was copied
 pub returns-in_err-result-clause-gives : goal.returns-in_err-result-clause-gives
 returns-in_err-result-clause-gives g c =
-    let fault = c.in_err-result.field-0.0 in
-    let is : c.from_residual-in_err-result.result ≡ Err fault = search rules in
-    let turn = in_turn c.args.prepared c.as_slice-places.result.now c.as_slice-places.ensures.value c.requires.can.ordered in
-    let old = pass_state c.args.devices.now.items c.args.target.now c.args.copied.now in
-    let left = have_left c.args.prepared old c.take_out-rest.new.devices.items c.as_slice-places.result.now c.take_out-rest.new.queues.items c.requires.can c.as_slice-places.ensures.value c.take_out-rest.ensures.len c.take_out-rest.ensures.taken c.take_out-rest.ensures.queues in
-    rw is (on_fault fault
-    (λ p. record {
-      copied = has_copied c.args.target.now c.run_turns-result.new.target c.args.prepared.collector c.run_turns-result.new.collector c.args.copied.now c.run_turns-result.new.copied left p.0;
-      left = inr (lacks_chunk p.0 p.1);
-      unfailing = p.2;
-      only_there = fail_only_uncopied left p.0 p.1 c.put_back-all.new.devices.items (let many = turn.as_many in let n = length-map c.args.prepared.readings.items (λ (r : Reading). r.source.place) in let e = c.take_out-rest.ensures.count in let b = c.put_back-all.ensures.count in omega (arith, many, n, e, b)) c.put_back-all.ensures.back;
-    })
-    (λ fails. fails) c.in_err-result.ensures.broken)
+    let is : c.from_residual-in_err-result.result ≡ Err TargetFault = search rules in
+    rw is c.in_err-result.ensures.failed
 
 pub returns-in_err-result-clause-writes : goal.returns-in_err-result-clause-writes
 returns-in_err-result-clause-writes g c =
@@ -127,7 +114,7 @@ returns-clause-gives g c =
       failed = c.failed.ensures ∙ c.audit_share.ensures.failed ∙ failed;
       counted = count_failed left c.in_ok-result.ensures.passed c.in_ok-result.ensures.done c.put_back-all.new.devices.items (let many = turn.as_many in let n = length-map c.args.prepared.readings.items (λ (r : Reading). r.source.place) in let e = c.take_out-rest.ensures.count in let b = c.put_back-all.ensures.count in omega (arith, many, n, e, b)) c.put_back-all.ensures.back;
       there = fail_there left c.in_ok-result.ensures.passed c.in_ok-result.ensures.done c.put_back-all.new.devices.items (let many = turn.as_many in let n = length-map c.args.prepared.readings.items (λ (r : Reading). r.source.place) in let e = c.take_out-rest.ensures.count in let b = c.put_back-all.ensures.count in omega (arith, many, n, e, b)) c.put_back-all.ensures.back;
-      only_there = fail_only_there left c.in_ok-result.ensures.passed c.in_ok-result.ensures.done c.in_ok-result.ensures.fed c.put_back-all.new.devices.items (let many = turn.as_many in let n = length-map c.args.prepared.readings.items (λ (r : Reading). r.source.place) in let e = c.take_out-rest.ensures.count in let b = c.put_back-all.ensures.count in omega (arith, many, n, e, b)) c.put_back-all.ensures.back;
+      only_there = fail_only_there left c.in_ok-result.ensures.passed c.in_ok-result.ensures.done c.put_back-all.new.devices.items (let many = turn.as_many in let n = length-map c.args.prepared.readings.items (λ (r : Reading). r.source.place) in let e = c.take_out-rest.ensures.count in let b = c.put_back-all.ensures.count in omega (arith, many, n, e, b)) c.put_back-all.ensures.back;
     }
 
 pub returns-clause-told : goal.returns-clause-told

@@ -26,6 +26,7 @@ returns c =
         chunks = sym c.in_ok-collector.ensures.chunks;
         slots = ap length (own ∙ sym told);
         orders = subst (λ (xs : List Slot). All (λ (r : Reading). IsOrderOf xs r.source.role r.chunks.items) c.in_ok-readings.readings.items) (told ∙ sym own) c.in_ok-readings.ensures.chunks;
+        memory = rw c.in_ok-collector.ensures.chunks c.in_ok-readings.ensures.memory;
         places = subst (λ (rs : List Reading). AreInTurn (map (λ (r : Reading). r.source.place) rs) c.in_ok-places.places.items) c.as_slice.ensures.value c.in_ok-places.ensures;
       };
       reads = c.in_ok-readings.ensures.sources ∙ ap (λ xs. with_slots xs c.args.sources.now) told;

@@ -1,4 +1,5 @@
-use Rattle.std.proofs.Common.{◌≡◌, ◌∷◌, Some, None, true, false, refl, ap, sym, ◌∙◌, rules}
+use Rattle.std.proofs.Common.{◌≡◌, ◌+◌, Some, None, List, true, false, drop, refl, ap, sym, ◌∙◌, rules}
+use Rattle.md_collect.specs.Reports.{ReportView}
 use Rattle.md_collect.specs.Workers.Queues.{is_failed}
 use Rattle.md_pass.proofs.Besides.{writes_one}
 use Rattle.md_pass.proofs.ReportsTaken.{held}
@@ -7,51 +8,51 @@ use Rattle.md_pass.proofs.take_report.take_report.Goals as goal
 
 pub returns-then-is_err-clause-writes : goal.returns-then-is_err-clause-writes
 returns-then-is_err-clause-writes g c =
-    let waits : c.args.queue.now.reports ≡ c.in-Some.report ∷ c.pop.new.self = search rules in
-    writes_one c.args.collector.now c.take_ref.new.self c.in-Some.report.chunk c.args.target.now c.take_ref.new.target (c.requires.allowed.planned c.in-Some.report c.pop.new.self waits)
+    let (rest, waits) = c.in-Some.ensures.some in
+    writes_one c.args.collector.now c.take_ref.new.self c.in-Some.report.now.chunk c.args.target.now c.take_ref.new.target (c.requires.allowed.planned c.in-Some.report.now rest waits)
     c.take_ref.ensures.kept c.take_ref.ensures.outside c.take_ref.ensures.honest c.take_ref.ensures.counted c.take_ref.ensures.grown c.take_ref.ensures.within
 
 pub returns-then-is_err-clause-failed : goal.returns-then-is_err-clause-failed
 returns-then-is_err-clause-failed g c =
-    let waits : c.args.queue.now.reports ≡ c.in-Some.report ∷ c.pop.new.self = search rules in
-    search (rules, c.requires.allowed.counts c.in-Some.report c.pop.new.self waits)
+    let (rest, waits) = c.in-Some.ensures.some in
+    search (rules, c.requires.allowed.counts c.in-Some.report.now rest waits)
 
 pub returns-then-failed-clause-writes : goal.returns-then-failed-clause-writes
 returns-then-failed-clause-writes g c =
-    let waits : c.args.queue.now.reports ≡ c.in-Some.report ∷ c.pop.new.self = search rules in
-    writes_one c.args.collector.now c.take_ref.new.self c.in-Some.report.chunk c.args.target.now c.take_ref.new.target (c.requires.allowed.planned c.in-Some.report c.pop.new.self waits)
+    let (rest, waits) = c.in-Some.ensures.some in
+    writes_one c.args.collector.now c.take_ref.new.self c.in-Some.report.now.chunk c.args.target.now c.take_ref.new.target (c.requires.allowed.planned c.in-Some.report.now rest waits)
     c.take_ref.ensures.kept c.take_ref.ensures.outside c.take_ref.ensures.honest c.take_ref.ensures.counted c.take_ref.ensures.grown c.take_ref.ensures.within
 
 -- a report of a read that failed: nothing is written or marked
 pub returns-then-failed-clause-reports_taken : goal.returns-then-failed-clause-reports_taken
 returns-then-failed-clause-reports_taken g c =
-    let waits : c.args.queue.now.reports ≡ c.in-Some.report ∷ c.pop.new.self = search rules in
-    let failed : is_failed c.in-Some.report ≡ true = search rules in
-    let none : c.in-Some.report.bytes ≡ None = none_given c.in-Some.report failed in
+    let (rest, waits) = c.in-Some.ensures.some in
+    let failed : is_failed c.in-Some.report.now ≡ true = search rules in
+    let none : c.in-Some.report.now.bytes ≡ None = none_given c.in-Some.report.now failed in
     rw waits (record {
       counted = search rules;
       marked = record { chunks = refl; bits = λ chunk. rw failed refl };
       changes = c.take_ref.ensures.outside;
       unwritten = λ _. ap g.D.Device.content (c.take_ref.ensures.unwritten none);
-      kept = rw c.keep.ensures refl;
+      kept = rw c.retire.ensures (ap (λ (xs : List ReportView). record c.args.queue.now { done = c.args.queue.now.done + 1; reports = record c.args.queue.now.reports { waiting = drop 1 xs } }) waits);
       holds = λ read e. absurd (let z : None ≡ Some read = sym none ∙ e in cc);
     })
 
 pub returns-clause-writes : goal.returns-clause-writes
 returns-clause-writes g c =
-    let waits : c.args.queue.now.reports ≡ c.in-Some.report ∷ c.pop.new.self = search rules in
-    writes_one c.args.collector.now c.take_ref.new.self c.in-Some.report.chunk c.args.target.now c.take_ref.new.target (c.requires.allowed.planned c.in-Some.report c.pop.new.self waits)
+    let (rest, waits) = c.in-Some.ensures.some in
+    writes_one c.args.collector.now c.take_ref.new.self c.in-Some.report.now.chunk c.args.target.now c.take_ref.new.target (c.requires.allowed.planned c.in-Some.report.now rest waits)
     c.take_ref.ensures.kept c.take_ref.ensures.outside c.take_ref.ensures.honest c.take_ref.ensures.counted c.take_ref.ensures.grown c.take_ref.ensures.within
 
 pub returns-clause-reports_taken : goal.returns-clause-reports_taken
 returns-clause-reports_taken g c =
-    let waits : c.args.queue.now.reports ≡ c.in-Some.report ∷ c.pop.new.self = search rules in
-    let given : is_failed c.in-Some.report ≡ false = search rules in
+    let (rest, waits) = c.in-Some.ensures.some in
+    let given : is_failed c.in-Some.report.now ≡ false = search rules in
     rw waits (record {
       counted = search rules;
       marked = record { chunks = c.mark.ensures.chunks; bits = rw (given, ← c.chunk-chunk.ensures) c.mark.ensures.bits };
       changes = c.take_ref.ensures.outside;
-      unwritten = λ failed. absurd (let z : is_failed c.in-Some.report ≡ true = failed in cc);
-      kept = rw c.keep.ensures refl;
-      holds = λ read e h. held c.args.collector.now (g.D.Device.content c.args.target.now) (g.D.Device.content c.take_ref.new.target) c.in-Some.report read e (search rules);
+      unwritten = λ failed. absurd (let z : is_failed c.in-Some.report.now ≡ true = failed in cc);
+      kept = rw c.retire.ensures (ap (λ (xs : List ReportView). record c.args.queue.now { done = c.args.queue.now.done + 1; reports = record c.args.queue.now.reports { waiting = drop 1 xs } }) waits);
+      holds = λ read e h. held c.args.collector.now (g.D.Device.content c.args.target.now) (g.D.Device.content c.take_ref.new.target) c.in-Some.report.now read e (search rules);
     })

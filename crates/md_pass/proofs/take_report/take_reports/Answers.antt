@@ -1,17 +1,12 @@
-use Rattle.std.specs.Prelude.{IsErr, OnErr}
-use Rattle.std.proofs.Common.{Err, Ok, Result, ◌<◌, ◌≤◌, Bool, List, length, get_or, ◌∙◌, arith, subst}
+use Rattle.std.proofs.Common.{◌<◌, ◌≤◌, Bool, List, length, get_or, ◌∙◌, arith, subst}
 use Rattle.std.specs.List.{All}
 use Rattle.md_collect.specs.Collecting.{copying}
 use Rattle.md_collect.specs.declared.workers.queue.Queue.{Queue}
 use Rattle.md_pass.specs.TakingReports.{books}
 use Rattle.md_pass.specs.Passes.{HaveTakenReports}
 use Rattle.md_pass.proofs.Besides.{fails_later, writes_then}
-use Rattle.md_pass.proofs.Sweeps.{devices_then, none_left, taken_then}
+use Rattle.md_pass.proofs.Sweeps.{devices_then, none_left, on_err, taken_then}
 use Rattle.md_pass.proofs.take_report.take_reports.Goals as goal
-
-on_err : {A E P : Type 0} (r : Result A E) → IsErr r → P → OnErr r P
-on_err (Ok x) is p = cc
-on_err (Err e) is p = p
 
 pub take_round-requires : goal.take_round-requires
 take_round-requires g c =
@@ -41,12 +36,12 @@ pub returns-clause-taken : goal.returns-clause-taken
 returns-clause-taken g c =
     let inv = c.loop-round.invariant in
     let many = inv.devices.as_many in
-    let most = subst (λ (xs : List (Queue _ _ _)). All (λ (queue : Queue _ _ _). length queue.reports ≤ c.most_waiting-round-end.result) xs) c.as_slice.ensures.value c.most_waiting-round-end.ensures in
+    let most = subst (λ (xs : List (Queue _ _ _)). All (λ (queue : Queue _ _ _). length queue.reports.waiting ≤ c.most_waiting-round-end.result) xs) c.as_slice.ensures.value c.most_waiting-round-end.ensures in
     λ k d below.
     let here : k < length c.args.queues.now.items = omega (arith, many, below) in
     let all = most k d here in
     let left = inv.taken k d here in
-    none_left (get_or c.loop-round.queues.items k d).reports (omega (arith, all, left, c.loop-round-test.false))
+    none_left (get_or c.loop-round.queues.items k d).reports.waiting (omega (arith, all, left, c.loop-round-test.false))
 
 pub returns-in_err-take_round-clause-failed : goal.returns-in_err-take_round-clause-failed
 returns-in_err-take_round-clause-failed g c =

@@ -29,8 +29,8 @@ loop-k-preserved g c =
     let within : c.loop-k.k < length queues = omega (arith, many, c.len-k-end.ensures, c.loop-k-test.true) in
     let now = books c.loop-k.collector (g.D.Device.content c.loop-k.target) c.loop-k.copied in
     let next = books c.take_report.new.collector (g.D.Device.content c.take_report.new.target) c.take_report.new.copied in
-    let reports_taken : AreReportsTaken (g.D.Device.honest c.args.target.now) now next queue new queue.reports
-    = subst (λ (b : Bool). AreReportsTaken b now next queue new queue.reports) inv.writes.target.honest_kept c.in_ok-take_report.ensures.reports_taken in
+    let reports_taken : AreReportsTaken (g.D.Device.honest c.args.target.now) now next queue new queue.reports.waiting
+    = subst (λ (b : Bool). AreReportsTaken b now next queue new queue.reports.waiting) inv.writes.target.honest_kept c.in_ok-take_report.ensures.reports_taken in
     let one = goes_one (g.D.Device.honest c.args.target.now) now next queue new reports_taken in
     let before : (d : Queue _ _ _) → get_or queues c.loop-k.k d ≡ queue = λ d. get_or_default queues c.loop-k.k d queue within ∙ sym is in
     record {
@@ -38,7 +38,7 @@ loop-k-preserved g c =
       untouched = λ j d above. get_or-set_other queues c.loop-k.k j new d (λ e. absurd (omega (arith, e, above))) ∙ inv.untouched j d (omega (arith, above));
       taken = λ j d below.
           elim (same_or_other j c.loop-k.k) [
-            | inl same ↦ rw (same, get_or-set_same queues c.loop-k.k new d within) (one.1 ∙ ap (λ (l : Queue _ _ _). length l.reports - 1) (sym (before d) ∙ inv.untouched c.loop-k.k d (omega arith)))
+            | inl same ↦ rw (same, get_or-set_same queues c.loop-k.k new d within) (one.1 ∙ ap (λ (l : Queue _ _ _). length l.reports.waiting - 1) (sym (before d) ∙ inv.untouched c.loop-k.k d (omega arith)))
             | inr other ↦ rw (get_or-set_other queues c.loop-k.k j new d other) (inv.taken j d (omega (arith, below, other)))
           ];
       reports_taken = record {

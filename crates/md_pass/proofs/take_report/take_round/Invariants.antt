@@ -8,7 +8,7 @@ abbrev pub invariant-loop-k : goal.invariant-loop-k
 invariant-loop-k g l = record {
   devices : SameDevices l.initial.queues.items l.queues.items;
   untouched : (k : ℕ) (d : _) → l.k ≤ k → slice_index_or l.queues.items k d ≡ slice_index_or l.initial.queues.items k d;
-  taken : (k : ℕ) (d : _) → k < l.k → length (slice_index_or l.queues.items k d).reports ≡ length (slice_index_or l.initial.queues.items k d).reports - 1;
+  taken : (k : ℕ) (d : _) → k < l.k → length (slice_index_or l.queues.items k d).reports.waiting ≡ length (slice_index_or l.initial.queues.items k d).reports.waiting - 1;
   reports_taken : HaveTakenReports g.D.Device (g.D.Device.honest l.initial.target) (books l.initial.collector (g.D.Device.content l.initial.target) l.initial.copied)
       (books l.collector (g.D.Device.content l.target) l.copied) l.initial.queues.items l.queues.items;
   writes : WritesBeside g.D.Device l.initial.collector l.collector l.initial.target l.target;

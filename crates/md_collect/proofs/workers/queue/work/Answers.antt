@@ -1,34 +1,36 @@
-use Rattle.std.proofs.Common.{◌≡◌, ◌<◌, false, length, ap, refl, ◌∙◌, arith, subst}
+use Rattle.std.proofs.Common.{◌≡◌, length, ap, refl, ◌∙◌, arith, subst, sym}
+use Rattle.md_device.specs.Failing.{EachNewFault}
 use Rattle.md_device.proofs.Failing.{fails_none}
 use Rattle.md_collect.specs.declared.workers.queue.Queue.{Queue}
-use Rattle.md_collect.specs.Workers.Queues.{IsOfWaiting, slots_read}
+use Rattle.md_collect.specs.Workers.Queues.{IsOfWaiting}
 use Rattle.md_collect.proofs.WorkerLemmas.Gates.{told_then}
-use Rattle.md_collect.proofs.WorkerLemmas.Workers.{chunks_kept, may_go_on, none_left, none_more_lacks, none_more_read, none_more_waits, none_read, one_more_read, one_more_waits, read_anew, ready_anew, role_kept, went_on}
+use Rattle.md_collect.proofs.WorkerLemmas.Workers.{chunks_kept, done_kept, may_go_on, none_more_read, none_read, one_more_read, one_more_waits, role_kept, went_on}
 use Rattle.md_collect.proofs.workers.queue.work.Goals as goal
 
 pub loop-slot-init : goal.loop-slot-init
 loop-slot-init g c = record {
-  read = none_read (record c.args.queue.now { starved = false }) (ready_anew c.args.queue.now c.requires.ready);
+  read = none_read c.args.queue.now c.requires.ready;
   done = refl;
-  fed = refl;
   count = ap length c.requires.ready.none_waits;
-  only = fails_none (g.D.Device.faults c.args.queue.now.device) (IsOfWaiting c.args.chunks (record c.args.queue.now { starved = false }));
+  only = fails_none (g.D.Device.faults c.args.queue.now.device) (IsOfWaiting c.args.chunks c.args.queue.now);
   told = λ j from below. absurd (omega (arith, from, below));
 }
 
-pub read_next-requires : goal.read_next-requires
-read_next-requires g c = may_go_on (record c.args.queue.now { starved = false }) c.loop-slot.queue (ready_anew c.args.queue.now c.requires.ready).goes c.loop-slot.invariant.read
+pub read_next-requires-clause-may : goal.read_next-requires-clause-may
+read_next-requires-clause-may g c = may_go_on c.args.queue.now c.loop-slot.queue c.requires.ready.goes c.loop-slot.invariant.read
+
+pub read_next-requires-clause-few : goal.read_next-requires-clause-few
+read_next-requires-clause-few g c = omega (arith, c.loop-slot.invariant.count, c.loop-slot-test.true, c.requires.most.1)
 
 pub loop-slot-preserved : goal.loop-slot-preserved
 loop-slot-preserved g c =
     let inv = c.loop-slot.invariant in
-    let one = one_more_read c.args.chunks c.loop-slot.queue c.read_next.new.queue c.read_next.result c.read_next.ensures.reads c.if-not-read_next.false in
+    let one = one_more_read g.D.Device c.args.chunks c.loop-slot.queue c.read_next.new.queue c.read_next.result c.read_next.ensures.reads c.if-not-read_next.false in
     record {
-      read = went_on (record c.args.queue.now { starved = false }) c.loop-slot.queue c.read_next.new.queue c.read_next.result inv.read c.read_next.ensures.reads;
-      done = ap (λ (l : Queue _ _ _). l.done) c.read_next.ensures.reads.kept ∙ inv.done;
-      fed = one.1 ∙ inv.fed;
-      count = omega (arith, one.0, inv.count);
-      only = one_more_waits c.args.chunks c.loop-slot.queue c.read_next.new.queue (g.D.Device.faults c.args.queue.now.device) c.read_next.result c.read_next.ensures.reads c.if-not-read_next.false inv.only;
+      read = went_on c.args.queue.now c.loop-slot.queue c.read_next.new.queue c.read_next.result inv.read c.read_next.ensures.reads;
+      done = done_kept g.D.Device c.args.chunks c.loop-slot.queue c.read_next.new.queue c.read_next.result c.read_next.ensures.reads ∙ inv.done;
+      count = omega (arith, one, inv.count);
+      only = one_more_waits g.D.Device c.args.chunks c.loop-slot.queue c.read_next.new.queue (g.D.Device.faults c.args.queue.now.device) c.read_next.result c.read_next.ensures.reads c.if-not-read_next.false inv.only;
       told = told_then g.G.Gate c.args.gate.now c.args.queue.now c.loop-slot.queue c.read_next.new.queue (role_kept inv.read) (chunks_kept inv.read) inv.told c.read_next.ensures.told;
     }
 
@@ -40,23 +42,16 @@ returns-then-not-read_next-clause-told g c =
 pub returns-then-not-read_next-clause-worked : goal.returns-then-not-read_next-clause-worked
 returns-then-not-read_next-clause-worked g c =
     let inv = c.loop-slot.invariant in
-    let now = went_on (record c.args.queue.now { starved = false }) c.loop-slot.queue c.read_next.new.queue c.read_next.result inv.read c.read_next.ensures.reads in
-    let done : c.read_next.new.queue.done ≡ c.args.queue.now.done = ap (λ (l : Queue _ _ _). l.done) c.read_next.ensures.reads.kept ∙ inv.done in
+    let (same, past) = none_more_read g.D.Device c.args.chunks c.loop-slot.queue c.read_next.new.queue c.read_next.result c.read_next.ensures.reads c.if-not-read_next.true in
+    let many : length c.read_next.new.queue.reports.waiting ≡ length c.loop-slot.queue.reports.waiting = ap (λ (l : Queue _ _ _). length l.reports.waiting) same in
     record {
-      read = read_anew c.args.queue.now c.read_next.new.queue now;
-      done = done;
-      few =
-          let n = none_more_read c.args.chunks c.loop-slot.queue c.read_next.new.queue c.read_next.result c.read_next.ensures.reads c.if-not-read_next.true in
-          omega (arith, n, inv.count, c.loop-slot-test.true, c.requires.most.1);
-      some = λ fed more.
-          let past = none_left c.args.chunks c.loop-slot.queue c.read_next.new.queue c.read_next.result c.read_next.ensures.reads c.if-not-read_next.true fed in
-          let same = none_more_read c.args.chunks c.loop-slot.queue c.read_next.new.queue c.read_next.result c.read_next.ensures.reads c.if-not-read_next.true in
+      read = went_on c.args.queue.now c.loop-slot.queue c.read_next.new.queue c.read_next.result inv.read c.read_next.ensures.reads;
+      done = ap (λ (l : Queue _ _ _). l.done) same ∙ inv.done;
+      few = omega (arith, many, inv.count, c.loop-slot-test.true, c.requires.most.1);
+      some = λ more.
           let n = ap (λ (v : _). length v.items) (chunks_kept inv.read) in
-          omega (arith, past, same, n, inv.done, more);
-      only = λ fed. none_more_waits c.args.chunks c.loop-slot.queue c.read_next.new.queue (g.D.Device.faults c.args.queue.now.device) c.read_next.result c.read_next.ensures.reads c.if-not-read_next.true fed inv.only;
-      lacks = λ starved.
-          let left = none_more_lacks c.args.chunks c.loop-slot.queue c.read_next.new.queue (g.D.Device.faults c.args.queue.now.device) c.read_next.result c.read_next.ensures.reads c.if-not-read_next.true inv.fed starved inv.only in
-          record { some = subst (λ (v : _). slots_read c.read_next.new.queue < length v.items) (chunks_kept inv.read) left.0; only = left.1 };
+          omega (arith, past, many, n, inv.done, more);
+      only = subst (λ (l : Queue _ _ _). EachNewFault (g.D.Device.faults c.args.queue.now.device) (g.D.Device.faults l.device) (IsOfWaiting c.args.chunks l)) (sym same) inv.only;
     }
 
 pub returns-clause-told : goal.returns-clause-told
@@ -66,10 +61,9 @@ pub returns-clause-worked : goal.returns-clause-worked
 returns-clause-worked g c =
     let inv = c.loop-slot.invariant in
     record {
-      read = read_anew c.args.queue.now c.loop-slot.queue inv.read;
+      read = inv.read;
       done = inv.done;
       few = omega (arith, inv.count, c.loop-slot.auto._slot-end, c.requires.most.1);
-      some = λ fed more. omega (arith, inv.count, c.loop-slot-test.false, c.requires.most.0);
-      only = λ fed. inv.only;
-      lacks = λ starved. absurd (let fed = inv.fed in cc);
+      some = λ more. omega (arith, inv.count, c.loop-slot-test.false, c.requires.most.0);
+      only = inv.only;
     }

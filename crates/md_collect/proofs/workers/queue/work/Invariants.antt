@@ -1,4 +1,4 @@
-use Rattle.std.proofs.Common.{◌≡◌, false, length}
+use Rattle.std.proofs.Common.{◌≡◌, length}
 use Rattle.md_device.specs.Failing.{EachNewFault}
 use Rattle.md_collect.specs.Workers.Gates.{IsToldOfReads}
 use Rattle.md_collect.specs.Workers.Queues.{HasRead, IsOfWaiting}
@@ -8,8 +8,7 @@ abbrev pub invariant-loop-slot : goal.invariant-loop-slot
 invariant-loop-slot g l = record {
   read : HasRead g.D.Device l.chunks 0 l.initial.queue l.queue;
   done : l.queue.done ≡ l.initial.queue.done;
-  fed : l.queue.starved ≡ false;
-  count : length l.queue.reports ≡ l._slot;
+  count : length l.queue.reports.waiting ≡ l._slot;
   only : EachNewFault (g.D.Device.faults l.initial.queue.device) (g.D.Device.faults l.queue.device) (IsOfWaiting l.chunks l.queue);
   told : IsToldOfReads g.G.Gate l.gate l.initial.queue l.queue;
 }
