@@ -24,3 +24,5 @@ mod PairsInTurn
 mod LentSlices
 -- The first member is read a window ahead, and its bytes change places with those of the window before.
 mod LedAhead
+-- What a gate was told, over several reads.
+mod SectorsTold

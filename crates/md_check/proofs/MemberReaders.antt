@@ -13,7 +13,8 @@ use Rattle.md_badblocks.specs.declared.run.Run.{Run}
 use Rattle.md_badblocks.specs.Runs.{IsBad}
 use Rattle.md_bitmap.specs.declared.chunks.Chunks.{Chunks}
 use Rattle.md_collect.specs.Reading.{CountsFailure}
-use Rattle.md_assembly.specs.States.{is_in_sync}
+use Rattle.md_collect.specs.declared.workers.gate.Gate.{Ghosts as Gates}
+use Rattle.md_assembly.specs.States.{is_in_sync, is_in_sync_as}
 use Rattle.md_assembly.proofs.Indices.{got_same, got_within}
 use Rattle.md_kept_members.specs.View.{MemberView}
 use Rattle.md_collect.specs.Workers.Queues.{OnlyRead}
@@ -26,18 +27,20 @@ use Rattle.md_state.specs.View.{ArrayView, Disk, MirrorView, disk_of, of_disks}
 use Rattle.md_array.specs.Consistency.{IsConsistent}
 use Rattle.md_array.specs.Steps.Lend.{AreBack}
 use Rattle.md_array.specs.Worlds as worlds
+use Rattle.md_array.proofs.Worlds.SectorCopied.{in_sync_as}
 use Rattle.md_check.specs.declared.lent.Missed.{Missed}
 use Rattle.md_check.specs.declared.order.Order.{Order}
 use Rattle.md_check.specs.declared.reader.Reader.{Reader}
 use Rattle.md_check.specs.declared.found.Comparison.{Comparison}
 use Rattle.md_check.specs.declared.found.Pair.{Pair}
-use Rattle.md_check.specs.Checking.{AreBetween, Checks, ComparesMembers, FailsChecking, FindsMismatches, FindsOfPairs, UsesInSync}
+use Rattle.md_check.specs.Checking.{AreBetween, Checks, ComparesMembers, FailsChecking, FindsMismatches, FindsOfPairs, IsToldOfMembers, UsesInSync}
 use Rattle.md_check.specs.Differences.{AreCompared, AreDifferent, DifferIn, IsEmpty, IsSized}
 use Rattle.md_check.specs.Mismatches.{Mismatches, MismatchesBetween, Shows}
 use Rattle.md_check.specs.Pairs.{pair_names, pairs_in_sync}
 use Rattle.md_check.specs.Plans.{AreOrders, IsReaderOf}
 use Rattle.md_check.specs.Readings.{FailsUnlisted, MissesChunk, MissesIn}
 use Rattle.md_check.specs.Readers.{AreReadersHonest, AreReadersRead, HaveNotFailed, HasDataOnDevice, OnlyReaderRead, ReaderShows, on_device}
+use Rattle.md_check.specs.Told.{IsToldOfReader}
 use Rattle.md_check.proofs.ChunkFaults.{listed_less}
 use Rattle.md_check.proofs.Compared.{names_stay, pairs_stay, still_sized}
 use Rattle.md_check.proofs.Differing.{between_as, differ_as}
@@ -148,6 +151,7 @@ module _ {D : Type 0} (g : Ghosts D) (old : MirrorView) (sound : IsConsistent ol
   record StandsFor (k : ℕ) (reader : Reader D) (disk : Disk) (m : MemberView) : Type 0 where
     disk_is : disk ≡ disk_of g reader.device
     reads : is_some reader.role ≡ is_in_sync m.state
+    role : (role : ℕ) → is_in_sync_as role m.state ≡ true → role < 256 → reader.role ≡ Some role
     offset : reader.offset ≡ m.superblock.data_offset
     listed : (s : ℕ) → IsBad reader.listed s ↔ IsBad m.bad (m.superblock.data_offset + s)
     room_is : length reader.bytes.items ≡ room
@@ -167,6 +171,7 @@ module _ {D : Type 0} (g : Ghosts D) (old : MirrorView) (sound : IsConsistent ol
       record {
         disk_is = got_same old.disks k disk (disk_of g device.0) at_disk there ∙ ap (disk_of g) (sym is.device_is);
         reads = ap is_some is.role ∙ by.reads;
+        role = λ role in_sync few. is.role ∙ by.role role in_sync few;
         offset = is.offset ∙ by.offset;
         listed = λ s. subst (λ (runs : List Run). IsBad runs s ↔ IsBad m.bad (m.superblock.data_offset + s)) (sym is.listed) (by.listed s);
         room_is = ap (λ (v : _). length v.items) is.bytes ∙ by.room_is;
@@ -239,6 +244,26 @@ module _ {D : Type 0} (g : Ghosts D) (old : MirrorView) (sound : IsConsistent ol
       let m = member_at k within in
       let is = (stands k (get_or readers k d) disk.0 m.0 (reader_at k d within) disk.1 m.1).room_is in
       omega (arith, is)
+
+  -- what the gate was told of all readers
+  pub told_of_members : {G : Type 0} (t : Gates G) (gate : G) → All (λ (s : Reader D). IsToldOfReader t gate old.array.chunks 0 old.array.chunks.size s) readers → IsToldOfMembers t gate old.array
+  told_of_members t gate told two k role c m at in_sync some =
+      let low = slice_get_within old.array.members k m at in
+      let within : k < length readers = omega (arith, members_many, low) in
+      let disk = disk_at k within in
+      let reader = got_within readers k within in
+      let its = stands k reader.0 disk.0 m reader.1 disk.1 at in
+      let below = sound.roles.below k role m at (in_sync_as role m.state in_sync).1 in
+      let few = old.array.shared.in_profile.few_disks in
+      let of_reader = subst (λ (s : Reader D). IsToldOfReader t gate old.array.chunks 0 old.array.chunks.size s) (get_or_from_slice_get readers k reader.0 reader.0 reader.1) (told k reader.0 within) in
+      of_reader role (its.role role in_sync (omega (arith, below, few))) c
+      (record {
+        sector = some.sector;
+        not_before = omega arith;
+        before = let inside = some.inside.within in omega arith;
+        inside = some.inside;
+        unlisted = λ bad. some.unlisted ((its.listed some.sector).0 bad);
+      })
 
   -- a pair's chunks, seen from the mirror
   pub mismatches_between : (found : Comparison) → AreCompared (ReaderShows (on_device g) readers) old.array.chunks old.array.chunks.size found → All (λ (pair : Pair). AreBetween old.disks old.array pair) found.pairs.items

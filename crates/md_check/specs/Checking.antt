@@ -3,7 +3,9 @@ use Rattle.std.specs.Prelude.{◌≡◌, ℕ, ◌<◌, ◌↔◌, true, false, L
 use Rattle.std.specs.List.{All}
 use Rattle.md_bitmap.specs.Marks.{Bitmap, is_set}
 use Rattle.md_bitmap.specs.Chunks.{InChunk}
-use Rattle.md_assembly.specs.States.{is_in_sync}
+use Rattle.md_collect.specs.declared.workers.gate.Gate.{Ghosts}
+use Rattle.md_collect.specs.Workers.Gates.{IsTold}
+use Rattle.md_assembly.specs.States.{is_in_sync, is_in_sync_as}
 use Rattle.md_kept_members.specs.View.{MemberView}
 use Rattle.md_state.specs.DeviceChanges.{EachPair}
 use Rattle.md_state.specs.DiskWrites.{AtDevice}
@@ -68,6 +70,19 @@ pub record FindsOfPairs (before after : Comparison) (old new : MirrorView) : Typ
   pub bits : AreHonest old.disks
       → (c : ℕ) → (is_set after.chunks.bytes c ≡ true) ↔ Mismatches old.disks old.array c
   pub between : AreHonest old.disks → All (λ pair. AreBetween old.disks old.array pair) after.pairs.items
+
+-- the chunk has a sector that the member does not list
+pub record HasUnlistedSector (a : ArrayView) (m : MemberView) (c : ℕ) : Type 0 where
+  pub sector : ℕ
+  pub inside : InChunk a.chunks.sectors a.chunks.size c sector
+  pub unlisted : Lists m sector → ⊥
+
+-- Where two members are in sync, the gate was told of the read of each chunk of each of them, in the member's role; of a chunk
+-- of which the member lists each sector nothing is said.
+abbrev pub IsToldOfMembers : {G : Type 0} → Ghosts G → G → ArrayView → Type 0
+IsToldOfMembers t gate a =
+    (IsAlone a → ⊥) → (k role c : ℕ) (m : MemberView) → IsMember a k m → is_in_sync_as role m.state ≡ true
+    → HasUnlistedSector a m c → IsTold t gate role c
 
 -- Member j is in sync, and the first whose device counts one failure more or several: a read of nothing but bytes of this chunk
 -- failed, and of no sector that it lists.

@@ -8,6 +8,8 @@ pub mod Readers
 pub mod Showing
 -- What a worker reads of its reader's member.
 pub mod Readings
+-- What a gate is told of the members that are read.
+pub mod Told
 -- What a member's worker has to know of it, made before its device is lent.
 pub mod Plans
 -- Mismatches: the chunks in which two members in sync differ in a sector that neither lists.

@@ -1,7 +1,7 @@
 -- What a member's worker has to know of it, made before its device is lent.
-use Rattle.std.specs.Prelude.{◌≡◌, ℕ, ◌+◌, ◌↔◌, is_some, List, length, slice_get, Some}
+use Rattle.std.specs.Prelude.{◌≡◌, ℕ, ◌+◌, ◌<◌, ◌↔◌, true, is_some, List, length, slice_get, Some}
 use Rattle.md_badblocks.specs.Runs.{IsBad}
-use Rattle.md_assembly.specs.States.{is_in_sync}
+use Rattle.md_assembly.specs.States.{is_in_sync, is_in_sync_as}
 use Rattle.md_kept_members.specs.View.{MemberView}
 use Rattle.md_state.specs.Members.{IsMember}
 use Rattle.md_state.specs.View.{ArrayView}
@@ -11,6 +11,7 @@ use Rattle.md_check.specs.declared.order.Order.{Order}
 -- the order for a member's worker, with room for so many bytes
 pub record IsOrderFor (m : MemberView) (room : ℕ) (order : Order) : Type 0 where
   pub reads : is_some order.role ≡ is_in_sync m.state
+  pub role : (role : ℕ) → is_in_sync_as role m.state ≡ true → role < 256 → order.role ≡ Some role
   pub offset : order.offset ≡ m.superblock.data_offset
   pub listed : (s : ℕ) → IsBad order.listed s ↔ IsBad m.bad (m.superblock.data_offset + s)
   pub room_is : length order.bytes.items ≡ room

@@ -1,9 +1,9 @@
 // The members of a mirror are compared.
-ghost use Rattle.std.specs.Prelude.{◌≡◌, MatchResult, true, false};
+ghost use Rattle.std.specs.Prelude.{◌≡◌, MatchResult, OnOk, true, false};
 ghost use Rattle.md_state.specs.Steps.MakeClean.{IsIdle};
 ghost use Rattle.md_state.specs.Members.{IsAlone};
 ghost use Rattle.md_array.specs.Consistency.{IsConsistent};
-ghost use Rattle.md_check.specs.Checking.{Checks, ComparesMembers, FindsOfPairs, RefusesCheck};
+ghost use Rattle.md_check.specs.Checking.{Checks, ComparesMembers, FindsOfPairs, IsToldOfMembers, RefusesCheck};
 ghost use Rattle.md_check.specs.Differences.{IsEmpty, IsSized};
 
 use crate::fault::CheckFault;
@@ -39,6 +39,7 @@ pub fn compare_members<D: Device + Drop + Send, G: Gate + Sync, R: Threads + Syn
     ensures gives { MatchResult result
         (ComparesMembers mirror.old mirror.new) (RefusesCheck mirror.old mirror.new) }
     ensures sound { IsConsistent mirror.new }
+    ensures told { OnOk result (IsToldOfMembers G.Gate gate.now mirror.old.array) }
 {
     check_idle(mirror)?;
     let chunks = Marks::none(alloc, mirror.chunks().count())?;
@@ -58,6 +59,7 @@ pub fn check_array<D: Device + Drop + Send, G: Gate + Sync, R: Threads + Sync>(
     requires sound { IsConsistent mirror.old }
     ensures gives { MatchResult result (Checks mirror.old mirror.new) (RefusesCheck mirror.old mirror.new) }
     ensures sound { IsConsistent mirror.new }
+    ensures told { OnOk result (IsToldOfMembers G.Gate gate.now mirror.old.array) }
 {
     check_idle(mirror)?;
     let chunks = Marks::none(alloc, mirror.chunks().count())?;
@@ -95,6 +97,7 @@ fn compare<D: Device + Drop + Send, G: Gate + Sync, R: Threads + Sync>(
     ensures gives { MatchResult result (λ _. FindsOfPairs found.old found.new mirror.old mirror.new)
         (RefusesCheck mirror.old mirror.new) }
     ensures sound { IsConsistent mirror.new }
+    ensures told { OnOk result (IsToldOfMembers G.Gate gate.now mirror.old.array) }
 {
     if has_two_in_sync(mirror) {
         lend_and_compare(rt, alloc, mirror, gate, found)?;
@@ -135,6 +138,7 @@ fn lend_and_compare<D: Device + Drop + Send, G: Gate + Sync, R: Threads + Sync>(
     ensures gives { MatchResult result (λ _. FindsOfPairs found.old found.new mirror.old mirror.new)
         (RefusesCheck mirror.old mirror.new) }
     ensures sound { IsConsistent mirror.new }
+    ensures told { OnOk result (IsToldOfMembers G.Gate gate.now mirror.old.array) }
 {
     let chunks = mirror.chunks();
     let room = 512 * WINDOW.min(chunks.size) as usize;

@@ -4,6 +4,7 @@ ghost use Rattle.std.specs.List.{All};
 ghost use Rattle.md_check.specs.Differences.{AreCompared, IsEmpty, IsSized, KeepsPairs};
 ghost use Rattle.md_check.specs.Readings.{MissesIn};
 ghost use Rattle.md_check.specs.Readers.{AreReadersHonest, AreReadersRead, HaveNotFailed, HasDataOnDevice, ReaderShows, on_device};
+ghost use Rattle.md_check.specs.Told.{IsToldOfReader};
 
 use crate::alike::first_read;
 use crate::compare::compare_window;
@@ -50,6 +51,7 @@ pub(crate) fn check_lent<D: Device + Send, G: Gate + Sync, R: Threads + Sync>(
     ensures unfailing { OnOk result (HaveNotFailed D.Device (length readers.old.items) readers.old.items readers.new.items) }
     ensures missed { IfErr result (λ missed. MissesIn D.Device chunks readers.old.items readers.new.items missed) }
     ensures read { AreReadersRead D.Device readers.old.items readers.new.items }
+    ensures told { OnOk result (All (λ reader. IsToldOfReader G.Gate gate.now chunks 0 chunks.size reader) readers.old.items) }
 {
     let first = first_read(readers.as_slice()).unwrap_or(0);
     let mut from = WINDOW.min(chunks.size);
@@ -93,6 +95,7 @@ fn check_first<D: Device + Send, G: Gate + Sync, R: Threads + Sync>(
     ensures read { AreReadersRead D.Device readers.old.items readers.new.items }
     ensures long { (k : ℕ) (d : _) → k < length readers.old.items
         → length (slice_index_or readers.new.items k d).bytes.items ≡ length (slice_index_or readers.old.items k d).bytes.items }
+    ensures told { OnOk result (All (λ reader. IsToldOfReader G.Gate gate.now chunks 0 sectors reader) readers.old.items) }
 {
     first_turn(rt, gate, chunks, sectors, readers);
     if let Some(missed) = first_missed(readers.as_slice()) {

@@ -1,6 +1,6 @@
 // What a member's worker has to know of it.
-ghost use Rattle.std.specs.Prelude.{◌≡◌, ◌<◌, ℕ, IfOk, Some, is_some, length, slice_get};
-ghost use Rattle.md_assembly.specs.States.{is_in_sync};
+ghost use Rattle.std.specs.Prelude.{◌≡◌, ◌<◌, ℕ, IfOk, Some, is_some, length, slice_get, true};
+ghost use Rattle.md_assembly.specs.States.{is_in_sync, is_in_sync_as};
 ghost use Rattle.md_kept_members.specs.View.{MemberView};
 ghost use Rattle.md_state.specs.Members.{IsMember};
 ghost use Rattle.md_check.specs.Plans.{AreOrders, IsOrderFor};
@@ -63,7 +63,7 @@ fn order_for<D: Device + Drop>(
 // The role of a member in sync, as a gate is told it: roles are below 32.
 fn role_to_read(state: MemberState) -> Option<u8>
     ensures reads { is_some result ≡ is_in_sync state }
-    ensures role { (role : ℕ) → state ≡ MemberState.InSync role → role < 256 → result ≡ Some role }
+    ensures role { (role : ℕ) → is_in_sync_as role state ≡ true → role < 256 → result ≡ Some role }
 {
     match state {
         MemberState::InSync(role) => Some(role.min(255) as u8),

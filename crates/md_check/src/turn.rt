@@ -1,8 +1,9 @@
 // A turn: each member is read by a worker of its own.
-ghost use Rattle.std.specs.Prelude.{◌≡◌, ◌+◌, ◌*◌, ◌/◌, ◌%◌, ◌<◌, ◌≤◌, [], ℕ, length, slice_index_or};
+ghost use Rattle.std.specs.Prelude.{◌≡◌, ◌+◌, ◌*◌, ◌/◌, ◌%◌, ◌<◌, ◌≤◌, [], ℕ, None, length, slice_index_or};
 ghost use Rattle.std.specs.List.{All};
 ghost use Rattle.md_check.specs.Readings.{HasLed, HasTurned, IsLead};
 ghost use Rattle.md_check.specs.Readers.{HasDataOnDevice};
+ghost use Rattle.md_check.specs.Told.{IsToldOfReader};
 
 use crate::reader::Reader;
 use crate::window::Window;
@@ -38,6 +39,13 @@ pub(crate) fn turn<D: Device + Send, G: Gate + Sync, R: Threads + Sync>(
     ensures led { (k : ℕ) (d : _) → k < length readers.old.items → k ≡ window.first
         → HasLed D.Device (window.from + length lead.now / 512) window.ahead
         (slice_index_or readers.old.items k d) (slice_index_or readers.new.items k d) }
+    ensures told { (k : ℕ) (d : _) → k < length readers.old.items → (k ≡ window.first → ⊥)
+        → (slice_index_or readers.new.items k d).missed ≡ None
+        → IsToldOfReader G.Gate gate.now chunks window.from (length lead.now / 512) (slice_index_or readers.old.items k d) }
+    ensures told_ahead { (k : ℕ) (d : _) → k < length readers.old.items → k ≡ window.first
+        → (slice_index_or readers.new.items k d).missed ≡ None
+        → IsToldOfReader G.Gate gate.now chunks (window.from + length lead.now / 512) window.ahead
+        (slice_index_or readers.old.items k d) }
 {
     let threads = readers.len().max(1);
     thread::for_each_mut(
@@ -62,6 +70,8 @@ pub(crate) fn first_turn<D: Device + Send, G: Gate + Sync, R: Threads + Sync>(
     ensures len { length readers.new.items ≡ length readers.old.items }
     ensures turned { (k : ℕ) (d : _) → k < length readers.old.items
         → HasTurned D.Device chunks 0 sectors sectors [] (slice_index_or readers.old.items k d) (slice_index_or readers.new.items k d) }
+    ensures told { (k : ℕ) (d : _) → k < length readers.old.items → (slice_index_or readers.new.items k d).missed ≡ None
+        → IsToldOfReader G.Gate gate.now chunks 0 sectors (slice_index_or readers.old.items k d) }
 {
     let threads = readers.len().max(1);
     thread::for_each_mut(

@@ -1,5 +1,5 @@
 // A member's worker reads a window: the sectors that the member does not list, chunk by chunk.
-ghost use Rattle.std.specs.Prelude.{◌≡◌, ◌+◌, ◌*◌, ◌/◌, ◌%◌, ◌<◌, ◌≤◌, [], ℕ, IfErr, IfOk, OnErr, OnOk, if◌then◌else◌, length, take, true};
+ghost use Rattle.std.specs.Prelude.{◌≡◌, ◌+◌, ◌*◌, ◌/◌, ◌%◌, ◌<◌, ◌≤◌, [], ℕ, IfErr, IfOk, None, OnErr, OnOk, if◌then◌else◌, length, take, true};
 ghost use Rattle.md_device.specs.Device.{held};
 ghost use Rattle.md_badblocks.specs.Runs.{IsBad};
 ghost use Rattle.md_collect.specs.Places.{HasRoom};
@@ -8,6 +8,7 @@ ghost use Rattle.md_collect.specs.Reading.{CountsFailure};
 ghost use Rattle.md_collect.specs.Workers.Queues.{OnlyRead};
 ghost use Rattle.md_check.specs.Readings.{FailsUnlisted, HasLed, HasReadSectors, HasTurned, HasUnlisted, IsLead, IsToRead};
 ghost use Rattle.md_check.specs.Readers.{HasDataOnDevice, IsUsed};
+ghost use Rattle.md_check.specs.Told.{IsToldOfReader, IsToldOfSectors};
 
 use crate::reader::Reader;
 use crate::window::{Part, Window};
@@ -37,6 +38,10 @@ pub(crate) fn work<D: Device, G: Gate>(
     requires lead { k ≡ window.first → IsLead D.Device window.from lead.now reader.old }
     ensures turned { HasTurned D.Device chunks window.from (length lead.now / 512) (length lead.now / 512 + window.ahead) lead.now reader.old reader.new }
     ensures led { k ≡ window.first → HasLed D.Device (window.from + length lead.now / 512) window.ahead reader.old reader.new }
+    ensures told { (k ≡ window.first → ⊥) → reader.new.missed ≡ None
+        → IsToldOfReader G.Gate gate.now chunks window.from (length lead.now / 512) reader.old }
+    ensures told_ahead { k ≡ window.first → reader.new.missed ≡ None
+        → IsToldOfReader G.Gate gate.now chunks (window.from + length lead.now / 512) window.ahead reader.old }
 {
     if k == window.first {
         reader.alike = true;
@@ -57,7 +62,8 @@ pub(crate) fn begin<D: Device, G: Gate>(
     requires inside { sectors ≤ chunks.size }
     requires room { 512 * sectors ≤ length reader.old.bytes.items }
     requires read_here { HasDataOnDevice D.Device chunks reader.old }
-    ensures { HasTurned D.Device chunks 0 sectors sectors [] reader.old reader.new }
+    ensures turned { HasTurned D.Device chunks 0 sectors sectors [] reader.old reader.new }
+    ensures told { reader.new.missed ≡ None → IsToldOfReader G.Gate gate.now chunks 0 sectors reader.old }
 {
     reader.alike = false;
     fill(gate, chunks, 0, sectors, reader);
@@ -74,7 +80,8 @@ fn fill<D: Device, G: Gate>(
     requires inside { from + sectors ≤ chunks.size }
     requires room { 512 * sectors ≤ length reader.old.bytes.items }
     requires read_here { HasDataOnDevice D.Device chunks reader.old }
-    ensures { HasReadSectors D.Device chunks from sectors reader.old reader.new }
+    ensures read { HasReadSectors D.Device chunks from sectors reader.old reader.new }
+    ensures told { reader.new.missed ≡ None → IsToldOfReader G.Gate gate.now chunks from sectors reader.old }
 {
     reader.missed = None;
     let Some(role) = reader.role else {
@@ -97,7 +104,9 @@ fn follow<D: Device, G: Gate>(
     requires inside { from + length lead.now / 512 ≤ chunks.size }
     requires room { length lead.now ≤ length reader.old.bytes.items }
     requires read_here { HasDataOnDevice D.Device chunks reader.old }
-    ensures { HasTurned D.Device chunks from (length lead.now / 512) (length lead.now / 512) lead.now reader.old reader.new }
+    ensures turned { HasTurned D.Device chunks from (length lead.now / 512) (length lead.now / 512) lead.now reader.old reader.new }
+    ensures told { reader.new.missed ≡ None
+        → IsToldOfReader G.Gate gate.now chunks from (length lead.now / 512) reader.old }
 {
     let was_alike = reader.alike;
     reader.missed = None;
@@ -139,6 +148,7 @@ fn read_beside<D: Device, G: Gate>(
     ensures missed { IfErr result (λ c. IsToRead chunks reader.old.listed from (length lead.now / 512) c) }
     ensures failed { OnErr result (CountsFailure D.Device reader.old.device reader.new.device) }
     ensures there { IfErr result (λ c. FailsUnlisted D.Device reader.old.device reader.new.device reader.old.offset chunks (IsBad reader.old.listed) c) }
+    ensures told { OnOk result (IsToldOfSectors G.Gate gate.now role chunks reader.old.listed from (length lead.now / 512)) }
 {
     if is_read_alike(gate, chunks, from, lead, role, reader)? {
         return Ok(true);
@@ -167,6 +177,8 @@ fn is_read_alike<D: Device, G: Gate>(
     ensures missed { IfErr result (λ c. IsToRead chunks reader.old.listed from (length lead.now / 512) c) }
     ensures failed { OnErr result (CountsFailure D.Device reader.old.device reader.new.device) }
     ensures there { IfErr result (λ c. FailsUnlisted D.Device reader.old.device reader.new.device reader.old.offset chunks (IsBad reader.old.listed) c) }
+    ensures told { IfOk result (λ alike. alike ≡ true
+        → IsToldOfSectors G.Gate gate.now role chunks reader.old.listed from (length lead.now / 512)) }
 {
     let mut done = 0;
     while done < lead.len() {
@@ -203,6 +215,7 @@ fn is_block_alike<D: Device, G: Gate>(
     ensures missed { IfErr result (λ c. IsToRead chunks reader.old.listed from (length block.now / 512) c) }
     ensures failed { OnErr result (CountsFailure D.Device reader.old.device reader.new.device) }
     ensures there { IfErr result (λ c. FailsUnlisted D.Device reader.old.device reader.new.device reader.old.offset chunks (IsBad reader.old.listed) c) }
+    ensures told { OnOk result (IsToldOfSectors G.Gate gate.now role chunks reader.old.listed from (length block.now / 512)) }
 {
     let sectors = block.len() as u64 / 512;
     read_into(gate, chunks, Part { from, sectors }, role, reader)?;
@@ -235,6 +248,7 @@ fn read_into<D: Device, G: Gate>(
     ensures missed { IfErr result (λ c. IsToRead chunks reader.old.listed part.from part.sectors c) }
     ensures failed { OnErr result (CountsFailure D.Device reader.old.device reader.new.device) }
     ensures there { IfErr result (λ c. FailsUnlisted D.Device reader.old.device reader.new.device reader.old.offset chunks (IsBad reader.old.listed) c) }
+    ensures told { OnOk result (IsToldOfSectors G.Gate gate.now role chunks reader.old.listed part.from part.sectors) }
 {
     read_part(
         gate,
@@ -269,6 +283,7 @@ fn read_part<D: Device, G: Gate>(
     ensures missed { IfErr result (λ c. IsToRead chunks listed.now part.from part.sectors c) }
     ensures failed { OnErr result (CountsFailure D.Device device.old device.new) }
     ensures there { IfErr result (λ c. FailsUnlisted D.Device device.old device.new offset chunks (IsBad listed.now) c) }
+    ensures told { OnOk result (IsToldOfSectors G.Gate gate.now role chunks listed.now part.from part.sectors) }
 {
     let mut done = 0;
     while done < part.sectors {
@@ -303,6 +318,7 @@ fn read_front<D: Device, G: Gate>(
     ensures missed { IfErr result (λ c. IsToRead chunks listed.now sector 1 c) }
     ensures failed { OnErr result (CountsFailure D.Device device.old device.new) }
     ensures there { IfErr result (λ c. FailsUnlisted D.Device device.old device.new offset chunks (IsBad listed.now) c) }
+    ensures told { IfOk result (λ n. IsToldOfSectors G.Gate gate.now role chunks listed.now sector n) }
 {
     let chunk = chunks.chunk_of(sector);
     let (start, sectors) = chunks.range(chunk);

@@ -8,7 +8,8 @@ use Rattle.md_check.specs.declared.reader.Reader.{Reader}
 use Rattle.md_check.specs.Differences.{AreCompared, IsSized}
 use Rattle.md_check.specs.Readings.{MissesIn}
 use Rattle.md_check.specs.Readers.{HasDataOnDevice, ReaderShows, on_device}
-use Rattle.md_check.proofs.MemberReaders.{all_read_here, come_back, fails_checking, honest_readers, mismatches, mismatches_between, none_failed, rests_with, rooms, uses_in_sync}
+use Rattle.md_check.specs.Told.{IsToldOfReader}
+use Rattle.md_check.proofs.MemberReaders.{all_read_here, come_back, fails_checking, honest_readers, mismatches, mismatches_between, none_failed, rests_with, rooms, told_of_members, uses_in_sync}
 use Rattle.md_check.proofs.check.lend_and_compare.Goals as goal
 
 pub check_lent-answer-requires-clause-read_here : goal.check_lent-answer-requires-clause-read_here
@@ -85,3 +86,10 @@ returns-clause-sound g c =
     c.lend-devices.ensures.sound now
     (come_back g.D.Device old c.requires.sound (512 * c.min.result) c.lend-devices.result.now.items c.in_ok-orders.orders.items readers c.lend-devices.ensures.devices c.in_ok-orders.ensures c.readers_of.ensures.len c.readers_of.ensures.readers
     news c.check_lent-answer.ensures.read now (ap (λ xs. record old { disks = map (disk_of g.D.Device) xs }) c.leave_readers.ensures))
+
+pub returns-in-Ok-clause-told : goal.returns-in-Ok-clause-told
+returns-in-Ok-clause-told g c =
+    let readers = c.readers_of.new.readers.items in
+    told_of_members g.D.Device c.args.mirror.now c.requires.sound (512 * c.min.result) c.lend-devices.result.now.items c.in_ok-orders.orders.items readers c.lend-devices.ensures.devices c.in_ok-orders.ensures c.readers_of.ensures.len c.readers_of.ensures.readers
+    g.G.Gate c.args.gate.now
+    (subst (λ (chunks : Chunks). All (λ (s : Reader _). IsToldOfReader g.G.Gate c.args.gate.now chunks 0 chunks.size s) readers) c.chunks-chunks.ensures c.in-Ok.ensures.told)

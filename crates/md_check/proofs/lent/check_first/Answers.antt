@@ -40,3 +40,8 @@ returns-clause-compared g c = λ honest.
     (compared_none (ReaderShows (on_device g.D.Device) firsts) c.args.chunks old c.requires.none) adds
     (λ s up below k bytes. from_device [] 0 sectors firsts firsts news (none_read firsts) c.first_turn.ensures.len c.first_turn.ensures.turned none honest s up below k bytes)
     (λ s up below k bytes. from_window [] 0 sectors firsts firsts news (none_read firsts) c.first_turn.ensures.len c.first_turn.ensures.turned none honest s up below k bytes))
+
+pub returns-clause-told : goal.returns-clause-told
+returns-clause-told g c =
+    let none : All (λ (s : Reader _). s.missed ≡ None) c.first_turn.new.readers.items = subst (λ (xs : List (Reader _)). All (λ (s : Reader _). s.missed ≡ None) xs) c.as_slice.ensures.value c.in_default.ensures in
+    λ k d below. c.first_turn.ensures.told k d below (none k d (let len = c.first_turn.ensures.len in omega arith))

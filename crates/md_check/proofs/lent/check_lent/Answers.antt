@@ -1,13 +1,15 @@
-use Rattle.std.proofs.Common.{◌≡◌, ◌∙◌, ◌+◌, ◌*◌, ◌/◌, ◌<◌, ◌≤◌, ℕ, List, length, take, get_or, min, None, Some, ap, sym, subst, arith, vec_len}
+use Rattle.std.proofs.Common.{◌≡◌, ◌∙◌, ◌+◌, ◌*◌, ◌/◌, ◌<◌, ◌≤◌, ℕ, List, length, take, get_or, min, None, Some, inl, inr, refl, ap, sym, subst, arith, vec_len}
 use Rattle.std.proofs.lemmas.List.{length-take-le}
 use Rattle.std.specs.List.{All}
 use Rattle.md_check.specs.declared.reader.Reader.{Reader}
 use Rattle.md_check.specs.Differences.{AddsCompared, AreCompared}
 use Rattle.md_check.specs.Readings.{HasLed, HasTurned, IsLead}
 use Rattle.md_check.specs.Readers.{AreReadersRead, HaveNotFailed, ReaderShows, in_window, on_device}
-use Rattle.md_check.proofs.Compared.{compared_after, compared_keeps, pairs_stay_then, still_sized}
+use Rattle.md_check.specs.Told.{IsToldOfReader}
+use Rattle.md_check.proofs.Compared.{compared_after, compared_keeps, pairs_stay_then, same_or_other, still_sized}
 use Rattle.md_check.proofs.LedAhead.{lead_room_after, next_lead, read_exchanged, rooms_exchanged, same_but_bytes, unfailing_exchanged}
 use Rattle.md_check.proofs.LentSlices.{comes_back}
+use Rattle.md_check.proofs.SectorsTold.{reader_told_then, told_before}
 use Rattle.md_check.proofs.WindowsRead.{from_device, from_window, misses_in, read_here_still, turn_read, turn_unfailing}
 use Rattle.md_check.proofs.lent.check_lent.Goals as goal
 
@@ -26,6 +28,10 @@ loop-from-init g c =
       lead = λ k d below same reads honest i low unlisted. absurd (let none : length (take (512 * 0) c.args.lead.now.items) ≡ 512 * 0 = length-take-le (512 * 0) c.args.lead.now.items (omega arith) in omega arith);
       kept = c.check_first.ensures.kept;
       compared = c.in_ok-check_first.ensures.compared;
+      told = c.in_ok-check_first.ensures.told;
+      told_ahead = λ k d below first.
+          let same : c.min-from.result ≡ c.min-from.result + 0 = omega arith in
+          subst (λ n. IsToldOfReader g.G.Gate c.args.gate.now c.args.chunks 0 n (get_or c.args.readers.now.items k d)) same (c.in_ok-check_first.ensures.told k d below);
     }
 
 pub turn-requires-clause-lead : goal.turn-requires-clause-lead
@@ -86,6 +92,7 @@ returns-in-Some g c =
       unfailing = tt;
       missed = misses_in firsts olds news missed inv.read inv.unfailing c.turn.ensures.len c.turn.ensures.turned noted.0 noted.1 noted.2;
       read = turn_read firsts olds news inv.read c.turn.ensures.len c.turn.ensures.turned;
+      told = tt;
     }
 
 pub loop-from-preserved : goal.loop-from-preserved
@@ -150,6 +157,19 @@ loop-from-preserved g c =
       compared = λ honest. compared_after (ReaderShows (on_device g.D.Device) firsts) (ReaderShows (in_window bytes from) mids) c.args.chunks from (from + sectors) c.loop-from.found c.compare_window.new.found (omega arith) (inv.compared honest) adds
           (λ s up below k shown. from_device bytes from (length bytes / 512) firsts olds mids inv.read len turned none honest s up (omega arith) k shown)
           (λ s up below k shown. from_window bytes from (length bytes / 512) firsts olds mids inv.read len turned none honest s up (omega arith) k shown);
+      told = λ k d below.
+          elim (same_or_other k first) [
+            | inl same ↦ inv.told_ahead k d below same
+            | inr other ↦
+                let at : k < length olds = omega arith in
+                reader_told_then g.G.Gate c.args.gate.now c.args.chunks 0 from from (length bytes / 512) (from + sectors) (get_or firsts k d) (omega arith) (omega arith) (inv.told k d below)
+                (told_before g.G.Gate c.args.gate.now c.args.chunks from (length bytes / 512) (get_or firsts k d) (get_or olds k d) (inv.read.each k d below) (c.turn.ensures.told k d at other (none k d (omega arith))))
+          ];
+      told_ahead = λ k d below same.
+          let at : k < length olds = omega arith in
+          let next : ℕ = from + length bytes / 512 in
+          reader_told_then g.G.Gate c.args.gate.now c.args.chunks 0 (from + sectors) next ahead (from + sectors + ahead) (get_or firsts k d) (omega arith) refl (inv.told_ahead k d below same)
+          (told_before g.G.Gate c.args.gate.now c.args.chunks next ahead (get_or firsts k d) (get_or olds k d) (inv.read.each k d below) (c.turn.ensures.told_ahead k d at same (none k d (omega arith))));
     }
 
 pub returns : goal.returns
@@ -164,4 +184,5 @@ returns g c =
       unfailing = inv.unfailing;
       missed = tt;
       read = inv.read;
+      told = subst (λ n. All (λ (s : Reader _). IsToldOfReader g.G.Gate c.args.gate.now c.args.chunks 0 n s) c.args.readers.now.items) end inv.told;
     }

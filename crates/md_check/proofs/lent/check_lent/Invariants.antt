@@ -3,6 +3,7 @@ use Rattle.std.specs.List.{All}
 use Rattle.md_check.specs.Differences.{AreCompared, KeepsPairs}
 use Rattle.md_check.specs.Readings.{IsLead}
 use Rattle.md_check.specs.Readers.{AreReadersHonest, AreReadersRead, HaveNotFailed, ReaderShows, on_device}
+use Rattle.md_check.specs.Told.{IsToldOfReader}
 use Rattle.md_check.proofs.lent.check_lent.Given as goal
 
 abbrev pub decreases-loop-from : goal.decreases-loop-from
@@ -19,4 +20,6 @@ invariant-loop-from g l = record {
   lead : (k : ℕ) (d : _) → k < length l.readers.items → k ≡ l.first → IsLead g.D.Device l.from (take (512 * l.sectors) l.lead.items) (slice_index_or l.readers.items k d);
   kept : KeepsPairs l.fn.found l.found;
   compared : AreReadersHonest g.D.Device l.fn.readers.items → AreCompared (ReaderShows (on_device g.D.Device) l.fn.readers.items) l.chunks l.from l.found;
+  told : All (λ reader. IsToldOfReader g.G.Gate l.gate l.chunks 0 l.from reader) l.fn.readers.items;
+  told_ahead : (k : ℕ) (d : _) → k < length l.fn.readers.items → k ≡ l.first → IsToldOfReader g.G.Gate l.gate l.chunks 0 (l.from + l.sectors) (slice_index_or l.fn.readers.items k d);
 }

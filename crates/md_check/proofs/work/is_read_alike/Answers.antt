@@ -1,8 +1,12 @@
-use Rattle.std.proofs.Common.{◌≡◌, ◌∙◌, ◌+◌, ◌-◌, ◌/◌, ◌%◌, ◌≤◌, ℕ, Bool, true, if◌then◌else◌, List, length, drop, take, subst, arith}
+use Rattle.std.proofs.Common.{◌≡◌, ◌∙◌, ◌+◌, ◌-◌, ◌/◌, ◌%◌, ◌≤◌, ℕ, Bool, true, if◌then◌else◌, List, length, drop, take, refl, ap, subst, arith}
 use Rattle.std.proofs.lemmas.Result.{err_from_is_err_and}
+use Rattle.md_badblocks.specs.declared.run.Run.{Run}
+use Rattle.md_check.specs.declared.reader.Reader.{Reader}
 use Rattle.md_check.specs.Readings.{HasUnlisted}
+use Rattle.md_check.specs.Told.{IsToldOfSectors}
 use Rattle.md_check.proofs.ChunkFaults.{there_since}
 use Rattle.md_check.proofs.SectorsRead.{block_read}
+use Rattle.md_check.proofs.SectorsTold.{told_then}
 use Rattle.md_check.proofs.WindowsRead.{given_first, used_then}
 use Rattle.md_check.proofs.work.is_read_alike.Goals as goal
 
@@ -34,6 +38,8 @@ loop-done-preserved g c =
           (given_first first old inv.used at (length block / 512) block
           (λ is. subst (λ (b : Bool). HasUnlisted (g.D.Device.content old.device) old.offset old.listed at (length block / 512) (if b then block else new.bytes.items)) yes (c.in_ok-alike.ensures.gave is))
           honest);
+      told = told_then g.G.Gate c.args.gate.now c.args.role c.args.chunks first.listed c.args.from (done / 512) at (length block / 512) ((done + len) / 512) refl (omega arith) inv.told
+          (subst (λ (runs : List Run). IsToldOfSectors g.G.Gate c.args.gate.now c.args.role c.args.chunks runs at (length block / 512)) (ap (λ (s : Reader _). s.listed) inv.used.kept) c.in_ok-alike.ensures.told);
     }
 
 pub returns-in_err-alike-clause-there : goal.returns-in_err-alike-clause-there

@@ -1,6 +1,7 @@
 use Rattle.std.proofs.Common.{◌≡◌, ◌-◌, ◌/◌, ◌%◌, ◌≤◌, length, true}
 use Rattle.md_check.specs.Readings.{HasUnlisted}
 use Rattle.md_check.specs.Readers.{IsUsed}
+use Rattle.md_check.specs.Told.{IsToldOfSectors}
 use Rattle.md_check.proofs.work.is_read_alike.Given as goal
 
 abbrev pub decreases-loop-done : goal.decreases-loop-done
@@ -14,4 +15,5 @@ invariant-loop-done g l = record {
   unfailing : g.D.Device.failures l.reader.device ≡ g.D.Device.failures l.fn.reader.device;
   gave : g.D.Device.honest l.fn.reader.device ≡ true
       → HasUnlisted (g.D.Device.content l.fn.reader.device) l.fn.reader.offset l.fn.reader.listed l.from (l.done / 512) l.lead;
+  told : IsToldOfSectors g.G.Gate l.gate l.role l.chunks l.fn.reader.listed l.from (l.done / 512);
 }

@@ -5,6 +5,7 @@ use Rattle.md_bitmap.specs.Chunks.{InChunk}
 use Rattle.md_badblocks.specs.Runs.{IsBad}
 use Rattle.md_check.proofs.ChunkSectors.{before_end, in_its_chunk}
 use Rattle.md_check.proofs.ChunkFaults.{run_failed}
+use Rattle.md_check.proofs.SectorsTold.{told_run}
 use Rattle.md_check.proofs.SectorsRead.{front_read}
 use Rattle.md_check.proofs.work.read_front.Goals as goal
 
@@ -67,3 +68,19 @@ returns-in-Err-clause-there g c =
     let positive : 0 < run = (let not = c.if-run-eq0.false in omega arith) in
     run_failed (g.D.Device.faults c.args.device.now) (g.D.Device.faults c.read_run-answer.new.device) c.args.offset chunk chunks (IsBad c.args.listed.now) sector run (length (take (512 * run) xs))
     c.in-Err.ensures.there from (omega (arith, most, least, ends, at, from, positive)) positive long c.clear_run-run.ensures.clear
+
+pub returns-in-Ok-clause-told : goal.returns-in-Ok-clause-told
+returns-in-Ok-clause-told g c =
+    let chunks = c.args.chunks in
+    let sector = c.args.sector in
+    let some = c.requires.some in
+    let inside = c.requires.inside in
+    let within : sector < chunks.size = omega arith in
+    let chunk = c.chunk_of-chunk.result in
+    let here : InChunk chunks.sectors chunks.size chunk sector = subst (λ n. InChunk chunks.sectors chunks.size n sector) (sym c.chunk_of-chunk.ensures.is) (in_its_chunk chunks.sectors chunks.size sector chunks.chunking.some_sectors within) in
+    let from = (c.range-start.ensures.sectors sector).0 here in
+    let most = c.clear_run-run.ensures.most in
+    let least = c.min-most.ensures in
+    told_run g.G.Gate c.args.gate.now c.args.role chunks c.args.listed.now sector c.clear_run-run.result chunk
+    (λ s up below. (c.range-start.ensures.sectors s).1 (omega (arith, from.0, up), omega (arith, most, least, below)))
+    (record { begins = c.before_read.ensures; ended = c.after_read.ensures })

@@ -1,4 +1,4 @@
-use Rattle.std.proofs.Common.{◌≡◌, ◌∙◌, ◌+◌, ◌*◌, ◌-◌, ℕ, List, length, drop, subst, arith, length-drop}
+use Rattle.std.proofs.Common.{◌≡◌, ◌∙◌, ◌+◌, ◌*◌, ◌-◌, ℕ, List, length, drop, refl, subst, arith, length-drop}
 use Rattle.std.proofs.lemmas.List.{length-take-le}
 use Rattle.std.proofs.lemmas.Result.{err_from_is_err_and}
 use Rattle.md_collect.proofs.WorkerLemmas.OnlyReads.{read_then}
@@ -6,6 +6,7 @@ use Rattle.md_badblocks.specs.Runs.{IsBad}
 use Rattle.md_check.specs.Readings.{HasUnlisted}
 use Rattle.md_check.proofs.ChunkFaults.{chunk_since}
 use Rattle.md_check.proofs.SectorsRead.{length-replaced, more_read}
+use Rattle.md_check.proofs.SectorsTold.{told_then}
 use Rattle.md_check.proofs.work.read_part.Goals as goal
 
 pub loop-done-preserved : goal.loop-done-preserved
@@ -34,6 +35,7 @@ loop-done-preserved g c =
           more_read content c.args.offset c.args.listed.now part.from done part.sectors passed xs ys (omega arith) (omega arith) as_long (omega arith) (inv.gave honest)
           (subst (λ (held_there : List ℕ). HasUnlisted held_there c.args.offset c.args.listed.now (part.from + done) passed ys) inv.only_read.content_kept
           (c.in_ok-passed.ensures.gave (inv.only_read.honest_kept ∙ honest)));
+      told = told_then g.G.Gate c.args.gate.now c.args.role c.args.chunks c.args.listed.now part.from done (part.from + done) passed (done + passed) refl refl inv.told c.in_ok-passed.ensures.told;
     }
 
 pub returns-in_err-passed-clause-there : goal.returns-in_err-passed-clause-there
