@@ -1,5 +1,5 @@
 -- What is known of the members, and of one role.
-use Rattle.std.proofs.Common.{◌≡◌, ◌↔◌, ℕ, ◌+◌, ◌-◌, ◌*◌, ◌/◌, ◌^◌, ◌<◌, ◌≤◌, Bool, true, false, List, length, slice_get, Some, sym, ap, ◌∙◌, subst, arith, inr}
+use Rattle.std.proofs.Common.{◌≡◌, ◌↔◌, ℕ, ◌+◌, ◌-◌, ◌*◌, ◌/◌, ◌^◌, ◌<◌, ◌≤◌, Bool, true, false, List, [], ◌∷◌, ◌++◌, length, slice_get, Some, sym, ap, ◌∙◌, subst, arith, inr}
 use Rattle.std.specs.Prelude.{option_map}
 use Rattle.std.proofs.lemmas.Option.{same_Some, slice_get_within}
 use Rattle.md_badblocks.specs.Runs.{IsBad, RisesFrom}
@@ -20,7 +20,7 @@ use Rattle.md_state.proofs.Members.At.{told}
 use Rattle.md_device.specs.Device.{held}
 use Rattle.md_device.specs.Failing.{failed_read}
 use Rattle.md_device.proofs.Failing.{fails_just}
-use Rattle.md_read.specs.Reading.{GivesInGroup, HasReadFailed, HasRole, IsInRole, IsReadOfMember, IsListedInPart, ListedIn, NotGivenIn}
+use Rattle.md_read.specs.Reading.{FailsIn, FailsThisReadAlone, GivesInGroup, HasReadFailed, HasRole, IsInRole, IsReadOfMember, IsListedInPart, ListedIn, NotGivenIn}
 
 -- ---- what is listed
 
@@ -104,6 +104,11 @@ failed_of k sector n sectors old new fails all d e was at_e = (
       (ap (failed_read (x.superblock.data_offset + sector)) all),
 )
 
+-- and no other
+pub failed_alone : (k sector n sectors : ℕ) (old new : MirrorView) → FailsToRead k sector n old new → n ≡ 512 * sectors → FailsThisReadAlone k sector sectors old new
+failed_alone k sector n sectors old new fails all d e was at_e x x_at =
+    fails.there d e was at_e x x_at ∙ ap (λ (size : ℕ). d.faults ++ failed_read (x.superblock.data_offset + sector) size ∷ []) all
+
 -- ---- what came of it
 module _ (old : MirrorView) (sound : IsConsistent old) (mostly : Bool) (role k sector sectors : ℕ) (is : IsInRole old.array role k) where
   -- it is the one in the role
@@ -127,6 +132,16 @@ module _ (old : MirrorView) (sound : IsConsistent old) (mostly : Bool) (role k s
   read_failed new n fails all s j m at as_role flag =
       let same : j ≡ k = only_one old sound role k j is m at as_role in
       inr (subst (λ (i : ℕ). HasReadFailed i sector sectors old new) (sym same) (failed_of k sector n sectors old new fails all))
+
+  pub fails_in : (new : MirrorView) (n : ℕ) → is_write_mostly is.member.superblock ≡ mostly → (ListsSome is.member sector sectors → ⊥) → FailsToRead k sector n old new → n ≡ 512 * sectors
+      → FailsIn mostly role sector sectors old new
+  fails_in new n flag none fails all = record {
+    from = k;
+    is = is;
+    flag = flag;
+    unlisted = λ s from below lists. none (s, lists, from, below);
+    alone = failed_alone k sector n sectors old new fails all;
+  }
 
   -- it gave them
   pub gives_in : (new : MirrorView) (bytes : List ℕ) → length bytes / 512 ≡ sectors → is_write_mostly is.member.superblock ≡ mostly → (ListsSome is.member sector sectors → ⊥) → ReadsData k sector bytes old new → GivesInGroup mostly role sector bytes old new

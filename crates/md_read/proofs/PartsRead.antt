@@ -1,24 +1,24 @@
 -- Parts that are read; what comes of it, whole.
-use Rattle.std.proofs.Common.{◌≡◌, ℕ, ◌+◌, ◌*◌, ◌-◌, ◌/◌, ◌%◌, ◌<◌, ◌≤◌, List, length, take, refl, sym, subst, arith, inl}
+use Rattle.std.proofs.Common.{◌≡◌, ℕ, ◌+◌, ◌*◌, ◌-◌, ◌/◌, ◌%◌, ◌<◌, ◌≤◌, List, length, take, refl, sym, subst, arith, inl, inr}
 use Rattle.std.specs.Prelude.{MatchResult, Result, Ok, Err}
 use Rattle.std.proofs.lemmas.List.{take_all}
 use Rattle.md_laws.proofs.Runs.Rests.{rests_then}
 use Rattle.md_state.specs.Rests.{Rests}
 use Rattle.md_state.specs.View.{MirrorView}
-use Rattle.md_read.specs.Unresynced.{AllFrom, GivesNoPart, GivesPart, GivesPartFront, GivesParts, IsEndedBy, IsSectorMarked, MayReadSectors, ReadsUnresynced, RefusesUnresynced, TriesSource}
+use Rattle.md_read.specs.Unresynced.{AllFrom, GivesFirstPart, GivesNoPart, GivesPart, GivesPartFront, GivesParts, IsEndedBy, IsSectorMarked, MayReadSectors, ReadsUnresynced, RefusesUnresynced, SourceMayGiveFewer, TriesSource}
 use Rattle.md_read.specs.declared.sources.SourceAnswer.{SourceAnswer}
 use Rattle.md_read.specs.declared.sources.SourceAnswer.TheVariants as answer
 use Rattle.md_read.specs.declared.unresynced_fault.UnresyncedFault.{UnresyncedFault}
 use Rattle.md_read.specs.declared.unresynced_fault.UnresyncedFault.TheVariants as fault
-use Rattle.md_read.proofs.PartsInTurn.{given_rests, no_part_earlier, part_earlier}
+use Rattle.md_read.proofs.PartsInTurn.{given_rests, no_part_earlier, part_earlier, part_rests}
 
 -- ---- from the member that a resync copies
 module _ (sector : ℕ) (was bytes : List ℕ) (old new : MirrorView) where
   pub tries_rests : (told : SourceAnswer) → TriesSource sector was bytes old new told → Rests old new
   tries_rests answer.All (rests, given) = rests
   tries_rests answer.Nothing (rests, lists) = rests
-  tries_rests (answer.Failed k) (rests, one, source, failed) = rests
-  tries_rests answer.Several (rests, several) = rests
+  tries_rests (answer.Failed k) (rests, one, source, failed, alone) = rests
+  tries_rests answer.Several (rests, several, why) = rests
 
   pub all_given : length bytes ≡ length was → length was % 512 ≡ 0 → AllFrom sector (length was / 512) (IsSectorMarked old.array) → TriesSource sector was bytes old new answer.All
       → GivesPart sector bytes old new
@@ -35,7 +35,7 @@ module _ (sector : ℕ) (was bytes : List ℕ) (old new : MirrorView) where
   nothing_given some marked (rests, lists) = record { rests = rests; ends = (refl, inl (marked, lists sector (omega arith) (omega arith))) }
 
   pub source_failed : (k : ℕ) → 0 < length was / 512 → IsSectorMarked old.array sector → TriesSource sector was bytes old new (answer.Failed k) → GivesNoPart sector old new (fault.ReadFault k sector)
-  source_failed k some marked (rests, one, source, failed) = record {
+  source_failed k some marked (rests, one, source, failed, alone) = record {
     rests = rests;
     ends = (refl, record { marked = marked; source = source sector (omega arith) (omega arith); failed = failed });
   }
@@ -47,17 +47,19 @@ front_whole sector was bytes old new long some whole given = record {
   some = omega arith;
   few = omega arith;
   given = subst (λ (xs : List ℕ). GivesPart sector xs old new) (sym (take_all (512 * (length was / 512)) bytes (omega arith))) given;
+  cut = inl refl;
 }
 
--- after devices were read
-pub front_earlier : (sector : ℕ) (was left bytes : List ℕ) (old mid new : MirrorView) → Rests old mid → length left ≡ length was → (r : Result ℕ UnresyncedFault)
-    → MatchResult r (GivesPartFront sector left bytes mid new) (GivesNoPart sector mid new) → MatchResult r (GivesPartFront sector was bytes old new) (GivesNoPart sector old new)
-front_earlier sector was left bytes old mid new first long (Ok n) front = record {
-  some = front.some;
-  few = let few = front.few in omega arith;
-  given = part_earlier old mid new first sector (take (512 * n) bytes) front.given;
+-- the first of them, after they were not given at once
+pub first_alone : (sector : ℕ) (was bytes : List ℕ) (old mid new : MirrorView) → Rests old mid → SourceMayGiveFewer sector (length was / 512) old mid → 512 ≤ length was → (r : Result ℕ UnresyncedFault)
+    → MatchResult r (GivesFirstPart sector bytes mid new) (GivesNoPart sector mid new) → MatchResult r (GivesPartFront sector was bytes old new) (GivesNoPart sector old new)
+first_alone sector was bytes old mid new first why some (Ok n) (one, given) = record {
+  some = omega arith;
+  few = omega arith;
+  given = part_earlier old mid new first sector (take (512 * n) bytes) given;
+  cut = inr (inr (record { one = one; mid = mid; why = why; later = part_rests sector (take (512 * n) bytes) mid new given }));
 }
-front_earlier sector was left bytes old mid new first long (Err reason) none = no_part_earlier old mid new first sector reason none
+first_alone sector was bytes old mid new first why some (Err reason) none = no_part_earlier old mid new first sector reason none
 
 -- ---- where it ends
 pub ended : (sector at : ℕ) (bytes : List ℕ) (old mid new : MirrorView) (reason : UnresyncedFault) → GivesNoPart at mid new reason → Rests old mid → sector ≤ at → at < sector + length bytes / 512

@@ -1,6 +1,6 @@
 -- Sectors of the array are read from its members (read_balance and raid1_read_request of raid1.c in the kernel's md driver). As there,
 -- write-mostly members come last; else which member is read is this project's own.
-use Rattle.std.specs.Prelude.{◌≡◌, ◌⊎◌, ⊤, ℕ, ◌+◌, ◌*◌, ◌-◌, ◌/◌, ◌%◌, ◌<◌, ◌≤◌, ◌&&◌, nat_le, Bool, true, false, List, [], ◌∷◌, length, take, Option}
+use Rattle.std.specs.Prelude.{◌≡◌, ◌⊎◌, ⊤, ℕ, ◌+◌, ◌*◌, ◌-◌, ◌/◌, ◌%◌, ◌<◌, ◌≤◌, ◌&&◌, nat_le, Bool, true, false, List, [], ◌∷◌, ◌++◌, length, take, Option}
 use Rattle.std.specs.List.{concat}
 use Rattle.md_badblocks.specs.declared.run.Run.{Run}
 use Rattle.md_device.specs.Device.{held}
@@ -43,6 +43,12 @@ abbrev pub HasReadFailed : ℕ → ℕ → ℕ → MirrorView → MirrorView →
 HasReadFailed k sector sectors old new =
     AtDevice k old.disks new.disks (λ d e. (d.honest ≡ true → d.failures < e.failures)
     × ((m : MemberView) → IsMember old.array k m → SomeNewFault d.faults e.faults (IsReadOfMember m sector sectors)))
+
+-- Of the calls of member k's device one failed, and no other: the read of these sectors of the array.
+abbrev pub FailsThisReadAlone : ℕ → ℕ → ℕ → MirrorView → MirrorView → Type 0
+FailsThisReadAlone k sector sectors old new =
+    AtDevice k old.disks new.disks (λ d e. (m : MemberView) → IsMember old.array k m
+    → e.faults ≡ d.faults ++ failed_read (m.superblock.data_offset + sector) (512 * sectors) ∷ [])
 
 -- Member k, which is m, did not give the sector s when it was asked for so many sectors from another on: it lists s, or their read failed.
 abbrev pub HasNotGiven : ℕ → MemberView → ℕ → ℕ → ℕ → MirrorView → MirrorView → Type 0
@@ -178,10 +184,21 @@ pub record IsListedInPart (sector sectors : ℕ) (a : ArrayView) : Type 0 where
   pub below : listed < sector + sectors
   pub not_all : ((s : ℕ) → sector ≤ s → s < sector + sectors → Lists member s) → ⊥
 
+-- The member in the role is of the group and lists none of these sectors. It was asked for them once, and that read failed: so a good read
+-- of them is not thrown away because of another that failed.
+pub record FailsIn (mostly : Bool) (role sector sectors : ℕ) (old new : MirrorView) : Type 0 where
+  pub from : ℕ
+  pub is : IsInRole old.array role from
+  pub flag : is_write_mostly is.member.superblock ≡ mostly
+  pub unlisted : (s : ℕ) → sector ≤ s → s < sector + sectors → Lists is.member s → ⊥
+  pub alone : FailsThisReadAlone from sector sectors old new
+
 abbrev pub TriesRole : Bool → ℕ → ℕ → List ℕ → List ℕ → MirrorView → MirrorView → Answer → Type 0
 TriesRole mostly role sector was bytes old new answer.All = Rests old new × GivesInGroup mostly role sector bytes old new
 TriesRole mostly role sector was bytes old new answer.Nothing = Rests old new × ((s : ℕ) → sector ≤ s → s < sector + length was / 512 → ListedIn mostly role s old.array)
-TriesRole mostly role sector was bytes old new answer.Failed = Rests old new × ((s : ℕ) → sector ≤ s → s < sector + length was / 512 → NotGivenIn mostly role s sector (length was / 512) old new)
+TriesRole mostly role sector was bytes old new answer.Failed =
+    Rests old new × ((s : ℕ) → sector ≤ s → s < sector + length was / 512 → NotGivenIn mostly role s sector (length was / 512) old new)
+    × FailsIn mostly role sector (length was / 512) old new
 TriesRole mostly role sector was bytes old new answer.Perhaps = Rests old new × (1 < length was / 512) × IsListedInPart sector (length was / 512) old.array
 
 -- ---- one group

@@ -12,7 +12,7 @@ use Rattle.md_state.specs.Steps.ReadData.{HoldsData}
 use Rattle.md_state.specs.Rests.{Rests}
 use Rattle.md_state.specs.Trying.{Refuses, RefusesHalted}
 use Rattle.md_state.specs.View.{ArrayView, MirrorView}
-use Rattle.md_read.specs.Reading.{GivesRun, HasReadFailed, NoneGives}
+use Rattle.md_read.specs.Reading.{FailsThisReadAlone, GivesRun, HasReadFailed, IsCutFrom, IsListedInPart, NoneGives}
 use Rattle.md_read.specs.declared.sources.Source.{Source}
 use Rattle.md_read.specs.declared.sources.Source.TheVariants as source
 use Rattle.md_read.specs.declared.sources.SourceAnswer.{SourceAnswer}
@@ -123,11 +123,18 @@ LeavesUnresyncedBuffer was bytes reason = ⊤
 abbrev pub IsSourceOfSectors : ℕ → ℕ → ArrayView → Source → Type 0
 IsSourceOfSectors sector sectors a (source.Member k) = AllFrom sector sectors (λ s. IsSource k s a)
 IsSourceOfSectors sector sectors a source.Nobody = AllFrom sector sectors (λ s. AllInSync a (λ m. Lists m s))
-IsSourceOfSectors sector sectors a source.Several = 1 < sectors
+IsSourceOfSectors sector sectors a source.Several = (1 < sectors) × IsListedInPart sector sectors a
 
 -- whoever is in sync in the role lists the sector
 abbrev pub IsListedIn : ℕ → ℕ → ArrayView → Type 0
 IsListedIn role s a = (k : ℕ) (m : MemberView) → IsMember a k m → is_in_sync_as role m.state ≡ true → Lists m s
+
+-- Why these sectors are not given at once: a member in sync lists a part of them, so that they may have several sources; or their source was
+-- asked for them once, and that read failed.
+abbrev pub SourceMayGiveFewer : ℕ → ℕ → MirrorView → MirrorView → Type 0
+SourceMayGiveFewer sector sectors old new =
+    IsListedInPart sector sectors old.array
+    ⊎ ((k : ℕ) × AllFrom sector sectors (λ s. IsSource k s old.array) × FailsThisReadAlone k sector sectors old new)
 
 -- Only of one sector alone a failed read says that the source does not give it: of several that were read at once some may be given yet.
 abbrev pub TriesSource : ℕ → List ℕ → List ℕ → MirrorView → MirrorView → SourceAnswer → Type 0
@@ -136,14 +143,28 @@ TriesSource sector was bytes old new answer.All =
 TriesSource sector was bytes old new answer.Nothing = Rests old new × AllFrom sector (length was / 512) (λ s. AllInSync old.array (λ m. Lists m s))
 TriesSource sector was bytes old new (answer.Failed k) =
     Rests old new × (length was / 512 ≡ 1) × AllFrom sector (length was / 512) (λ s. IsSource k s old.array) × HasReadFailed k sector 1 old new
-TriesSource sector was bytes old new answer.Several = Rests old new × (1 < length was / 512)
+    × FailsThisReadAlone k sector 1 old new
+TriesSource sector was bytes old new answer.Several = Rests old new × (1 < length was / 512) × SourceMayGiveFewer sector (length was / 512) old new
 
 -- ---- the front of a part
--- so many of the sectors were given
+-- Only the first of so many sectors was given, since they were not given at once.
+pub record IsFirstAlone (sector sectors all : ℕ) (old new : MirrorView) : Type 0 where
+  pub one : sectors ≡ 1
+  pub mid : MirrorView
+  pub why : SourceMayGiveFewer sector all old mid
+  pub later : Rests mid new
+
+-- the first of them was given alone
+abbrev pub GivesFirstPart : ℕ → List ℕ → MirrorView → MirrorView → ℕ → Type 0
+GivesFirstPart sector bytes old new sectors = (sectors ≡ 1) × GivesPart sector (take (512 * sectors) bytes) old new
+
+-- so many of the sectors were given: all, or fewer where more of them could not be given at once
 pub record GivesPartFront (sector : ℕ) (was bytes : List ℕ) (old new : MirrorView) (sectors : ℕ) : Type 0 where
   pub some : 0 < sectors
   pub few : sectors ≤ length was / 512
   pub given : GivesPart sector (take (512 * sectors) bytes) old new
+  pub cut : (sectors ≡ length was / 512)
+      ⊎ (IsCutFrom sector sectors (length was / 512) old new ⊎ IsFirstAlone sector sectors (length was / 512) old new)
 
 -- The first of them was not, for this reason.
 pub record GivesNoPart (sector : ℕ) (old new : MirrorView) (reason : UnresyncedFault) : Type 0 where

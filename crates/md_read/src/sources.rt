@@ -1,7 +1,7 @@
 // The member that a resync copies sectors from, and reading them from it.
 ghost use Rattle.std.specs.Prelude.{◌≡◌, ◌+◌, ◌*◌, ◌/◌, ◌%◌, ◌<◌, ◌≤◌, MatchResult, length};
 ghost use Rattle.md_array.specs.Consistency.{IsConsistent};
-ghost use Rattle.md_read.specs.Unresynced.{AllFrom, GivesNoPart, GivesPartFront, IsSectorMarked, IsSourceOfSectors, TriesSource};
+ghost use Rattle.md_read.specs.Unresynced.{AllFrom, GivesFirstPart, GivesNoPart, GivesPartFront, IsSectorMarked, IsSourceOfSectors, TriesSource};
 
 use crate::roles::{lists_all, lists_some, member_in};
 use crate::unresynced_fault::UnresyncedFault;
@@ -115,7 +115,7 @@ fn read_first<D: Device + Drop>(
     requires inside { sector + length buf.old / 512 ≤ mirror.old.array.chunks.size }
     requires sound { IsConsistent mirror.old }
     requires marked { IsSectorMarked mirror.old.array sector }
-    ensures { MatchResult result (GivesPartFront sector buf.old buf.new mirror.old mirror.new) (GivesNoPart sector mirror.old mirror.new) }
+    ensures { MatchResult result (GivesFirstPart sector buf.new mirror.old mirror.new) (GivesNoPart sector mirror.old mirror.new) }
 {
     match read_source(mirror, sector, &mut buf[..512]) {
         SourceAnswer::All => Ok(1),

@@ -21,6 +21,7 @@ pub(crate) fn is_known_to_hold<D: Device + Drop>(
     held: &mut [u8],
 ) -> bool
     requires within { k < length mirror.old.array.members }
+    requires some { 0 < length bytes.now }
     requires room { length bytes.now ≤ length held.old }
     requires whole { length bytes.now % 512 ≡ 0 }
     requires inside { sector + length bytes.now / 512 ≤ mirror.old.array.chunks.size }
@@ -49,6 +50,7 @@ fn holds<D: Device + Drop>(
     held: &mut [u8],
 ) -> bool
     requires within { k < length mirror.old.array.members }
+    requires some { 0 < length bytes.now }
     requires room { length bytes.now ≤ length held.old }
     requires whole { length bytes.now % 512 ≡ 0 }
     requires inside { sector + length bytes.now / 512 ≤ mirror.old.array.chunks.size }

@@ -2,7 +2,7 @@ use Rattle.std.proofs.Common.{◌/◌, length, arith}
 use Rattle.std.proofs.lemmas.Option.{slice_get_within}
 use Rattle.md_laws.proofs.Runs.Rests.{rests_same}
 use Rattle.md_read.proofs.AllListed.{lists_more}
-use Rattle.md_read.proofs.InRoles.{all_listed, gives_in, listed_in_part, not_asked, read_failed}
+use Rattle.md_read.proofs.InRoles.{all_listed, fails_in, gives_in, listed_in_part, not_asked, read_failed}
 use Rattle.md_read.proofs.roles.read_in.Goals as goal
 
 pub returns-in_default : goal.returns-in_default
@@ -61,7 +61,13 @@ returns-in-Ok g c =
 
 pub returns-in-Err : goal.returns-in-Err
 returns-in-Err g c =
+    let old = c.args.mirror.now in
+    let is = c.in-Some.ensures in
     let fails = c.in-Err.ensures.gives in (
       fails.rests,
-      λ s from below. read_failed c.args.mirror.now c.requires.sound c.args.mostly c.args.role c.in-Some.k c.args.sector (length c.args.buf.now / 512) c.in-Some.ensures c.read_data.new.self (length c.args.buf.now) fails (let whole = c.requires.whole in omega (arith, whole)) s,
+      λ s from below. read_failed old c.requires.sound c.args.mostly c.args.role c.in-Some.k c.args.sector (length c.args.buf.now / 512) is c.read_data.new.self (length c.args.buf.now) fails (let whole = c.requires.whole in omega (arith, whole)) s,
+      fails_in old c.requires.sound c.args.mostly c.args.role c.in-Some.k c.args.sector (length c.args.buf.now / 512) is c.read_data.new.self (length c.args.buf.now)
+          ((c.is_asked.ensures is.member is.at).0 (let out = c.if-not-is_asked.false in cc))
+          (λ lists. let on = (c.lists_some.ensures is.member is.at).1 lists in let out = c.if-lists_some.false in cc)
+          fails (let whole = c.requires.whole in omega (arith, whole)),
     )

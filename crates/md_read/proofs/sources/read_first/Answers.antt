@@ -1,4 +1,4 @@
-use Rattle.std.proofs.Common.{◌≡◌, ◌∙◌, ◌*◌, ◌≤◌, ℕ, List, ◌++◌, length, drop, take, sym, ap, subst, arith}
+use Rattle.std.proofs.Common.{◌≡◌, ◌∙◌, ◌*◌, ◌≤◌, ℕ, List, ◌++◌, length, drop, take, sym, ap, subst, arith, refl}
 use Rattle.std.proofs.Math.Seq.{take-append_seam}
 use Rattle.std.proofs.lemmas.List.{length-take-le}
 use Rattle.md_read.specs.Unresynced.{GivesPart, IsSectorMarked}
@@ -31,15 +31,12 @@ returns-in-All g c =
     let long = one_long c.args.buf.now c.requires.some in
     let same : length bytes ≡ length was = c.read_source.auto.buf in
     let some = c.requires.some in
-    record {
-      some = omega arith;
-      few = omega arith;
-      given =
-          let front : take (512 * 1) (bytes ++ rest) ≡ bytes = ap (λ (n : ℕ). take n (bytes ++ rest)) (let e : 512 * 1 ≡ length bytes = omega arith in e) ∙ take-append_seam bytes rest in
-          subst (λ (xs : List ℕ). GivesPart c.args.sector xs old new) (sym front)
+    let front : take (512 * 1) (bytes ++ rest) ≡ bytes = ap (λ (n : ℕ). take n (bytes ++ rest)) (let e : 512 * 1 ≡ length bytes = omega arith in e) ∙ take-append_seam bytes rest in (
+      refl,
+      subst (λ (xs : List ℕ). GivesPart c.args.sector xs old new) (sym front)
           (all_given c.args.sector was bytes old new same (omega arith)
-          (λ s from below. subst (λ (x : ℕ). IsSectorMarked old.array x) (let here : c.args.sector ≡ s = omega arith in here) c.requires.marked) c.in-All.ensures);
-    }
+          (λ s from below. subst (λ (x : ℕ). IsSectorMarked old.array x) (let here : c.args.sector ≡ s = omega arith in here) c.requires.marked) c.in-All.ensures),
+    )
 
 pub returns-in-Nothing : goal.returns-in-Nothing
 returns-in-Nothing g c =

@@ -1,6 +1,6 @@
 use Rattle.std.proofs.Common.{◌/◌, ◌<◌, length, arith}
 use Rattle.md_array.proofs.General.Resting.{rests_sound}
-use Rattle.md_read.proofs.PartsRead.{all_given, front_earlier, front_whole, source_failed, tries_rests}
+use Rattle.md_read.proofs.PartsRead.{all_given, first_alone, front_whole, source_failed, tries_rests}
 use Rattle.md_read.proofs.sources.read_marked.Goals as goal
 
 pub read_first-requires-clause-sound : goal.read_first-requires-clause-sound
@@ -30,4 +30,4 @@ returns-in-Several g c =
     let old = c.args.mirror.now in
     let mid = c.read_source.new.mirror in
     let rests = tries_rests c.args.sector c.args.buf.now c.read_source.new.buf old mid c.read_source.result c.read_source.ensures in
-    front_earlier c.args.sector c.args.buf.now c.read_source.new.buf c.read_first.new.buf old mid c.read_first.new.mirror rests c.read_source.auto.buf c.read_first.result c.read_first.ensures
+    first_alone c.args.sector c.args.buf.now c.read_first.new.buf old mid c.read_first.new.mirror rests c.in-Several.ensures.2 c.requires.some c.read_first.result c.read_first.ensures

@@ -1,6 +1,8 @@
 use Rattle.std.proofs.Common.{ap, arith}
 use Rattle.std.proofs.lemmas.Option.{slice_get_within}
 use Rattle.md_super.specs.declared.superblock.Superblock.{Superblock}
+use Rattle.md_read.proofs.AllListed.{lists_more}
+use Rattle.md_read.proofs.InRoles.{listed_in_part}
 use Rattle.md_read.proofs.SourceRoles.{all_list, all_list_more, is_source, nobody_in, one_lists}
 use Rattle.md_read.proofs.sources.source_of.Goals as goal
 use Rattle.md_read.proofs.sources.source_of.Goals.{in-Some+else-not-lists_some+else-not-lists_all, in_default}
@@ -13,6 +15,15 @@ returns-then-not-lists_some g c =
 
 pub lists_all-requires-clause-within : goal.lists_all-requires-clause-within
 lists_all-requires-clause-within g c = slice_get_within c.args.mirror.now.array.members c.in-Some.k c.in-Some.ensures.member c.in-Some.ensures.at
+
+pub returns-then-not-lists_all : goal.returns-then-not-lists_all
+returns-then-not-lists_all g c =
+    let is = c.in-Some.ensures in
+    let some = (c.lists_some.ensures is.member is.at).0 (let out = c.if-not-lists_some.false in cc) in (
+      lists_more is.member c.args.sector c.args.sectors c.requires.some some (λ all. let on = (c.lists_all.ensures is.member is.at).1 all in let out = c.if-not-lists_all.true in cc),
+      listed_in_part c.args.mirror.now.array c.loop-role.role c.in-Some.k is c.args.sector c.args.sectors some
+          (λ all. let on = (c.lists_all.ensures is.member is.at).1 all in let out = c.if-not-lists_all.true in cc),
+    )
 
 pub loop-role-preserved : goal.loop-role-preserved
 loop-role-preserved g c =

@@ -4,6 +4,13 @@ use Rattle.md_resync.proofs.Compared.{back_unlike, front_unlike, pieces_hold, si
 use Rattle.md_resync.proofs.CopiedRuns.{read_holds}
 use Rattle.md_resync.proofs.is_known_to_hold.is_known_to_hold.Goals as goal
 
+pub holds-requires-clause-some : goal.holds-requires-clause-some
+holds-requires-clause-some g c =
+    let some = c.requires.some in
+    let front = c.split_at.ensures.front_len in
+    let least = c.min.ensures in
+    omega arith
+
 pub overflow_add-sector : goal.overflow_add-sector
 overflow_add-sector g c =
     let fits = size_fits c.args.mirror.now c.requires.sound c.args.k c.requires.within in

@@ -28,6 +28,9 @@ returns-then-k-from g c =
           absurd cc
     ])
 
+pub is_known_to_hold-requires-clause-some : goal.is_known_to_hold-requires-clause-some
+is_known_to_hold-requires-clause-some g c = let long = c.requires.run.long in let some = c.requires.run.some in omega arith
+
 pub is_known_to_hold-requires-clause-whole : goal.is_known_to_hold-requires-clause-whole
 is_known_to_hold-requires-clause-whole g c = let long = c.requires.run.long in omega arith
 
