@@ -10,7 +10,9 @@ use Rattle.md_state.proofs.Stays.{stays_then}
 use Rattle.md_assembly.proofs.Indices.{got_same}
 use Rattle.md_kept_members.specs.OnDevices.Superblocks.{own_write}
 use Rattle.md_grow.specs.declared.growth.Growth.{Growth}
-use Rattle.md_grow.specs.Growing.{AllGrown, AreDone, EndsAt, EndsInSuperblocks, EndsNaming, FitGrowth, HaveBitmaps, HaveSuperblocks, IsStoredAt, OfMember}
+use Rattle.md_grow.specs.declared.fault.GrowFault.{GrowFault}
+use Rattle.md_grow.specs.declared.fault.GrowFault.TheVariants.{Member, BadChunk, NoRoom, Assemble, HasBitmap, NotInSync, MetadataFault, NoMemory}
+use Rattle.md_grow.specs.Growing.{AllGrown, AreDone, EndsAt, EndsInSuperblocks, EndsNaming, FitGrowth, HaveBitmaps, HaveSuperblocks, IsStoredAt, OfMember, OnMember}
 use Rattle.md_grow.specs.Stored.{FailsIn, GetsBitmap, GetsSuperblock, grow_writes, sectors_of}
 use Rattle.md_grow.proofs.StoredOn.{fails_naming, grows}
 
@@ -65,18 +67,29 @@ same_then before mid after first second = record {
       stays_then d m e (first.honest k d m was at) (second.honest k m e at is);
 }
 
-module _ (g : Growth) (before mid after : List Disk) (fits : FitGrowth g before) (bitmaps : HaveBitmaps g before mid) where
-  pub still_fits : FitGrowth g mid
-  still_fits = record {
-    few = fits.few;
-    after_super = fits.after_super;
-    as_many = bitmaps.same.as_many ∙ fits.as_many;
-    room = λ k m at.
-        let d = get_or before k m in
-        let was = same_place before mid k m bitmaps.same.as_many at m in
-        omega (arith, fits.room k d was, (bitmaps.each k d m was at).kept.size);
-  }
+-- what is said of the member that a fault names
+pub on_member : (P Q : ℕ → Type 0) → ((k : ℕ) → P k → Q k) → (f : GrowFault) → OnMember P f → OnMember Q f
+on_member P Q more (Member k why) named = named
+on_member P Q more BadChunk named = named
+on_member P Q more NoRoom named = named
+on_member P Q more (Assemble why) named = named
+on_member P Q more HasBitmap named = named
+on_member P Q more (NotInSync k) named = named
+on_member P Q more (MetadataFault k) named = more k named
+on_member P Q more NoMemory named = named
 
+pub still_fits : (g : Growth) (before mid : List Disk) → FitGrowth g before → HaveBitmaps g before mid → FitGrowth g mid
+still_fits g before mid fits bitmaps = record {
+  few = fits.few;
+  after_super = fits.after_super;
+  as_many = bitmaps.same.as_many ∙ fits.as_many;
+  room = λ k m at.
+      let d = get_or before k m in
+      let was = same_place before mid k m bitmaps.same.as_many at m in
+      omega (arith, fits.room k d was, (bitmaps.each k d m was at).kept.size);
+}
+
+module _ (g : Growth) (before mid after : List Disk) (fits : FitGrowth g before) (bitmaps : HaveBitmaps g before mid) where
   -- what was done to a device on the way to `after`
   module _ (as_many : length after ≡ length mid) (k : ℕ) (d e : Disk) (was : slice_get before k ≡ Some d) (is : slice_get after k ≡ Some e) where
     abbrev m : Disk
