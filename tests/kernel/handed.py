@@ -119,6 +119,8 @@ def against(lab, state, told, contents):
     reasons += ["mdadm failed: " + words for words in told.words.get("failed", [])]
     if "not" in told.words:
         reasons.append("it is not stopped")
+    if state.grows_after and not all(is_member(content) for content in contents):
+        contents = lab.run(contents, state.grows_after)
     given = [contents[index] for index in state.given]
     found = members.Found(given)
     content = found.content()

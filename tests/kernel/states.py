@@ -11,6 +11,8 @@ CHUNK = 8
 WRITE_AT = 6
 WRITTEN = pattern(9, 12)
 WRITE = ["write", "--sector", WRITE_AT]
+GROW = ["grow", "--bitmap", "internal"]
+JUNK = b"\x5a"
 ENDINGS = ("before", "half")
 ONE, OTHER, THIRD = pattern(1, SECTORS), pattern(2, SECTORS), pattern(3, SECTORS)
 
@@ -31,7 +33,7 @@ class State:
     """Images that are handed over. `holds` has contents of the array: each sector is as one of them has it. `known_as` says as which
     of known.py it may be wrong."""
 
-    def __init__(self, name, contents, holds, given=None, missing=(), known_as=None, may_refuse=False, mended=None):
+    def __init__(self, name, contents, holds, given=None, missing=(), known_as=None, may_refuse=False, mended=None, grows_after=()):
         self.name = name
         self.contents = contents
         self.holds = holds
@@ -43,7 +45,9 @@ class State:
         self.mended = mended
         # Where a command was killed that lays out an array, there may be none yet.
         self.may_refuse = may_refuse
-        self.degraded = self.lacking()
+        # By these words what the kernel left without a bitmap gets one, before it is looked at.
+        self.grows_after = grows_after
+        self.degraded = 0 if grows_after else self.lacking()
 
     def lacking(self):
         """How many members are not in sync once the kernel has gone on: it rebuilds what is recovering, and takes spares."""
@@ -90,6 +94,11 @@ class Arrays:
     def written_since(self):
         """The second left, and the array was written since."""
         return self.lab.run(self.removed(), WRITE, [0], WRITTEN)
+
+    def without_bitmap(self):
+        """An array as mdadm makes it without a bitmap, and at the place where one may come bytes of something else."""
+        bare = [members.with_superblock(content, feature_map=0, bitmap_offset=0) for content in self.two()]
+        return [content[: 16 * SECTOR] + JUNK * (16 * SECTOR) + content[32 * SECTOR :] for content in bare]
 
     def added(self):
         return self.lab.run(self.one_of_two() + [blank(4)], ["add", "--device", Image(1)], [0])
@@ -284,6 +293,13 @@ class States:
             yield State(at, contents, [ONE, OTHER])
         for at, contents in self.each_call(self.differing, ["resync"], hows=["before"]):
             yield State("after a killed write, %s" % at, contents, [ONE, NEW])
+
+    def after_grow(self):
+        yield State("two", self.lab.run(self.arrays.without_bitmap(), GROW), [ONE])
+
+    def killed_grow(self):
+        for at, contents in self.each_call(self.arrays.without_bitmap, GROW):
+            yield State(at, contents, [ONE], grows_after=GROW)
 
     def killed_stop(self):
         for at, contents in self.each_call(self.active_without_marks, ["stop"]):

@@ -7,14 +7,14 @@ use Rattle.md_super.specs.declared.superblock.Superblock.{Superblock}
 use Rattle.md_super.specs.Encoding.{super_bytes}
 use Rattle.md_super.specs.Merge.{merged}
 use Rattle.md_members.specs.DeviceWrites.Bitmaps.{bitmap_writes}
-use Rattle.md_members.specs.DeviceWrites.Writes.{FailsInWrites, MakesWrites, after}
+use Rattle.md_members.specs.DeviceWrites.Writes.{DoesWrites, FailsInWrites, MakesWrites, Write, after}
 use Rattle.md_members.proofs.DeviceWriteLemmas.Frames.{outside_around}
-use Rattle.md_members.proofs.DeviceWriteLemmas.Runs.{after-append}
+use Rattle.md_members.proofs.DeviceWriteLemmas.Runs.{after-append, does_then, stops_then}
 use Rattle.md_members.proofs.DeviceWriteLemmas.Stored.{AreStored, stored_all}
 use Rattle.md_kept_members.specs.OnDevices.Superblocks.{IsReadable, own_write}
-use Rattle.md_state.specs.View.{disk_of, of_disks}
+use Rattle.md_state.specs.View.{Disk, disk_of, of_disks}
 use Rattle.md_grow.specs.declared.growth.Growth.{Growth}
-use Rattle.md_grow.specs.Stored.{FailsOn, IsStored, KeepsAllBeside, GrowsMemberOn, grow_writes, sectors_of}
+use Rattle.md_grow.specs.Stored.{FailsIn, GetsBitmap, GetsSuperblock, IsStored, KeepsAllBeside, GrowsMemberOn, bitmap_part, grow_writes, sectors_of}
 
 -- ---- no other part changes
 pub keeps_then : (start n : ℕ) (old mid new : List ℕ) → KeepsAllBeside start n old mid → KeepsAllBeside start n mid new → KeepsAllBeside start n old new
@@ -73,17 +73,18 @@ module _ (g : Growth) (own : Superblock) (old : List ℕ) (after_super : 16 ≤ 
   stored = subst (IsStored g own old) (sym (after-append old (bitmap_writes g.start g.header g.marks n) (own_write g.shared own ∷ []))) there
 
 -- ---- what came of its writes
-module _ {D : Type 0} (d : Ghosts D) (g : Growth) (own : Superblock) (old new : D) where
-  pub stores : {T E : Type 0} (result : Result T E) → 16 ≤ g.start → 0 < sectors_of g → 512 * (g.start + sectors_of g) ≤ length (d.content old) → IsReadable (merged g.shared own)
-      → MakesWrites d (grow_writes g own) old new result → OnOk result (GrowsMemberOn g own (disk_of d old) (disk_of d new))
-  stores (Ok x) after_super some room readable does = record {
-    stored = λ honest. subst (IsStored g own (d.content old)) (sym (does.all_done honest)) (stored g own (d.content old) after_super some room readable.size);
+-- a device that was told as its view
+module _ {D : Type 0} (d : Ghosts D) (ws : List Write) (old new : D) where
+  does_as_disk : DoesWrites d ws old new → DoesWrites of_disks ws (disk_of d old) (disk_of d new)
+  does_as_disk does = record {
+    kept = record { size = does.kept.size; honest_kept = does.kept.honest_kept; counted = does.kept.counted; grown = does.kept.grown };
+    unfailing = does.unfailing;
+    none_failed = does.none_failed;
+    all_done = does.all_done;
     within = does.within;
-    readable = readable;
   }
-  stores (Err e) after_super some room readable stops = tt
 
-  fails_as_disk : FailsInWrites d (grow_writes g own) old new → FailsInWrites of_disks (grow_writes g own) (disk_of d old) (disk_of d new)
+  fails_as_disk : FailsInWrites d ws old new → FailsInWrites of_disks ws (disk_of d old) (disk_of d new)
   fails_as_disk stops = record {
     kept = record { size = stops.kept.size; honest_kept = stops.kept.honest_kept; counted = stops.kept.counted; grown = stops.kept.grown };
     failed = stops.failed;
@@ -96,7 +97,39 @@ module _ {D : Type 0} (d : Ghosts D) (g : Growth) (own : Superblock) (old new : 
     within = stops.within;
   }
 
-  pub fails : {T E : Type 0} (result : Result T E) → KeepsAllBeside g.start (sectors_of g) (d.content old) (d.content new)
-      → MakesWrites d (grow_writes g own) old new result → OnErr result (FailsOn g own (disk_of d old) (disk_of d new))
-  fails (Ok x) kept does = tt
-  fails (Err e) kept stops = record { stops = fails_as_disk stops; kept = kept }
+  pub made_as_disk : {T E : Type 0} (result : Result T E) → MakesWrites d ws old new result → MakesWrites of_disks ws (disk_of d old) (disk_of d new) result
+  made_as_disk (Ok x) does = does_as_disk does
+  made_as_disk (Err e) stops = fails_as_disk stops
+
+module _ (g : Growth) (d e : Disk) (kept : KeepsAllBeside g.start (sectors_of g) d.content e.content) {T E : Type 0} where
+  pub gets_bitmap : (result : Result T E) → MakesWrites of_disks (bitmap_part g) d e result → OnOk result (GetsBitmap g d e)
+  gets_bitmap (Ok x) does = record { writes = does; kept = kept }
+  gets_bitmap (Err f) stops = tt
+
+  pub gets_superblock : (own : Superblock) → IsReadable (merged g.shared own) → (result : Result T E) → MakesWrites of_disks (own_write g.shared own ∷ []) d e result → OnOk result (GetsSuperblock g own d e)
+  gets_superblock own readable (Ok x) does = record { writes = does; kept = kept; readable = readable }
+  gets_superblock own readable (Err f) stops = tt
+
+  pub fails_in : (ws : List Write) (result : Result T E) → MakesWrites of_disks ws d e result → OnErr result (FailsIn g ws d e)
+  fails_in ws (Ok x) does = tt
+  fails_in ws (Err f) stops = record { stops = stops; kept = kept }
+
+-- the bitmap, and then the superblock
+module _ (g : Growth) (own : Superblock) (d m e : Disk) (bitmap : GetsBitmap g d m) where
+  abbrev naming : List Write
+  naming = own_write g.shared own ∷ []
+
+  pub grows : 16 ≤ g.start → 0 < sectors_of g → 512 * (g.start + sectors_of g) ≤ length d.content → GetsSuperblock g own m e → GrowsMemberOn g own d e
+  grows after_super some room superblock =
+      let does = does_then of_disks (bitmap_part g) naming d m e bitmap.writes superblock.writes in
+      record {
+        stored = λ honest. subst (IsStored g own d.content) (sym (does.all_done honest)) (stored g own d.content after_super some room superblock.readable.size);
+        within = does.within;
+        readable = superblock.readable;
+      }
+
+  pub fails_naming : FailsIn g naming m e → FailsIn g (grow_writes g own) d e
+  fails_naming fails = record {
+    stops = stops_then of_disks (bitmap_part g) naming d m e bitmap.writes fails.stops;
+    kept = keeps_then g.start (sectors_of g) d.content m.content e.content bitmap.kept fails.kept;
+  }

@@ -1,16 +1,18 @@
 -- The members get their bitmaps, one after another.
-use Rattle.std.specs.Prelude.{◌≡◌, ◌⊎◌, ℕ, ◌+◌, ◌*◌, ◌<◌, ◌≤◌, List, length, slice_get, Some}
+use Rattle.std.specs.Prelude.{◌≡◌, ◌⊎◌, ℕ, ◌+◌, ◌*◌, ◌<◌, ◌≤◌, List, [], ◌∷◌, length, slice_get, Some}
 use Rattle.md_members.specs.declared.fault.MemberFault.{MemberFault}
 use Rattle.md_members.specs.declared.fault.MemberFault.TheVariants as member_fault
 use Rattle.md_members.specs.declared.info.MemberInfo.{MemberInfo}
 use Rattle.md_array.specs.Open.Members.{AreRead, RefusesDeviceRead}
 use Rattle.md_state.specs.View.{Disk}
-use Rattle.md_state.specs.DeviceChanges.{AreSame, EachPair, IsLeftAlone, IsUntouched}
+use Rattle.md_kept_members.specs.OnDevices.Superblocks.{own_write}
+use Rattle.md_state.specs.DeviceChanges.{AreSame, EachPair, IsUntouched}
+use Rattle.md_super.specs.declared.superblock.Superblock.{Superblock}
 use Rattle.md_grow.specs.declared.fault.GrowFault.{GrowFault}
 use Rattle.md_grow.specs.declared.fault.GrowFault.TheVariants.{Member, MetadataFault, NoMemory}
 use Rattle.md_grow.specs.declared.growth.Growth.{Growth}
 use Rattle.md_grow.specs.Growth.{IsGrowth, RefusesGrowth}
-use Rattle.md_grow.specs.Stored.{FailsOn, GrowsMemberOn, sectors_of}
+use Rattle.md_grow.specs.Stored.{FailsIn, GetsBitmap, GetsSuperblock, GrowsMemberOn, bitmap_part, grow_writes, sectors_of}
 
 -- as many devices as members, and each has room for the bitmap after the superblock
 pub record FitGrowth (g : Growth) (disks : List Disk) : Type 0 where
@@ -28,18 +30,51 @@ pub record AllGrown (g : Growth) (before after : List Disk) : Type 0 where
   pub same : AreSame before after
   pub each : EachPair (IsStoredAt g) before after
 
--- a write failed on member k: the members before it got their bitmaps, and nothing was done to those after it
-pub record EndsGrowthAt (g : Growth) (before after : List Disk) (k : ℕ) : Type 0 where
+-- `Done` holds of each device before number k, `Failed` of that one, and nothing was done to those after it
+pub record EndsAt (Done Failed : ℕ → Disk → Disk → Type 0) (before after : List Disk) (k : ℕ) : Type 0 where
   pub same : AreSame before after
-  pub member : MemberInfo
-  pub at : slice_get g.members.items k ≡ Some member
-  pub failed : (d e : Disk) → slice_get before k ≡ Some d → slice_get after k ≡ Some e → FailsOn g member.superblock d e
+  pub failed : (d e : Disk) → slice_get before k ≡ Some d → slice_get after k ≡ Some e → Failed k d e
+  pub earlier : EachPair (λ j d e. j < k → Done j d e) before after
+  pub later : EachPair (λ j d e. k < j → e ≡ d) before after
+
+-- `Done` holds of each device
+pub record AreDone (Done : ℕ → Disk → Disk → Type 0) (before after : List Disk) : Type 0 where
+  pub same : AreSame before after
+  pub each : EachPair Done before after
+
+-- with member k's own superblock
+abbrev pub OfMember : Growth → (Superblock → Disk → Disk → Type 0) → ℕ → Disk → Disk → Type 0
+OfMember g So k d e = (info : MemberInfo) → slice_get g.members.items k ≡ Some info → So info.superblock d e
+
+-- The bitmaps come first, on all members, so that each has one by the time that a superblock names it: a kernel reads the
+-- bitmap of any member.
+abbrev pub HaveBitmaps : Growth → List Disk → List Disk → Type 0
+HaveBitmaps g = AreDone (λ k. GetsBitmap g)
+
+abbrev pub EndsInBitmaps : Growth → List Disk → List Disk → ℕ → Type 0
+EndsInBitmaps g = EndsAt (λ k. GetsBitmap g) (λ k. FailsIn g (bitmap_part g))
+
+abbrev pub HaveSuperblocks : Growth → List Disk → List Disk → Type 0
+HaveSuperblocks g = AreDone (OfMember g (GetsSuperblock g))
+
+abbrev pub EndsNaming : Growth → List Disk → List Disk → ℕ → Type 0
+EndsNaming g = EndsAt (OfMember g (GetsSuperblock g)) (OfMember g (λ own. FailsIn g (own_write g.shared own ∷ [])))
+
+-- a superblock's write failed on member k: the members before it got all, and those after it their bitmaps alone
+pub record EndsInSuperblocks (g : Growth) (before after : List Disk) (k : ℕ) : Type 0 where
+  pub same : AreSame before after
+  pub failed : (d e : Disk) → slice_get before k ≡ Some d → slice_get after k ≡ Some e
+      → OfMember g (λ own. FailsIn g (grow_writes g own)) k d e
   pub earlier : EachPair (λ j d e. j < k → IsStoredAt g j d e) before after
-  pub later : EachPair (λ j d e. k < j → IsLeftAlone d e) before after
+  pub later : EachPair (λ j d e. k < j → GetsBitmap g d e) before after
+
+-- what the fault of a failed write says of the member that it names
+abbrev pub OnMember : (ℕ → Type 0) → GrowFault → Type 0
+OnMember P (MetadataFault k) = P k
+OnMember P _ = ⊥
 
 abbrev pub RefusesStoring : Growth → List Disk → List Disk → GrowFault → Type 0
-RefusesStoring g before after (MetadataFault k) = EndsGrowthAt g before after k
-RefusesStoring g before after _ = ⊥
+RefusesStoring g before after = OnMember (λ k. EndsInBitmaps g before after k ⊎ EndsInSuperblocks g before after k)
 
 -- the fault where device k is not read as a member for this reason
 abbrev pub fault_of : ℕ → MemberFault → GrowFault

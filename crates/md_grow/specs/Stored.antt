@@ -7,7 +7,7 @@ use Rattle.md_super.specs.Encoding.{super_bytes}
 use Rattle.md_super.specs.Merge.{merged}
 use Rattle.md_bitmap.specs.Sectors.{bitmap_sector, bitmap_sectors}
 use Rattle.md_members.specs.DeviceWrites.Bitmaps.{bitmap_writes}
-use Rattle.md_members.specs.DeviceWrites.Writes.{IsCutShort, FailsInWrites, Write}
+use Rattle.md_members.specs.DeviceWrites.Writes.{DoesWrites, IsCutShort, FailsInWrites, Write}
 use Rattle.md_kept_members.specs.OnDevices.Superblocks.{IsReadable, own_write}
 use Rattle.md_state.specs.View.{Disk, of_disks}
 use Rattle.md_state.specs.DeviceChanges.{LeavesOn}
@@ -17,9 +17,13 @@ use Rattle.md_grow.specs.declared.growth.Growth.{Growth}
 abbrev pub sectors_of : Growth → ℕ
 sectors_of g = bitmap_sectors g.marks.chunks
 
--- the bitmap, its first sector last, and then the superblock
+-- the bitmap, its first sector last
+abbrev pub bitmap_part : Growth → List Write
+bitmap_part g = bitmap_writes g.start g.header g.marks (sectors_of g)
+
+-- and then the superblock
 abbrev pub grow_writes : Growth → Superblock → List Write
-grow_writes g own = bitmap_writes g.start g.header g.marks (sectors_of g) ++ own_write g.shared own ∷ []
+grow_writes g own = bitmap_part g ++ own_write g.shared own ∷ []
 
 -- bytes that lie beside n sectors from `start` on
 abbrev pub AreBeside : ℕ → ℕ → ℕ → ℕ → Type 0
@@ -42,7 +46,18 @@ pub record GrowsMemberOn (g : Growth) (own : Superblock) (d e : Disk) : Type 0 w
   pub within : d.honest ≡ true → LeavesOn (IsCutShort d.content (grow_writes g own)) d e
   pub readable : IsReadable (merged g.shared own)
 
--- one of the writes failed, and nothing else changed
-pub record FailsOn (g : Growth) (own : Superblock) (d e : Disk) : Type 0 where
-  pub stops : FailsInWrites of_disks (grow_writes g own) d e
+-- one of these writes failed, and nothing changed but the superblock and the bitmap's place
+pub record FailsIn (g : Growth) (writes : List Write) (d e : Disk) : Type 0 where
+  pub stops : FailsInWrites of_disks writes d e
   pub kept : KeepsAllBeside g.start (sectors_of g) d.content e.content
+
+-- The bitmap stands there, and nothing else changed: no superblock names it yet.
+pub record GetsBitmap (g : Growth) (d e : Disk) : Type 0 where
+  pub writes : DoesWrites of_disks (bitmap_part g) d e
+  pub kept : KeepsAllBeside g.start (sectors_of g) d.content e.content
+
+-- the superblock stands there that names it, and nothing else changed
+pub record GetsSuperblock (g : Growth) (own : Superblock) (d e : Disk) : Type 0 where
+  pub writes : DoesWrites of_disks (own_write g.shared own ∷ []) d e
+  pub kept : KeepsAllBeside g.start (sectors_of g) d.content e.content
+  pub readable : IsReadable (merged g.shared own)

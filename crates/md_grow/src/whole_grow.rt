@@ -13,8 +13,8 @@ use md_members::{MemberFault, MemberInfo, read_member};
 use std::alloc::Global;
 
 /// Puts a bitmap with chunks of so many bytes on each member of the array that the devices make, which lack one. All chunks are
-/// marked, or none where the array was stopped clean. On each device the bitmap is written first, its header last, and then
-/// the superblock. A run that was stopped is completed by another. The fault is the first in the order of `GrowFault`; nothing is
+/// marked, or none where the array was stopped clean. The bitmap is written to all devices first, its header last, and then the
+/// superblocks. A run that was stopped is completed by another. The fault is the first in the order of `GrowFault`; nothing is
 /// written unless it is `MetadataFault`.
 pub fn grow<D: Device>(alloc: Global, devices: &mut [D], chunk_bytes: u32) -> Result<(), GrowFault>
     ensures as_many { length devices.new ≡ length devices.old }

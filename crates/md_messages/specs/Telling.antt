@@ -5,6 +5,8 @@ use Rattle.std.specs.List.{flat_map, range_with_len}
 use Rattle.std.specs.Borrow.{Bor}
 use Rattle.clap.specs.Words.{Text}
 use Rattle.md_badblocks.specs.declared.run.Run.{Run}
+use Rattle.md_assembly.specs.declared.state.MemberState.{MemberState}
+use Rattle.md_assembly.specs.States.{is_in_sync}
 use Rattle.md_commands.specs.declared.fault.CommandFault.{CommandFault}
 use Rattle.md_commands.specs.declared.fault.CommandFault.TheVariants as fault
 use Rattle.md_examine.specs.Sink.{Puts}
@@ -13,7 +15,7 @@ use Rattle.md_notices.specs.declared.held.held.Held.{Held}
 use Rattle.md_notices.specs.declared.held.held.Held.TheVariants.{Nothing, Unseen, Unread, Member, Signed}
 use Rattle.md_notices.specs.Held.Holding.{is_unseen}
 use Rattle.md_images.specs.Taking.{is_missing_word}
-use Rattle.md_notices.specs.Lines.{dropped_text, forgotten_text, held_text, lost_text, marked_line_text, parted_text, identity_text, uncompared_text, unnamed_text, unread_text, unseen_text}
+use Rattle.md_notices.specs.Lines.{dropped_text, forgotten_text, held_text, lost_text, marked_line_text, parted_text, identity_text, listed_text, uncompared_text, unnamed_text, unread_text, unseen_text}
 use Rattle.md_notices.specs.Signatures.Texts.{text_of}
 use Rattle.md_words.specs.Asks.{Ask, adds, checks, device_to_add, overwritten_by}
 use Rattle.md_words.specs.declared.overwritten.Overwritten.{Overwritten}
@@ -86,6 +88,21 @@ dropped_line n name = dropped_text name n.in_sync n.raid_disks
 abbrev pub dropped_at : Notices → List Text → ℕ → List ℕ
 dropped_at n = line_at (dropped_line n) n.dropped
 
+-- ---- members that list more sectors as bad
+abbrev pub was_in_sync : Option MemberState → Bool
+was_in_sync None = false
+was_in_sync (Some state) = is_in_sync state
+
+abbrev pub listed_line : Bool → Option ℕ → Text → List ℕ
+listed_line in_sync None name = []
+listed_line in_sync (Some count) name = listed_text name in_sync count
+
+abbrev pub listed_line_at : Notices → ℕ → Text → List ℕ
+listed_line_at n k = listed_line (was_in_sync (get_or n.states k None)) (get_or n.more_listed k None)
+
+abbrev pub listed_at : Notices → List Text → ℕ → List ℕ
+listed_at n names k = line_of (listed_line_at n k) (slice_get names k)
+
 -- ---- what images hold
 abbrev pub held_line : Text → Held → List ℕ
 held_line name Nothing = []
@@ -149,6 +166,9 @@ unnamed_lines n = flat_map (unnamed_at n) (range_with_len 0 32)
 abbrev pub dropped_lines : List Text → Notices → List ℕ
 dropped_lines names n = flat_map (dropped_at n names) (range_with_len 0 64)
 
+abbrev pub listed_lines : List Text → Notices → List ℕ
+listed_lines names n = flat_map (listed_at n names) (range_with_len 0 64)
+
 -- What was shown before is not said again.
 abbrev pub first_unless : Audience → Ask → List Text → Notices → List ℕ
 first_unless audience ask names n = if audience.was_shown then [] else first_text ask names n
@@ -158,7 +178,7 @@ unfoldable pub noticed_text : Audience → Ask → List Text → Notices → Lis
 noticed_text audience ask names n =
     marked_lines names n ++ first_unless audience ask names n
     ++ parted_lines (asked_member (overwritten_by ask) (asks_first ask n)) names n ++ unnamed_lines n ++
-    dropped_lines names n
+    dropped_lines names n ++ listed_lines names n
 
 -- a check that is done compared nothing, where one member is in sync alone
 abbrev pub uncompared_lines : Ask → List Text → Notices → List ℕ

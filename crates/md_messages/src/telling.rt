@@ -2,18 +2,20 @@
 ghost use Rattle.std.specs.Prelude.{◌≡◌, ◌<◌, [], option_map, slice_get, if◌then◌else◌};
 ghost use Rattle.md_examine.specs.Sink.{PutsOrFails};
 ghost use Rattle.md_words.specs.Asks.{ask_of, overwritten_by};
-ghost use Rattle.md_messages.specs.Telling.{asked_member, dropped_at, dropped_line, dropped_lines, each_lines, first_by, first_text, first_unless, has_joined, held_line, held_line_of, is_at, line_of, lost_lines, marked_at, marked_lines, name_in, new_line, noticed_text, parted_at, parted_line, parted_lines, refused_text, returning_line, texts, told_text, uncompared_lines, unnamed_at, unnamed_lines};
+ghost use Rattle.md_messages.specs.Telling.{asked_member, dropped_at, dropped_line, dropped_lines, each_lines, first_by, first_text, first_unless, has_joined, held_line, held_line_of, is_at, listed_at, listed_line, listed_lines, line_of, lost_lines, marked_at, marked_lines, name_in, new_line, noticed_text, parted_at, parted_line, parted_lines, refused_text, returning_line, texts, told_text, uncompared_lines, unnamed_at, unnamed_lines, was_in_sync};
 ghost use Rattle.md_messages.specs.Holding.{held_each};
 ghost use Rattle.md_messages.specs.Noticed.{asks_first};
 
 use crate::messages::Audience;
 use crate::notices::Notices;
+use md_assembly::MemberState;
 use md_commands::CommandFault;
 use md_examine::{Sink, SinkFault};
 use md_images::is_missing;
 use md_notices::{
-    Held, MAX_MEMBERS, MAX_ROLES, dropped_line, forgotten_line, held_line, lost_line, marked_line,
-    parted_line, standing_line, uncompared_line, unnamed_line, unread_line, unseen_line,
+    Held, MAX_MEMBERS, MAX_ROLES, dropped_line, forgotten_line, held_line, listed_line, lost_line,
+    marked_line, parted_line, standing_line, uncompared_line, unnamed_line, unread_line,
+    unseen_line,
 };
 use md_words::{Command, Overwritten};
 
@@ -194,6 +196,59 @@ fn put_all_dropped<S: Sink>(out: &mut S, notices: &Notices, names: &[&str]) -> R
     Ok(())
 }
 
+fn was_in_sync(state: Option<MemberState>) -> bool
+    ensures { result ≡ was_in_sync state }
+{
+    match state {
+        Some(state) => state.is_in_sync(),
+        None => false,
+    }
+}
+
+fn put_listed_of<S: Sink>(
+    out: &mut S,
+    name: &str,
+    was_in_sync: bool,
+    count: Option<u64>,
+) -> Result<(), SinkFault>
+    ensures { PutsOrFails S.contents S.failed out.old out.new (listed_line was_in_sync count name.now) result }
+{
+    match count {
+        Some(count) => listed_line(out, name, was_in_sync, count),
+        None => out.put(b""),
+    }
+}
+
+fn put_listed<S: Sink>(
+    out: &mut S,
+    notices: &Notices,
+    names: &[&str],
+    k: usize,
+) -> Result<(), SinkFault>
+    requires { k < 64 }
+    ensures { PutsOrFails S.contents S.failed out.old out.new
+        (listed_at notices.now (texts names.now) k) result }
+{
+    match name_at(names, k) {
+        Some(name) => {
+            let in_sync = was_in_sync(notices.states[k]);
+            put_listed_of(out, name, in_sync, notices.more_listed[k])
+        }
+        None => out.put(b""),
+    }
+}
+
+// Which members list more sectors as bad than before.
+fn put_all_listed<S: Sink>(out: &mut S, notices: &Notices, names: &[&str]) -> Result<(), SinkFault>
+    ensures { PutsOrFails S.contents S.failed out.old out.new
+        (listed_lines (texts names.now) notices.now) result }
+{
+    for k in 0..MAX_MEMBERS {
+        put_listed(out, notices, names, k)?;
+    }
+    Ok(())
+}
+
 // Of the image that comes back that it was used without those in sync, or that nobody looked at it or could read it.
 fn put_returning<S: Sink>(
     out: &mut S,
@@ -345,6 +400,7 @@ fn put_noticed<S: Sink>(
     put_all_parted(out, notices, names, asked_member(notices, command))?;
     put_all_unnamed(out, notices)?;
     put_all_dropped(out, notices, names)?;
+    put_all_listed(out, notices, names)?;
     Ok(())
 }
 

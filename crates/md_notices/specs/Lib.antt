@@ -14,3 +14,5 @@ pub mod Noticing
 pub mod Signatures
 -- What a device holds before `create` or `add` overwrites it, for the warning.
 pub mod Held
+-- How many sectors members list as bad, and which list more than before.
+pub mod Listing

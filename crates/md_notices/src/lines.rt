@@ -1,7 +1,7 @@
 // The lines that say what was noticed.
 ghost use Rattle.std.specs.Prelude.{◌≡◌};
 ghost use Rattle.md_examine.specs.Sink.{PutsOrFails};
-ghost use Rattle.md_notices.specs.Lines.{dropped_text, forgotten_text, held_text, lost_text, marked_line_text, parted_text, uncompared_text, unnamed_text, unread_text, unseen_text};
+ghost use Rattle.md_notices.specs.Lines.{dropped_text, forgotten_text, held_text, listed_text, lost_text, marked_line_text, parted_text, uncompared_text, unnamed_text, unread_text, unseen_text, why_listed};
 
 use md_examine::{Sink, SinkFault, number_after, put_name};
 
@@ -37,6 +37,35 @@ pub fn dropped_line<S: Sink>(
         in_sync,
     )?;
     number_after(out, b" of ", raid_disks)?;
+    out.put(b"\n")?;
+    Ok(())
+}
+
+// Why a member lists sectors that it did not list before.
+fn why_listed(was_in_sync: bool) -> &'static [u8]
+    ensures { result.now ≡ why_listed was_in_sync }
+{
+    if was_in_sync {
+        b": could not be read in places: the sectors that are listed as bad in it are now "
+    } else {
+        b": no member gave all of it: the sectors that are listed as bad in it are now "
+    }
+}
+
+/// Says that a member lists more sectors as bad than before, and how many it lists now: one that was in sync, as reads of
+/// it failed, and one that gets what it lacks, as no member gave it.
+#[tactic(auto, unfolding(crate::specs::Lines::listed_text), using(md_examine::proofs::Puts::puts_then))]
+pub fn listed_line<S: Sink>(
+    out: &mut S,
+    name: &str,
+    was_in_sync: bool,
+    count: u64,
+) -> Result<(), SinkFault>
+    ensures { PutsOrFails S.contents S.failed out.old out.new (listed_text name.now was_in_sync count) result }
+{
+    out.put(b"mdcli: ")?;
+    put_name(out, name)?;
+    number_after(out, why_listed(was_in_sync), count)?;
     out.put(b"\n")?;
     Ok(())
 }

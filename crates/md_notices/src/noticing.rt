@@ -94,7 +94,7 @@ fn is_place(place: Option<usize>, k: usize) -> bool
 }
 
 // The place of a member after another one left.
-fn place_after(left: Option<usize>, k: usize) -> Option<usize>
+pub(crate) fn place_after(left: Option<usize>, k: usize) -> Option<usize>
     ensures { result ≡ place_after left k }
 {
     let Some(j) = left else {

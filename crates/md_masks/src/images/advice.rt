@@ -54,7 +54,7 @@ fn line_advice(fault: LineFault) -> &'static str {
         LineFault::Gap =>
             "the map is damaged, or is of a part of the disk: take ddrescue's backup of it (FILE.bak), or a map of the whole",
         LineFault::PastEnd => {
-            "it is of a larger image: name the map that ddrescue kept of this very copy, and of the whole of it"
+            "the copy is shorter than the disk: lengthen it by `truncate` to the size of the disk; or the map is of another image: name the one that ddrescue kept of this very copy"
         }
     }
 }

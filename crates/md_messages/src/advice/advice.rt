@@ -76,7 +76,7 @@ const WITHIN_ARRAY: &str =
 const RESYNC_FIRST: &str = "run `resync` first";
 
 const RESYNC_OR_LOOK: &str =
-    "run `resync` first; or, to read and change nothing, name one member in sync alone, with `--readonly`";
+    "to read and lose nothing, name one member in sync alone, with `--readonly`; or run `resync`, which overwrites marked chunks on all but one: on copies with their maps (`--map`)";
 
 const SEE_DEVICE: &str =
     "see why the device can't be written (`dmesg`, free space, write protection); run the command again";
@@ -180,7 +180,7 @@ fn check_advice(fault: CheckFault) -> &'static str {
 fn rebuild_advice(fault: RebuildFault) -> &'static str {
     match fault {
         RebuildFault::NotSpare => {
-            "`detail` shows the state of each member: a recovering one can be rebuilt, and a spare where a role is free; `remove` a faulty or stale one, and `re-add` it, or `add` it, which wipes what it holds"
+            "`detail` shows the state of each member: one in sync needs no rebuild; a recovering one can be rebuilt, and a spare where a role is free; `remove` a faulty or stale one, and `re-add` it, or `add` it, which wipes what it holds"
         }
         RebuildFault::Dirty => RESYNC_FIRST,
         RebuildFault::TargetFault => {
@@ -269,7 +269,7 @@ fn member_advice(fault: MemberFault) -> &'static str {
         }
         MemberFault::Super(fault) => superblock_advice(fault),
         MemberFault::Region => {
-            "the copy was cut, or the superblock is damaged: copy it again, or use another member; an image has to hold Data Offset and Avail Dev Size together, which `examine` shows in sectors of 512 bytes, and `truncate` lengthens a copy, with zeros for what is lost, which count as data then"
+            "the copy was cut, or the superblock is damaged: copy it again, or use another member; an image has to hold Data Offset and Avail Dev Size together, which `examine` shows in sectors of 512 bytes, and `truncate` lengthens a copy, with zeros for what is lost, which count as data unless its map is given (`--map`)"
         }
         MemberFault::Bitmap(_) => {
             "it is damaged, or of another version: leave that image out; `examine` still shows the superblock"
