@@ -52,13 +52,6 @@ module _ (target : ℕ) (t : Moment) (at : IsSteadyAt t) (m : MemberView) (none 
     ends_now : (stopped : MirrorView) → stopped ≡ now → ComesReady target t stopped
     ends_now stopped same = subst (ComesReady target t) (sym same) (record { comes = until_now; recovers = so_now.ready.recovering })
 
-    -- within one
-    ends_filling : (p : PassView) → IsArrayPass now.array chunks p → (n : MemberView) → IsMember now.array target n → (stopped : MirrorView) → IsFilling target n (slots_of_pass p) now stopped → ComesReady target t stopped
-    ends_filling p is n there stopped f = record {
-      comes = comes_then until_now (fill_comes target (end until_now) (end_steady until_now at) stopped (filled target now copied chunks so_now p is n there stopped f));
-      recovers = λ x at_x. so_now.ready.recovering x (ap (λ (a : ArrayView). slice_get a.members target) (sym f.array) ∙ at_x);
-    }
-
     -- after one, while failed chunks are listed
     ends_noting : (p : PassView) (after : Bitmap) (recorded stopped : MirrorView) → RecordsPass target chunks p copied after now recorded → (taken : List Slot) → NotesLists taken recorded stopped → ComesReady target t stopped
     ends_noting p after recorded stopped h taken notes =
@@ -103,13 +96,11 @@ module _ (target : ℕ) (t : Moment) (at : IsSteadyAt t) (copied : Bitmap) (stop
   ends_so : (why : LacksMemoryToRebuild target b.now none copied ready stopped ⊎ ((k : ℕ) × LacksRoom k target b.now none copied ready stopped)) → LogsUnshifted (failed_of (passes_then why)) t.mirror → At
   ends_so (inl (inl e)) un = ends_now target (end begun) (end_steady begun at) b.now none so e.passes e.left e.copied e.now e.passed (between_unshifted target t.mirror ready none b e.passes e.left e.copied e.now e.passed un) stopped e.why.1
   ends_so (inl (inr (inl e))) un =
-      ends_filling target (end begun) (end_steady begun at) b.now none so e.passes e.left e.copied e.now e.passed (between_unshifted target t.mirror ready none b e.passes e.left e.copied e.now e.passed un) e.why.pass e.why.is e.why.member e.why.at
-      stopped e.why.breaks.copies.filling
-  ends_so (inl (inr (inr (inl e)))) un =
       ends_noting target (end begun) (end_steady begun at) b.now none so e.passes e.left e.copied e.now e.passed (between_unshifted target t.mirror ready none b e.passes e.left e.copied e.now e.passed un) e.why.pass copied e.why.recorded stopped
       e.why.records e.why.fails.taken e.why.fails.notes
-  ends_so (inl (inr (inr (inr e)))) un =
-      ends_copied target (end begun) (end_steady begun at) b.now none so e.passes e.copied stopped e.copies (all_unshifted target t.mirror ready none b e.passes e.copied stopped e.copies un)
+  ends_so (inl (inr (inr e))) un =
+      subst (ComesReady target (end begun)) (sym e.why.unchanged)
+      (ends_copied target (end begun) (end_steady begun at) b.now none so e.passes e.copied e.filled e.fills.copies (all_unshifted target t.mirror ready none b e.passes e.copied e.filled e.fills.copies un))
   ends_so (inr (k, inl e)) un =
       ends_noting target (end begun) (end_steady begun at) b.now none so e.passes e.left e.copied e.now e.passed (between_unshifted target t.mirror ready none b e.passes e.left e.copied e.now e.passed un) e.why.pass copied e.why.recorded stopped
       e.why.records e.why.fails.taken e.why.fails.notes
