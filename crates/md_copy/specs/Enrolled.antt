@@ -14,7 +14,7 @@ use Rattle.md_copy.specs.declared.orphans.Orphans.{Orphans}
 use Rattle.md_copy.specs.declared.rebuilt.Rebuilt.{Rebuilt}
 
 -- No chunk is an orphan yet, of so many, and there is room to list all.
-pub record HaveRoom (count : ℕ) (orphans : Orphans) : Type 0 where
+pub record AreNoOrphans (count : ℕ) (orphans : Orphans) : Type 0 where
   pub marks : orphans.marks.chunks ≡ count
   pub none : (c : ℕ) → is_set orphans.marks.bytes c ≡ false
   pub empty : orphans.chunks.items ≡ []

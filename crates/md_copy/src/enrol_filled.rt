@@ -5,7 +5,7 @@ ghost use Rattle.md_state.specs.Members.{IsMember};
 ghost use Rattle.md_state.specs.Steps.Rise.{HasSpentEvents};
 ghost use Rattle.md_array.specs.Consistency.{IsConsistent};
 ghost use Rattle.md_array.specs.Steps.Enrol.{Enrols, MayEnrol};
-ghost use Rattle.md_copy.specs.Enrolled.{EnrolsCopied, FailsCopied, HaveRoom, RefusesFilledTarget};
+ghost use Rattle.md_copy.specs.Enrolled.{AreNoOrphans, EnrolsCopied, FailsCopied, RefusesFilledTarget};
 ghost use Rattle.md_copy.specs.Held.{AreHeld};
 ghost use Rattle.md_copy.specs.Leaving.{MayRecordAtEnd};
 ghost use Rattle.md_copy.specs.Ready.{IsReadyToCopy};
@@ -34,7 +34,7 @@ pub(crate) fn enrol_copied<D: Device + Drop>(
     requires ready { IsReadyToCopy target mirror.old }
     requires held { AreHeld mirror.old target copied.old }
     requires few { length plans.items < 2 ^ 32 }
-    requires room { HaveRoom copied.old.chunks orphans }
+    requires room { AreNoOrphans copied.old.chunks orphans }
     ensures gives { MatchResult result (EnrolsCopied target plans.items copied.old mirror.old mirror.new)
         (FailsCopied target copied.old copied.new mirror.old mirror.new) }
     ensures leaves { IfErr result (MayRecordAtEnd target copied.new mirror.new) }

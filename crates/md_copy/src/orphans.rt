@@ -1,6 +1,6 @@
 // What it takes to tell of the chunks that nobody could give.
 ghost use Rattle.std.specs.Prelude.{IfOk};
-ghost use Rattle.md_copy.specs.Enrolled.{HaveRoom};
+ghost use Rattle.md_copy.specs.Enrolled.{AreNoOrphans};
 
 use md_bitmap::Marks;
 use std::alloc::{AllocError, Global};
@@ -15,7 +15,7 @@ pub(crate) struct Orphans {
 
 /// None yet, of so many chunks.
 pub(crate) fn no_orphans(alloc: Global, count: u32) -> Result<Orphans, AllocError>
-    ensures { IfOk result (HaveRoom count) }
+    ensures { IfOk result (AreNoOrphans count) }
 {
     Ok(Orphans {
         marks: Marks::none(alloc, count)?,

@@ -4,7 +4,7 @@ ghost use Rattle.md_array.specs.Consistency.{IsConsistent};
 ghost use Rattle.md_kept_members.specs.View.{MemberView};
 ghost use Rattle.md_state.specs.Members.{IsMember};
 ghost use Rattle.md_rebuild_table.specs.Orphans.{IsSetOf};
-ghost use Rattle.md_copy.specs.Enrolled.{HaveRoom};
+ghost use Rattle.md_copy.specs.Enrolled.{AreNoOrphans};
 ghost use Rattle.md_copy.specs.Leaving.{MayRecordAtEnd};
 ghost use Rattle.md_copy.specs.Ready.{IsReadyToCopy};
 ghost use Rattle.md_copy.specs.Rebuilding.{RebuildsReadied, Rebuilds, RefusesRebuild, EndsAfterReady};
@@ -99,7 +99,7 @@ fn rebuild_readied<D: Device + Drop + Send, G: Gate + Sync, R: Threads + Wait + 
     requires within { target < length mirror.old.array.members }
     requires ready { IsReadyToCopy target mirror.old }
     requires none { IsSetOf mirror.old.array (λ c. false) copied.old }
-    requires room { HaveRoom copied.old.chunks orphans }
+    requires room { AreNoOrphans copied.old.chunks orphans }
     ensures gives { (m : MemberView) → IsMember mirror.old.array target m → MatchResult result
         (RebuildsReadied target m copied.old mirror.old mirror.new)
         (EndsAfterReady target m copied.old copied.new mirror.old mirror.new) }

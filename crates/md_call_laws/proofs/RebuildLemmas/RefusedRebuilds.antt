@@ -1,18 +1,16 @@
 -- A rebuild that ends because memory was refused, or a log has no room: a run leads to where it is recorded how far its target is rebuilt.
-use Rattle.std.proofs.Common.{◌≡◌, ◌∙◌, ◌⊎◌, ℕ, true, List, [], ◌∷◌, slice_get, None, refl, sym, ap, subst, inl, inr}
+use Rattle.std.proofs.Common.{◌≡◌, ◌∙◌, ◌⊎◌, ℕ, true, List, [], ◌∷◌, None, refl, sym, ap, subst, inl, inr}
 use Rattle.std.proofs.lemmas.List.{append-nil}
 use Rattle.md_assembly.specs.States.{is_recovering}
 use Rattle.md_bitmap.specs.Marks.{Bitmap}
 use Rattle.md_cert.specs.declared.slots.Slot.{Slot}
 use Rattle.md_kept_members.specs.View.{MemberView}
-use Rattle.md_copy.specs.PassLaws.Listed.{IsArrayPass}
-use Rattle.md_copy.specs.PassLaws.Passes.{PassView, slots_of_pass}
+use Rattle.md_copy.specs.PassLaws.Passes.{PassView}
 use Rattle.md_state.specs.Members.{IsMember}
-use Rattle.md_state.specs.View.{ArrayView, MirrorView}
+use Rattle.md_state.specs.View.{MirrorView}
 use Rattle.md_array.proofs.StepLemmas.Turns.{all_such}
 use Rattle.md_laws.specs.Runs.{Moment}
 use Rattle.md_rebuild_table.specs.Sources.{missing_chunks}
-use Rattle.md_copy.specs.Filling.{IsFilling}
 use Rattle.md_copy.specs.Listing.{IsStoringList, NotesLists}
 use Rattle.md_copy.specs.Passing.{AreListedPasses, CopiesAll, RecordsPass}
 use Rattle.md_copy.specs.Rebuilding.{BeginsRebuild, LacksMemoryToRebuild, LacksRoom}
@@ -21,11 +19,11 @@ use Rattle.md_copy.proofs.Passing.PassesTold.{HoldsSoFar, chain_holds}
 use Rattle.md_copy.proofs.Passing.PassesTold as told
 use Rattle.md_copy.proofs.Passing.PassRecorded.{recorded_ready}
 use Rattle.md_copy.proofs.Ready.ReadyStill.{ready_noted}
-use Rattle.md_copy.proofs.Leads.RebuildLeads.{begin_holds, filled, listing_before}
+use Rattle.md_copy.proofs.Leads.RebuildLeads.{begin_holds, listing_before}
 use Rattle.md_call_laws.specs.Rebuilds.RebuildRuns.{LogsUnshifted}
 use Rattle.md_call_laws.specs.Rebuilds.RefusedRebuilds.{HasLost, HasGivenUp, HasUnshifted, LostIsARun, RefusedIsARun, CrashesLeaving, CrashesLeavingAnyhow, CrashesLeavingLost, CrashesLeavingLostAnyhow, CrashesUnleft, CrashesUnleftLost, passes_then}
 use Rattle.md_call_laws.proofs.RebuildLemmas.RebuildRun.{stays_along}
-use Rattle.md_call_laws.proofs.RebuildLemmas.RebuildSteps.{Before, IfSome, all_come, begun_comes, fill_comes, noted_comes, passes_come, recorded_comes, some_map, unshifted_if}
+use Rattle.md_call_laws.proofs.RebuildLemmas.RebuildSteps.{Before, IfSome, all_come, begun_comes, noted_comes, passes_come, recorded_comes, some_map, unshifted_if}
 use Rattle.md_call_laws.proofs.RebuildLemmas.SpoiledRebuilds.{later_anyhow, offset_anyhow}
 use Rattle.md_call_laws.proofs.RebuildLemmas.Steady.{Comes, IsSteadyAt, comes_by, comes_then, end, end_steady, steady_at, steady_with}
 use Rattle.md_call_laws.proofs.RebuildLemmas.RebuildCrashes.{later_crash, passed, passed_holds, recording_crash, unrecorded_offset_crash}

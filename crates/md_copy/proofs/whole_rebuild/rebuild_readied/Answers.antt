@@ -1,6 +1,6 @@
 use Rattle.std.proofs.Common.{◌≡◌, ◌∙◌, List, ap, subst, sym}
 use Rattle.md_bitmap.specs.Marks.{Bitmap}
-use Rattle.md_copy.specs.Enrolled.{HaveRoom}
+use Rattle.md_copy.specs.Enrolled.{AreNoOrphans}
 use Rattle.md_copy.proofs.Passing.PassesLack.{all_lacks}
 use Rattle.std.proofs.lemmas.Result.{err_from_is_err_and}
 use Rattle.md_plan.specs.declared.planner.Planned.{Planned}
@@ -38,7 +38,7 @@ enrol_copied-requires-clause-room g c =
     let all = c.in_ok-plans.ensures.gives it.0 it.1 in
     let marks = (all_lacks c.args.target it.0 all.passes c.args.copied.now c.copy_passes.new.copied v c.copy_passes.new.mirror all.copies).marks in
     let many : c.args.copied.now.chunks ≡ c.copy_passes.new.copied.chunks = c.requires.none.chunks ∙ ap (λ (b : Bitmap). b.chunks) (sym marks) ∙ sym all.held.chunks in
-    subst (λ n. HaveRoom n c.args.orphans) many c.requires.room
+    subst (λ n. AreNoOrphans n c.args.orphans) many c.requires.room
 
 pub returns-in_err-told-clause-gives : goal.returns-in_err-told-clause-gives
 returns-in_err-told-clause-gives g c m at =
