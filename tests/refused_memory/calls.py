@@ -32,8 +32,6 @@ WITHIN = {
     "md_messages::ask_first": "md_cli::run",
     "md_messages::Notices::note_held_on_each": "md_cli::run",
     "md_pass::copy_pass": "md_copy::rebuild",
-    "md_rebuild_table::marks_of": "md_copy::rebuild",
-    "md_rebuild_table::uncopied_chunks": "md_copy::rebuild",
     "md_resync::make_agree": "md_resync::resync",
     "md_state::Array::note_bad": "md_array::Mirror::note_bad",
     "md_state::Array::check_add": "md_array::Mirror::add",

@@ -89,7 +89,7 @@ between k m before old new Why after e =
 
 broken_pass : (fault : RebuildFault) (k : ℕ) (m : MemberView) (slots : List Slot) (before after : Bitmap) (old new : MirrorView)
     → BreaksPass k m slots before after old new fault → AsMany old new
-broken_pass rebuild.NoMemory k m slots before after old new h = h.copies.filling.as_many
+broken_pass rebuild.NoMemory k m slots before after old new h = same old new h.1
 broken_pass rebuild.TargetFault k m slots before after old new h = h.filling.as_many
 broken_pass fault k m slots before after old new h = absurd h
 
@@ -133,11 +133,8 @@ lacks_memory : (k : ℕ) (m : MemberView) (none after : Bitmap) (ready stopped :
 lacks_memory k m none after ready stopped h =
     ⊎_elim (λ e. between k m none ready stopped _ (λ left copied now why. same now stopped why.1) e)
     (λ rest.
-    ⊎_elim (λ e. between k m none ready stopped _ (λ left copied now why. broken_off rebuild.NoMemory k left copied after now stopped why) e)
-    (λ later.
     ⊎_elim (λ e. between k m none ready stopped _ (λ left copied now why. not_listed rebuild.NoMemory k left copied after now stopped why) e)
-    (λ e. copied_all k m e.passes none e.copied ready stopped e.copies)
-    later)
+    (λ e. when_filled k m none ready stopped _ (λ kept orphans now why. same now stopped why.unchanged) e)
     rest)
     h
 

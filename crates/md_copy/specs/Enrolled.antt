@@ -1,5 +1,5 @@
 -- The target comes into sync after its passes, or it does not.
-use Rattle.std.specs.Prelude.{◌≡◌, ℕ, ◌<◌, ◌&&◌, List, length}
+use Rattle.std.specs.Prelude.{◌≡◌, ℕ, ◌<◌, ◌≤◌, ◌&&◌, false, List, [], length, vec_capacity}
 use Rattle.md_bitmap.specs.Marks.{Bitmap, is_set}
 use Rattle.md_kept_members.specs.View.{MemberView}
 use Rattle.md_plan.specs.declared.planner.Planned.{Planned}
@@ -10,7 +10,15 @@ use Rattle.md_array.specs.Steps.Enrol.{Enrols, FailsToEnrol, MayEnrol}
 use Rattle.md_rebuild_table.specs.declared.fault.RebuildFault.{RebuildFault}
 use Rattle.md_rebuild_table.specs.declared.fault.RebuildFault.TheVariants.{LogFull, NoMemory, TargetFault}
 use Rattle.md_rebuild_table.specs.Orphans.{IsSetOf, IsSubset, is_in, uncopied_chunks}
+use Rattle.md_copy.specs.declared.orphans.Orphans.{Orphans}
 use Rattle.md_copy.specs.declared.rebuilt.Rebuilt.{Rebuilt}
+
+-- No chunk is an orphan yet, of so many, and there is room to list all.
+pub record AreNoOrphans (count : ℕ) (orphans : Orphans) : Type 0 where
+  pub marks : orphans.marks.chunks ≡ count
+  pub none : (c : ℕ) → is_set orphans.marks.bytes c ≡ false
+  pub empty : orphans.chunks.items ≡ []
+  pub room : count ≤ vec_capacity orphans.chunks
 
 -- The target's list needs more room than its log has, and nothing was written for it.
 pub record HasNoRoom (target : ℕ) (copied orphans : Bitmap) (old new : MirrorView) : Type 0 where
@@ -22,6 +30,13 @@ pub record HasNoRoom (target : ℕ) (copied orphans : Bitmap) (old new : MirrorV
 pub record LacksOwnRoom (target : ℕ) (copied orphans after : Bitmap) (old new : MirrorView) : Type 0 where
   pub unchanged : new ≡ old
   pub full : HasFullLog target copied orphans old.array
+  pub left : IsSubset after copied
+
+-- Memory was refused as the target was to come into sync, and nothing was written for it: its log has room for its list. Of the chunks that were
+-- copied these are left to be recorded.
+pub record LacksMemoryToEnrol (target : ℕ) (copied orphans after : Bitmap) (old new : MirrorView) : Type 0 where
+  pub unchanged : new ≡ old
+  pub room : HasRoomInLog target copied orphans old.array
   pub left : IsSubset after copied
 
 -- why it does not
@@ -63,6 +78,6 @@ pub record EndsWithSets (target : ℕ) (copied : Bitmap) (old : MirrorView) (Why
 -- The target does not come into sync, and of the chunks that were copied these are left.
 abbrev pub FailsCopied : ℕ → Bitmap → Bitmap → MirrorView → MirrorView → RebuildFault → Type 0
 FailsCopied target copied after old new (LogFull k) = (k ≡ target) × EndsWithSets target copied old (λ kept orphans. LacksOwnRoom target kept orphans after old new)
-FailsCopied target copied after old new NoMemory = (new ≡ old) × IsSubset after copied
+FailsCopied target copied after old new NoMemory = EndsWithSets target copied old (λ kept orphans. LacksMemoryToEnrol target kept orphans after old new)
 FailsCopied target copied after old new TargetFault = EndsWithSets target copied old (λ kept orphans. FailsToEnrol target kept orphans old new)
 FailsCopied target copied after old new fault = ⊥

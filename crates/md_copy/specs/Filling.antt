@@ -87,15 +87,8 @@ pub record FailsOnWrite (target : ℕ) (m : MemberView) (slots : List Slot) (old
   pub filling : IsFilling target m slots old new
   pub failed : AtDevice target old.disks new.disks (CountsFailure of_disks)
 
--- Memory was refused. Of the plan as much was copied as it came to. No call of the target's device failed, nor any of a source's but reads of
--- chunks that were not copied.
-pub record LacksMemoryToFill (target : ℕ) (m : MemberView) (slots : List Slot) (before after : Bitmap) (old new : MirrorView) : Type 0 where
-  pub copies : CopiesChunks target m slots before after old new
-  pub unfailing : AtDevice target old.disks new.disks (λ d e. e.faults ≡ d.faults)
-  pub only : HaveFailedOnlyThere slots after old new
-
--- why not all slots were: memory was refused, or the target could not be written
+-- why not all slots were: memory was refused before anything was read, or the target could not be written
 abbrev pub BreaksPass : ℕ → MemberView → List Slot → Bitmap → Bitmap → MirrorView → MirrorView → RebuildFault → Type 0
-BreaksPass target m slots before after old new NoMemory = LacksMemoryToFill target m slots before after old new
+BreaksPass target m slots before after old new NoMemory = (after ≡ before) × (new ≡ old)
 BreaksPass target m slots before after old new TargetFault = FailsOnWrite target m slots old new
 BreaksPass target m slots before after old new fault = ⊥

@@ -128,7 +128,7 @@ pub record MakesOne (target : ℕ) (rows : List Row) (before after : Bitmap) (ol
   pub records : RecordsPass target (chunks_of_rows rows) pass before after old new
 
 abbrev pub FailsOne : ℕ → List Row → Bitmap → Bitmap → MirrorView → MirrorView → RebuildFault → Type 0
-FailsOne target rows before after old new NoMemory = ((after ≡ before) × (new ≡ old)) ⊎ BreaksOffPass target NoMemory (chunks_of_rows rows) before after old new
+FailsOne target rows before after old new NoMemory = (after ≡ before) × (new ≡ old)
 FailsOne target rows before after old new TargetFault = BreaksOffPass target TargetFault (chunks_of_rows rows) before after old new ⊎ FailsRecording target (chunks_of_rows rows) before old new
 FailsOne target rows before after old new fault = ⊥
 
@@ -141,12 +141,11 @@ pub record PassesAll (target : ℕ) (m : MemberView) (before after : Bitmap) (ol
   pub ready : IsReadyToCopy target new
   pub held : AreHeld new target after
 
--- before a pass, in one, or while failed chunks are listed
+-- before a pass reads anything, as the target can't be written, or while failed chunks are listed
 abbrev pub PassesFail : ℕ → MemberView → Bitmap → Bitmap → MirrorView → MirrorView → RebuildFault → Type 0
 PassesFail target m before after old new NoMemory =
     EndsBetween target m before old (λ left copied now. (after ≡ copied) × (new ≡ now))
-    ⊎ (EndsBetween target m before old (λ left copied now. BreaksOffPass target NoMemory left copied after now new)
-    ⊎ EndsBetween target m before old (λ left copied now. FailsListing target NoMemory left copied after now new))
+    ⊎ EndsBetween target m before old (λ left copied now. FailsListing target NoMemory left copied after now new)
 PassesFail target m before after old new (LogFull k) = EndsBetween target m before old (λ left copied now. FailsListing target (LogFull k) left copied after now new)
 PassesFail target m before after old new (MetadataFault k) = EndsBetween target m before old (λ left copied now. FailsListing target (MetadataFault k) left copied after now new)
 PassesFail target m before after old new TargetFault =

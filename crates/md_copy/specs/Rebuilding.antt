@@ -11,9 +11,9 @@ use Rattle.md_array.specs.Steps.Enrol.{Enrols, FailsToEnrol}
 use Rattle.md_rebuild_table.specs.declared.fault.RebuildFault.{RebuildFault}
 use Rattle.md_rebuild_table.specs.declared.fault.RebuildFault.TheVariants.{Halted, NotSpare, Dirty, InFlight, LogFull, NoMemory, TargetFault, MetadataFault, EventsFull}
 use Rattle.md_rebuild_table.specs.Beginning.{CannotRebuild, MayBeginRebuild}
-use Rattle.md_rebuild_table.specs.Orphans.{IsSetOf, IsSubset, uncopied_chunks}
+use Rattle.md_rebuild_table.specs.Orphans.{IsSetOf, uncopied_chunks}
 use Rattle.md_copy.specs.declared.rebuilt.Rebuilt.{Rebuilt}
-use Rattle.md_copy.specs.Enrolled.{HasSets, LacksOwnRoom}
+use Rattle.md_copy.specs.Enrolled.{HasSets, LacksMemoryToEnrol, LacksOwnRoom}
 use Rattle.md_copy.specs.Leaving.{HasNone, LeavesAfter}
 use Rattle.md_copy.specs.Passing.{BreaksOffPass, CopiesAll, EndsBetween, FailsListing, FailsRecording}
 use Rattle.md_copy.specs.Preparing.{TellsPasses}
@@ -74,20 +74,12 @@ pub record EndsFilled (target : ℕ) (m : MemberView) (none : Bitmap) (ready : M
   pub fills : FillsBy target m passes none copied kept orphans chunks ready filled
   pub why : Why kept orphans filled
 
--- All was copied, and no more was done. Of what was copied these chunks are left to be recorded again, as the last pass is recorded.
-pub record EndsCopied (target : ℕ) (m : MemberView) (none after : Bitmap) (ready stopped : MirrorView) : Type 0 where
-  pub passes : List PassView
-  pub copied : Bitmap
-  pub copies : CopiesAll target m passes none copied ready stopped
-  pub left : IsSubset after copied
-
--- Memory was refused, with these chunks copied: before a pass, within one, while failed chunks are listed, or as the target was to come into sync.
+-- Memory was refused, with these chunks copied: before a pass reads anything, while failed chunks are listed, or as the target was to come into sync.
 abbrev pub LacksMemoryToRebuild : ℕ → MemberView → Bitmap → Bitmap → MirrorView → MirrorView → Type 0
 LacksMemoryToRebuild target m none after ready stopped =
     EndsBetween target m none ready (λ left copied now. (after ≡ copied) × (stopped ≡ now))
-    ⊎ (EndsBetween target m none ready (λ left copied now. BreaksOffPass target NoMemory left copied after now stopped)
     ⊎ (EndsBetween target m none ready (λ left copied now. FailsListing target NoMemory left copied after now stopped)
-    ⊎ EndsCopied target m none after ready stopped))
+    ⊎ EndsFilled target m none ready (λ kept orphans filled. LacksMemoryToEnrol target kept orphans after filled stopped))
 
 -- A log has no room, with these chunks copied: that of a member that could not be read, or the target's.
 abbrev pub LacksRoom : ℕ → ℕ → MemberView → Bitmap → Bitmap → MirrorView → MirrorView → Type 0

@@ -13,7 +13,7 @@ use Rattle.md_members.specs.Reading.{BitmapStartsAt}
 use Rattle.md_super.specs.declared.superblock.Superblock.{Superblock}
 use Rattle.md_state.specs.Steps.Checkpoint.{EndsCheckpoint}
 use Rattle.md_state.specs.DiskWrites.{AtDevice}
-use Rattle.md_state.specs.Steps.Enrol.{HasFullLog}
+use Rattle.md_state.specs.Steps.Enrol.{HasFullLog, HasRoomInLog}
 use Rattle.md_state.specs.Members.{IsInSync, IsMember}
 use Rattle.md_state.specs.Steps.NoteBad.{HasFullLogFor}
 use Rattle.md_state.specs.View.{ArrayView, Disk, MirrorView, of_disks}
@@ -22,7 +22,7 @@ use Rattle.md_array.specs.Steps.Lend.{IsBesideMissing}
 use Rattle.md_array.specs.ReadAsKept.{IsSuperOn}
 use Rattle.md_array.specs.Worlds.{is_listed}
 use Rattle.md_copy.specs.PassLaws.Listed.{AreCopiedBy, IsArrayPass, IsOfFailed, ListsFailed, MayServe, ServesAs, most_failures}
-use Rattle.md_copy.specs.PassLaws.Passes.{IsCopiedIn, PassView, failed_chunks}
+use Rattle.md_copy.specs.PassLaws.Passes.{PassView, failed_chunks}
 use Rattle.md_rebuild_table.specs.declared.fault.RebuildFault.{RebuildFault}
 use Rattle.md_rebuild_table.specs.declared.fault.RebuildFault.TheVariants.{Halted, NotSpare, Dirty, InFlight, LogFull, NoMemory, TargetFault, MetadataFault, EventsFull}
 use Rattle.md_rebuild_table.specs.Orphans.{is_in, uncopied_chunks}
@@ -104,12 +104,6 @@ pub record IsRebuiltSoFar (a : ArrayView) (s : Ending) (now : MemberView) : Type
   pub recovering : is_recovering now.state ≡ true
   pub to : IsRebuiltTo a s.member s.copied now.offset now.superblock.recovery_offset
 
--- What counts as copied: all that those passes copied of which the failed slots are listed, and at most what
--- the last pass copied or was to copy, too.
-pub record HasCopiedBy (s : Ending) : Type 0 where
-  pub listed : (c : ℕ) → IsCopiedIn s.listed c → is_set s.copied.bytes c ≡ true
-  pub only : (c : ℕ) → is_set s.copied.bytes c ≡ true → IsCopiedIn (s.listed ++ s.last) c
-
 -- ---- the lists
 -- An opening reads a superblock of this content, and in the log that it names are these sectors listed, and
 -- no others.
@@ -158,9 +152,9 @@ pub record LacksRoomFor (k : ℕ) (a : ArrayView) (slot : Slot) : Type 0 where
   pub full : HasFullLogFor k slot.chunk a
   pub own : is_in_sync_as slot.source full.member.state ≡ true
 
--- All passes are made: in the last no slot failed. The target would list the orphans, and no more those of the chunks that were copied which it lacked
--- still, and for this list its log has no room.
-pub record LacksOwnRoomFor (target : ℕ) (s : Ending) (old new : ArrayView) : Type 0 where
+-- All passes are made: in the last no slot failed. The target is to list the orphans, and no more those of the chunks that were copied which it
+-- lacked still.
+pub record MakesAllPasses (s : Ending) (old : ArrayView) : Type 0 where
   pub pass : PassView
   pub last : s.last ≡ pass ∷ []
   pub done : pass.failed ≡ []
@@ -169,7 +163,21 @@ pub record LacksOwnRoomFor (target : ℕ) (s : Ending) (old new : ArrayView) : T
   pub kept_are : (c : ℕ) → c < old.marks.chunks → is_set kept.bytes c ≡ true → is_set s.copied.bytes c ≡ true
   pub orphans : Bitmap
   pub orphans_are : (c : ℕ) → is_set orphans.bytes c ≡ is_in (uncopied_chunks old s.member s.copied) c
-  pub full : HasFullLog target kept orphans new
+
+-- All passes are made, and for its list the target's log has no room.
+pub record LacksOwnRoomFor (target : ℕ) (s : Ending) (old new : ArrayView) : Type 0 where
+  pub all : MakesAllPasses s old
+  pub full : HasFullLog target all.kept all.orphans new
+
+-- All passes are made, and for its list the target's log has room.
+pub record HasOwnRoomFor (target : ℕ) (s : Ending) (old new : ArrayView) : Type 0 where
+  pub all : MakesAllPasses s old
+  pub room : HasRoomInLog target all.kept all.orphans new
+
+-- No pass was planned that was not made, and all that failed is listed.
+pub record IsBetweenPasses (s : Ending) : Type 0 where
+  pub last : s.last ≡ []
+  pub noted : s.noted ≡ []
 
 -- All slots of the last pass that failed are listed in memory.
 pub record NotesAll (s : Ending) : Type 0 where
@@ -227,13 +235,13 @@ pub record EndsWithTarget (target : ℕ) (s : Ending) (now : MemberView) (old ne
   pub noted : s.noted ≡ []
   pub stand : ListsStand target (failed_of s.listed) old.array new
 
--- The mirror runs. The target is what it was, or it is recovering, rebuilt as far as the passes had copied
--- that were listed, or further by what the last one had. Memory was refused while slots that failed were
--- listed; or all that is listed stands on the devices.
+-- The mirror runs. The target is what it was, or it is recovering, rebuilt as far as the passes have copied, the last among them. Memory was refused
+-- before a pass has read anything; or while slots that failed in the last were listed; or once all passes are made, and then the target's log has room
+-- for its list. What failed in the passes before the last is listed, and stands on the devices.
 pub record EndsWithoutMemory (target : ℕ) (s : Ending) (now : MemberView) (old new : MirrorView) : Type 0 where
   pub running : new.array.halted ≡ false
-  pub target_is : IsAsBefore s now ⊎ (IsRebuiltSoFar old.array s now × HasCopiedBy s)
-  pub noted : (s.noted ≡ []) ⊎ NotesSome s (λ next. Unit {0})
+  pub target_is : IsAsBefore s now ⊎ (IsRebuiltSoFar old.array s now × AreCopiedBy (s.listed ++ s.last) s.copied)
+  pub when : IsBetweenPasses s ⊎ (NotesSome s (λ next. Unit {0}) ⊎ HasOwnRoomFor target s old.array new.array)
   pub stand : ListsStand target (failed_of s.listed) old.array new
 
 -- The mirror runs, and the target is recovering, rebuilt as far as the passes have copied, the last among them. A slot failed of member k, whose log has no

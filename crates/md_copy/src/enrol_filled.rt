@@ -5,11 +5,12 @@ ghost use Rattle.md_state.specs.Members.{IsMember};
 ghost use Rattle.md_state.specs.Steps.Rise.{HasSpentEvents};
 ghost use Rattle.md_array.specs.Consistency.{IsConsistent};
 ghost use Rattle.md_array.specs.Steps.Enrol.{Enrols, MayEnrol};
-ghost use Rattle.md_copy.specs.Enrolled.{EnrolsCopied, FailsCopied, RefusesFilledTarget};
+ghost use Rattle.md_copy.specs.Enrolled.{AreNoOrphans, EnrolsCopied, FailsCopied, RefusesFilledTarget};
 ghost use Rattle.md_copy.specs.Held.{AreHeld};
 ghost use Rattle.md_copy.specs.Leaving.{MayRecordAtEnd};
 ghost use Rattle.md_copy.specs.Ready.{IsReadyToCopy};
 
+use crate::orphans::Orphans;
 use crate::rebuilt::Rebuilt;
 use md_array::{EnrolFault, Mirror};
 use md_bitmap::Marks;
@@ -19,31 +20,29 @@ use md_rebuild_table::{RebuildFault, keep_missing, marks_of, uncopied_chunks};
 use std::alloc::Global;
 
 /// The target comes into sync with the chunks that were copied, and lists the others that it lacks. What is told
-/// of it is answered. `copied` keeps the chunks that the target lacked still.
+/// of it is answered. `copied` keeps the chunks that the target lacked still. Only the target's new list and
+/// superblocks take memory.
 pub(crate) fn enrol_copied<D: Device + Drop>(
     alloc: Global,
     mirror: &mut Mirror<D>,
     target: usize,
     plans: Vec<Planned>,
     copied: &mut Marks,
+    orphans: Orphans,
 ) -> Result<Rebuilt, RebuildFault>
     requires within { target < length mirror.old.array.members }
     requires ready { IsReadyToCopy target mirror.old }
     requires held { AreHeld mirror.old target copied.old }
     requires few { length plans.items < 2 ^ 32 }
+    requires room { AreNoOrphans copied.old.chunks orphans }
     ensures gives { MatchResult result (EnrolsCopied target plans.items copied.old mirror.old mirror.new)
         (FailsCopied target copied.old copied.new mirror.old mirror.new) }
     ensures leaves { IfErr result (MayRecordAtEnd target copied.new mirror.new) }
     ensures sound { IsConsistent mirror.new }
 {
-    let chunks = match uncopied_chunks(alloc, mirror, target, copied) {
-        Ok(chunks) => chunks,
-        Err(_) => return Err(RebuildFault::NoMemory),
-    };
-    let orphans = match marks_of(alloc, copied.chunks(), chunks.as_slice()) {
-        Ok(orphans) => orphans,
-        Err(_) => return Err(RebuildFault::NoMemory),
-    };
+    let Orphans { marks, chunks } = orphans;
+    let chunks = uncopied_chunks(chunks, mirror, target, copied);
+    let orphans = marks_of(marks, chunks.as_slice());
     keep_missing(mirror, target, copied);
     enrol_filled(alloc, mirror, target, copied, &orphans)?;
     Ok(Rebuilt {

@@ -7,7 +7,7 @@ ghost use Rattle.md_state.specs.Steps.MakeClean.{IsIdle};
 ghost use Rattle.md_state.specs.Members.{IsMember};
 ghost use Rattle.md_state.specs.Missing.{is_rebuilt};
 ghost use Rattle.md_array.specs.Consistency.{IsConsistent};
-ghost use Rattle.md_copy.specs.Filling.{BreaksPass, FailsOnWrite, FillsPass, LacksMemoryToFill};
+ghost use Rattle.md_copy.specs.Filling.{BreaksPass, FailsOnWrite, FillsPass};
 ghost use Rattle.md_copy.specs.RebuildSources.{AreSources, IsPlanOf};
 ghost use Rattle.md_copy.specs.Told.{IsToldOfSlots};
 
@@ -23,7 +23,7 @@ use std::sync::Wait;
 use std::thread::Threads;
 
 /// Copies what is planned to the target, as far as its sources give it, and answers how many slots failed.
-/// Whatever becomes of it, the devices are back in their places.
+/// Whatever becomes of it, the devices are back in their places. Where memory is refused, nothing was read.
 pub(crate) fn fill<D: Device + Drop + Send, G: Gate + Sync, R: Threads + Wait + Sync>(
     rt: &R,
     alloc: Global,
@@ -79,7 +79,7 @@ fn fill_devices<D: Device + Drop + Send, G: Gate + Sync, R: Threads + Wait + Syn
 
     ensures gives { (m : MemberView) → IsMember mirror.old.array target m → MatchResult result
         (λ counts. FillsPass target m plan.now.slots copied.old copied.new mirror.old mirror.new counts.failed)
-        (OnFault (LacksMemoryToFill target m plan.now.slots copied.old copied.new mirror.old mirror.new)
+        (OnFault ((copied.new ≡ copied.old) × (mirror.new ≡ mirror.old))
         (FailsOnWrite target m plan.now.slots mirror.old mirror.new)) }
     ensures told { OnOk result (IsToldOfSlots G.Gate gate.now plan.now.slots) }
     ensures sound { IsConsistent mirror.new }

@@ -18,6 +18,7 @@ mod leave;
 mod list_failed;
 mod next_table;
 mod one_pass;
+mod orphans;
 mod pass_laws;
 mod passes;
 mod readying;

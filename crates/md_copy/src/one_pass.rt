@@ -42,7 +42,7 @@ pub(crate) fn copy_beside<D: Device + Drop + Send, G: Gate + Sync, R: Threads + 
         (EndsPass D.Device (copy_of plan.now.slots chunks offset) sources.now
         (pass_state (remove devices.old.items target) (slice_index_or devices.old.items target d) copied.old)
         (pass_state (remove devices.new.items target) (slice_index_or devices.new.items target d) copied.new))
-        (BreaksOff D.Device (copy_of plan.now.slots chunks offset) sources.now
+        (BreaksOff D.Device
         (pass_state (remove devices.old.items target) (slice_index_or devices.old.items target d) copied.old)
         (pass_state (remove devices.new.items target) (slice_index_or devices.new.items target d) copied.new)) }
 

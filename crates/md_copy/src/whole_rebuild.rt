@@ -4,6 +4,7 @@ ghost use Rattle.md_array.specs.Consistency.{IsConsistent};
 ghost use Rattle.md_kept_members.specs.View.{MemberView};
 ghost use Rattle.md_state.specs.Members.{IsMember};
 ghost use Rattle.md_rebuild_table.specs.Orphans.{IsSetOf};
+ghost use Rattle.md_copy.specs.Enrolled.{AreNoOrphans};
 ghost use Rattle.md_copy.specs.Leaving.{MayRecordAtEnd};
 ghost use Rattle.md_copy.specs.Ready.{IsReadyToCopy};
 ghost use Rattle.md_copy.specs.Rebuilding.{RebuildsReadied, Rebuilds, RefusesRebuild, EndsAfterReady};
@@ -13,6 +14,7 @@ ghost use Rattle.md_copy.specs.Told.{IsToldOfPlans};
 
 use crate::enrol_filled::enrol_copied;
 use crate::leave::leave;
+use crate::orphans::{Orphans, no_orphans};
 use crate::passes::copy_passes;
 use crate::readying::{lower_target, make_ready};
 use crate::rebuilt::Rebuilt;
@@ -69,9 +71,13 @@ fn rebuild_by_steps<D: Device + Drop + Send, G: Gate + Sync, R: Threads + Wait +
         Ok(copied) => copied,
         Err(_) => return Err(RebuildFault::NoMemory),
     };
+    let orphans = match no_orphans(alloc, copied.chunks()) {
+        Ok(orphans) => orphans,
+        Err(_) => return Err(RebuildFault::NoMemory),
+    };
     lower_target(mirror, target, &copied);
     make_ready(alloc, mirror, target)?;
-    match rebuild_readied(rt, alloc, mirror, target, gate, &mut copied) {
+    match rebuild_readied(rt, alloc, mirror, target, gate, &mut copied, orphans) {
         Ok(told) => Ok(told),
         Err(fault) => {
             leave(mirror, target, &mut copied, fault);
@@ -88,10 +94,12 @@ fn rebuild_readied<D: Device + Drop + Send, G: Gate + Sync, R: Threads + Wait + 
     target: usize,
     gate: &G,
     copied: &mut Marks,
+    orphans: Orphans,
 ) -> Result<Rebuilt, RebuildFault>
     requires within { target < length mirror.old.array.members }
     requires ready { IsReadyToCopy target mirror.old }
     requires none { IsSetOf mirror.old.array (λ c. false) copied.old }
+    requires room { AreNoOrphans copied.old.chunks orphans }
     ensures gives { (m : MemberView) → IsMember mirror.old.array target m → MatchResult result
         (RebuildsReadied target m copied.old mirror.old mirror.new)
         (EndsAfterReady target m copied.old copied.new mirror.old mirror.new) }
@@ -100,7 +108,7 @@ fn rebuild_readied<D: Device + Drop + Send, G: Gate + Sync, R: Threads + Wait + 
     ensures sound { IsConsistent mirror.new }
 {
     let plans = copy_passes(rt, alloc, mirror, target, gate, copied)?;
-    let told = enrol_copied(alloc, mirror, target, plans, copied)?;
+    let told = enrol_copied(alloc, mirror, target, plans, copied, orphans)?;
     store_until_done(mirror);
     Ok(told)
 }

@@ -1,5 +1,5 @@
 // What is left over once all passes are made.
-ghost use Rattle.std.specs.Prelude.{◌≡◌, ◌<◌, ◌&&◌, ℕ, All, IfOk, length, not};
+ghost use Rattle.std.specs.Prelude.{◌≡◌, ◌<◌, ◌≤◌, ◌&&◌, [], ℕ, All, false, length, not, vec_capacity};
 ghost use Rattle.std.specs.Int.{div_ceil};
 ghost use Rattle.md_bitmap.specs.Marks.{is_set};
 ghost use Rattle.md_kept_members.specs.View.{MemberView};
@@ -11,28 +11,30 @@ ghost use Rattle.md_rebuild_table.specs.Orphans.{is_in, uncopied_chunks};
 use md_array::Mirror;
 use md_bitmap::Marks;
 use md_device::Device;
-use std::alloc::{AllocError, Global};
 
-/// The chunks that member k lacks and that were not copied, in rising order.
+/// The chunks that member k lacks and that were not copied, in rising order, in this list, which has room for all
+/// chunks. Takes no memory.
 pub fn uncopied_chunks<D: Device + Drop>(
-    alloc: Global,
+    empty: Vec<u32>,
     mirror: &Mirror<D>,
     k: usize,
     copied: &Marks,
-) -> Result<Vec<u32>, AllocError>
+) -> Vec<u32>
     requires within { k < length mirror.now.array.members }
     requires chunks { HasMarksOfSize mirror.now.array }
     requires marks { copied.now.chunks ≡ mirror.now.array.marks.chunks }
+    requires empty { empty.items ≡ [] }
+    requires room { copied.now.chunks ≤ vec_capacity empty }
     ensures { (m : MemberView) → IsMember mirror.now.array k m
-        → IfOk result (λ chunks. chunks.items ≡ uncopied_chunks mirror.now.array m copied.now) }
+        → result.items ≡ uncopied_chunks mirror.now.array m copied.now }
 {
-    let mut chunks = Vec::new(alloc);
+    let mut chunks = empty;
     for chunk in 0..copied.chunks() {
         if is_orphan(mirror, k, copied, chunk) {
-            chunks.push(chunk)?;
+            chunks.push_reserved(chunk);
         }
     }
-    Ok(chunks)
+    chunks
 }
 
 // Whether member k lacks the chunk, and it was not copied.
@@ -61,15 +63,16 @@ pub fn keep_missing<D: Device + Drop>(mirror: &Mirror<D>, k: usize, copied: &mut
     }
 }
 
-/// So many chunks, of which these are marked.
-pub fn marks_of(alloc: Global, count: u32, chunks: &[u32]) -> Result<Marks, AllocError>
-    requires { All (λ c. c < count) chunks.now }
-    ensures count { IfOk result (λ marks. marks.chunks ≡ count) }
-    ensures bits { IfOk result (λ marks. (c : ℕ) → is_set marks.bytes c ≡ is_in chunks.now c) }
+/// These chunks alone are marked, in a set in which none was. Takes no memory.
+pub fn marks_of(none: Marks, chunks: &[u32]) -> Marks
+    requires low { All (λ c. c < none.chunks) chunks.now }
+    requires none { (c : ℕ) → is_set none.bytes c ≡ false }
+    ensures count { result.chunks ≡ none.chunks }
+    ensures bits { (c : ℕ) → is_set result.bytes c ≡ is_in chunks.now c }
 {
-    let mut marks = Marks::none(alloc, count)?;
+    let mut marks = none;
     for chunk in chunks {
         marks.mark(*chunk);
     }
-    Ok(marks)
+    marks
 }

@@ -1,18 +1,16 @@
 -- A rebuild that ends because memory was refused, or a log has no room: a run leads to where it is recorded how far its target is rebuilt.
-use Rattle.std.proofs.Common.{◌≡◌, ◌∙◌, ◌⊎◌, ℕ, true, List, [], ◌∷◌, slice_get, None, refl, sym, ap, subst, inl, inr}
+use Rattle.std.proofs.Common.{◌≡◌, ◌∙◌, ◌⊎◌, ℕ, true, List, [], ◌∷◌, None, refl, sym, ap, subst, inl, inr}
 use Rattle.std.proofs.lemmas.List.{append-nil}
 use Rattle.md_assembly.specs.States.{is_recovering}
 use Rattle.md_bitmap.specs.Marks.{Bitmap}
 use Rattle.md_cert.specs.declared.slots.Slot.{Slot}
 use Rattle.md_kept_members.specs.View.{MemberView}
-use Rattle.md_copy.specs.PassLaws.Listed.{IsArrayPass}
-use Rattle.md_copy.specs.PassLaws.Passes.{PassView, slots_of_pass}
+use Rattle.md_copy.specs.PassLaws.Passes.{PassView}
 use Rattle.md_state.specs.Members.{IsMember}
-use Rattle.md_state.specs.View.{ArrayView, MirrorView}
+use Rattle.md_state.specs.View.{MirrorView}
 use Rattle.md_array.proofs.StepLemmas.Turns.{all_such}
 use Rattle.md_laws.specs.Runs.{Moment}
 use Rattle.md_rebuild_table.specs.Sources.{missing_chunks}
-use Rattle.md_copy.specs.Filling.{IsFilling}
 use Rattle.md_copy.specs.Listing.{IsStoringList, NotesLists}
 use Rattle.md_copy.specs.Passing.{AreListedPasses, CopiesAll, RecordsPass}
 use Rattle.md_copy.specs.Rebuilding.{BeginsRebuild, LacksMemoryToRebuild, LacksRoom}
@@ -21,11 +19,11 @@ use Rattle.md_copy.proofs.Passing.PassesTold.{HoldsSoFar, chain_holds}
 use Rattle.md_copy.proofs.Passing.PassesTold as told
 use Rattle.md_copy.proofs.Passing.PassRecorded.{recorded_ready}
 use Rattle.md_copy.proofs.Ready.ReadyStill.{ready_noted}
-use Rattle.md_copy.proofs.Leads.RebuildLeads.{begin_holds, filled, listing_before}
+use Rattle.md_copy.proofs.Leads.RebuildLeads.{begin_holds, listing_before}
 use Rattle.md_call_laws.specs.Rebuilds.RebuildRuns.{LogsUnshifted}
 use Rattle.md_call_laws.specs.Rebuilds.RefusedRebuilds.{HasLost, HasGivenUp, HasUnshifted, LostIsARun, RefusedIsARun, CrashesLeaving, CrashesLeavingAnyhow, CrashesLeavingLost, CrashesLeavingLostAnyhow, CrashesUnleft, CrashesUnleftLost, passes_then}
 use Rattle.md_call_laws.proofs.RebuildLemmas.RebuildRun.{stays_along}
-use Rattle.md_call_laws.proofs.RebuildLemmas.RebuildSteps.{Before, IfSome, all_come, begun_comes, fill_comes, noted_comes, passes_come, recorded_comes, some_map, unshifted_if}
+use Rattle.md_call_laws.proofs.RebuildLemmas.RebuildSteps.{Before, IfSome, all_come, begun_comes, noted_comes, passes_come, recorded_comes, some_map, unshifted_if}
 use Rattle.md_call_laws.proofs.RebuildLemmas.SpoiledRebuilds.{later_anyhow, offset_anyhow}
 use Rattle.md_call_laws.proofs.RebuildLemmas.Steady.{Comes, IsSteadyAt, comes_by, comes_then, end, end_steady, steady_at, steady_with}
 use Rattle.md_call_laws.proofs.RebuildLemmas.RebuildCrashes.{later_crash, passed, passed_holds, recording_crash, unrecorded_offset_crash}
@@ -51,13 +49,6 @@ module _ (target : ℕ) (t : Moment) (at : IsSteadyAt t) (m : MemberView) (none 
     -- between two passes
     ends_now : (stopped : MirrorView) → stopped ≡ now → ComesReady target t stopped
     ends_now stopped same = subst (ComesReady target t) (sym same) (record { comes = until_now; recovers = so_now.ready.recovering })
-
-    -- within one
-    ends_filling : (p : PassView) → IsArrayPass now.array chunks p → (n : MemberView) → IsMember now.array target n → (stopped : MirrorView) → IsFilling target n (slots_of_pass p) now stopped → ComesReady target t stopped
-    ends_filling p is n there stopped f = record {
-      comes = comes_then until_now (fill_comes target (end until_now) (end_steady until_now at) stopped (filled target now copied chunks so_now p is n there stopped f));
-      recovers = λ x at_x. so_now.ready.recovering x (ap (λ (a : ArrayView). slice_get a.members target) (sym f.array) ∙ at_x);
-    }
 
     -- after one, while failed chunks are listed
     ends_noting : (p : PassView) (after : Bitmap) (recorded stopped : MirrorView) → RecordsPass target chunks p copied after now recorded → (taken : List Slot) → NotesLists taken recorded stopped → ComesReady target t stopped
@@ -103,13 +94,11 @@ module _ (target : ℕ) (t : Moment) (at : IsSteadyAt t) (copied : Bitmap) (stop
   ends_so : (why : LacksMemoryToRebuild target b.now none copied ready stopped ⊎ ((k : ℕ) × LacksRoom k target b.now none copied ready stopped)) → LogsUnshifted (failed_of (passes_then why)) t.mirror → At
   ends_so (inl (inl e)) un = ends_now target (end begun) (end_steady begun at) b.now none so e.passes e.left e.copied e.now e.passed (between_unshifted target t.mirror ready none b e.passes e.left e.copied e.now e.passed un) stopped e.why.1
   ends_so (inl (inr (inl e))) un =
-      ends_filling target (end begun) (end_steady begun at) b.now none so e.passes e.left e.copied e.now e.passed (between_unshifted target t.mirror ready none b e.passes e.left e.copied e.now e.passed un) e.why.pass e.why.is e.why.member e.why.at
-      stopped e.why.breaks.copies.filling
-  ends_so (inl (inr (inr (inl e)))) un =
       ends_noting target (end begun) (end_steady begun at) b.now none so e.passes e.left e.copied e.now e.passed (between_unshifted target t.mirror ready none b e.passes e.left e.copied e.now e.passed un) e.why.pass copied e.why.recorded stopped
       e.why.records e.why.fails.taken e.why.fails.notes
-  ends_so (inl (inr (inr (inr e)))) un =
-      ends_copied target (end begun) (end_steady begun at) b.now none so e.passes e.copied stopped e.copies (all_unshifted target t.mirror ready none b e.passes e.copied stopped e.copies un)
+  ends_so (inl (inr (inr e))) un =
+      subst (ComesReady target (end begun)) (sym e.why.unchanged)
+      (ends_copied target (end begun) (end_steady begun at) b.now none so e.passes e.copied e.filled e.fills.copies (all_unshifted target t.mirror ready none b e.passes e.copied e.filled e.fills.copies un))
   ends_so (inr (k, inl e)) un =
       ends_noting target (end begun) (end_steady begun at) b.now none so e.passes e.left e.copied e.now e.passed (between_unshifted target t.mirror ready none b e.passes e.left e.copied e.now e.passed un) e.why.pass copied e.why.recorded stopped
       e.why.records e.why.fails.taken e.why.fails.notes

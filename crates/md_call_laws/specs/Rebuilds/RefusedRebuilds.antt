@@ -38,8 +38,7 @@ abbrev pub passes_then : {target : ℕ} {m : MemberView} {none copied : Bitmap} 
     → LacksMemoryToRebuild target m none copied ready stopped ⊎ ((k : ℕ) × LacksRoom k target m none copied ready stopped) → List PassView
 passes_then (inl (inl e)) = e.passes
 passes_then (inl (inr (inl e))) = e.passes
-passes_then (inl (inr (inr (inl e)))) = e.passes
-passes_then (inl (inr (inr (inr e)))) = e.passes
+passes_then (inl (inr (inr e))) = e.passes
 passes_then (inr (k, inl e)) = e.passes
 passes_then (inr (k, inr e)) = e.1.passes
 

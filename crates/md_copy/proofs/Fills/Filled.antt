@@ -31,9 +31,10 @@ use Rattle.md_state.specs.Missing.{is_rebuilt}
 use Rattle.md_state.specs.View.{Disk, MirrorView}
 use Rattle.md_array.specs.Consistency.{IsConsistent}
 use Rattle.md_rebuild_table.proofs.Served.{in_sync_as}
-use Rattle.md_copy.specs.Filling.{CopiesChunks, CountsFailed, FailsOnWrite, FillsPass, HaveFailedOnlyThere, HaveFailedThere, IsFilling, IsOfUncopiedSlot, LacksMemoryToFill}
+use Rattle.md_copy.specs.Filling.{CopiesChunks, CountsFailed, FailsOnWrite, FillsPass, HaveFailedOnlyThere, HaveFailedThere, IsFilling, IsOfUncopiedSlot}
 use Rattle.md_copy.specs.RebuildSources.{AreSources, IsPlanOf, IsServedBy, IsSourceAt, place_beside}
-use Rattle.md_copy.proofs.Fills.Carried.{other_counts, other_only, other_there, seen, slot_copied, target_beside, target_fails, target_unfailing}
+use Rattle.md_copy.proofs.Fills.Returned.{same_mirror, same_with}
+use Rattle.md_copy.proofs.Fills.Carried.{other_counts, other_only, other_there, seen, slot_copied, target_beside, target_fails}
 use Rattle.md_copy.proofs.Fills.LentBack.{filling, rebuilt_out, within}
 use Rattle.md_copy.proofs.Plans.SourcesChosen.{takes_as}
 
@@ -183,12 +184,11 @@ module _ {D : Type 0} (g : Ghosts D) (v : MirrorView) (sound : IsConsistent v) (
       d e (in_v k d at_d) (in_w k e at_e)
 
   -- ---- the whole answer
-  pub passed : (result : Result BoardCounts PassFault) → ((d : D) → MatchResult result (EndsPass g copy sources (old d) (new d)) (BreaksOff g copy sources (old d) (new d)))
-      → MatchResult result (λ counts. FillsPass target member slots before after v w counts.failed) (OnFault (LacksMemoryToFill target member slots before after v w) (FailsOnWrite target member slots v w))
+  pub passed : (result : Result BoardCounts PassFault) → ((d : D) → MatchResult result (EndsPass g copy sources (old d) (new d)) (BreaksOff g (old d) (new d)))
+      → MatchResult result (λ counts. FillsPass target member slots before after v w counts.failed) (OnFault ((after ≡ before) × (w ≡ v)) (FailsOnWrite target member slots v w))
   passed (Ok counts) h = record { copies = copies (λ d. (h d).copied); failed_are = (h some).failed; counted = counted (λ d. (h d).counted); there = failed_there (λ d. (h d).there); only = failed_only (λ d. (h d).only_there) }
-  passed (Err NoMemory) h = record {
-    copies = copies (λ d. (h d).copied);
-    unfailing = λ d e at_d at_e. target_unfailing g olds news target there as_many (λ x. (h x).unfailing) d e (in_v target d at_d) (in_w target e at_e);
-    only = failed_only (λ d. (h d).only_there);
-  }
+  passed (Err NoMemory) h =
+      let is = h some in
+      let back : news ≡ olds = same_with news olds target some (omega (arith, there, as_many)) there (ap (λ (p : PassState D). p.devices) is) (ap (λ (p : PassState D). p.target) is) in
+      (ap (λ (p : PassState D). p.copied) is, same_mirror w v same (w_is ∙ ap (seen g) back ∙ sym v_is))
   passed (Err TargetFault) h = record { filling = filled; failed = λ d e at_d at_e. target_fails g olds news target there as_many h d e (in_v target d at_d) (in_w target e at_e) }

@@ -127,7 +127,7 @@ module _ (target : ℕ) (v : MirrorView) (ready : IsReadyToCopy target v) (withi
     pub fails_copied : (w : MirrorView) (fault : RebuildFault) → RefusesFilledTarget target kept_set orphans v w fault → FailsCopied target copied kept_set v w fault
     fails_copied w (LogFull k) h =
         (h.0, record { kept = kept_set; orphans = orphans; chunks = chunks; has = has_sets; why = record { unchanged = h.1.unchanged; full = h.1.full; left = λ c low set. set } })
-    fails_copied w NoMemory h = (h.0, λ c low set. (and_parts (is_missing a m c) (is_set copied.bytes c) (sym (kept_are c (subst (λ n. c < n) kept_chunks low)) ∙ set)).1)
+    fails_copied w NoMemory h = record { kept = kept_set; orphans = orphans; chunks = chunks; has = has_sets; why = record { unchanged = h.0; room = h.1; left = λ c low set. set } }
     fails_copied w TargetFault h = record { kept = kept_set; orphans = orphans; chunks = chunks; has = has_sets; why = h }
     fails_copied w Halted h = absurd h
     fails_copied w NotSpare h = absurd h
@@ -146,6 +146,3 @@ module _ (target : ℕ) (v : MirrorView) (ready : IsReadyToCopy target v) (withi
     leaves_copied w (InFlight n) h = absurd h
     leaves_copied w (MetadataFault k) h = absurd h
     leaves_copied w EventsFull h = absurd h
-
-  pub leaves_unset : MayRecordAtEnd target copied v NoMemory
-  leaves_unset = (recordable target v ready, held)

@@ -382,10 +382,6 @@ module _ (target : ℕ) where
         recovers = λ running x at_x. so_far.ready.recovering x (ap (λ (a : ArrayView). slice_get a.members target) (sym f.array) ∙ at_x);
       }
 
-    broken_off : (fault : RebuildFault) (new : MirrorView) (e : Between (λ left copied now. (after : Bitmap) × BreaksOffPass target fault left copied after now new)) → IsFilling target e.why.1.member (slots_of_pass e.why.1.pass) e.now new
-        → ComesTo old new
-    broken_off fault new e f = then_fills (λ left copied now. (after : Bitmap) × BreaksOffPass target fault left copied after now new) e e.why.1.pass e.why.1.member e.why.1.at new e.why.1.is f e.why.1.sound
-
     -- a pass is recorded
     module _ (fault : RebuildFault) (new : MirrorView) (e : Between (λ left copied now. (after : Bitmap) × FailsListing target fault left copied after now new)) where
       abbrev Fails : List ℕ → Bitmap → MirrorView → Type 0
@@ -465,9 +461,8 @@ module _ (target : ℕ) where
     -- ---- memory was refused, a log had no room, or a member failed
     lacks_memory : (after : Bitmap) (new : MirrorView) → LacksMemoryToRebuild target m none after ready new → ComesTo old new
     lacks_memory after new (inl e) = then_comes (λ left copied now. (after ≡ copied) × (new ≡ now)) e new e.why.1
-    lacks_memory after new (inr (inl e)) = broken_off NoMemory new (with_set target m none ready (λ b left copied now. BreaksOffPass target NoMemory left copied b now new) after e) e.why.breaks.copies.filling
-    lacks_memory after new (inr (inr (inl e))) = noted_comes NoMemory new (with_set target m none ready (λ b left copied now. FailsListing target NoMemory left copied b now new) after e) e.why.fails
-    lacks_memory after new (inr (inr (inr e))) = copied_comes e.passes e.copied new new e.copies refl
+    lacks_memory after new (inr (inl e)) = noted_comes NoMemory new (with_set target m none ready (λ b left copied now. FailsListing target NoMemory left copied b now new) after e) e.why.fails
+    lacks_memory after new (inr (inr e)) = copied_comes e.passes e.copied e.filled new e.fills.copies e.why.unchanged
 
     lacks_room : (k : ℕ) (after : Bitmap) (new : MirrorView) → LacksRoom k target m none after ready new → ComesTo old new
     lacks_room k after new (inl e) = noted_comes (LogFull k) new (with_set target m none ready (λ b left copied now. FailsListing target (LogFull k) left copied b now new) after e) e.why.fails

@@ -136,10 +136,7 @@ module _ (target : ℕ) (v : MirrorView) (ready : IsReadyToCopy target v) (withi
       not_recorded failed fills x fails sound_x = inr (record { pass = pass_of after; after = after; filled = w; makes = makes failed fills; fails = fails; sound = sound_x })
 
       pub broken_off : (fault : RebuildFault) → ((m : MemberView) → IsMember a target m → BreaksPass target m planned.plan.slots before after v w fault) → FailsOne target rows before after v w fault
-      broken_off NoMemory breaks = inr (off NoMemory breaks)
-        where
-          off : (fault : RebuildFault) → ((m : MemberView) → IsMember a target m → BreaksPass target m planned.plan.slots before after v w fault) → BreaksOffPass target fault (chunks_of_rows rows) before after v w
-          off fault breaks = (let at = got_within a.members target within in record { pass = pass_of after; is = is_pass after; member = at.0; at = at.1; breaks = breaks at.0 at.1; sound = sound })
+      broken_off NoMemory breaks = (let at = got_within a.members target within in breaks at.0 at.1)
       broken_off TargetFault breaks = inl (off breaks)
         where
           off : ((m : MemberView) → IsMember a target m → BreaksPass target m planned.plan.slots before after v w TargetFault) → BreaksOffPass target TargetFault (chunks_of_rows rows) before after v w
@@ -153,7 +150,7 @@ module _ (target : ℕ) (v : MirrorView) (ready : IsReadyToCopy target v) (withi
       broken_off EventsFull breaks = (let at = got_within a.members target within in absurd (breaks at.0 at.1))
 
 pub unplanned : (target : ℕ) (v : MirrorView) (rows : List Row) (before : Bitmap) (fault : RebuildFault) → IsNoMemory fault → FailsOne target rows before before v v fault
-unplanned target v rows before NoMemory is = inl (refl, refl)
+unplanned target v rows before NoMemory is = (refl, refl)
 unplanned target v rows before Halted is = absurd is
 unplanned target v rows before NotSpare is = absurd is
 unplanned target v rows before Dirty is = absurd is

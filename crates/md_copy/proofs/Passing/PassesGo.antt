@@ -1,11 +1,10 @@
 -- Passes are made one after another: what holds between two of them, and where they end.
-use Rattle.std.proofs.Common.{◌≡◌, ◌≢◌, ◌∙◌, ℕ, suc, ◌+◌, ◌-◌, ◌<◌, ◌≤◌, ◌==◌, ◌^◌, true, false, List, [], ◌∷◌, ◌++◌, length, length-append, Contains, All, None, count_by, get_or, map, slice_get, refl, sym, ap, subst, arith, inl, inr}
+use Rattle.std.proofs.Common.{◌≡◌, ◌≢◌, ◌∙◌, ℕ, suc, ◌+◌, ◌-◌, ◌<◌, ◌≤◌, ◌^◌, false, List, [], ◌∷◌, ◌++◌, length, length-append, Contains, All, None, count_by, get_or, map, slice_get, refl, sym, ap, subst, arith, inl, inr}
 use Rattle.std.specs.Int.{div_ceil}
 use Rattle.std.specs.List.{AllPairs}
-use Rattle.std.proofs.lemmas.Bool.{both_ways, eqb-true}
+use Rattle.std.proofs.lemmas.Bool.{both_ways}
 use Rattle.std.proofs.lemmas.List.{length-map, map-append, nil_from_length}
-use Rattle.std.proofs.lemmas.List.Elements.{All-contains, All-map, Contains-append_left, Contains-get_or}
-use Rattle.std.proofs.lemmas.List.Folds.{Any-from_list_any}
+use Rattle.std.proofs.lemmas.List.Elements.{All-map, Contains-append_left, Contains-get_or}
 use Rattle.std.proofs.lemmas.List.Sums.{count_by-le-length, length-filter}
 use Rattle.std.proofs.lemmas.Nat.{mul-le}
 use Rattle.std.proofs.lemmas.Option.{slice_get_within}
@@ -18,17 +17,15 @@ use Rattle.md_cert.specs.declared.table.Row.{Row}
 use Rattle.md_cert.specs.Plans.{SlotsRise}
 use Rattle.md_cert.specs.Tables.{chunks_of_rows}
 use Rattle.md_kept_members.specs.View.{MemberView}
-use Rattle.md_pass.specs.Beside.{has_chunk}
 use Rattle.md_pass.specs.Copied.{failed_slots, is_failed_slot}
 use Rattle.md_copy.proofs.PassLemmas.ArrayPasses.{copies_add, others, passes_go_on, permits}
 use Rattle.md_copy.proofs.PassLemmas.Kept.{From, mapped, mapped_from}
 use Rattle.md_copy.proofs.PassLemmas.Listing.{lists_add}
-use Rattle.md_copy.proofs.PassLemmas.OnePass.{slot_permitted, slot_within}
+use Rattle.md_copy.proofs.PassLemmas.OnePass.{slot_permitted}
 use Rattle.md_copy.specs.PassLaws.Listed.{ListsFailed, MayServe, ServesAs, most_failures}
 use Rattle.md_copy.specs.PassLaws.Passes.{PassView, ServesAtMost, failed_chunks, slots_of_pass}
 use Rattle.md_plan.specs.declared.planner.Planned.{Planned}
 use Rattle.md_state.specs.Members.{IsMember}
-use Rattle.md_state.specs.Missing.{is_missing}
 use Rattle.md_state.specs.View.{ArrayView, MirrorView}
 use Rattle.md_array.specs.Consistency.{IsConsistent}
 use Rattle.md_array.proofs.StepLemmas.FailedParts.{halted_array}
@@ -45,7 +42,6 @@ use Rattle.md_copy.specs.Passing.{AreListedPasses, BreaksOffPass, EndsBetween, F
 use Rattle.md_copy.specs.Preparing.{IsNoMemory}
 use Rattle.md_copy.specs.Ready.{IsReadyToCopy, IsRecordable}
 use Rattle.md_copy.proofs.Held.HeldChunks.{recordable}
-use Rattle.md_copy.proofs.Held.HeldFilled.{held_filled}
 use Rattle.md_copy.proofs.Held.HeldListed.{GrowsOnly, none_written}
 use Rattle.md_copy.proofs.Held.HeldRecorded.{out_of_sync}
 use Rattle.md_copy.proofs.Plans.Lists.{got_of}
@@ -53,7 +49,7 @@ use Rattle.md_copy.proofs.Passing.PassRecorded.{failed_clear, failed_lacks, grow
 use Rattle.md_copy.proofs.Passing.PassRecorded as pass
 use Rattle.md_copy.proofs.Plans.PlanChunks.{table_in}
 use Rattle.md_copy.proofs.Ready.Readied.{recovering_target}
-use Rattle.md_copy.proofs.Ready.ReadyStill.{list_lost, ready_filled, ready_listed, ready_noted}
+use Rattle.md_copy.proofs.Ready.ReadyStill.{list_lost, ready_listed, ready_noted}
 
 -- ---- one pass more
 pub chain_more : (target : ℕ) (passes : List PassView) (chunks left : List ℕ) (before mid after : Bitmap) (old now new : MirrorView) (p : PassView) → AreListedPasses target passes chunks left before mid old now
@@ -153,20 +149,6 @@ module _ (target : ℕ) (m : MemberView) (none : Bitmap) (first now : MirrorView
   rows_lacking n at = All-map (LacksChunk now.array n) (λ (row : Row). row.chunk) rows (so.table.table n at).lacking
 
   -- ---- one that was not made
-  off_ready : (after : Bitmap) (new : MirrorView) (b : BreaksOffPass target NoMemory (chunks_of_rows rows) copied after now new) → IsReadyToCopy target new
-  off_ready after new b = ready_filled target now new b.breaks.copies.filling.array b.sound so.ready
-
-  off_lacks : (after : Bitmap) (new : MirrorView) (b : BreaksOffPass target NoMemory (chunks_of_rows rows) copied after now new) → (c : ℕ) → has_chunk (slots_of_pass b.pass) c ≡ true → is_missing now.array b.member c ≡ true
-  off_lacks after new b c planned =
-      let hit = Any-from_list_any (λ (s : Slot). s.chunk == c) (slots_of_pass b.pass) planned in
-      let chunk : (get_or (slots_of_pass b.pass) hit.0 hit.1).chunk ≡ c = ap (λ (s : Slot). s.chunk) hit.3 ∙ eqb-true hit.1.chunk c hit.4 in
-      let lacks = All-contains (LacksChunk now.array b.member) (chunks_of_rows rows) (get_or (slots_of_pass b.pass) hit.0 hit.1).chunk (rows_lacking b.member b.at)
-      (slot_within b.is (get_or (slots_of_pass b.pass) hit.0 hit.1) (Contains-get_or (slots_of_pass b.pass) hit.0 hit.1 hit.2)) in
-      subst (λ n. is_missing now.array b.member n ≡ true) chunk lacks.missing
-
-  off_held : (after : Bitmap) (new : MirrorView) (b : BreaksOffPass target NoMemory (chunks_of_rows rows) copied after now new) → AreHeld new target after
-  off_held after new b = held_filled target b.member (slots_of_pass b.pass) copied after now new b.at b.breaks.copies (off_lacks after new b) so.held
-
   abbrev Between : (List ℕ → Bitmap → MirrorView → Type 0) → Type 0
   Between Why = EndsBetween target m none first Why
 
@@ -180,10 +162,7 @@ module _ (target : ℕ) (m : MemberView) (none : Bitmap) (first now : MirrorView
   leaves_now = (recordable target now so.ready, so.held)
 
   pub fails_one : (after : Bitmap) (new : MirrorView) (fault : RebuildFault) → FailsOne target rows copied after now new fault → PassesFail target m none after first new fault
-  fails_one after new NoMemory h = elim h [
-    | inl same ↦ inl (between (λ left done mid. (after ≡ done) × (new ≡ mid)) same)
-    | inr off ↦ inr (inl (between (λ left done mid. BreaksOffPass target NoMemory left done after mid new) off))
-  ]
+  fails_one after new NoMemory h = inl (between (λ left done mid. (after ≡ done) × (new ≡ mid)) h)
   fails_one after new TargetFault h = elim h [
     | inl off ↦ inl (between (λ left done mid. BreaksOffPass target TargetFault left done after mid new) off)
     | inr fails ↦ inr (between (λ left done mid. FailsRecording target left done mid new) fails)
@@ -197,10 +176,7 @@ module _ (target : ℕ) (m : MemberView) (none : Bitmap) (first now : MirrorView
   fails_one after new EventsFull h = absurd h
 
   pub leaves_one : (after : Bitmap) (new : MirrorView) (fault : RebuildFault) → FailsOne target rows copied after now new fault → MayRecordAtEnd target after new fault
-  leaves_one after new NoMemory h = elim h [
-    | inl same ↦ subst (λ (v : MirrorView). MayRecordAtEnd target after v NoMemory) (sym same.1) (subst (λ (b : Bitmap). MayRecordAtEnd target b now NoMemory) (sym same.0) leaves_now)
-    | inr off ↦ (recordable target new (off_ready after new off), off_held after new off)
-  ]
+  leaves_one after new NoMemory h = subst (λ (v : MirrorView). MayRecordAtEnd target after v NoMemory) (sym h.1) (subst (λ (b : Bitmap). MayRecordAtEnd target b now NoMemory) (sym h.0) leaves_now)
   leaves_one after new TargetFault h = tt
   leaves_one after new Halted h = absurd h
   leaves_one after new NotSpare h = absurd h
@@ -419,7 +395,7 @@ module _ (target : ℕ) (m : MemberView) (none : Bitmap) (first now : MirrorView
 
         by : (f : RebuildFault) → EndsListing (failed_slots slots after) mid new f → PassesFail target m none after first new f
         by (LogFull k) stops = between (λ left done v. FailsListing target (LogFull k) left done after v new) (fails (LogFull k) stops)
-        by NoMemory stops = inr (inr (between (λ left done v. FailsListing target NoMemory left done after v new) (fails NoMemory stops)))
+        by NoMemory stops = inr (between (λ left done v. FailsListing target NoMemory left done after v new) (fails NoMemory stops))
         by (MetadataFault k) stops = between (λ left done v. FailsListing target (MetadataFault k) left done after v new) (fails (MetadataFault k) stops)
         by Halted stops = absurd stops
         by NotSpare stops = absurd stops

@@ -1,8 +1,6 @@
 -- What a rebuild that is refused leaves as it was.
-use Rattle.std.proofs.Common.{◌≡◌, ◌≢◌, ◌∙◌, ◌⊎◌, ℕ, suc, zero, ◌==◌, ◌<◌, ◌≤◌, ◌&&◌, Bool, true, false, List, [], ◌∷◌, ◌++◌, append-nil, append_assoc, All, cond, filter, length, not, length-append, slice_get, Some, refl, sym, ap, subst, arith, inl, inr}
-use Rattle.std.proofs.lemmas.Bool.{both_ways, cases_Bool, cases_eq, eqb-true}
-use Rattle.std.specs.List.{Any}
-use Rattle.std.proofs.lemmas.List.Folds.{Any-from_list_any}
+use Rattle.std.proofs.Common.{◌≡◌, ◌≢◌, ◌∙◌, ◌⊎◌, ℕ, suc, zero, ◌<◌, ◌≤◌, ◌&&◌, Bool, true, false, List, [], ◌∷◌, ◌++◌, append-nil, append_assoc, All, cond, filter, length, not, length-append, slice_get, Some, refl, sym, ap, subst, arith, inl, inr}
+use Rattle.std.proofs.lemmas.Bool.{both_ways, cases_eq}
 use Rattle.std.proofs.lemmas.Option.{same_Some, slice_get_within}
 use Rattle.md_assembly.proofs.Indices.{got_within}
 use Rattle.md_assembly.specs.declared.state.MemberState.{MemberState}
@@ -23,15 +21,13 @@ use Rattle.md_kept_members.specs.TakingBack.{admitted_member}
 use Rattle.md_kept_members.specs.Members.{recorded_member}
 use Rattle.md_kept_members.specs.View.{MemberView}
 use Rattle.md_model.specs.Rebuilding.{lacks}
-use Rattle.md_pass.specs.Beside.{has_chunk}
-use Rattle.md_pass.specs.Copied.{AreJoined}
 use Rattle.md_copy.proofs.PassLemmas.ArrayPasses.{copies_add, passes_go_on}
 use Rattle.md_copy.proofs.PassLemmas.Listing.{lists_add}
 use Rattle.md_copy.specs.PassLaws.Listed.{AreCopiedBy, IsArrayPass, ListsFailed, MayServe, ServesAs, most_failures}
-use Rattle.md_copy.specs.PassLaws.Passes.{PassCopies, PassView, ServesAtMost, failed_chunks, slots_of_pass}
+use Rattle.md_copy.specs.PassLaws.Passes.{PassView, ServesAtMost, failed_chunks, slots_of_pass}
 use Rattle.md_state.specs.DiskWrites.{AtDevice}
 use Rattle.md_state.specs.Steps.Checkpoint.{checked}
-use Rattle.md_state.specs.Steps.Enrol.{HasFullLog}
+use Rattle.md_state.specs.Steps.Enrol.{HasFullLog, HasRoomInLog}
 use Rattle.md_state.specs.Members.{IsInSync, IsMember}
 use Rattle.md_state.specs.Missing.{has_passed, is_missing}
 use Rattle.md_state.specs.View.{ArrayView, Disk, MirrorView, of_disks}
@@ -44,11 +40,11 @@ use Rattle.md_rebuild_table.specs.Sources.{missing_chunks}
 use Rattle.md_copy.specs.Filling.{IsFilling}
 use Rattle.md_copy.specs.Leaving.{HasNone, RecordsAtEnd}
 use Rattle.md_copy.specs.Listing.{HasFailedSlot, ListsAll, NotesLists, EndsAtList}
-use Rattle.md_copy.specs.Passing.{AreListedPasses, BreaksOffPass, CopiesAll, EndsBetween, FailsListing, RecordsPass}
-use Rattle.md_copy.specs.Enrolled.{LacksOwnRoom}
+use Rattle.md_copy.specs.Passing.{AreListedPasses, CopiesAll, EndsBetween, FailsListing, RecordsPass}
+use Rattle.md_copy.specs.Enrolled.{LacksMemoryToEnrol, LacksOwnRoom}
 use Rattle.md_copy.specs.Rebuilding.{BeginsRebuild, EndsFilled, EndsStoring, LacksMemoryToRebuild, LacksRoom, LosesTarget, RefusesAtOnce, RefusesRebuild}
 use Rattle.md_copy.specs.Rebuilt.{failed_of}
-use Rattle.md_copy.specs.Refused.{AreListed, Ending, EndsSo, HasCopiedBy, HasEnded, HasHalted, HasMade, IsAdmitted, IsAsBefore, IsLost, IsRebuiltSoFar, IsListedOrFailed, IsRebuiltTo, KeepsDataBut, LacksOwnRoomFor, LacksRoomFor, ListsStand, ListsStandWithin, NotesSome, rebuilt_offset}
+use Rattle.md_copy.specs.Refused.{AreListed, Ending, EndsSo, HasEnded, HasHalted, HasMade, IsAdmitted, IsAsBefore, IsLost, IsRebuiltSoFar, IsListedOrFailed, IsRebuiltTo, KeepsDataBut, LacksOwnRoomFor, MakesAllPasses, IsBetweenPasses, HasOwnRoomFor, LacksRoomFor, ListsStand, ListsStandWithin, NotesSome, rebuilt_offset}
 use Rattle.md_state.specs.DeviceChanges.{StaysHonest}
 use Rattle.md_state.proofs.Stays.{stays_grown}
 use Rattle.md_copy.proofs.Failing.{grown_same, none_there}
@@ -338,41 +334,12 @@ made_with copied s old h = record { first = h.first; served = h.served; permitte
 some_with : (copied : Bitmap) (s : Ending) (Why : Slot → Type 0) → NotesSome s Why → NotesSome (with_copied copied s) Why
 some_with copied s Why h = record { pass = h.pass; last = h.last; next = h.next; rest = h.rest; slots = h.slots; why = h.why }
 
-own_with : (target : ℕ) (s : Ending) (old new : ArrayView) → LacksOwnRoomFor target s old new → LacksOwnRoomFor target (with_copied s.copied s) old new
-own_with target s old new h = record {
-  pass = h.pass;
-  last = h.last;
-  done = h.done;
-  none = h.none;
-  kept = h.kept;
-  kept_are = h.kept_are;
-  orphans = h.orphans;
-  orphans_are = h.orphans_are;
-  full = h.full;
-}
+abbrev all_with : (s : Ending) (old : ArrayView) → MakesAllPasses s old → MakesAllPasses (with_copied s.copied s) old
+all_with s old h = record { pass = h.pass; last = h.last; done = h.done; none = h.none; kept = h.kept; kept_are = h.kept_are; orphans = h.orphans; orphans_are = h.orphans_are }
 
 -- the list of a member is that of one with another offset
 list_with : (q : Chunks) (sure : ℕ) (m : MemberView) (kept orphans : Bitmap) (list : List Run) → IsListAfter q m kept orphans list → IsListAfter q (recorded_member (checked sure m)) kept orphans list
 list_with q sure m kept orphans list h = record { canonical = h.canonical; bad = h.bad }
-
--- one of these, and others
-any_left : {X : Type 0} (P : X → Type 0) (xs ys : List X) → Any P xs → Any P (xs ++ ys)
-any_left P [] ys (i, x, low, is, holds) = absurd (omega (arith, low))
-any_left P (y ∷ xs) ys (zero, x, low, is, holds) = (zero, x, omega arith, is, holds)
-any_left P (y ∷ xs) ys (suc i, x, low, is, holds) =
-    let r = any_left P xs ys (i, x, omega (arith, low), is, holds) in
-    let within = r.2 in
-    (suc r.0, r.1, omega (arith, within), r.3, r.4)
-
-any_right : {X : Type 0} (P : X → Type 0) (xs ys : List X) → Any P ys → Any P (xs ++ ys)
-any_right P [] ys one = one
-any_right P (x ∷ xs) ys one =
-    let r = any_right P xs ys one in
-    let within = r.2 in
-    (suc r.0, r.1, omega (arith, within), r.3, r.4)
-
-has_same : (s : Ending) → HasCopiedBy s → HasCopiedBy (with_copied s.copied s)
-has_same s h = record { listed = h.listed; only = h.only }
 
 both_true : (a b : Bool) → (a && b) ≡ true → b ≡ true
 both_true true true is = refl
@@ -581,101 +548,21 @@ module _ (target : ℕ) (old ready : MirrorView) (none : Bitmap) (b : BeginsRebu
     by_more : (after : Bitmap) (p : PassView) (x : MirrorView) → RecordsPass target e.left p e.copied after e.now x → AreCopiedBy (e.passes ++ p ∷ []) after
     by_more after p x records = copies_add.more e.passes p e.copied after by_now records.makes.copies.joined records.makes.failed records.makes.uncopied
 
-    -- one more was broken off
-    has_more : (noted : List Slot) (p : PassView) (after : Bitmap) → AreJoined (slots_of_pass p) e.copied after → HasCopiedBy (ended e.passes (bare p ∷ []) noted after)
-    has_more noted p after joined = record {
-      listed = λ c copies. joined.kept c ((by_now c).1 copies);
-      only = λ c set. elim (cases_Bool (has_chunk (slots_of_pass p) c)) [
-        | inr none ↦ any_left (PassCopies c) e.passes (bare p ∷ []) ((by_now c).0 (sym (joined.planned c none) ∙ set))
-        | inl planned ↦
-            let hit = Any-from_list_any (λ (slot : Slot). slot.chunk == c) (slots_of_pass p) planned in
-            any_right (PassCopies c) e.passes (bare p ∷ [])
-            (zero, bare p, omega arith, refl, (hit.0, hit.1, hit.2, hit.3, (eqb-true hit.1.chunk c hit.4, λ fails. (let low = fails.1 in absurd (omega (arith, low))))))
-      ];
-    }
-
-    -- or it was made
-    has_all : (p : PassView) (noted : List Slot) (after : Bitmap) → AreJoined (slots_of_pass p) e.copied after → AreCopiedBy (e.passes ++ p ∷ []) after → HasCopiedBy (ended e.passes (p ∷ []) noted after)
-    has_all p noted after joined by = record { listed = λ c copies. joined.kept c ((by_now c).1 copies); only = λ c set. (by c).0 set }
-
-    has_now : (last : List PassView) (noted : List Slot) → HasCopiedBy (ended e.passes last noted e.copied)
-    has_now last noted = record { listed = λ c copies. (by_now c).1 copies; only = λ c set. any_left (PassCopies c) e.passes last ((by_now c).0 set) }
-
   -- ---- why it ended
-  -- of what was copied this is left to be recorded: more than was recorded, or no more
-  abbrev IsLeft : Ending → Bitmap → MirrorView → Type 0
-  IsLeft s after stopped =
-      (IsSubset s.copied after × HasCopiedBy (with_copied after s) × (s.copied.chunks ≡ old.array.marks.chunks))
-      ⊎ (after.chunks ≡ stopped.array.marks.chunks → IsSubset after s.copied)
-
   -- memory was refused
+  abbrev Refused : ArrayView → Ending → Type 0
+  Refused a s = IsBetweenPasses s ⊎ (NotesSome s (λ next. Unit {0}) ⊎ HasOwnRoomFor target s old.array a)
+
   record LacksSo (after : Bitmap) (stopped : MirrorView) : Type 0 where
     s : Ending
     ends : EndsAt target s old stopped
-    noted : (s.noted ≡ []) ⊎ NotesSome s (λ next. Unit {0})
-    has : HasCopiedBy s
-    left : IsLeft s after stopped
-
-  -- all passes, as passes that were listed and one more
-  between_all : (passes : List PassView) (copied : Bitmap) (filled : MirrorView) → CopiesAll target b.now passes none copied ready filled → EndsBetween target b.now none ready (λ left mid now. Unit {0})
-  between_all passes copied filled h = record { passes = h.listed; left = h.left; copied = h.mid; now = h.now; passed = h.passed; why = tt }
-
-  lacks_memory : (after : Bitmap) (stopped : MirrorView) → LacksMemoryToRebuild target b.now none after ready stopped → LacksSo after stopped
-  unfolding between_all
-  lacks_memory after stopped (inl e) =
-      let Why : List ℕ → Bitmap → MirrorView → Type 0 = λ left copied now. (after ≡ copied) × (stopped ≡ now) in
-      record {
-        s = ended e.passes [] [] e.copied;
-        ends = subst (EndsAt target (ended e.passes [] [] e.copied) old) (sym e.why.1) (ends_now Why e);
-        noted = inl refl;
-        has = has_now Why e [] [];
-        left = inr (λ many c low set. subst (λ (b : Bitmap). is_set b.bytes c ≡ true) e.why.0 set);
-      }
-  lacks_memory after stopped (inr (inl e)) =
-      let Why : List ℕ → Bitmap → MirrorView → Type 0 = λ left copied now. BreaksOffPass target NoMemory left copied after now stopped in
-      let p = bare e.why.pass in
-      record {
-        s = ended e.passes (p ∷ []) [] e.copied;
-        ends = ends_filled Why e e.why.pass e.why.is e.why.member e.why.at stopped e.why.breaks.copies.filling e.why.sound;
-        noted = inl refl;
-        has = has_now Why e (p ∷ []) [];
-        left = inl (λ c low set. e.why.breaks.copies.joined.kept c set, has_more Why e [] e.why.pass after e.why.breaks.copies.joined, (so_far Why e).held.chunks ∙ ap (λ (b : Bitmap). b.chunks) (there Why e).marks);
-      }
-  lacks_memory after stopped (inr (inr (inl e))) =
-      let Why : List ℕ → Bitmap → MirrorView → Type 0 = λ left copied now. FailsListing target NoMemory left copied after now stopped in
-      let f = e.why in
-      record {
-        s = ended e.passes (f.pass ∷ []) f.fails.taken after;
-        ends = ends_noted Why e after f.pass f.recorded f.records f.fails.taken (f.fails.next ∷ f.fails.rest) f.fails.slots stopped f.fails.notes;
-        noted = inr (record { pass = f.pass; last = refl; next = f.fails.next; rest = f.fails.rest; slots = f.fails.slots; why = tt });
-        has = has_all Why e f.pass f.fails.taken after f.records.makes.copies.joined (by_more Why e after f.pass f.recorded f.records);
-        left = inr (λ many c low set. set);
-      }
-  lacks_memory after stopped (inr (inr (inr e))) =
-      let c = e.copies in
-      record {
-        s = ended c.listed (c.last ∷ []) [] e.copied;
-        ends = ends_copied e.passes e.copied stopped c;
-        noted = inl refl;
-        has = has_all (λ left mid now. Unit {0}) (between_all e.passes e.copied stopped c) c.last [] e.copied c.records.makes.copies.joined (by_all e.passes e.copied stopped c);
-        left = inr (λ many. e.left);
-      }
-
-  -- why there is no room in a log
-  abbrev NoRoom : ℕ → ArrayView → Ending → Type 0
-  NoRoom k a s = ((k ≡ target) × LacksOwnRoomFor target s old.array a) ⊎ NotesSome s (LacksRoomFor k a)
-
-  record FullSo (k : ℕ) (after : Bitmap) (stopped : MirrorView) : Type 0 where
-    s : Ending
-    ends : EndsAt target s old stopped
-    noted : NoRoom k stopped.array s
+    when : Refused stopped.array s
     by : AreCopiedBy (s.listed ++ s.last) s.copied
     left : after.chunks ≡ stopped.array.marks.chunks → IsSubset after s.copied
 
-  -- all passes are made, and the log of the target has no room
-  own_full : (after : Bitmap) (stopped : MirrorView) → (e : EndsFilled target b.now none ready (λ kept orphans filled. LacksOwnRoom target kept orphans after filled stopped))
-      → LacksOwnRoomFor target (ended e.fills.copies.listed (e.fills.copies.last ∷ []) [] e.copied) old.array stopped.array
-  own_full after stopped e =
+  -- all passes are made
+  abbrev all_made : (Why : Bitmap → Bitmap → MirrorView → Type 0) → (e : EndsFilled target b.now none ready Why) → MakesAllPasses (ended e.fills.copies.listed (e.fills.copies.last ∷ []) [] e.copied) old.array
+  all_made Why e =
       let c = e.fills.copies in
       let sets = e.fills.has.sets in
       let may = e.fills.has.may in
@@ -694,8 +581,64 @@ module _ (target : ℕ) (old ready : MirrorView) (none : Bitmap) (b : BeginsRebu
             sets.orphans_are.bits i ∙ ap (λ xs. is_in xs i) (sets.chunks_are
             ∙ orphans_same target none e.copied ready e.filled (all_lacks target b.now e.passes none e.copied ready e.filled c) b.now may.member b.there may.at (begins.recovering b.now b.there) begins.sound.chunks.count
             ∙ ap (filter (λ x. not (is_set e.copied.bytes x))) (same_missing target old ready starts b.sound b.member b.now b.at b.there));
-        full = subst (λ (v : MirrorView). HasFullLog target e.kept e.orphans v.array) (sym e.why.unchanged) e.why.full;
       }
+
+  -- what is left of the chunks that were copied
+  left_of : (Why : Bitmap → Bitmap → MirrorView → Type 0) (e : EndsFilled target b.now none ready Why) (after : Bitmap) (stopped : MirrorView) → stopped ≡ e.filled → IsSubset after e.kept
+      → after.chunks ≡ stopped.array.marks.chunks → IsSubset after e.copied
+  left_of Why e after stopped same left many i low set =
+      (let count = many ∙ ap (λ (v : MirrorView). v.array.marks.chunks) same in
+      both_true (is_missing e.filled.array e.fills.has.may.member i) (is_set e.copied.bytes i) (sym (e.fills.has.sets.kept_are i (subst (λ n. i < n) count low)) ∙ left i low set))
+
+  lacks_memory : (after : Bitmap) (stopped : MirrorView) → LacksMemoryToRebuild target b.now none after ready stopped → LacksSo after stopped
+  lacks_memory after stopped (inl e) =
+      let Why : List ℕ → Bitmap → MirrorView → Type 0 = λ left copied now. (after ≡ copied) × (stopped ≡ now) in
+      record {
+        s = ended e.passes [] [] e.copied;
+        ends = subst (EndsAt target (ended e.passes [] [] e.copied) old) (sym e.why.1) (ends_now Why e);
+        when = inl (record { last = refl; noted = refl });
+        by = subst (λ ps. AreCopiedBy ps e.copied) (sym (append-nil e.passes)) (by_now Why e);
+        left = λ many c low set. subst (λ (b : Bitmap). is_set b.bytes c ≡ true) e.why.0 set;
+      }
+  lacks_memory after stopped (inr (inl e)) =
+      let Why : List ℕ → Bitmap → MirrorView → Type 0 = λ left copied now. FailsListing target NoMemory left copied after now stopped in
+      let f = e.why in
+      record {
+        s = ended e.passes (f.pass ∷ []) f.fails.taken after;
+        ends = ends_noted Why e after f.pass f.recorded f.records f.fails.taken (f.fails.next ∷ f.fails.rest) f.fails.slots stopped f.fails.notes;
+        when = inr (inl (record { pass = f.pass; last = refl; next = f.fails.next; rest = f.fails.rest; slots = f.fails.slots; why = tt }));
+        by = by_more Why e after f.pass f.recorded f.records;
+        left = λ many c low set. set;
+      }
+  lacks_memory after stopped (inr (inr e)) =
+      let Why : Bitmap → Bitmap → MirrorView → Type 0 = λ kept orphans filled. LacksMemoryToEnrol target kept orphans after filled stopped in
+      let c = e.fills.copies in
+      record {
+        s = ended c.listed (c.last ∷ []) [] e.copied;
+        ends = subst (EndsAt target (ended c.listed (c.last ∷ []) [] e.copied) old) (sym e.why.unchanged) (ends_copied e.passes e.copied e.filled c);
+        when = inr (inr (record { all = all_made Why e; room = subst (λ (v : MirrorView). HasRoomInLog target e.kept e.orphans v.array) (sym e.why.unchanged) e.why.room }));
+        by = by_all e.passes e.copied e.filled c;
+        left = left_of Why e after stopped e.why.unchanged e.why.left;
+      }
+
+  -- why there is no room in a log
+  abbrev NoRoom : ℕ → ArrayView → Ending → Type 0
+  NoRoom k a s = ((k ≡ target) × LacksOwnRoomFor target s old.array a) ⊎ NotesSome s (LacksRoomFor k a)
+
+  record FullSo (k : ℕ) (after : Bitmap) (stopped : MirrorView) : Type 0 where
+    s : Ending
+    ends : EndsAt target s old stopped
+    noted : NoRoom k stopped.array s
+    by : AreCopiedBy (s.listed ++ s.last) s.copied
+    left : after.chunks ≡ stopped.array.marks.chunks → IsSubset after s.copied
+
+  -- all passes are made, and the log of the target has no room
+  own_full : (after : Bitmap) (stopped : MirrorView) → (e : EndsFilled target b.now none ready (λ kept orphans filled. LacksOwnRoom target kept orphans after filled stopped))
+      → LacksOwnRoomFor target (ended e.fills.copies.listed (e.fills.copies.last ∷ []) [] e.copied) old.array stopped.array
+  own_full after stopped e = record {
+    all = all_made (λ kept orphans filled. LacksOwnRoom target kept orphans after filled stopped) e;
+    full = subst (λ (v : MirrorView). HasFullLog target e.kept e.orphans v.array) (sym e.why.unchanged) e.why.full;
+  }
 
   lacks_room : (k : ℕ) (after : Bitmap) (stopped : MirrorView) → LacksRoom k target b.now none after ready stopped → FullSo k after stopped
   lacks_room k after stopped (inl e) =
@@ -724,9 +667,7 @@ module _ (target : ℕ) (old ready : MirrorView) (none : Bitmap) (b : BeginsRebu
         ends = subst (EndsAt target (ended c.listed (c.last ∷ []) [] e.copied) old) (sym e.why.unchanged) (ends_copied e.passes e.copied e.filled c);
         noted = inl (is, own_full after stopped e);
         by = by_all e.passes e.copied e.filled c;
-        left = λ many i low set.
-            (let same = many ∙ ap (λ (v : MirrorView). v.array.marks.chunks) e.why.unchanged in
-            both_true (is_missing e.filled.array e.fills.has.may.member i) (is_set e.copied.bytes i) (sym (e.fills.has.sets.kept_are i (subst (λ n. i < n) same low)) ∙ e.why.left i low set));
+        left = left_of (λ kept orphans filled. LacksOwnRoom target kept orphans after filled stopped) e after stopped e.why.unchanged e.why.left;
       }
 
   -- ---- as it is told
@@ -794,18 +735,6 @@ module _ (target : ℕ) (old ready : MirrorView) (none : Bitmap) (b : BeginsRebu
         by (inr (inl r)) = kept_to target old b.sound s.member z.at stopped new z.sound z.pre s.copied copied r z.to (within (sym r.may.copied_chunks))
         by (inr (inr f)) = array_to target old b.sound s.member z.at stopped new s.copied f.array z.to
 
-    more_to : IsSubset s.copied copied → s.copied.chunks ≡ old.array.marks.chunks → HasCopiedBy s → HasCopiedBy (with_copied copied s) → (c : Bitmap) × RebuiltTo target old.array s.member new c × HasCopiedBy (with_copied c s)
-    more_to within chunks has more = by leaves
-      where
-        by : RecordsAtEnd target copied stopped new → (c : Bitmap) × RebuiltTo target old.array s.member new c × HasCopiedBy (with_copied c s)
-        by (inl same) = (s.copied, subst (λ (v : MirrorView). RebuiltTo target old.array s.member v s.copied) (sym same.1) z.to, has_same s has)
-        by (inr (inl r)) = (copied, grown_to target old b.sound s.member z.at stopped new z.sound z.pre s.copied copied r z.to chunks within, more)
-        by (inr (inr f)) = (s.copied, array_to target old b.sound s.member z.at stopped new s.copied f.array z.to, has_same s has)
-
-    memory_to : HasCopiedBy s → IsLeft s copied stopped → (c : Bitmap) × RebuiltTo target old.array s.member new c × HasCopiedBy (with_copied c s)
-    memory_to has (inl more) = more_to more.0 more.2 has more.1
-    memory_to has (inr less) = (s.copied, left_to (λ many. less (sym many)), has_same s has)
-
     so_far_then : (c : Bitmap) → RebuiltTo target old.array s.member new c → (now : MemberView) → IsMember new.array target now → IsRebuiltSoFar old.array (with_copied c s) now
     so_far_then c to now there = record { recovering = recovers_then now there; to = to now there }
 
@@ -829,23 +758,35 @@ module _ (target : ℕ) (old ready : MirrorView) (none : Bitmap) (b : BeginsRebu
               full = subst (λ (l : MemberView). HasRoomFor l.superblock full.list → ⊥) (sym is) full.full;
             }
 
+    -- or has room
+    has_room_then : (kept orphans : Bitmap) → HasRoomInLog target kept orphans stopped.array → HasRoomInLog target kept orphans new.array
+    has_room_then kept orphans has = by leaves
+      where
+        by : RecordsAtEnd target copied stopped new → HasRoomInLog target kept orphans new.array
+        by (inl same) = subst (λ (v : MirrorView). HasRoomInLog target kept orphans v.array) (sym same.1) has
+        by (inr (inr f)) = subst (HasRoomInLog target kept orphans) (sym f.array) has
+        by (inr (inl r)) =
+            let n = rest_then.then target has.member has.at in
+            let is = own_is target copied stopped new z.sound r has.member n.0 has.at n.1 in
+            record {
+              member = n.0;
+              at = n.1;
+              list = has.list;
+              list_is = subst (λ (l : MemberView). IsListAfter new.array.chunks l kept orphans has.list) (sym is)
+                  (subst (λ (q : Chunks). IsListAfter q (recorded_member (checked r.sure has.member)) kept orphans has.list) (sym (ap (λ (a : ArrayView). a.chunks) r.array))
+                  (list_with stopped.array.chunks r.sure has.member kept orphans has.list has.list_is));
+              room = subst (λ (l : MemberView). HasRoomFor l.superblock has.list) (sym is) has.room;
+            }
+
+    refused_then : Refused stopped.array s → Refused new.array (with_copied s.copied s)
+    refused_then (inl between) = inl (record { last = between.last; noted = between.noted })
+    refused_then (inr (inl some)) = inr (inl (some_with s.copied s (λ next. Unit {0}) some))
+    refused_then (inr (inr own)) = inr (inr (record { all = all_with s old.array own.all; room = has_room_then own.all.kept own.all.orphans own.room }))
+
     room_then : (k : ℕ) → NoRoom k stopped.array s → NoRoom k new.array s
     room_then k (inl own) =
         let o = own.1 in
-        inl (
-          own.0,
-          record {
-            pass = o.pass;
-            last = o.last;
-            done = o.done;
-            none = o.none;
-            kept = o.kept;
-            kept_are = o.kept_are;
-            orphans = o.orphans;
-            orphans_are = o.orphans_are;
-            full = full_then o.kept o.orphans o.full;
-          },
-        )
+        inl (own.0, record { all = o.all; full = full_then o.all.kept o.all.orphans o.full })
     room_then k (inr some) =
         let full = some.why.full in
         let other : k ≢ target =
@@ -1257,7 +1198,7 @@ module _ (target : ℕ) where
       (λ now there. record {
         running = ap (λ (v : MirrorView). v.array.halted) same ∙ h.may.resynced_target.has_target.running;
         target_is = inl (as_before old new h.member now h.at there (still_same target old new (ap (λ (v : MirrorView). v.array) same)));
-        noted = inl refl;
+        when = inl (record { last = refl; noted = refl });
         stand = stand_none target old.array new;
       })
   refused_ended old new sound NoMemory (inr (inl h)) =
@@ -1268,18 +1209,18 @@ module _ (target : ℕ) where
       (λ now there. record {
         running = lacks.first.stores.ready.halted ∙ l.may.idle.running;
         target_is = inl (as_before old new h.member now h.at there (l.still new (still_stored target mid new lacks.first.stores)));
-        noted = inl refl;
+        when = inl (record { last = refl; noted = refl });
         stand = stand_none target old.array new;
       })
   refused_ended old new sound NoMemory (inr (inr h)) =
       let e = h.why in
       let x = lacks_memory target old e.ready e.none e.begins h.copied h.stopped e.why in
-      let c = memory_to target old e.ready e.none e.begins NoMemory x.s h.copied h.stopped new x.ends h.leaves x.has x.left in
-      ended_leaving target old e.ready e.none e.begins NoMemory x.s h.copied h.stopped new x.ends h.leaves c.0
+      let to = left_to target old e.ready e.none e.begins NoMemory x.s h.copied h.stopped new x.ends h.leaves (λ many. x.left (sym many)) in
+      ended_leaving target old e.ready e.none e.begins NoMemory x.s h.copied h.stopped new x.ends h.leaves x.s.copied
       (λ now there. record {
         running = runs_then target old e.ready e.none e.begins NoMemory x.s h.copied h.stopped new x.ends h.leaves;
-        target_is = inr (so_far_then target old e.ready e.none e.begins NoMemory x.s h.copied h.stopped new x.ends h.leaves c.0 c.1 now there, c.2);
-        noted = elim x.noted [ inl none ↦ inl none | inr some ↦ inr (some_with c.0 x.s (λ next. Unit {0}) some) ];
+        target_is = inr (so_far_then target old e.ready e.none e.begins NoMemory x.s h.copied h.stopped new x.ends h.leaves x.s.copied to now there, x.by);
+        when = refused_then target old e.ready e.none e.begins NoMemory x.s h.copied h.stopped new x.ends h.leaves x.when;
         stand = stand_then target old e.ready e.none e.begins NoMemory x.s h.copied h.stopped new x.ends h.leaves;
       })
   refused_ended old new sound (LogFull k) h =
@@ -1292,7 +1233,7 @@ module _ (target : ℕ) where
         rebuilt = so_far_then target old e.ready e.none e.begins (LogFull k) x.s h.copied h.stopped new x.ends h.leaves x.s.copied to now there;
         copied = x.by;
         noted = elim (room_then target old e.ready e.none e.begins (LogFull k) x.s h.copied h.stopped new x.ends h.leaves k x.noted) [
-          | inl own ↦ inl (own.0, own_with target x.s old.array new.array own.1)
+          | inl own ↦ inl (own.0, record { all = all_with x.s old.array own.1.all; full = own.1.full })
           | inr some ↦ inr (some_with x.s.copied x.s (LacksRoomFor k new.array) some)
         ];
         stand = stand_then target old e.ready e.none e.begins (LogFull k) x.s h.copied h.stopped new x.ends h.leaves;

@@ -15,7 +15,7 @@ use Rattle.md_rebuild_table.specs.Beginning.{CannotRebuild, MayBeginRebuild}
 use Rattle.md_copy.specs.declared.rebuilt.Rebuilt.{Rebuilt}
 use Rattle.md_copy.specs.Enrolled.{EnrolsCopied, FailsCopied, HasSets}
 use Rattle.md_copy.specs.Leaving.{LeavesSo}
-use Rattle.md_copy.specs.Passing.{BreaksOffPass, CopiesAll, EndsBetween, FailsListing, PassesAll, PassesFail}
+use Rattle.md_copy.specs.Passing.{BreaksOffPass, EndsBetween, FailsListing, PassesAll, PassesFail}
 use Rattle.md_copy.specs.Ready.{IsReadyToCopy}
 use Rattle.md_copy.specs.Readying.{EndsAdmitted, FailsAdmission, LacksAdmission, LowersTarget, RefusesToReady}
 use Rattle.md_copy.specs.Rebuilding.{BeginsRebuild, EndsReadied, EndsStoring, FillsBy, LacksMemoryToRebuild, LacksRoom, LosesSource, LosesTarget, Rebuilds, RebuildsReadied, RefusesRebuild, EndsAfterReady}
@@ -70,7 +70,7 @@ module _ (target : ℕ) (m : MemberView) (none : Bitmap) (ready : MirrorView) wh
   pub passes_stop : (after : Bitmap) (new : MirrorView) (fault : RebuildFault) → PassesFail target m none after ready new fault → EndsAfterReady target m none after ready new fault
   passes_stop after new NoMemory h = elim h [
     | inl same ↦ inl same
-    | inr more ↦ elim more [ inl off ↦ inr (inl off) | inr listing ↦ inr (inr (inl listing)) ]
+    | inr listing ↦ inr (inl listing)
   ]
   passes_stop after new (LogFull k) h = inl h
   passes_stop after new (MetadataFault k) h = with_set (λ b left copied now. FailsListing target (MetadataFault k) left copied b now new) after h
@@ -96,7 +96,8 @@ module _ (target : ℕ) (m : MemberView) (none : Bitmap) (ready : MirrorView) wh
     }
 
     pub enrol_stops : (after : Bitmap) (new : MirrorView) (fault : RebuildFault) → FailsCopied target copied after filled new fault → EndsAfterReady target m none after ready new fault
-    enrol_stops after new NoMemory h = inr (inr (inr (record { passes = all.passes; copied = copied; copies = subst (CopiesAll target m all.passes none copied ready) (sym h.0) all.copies; left = h.1 })))
+    enrol_stops after new NoMemory h =
+        inr (inr (record { passes = all.passes; copied = copied; kept = h.kept; orphans = h.orphans; chunks = h.chunks; filled = filled; fills = fills_by h.kept h.orphans h.chunks h.has; why = h.why }))
     enrol_stops after new (LogFull k) h =
         inr (h.0, record { passes = all.passes; copied = copied; kept = h.1.kept; orphans = h.1.orphans; chunks = h.1.chunks; filled = filled; fills = fills_by h.1.kept h.1.orphans h.1.chunks h.1.has; why = h.1.why })
     enrol_stops after new TargetFault h =

@@ -59,9 +59,8 @@ module _ (target : ℕ) (m : MemberView) (none : Bitmap) (ready : MirrorView) (a
 
   memory : (after : Bitmap) (new : MirrorView) → LacksMemoryToRebuild target m none after ready new → HasIt target new
   memory after new (inl e) = same_has target e.now new (ap (λ (v : MirrorView). v.array) e.why.1) (between (λ left copied now. (after ≡ copied) × (new ≡ now)) e)
-  memory after new (inr (inl e)) = same_has target e.now new e.why.breaks.copies.filling.array (between _ e)
-  memory after new (inr (inr (inl e))) = noting NoMemory e.left e.copied after e.now new (between _ e) e.why e.why.fails
-  memory after new (inr (inr (inr e))) = copied_has e.passes e.copied new e.copies
+  memory after new (inr (inl e)) = noting NoMemory e.left e.copied after e.now new (between _ e) e.why e.why.fails
+  memory after new (inr (inr e)) = same_has target e.filled new (ap (λ (v : MirrorView). v.array) e.why.unchanged) (copied_has e.passes e.copied e.filled e.fills.copies)
 
   room : (k : ℕ) (after : Bitmap) (new : MirrorView) → LacksRoom k target m none after ready new → HasIt target new
   room k after new (inl e) = noting (LogFull k) e.left e.copied after e.now new (between _ e) e.why e.why.fails

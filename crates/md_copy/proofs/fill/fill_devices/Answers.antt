@@ -65,10 +65,10 @@ returns-clause-gives g c m at =
     sources c.requires.sources before after c.copy_beside.result
     (λ d. subst (λ (b : Superblock). MatchResult c.copy_beside.result
     (EndsPass g.D.Device (copy_of slots v.array.chunks b.data_offset) sources (pass_state (remove olds target) (slice_index_or olds target d) before) (pass_state (remove news target) (slice_index_or news target d) after))
-    (BreaksOff g.D.Device (copy_of slots v.array.chunks b.data_offset) sources (pass_state (remove olds target) (slice_index_or olds target d) before) (pass_state (remove news target) (slice_index_or news target d) after))) (sym own)
+    (BreaksOff g.D.Device (pass_state (remove olds target) (slice_index_or olds target d) before) (pass_state (remove news target) (slice_index_or news target d) after))) (sym own)
     (subst (λ (x : Chunks). MatchResult c.copy_beside.result
     (EndsPass g.D.Device (copy_of slots x c.own.result.now.data_offset) sources (pass_state (remove olds target) (slice_index_or olds target d) before) (pass_state (remove news target) (slice_index_or news target d) after))
-    (BreaksOff g.D.Device (copy_of slots x c.own.result.now.data_offset) sources (pass_state (remove olds target) (slice_index_or olds target d) before) (pass_state (remove news target) (slice_index_or news target d) after))) c.chunks-chunks.ensures
+    (BreaksOff g.D.Device (pass_state (remove olds target) (slice_index_or olds target d) before) (pass_state (remove news target) (slice_index_or news target d) after))) c.chunks-chunks.ensures
     (c.copy_beside.ensures.gives d)))
 
 -- each device is back in its place

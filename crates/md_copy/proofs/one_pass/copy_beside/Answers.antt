@@ -15,10 +15,10 @@ use Rattle.md_copy.proofs.one_pass.copy_beside.Goals as goal
 
 -- what a pass answers, between states that are the same
 between : {D : Type 0} (g : Ghosts D) (copy : Copying) (sources : List Source) (old now new next : PassState D) (result : Result BoardCounts PassFault) → old ≡ now → new ≡ next
-    → MatchResult result (EndsPass g copy sources old new) (BreaksOff g copy sources old new) → MatchResult result (EndsPass g copy sources now next) (BreaksOff g copy sources now next)
+    → MatchResult result (EndsPass g copy sources old new) (BreaksOff g old new) → MatchResult result (EndsPass g copy sources now next) (BreaksOff g now next)
 between g copy sources old now new next result before after is =
-    subst (λ s. MatchResult result (EndsPass g copy sources now s) (BreaksOff g copy sources now s)) after
-    (subst (λ s. MatchResult result (EndsPass g copy sources s new) (BreaksOff g copy sources s new)) before is)
+    subst (λ s. MatchResult result (EndsPass g copy sources now s) (BreaksOff g now s)) after
+    (subst (λ s. MatchResult result (EndsPass g copy sources s new) (BreaksOff g s new)) before is)
 
 same_state : {D : Type 0} (xs ys : List D) (x y : D) (copied : Bitmap) → xs ≡ ys → x ≡ y → pass_state xs x copied ≡ pass_state ys y copied
 same_state xs ys x y copied e f = ap (λ zs. pass_state zs x copied) e ∙ ap (λ z. pass_state ys z copied) f

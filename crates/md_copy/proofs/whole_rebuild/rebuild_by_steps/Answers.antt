@@ -24,6 +24,12 @@ returns-in-Err-clause-gives g c =
     let it = got_within v.array.members c.args.target c.requires.within in
     refused_set c.args.target v it.0 it.1 (c.in_ok-check_rebuild.ensures it.0 it.1)
 
+pub returns-in-Err-no_orphans-clause-gives : goal.returns-in-Err-no_orphans-clause-gives
+returns-in-Err-no_orphans-clause-gives g c =
+    let v = c.args.mirror.now in
+    let it = got_within v.array.members c.args.target c.requires.within in
+    refused_set c.args.target v it.0 it.1 (c.in_ok-check_rebuild.ensures it.0 it.1)
+
 pub returns-in_err-make_ready-clause-gives : goal.returns-in_err-make_ready-clause-gives
 returns-in_err-make_ready-clause-gives g c =
     let p = err_from_is_err_and c.from_residual-in_err-make_ready.result c.from_residual-in_err-make_ready.ensures.1 in

@@ -1,4 +1,7 @@
-use Rattle.std.proofs.Common.{List, subst, sym}
+use Rattle.std.proofs.Common.{◌≡◌, ◌∙◌, List, ap, subst, sym}
+use Rattle.md_bitmap.specs.Marks.{Bitmap}
+use Rattle.md_copy.specs.Enrolled.{AreNoOrphans}
+use Rattle.md_copy.proofs.Passing.PassesLack.{all_lacks}
 use Rattle.std.proofs.lemmas.Result.{err_from_is_err_and}
 use Rattle.md_plan.specs.declared.planner.Planned.{Planned}
 use Rattle.md_copy.specs.Told.{IsToldOfPlans}
@@ -26,6 +29,16 @@ enrol_copied-requires-clause-held g c =
 pub enrol_copied-requires-clause-few : goal.enrol_copied-requires-clause-few
 enrol_copied-requires-clause-few g c =
     (let it = got_within c.args.mirror.now.array.members c.args.target c.requires.within in (c.in_ok-plans.ensures.gives it.0 it.1).few)
+
+-- as many chunks as before the passes
+pub enrol_copied-requires-clause-room : goal.enrol_copied-requires-clause-room
+enrol_copied-requires-clause-room g c =
+    let v = c.args.mirror.now in
+    let it = got_within v.array.members c.args.target c.requires.within in
+    let all = c.in_ok-plans.ensures.gives it.0 it.1 in
+    let marks = (all_lacks c.args.target it.0 all.passes c.args.copied.now c.copy_passes.new.copied v c.copy_passes.new.mirror all.copies).marks in
+    let many : c.args.copied.now.chunks ≡ c.copy_passes.new.copied.chunks = c.requires.none.chunks ∙ ap (λ (b : Bitmap). b.chunks) (sym marks) ∙ sym all.held.chunks in
+    subst (λ n. AreNoOrphans n c.args.orphans) many c.requires.room
 
 pub returns-in_err-told-clause-gives : goal.returns-in_err-told-clause-gives
 returns-in_err-told-clause-gives g c m at =
