@@ -43,6 +43,7 @@ module _ (Done : ℕ → Disk → Disk → Type 0) where
     pub ends_at : (Failed : ℕ → Disk → Disk → Type 0) → Failed k d e → EndsAt Done Failed before (set now k e) k
     ends_at Failed fails = record {
       same = still_same before now k d e here to.same stays;
+      within = slice_get_within before k d (to.rest k d (omega arith) here);
       failed = λ x y was is.
           let same_before : x ≡ d = got_same before k x d was (to.rest k d (omega arith) here) in
           let same_after : y ≡ e = got_same (set now k e) k y e is (at_set_same now k e (slice_get_within now k d here)) in
@@ -120,6 +121,7 @@ module _ (g : Growth) (before mid after : List Disk) (fits : FitGrowth g before)
       let many = ends.same.as_many in
       record {
         same = same_then before mid after bitmaps.same ends.same;
+        within = omega (arith, ends.within, bitmaps.same.as_many);
         failed = λ d e was is. stopped many k d e was is (ends.failed (get_or mid k e) e (same_place mid after k e many is e) is);
         earlier = λ j d e was is below. both many j d e was is some (ends.earlier j (get_or mid j e) e (same_place mid after j e many is e) is below);
         later = λ j d e was is behind. bitmap_alone many j d e was is (ends.later j (get_or mid j e) e (same_place mid after j e many is e) is behind);

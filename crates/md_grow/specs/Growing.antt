@@ -33,6 +33,7 @@ pub record AllGrown (g : Growth) (before after : List Disk) : Type 0 where
 -- `Done` holds of each device before number k, `Failed` of that one, and nothing was done to those after it
 pub record EndsAt (Done Failed : ℕ → Disk → Disk → Type 0) (before after : List Disk) (k : ℕ) : Type 0 where
   pub same : AreSame before after
+  pub within : k < length before
   pub failed : (d e : Disk) → slice_get before k ≡ Some d → slice_get after k ≡ Some e → Failed k d e
   pub earlier : EachPair (λ j d e. j < k → Done j d e) before after
   pub later : EachPair (λ j d e. k < j → e ≡ d) before after
@@ -60,9 +61,10 @@ HaveSuperblocks g = AreDone (OfMember g (GetsSuperblock g))
 abbrev pub EndsNaming : Growth → List Disk → List Disk → ℕ → Type 0
 EndsNaming g = EndsAt (OfMember g (GetsSuperblock g)) (OfMember g (λ own. FailsIn g (own_write g.shared own ∷ [])))
 
--- a superblock's write failed on member k: the members before it got all, and those after it their bitmaps alone
+-- a write failed on member k, once all had their bitmaps: the members before it got all, and those after it the bitmap alone
 pub record EndsInSuperblocks (g : Growth) (before after : List Disk) (k : ℕ) : Type 0 where
   pub same : AreSame before after
+  pub within : k < length before
   pub failed : (d e : Disk) → slice_get before k ≡ Some d → slice_get after k ≡ Some e
       → OfMember g (λ own. FailsIn g (grow_writes g own)) k d e
   pub earlier : EachPair (λ j d e. j < k → IsStoredAt g j d e) before after

@@ -51,7 +51,7 @@ pub record FailsIn (g : Growth) (writes : List Write) (d e : Disk) : Type 0 wher
   pub stops : FailsInWrites of_disks writes d e
   pub kept : KeepsAllBeside g.start (sectors_of g) d.content e.content
 
--- The bitmap stands there, and nothing else changed: no superblock names it yet.
+-- the bitmap stands there, and nothing changed but its place and perhaps, of a device that is not honest, the superblock
 pub record GetsBitmap (g : Growth) (d e : Disk) : Type 0 where
   pub writes : DoesWrites of_disks (bitmap_part g) d e
   pub kept : KeepsAllBeside g.start (sectors_of g) d.content e.content

@@ -6,7 +6,6 @@ use Rattle.std.specs.Borrow.{Bor}
 use Rattle.clap.specs.Words.{Text}
 use Rattle.md_badblocks.specs.declared.run.Run.{Run}
 use Rattle.md_assembly.specs.declared.state.MemberState.{MemberState}
-use Rattle.md_assembly.specs.States.{is_in_sync}
 use Rattle.md_commands.specs.declared.fault.CommandFault.{CommandFault}
 use Rattle.md_commands.specs.declared.fault.CommandFault.TheVariants as fault
 use Rattle.md_examine.specs.Sink.{Puts}
@@ -89,19 +88,16 @@ abbrev pub dropped_at : Notices → List Text → ℕ → List ℕ
 dropped_at n = line_at (dropped_line n) n.dropped
 
 -- ---- members that list more sectors as bad
-abbrev pub was_in_sync : Option MemberState → Bool
-was_in_sync None = false
-was_in_sync (Some state) = is_in_sync state
+abbrev pub listed_line : Option MemberState → Option ℕ → Text → List ℕ
+listed_line was None name = []
+listed_line was (Some count) name = listed_text name was count
 
-abbrev pub listed_line : Bool → Option ℕ → Text → List ℕ
-listed_line in_sync None name = []
-listed_line in_sync (Some count) name = listed_text name in_sync count
+-- the name of the member in a place: a device that joins comes after the others
+abbrev pub member_name : Ask → List Text → ℕ → Option Text
+member_name ask names k = if k == length names then device_to_add ask else slice_get names k
 
-abbrev pub listed_line_at : Notices → ℕ → Text → List ℕ
-listed_line_at n k = listed_line (was_in_sync (get_or n.states k None)) (get_or n.more_listed k None)
-
-abbrev pub listed_at : Notices → List Text → ℕ → List ℕ
-listed_at n names k = line_of (listed_line_at n k) (slice_get names k)
+abbrev pub listed_at : Ask → Notices → List Text → ℕ → List ℕ
+listed_at ask n names k = line_of (listed_line (get_or n.states k None) (get_or n.more_listed k None)) (member_name ask names k)
 
 -- ---- what images hold
 abbrev pub held_line : Text → Held → List ℕ
@@ -166,8 +162,9 @@ unnamed_lines n = flat_map (unnamed_at n) (range_with_len 0 32)
 abbrev pub dropped_lines : List Text → Notices → List ℕ
 dropped_lines names n = flat_map (dropped_at n names) (range_with_len 0 64)
 
-abbrev pub listed_lines : List Text → Notices → List ℕ
-listed_lines names n = flat_map (listed_at n names) (range_with_len 0 64)
+-- What is listed in memory is stored once the command is done.
+abbrev pub listed_lines : Ask → List Text → Notices → List ℕ
+listed_lines ask names n = flat_map (listed_at ask n names) (range_with_len 0 64)
 
 -- What was shown before is not said again.
 abbrev pub first_unless : Audience → Ask → List Text → Notices → List ℕ
@@ -178,7 +175,7 @@ unfoldable pub noticed_text : Audience → Ask → List Text → Notices → Lis
 noticed_text audience ask names n =
     marked_lines names n ++ first_unless audience ask names n
     ++ parted_lines (asked_member (overwritten_by ask) (asks_first ask n)) names n ++ unnamed_lines n ++
-    dropped_lines names n ++ listed_lines names n
+    dropped_lines names n
 
 -- a check that is done compared nothing, where one member is in sync alone
 abbrev pub uncompared_lines : Ask → List Text → Notices → List ℕ
@@ -193,7 +190,8 @@ lost_lines audience ask = []
 -- All that standard error is told of a command that is done.
 unfoldable pub told_text : Audience → Ask → List Text → Notices → List ℕ
 told_text audience ask names n =
-    noticed_text audience ask names n ++ uncompared_lines ask names n ++ lost_lines audience ask
+    noticed_text audience ask names n ++ listed_lines ask names n ++ uncompared_lines ask names n
+    ++ lost_lines audience ask
 
 -- Of a command that is refused it is told too, after the fault and what to do. The image that was to be added has joined where the stop
 -- is refused, or the report fails: they come after it.

@@ -2,7 +2,7 @@
 ghost use Rattle.std.specs.Prelude.{◌≡◌, ◌<◌, [], option_map, slice_get, if◌then◌else◌};
 ghost use Rattle.md_examine.specs.Sink.{PutsOrFails};
 ghost use Rattle.md_words.specs.Asks.{ask_of, overwritten_by};
-ghost use Rattle.md_messages.specs.Telling.{asked_member, dropped_at, dropped_line, dropped_lines, each_lines, first_by, first_text, first_unless, has_joined, held_line, held_line_of, is_at, listed_at, listed_line, listed_lines, line_of, lost_lines, marked_at, marked_lines, name_in, new_line, noticed_text, parted_at, parted_line, parted_lines, refused_text, returning_line, texts, told_text, uncompared_lines, unnamed_at, unnamed_lines, was_in_sync};
+ghost use Rattle.md_messages.specs.Telling.{asked_member, dropped_at, dropped_line, dropped_lines, each_lines, first_by, first_text, first_unless, has_joined, held_line, held_line_of, is_at, listed_at, listed_line, listed_lines, member_name, line_of, lost_lines, marked_at, marked_lines, name_in, new_line, noticed_text, parted_at, parted_line, parted_lines, refused_text, returning_line, texts, told_text, uncompared_lines, unnamed_at, unnamed_lines};
 ghost use Rattle.md_messages.specs.Holding.{held_each};
 ghost use Rattle.md_messages.specs.Noticed.{asks_first};
 
@@ -196,25 +196,27 @@ fn put_all_dropped<S: Sink>(out: &mut S, notices: &Notices, names: &[&str]) -> R
     Ok(())
 }
 
-fn was_in_sync(state: Option<MemberState>) -> bool
-    ensures { result ≡ was_in_sync state }
+// The name of the member in a place. A device that joins comes after the others.
+fn member_name<'a>(command: Command<'a>, names: &[&'a str], k: usize) -> Option<&'a str>
+    ensures { option_map (λ s. s.now) result ≡ member_name (ask_of command.entry) (texts names.now) k }
 {
-    match state {
-        Some(state) => state.is_in_sync(),
-        None => false,
+    if k == names.len() {
+        command.device()
+    } else {
+        name_at(names, k)
     }
 }
 
 fn put_listed_of<S: Sink>(
     out: &mut S,
     name: &str,
-    was_in_sync: bool,
+    was: Option<MemberState>,
     count: Option<u64>,
 ) -> Result<(), SinkFault>
-    ensures { PutsOrFails S.contents S.failed out.old out.new (listed_line was_in_sync count name.now) result }
+    ensures { PutsOrFails S.contents S.failed out.old out.new (listed_line was count name.now) result }
 {
     match count {
-        Some(count) => listed_line(out, name, was_in_sync, count),
+        Some(count) => listed_line(out, name, was, count),
         None => out.put(b""),
     }
 }
@@ -222,29 +224,32 @@ fn put_listed_of<S: Sink>(
 fn put_listed<S: Sink>(
     out: &mut S,
     notices: &Notices,
+    command: Command<'_>,
     names: &[&str],
     k: usize,
 ) -> Result<(), SinkFault>
     requires { k < 64 }
     ensures { PutsOrFails S.contents S.failed out.old out.new
-        (listed_at notices.now (texts names.now) k) result }
+        (listed_at (ask_of command.entry) notices.now (texts names.now) k) result }
 {
-    match name_at(names, k) {
-        Some(name) => {
-            let in_sync = was_in_sync(notices.states[k]);
-            put_listed_of(out, name, in_sync, notices.more_listed[k])
-        }
+    match member_name(command, names, k) {
+        Some(name) => put_listed_of(out, name, notices.states[k], notices.more_listed[k]),
         None => out.put(b""),
     }
 }
 
 // Which members list more sectors as bad than before.
-fn put_all_listed<S: Sink>(out: &mut S, notices: &Notices, names: &[&str]) -> Result<(), SinkFault>
+fn put_all_listed<S: Sink>(
+    out: &mut S,
+    notices: &Notices,
+    command: Command<'_>,
+    names: &[&str],
+) -> Result<(), SinkFault>
     ensures { PutsOrFails S.contents S.failed out.old out.new
-        (listed_lines (texts names.now) notices.now) result }
+        (listed_lines (ask_of command.entry) (texts names.now) notices.now) result }
 {
     for k in 0..MAX_MEMBERS {
-        put_listed(out, notices, names, k)?;
+        put_listed(out, notices, command, names, k)?;
     }
     Ok(())
 }
@@ -400,7 +405,6 @@ fn put_noticed<S: Sink>(
     put_all_parted(out, notices, names, asked_member(notices, command))?;
     put_all_unnamed(out, notices)?;
     put_all_dropped(out, notices, names)?;
-    put_all_listed(out, notices, names)?;
     Ok(())
 }
 
@@ -462,6 +466,7 @@ pub fn put_told<S: Sink>(
         (told_text audience (ask_of command.entry) (texts names.now) notices.now) result }
 {
     put_noticed(out, notices, command, names, audience)?;
+    put_all_listed(out, notices, command, names)?;
     put_uncompared(out, notices, command, names)?;
     put_lost(out, command, audience)?;
     Ok(())

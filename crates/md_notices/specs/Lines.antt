@@ -1,5 +1,5 @@
 -- The lines that say what was noticed: forms of this project's own. Names stand in them as they are shown.
-use Rattle.std.specs.Prelude.{ℕ, Bool, true, false, List, [], ◌++◌, codes, decimal}
+use Rattle.std.specs.Prelude.{ℕ, List, [], ◌++◌, Option, Some, None, codes, decimal}
 use Rattle.uuid.specs.Text.{hyphenated_text, lower}
 use Rattle.md_examine.specs.ShownNames.Shown.{shown}
 use Rattle.md_super.specs.declared.superblock.Superblock.{Superblock}
@@ -18,13 +18,14 @@ dropped_text name in_sync raid_disks =
     ++ (codes ": a write failed; it is faulty now, and the array has " ++ decimal in_sync)
     ++ (codes " of " ++ decimal raid_disks) ++ codes "\n"
 
--- of a member that was in sync, and of one that gets what it lacks
-abbrev pub why_listed : Bool → List ℕ
-why_listed true = codes ": could not be read in places: the sectors that are listed as bad in it are now "
-why_listed false = codes ": no member gave all of it: the sectors that are listed as bad in it are now "
+-- Of a member that was in sync, of one that gets what it lacks, and of one that joined: what this lists may be what it listed before.
+abbrev pub why_listed : Option MemberState → List ℕ
+why_listed (Some (InSync role)) = codes ": could not be read in places: the sectors that are listed as bad in it are now "
+why_listed (Some state) = codes ": no member gave all of it: the sectors that are listed as bad in it are now "
+why_listed None = codes ": the sectors that are listed as bad in it are now "
 
-unfoldable pub listed_text : List ℕ → Bool → ℕ → List ℕ
-listed_text name was_in_sync count = codes "mdcli: " ++ shown name ++ (why_listed was_in_sync ++ decimal count) ++ codes "\n"
+unfoldable pub listed_text : List ℕ → Option MemberState → ℕ → List ℕ
+listed_text name was count = codes "mdcli: " ++ shown name ++ (why_listed was ++ decimal count) ++ codes "\n"
 
 unfoldable pub unnamed_text : ℕ → ℕ → List ℕ
 unnamed_text number role =

@@ -3,6 +3,7 @@ ghost use Rattle.std.specs.Prelude.{◌≡◌};
 ghost use Rattle.md_examine.specs.Sink.{PutsOrFails};
 ghost use Rattle.md_notices.specs.Lines.{dropped_text, forgotten_text, held_text, listed_text, lost_text, marked_line_text, parted_text, uncompared_text, unnamed_text, unread_text, unseen_text, why_listed};
 
+use md_assembly::MemberState;
 use md_examine::{Sink, SinkFault, number_after, put_name};
 
 /// Says that an image was used without another one. It takes no memory, as no line does, and fails only where the
@@ -42,30 +43,32 @@ pub fn dropped_line<S: Sink>(
 }
 
 // Why a member lists sectors that it did not list before.
-fn why_listed(was_in_sync: bool) -> &'static [u8]
-    ensures { result.now ≡ why_listed was_in_sync }
+fn why_listed(was: Option<MemberState>) -> &'static [u8]
+    ensures { result.now ≡ why_listed was }
 {
-    if was_in_sync {
-        b": could not be read in places: the sectors that are listed as bad in it are now "
-    } else {
-        b": no member gave all of it: the sectors that are listed as bad in it are now "
+    match was {
+        Some(MemberState::InSync(_)) => {
+            b": could not be read in places: the sectors that are listed as bad in it are now "
+        }
+        Some(_) => b": no member gave all of it: the sectors that are listed as bad in it are now ",
+        None => b": the sectors that are listed as bad in it are now ",
     }
 }
 
 /// Says that a member lists more sectors as bad than before, and how many it lists now: one that was in sync, as reads of
-/// it failed, and one that gets what it lacks, as no member gave it.
+/// it failed, and one that gets what it lacks, as no member gave it. `was` is its state before, if it was there.
 #[tactic(auto, unfolding(crate::specs::Lines::listed_text), using(md_examine::proofs::Puts::puts_then))]
 pub fn listed_line<S: Sink>(
     out: &mut S,
     name: &str,
-    was_in_sync: bool,
+    was: Option<MemberState>,
     count: u64,
 ) -> Result<(), SinkFault>
-    ensures { PutsOrFails S.contents S.failed out.old out.new (listed_text name.now was_in_sync count) result }
+    ensures { PutsOrFails S.contents S.failed out.old out.new (listed_text name.now was count) result }
 {
     out.put(b"mdcli: ")?;
     put_name(out, name)?;
-    number_after(out, why_listed(was_in_sync), count)?;
+    number_after(out, why_listed(was), count)?;
     out.put(b"\n")?;
     Ok(())
 }

@@ -184,8 +184,8 @@ pub record IsListedInPart (sector sectors : ℕ) (a : ArrayView) : Type 0 where
   pub below : listed < sector + sectors
   pub not_all : ((s : ℕ) → sector ≤ s → s < sector + sectors → Lists member s) → ⊥
 
--- The member in the role is of the group and lists none of these sectors. It was asked for them once, and that read failed: so a good read
--- of them is not thrown away because of another that failed.
+-- The member in the role is of the group and lists none of these sectors. A read of them failed, and no other call of its device besides: of
+-- reads that went well nothing is said.
 pub record FailsIn (mostly : Bool) (role sector sectors : ℕ) (old new : MirrorView) : Type 0 where
   pub from : ℕ
   pub is : IsInRole old.array role from

@@ -5,4 +5,5 @@ use Rattle.md_messages.proofs.telling.put_told.Goals as goal
 pub returns : goal.returns
 unfolding told_text
 returns g c =
-    puts_then g.S.Sink.contents g.S.Sink.failed (puts_then g.S.Sink.contents g.S.Sink.failed c.in_ok-put_noticed.ensures c.in_ok-put_uncompared.ensures) c.in_ok-put_lost.ensures
+    let listed = puts_then g.S.Sink.contents g.S.Sink.failed c.in_ok-put_noticed.ensures c.in_ok-put_all_listed.ensures in
+    puts_then g.S.Sink.contents g.S.Sink.failed (puts_then g.S.Sink.contents g.S.Sink.failed listed c.in_ok-put_uncompared.ensures) c.in_ok-put_lost.ensures
