@@ -1,8 +1,9 @@
 // The command that compares the members in sync.
-ghost use Rattle.std.specs.Prelude.{◌≡◌, MatchResult};
+ghost use Rattle.std.specs.Prelude.{◌≡◌, MatchResult, OnOk};
 ghost use Rattle.md_inflight.specs.Requests.Pending.{PendingView};
 ghost use Rattle.md_state.specs.Requests.{IsPending};
 ghost use Rattle.md_array.specs.Consistency.{IsConsistent};
+ghost use Rattle.md_check.specs.Checking.{IsToldOfMembers};
 ghost use Rattle.md_report.specs.AsJson.MemberObjects.{texts_of};
 ghost use Rattle.md_report.specs.CheckReport.{list_text};
 ghost use Rattle.md_commands.specs.Checking.{ChecksMembers, ListsMismatches, RefusesToCheck, RefusesToList, sectors_to_read};
@@ -38,6 +39,7 @@ pub fn check_members<D: Device + Drop + Send, W: Watch + Sync, S: Sink, T: Threa
         (λ _. ChecksMembers S.Sink mirror.old mirror.new out.old out.new)
         (RefusesToCheck S.Sink mirror.old mirror.new out.old out.new) }
     ensures told { W.compares watch.now (sectors_to_read mirror.old.array) }
+    ensures told_of_reads { OnOk result (IsToldOfMembers W.Gate watch.now mirror.old.array) }
     ensures sound { IsConsistent mirror.new }
     ensures pending { (p : PendingView) → IsPending mirror.old.array p → IsPending mirror.new.array p }
 {
@@ -60,6 +62,7 @@ pub fn list_mismatches<D: Device + Drop + Send, W: Watch + Sync, S: Sink, T: Thr
         mirror.old mirror.new out.old out.new)
         (RefusesToList S.Sink mirror.old mirror.new out.old out.new) }
     ensures told { W.compares watch.now (sectors_to_read mirror.old.array) }
+    ensures told_of_reads { OnOk result (IsToldOfMembers W.Gate watch.now mirror.old.array) }
     ensures sound { IsConsistent mirror.new }
     ensures pending { (p : PendingView) → IsPending mirror.old.array p → IsPending mirror.new.array p }
 {
@@ -84,6 +87,7 @@ pub fn check_members_json<D: Device + Drop + Send, W: Watch + Sync, S: Sink, T: 
         mirror.old mirror.new out.old out.new)
         (RefusesToList S.Sink mirror.old mirror.new out.old out.new) }
     ensures told { W.compares watch.now (sectors_to_read mirror.old.array) }
+    ensures told_of_reads { OnOk result (IsToldOfMembers W.Gate watch.now mirror.old.array) }
     ensures sound { IsConsistent mirror.new }
     ensures pending { (p : PendingView) → IsPending mirror.old.array p → IsPending mirror.new.array p }
 {

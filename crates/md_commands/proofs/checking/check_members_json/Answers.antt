@@ -5,7 +5,7 @@ use Rattle.md_state.specs.View.{ArrayView}
 use Rattle.md_commands.specs.Objects.{checked_line}
 use Rattle.md_commands.specs.Output.{FailsOutput, PutsOut}
 use Rattle.md_commands.proofs.Listed.{found_sized, listed_or_not}
-use Rattle.md_commands.proofs.Wrapped.{own_ok}
+use Rattle.md_commands.proofs.Wrapped.{own_ok, own_on_ok}
 use Rattle.md_commands.proofs.checking.check_members_json.Goals as goal
 
 pub put_check_json-requires : goal.put_check_json-requires
@@ -22,3 +22,7 @@ returns-clause-gives g c =
     let old = c.args.mirror.now in
     let shown = subst (λ (a : ArrayView). MatchResult put.result (λ _. PutsOut g.S.Sink c.args.out.now put.new.out (checked_line a images c.in_ok-found.found)) (FailsOutput g.S.Sink put.new.out)) compares.finds.rests.array put.ensures in
     listed_or_not g.S.Sink old c.compare_members.new.mirror c.args.out.now put.new.out (checked_line old.array images) c.in_ok-found.found compares put.result shown
+
+pub returns-clause-told_of_reads : goal.returns-clause-told_of_reads
+returns-clause-told_of_reads g c =
+    own_on_ok _ _ c.compare_members.result _ _ c.put_check_json.result c.compare_members.ensures.told c.in_ok-found.ensures.cases c.in_ok-found.ensures.variant refl

@@ -4,7 +4,7 @@ use Rattle.md_check.specs.Differences.{IsSized}
 use Rattle.md_report.specs.CheckReport.{list_text}
 use Rattle.md_commands.specs.Output.{FailsOutput, PutsOut}
 use Rattle.md_commands.proofs.Listed.{found_sized, listed_or_not}
-use Rattle.md_commands.proofs.Wrapped.{own_ok}
+use Rattle.md_commands.proofs.Wrapped.{own_ok, own_on_ok}
 use Rattle.md_commands.proofs.checking.list_mismatches.Goals as goal
 
 pub put_listed-requires : goal.put_listed-requires
@@ -20,3 +20,7 @@ returns-clause-gives g c =
     let old = c.args.mirror.now in
     let shown = subst (λ (chunks : Chunks). MatchResult put.result (λ _. PutsOut g.S.Sink c.args.out.now put.new.out (list_text chunks c.in_ok-found.found)) (FailsOutput g.S.Sink put.new.out)) c.chunks-chunks.ensures put.ensures in
     listed_or_not g.S.Sink old c.compare_members.new.mirror c.args.out.now put.new.out (list_text old.array.chunks) c.in_ok-found.found compares put.result shown
+
+pub returns-clause-told_of_reads : goal.returns-clause-told_of_reads
+returns-clause-told_of_reads g c =
+    own_on_ok _ _ c.compare_members.result _ _ c.put_listed.result c.compare_members.ensures.told c.in_ok-found.ensures.cases c.in_ok-found.ensures.variant refl
