@@ -12,8 +12,8 @@ use Rattle.md_kept_members.specs.OnDevices.Superblocks.{own_write}
 use Rattle.md_grow.specs.declared.growth.Growth.{Growth}
 use Rattle.md_grow.specs.declared.fault.GrowFault.{GrowFault}
 use Rattle.md_grow.specs.declared.fault.GrowFault.TheVariants.{Member, BadChunk, NoRoom, Assemble, HasBitmap, NotInSync, MetadataFault, NoMemory}
-use Rattle.md_grow.specs.Growing.{AllGrown, AreDone, EndsAt, EndsInSuperblocks, EndsNaming, FitGrowth, HaveBitmaps, HaveSuperblocks, IsStoredAt, OfMember, OnMember}
-use Rattle.md_grow.specs.Stored.{FailsIn, GetsBitmap, GetsSuperblock, grow_writes, sectors_of}
+use Rattle.md_grow.specs.Growing.{AllGrown, AreDone, EndsAtDevice, EndsInSuperblocks, EndsNaming, FitGrowth, HaveBitmaps, HaveSuperblocks, IsStoredAt, OfMember, OnMember}
+use Rattle.md_grow.specs.Stored.{FailsInPart, GetsBitmap, GetsSuperblock, grow_writes, sectors_of}
 use Rattle.md_grow.proofs.StoredOn.{fails_naming, grows}
 
 -- it is done on the first k devices, and those from there on are what they were
@@ -40,8 +40,8 @@ module _ (Done : ℕ → Disk → Disk → Type 0) where
       rest = λ j x from at_j. to.rest j x (omega arith) (sym (got_other now k j e (λ same. absurd (omega arith))) ∙ at_j);
     }
 
-    pub ends_at : (Failed : ℕ → Disk → Disk → Type 0) → Failed k d e → EndsAt Done Failed before (set now k e) k
-    ends_at Failed fails = record {
+    pub ends_at_device : (Failed : ℕ → Disk → Disk → Type 0) → Failed k d e → EndsAtDevice Done Failed before (set now k e) k
+    ends_at_device Failed fails = record {
       same = still_same before now k d e here to.same stays;
       within = slice_get_within before k d (to.rest k d (omega arith) here);
       failed = λ x y was is.
@@ -102,7 +102,7 @@ module _ (g : Growth) (before mid after : List Disk) (fits : FitGrowth g before)
     both : 0 < sectors_of g → OfMember g (GetsSuperblock g) k m e → IsStoredAt g k d e
     both some superblock info own = grows g info.superblock d m e (bitmaps.each k d m was at) fits.after_super some (fits.room k d was) (superblock info own)
 
-    stopped : OfMember g (λ own. FailsIn g (own_write g.shared own ∷ [])) k m e → OfMember g (λ own. FailsIn g (grow_writes g own)) k d e
+    stopped : OfMember g (λ own. FailsInPart g (own_write g.shared own ∷ [])) k m e → OfMember g (λ own. FailsInPart g (grow_writes g own)) k d e
     stopped fails info own = fails_naming g info.superblock d m e (bitmaps.each k d m was at) (fails info own)
 
     bitmap_alone : e ≡ m → GetsBitmap g d e

@@ -14,7 +14,7 @@ use Rattle.md_members.proofs.DeviceWriteLemmas.Stored.{AreStored, stored_all}
 use Rattle.md_kept_members.specs.OnDevices.Superblocks.{IsReadable, own_write}
 use Rattle.md_state.specs.View.{Disk, disk_of, of_disks}
 use Rattle.md_grow.specs.declared.growth.Growth.{Growth}
-use Rattle.md_grow.specs.Stored.{FailsIn, GetsBitmap, GetsSuperblock, IsStored, KeepsAllBeside, GrowsMemberOn, bitmap_part, grow_writes, sectors_of}
+use Rattle.md_grow.specs.Stored.{FailsInPart, GetsBitmap, GetsSuperblock, IsStored, KeepsAllBeside, GrowsMemberOn, bitmap_part, grow_writes, sectors_of}
 
 -- ---- no other part changes
 pub keeps_then : (start n : ℕ) (old mid new : List ℕ) → KeepsAllBeside start n old mid → KeepsAllBeside start n mid new → KeepsAllBeside start n old new
@@ -110,9 +110,9 @@ module _ (g : Growth) (d e : Disk) (kept : KeepsAllBeside g.start (sectors_of g)
   gets_superblock own readable (Ok x) does = record { writes = does; kept = kept; readable = readable }
   gets_superblock own readable (Err f) stops = tt
 
-  pub fails_in : (ws : List Write) (result : Result T E) → MakesWrites of_disks ws d e result → OnErr result (FailsIn g ws d e)
-  fails_in ws (Ok x) does = tt
-  fails_in ws (Err f) stops = record { stops = stops; kept = kept }
+  pub fails_in_part : (ws : List Write) (result : Result T E) → MakesWrites of_disks ws d e result → OnErr result (FailsInPart g ws d e)
+  fails_in_part ws (Ok x) does = tt
+  fails_in_part ws (Err f) stops = record { stops = stops; kept = kept }
 
 -- the bitmap, and then the superblock
 module _ (g : Growth) (own : Superblock) (d m e : Disk) (bitmap : GetsBitmap g d m) where
@@ -128,7 +128,7 @@ module _ (g : Growth) (own : Superblock) (d m e : Disk) (bitmap : GetsBitmap g d
         readable = superblock.readable;
       }
 
-  pub fails_naming : FailsIn g naming m e → FailsIn g (grow_writes g own) d e
+  pub fails_naming : FailsInPart g naming m e → FailsInPart g (grow_writes g own) d e
   fails_naming fails = record {
     stops = stops_then of_disks (bitmap_part g) naming d m e bitmap.writes fails.stops;
     kept = keeps_then g.start (sectors_of g) d.content m.content e.content bitmap.kept fails.kept;

@@ -12,7 +12,7 @@ use Rattle.md_grow.specs.declared.fault.GrowFault.{GrowFault}
 use Rattle.md_grow.specs.declared.fault.GrowFault.TheVariants.{Member, MetadataFault, NoMemory}
 use Rattle.md_grow.specs.declared.growth.Growth.{Growth}
 use Rattle.md_grow.specs.Growth.{IsGrowth, RefusesGrowth}
-use Rattle.md_grow.specs.Stored.{FailsIn, GetsBitmap, GetsSuperblock, GrowsMemberOn, bitmap_part, grow_writes, sectors_of}
+use Rattle.md_grow.specs.Stored.{FailsInPart, GetsBitmap, GetsSuperblock, GrowsMemberOn, bitmap_part, grow_writes, sectors_of}
 
 -- as many devices as members, and each has room for the bitmap after the superblock
 pub record FitGrowth (g : Growth) (disks : List Disk) : Type 0 where
@@ -31,7 +31,7 @@ pub record AllGrown (g : Growth) (before after : List Disk) : Type 0 where
   pub each : EachPair (IsStoredAt g) before after
 
 -- `Done` holds of each device before number k, `Failed` of that one, and nothing was done to those after it
-pub record EndsAt (Done Failed : ℕ → Disk → Disk → Type 0) (before after : List Disk) (k : ℕ) : Type 0 where
+pub record EndsAtDevice (Done Failed : ℕ → Disk → Disk → Type 0) (before after : List Disk) (k : ℕ) : Type 0 where
   pub same : AreSame before after
   pub within : k < length before
   pub failed : (d e : Disk) → slice_get before k ≡ Some d → slice_get after k ≡ Some e → Failed k d e
@@ -53,20 +53,20 @@ abbrev pub HaveBitmaps : Growth → List Disk → List Disk → Type 0
 HaveBitmaps g = AreDone (λ k. GetsBitmap g)
 
 abbrev pub EndsInBitmaps : Growth → List Disk → List Disk → ℕ → Type 0
-EndsInBitmaps g = EndsAt (λ k. GetsBitmap g) (λ k. FailsIn g (bitmap_part g))
+EndsInBitmaps g = EndsAtDevice (λ k. GetsBitmap g) (λ k. FailsInPart g (bitmap_part g))
 
 abbrev pub HaveSuperblocks : Growth → List Disk → List Disk → Type 0
 HaveSuperblocks g = AreDone (OfMember g (GetsSuperblock g))
 
 abbrev pub EndsNaming : Growth → List Disk → List Disk → ℕ → Type 0
-EndsNaming g = EndsAt (OfMember g (GetsSuperblock g)) (OfMember g (λ own. FailsIn g (own_write g.shared own ∷ [])))
+EndsNaming g = EndsAtDevice (OfMember g (GetsSuperblock g)) (OfMember g (λ own. FailsInPart g (own_write g.shared own ∷ [])))
 
 -- a write failed on member k, once all had their bitmaps: the members before it got all, and those after it the bitmap alone
 pub record EndsInSuperblocks (g : Growth) (before after : List Disk) (k : ℕ) : Type 0 where
   pub same : AreSame before after
   pub within : k < length before
   pub failed : (d e : Disk) → slice_get before k ≡ Some d → slice_get after k ≡ Some e
-      → OfMember g (λ own. FailsIn g (grow_writes g own)) k d e
+      → OfMember g (λ own. FailsInPart g (grow_writes g own)) k d e
   pub earlier : EachPair (λ j d e. j < k → IsStoredAt g j d e) before after
   pub later : EachPair (λ j d e. k < j → GetsBitmap g d e) before after
 

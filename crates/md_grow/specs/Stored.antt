@@ -21,7 +21,7 @@ sectors_of g = bitmap_sectors g.marks.chunks
 abbrev pub bitmap_part : Growth → List Write
 bitmap_part g = bitmap_writes g.start g.header g.marks (sectors_of g)
 
--- and then the superblock
+-- the bitmap, and then the superblock
 abbrev pub grow_writes : Growth → Superblock → List Write
 grow_writes g own = bitmap_part g ++ own_write g.shared own ∷ []
 
@@ -47,7 +47,7 @@ pub record GrowsMemberOn (g : Growth) (own : Superblock) (d e : Disk) : Type 0 w
   pub readable : IsReadable (merged g.shared own)
 
 -- one of these writes failed, and nothing changed but the superblock and the bitmap's place
-pub record FailsIn (g : Growth) (writes : List Write) (d e : Disk) : Type 0 where
+pub record FailsInPart (g : Growth) (writes : List Write) (d e : Disk) : Type 0 where
   pub stops : FailsInWrites of_disks writes d e
   pub kept : KeepsAllBeside g.start (sectors_of g) d.content e.content
 

@@ -4,7 +4,7 @@ ghost use Rattle.md_kept_members.specs.OnDevices.Superblocks.{own_write};
 ghost use Rattle.md_state.specs.View.{disk_of};
 ghost use Rattle.md_state.specs.DeviceChanges.{StaysHonest};
 ghost use Rattle.md_grow.specs.Growing.{AllGrown, EndsInBitmaps, EndsNaming, FitGrowth, HaveBitmaps, HaveSuperblocks, OnMember, RefusesStoring};
-ghost use Rattle.md_grow.specs.Stored.{FailsIn, GetsBitmap, GetsSuperblock, bitmap_part, sectors_of};
+ghost use Rattle.md_grow.specs.Stored.{FailsInPart, GetsBitmap, GetsSuperblock, bitmap_part, sectors_of};
 
 use crate::fault::GrowFault;
 use crate::growth::Growth;
@@ -44,7 +44,7 @@ fn put_bitmap<D: Device>(device: &mut D, growth: &Growth) -> Result<(), WriteFau
     requires room { 512 * (growth.now.start + sectors_of growth.now) ≤ length (D.content device.old) }
     ensures stays { StaysHonest (disk_of D.Device device.old) (disk_of D.Device device.new) }
     ensures ok { OnOk result (GetsBitmap growth.now (disk_of D.Device device.old) (disk_of D.Device device.new)) }
-    ensures fails { OnErr result (FailsIn growth.now (bitmap_part growth.now) (disk_of D.Device device.old) (disk_of D.Device device.new)) }
+    ensures fails { OnErr result (FailsInPart growth.now (bitmap_part growth.now) (disk_of D.Device device.old) (disk_of D.Device device.new)) }
 {
     store_bitmap(device, growth.start, &growth.header, &growth.marks)
 }
@@ -73,7 +73,7 @@ fn put_superblock<D: Device>(
     requires room { 512 * (growth.now.start + sectors_of growth.now) ≤ length (D.content device.old) }
     ensures stays { StaysHonest (disk_of D.Device device.old) (disk_of D.Device device.new) }
     ensures ok { OnOk result (GetsSuperblock growth.now own.now (disk_of D.Device device.old) (disk_of D.Device device.new)) }
-    ensures fails { OnErr result (FailsIn growth.now (own_write growth.now.shared own.now ∷ []) (disk_of D.Device device.old) (disk_of D.Device device.new)) }
+    ensures fails { OnErr result (FailsInPart growth.now (own_write growth.now.shared own.now ∷ []) (disk_of D.Device device.old) (disk_of D.Device device.new)) }
 {
     let mut block = [0; 4096];
     encode_member(&growth.shared, own, &mut block);

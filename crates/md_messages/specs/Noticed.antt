@@ -6,7 +6,7 @@ use Rattle.md_notices.specs.declared.noticing.Asked.{Asked}
 use Rattle.md_assembly.specs.declared.state.MemberState.{MemberState}
 use Rattle.md_assembly.specs.States.{is_spare}
 use Rattle.md_notices.specs.Noticing.{WereMarkedAtOpening, AreUnnamed, all_dropped, all_parted, all_states, in_sync_count}
-use Rattle.md_notices.specs.Listing.{all_listed, all_more_listed}
+use Rattle.md_notices.specs.ListedSectors.{all_sector_counts, all_longer_lists}
 use Rattle.md_notices.specs.Parting.{IsFirstInSync, NoneInSync}
 use Rattle.md_words.specs.Asks.{Ask, failing_of, leaving_of, overwritten_by, tells_parted}
 use Rattle.md_words.specs.declared.overwritten.Overwritten.{Overwritten}
@@ -50,7 +50,7 @@ pub record NotesOpening (ask : Ask) (a : ArrayView) (old n : Notices) : Type 0 w
   pub is_joining : IsJoining a.shared n.held joining
   pub unnamed : AreUnnamed a joining n.unnamed
   pub states : n.states ≡ all_states a.members
-  pub listed : n.listed ≡ all_listed a.members
+  pub listed : n.listed ≡ all_sector_counts a.members
   pub held : n.held ≡ old.held
   pub own : IsTrue n.own ↔ IsOwn (overwritten_by ask) a n.held
 
@@ -62,14 +62,18 @@ asked_of ask left = record { left = if left then leaving_of ask else None; faile
 abbrev pub with_dropped : Ask → ArrayView → Bool → Notices → Notices
 with_dropped ask a left n = record n {
   dropped = all_dropped n.states a.members (asked_of ask left);
-  more_listed = all_more_listed n.listed a.members (asked_of ask left);
+  more_listed = all_longer_lists n.listed a.members (asked_of ask left);
   in_sync = in_sync_count a.members;
   raid_disks = a.shared.raid_disks;
 }
 
 -- without what was done in memory alone
 abbrev pub without_stored : Notices → Notices
-without_stored n = record n { marked = replicate 64 false; dropped = replicate 64 false; more_listed = replicate 64 None }
+without_stored n = record n {
+  marked = replicate 64 false;
+  dropped = replicate 64 false;
+  more_listed = replicate 64 None;
+}
 
 -- the member was a spare, so that it may be rebuilt
 abbrev pub was_spare : Option MemberState → Bool

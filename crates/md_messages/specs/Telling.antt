@@ -96,8 +96,9 @@ listed_line was (Some count) name = listed_text name was count
 abbrev pub member_name : Ask → List Text → ℕ → Option Text
 member_name ask names k = if k == length names then device_to_add ask else slice_get names k
 
-abbrev pub listed_at : Ask → Notices → List Text → ℕ → List ℕ
-listed_at ask n names k = line_of (listed_line (get_or n.states k None) (get_or n.more_listed k None)) (member_name ask names k)
+abbrev pub listed_text_at : Ask → Notices → List Text → ℕ → List ℕ
+listed_text_at ask n names k =
+    line_of (listed_line (get_or n.states k None) (get_or n.more_listed k None)) (member_name ask names k)
 
 -- ---- what images hold
 abbrev pub held_line : Text → Held → List ℕ
@@ -164,7 +165,7 @@ dropped_lines names n = flat_map (dropped_at n names) (range_with_len 0 64)
 
 -- What is listed in memory is stored once the command is done.
 abbrev pub listed_lines : Ask → List Text → Notices → List ℕ
-listed_lines ask names n = flat_map (listed_at ask n names) (range_with_len 0 64)
+listed_lines ask names n = flat_map (listed_text_at ask n names) (range_with_len 0 64)
 
 -- What was shown before is not said again.
 abbrev pub first_unless : Audience → Ask → List Text → Notices → List ℕ

@@ -2,7 +2,7 @@
 ghost use Rattle.std.specs.Prelude.{◌≡◌, ◌<◌, [], option_map, slice_get, if◌then◌else◌};
 ghost use Rattle.md_examine.specs.Sink.{PutsOrFails};
 ghost use Rattle.md_words.specs.Asks.{ask_of, overwritten_by};
-ghost use Rattle.md_messages.specs.Telling.{asked_member, dropped_at, dropped_line, dropped_lines, each_lines, first_by, first_text, first_unless, has_joined, held_line, held_line_of, is_at, listed_at, listed_line, listed_lines, member_name, line_of, lost_lines, marked_at, marked_lines, name_in, new_line, noticed_text, parted_at, parted_line, parted_lines, refused_text, returning_line, texts, told_text, uncompared_lines, unnamed_at, unnamed_lines};
+ghost use Rattle.md_messages.specs.Telling.{asked_member, dropped_at, dropped_line, dropped_lines, each_lines, first_by, first_text, first_unless, has_joined, held_line, held_line_of, is_at, listed_text_at, listed_line, listed_lines, member_name, line_of, lost_lines, marked_at, marked_lines, name_in, new_line, noticed_text, parted_at, parted_line, parted_lines, refused_text, returning_line, texts, told_text, uncompared_lines, unnamed_at, unnamed_lines};
 ghost use Rattle.md_messages.specs.Holding.{held_each};
 ghost use Rattle.md_messages.specs.Noticed.{asks_first};
 
@@ -230,7 +230,7 @@ fn put_listed<S: Sink>(
 ) -> Result<(), SinkFault>
     requires { k < 64 }
     ensures { PutsOrFails S.contents S.failed out.old out.new
-        (listed_at (ask_of command.entry) notices.now (texts names.now) k) result }
+        (listed_text_at (ask_of command.entry) notices.now (texts names.now) k) result }
 {
     match member_name(command, names, k) {
         Some(name) => put_listed_of(out, name, notices.states[k], notices.more_listed[k]),

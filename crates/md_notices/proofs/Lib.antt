@@ -1,5 +1,5 @@
 pub mod Members
-pub mod Listed
+pub mod SectorCounts
 -- Signatures on a device.
 pub mod SignatureLemmas
 -- What a device holds before `create` or `add` overwrites it, for the warning.

@@ -15,4 +15,4 @@ pub mod Signatures
 -- What a device holds before `create` or `add` overwrites it, for the warning.
 pub mod Held
 -- How many sectors members list as bad, and which list more than before.
-pub mod Listing
+pub mod ListedSectors

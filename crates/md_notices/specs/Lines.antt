@@ -20,8 +20,10 @@ dropped_text name in_sync raid_disks =
 
 -- Of a member that was in sync, of one that gets what it lacks, and of one that joined: what this lists may be what it listed before.
 abbrev pub why_listed : Option MemberState → List ℕ
-why_listed (Some (InSync role)) = codes ": could not be read in places: the sectors that are listed as bad in it are now "
-why_listed (Some state) = codes ": no member gave all of it: the sectors that are listed as bad in it are now "
+why_listed (Some (InSync role)) =
+    codes ": could not be read in places: the sectors that are listed as bad in it are now "
+why_listed (Some state) =
+    codes ": no member gave all of it: the sectors that are listed as bad in it are now "
 why_listed None = codes ": the sectors that are listed as bad in it are now "
 
 unfoldable pub listed_text : List ℕ → Option MemberState → ℕ → List ℕ

@@ -20,7 +20,7 @@ mod belonging;
 mod dropping_out;
 mod held;
 mod lines;
-mod listing;
+mod listed_sectors;
 mod noticing;
 mod parting;
 mod signatures;
@@ -34,7 +34,7 @@ pub use lines::{
     dropped_line, forgotten_line, held_line, listed_line, lost_line, marked_line, parted_line,
     uncompared_line, unnamed_line, unread_line, unseen_line,
 };
-pub use listing::{members_listing, members_listing_more};
+pub use listed_sectors::{members_listing, members_listing_more};
 pub use noticing::{
     Asked, MAX_MEMBERS, MAX_ROLES, in_sync_count, members_dropped, members_marked, members_parted,
     roles_unnamed, states_of,

@@ -1,7 +1,7 @@
 use Rattle.md_array.proofs.Openings.StoredOn.{stays_made}
 use Rattle.md_state.specs.View.{disk_of}
 use Rattle.md_grow.specs.Stored.{bitmap_part, sectors_of}
-use Rattle.md_grow.proofs.StoredOn.{fails_in, gets_bitmap, keeps_bitmap, made_as_disk}
+use Rattle.md_grow.proofs.StoredOn.{fails_in_part, gets_bitmap, keeps_bitmap, made_as_disk}
 use Rattle.md_grow.proofs.store.put_bitmap.Goals as goal
 
 pub returns-clause-stays : goal.returns-clause-stays
@@ -22,5 +22,5 @@ returns-clause-fails g c =
     let old = c.args.device.now in
     let new = c.store_bitmap.new.device in
     let kept = keeps_bitmap w.start (sectors_of w) (g.D.Device.content old) (g.D.Device.content new) c.store_bitmap.ensures.outside in
-    fails_in w (disk_of g.D.Device old) (disk_of g.D.Device new) kept (bitmap_part w) c.store_bitmap.result
+    fails_in_part w (disk_of g.D.Device old) (disk_of g.D.Device new) kept (bitmap_part w) c.store_bitmap.result
     (made_as_disk g.D.Device (bitmap_part w) old new c.store_bitmap.result c.store_bitmap.ensures.writes)

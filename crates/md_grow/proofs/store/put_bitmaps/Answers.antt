@@ -2,10 +2,10 @@ use Rattle.std.proofs.Common.{arith, ◌≡◌, ◌∙◌, ◌+◌, ◌<◌, sym
 use Rattle.std.proofs.lemmas.List.{length-map, map-set}
 use Rattle.md_state.specs.View.{Disk, disk_of}
 use Rattle.md_grow.specs.Growing.{EndsInBitmaps}
-use Rattle.md_grow.specs.Stored.{FailsIn, GetsBitmap, bitmap_part}
+use Rattle.md_grow.specs.Stored.{FailsInPart, GetsBitmap, bitmap_part}
 use Rattle.md_array.proofs.General.Answered.{err_gives, ok_gives}
 use Rattle.md_array.proofs.Openings.DevicesInTurn.{disk_at}
-use Rattle.md_grow.proofs.StoredEach.{AreDoneTo, done_all, done_more, done_none, ends_at}
+use Rattle.md_grow.proofs.StoredEach.{AreDoneTo, done_all, done_more, done_none, ends_at_device}
 use Rattle.md_grow.proofs.store.put_bitmaps.Goals as goal
 
 pub put_bitmap-requires-clause-room : goal.put_bitmap-requires-clause-room
@@ -23,8 +23,8 @@ returns-then-is_err g c =
     let e = disk c.put_bitmap.new.device in
     let here = disk_at disk c.loop-k.devices c.loop-k.k c.index-devices-k.result (omega arith) in
     subst (λ (after : List Disk). EndsInBitmaps w (map disk c.args.devices.now) after c.loop-k.k) (sym (map-set disk c.loop-k.devices c.loop-k.k c.put_bitmap.new.device))
-    (ends_at (λ k. GetsBitmap w) (map disk c.args.devices.now) (map disk c.loop-k.devices) c.loop-k.k d e c.loop-k.invariant.done here c.put_bitmap.ensures.stays
-    (λ k. FailsIn w (bitmap_part w)) (err_gives c.put_bitmap.result (FailsIn w (bitmap_part w) d e) c.if-is_err.ensures.value c.put_bitmap.ensures.fails))
+    (ends_at_device (λ k. GetsBitmap w) (map disk c.args.devices.now) (map disk c.loop-k.devices) c.loop-k.k d e c.loop-k.invariant.done here c.put_bitmap.ensures.stays
+    (λ k. FailsInPart w (bitmap_part w)) (err_gives c.put_bitmap.result (FailsInPart w (bitmap_part w) d e) c.if-is_err.ensures.value c.put_bitmap.ensures.fails))
 
 pub loop-k-preserved : goal.loop-k-preserved
 loop-k-preserved g c =

@@ -9,7 +9,7 @@ use Rattle.md_members.specs.DeviceWrites.Writes.{MakesWrites, Write}
 use Rattle.md_state.specs.View.{disk_of}
 use Rattle.md_array.proofs.Openings.StoredOn.{stays_made}
 use Rattle.md_grow.specs.Stored.{KeepsAllBeside, sectors_of}
-use Rattle.md_grow.proofs.StoredOn.{fails_in, gets_superblock, keeps_super, made_as_disk}
+use Rattle.md_grow.proofs.StoredOn.{fails_in_part, gets_superblock, keeps_super, made_as_disk}
 use Rattle.md_grow.proofs.store.put_superblock.Goals as goal
 
 module _ (g : _) (c : goal.After-put g) where
@@ -49,5 +49,5 @@ returns-clause-ok g c =
 
 pub returns-clause-fails : goal.returns-clause-fails
 returns-clause-fails g c =
-    fails_in c.args.growth.now (disk_of g.D.Device c.args.device.now) (disk_of g.D.Device c.put.new.device) (kept g c) (naming g c) c.put.result
+    fails_in_part c.args.growth.now (disk_of g.D.Device c.args.device.now) (disk_of g.D.Device c.put.new.device) (kept g c) (naming g c) c.put.result
     (made_as_disk g.D.Device (naming g c) c.args.device.now c.put.new.device c.put.result (made g c))

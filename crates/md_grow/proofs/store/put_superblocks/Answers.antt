@@ -9,10 +9,10 @@ use Rattle.md_state.specs.View.{Disk, disk_of}
 use Rattle.md_super.specs.declared.superblock.Superblock.{Superblock}
 use Rattle.md_grow.specs.declared.growth.Growth.{Growth}
 use Rattle.md_grow.specs.Growing.{EndsNaming, OfMember}
-use Rattle.md_grow.specs.Stored.{FailsIn, GetsSuperblock}
+use Rattle.md_grow.specs.Stored.{FailsInPart, GetsSuperblock}
 use Rattle.md_array.proofs.General.Answered.{err_gives, ok_gives}
 use Rattle.md_array.proofs.Openings.DevicesInTurn.{disk_at}
-use Rattle.md_grow.proofs.StoredEach.{AreDoneTo, done_all, done_more, done_none, ends_at}
+use Rattle.md_grow.proofs.StoredEach.{AreDoneTo, done_all, done_more, done_none, ends_at_device}
 use Rattle.md_grow.proofs.store.put_superblocks.Goals as goal
 
 -- what holds with the superblock of the member at an index holds of that member
@@ -39,9 +39,9 @@ returns-then-is_err g c =
     let e = disk c.put_superblock.new.device in
     let here = disk_at disk c.loop-k.devices c.loop-k.k c.index-devices-k.result (omega arith) in
     let many = sym (length-map c.args.devices.now disk) ∙ c.requires.as_many in
-    let Fails : Superblock → Disk → Disk → Type 0 = λ own. FailsIn w (own_write w.shared own ∷ []) in
+    let Fails : Superblock → Disk → Disk → Type 0 = λ own. FailsInPart w (own_write w.shared own ∷ []) in
     subst (λ (after : List Disk). EndsNaming w (map disk c.args.devices.now) after c.loop-k.k) (sym (map-set disk c.loop-k.devices c.loop-k.k c.put_superblock.new.device))
-    (ends_at (OfMember w (GetsSuperblock w)) (map disk c.args.devices.now) (map disk c.loop-k.devices) c.loop-k.k d e c.loop-k.invariant.done here c.put_superblock.ensures.stays
+    (ends_at_device (OfMember w (GetsSuperblock w)) (map disk c.args.devices.now) (map disk c.loop-k.devices) c.loop-k.k d e c.loop-k.invariant.done here c.put_superblock.ensures.stays
     (OfMember w Fails)
     (of_member w Fails c.loop-k.k (length c.args.devices.now) m d e many c.loop-k-test.true c.index-member.ensures
     (err_gives c.put_superblock.result (Fails m.superblock d e) c.if-is_err.ensures.value c.put_superblock.ensures.fails)))

@@ -1,5 +1,5 @@
 use Rattle.std.proofs.Common.{◌≡◌, ◌∙◌, ℕ, Bool, List, Option, ap}
-use Rattle.md_notices.specs.Listing.{all_more_listed}
+use Rattle.md_notices.specs.ListedSectors.{all_longer_lists}
 use Rattle.md_notices.specs.Noticing.{all_dropped, in_sync_count}
 use Rattle.md_super.specs.declared.superblock.Superblock.{Superblock}
 use Rattle.md_words.specs.Asks.{ask_of}
@@ -12,10 +12,10 @@ returns g c =
     let members = c.args.mirror.now.array.members in
     let asked = asked_of (ask_of c.args.command) c.args.has_left in
     let all = all_dropped n.states members asked in
-    let grown = all_more_listed n.listed members asked in
+    let grown = all_longer_lists n.listed members asked in
     let count = in_sync_count members in
     let dropped : c.members_dropped-self.result ≡ all = c.members_dropped-self.ensures ∙ ap (all_dropped n.states members) c.asked_of-asked.ensures in
-    let more : c.members_listing_more-self.result ≡ grown = c.members_listing_more-self.ensures ∙ ap (all_more_listed n.listed members) c.asked_of-asked.ensures in
+    let more : c.members_listing_more-self.result ≡ grown = c.members_listing_more-self.ensures ∙ ap (all_longer_lists n.listed members) c.asked_of-asked.ensures in
     ap (λ (xs : List Bool). record n { dropped = xs; more_listed = c.members_listing_more-self.result; in_sync = c.in_sync_count-self.result; raid_disks = c.shared.result.now.raid_disks }) dropped
     ∙ ap (λ (xs : List (Option ℕ)). record n { dropped = all; more_listed = xs; in_sync = c.in_sync_count-self.result; raid_disks = c.shared.result.now.raid_disks }) more
     ∙ ap (λ (found : ℕ). record n { dropped = all; more_listed = grown; in_sync = found; raid_disks = c.shared.result.now.raid_disks }) c.in_sync_count-self.ensures
