@@ -1,7 +1,7 @@
 -- Sectors of the array are read and put out with zeros in the place of those that are not given: that nobody gives or, of an array that is
 -- not resynced, that the member from which a resync would copy them does not give.
 use Rattle.std.specs.List.{All}
-use Rattle.std.specs.Prelude.{◌^◌, ◌≡◌, ◌⊎◌, ◌↔◌, ℕ, ◌+◌, ◌*◌, ◌-◌, ◌/◌, ◌%◌, ◌<◌, ◌≤◌, Bool, true, List, [], length, replicate, take, Option, Some, None, Result, Ok, Err, MatchResult}
+use Rattle.std.specs.Prelude.{◌^◌, ◌≡◌, ◌⊎◌, ◌↔◌, ℕ, ◌+◌, ◌*◌, ◌-◌, ◌/◌, ◌%◌, ◌<◌, ◌≤◌, Bool, true, false, List, [], length, replicate, take, Option, Some, None, Result, Ok, Err, MatchResult}
 use Rattle.md_badblocks.specs.declared.run.Run.{Run}
 use Rattle.md_badblocks.specs.Runs.{IsBad}
 use Rattle.md_device.specs.Device.{held}
@@ -255,11 +255,19 @@ module _ {S : Type 0} (o : Ghosts S) (readonly : Bool) (sector count : ℕ) (mis
   RefusesToFill (Resync fault) = IsNotReady (Resync fault)
   RefusesToFill fault = ⊥
 
--- which are missing, where all are put out
+-- Which are missing, where sectors were put out: all of them, or those before the end came. So for no sector zeros are put out untold.
 abbrev pub told_missing : List Run → Result (Unit {0}) CommandFault → Option (List Run)
 told_missing missing (Ok _) = Some missing
 told_missing missing (Err (Read (Unreadable s))) = Some missing
+told_missing missing (Err NoPieceMemory) = Some missing
+told_missing missing (Err OutputFault) = Some missing
 told_missing missing (Err fault) = None
+
+-- all sectors are put out, with zeros for those that are missing
+abbrev pub has_put_all : Result (Unit {0}) CommandFault → Bool
+has_put_all (Ok _) = true
+has_put_all (Err (Read (Unreadable s))) = true
+has_put_all (Err fault) = false
 
 module _ {S : Type 0} (o : Ghosts S) (readonly : Bool) (sector count : ℕ) (old new : MirrorView)
     (before after : S) where
