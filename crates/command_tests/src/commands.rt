@@ -72,6 +72,7 @@ pub(crate) fn give<R: Abort + Threads + Wait + Sync>(
         watch: &Silent,
         asker: Nobody,
         missing: None,
+        is_all_out: false,
     };
     let status = runs(&mut session, case.words, images, case.messages, case.says)?;
     holds(rt, "the status", status == case.status);

@@ -5,7 +5,7 @@ ghost use Rattle.md_words.specs.Asks.{ask_of, device_to_add, fills, opens_array}
 ghost use Rattle.md_commands.specs.Objects.{detail_shown, plan_shown, summary_shown};
 ghost use Rattle.md_commands.specs.Output.{ShowsText};
 ghost use Rattle.md_commands.specs.Planning.{RefusesToPlan, ShowsPlan};
-ghost use Rattle.md_read_commands.specs.Filling.{ReadsFilled};
+ghost use Rattle.md_read_commands.specs.Filling.{ReadsFilled, has_put_all};
 ghost use Rattle.md_messages.specs.Telling.{texts};
 ghost use Rattle.md_cli.specs.Opened.{opened_view};
 ghost use Rattle.md_cli.specs.Performing.{PerformsAdd, Performs, PerformsReAdd, PerformsRead, PerformsRemove, PerformsServe, ShowsMismatches, ShowsSectors};
@@ -22,7 +22,9 @@ use md_commands::{
 };
 use md_device::Device;
 use md_examine::Sink;
-use md_read_commands::{read_array, read_array_filled, read_array_readonly, serve_array};
+use md_read_commands::{
+    has_put_all, read_array, read_array_filled, read_array_readonly, serve_array,
+};
 use md_serve_commands::serve_writable;
 use md_words::{CheckForm, Command};
 use std::alloc::Global;
@@ -212,8 +214,8 @@ fn read<D: Device + Drop, S: Sink>(
     Ok(read_array(alloc, mirror, sector, count, out)?)
 }
 
-// Puts out sectors with zeros in the place of those that are not given. Which these are is noted, where all
-// sectors are put out.
+// Puts out sectors with zeros in the place of those that are not given. Which these are is noted, and whether all sectors were
+// put out.
 fn read_filled<D: Device + Drop, T, R: Source + Drop, S: Sink + Drop, W, A: Drop>(
     session: &mut Session<'_, T, R, S, W, A>,
     opened: &mut Opened<D>,
@@ -226,6 +228,7 @@ fn read_filled<D: Device + Drop, T, R: Source + Drop, S: Sink + Drop, W, A: Drop
     ensures input { session.new.input ≡ session.old.input }
     ensures reads { ReadsFilled S.Sink readonly sector count opened.old.mirror opened.new.mirror
         session.old.out session.new.out session.new.missing result }
+    ensures all_out { session.new.is_all_out ≡ has_put_all result }
     ensures unasked { session.new.asker ≡ session.old.asker }
     ensures flushed { IfOk result (λ _. S.is_flushed session.new.out) }
 {
@@ -233,6 +236,7 @@ fn read_filled<D: Device + Drop, T, R: Source + Drop, S: Sink + Drop, W, A: Drop
     let out = &mut session.out;
     let (missing, done) = read_array_filled(alloc, mirror, sector, count, readonly, out);
     session.missing = missing;
+    session.is_all_out = has_put_all(&done);
     Ok(done?)
 }
 

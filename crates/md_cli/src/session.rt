@@ -4,7 +4,7 @@ use std::alloc::Global;
 
 /// What each command is given of the machine that it runs on: what starts threads, the memory, the input, the output,
 /// who is told of a rebuild or a check, and who is asked. And, of a read that was to put out zeros for sectors that are not
-/// given, and has put out all, which sectors these are.
+/// given, which sectors these are, also where it ended before all were put out, and whether all were.
 #[derive(Drop)]
 pub struct Session<'a, T, R: Drop, S: Drop, W, A: Drop> {
     pub rt: &'a T,
@@ -14,4 +14,5 @@ pub struct Session<'a, T, R: Drop, S: Drop, W, A: Drop> {
     pub watch: &'a W,
     pub asker: A,
     pub missing: Option<BadSet>,
+    pub is_all_out: bool,
 }

@@ -1,5 +1,5 @@
 -- Sectors are read with zeros in the place of those that nobody gave.
-use Rattle.std.proofs.Common.{◌≡◌, ◌∙◌, ◌⊎◌, ◌↔◌, inl, inr, ℕ, ◌+◌, ◌*◌, ◌-◌, ◌/◌, ◌%◌, ◌<◌, ◌≤◌, ◌^◌, false, List, [], ◌++◌, length, replicate, take, Ok, refl, sym, ap, subst, arith, length-append, append-nil}
+use Rattle.std.proofs.Common.{◌≡◌, ◌∙◌, ◌⊎◌, ◌↔◌, inl, inr, ℕ, ◌+◌, ◌*◌, ◌-◌, ◌/◌, ◌%◌, ◌<◌, ◌≤◌, ◌^◌, false, List, [], ◌∷◌, ◌++◌, length, replicate, take, Ok, refl, sym, ap, subst, arith, length-append, append-nil}
 use Rattle.std.proofs.lemmas.Bool.{cases_lt}
 use Rattle.std.proofs.lemmas.List.{length-replicate, length-take-le, take_all}
 use Rattle.std.proofs.lemmas.Option.{slice_get_within}
@@ -33,8 +33,10 @@ use Rattle.md_commands.specs.declared.fault.CommandFault.{CommandFault}
 use Rattle.md_commands.specs.declared.fault.CommandFault.TheVariants.{Read, Resync}
 use Rattle.md_read_commands.specs.declared.way.Way.{Way}
 use Rattle.md_read_commands.specs.declared.way.Way.TheVariants.{Resynced, Unresynced}
-use Rattle.md_read_commands.specs.Filling.{FillsContent, FillsFront, FillsMore, FillsUntilUnnoted, IsClear, IsFilled, IsGivenByRead, IsNotGiven, IsUnnoted, NotesNone, zeros}
+use Rattle.md_read_commands.specs.Filling.{FillsContent, FillsFront, FillsMore, IsClear, IsFilled, IsGivenByRead, IsNotGiven, zeros}
+use Rattle.md_read_commands.specs.Serving.{HasBoth, LacksSector}
 use Rattle.md_read_commands.specs.Ways.{EndsReading, ReadsBy}
+use Rattle.md_read_commands.proofs.Noted.{bad_both}
 use Rattle.md_read_commands.proofs.Ways.{reads_rests, reads_some}
 
 -- what a buffer is filled with
@@ -58,17 +60,19 @@ size_fits v sound running =
     let low = ends_below v sound on.0 on.1 on.2.member in
     omega arith
 
--- a set with one sector more
-pub noted_one : (s : ℕ) (was missing : List Run) → s < 2 ^ 54 → ((t : ℕ) → IsBad missing t ↔ (IsBad was t ⊎ ((s ≤ t) × (t < s + 1) × (t < 2 ^ 54))))
-    → (t : ℕ) → IsBad missing t ↔ (IsBad was t ⊎ (t ≡ s))
-noted_one s was missing fits added t = (
-  λ bad. elim ((added t).0 bad) [
+-- a list with one sector more
+pub noted_one : (s : ℕ) (was : List Run) (run : Run) → run.start ≡ s → run.len ≡ 1 → (t : ℕ) → IsBad (was ++ run ∷ []) t ↔ (IsBad was t ⊎ (t ≡ s))
+noted_one s was run start one t = (
+  λ bad. elim ((bad_both was (run ∷ []) t).0 bad) [
     | inl earlier ↦ inl earlier
-    | inr here ↦ let low = here.0 in let high = here.1 in inr (omega arith)
+    | inr last ↦ elim last [
+      | inl here ↦ let low = here.0 in let high = here.1 in inr (omega arith)
+      | inr never ↦ absurd never
+    ]
   ],
-  λ bad. (added t).1 (elim bad [
+  λ bad. (bad_both was (run ∷ []) t).1 (elim bad [
     | inl earlier ↦ inl earlier
-    | inr same ↦ inr (omega arith, omega arith, omega arith)
+    | inr same ↦ inr (inl (omega arith, omega arith))
   ]),
 )
 
@@ -297,6 +301,34 @@ module _ (way : Way) where
     | inr high ↦ let early = clear s ((more.others s (inr high)).0 bad) in absurd (omega arith)
   ]
 
+  -- what is missing was added to what was noted before
+  pub fills_noted : (sector : ℕ) (bytes : List ℕ) (was holes missing : List Run) (old new : MirrorView) → FillsMore way sector bytes [] holes old new → IsClear was sector → HasBoth was holes missing
+      → FillsMore way sector bytes was missing old new
+  fills_noted sector bytes was holes missing old new h clear both = record {
+    fills = record {
+      whole = h.fills.whole;
+      rests = h.fills.rests;
+      given = λ i low free. h.fills.given i low (λ bad. free ((both (sector + i)).1 (inr bad)));
+      asked = h.fills.asked;
+      over = h.fills.over;
+      begins = h.fills.begins;
+      within = h.fills.within;
+      ends = h.fills.ends;
+      in_turn = h.fills.in_turn;
+      lost = λ i low bad. h.fills.lost i low (elim ((both (sector + i)).0 bad) [
+        | inl early ↦ let before = clear (sector + i) early in absurd (omega arith)
+        | inr here ↦ here
+      ]);
+    };
+    others = λ s out. (
+      λ bad. elim ((both s).0 bad) [
+        | inl early ↦ early
+        | inr here ↦ absurd ((h.others s out).0 here)
+      ],
+      λ early. (both s).1 (inl early),
+    );
+  }
+
   -- where none was missing before, none is but those
   pub filled : (sector : ℕ) (bytes : List ℕ) (missing : List Run) (old new : MirrorView) → FillsMore way sector bytes [] missing old new → IsFilled way sector bytes missing old new
   filled sector bytes missing old new more = record {
@@ -372,24 +404,21 @@ module _ (old new : MirrorView) (sound : IsConsistent old) (sector s : ℕ) (pie
   ends_with Unresynced (Resync (ReadFault k c)) h = ends_unresynced (unresynced.ReadFault k s) h.1.0 h.1.1 (inr (k, h.1.1.ends.1))
   ends_with way reason h = absurd h
 
-  -- there is no memory to note it
-  pub not_noted : (way : Way) (reason : CommandFault) → EndsReading way sector s piece old new reason → (was missing : List Run) → missing ≡ was → IsClear was sector → NotesNone way sector (length piece / 512) was missing old new
-  not_noted way reason ends was missing same clear =
+  -- it is one of these sectors, and was asked for after devices were read
+  pub not_given : (way : Way) (reason : CommandFault) → EndsReading way sector s piece old new reason → (sectors : ℕ) → length piece / 512 ≡ sectors → LacksSector way sector sectors old new
+  not_given way reason ends sectors many =
       let there = ends_with way reason ends in
-      let from = there.from in
+      let below = there.below in
       record {
-        same = same;
-        rests = rests_then old there.mid new there.before there.asked;
         s = s;
-        from = from;
-        below = there.below;
-        is = record {
-          asked = there.mid;
-          before = there.before;
-          within = there.asked;
-          lost = there.none;
-          unnoted = λ bad. let early = clear s (subst (λ (m : List Run). IsBad m s) same bad) in absurd (omega arith);
-        };
+        from = there.from;
+        below = omega arith;
+        asked = there.mid;
+        over = new;
+        before = there.before;
+        within = there.asked;
+        after = rests_same new;
+        lost = there.none;
       }
 
   -- it is noted
@@ -441,16 +470,6 @@ front_given way sector bytes was old new whole reads clear sectors many =
           (read_fills way sector bytes was old new whole (reads_rests way sector bytes old new reads) (λ some. reads) clear);
     }
 
--- a sector that is not noted, in a longer read
-pub unnoted_wider : (way : Way) (s : ℕ) (missing : List Run) (first old new : MirrorView) → Rests first old → IsUnnoted way s missing old new → IsUnnoted way s missing first new
-unnoted_wider way s missing first old new before h = record {
-  asked = h.asked;
-  before = rests_then first old h.asked before h.before;
-  within = h.within;
-  lost = h.lost;
-  unnoted = h.unnoted;
-}
-
 -- ---- a piece, filled from its front
 module _ (way : Way) (sector : ℕ) (piece : List ℕ) (done : ℕ) (inside : 512 * done ≤ length piece) (was now : List Run) (old mid : MirrorView)
     (first : FillsMore way sector (take (512 * done) piece) was now old mid) where
@@ -480,25 +499,6 @@ module _ (way : Way) (sector : ℕ) (piece : List ℕ) (done : ℕ) (inside : 51
   -- all of it
   pub piece_filled : length piece ≡ 512 * done → FillsMore way sector piece was now old mid
   piece_filled long = subst (λ (b : List ℕ). FillsMore way sector b was now old mid) (take_all (512 * done) piece (omega arith)) first
-
-  -- there is no memory for the next that is missing
-  pub until_unnoted : (missing : List Run) (new : MirrorView) (count sectors : ℕ) → length piece ≡ 512 * count → done + sectors ≤ count → NotesNone way (sector + done) sectors now missing mid new → FillsUntilUnnoted way sector count was missing old new
-  until_unnoted missing new count sectors long within h =
-      let at = at_done in
-      let from = h.from in
-      let below = h.below in
-      record {
-        some = record {
-          bytes = take (512 * done) piece;
-          few = let some = so_long in omega arith;
-          more = subst (λ (m : List Run). FillsMore way sector (take (512 * done) piece) was m old new) (sym h.same)
-              (fills_later way sector (take (512 * done) piece) was now old mid new first h.rests);
-        };
-        s = h.s;
-        from = omega arith;
-        below = omega arith;
-        is = unnoted_wider way h.s missing old mid new first.fills.rests h.is;
-      }
 
 -- ---- what it tells of the content
 honest_later : (old mid : MirrorView) → Rests old mid → AreHonest old.disks → AreHonest mid.disks

@@ -10,8 +10,9 @@ use Rattle.md_state.specs.View.{MirrorView}
 use Rattle.md_commands.specs.declared.fault.CommandFault.{CommandFault}
 use Rattle.md_commands.specs.declared.fault.CommandFault.TheVariants.{NoPieceMemory, OutputFault}
 use Rattle.md_read_commands.specs.declared.way.Way.{Way}
-use Rattle.md_read_commands.specs.Filling.{FillsMore, FillsSome, FillsSomeMore, FillsUntilUnnoted, IsClear, PutsFilled, PutsFilledPiece, RefusesFilled, RefusesFilledPiece}
-use Rattle.md_read_commands.proofs.Filled.{clear_after, filled, fills_nothing, fills_then, unnoted_wider}
+use Rattle.md_read_commands.specs.Filling.{FillsMore, FillsSome, FillsSomeMore, FillsUnnoted, IsClear, PutsFilled, PutsFilledPiece, RefusesFilled, RefusesFilledPiece}
+use Rattle.md_read_commands.proofs.Filled.{clear_after, filled, fills_noted, fills_nothing, fills_then}
+use Rattle.md_read_commands.proofs.Noted.{bad_both}
 
 module _ {S : Type 0} (o : Ghosts S) (way : Way) (sector : ℕ) where
   -- so many sectors were filled and put out
@@ -82,29 +83,40 @@ module _ {S : Type 0} (o : Ghosts S) (way : Way) (sector : ℕ) where
         abbrev fills_some : (some : FillsSomeMore way (sector + done) sectors was missing mid new) → FillsSome way sector count missing old new
         fills_some some = record { bytes = b ++ some.bytes; few = some_more some; filled = filled way sector (b ++ some.bytes) missing old new (then_more some.bytes some.more) }
 
-        until : FillsUntilUnnoted way (sector + done) sectors was missing mid new → after ≡ between → RefusesFilled o way sector count missing old new before after NoPieceMemory
+        until : FillsUnnoted way (sector + done) sectors was missing mid new → after ≡ between → RefusesFilled o way sector count missing old new before after NoPieceMemory
         until h same =
-            let some = h.some in
-            let from = h.from in
-            let below = h.below in
+            let all : List Run = was ++ h.missing in
+            let more : FillsMore way (sector + done) h.bytes was all mid new =
+            fills_noted way (sector + done) h.bytes was h.missing all mid new h.more clear_next (bad_both was h.missing) in
             let many = so_far.many in
-            let long = length-append b some.bytes in
-            let whole = some.more.fills.whole in
+            let few = h.few in
+            let long = length-append b h.bytes in
+            let inside = (filled way (sector + done) h.bytes h.missing mid new h.more).within in
             inr (record {
+              missing = all;
               put = record {
-                some = fills_some some;
+                some = record {
+                  bytes = b ++ h.bytes;
+                  few = omega arith;
+                  filled = filled way sector (b ++ h.bytes) all old new
+                      (fills_then way sector b h.bytes [] was all old mid new so_far.more (subst (λ (s : ℕ). FillsMore way s h.bytes was all mid new) here more));
+                };
                 taken = length b;
-                puts = subst (λ (x : S). Puts o.contents o.failed before x (take (length b) (b ++ some.bytes))) (sym same)
-                    (subst (λ (xs : List ℕ). Puts o.contents o.failed before between xs) (sym (take-append_seam b some.bytes)) so_far.puts);
+                puts = subst (λ (x : S). Puts o.contents o.failed before x (take (length b) (b ++ h.bytes))) (sym same)
+                    (subst (λ (xs : List ℕ). Puts o.contents o.failed before between xs) (sym (take-append_seam b h.bytes)) so_far.puts);
               };
+              told = λ s bad low. h.part.0 s (elim ((bad_both was h.missing s).0 bad) [
+                | inl early ↦ early
+                | inr late ↦ let from = (inside s late).0 in absurd (omega arith)
+              ]);
+              only = λ s bad. (bad_both was h.missing s).1 (h.part.1 s bad);
               s = h.s;
-              from = omega arith;
-              below = omega arith;
-              is = unnoted_wider way h.s missing old mid new so_far.more.fills.rests h.is;
+              lacks = (bad_both was h.missing h.s).1 (inr h.lacks);
+              from = let from = (inside h.s h.lacks).0 in omega arith;
             })
 
         pub refuses_more : (n : ℕ) → n ≡ sectors → (fault : CommandFault) → RefusesFilledPiece o way (sector + done) n was missing mid new between after fault → RefusesFilled o way sector count missing old new before after fault
         refuses_more n same NoPieceMemory h =
-            until (subst (λ (k : ℕ). FillsUntilUnnoted way (sector + done) k was missing mid new) same h.0) h.1
+            until (subst (λ (k : ℕ). FillsUnnoted way (sector + done) k was missing mid new) same h.0) h.1
         refuses_more n same OutputFault h = (fills_some (subst (λ (k : ℕ). FillsSomeMore way (sector + done) k was missing mid new) same h.0), h.1)
         refuses_more n same fault h = absurd h

@@ -1,21 +1,26 @@
 -- The sectors of two sets in one.
-use Rattle.std.proofs.Common.{◌≡◌, ◌⊎◌, ◌↔◌, inl, inr, ℕ, ◌+◌, ◌<◌, ◌≤◌, ◌^◌, List, [], ◌∷◌, refl, subst, arith}
+use Rattle.std.proofs.Common.{◌≡◌, ◌⊎◌, ◌↔◌, inl, inr, ℕ, ◌+◌, ◌<◌, ◌≤◌, ◌^◌, List, [], ◌∷◌, ◌++◌, refl, sym, subst, arith}
+use Rattle.std.proofs.lemmas.List.Elements.{All-append, All-cons, All-nil}
 use Rattle.md_badblocks.specs.declared.run.Run.{Run}
-use Rattle.md_badblocks.specs.Runs.{IsBad, IsCanonical}
-use Rattle.md_badblocks.proofs.Rising.{bad_below}
+use Rattle.md_badblocks.specs.Runs.{IsBad, IsCanonical, RisesFrom}
+use Rattle.md_read_commands.specs.Filling.{AreFit, HasSomeOf}
 use Rattle.md_read_commands.specs.Serving.{HasBoth}
 
 -- a set to which runs were added, of which the rest is to come
 abbrev pub IsJoinedTo : List Run → List Run → List Run → List Run → Type 0
 IsJoinedTo base runs rest now = (s : ℕ) → (IsBad base s ⊎ IsBad runs s) ↔ (IsBad now s ⊎ IsBad rest s)
 
-pub joined_more : (base runs rest old new : List Run) (run : Run) → IsCanonical (run ∷ rest) → IsJoinedTo base runs (run ∷ rest) old
+-- none that it had is gone
+abbrev pub HasKept : List Run → List Run → Type 0
+HasKept base now = (s : ℕ) → IsBad base s → IsBad now s
+
+pub joined_more : (base runs rest old new : List Run) (run : Run) → run.start + run.len ≤ 2 ^ 54 → IsJoinedTo base runs (run ∷ rest) old
     → ((s : ℕ) → IsBad new s ↔ (IsBad old s ⊎ ((run.start ≤ s) × (s < run.start + run.len) × (s < 2 ^ 54)))) → IsJoinedTo base runs rest new
-joined_more base runs rest old new run canonical before added s = (
+joined_more base runs rest old new run fits before added s = (
   λ either. elim ((before s).0 either) [
     | inl made ↦ inl ((added s).1 (inl made))
     | inr left ↦ elim left [
-      | inl here ↦ inl ((added s).1 (inr (here.0, here.1, bad_below 0 (run ∷ rest) s canonical (inl here))))
+      | inl here ↦ let below = here.1 in inl ((added s).1 (inr (here.0, here.1, omega arith)))
       | inr later ↦ inr later
     ]
   ],
@@ -56,7 +61,51 @@ nothing_more one other none s = (
   λ either. elim either [ inl is ↦ is | inr never ↦ absurd (subst (λ (xs : List Run). IsBad xs s) none never) ],
 )
 
--- one sector of a set that is not empty
-pub some_bad : (runs : List Run) → IsCanonical runs → (runs ≡ [] → ⊥) → (s : ℕ) × IsBad runs s
-some_bad [] canonical some = absurd (some refl)
-some_bad (run ∷ runs) canonical some = let long = canonical.1 in (run.start, inl (omega arith, omega arith))
+pub kept_more : (base old new : List Run) (start len : ℕ) → HasKept base old → ((s : ℕ) → IsBad new s ↔ (IsBad old s ⊎ ((start ≤ s) × (s < start + len) × (s < 2 ^ 54)))) → HasKept base new
+kept_more base old new start len kept added s bad = (added s).1 (inl (kept s bad))
+
+-- there is no memory for the next
+pub joined_in_part : (base runs rest old new : List Run) → new ≡ old → HasKept base old → IsJoinedTo base runs rest old → HasSomeOf base runs new
+joined_in_part base runs rest old new same kept joined =
+    subst (HasSomeOf base runs) (sym same) (kept, λ s bad. (joined s).1 (inl bad))
+
+-- one sector of a list that is not empty
+pub some_bad : (runs : List Run) → AreFit runs → (runs ≡ [] → ⊥) → (s : ℕ) × IsBad runs s
+some_bad [] fit some = absurd (some refl)
+some_bad (run ∷ runs) fit some = let long = (fit 0 run (omega arith)).0 in (run.start, inl (omega arith, omega arith))
+
+-- a set's runs are fit
+fit_from : (low : ℕ) (runs : List Run) → RisesFrom low runs → AreFit runs
+fit_from low [] rises = All-nil (λ run. (0 < run.len) × (run.start + run.len ≤ 2 ^ 54))
+fit_from low (run ∷ runs) rises =
+    All-cons (λ (r : Run). (0 < r.len) × (r.start + r.len ≤ 2 ^ 54)) run runs (rises.1, rises.2) (fit_from (run.start + run.len + 1) runs rises.3)
+
+pub canonical_fit : (runs : List Run) → IsCanonical runs → AreFit runs
+canonical_fit runs canonical = fit_from 0 runs canonical
+
+-- one sector more
+pub fit_more : (runs : List Run) (run : Run) → AreFit runs → 0 < run.len → run.start + run.len ≤ 2 ^ 54 → AreFit (runs ++ run ∷ [])
+fit_more runs run fit some low =
+    let P : Run → Type 0 = λ r. (0 < r.len) × (r.start + r.len ≤ 2 ^ 54) in
+    All-append P runs (run ∷ []) fit (All-cons P run [] (some, low) (All-nil P))
+
+-- a list behind another
+pub bad_both : (one other : List Run) (s : ℕ) → IsBad (one ++ other) s ↔ (IsBad one s ⊎ IsBad other s)
+bad_both [] other s = (λ bad. inr bad, λ either. elim either [ inl never ↦ absurd never | inr bad ↦ bad ])
+bad_both (run ∷ one) other s = (
+  λ bad. elim bad [
+    | inl here ↦ inl (inl here)
+    | inr later ↦ elim ((bad_both one other s).0 later) [ inl is ↦ inl (inr is) | inr is ↦ inr is ]
+  ],
+  λ either. elim either [
+    | inl first ↦ elim first [ inl here ↦ inl here | inr is ↦ inr ((bad_both one other s).1 (inl is)) ]
+    | inr is ↦ inr ((bad_both one other s).1 (inr is))
+  ],
+)
+
+-- of an empty list
+pub none_clear : (runs : List Run) → runs ≡ [] → (sector s : ℕ) → IsBad runs s → s < sector
+none_clear runs none sector s bad = absurd (subst (λ (xs : List Run). IsBad xs s) none bad)
+
+pub none_fit : (runs : List Run) → runs ≡ [] → AreFit runs
+none_fit runs none = subst AreFit (sym none) (All-nil (λ run. (0 < run.len) × (run.start + run.len ≤ 2 ^ 54)))

@@ -92,7 +92,7 @@ module _ {S : Type 0} (s : SinkGhosts S) (readonly : Bool) (sector count : ℕ) 
     not_filled : (fault : CommandFault) → RefusesToFill s readonly sector count missing old new before after fault → AsMany old new
     not_filled NoPieceMemory h = ⊎_elim
         (λ nothing. same h.ready new nothing.unread)
-        (λ until. some_filled h.way sector count missing h.ready new until.put.some)
+        (λ until. some_filled h.way sector count until.missing h.ready new until.put.some)
         h.refused
         ∙ made_ready readonly sector count old h.ready h.way h.readied
     not_filled OutputFault h = some_filled h.way sector count missing h.ready new h.refused.0 ∙ made_ready readonly sector count old h.ready h.way h.readied

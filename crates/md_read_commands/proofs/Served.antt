@@ -1,5 +1,6 @@
 -- An array that is served is only read.
-use Rattle.std.proofs.Common.{◌≡◌, inl, inr, ℕ, ◌+◌, ◌*◌, ◌-◌, ◌/◌, ◌<◌, Bool, true, false, List, [], ◌∷◌, length, refl, sym, ap, subst, arith}
+use Rattle.std.proofs.Common.{◌≡◌, ◌∙◌, ◌⊎◌, inl, inr, ℕ, ◌+◌, ◌*◌, ◌-◌, ◌/◌, ◌%◌, ◌<◌, Bool, true, false, true≢false, List, [], ◌∷◌, length, Result, Ok, Err, refl, sym, ap, subst, arith}
+use Rattle.std.specs.Prelude.{MatchResult, vec_capacity}
 use Rattle.md_badblocks.specs.declared.run.Run.{Run}
 use Rattle.md_badblocks.specs.Runs.{IsBad}
 use Rattle.md_bitmap.specs.declared.chunks.Chunks.{Chunks}
@@ -29,50 +30,18 @@ use Rattle.md_nbd.specs.Server.Sessions.{BreaksSession, EndsSession, is_orderly}
 use Rattle.md_nbd.specs.Server.Transmission.{HasFailed}
 use Rattle.md_read_commands.specs.declared.reader.ArrayReader.{ArrayReader}
 use Rattle.md_read_commands.specs.declared.way.Way.{Way}
-use Rattle.md_read_commands.specs.Filling.{FillsUntilUnnoted, IsFilled, IsFirstMissing}
-use Rattle.md_read_commands.specs.Serving.{LacksSector, ReadsRequest, ServesClient, StopsServing, export_of, reader_store}
-use Rattle.md_read_commands.specs.Ways.{EndsReading}
-use Rattle.md_read_commands.proofs.Filled.{not_noted}
+use Rattle.md_read_commands.specs.Filling.{IsFilled, IsFirstMissing}
+use Rattle.md_read_commands.specs.Ways.{ReadsBy}
+use Rattle.md_nbd.specs.declared.server.store.StoreFault.{StoreFault}
+use Rattle.md_read_commands.proofs.Filled.{filled, read_fills}
+use Rattle.md_read_commands.proofs.Noted.{nothing_more}
+use Rattle.md_read_commands.specs.Serving.{GivesRequest, LacksSector, ReadsRequest, RefusesRequest, ServesClient, StopsServing, export_of, reader_store}
 use Rattle.md_read_commands.proofs.Ways.{reads_rests}
 
 -- ---- a sector that is not given
 pub lacks_rests : (way : Way) (sector sectors : ℕ) (old new : MirrorView) → LacksSector way sector sectors old new → Rests old new
 lacks_rests way sector sectors old new h =
     rests_then old h.asked new h.before (rests_then h.asked h.over new h.within h.after)
-
--- a read ended there
-pub lacks_read : (way : Way) (sector s : ℕ) (piece : List ℕ) (old new : MirrorView) (reason : CommandFault) → IsConsistent old → EndsReading way sector s piece old new reason
-    → (sectors : ℕ) → length piece / 512 ≡ sectors → LacksSector way sector sectors old new
-lacks_read way sector s piece old new reason sound ends sectors many =
-    let h = not_noted old new sound sector s piece way reason ends [] [] refl (λ t bad. absurd bad) in
-    let below = h.below in
-    record {
-      s = h.s;
-      from = h.from;
-      below = omega arith;
-      asked = h.is.asked;
-      over = new;
-      before = h.is.before;
-      within = h.is.within;
-      after = rests_same new;
-      lost = h.is.lost;
-    }
-
--- there was no memory to note it
-pub lacks_unnoted : (way : Way) (sector sectors : ℕ) (was missing : List Run) (old new : MirrorView) → FillsUntilUnnoted way sector sectors was missing old new → LacksSector way sector sectors old new
-lacks_unnoted way sector sectors was missing old new h =
-    let from = h.from in
-    record {
-      s = h.s;
-      from = omega arith;
-      below = h.below;
-      asked = h.is.asked;
-      over = new;
-      before = h.is.before;
-      within = h.is.within;
-      after = rests_same new;
-      lost = h.is.lost;
-    }
 
 -- zeros stand in its place, and it was not noted beside those before
 pub lacks_missing : (way : Way) (sector : ℕ) (bytes : List ℕ) (missing : List Run) (old new : MirrorView) → IsFilled way sector bytes missing old new → (s : ℕ) → IsBad missing s
@@ -97,6 +66,30 @@ lacks_missing way sector bytes missing old new h s bad sectors many =
     }
 
 -- ---- one request
+-- each sector of it was given
+reads_request : (fill : Bool) (way : Way) (sector : ℕ) (bytes : List ℕ) (was : List Run) (old new : MirrorView) → length bytes % 512 ≡ 0 → Rests old new → ReadsBy way sector bytes old new
+    → ReadsRequest way fill sector bytes was was old new
+reads_request true way sector bytes was old new whole rests reads = record {
+  missing = [];
+  filled = filled way sector bytes [] old new (read_fills way sector bytes [] old new whole rests (λ some. reads) (λ s bad. absurd bad));
+  noted = nothing_more was [] refl;
+}
+reads_request false way sector bytes was old new whole rests reads = (reads, refl)
+
+-- it is not filled, or longer than what there is room for
+pub served_given : (r : Result (Unit {0}) StoreFault) (p : ArrayReader) (old new : MirrorView) (sector : ℕ) (bytes : List ℕ) (sectors : ℕ) → length bytes % 512 ≡ 0
+    → (p.fill ≡ false) ⊎ (vec_capacity p.holes < sectors) → Rests old new
+    → MatchResult r (λ _. ReadsBy p.way sector bytes old new) (λ _. LacksSector p.way sector sectors old new)
+    → MatchResult r (λ _. GivesRequest (p, old) (p, new) sector bytes) (λ _. RefusesRequest (p, old) (p, new) sector sectors)
+served_given (Ok x) p old new sector bytes sectors whole why rests reads =
+    (record { way = refl; fill = refl; room = refl }, reads_request p.fill p.way sector bytes p.missing old new whole rests reads)
+served_given (Err e) p old new sector bytes sectors whole why rests lacks = (
+  record { way = refl; fill = refl; room = refl },
+  refl,
+  lacks,
+  λ fills within. elim why [ inl off ↦ absurd (true≢false (sym fills ∙ off)) | inr more ↦ absurd (omega arith) ],
+)
+
 given_rests : (fill : Bool) (way : Way) (sector : ℕ) (bytes : List ℕ) (was now : List Run) (old new : MirrorView) → ReadsRequest way fill sector bytes was now old new → Rests old new
 given_rests true way sector bytes was now old new h = h.filled.fills.rests
 given_rests false way sector bytes was now old new h = reads_rests way sector bytes old new h.0

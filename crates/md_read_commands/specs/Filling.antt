@@ -1,6 +1,7 @@
 -- Sectors of the array are read and put out with zeros in the place of those that are not given: that nobody gives or, of an array that is
 -- not resynced, that the member from which a resync would copy them does not give.
-use Rattle.std.specs.Prelude.{◌≡◌, ◌⊎◌, ◌↔◌, ℕ, ◌+◌, ◌*◌, ◌-◌, ◌/◌, ◌%◌, ◌<◌, ◌≤◌, Bool, true, List, [], length, replicate, take, Option, Some, None, Result, Ok, Err, MatchResult}
+use Rattle.std.specs.List.{All}
+use Rattle.std.specs.Prelude.{◌^◌, ◌≡◌, ◌⊎◌, ◌↔◌, ℕ, ◌+◌, ◌*◌, ◌-◌, ◌/◌, ◌%◌, ◌<◌, ◌≤◌, Bool, true, false, List, [], length, replicate, take, Option, Some, None, Result, Ok, Err, MatchResult}
 use Rattle.md_badblocks.specs.declared.run.Run.{Run}
 use Rattle.md_badblocks.specs.Runs.{IsBad}
 use Rattle.md_device.specs.Device.{held}
@@ -104,6 +105,15 @@ MissesUnserved =
     → (k : ℕ) (m : MemberView) → IsInSync old.array k m
     → Lists m (sector + i) ⊎ HasReadFailed k (sector + i) 1 (fills.asked i) (fills.over i)
 
+-- ---- what is noted
+-- each of these runs has a sector, and all of them are sectors that a set may have
+abbrev pub AreFit : List Run → Type 0
+AreFit runs = All (λ run. (0 < run.len) × (run.start + run.len ≤ 2 ^ 54)) runs
+
+-- a set to which sectors of another were added, all of them or not
+abbrev pub HasSomeOf : List Run → List Run → List Run → Type 0
+HasSomeOf was more now = ((s : ℕ) → IsBad was s → IsBad now s) × ((s : ℕ) → IsBad now s → IsBad was s ⊎ IsBad more s)
+
 -- ---- a part of a longer range
 -- no sector from this one on is missing yet
 abbrev pub IsClear : List Run → ℕ → Type 0
@@ -129,31 +139,16 @@ module _ (way : Way) where
     pub few : length bytes ≤ 512 * count
     pub more : FillsMore sector bytes was missing old new
 
-  -- Sector s was not given either, and there was no memory to note it.
-  pub record IsUnnoted (s : ℕ) (missing : List Run) (old new : MirrorView) : Type 0 where
-    pub asked : MirrorView
-    pub before : Rests old asked
-    pub within : Rests asked new
-    pub lost : IsNotGiven way s asked new
-    pub unnoted : IsBad missing s → ⊥
-
-  -- so it is of one of so many sectors from this one on; no other is noted
-  pub record NotesNone (sector sectors : ℕ) (was missing : List Run) (old new : MirrorView) : Type 0 where
-    pub same : missing ≡ was
-    pub rests : Rests old new
+  -- Sectors were filled, all that were asked for, and which of them are missing was not noted with those before, since there was no memory
+  -- for that: some of them are noted perhaps, and nothing else.
+  pub record FillsUnnoted (sector count : ℕ) (was noted : List Run) (old new : MirrorView) : Type 0 where
+    pub bytes : List ℕ
+    pub few : length bytes ≤ 512 * count
+    pub missing : List Run
+    pub more : FillsMore sector bytes [] missing old new
+    pub part : HasSomeOf was missing noted
     pub s : ℕ
-    pub from : sector ≤ s
-    pub below : s < sector + sectors
-    pub is : IsUnnoted s missing old new
-
-  -- so it is of one after those that were filled
-  pub record FillsUntilUnnoted (sector count : ℕ) (was missing : List Run) (old new : MirrorView)
-      : Type 0 where
-    pub some : FillsSomeMore sector count was missing old new
-    pub s : ℕ
-    pub from : sector + length some.bytes / 512 ≤ s
-    pub below : s < sector + count
-    pub is : IsUnnoted s missing old new
+    pub lacks : IsBad missing s
 
 -- ---- what is put out
 module _ {S : Type 0} (o : Ghosts S) (way : Way) where
@@ -177,14 +172,17 @@ module _ {S : Type 0} (o : Ghosts S) (way : Way) where
     pub unread : new ≡ old
     pub unwritten : after ≡ before
 
-  -- there is none to note that one sector more is missing
-  pub record PutsUntilUnnoted (sector count : ℕ) (missing : List Run) (old new : MirrorView)
+  -- The pieces before one were put out. That one was filled whole too, and there is no memory to note all that is missing of it. Noted is
+  -- what is missing of what was put out, and perhaps more of what is missing.
+  pub record PutsUntilUnnoted (sector count : ℕ) (noted : List Run) (old new : MirrorView)
       (before after : S) : Type 0 where
+    pub missing : List Run
     pub put : PutsSome sector count missing old new before after
+    pub told : (s : ℕ) → IsBad missing s → s < sector + put.taken / 512 → IsBad noted s
+    pub only : (s : ℕ) → IsBad noted s → IsBad missing s
     pub s : ℕ
-    pub from : sector + length put.some.bytes / 512 ≤ s
-    pub below : s < sector + count
-    pub is : IsUnnoted way s missing old new
+    pub lacks : IsBad missing s
+    pub from : sector + put.taken / 512 ≤ s
 
   -- There is no memory, which is taken for a piece and for what is missing alone, or the output failed. No sector that is not given
   -- ends it.
@@ -205,7 +203,7 @@ module _ {S : Type 0} (o : Ghosts S) (way : Way) where
   abbrev pub RefusesFilledPiece : ℕ → ℕ → List Run → List Run → MirrorView → MirrorView → S → S → CommandFault
       → Type 0
   RefusesFilledPiece sector count was missing old new before after NoPieceMemory =
-      FillsUntilUnnoted way sector count was missing old new × (after ≡ before)
+      FillsUnnoted way sector count was missing old new × (after ≡ before)
   RefusesFilledPiece sector count was missing old new before after OutputFault =
       FillsSomeMore way sector count was missing old new × (o.failed after ≡ true)
   RefusesFilledPiece sector count was missing old new before after reason = ⊥
@@ -257,11 +255,19 @@ module _ {S : Type 0} (o : Ghosts S) (readonly : Bool) (sector count : ℕ) (mis
   RefusesToFill (Resync fault) = IsNotReady (Resync fault)
   RefusesToFill fault = ⊥
 
--- which are missing, where all are put out
+-- Which are missing, where sectors were put out: all of them, or those before the end came. So for no sector zeros are put out untold.
 abbrev pub told_missing : List Run → Result (Unit {0}) CommandFault → Option (List Run)
 told_missing missing (Ok _) = Some missing
 told_missing missing (Err (Read (Unreadable s))) = Some missing
+told_missing missing (Err NoPieceMemory) = Some missing
+told_missing missing (Err OutputFault) = Some missing
 told_missing missing (Err fault) = None
+
+-- all sectors are put out, with zeros for those that are missing
+abbrev pub has_put_all : Result (Unit {0}) CommandFault → Bool
+has_put_all (Ok _) = true
+has_put_all (Err (Read (Unreadable s))) = true
+has_put_all (Err fault) = false
 
 module _ {S : Type 0} (o : Ghosts S) (readonly : Bool) (sector count : ℕ) (old new : MirrorView)
     (before after : S) where

@@ -1,5 +1,5 @@
 -- An array is served to a client of the NBD protocol, and only read.
-use Rattle.std.specs.Prelude.{◌≡◌, ◌⊎◌, ◌↔◌, ℕ, ◌+◌, ◌*◌, ◌<◌, ◌≤◌, Bool, true, false, List, [], Result, MatchResult}
+use Rattle.std.specs.Prelude.{◌≡◌, ◌⊎◌, ◌↔◌, ℕ, ◌+◌, ◌*◌, ◌/◌, ◌<◌, ◌≤◌, Bool, true, false, List, [], length, vec_capacity, Result, MatchResult}
 use Rattle.md_badblocks.specs.declared.run.Run.{Run}
 use Rattle.md_badblocks.specs.Runs.{IsBad}
 use Rattle.md_array.specs.Consistency.{IsConsistent}
@@ -16,7 +16,7 @@ use Rattle.md_nbd.specs.declared.server.session.SessionEnd.{SessionEnd}
 use Rattle.md_nbd.specs.declared.server.session.SessionFault.{SessionFault}
 use Rattle.md_nbd.specs.declared.server.session.SessionFault.TheVariants as session
 use Rattle.md_nbd.specs.declared.server.store.Store.{Ghosts as Stores}
-use Rattle.md_nbd.specs.Export.{sector_bytes}
+use Rattle.md_nbd.specs.Export.{most_bytes, sector_bytes}
 use Rattle.md_nbd.specs.Server.Sessions.{BreaksSession, EndsSession, is_orderly}
 use Rattle.md_read_commands.specs.declared.reader.ArrayReader.{ArrayReader}
 use Rattle.md_read_commands.specs.declared.way.Way.{Way}
@@ -49,6 +49,16 @@ module _ (way : Way) where
     pub filled : IsFilled way sector bytes missing old new
     pub noted : HasBoth was missing now
 
+  -- All of so many sectors were filled, with zeros in the place of those that are not given. There are some, and there was no memory to
+  -- note them.
+  pub record FillsUnnotedRequest (sector sectors : ℕ) (old new : MirrorView) : Type 0 where
+    pub bytes : List ℕ
+    pub many : length bytes / 512 ≡ sectors
+    pub missing : List Run
+    pub filled : IsFilled way sector bytes missing old new
+    pub s : ℕ
+    pub lacks : IsBad missing s
+
   -- they were read so, or each sector of them was given
   abbrev pub ReadsRequest : Bool → ℕ → List ℕ → List Run → List Run → MirrorView → MirrorView
       → Type 0
@@ -66,16 +76,20 @@ pub record MayBeServed (way : Way) (v : MirrorView) : Type 0 where
 pub record KeepsWay (old new : ArrayReader) : Type 0 where
   pub way : new.way ≡ old.way
   pub fill : new.fill ≡ old.fill
+  pub room : vec_capacity new.holes ≡ vec_capacity old.holes
 
 abbrev pub GivesRequest : ArrayReader × MirrorView → ArrayReader × MirrorView → ℕ → List ℕ → Type 0
 GivesRequest old new sector bytes =
     KeepsWay old.0 new.0
     × ReadsRequest old.0.way old.0.fill sector bytes old.0.missing new.0.missing old.1 new.1
 
+-- One of the sectors is not given. Where they are to be filled, and there is room for as many, each was: no read that failed ends it, but
+-- that there is no memory to note them.
 abbrev pub RefusesRequest : ArrayReader × MirrorView → ArrayReader × MirrorView → ℕ → ℕ → Type 0
 RefusesRequest old new sector sectors =
     KeepsWay old.0 new.0 × (new.0.missing ≡ old.0.missing)
     × LacksSector old.0.way sector sectors old.1 new.1
+    × (old.0.fill ≡ true → sectors ≤ vec_capacity old.0.holes → FillsUnnotedRequest old.0.way sector sectors old.1 new.1)
 
 -- No write is done, and none is waited for.
 abbrev pub reader_store : Stores ArrayReader MirrorView
@@ -142,6 +156,7 @@ module _ {I S : Type 0} (i : Sources I) (o : Sinks S) (first last : ArrayReader)
 pub record IsFreshReader (fill : Bool) (v : MirrorView) (first : ArrayReader) : Type 0 where
   pub ready : IsReadyTo true 0 v.array.chunks.size v first.way v
   pub fills : first.fill ≡ fill
+  pub room : fill ≡ true → most_bytes / 512 ≤ vec_capacity first.holes
   pub none : first.missing ≡ []
 
 -- The array may not be read so, or there is no memory for its sectors.

@@ -1,24 +1,25 @@
 // Sectors of the array are read and put out piece by piece, with zeros in the place of those that are not given.
-ghost use Rattle.std.specs.Prelude.{◌≡◌, ◌+◌, ◌*◌, ◌/◌, ◌%◌, ◌^◌, ◌<◌, ◌≤◌, [], IfOk, MatchResult, length, min};
+ghost use Rattle.std.specs.Prelude.{◌≡◌, ◌+◌, ◌*◌, ◌/◌, ◌%◌, ◌^◌, ◌<◌, ◌≤◌, [], MatchResult, length, min, vec_capacity, vec_len};
 ghost use Rattle.md_inflight.specs.Requests.Pending.{PendingView};
 ghost use Rattle.md_state.specs.Requests.{IsPending};
 ghost use Rattle.md_array.specs.Consistency.{IsConsistent};
-ghost use Rattle.md_read_commands.specs.Filling.{FillsFront, FillsMore, FillsUntilUnnoted, IsClear, NotesNone, PutsFilled, PutsFilledPiece, RefusesFilled, RefusesFilledPiece};
+ghost use Rattle.md_read_commands.specs.Filling.{AreFit, FillsFront, FillsMore, IsClear, PutsFilled, PutsFilledPiece, RefusesFilled, RefusesFilledPiece};
 ghost use Rattle.md_read_commands.specs.Pieces.{piece_sectors};
 ghost use Rattle.md_read_commands.specs.Ways.{MayReadBy};
 
 use crate::buffer::buffer;
+use crate::noting::add_all;
 use crate::pieces::PIECE_SECTORS;
 use crate::way::{Way, read_by};
 use md_array::Mirror;
-use md_badblocks::BadSet;
+use md_badblocks::{BadSet, Run};
 use md_commands::CommandFault;
 use md_device::Device;
 use md_examine::Sink;
-use std::alloc::{AllocError, Global};
+use std::alloc::Global;
 
 /// Puts out `count` sectors of an array, from this one on, read in this way, through one buffer. Each that is not given is added
-/// to `missing`, and zeros are put out in its place.
+/// to `missing`, and zeros are put out in its place. To read a piece takes no memory, to add what is missing of it may.
 pub(crate) fn put_filled<D: Device + Drop, S: Sink>(
     alloc: Global,
     mirror: &mut Mirror<D>,
@@ -39,20 +40,26 @@ pub(crate) fn put_filled<D: Device + Drop, S: Sink>(
     ensures pending { (p : PendingView) → IsPending mirror.old.array p → IsPending mirror.new.array p }
 {
     let mut piece = buffer(alloc, count.min(PIECE_SECTORS))?;
-    put_filled_pieces(mirror, way, sector, count, &mut piece, missing, out)
+    let mut holes = Vec::with_capacity(alloc, PIECE_SECTORS as usize)?;
+    put_filled_pieces(
+        mirror, way, sector, count, &mut piece, &mut holes, missing, out,
+    )
 }
 
-// Puts them out through this buffer, of a piece, or of all of them where these are fewer.
+// Puts them out through this buffer, of a piece, or of all of them where these are fewer. `holes` is room for those of a piece that are
+// not given.
 fn put_filled_pieces<D: Device + Drop, S: Sink>(
     mirror: &mut Mirror<D>,
     way: Way,
     sector: u64,
     count: u64,
     buffer: &mut [u8],
+    holes: &mut Vec<Run>,
     missing: &mut BadSet,
     out: &mut S,
 ) -> Result<(), CommandFault>
     requires room { length buffer.old ≡ 512 * min count piece_sectors }
+    requires holes { piece_sectors ≤ vec_capacity holes.old }
     requires may { MayReadBy way mirror.old.array sector count }
     requires fits { sector + count < 2 ^ 64 }
     requires sound { IsConsistent mirror.old }
@@ -71,6 +78,7 @@ fn put_filled_pieces<D: Device + Drop, S: Sink>(
             way,
             sector + done,
             &mut buffer[..512 * sectors as usize],
+            holes,
             missing,
             out,
         )?;
@@ -80,16 +88,18 @@ fn put_filled_pieces<D: Device + Drop, S: Sink>(
     Ok(())
 }
 
-// Fills a piece and puts it out.
+// Fills a piece, adds what is missing of it, and puts it out.
 fn put_filled_piece<D: Device + Drop, S: Sink>(
     mirror: &mut Mirror<D>,
     way: Way,
     sector: u64,
     piece: &mut [u8],
+    holes: &mut Vec<Run>,
     missing: &mut BadSet,
     out: &mut S,
 ) -> Result<(), CommandFault>
     requires whole { length piece.old % 512 ≡ 0 }
+    requires holes { length piece.old / 512 ≤ vec_capacity holes.old }
     requires may { MayReadBy way mirror.old.array sector (length piece.old / 512) }
     requires sound { IsConsistent mirror.old }
     requires clear { IsClear missing.old sector }
@@ -98,31 +108,37 @@ fn put_filled_piece<D: Device + Drop, S: Sink>(
         out.old out.new)
         (RefusesFilledPiece S.Sink way sector (length piece.old / 512) missing.old missing.new
         mirror.old mirror.new out.old out.new) }
+    ensures holes { vec_capacity holes.new ≡ vec_capacity holes.old }
     ensures sound { IsConsistent mirror.new }
     ensures pending { (p : PendingView) → IsPending mirror.old.array p → IsPending mirror.new.array p }
 {
-    fill_piece(mirror, way, sector, piece, missing)?;
+    holes.clear();
+    fill_piece(mirror, way, sector, piece, holes);
+    add_all(missing, holes)?;
     out.put(piece)?;
     Ok(())
 }
 
-/// Fills a piece with what is read, and zeros in the place of each sector that is not given. The next read after such a sector
-/// asks for one alone, and each that is given doubles it: so in a long bad area each sector is tried once on each member.
+/// Fills a piece with what is read, and zeros in the place of each sector that is not given, which is added to `holes`. The next read
+/// after such a sector asks for one alone, and each that is given doubles it: so in a long bad area each sector is tried once on
+/// each member.
 pub(crate) fn fill_piece<D: Device + Drop>(
     mirror: &mut Mirror<D>,
     way: Way,
     sector: u64,
     piece: &mut [u8],
-    missing: &mut BadSet,
-) -> Result<(), AllocError>
+    holes: &mut Vec<Run>,
+)
     requires whole { length piece.old % 512 ≡ 0 }
+    requires room { vec_len holes.old + length piece.old / 512 ≤ vec_capacity holes.old }
     requires may { MayReadBy way mirror.old.array sector (length piece.old / 512) }
     requires sound { IsConsistent mirror.old }
-    requires clear { IsClear missing.old sector }
-    ensures gives { MatchResult result
-        (λ _. FillsMore way sector piece.new missing.old missing.new mirror.old mirror.new)
-        (λ _. FillsUntilUnnoted way sector (length piece.old / 512) missing.old missing.new
-        mirror.old mirror.new) }
+    requires clear { IsClear holes.old.items sector }
+    requires fit { AreFit holes.old.items }
+    ensures gives { FillsMore way sector piece.new holes.old.items holes.new.items
+        mirror.old mirror.new }
+    ensures room { vec_capacity holes.new ≡ vec_capacity holes.old }
+    ensures fit { AreFit holes.new.items }
     ensures sound { IsConsistent mirror.new }
     ensures pending { (p : PendingView) → IsPending mirror.old.array p → IsPending mirror.new.array p }
 {
@@ -132,11 +148,10 @@ pub(crate) fn fill_piece<D: Device + Drop>(
     while done < sectors {
         let end = done + most.min(sectors - done);
         let at = sector + done as u64;
-        let filled = fill_front(mirror, way, at, &mut piece[512 * done..512 * end], missing)?;
+        let filled = fill_front(mirror, way, at, &mut piece[512 * done..512 * end], holes);
         done += filled.sectors;
         most = filled.most;
     }
-    Ok(())
 }
 
 // How many sectors were filled, and how many are to be asked for next.
@@ -152,37 +167,42 @@ fn fill_front<D: Device + Drop>(
     way: Way,
     sector: u64,
     bytes: &mut [u8],
-    missing: &mut BadSet,
-) -> Result<Filled, AllocError>
+    holes: &mut Vec<Run>,
+) -> Filled
     requires whole { length bytes.old % 512 ≡ 0 }
+    requires room { vec_len holes.old < vec_capacity holes.old }
     requires may { MayReadBy way mirror.old.array sector (length bytes.old / 512) }
     requires sound { IsConsistent mirror.old }
-    requires clear { IsClear missing.old sector }
-    ensures gives { MatchResult result
-        (λ filled. FillsFront way sector filled.sectors bytes.new missing.old missing.new
-        mirror.old mirror.new)
-        (λ _. NotesNone way sector (length bytes.old / 512) missing.old missing.new
-        mirror.old mirror.new) }
-    ensures next { IfOk result (λ filled. 0 < filled.most) }
+    requires clear { IsClear holes.old.items sector }
+    requires fit { AreFit holes.old.items }
+    ensures gives { FillsFront way sector result.sectors bytes.new holes.old.items holes.new.items
+        mirror.old mirror.new }
+    ensures next { 0 < result.most }
+    ensures more { vec_len holes.new ≤ vec_len holes.old + 1 }
+    ensures room { vec_capacity holes.new ≡ vec_capacity holes.old }
+    ensures fit { AreFit holes.new.items }
     ensures sound { IsConsistent mirror.new }
     ensures pending { (p : PendingView) → IsPending mirror.old.array p → IsPending mirror.new.array p }
 {
     match read_by(mirror, way, sector, bytes) {
         Ok(()) => {
             let sectors = bytes.len() / 512;
-            Ok(Filled {
+            Filled {
                 sectors,
                 most: 2 * sectors,
-            })
+            }
         }
         Err(unread) => {
-            missing.add(unread.sector, 1)?;
+            holes.push_reserved(Run {
+                start: unread.sector,
+                len: 1,
+            });
             let given = (unread.sector - sector) as usize;
             bytes[512 * given..512 * given + 512].fill(0);
-            Ok(Filled {
+            Filled {
                 sectors: given + 1,
                 most: 1,
-            })
+            }
         }
     }
 }

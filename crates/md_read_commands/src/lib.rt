@@ -24,5 +24,5 @@ mod reading;
 mod serving;
 mod way;
 
-pub use reading::{read_array, read_array_filled, read_array_readonly};
+pub use reading::{has_put_all, read_array, read_array_filled, read_array_readonly};
 pub use serving::serve_array;

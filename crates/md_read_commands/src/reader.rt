@@ -1,15 +1,15 @@
 // An array as a store of sectors that are only read.
-ghost use Rattle.std.specs.Prelude.{◌≡◌, ◌/◌, ◌%◌, MatchResult, length};
+ghost use Rattle.std.specs.Prelude.{◌≡◌, ◌/◌, ◌%◌, ◌≤◌, IfErr, MatchResult, length, vec_capacity};
 ghost use Rattle.md_array.specs.Consistency.{IsConsistent};
 ghost use Rattle.md_state.specs.Rests.{Rests};
-ghost use Rattle.md_read_commands.specs.Serving.{FillsRequest, LacksSector};
+ghost use Rattle.md_read_commands.specs.Serving.{FillsRequest, FillsUnnotedRequest, LacksSector};
 ghost use Rattle.md_read_commands.specs.Ways.{MayReadBy, ReadsBy};
 
 use crate::filling::fill_piece;
 use crate::noting::note_all;
 use crate::way::{Way, read_by};
 use md_array::Mirror;
-use md_badblocks::BadSet;
+use md_badblocks::{BadSet, Run};
 use md_device::Device;
 use md_nbd::{Store, StoreFault};
 use std::alloc::{AllocError, Global};
@@ -22,6 +22,8 @@ pub(crate) struct ArrayReader {
     /// Whether zeros are given in the place of sectors that are not.
     pub(crate) fill: bool,
     pub(crate) missing: BadSet,
+    /// Room for those sectors of a request that are not given.
+    pub(crate) holes: Vec<Run>,
 }
 
 // Reads the sectors of a request, if each of them is given.
@@ -47,30 +49,32 @@ fn read_given<D: Device + Drop>(
 }
 
 // Reads them with zeros in the place of those that are not given, which are noted: all of them, or none where there is no memory
-// for that.
+// for that. Only that ends it with a fault, once all are read.
 fn read_filled<D: Device + Drop>(
     alloc: Global,
     mirror: &mut Mirror<D>,
     way: Way,
     sector: u64,
     buf: &mut [u8],
+    holes: &mut Vec<Run>,
     noted: &mut BadSet,
 ) -> Result<(), StoreFault>
     requires whole { length buf.old % 512 ≡ 0 }
+    requires room { length buf.old / 512 ≤ vec_capacity holes.old }
     requires may { MayReadBy way mirror.old.array sector (length buf.old / 512) }
     requires sound { IsConsistent mirror.old }
     ensures gives { MatchResult result
         (λ _. FillsRequest way sector buf.new noted.old noted.new mirror.old mirror.new)
-        (λ _. LacksSector way sector (length buf.old / 512) mirror.old mirror.new
+        (λ _. FillsUnnotedRequest way sector (length buf.old / 512) mirror.old mirror.new
         × (noted.new ≡ noted.old)) }
+    ensures lacks { IfErr result (λ _. LacksSector way sector (length buf.old / 512) mirror.old mirror.new) }
+    ensures room { vec_capacity holes.new ≡ vec_capacity holes.old }
     ensures rests { Rests mirror.old mirror.new }
     ensures sound { IsConsistent mirror.new }
 {
-    let mut missing = BadSet::new(alloc);
-    let Ok(()) = fill_piece(mirror, way, sector, buf, &mut missing) else {
-        return Err(StoreFault);
-    };
-    match note_all(alloc, noted, &missing) {
+    holes.clear();
+    fill_piece(mirror, way, sector, buf, holes);
+    match note_all(alloc, noted, holes) {
         Ok(()) => Ok(()),
         Err(AllocError) => Err(StoreFault),
     }
@@ -103,8 +107,9 @@ impl<D: Device + Drop> Store<Mirror<D>> for ArrayReader {
         buf: &mut [u8],
     ) -> Result<(), StoreFault> {
         let (alloc, way) = (self.alloc, self.way);
-        if self.fill {
-            return read_filled(alloc, lent, way, sector, buf, &mut self.missing);
+        if self.fill && buf.len() / 512 <= self.holes.capacity() {
+            let (holes, missing) = (&mut self.holes, &mut self.missing);
+            return read_filled(alloc, lent, way, sector, buf, holes, missing);
         }
         read_given(lent, way, sector, buf)
     }

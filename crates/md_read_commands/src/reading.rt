@@ -3,7 +3,7 @@ ghost use Rattle.std.specs.Prelude.{◌≡◌, ◌+◌, ◌^◌, ◌<◌, IfOk, 
 ghost use Rattle.md_inflight.specs.Requests.Pending.{PendingView};
 ghost use Rattle.md_state.specs.Requests.{IsPending};
 ghost use Rattle.md_array.specs.Consistency.{IsConsistent};
-ghost use Rattle.md_read_commands.specs.Filling.{FillsArray, IsFirstMissing, ReadsFilled, RefusesToFill};
+ghost use Rattle.md_read_commands.specs.Filling.{FillsArray, IsFirstMissing, ReadsFilled, RefusesToFill, has_put_all};
 ghost use Rattle.md_read_commands.specs.Reading.{IsReadyTo, MayReadArray, ReadsArray, ReadsReadonly, RefusesRange, RefusesReadonly, RefusesReady, RefusesToRead};
 ghost use Rattle.md_read_commands.specs.Ways.{MayReadBy};
 
@@ -78,11 +78,12 @@ pub fn read_array_readonly<D: Device + Drop, S: Sink>(
 
 /// Puts out `count` sectors of an array, from this one on, as `read_array` does or, where no image may be changed, as
 /// `read_array_readonly`. But a sector at which these would end, for whichever reason, does not end it: zeros are put out in its
-/// place. Where all sectors are put out, those that are missing so come back.
+/// place. Those that are missing so come back, whatever ends it once sectors may be put out.
 ///
 /// `Read` with `Unreadable` says that there are some, and which is the first. All sectors are put out then.
 ///
-/// `NoPieceMemory` may also come after some were put out: each run of missing sectors takes memory.
+/// `NoPieceMemory` may also come after some were put out: each run of missing sectors takes memory. There and at `OutputFault`
+/// those of the last piece come back too, though not all of it was put out.
 ///
 ///     let mut out = Output::new(rt.stdout());
 ///     let (missing, done) = read_array_filled(rt.alloc(), &mut mirror, 8, 2, true, &mut out); // puts out 1024 bytes
@@ -107,7 +108,19 @@ pub fn read_array_filled<D: Device + Drop, S: Sink>(
             let fault = CommandFault::Read(UnreadFault::Unreadable(s));
             (Some(missing), Err(fault))
         }
+        Err(CommandFault::NoPieceMemory) => (Some(missing), Err(CommandFault::NoPieceMemory)),
+        Err(CommandFault::OutputFault) => (Some(missing), Err(CommandFault::OutputFault)),
         Err(fault) => (None, Err(fault)),
+    }
+}
+
+/// Whether a read that fills has put out all sectors, by its answer.
+pub fn has_put_all(answer: &Result<(), CommandFault>) -> bool
+    ensures { result ≡ has_put_all answer.now }
+{
+    match answer {
+        Ok(()) | Err(CommandFault::Read(UnreadFault::Unreadable(_))) => true,
+        Err(_) => false,
     }
 }
 

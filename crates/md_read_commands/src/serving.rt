@@ -26,7 +26,7 @@ const MOST_SECTORS: u64 = MOST_BYTES as u64 / 512;
 /// `fill`, with zeros in the place of such sectors, which come back. They take memory, and where there is none the answer is EIO.
 ///
 /// That the mirror is halted, or members in sync may differ, is looked for before memory for a request's sectors is taken, which
-/// is 32 MiB, and that before the client is greeted.
+/// is 32 MiB, and with `fill` 1 MiB more, and that before the client is greeted.
 ///
 /// `InputFault` says that the input failed, or that the client did not go between two messages, `OutputFault` that the output
 /// failed. `Read` with `Unreadable` says that zeros were given, and the first sector for which they were: the client has gone in
@@ -70,11 +70,14 @@ fn begin<D: Device + Drop>(
 {
     let way = way_as_it_is(mirror, 0, mirror.chunks().size)?;
     let room = buffer(alloc, MOST_SECTORS)?;
+    let most = if fill { MOST_SECTORS as usize } else { 0 };
+    let holes = Vec::with_capacity(alloc, most)?;
     let reader = ArrayReader {
         alloc,
         way,
         fill,
         missing: BadSet::new(alloc),
+        holes,
     };
     Ok((reader, room))
 }

@@ -119,12 +119,19 @@ fn main(rt: HostRuntime) -> ExitCode {
         watch: &progress,
         asker: Prompt::new(&rt, &progress, person),
         missing: None,
+        is_all_out: false,
     };
     let status = run(&mut session, words, parsed, &mut images, &mut err, messages);
     progress.clear();
-    let Session { out, missing, .. } = session;
+    let Session {
+        out,
+        missing,
+        is_all_out,
+        ..
+    } = session;
     let is_ended = is_file_ended(out.into_inner().into_inner(), output, messages, &mut err);
-    let is_map_made = is_map_made(&rt, map, missing, messages, &mut err);
+    let of_all = if is_all_out { missing } else { None };
+    let is_map_made = is_map_made(&rt, map, of_all, messages, &mut err);
     if !is_ended || !is_map_made {
         return ExitCode::from(REFUSED);
     }

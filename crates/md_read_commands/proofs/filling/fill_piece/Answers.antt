@@ -1,9 +1,9 @@
-use Rattle.std.proofs.Common.{rules, Err, ◌≡◌, ◌∙◌, ◌+◌, ◌*◌, ◌-◌, ◌/◌, ◌<◌, ◌≤◌, ℕ, List, length, drop, take, min, refl, subst, arith, length-drop}
+use Rattle.std.proofs.Common.{◌≡◌, ◌∙◌, ◌+◌, ◌*◌, ◌-◌, ◌/◌, ◌<◌, ◌≤◌, ℕ, List, length, drop, take, min, refl, subst, arith, length-drop}
 use Rattle.std.proofs.lemmas.List.{length-take-le}
 use Rattle.md_laws.proofs.Runs.Rests.{rests_same}
 use Rattle.md_read.proofs.SectorsGiven.{length-replaced}
 use Rattle.md_read_commands.specs.Ways.{MayReadBy}
-use Rattle.md_read_commands.proofs.Filled.{clear_there, fills_nothing, front_more, piece_filled, size_fits, until_unnoted}
+use Rattle.md_read_commands.proofs.Filled.{clear_there, fills_nothing, front_more, piece_filled, size_fits}
 use Rattle.md_read_commands.proofs.Ways.{may_read_part}
 use Rattle.md_read_commands.proofs.filling.fill_piece.Goals as goal
 
@@ -18,12 +18,15 @@ as_asked piece done end before within =
 
 pub loop-done-init : goal.loop-done-init
 loop-done-init g c = record {
-  more = fills_nothing c.args.way c.args.sector c.args.missing.now c.args.mirror.now c.args.mirror.now (rests_same c.args.mirror.now);
+  more = fills_nothing c.args.way c.args.sector c.args.holes.now.items c.args.mirror.now c.args.mirror.now (rests_same c.args.mirror.now);
   sound = c.requires.sound;
   array = refl;
   long = refl;
   few = omega arith;
   some = λ some. omega arith;
+  most = omega arith;
+  room = refl;
+  fit = c.requires.fit;
 }
 
 pub overflow_add-at : goal.overflow_add-at
@@ -34,8 +37,8 @@ overflow_add-at g c =
     let fits = size_fits c.args.mirror.now c.requires.sound may.running in
     omega arith
 
-pub fill_front-requires-clause-whole : goal.fill_front-requires-clause-whole
-fill_front-requires-clause-whole g c =
+pub fill_front-filled-requires-clause-whole : goal.fill_front-filled-requires-clause-whole
+fill_front-filled-requires-clause-whole g c =
     let so_far = c.loop-done.invariant in
     let before = c.loop-done-test.true in
     let same = so_far.long in
@@ -43,8 +46,17 @@ fill_front-requires-clause-whole g c =
     let long = as_asked c.loop-done.piece c.loop-done.done (c.loop-done.done + c.min.result) is.0 is.1 in
     omega arith
 
-pub fill_front-requires-clause-may : goal.fill_front-requires-clause-may
-fill_front-requires-clause-may g c =
+pub fill_front-filled-requires-clause-room : goal.fill_front-filled-requires-clause-room
+fill_front-filled-requires-clause-room g c =
+    let so_far = c.loop-done.invariant in
+    let before = c.loop-done-test.true in
+    let so_many = so_far.most in
+    let as_much = so_far.room in
+    let room = c.requires.room in
+    omega arith
+
+pub fill_front-filled-requires-clause-may : goal.fill_front-filled-requires-clause-may
+fill_front-filled-requires-clause-may g c =
     let so_far = c.loop-done.invariant in
     let before = c.loop-done-test.true in
     let same = so_far.long in
@@ -59,12 +71,12 @@ fill_front-requires-clause-may g c =
     subst (λ (n : ℕ). MayReadBy c.args.way c.loop-done.mirror.array (c.args.sector + done) n) many
     (may_read_part c.args.way c.args.mirror.now.array c.loop-done.mirror.array so_far.array c.args.sector (length c.args.piece.now / 512) done (end - done) c.requires.may (omega arith) (omega arith))
 
-pub fill_front-requires-clause-clear : goal.fill_front-requires-clause-clear
-fill_front-requires-clause-clear g c =
+pub fill_front-filled-requires-clause-clear : goal.fill_front-filled-requires-clause-clear
+fill_front-filled-requires-clause-clear g c =
     let so_far = c.loop-done.invariant in
     let same = so_far.long in
     let few = so_far.few in
-    clear_there c.args.way c.args.sector c.loop-done.piece c.loop-done.done (omega arith) c.args.missing.now c.loop-done.missing c.args.mirror.now c.loop-done.mirror so_far.more c.requires.clear
+    clear_there c.args.way c.args.sector c.loop-done.piece c.loop-done.done (omega arith) c.args.holes.now.items c.loop-done.holes.items c.args.mirror.now c.loop-done.mirror so_far.more c.requires.clear
 
 pub loop-done-preserved : goal.loop-done-preserved
 loop-done-preserved g c =
@@ -73,46 +85,33 @@ loop-done-preserved g c =
     let same = so_far.long in
     let old = c.args.mirror.now in
     let mid = c.loop-done.mirror in
-    let new = c.fill_front.new.mirror in
+    let new = c.fill_front-filled.new.mirror in
     let done = c.loop-done.done in
     let piece = c.loop-done.piece in
-    let part = c.fill_front.new.bytes in
+    let part = c.fill_front-filled.new.bytes in
     let end : ℕ = done + c.min.result in
     let is = asked piece done c.loop-done.most end (omega arith) (so_far.some (omega arith)) (let least = c.min.ensures in omega arith) in
     let long = as_asked piece done end is.0 is.1 in
-    let as_long : length part ≡ 512 * (end - done) = c.fill_front.auto.bytes ∙ long in
-    let front = c.in_ok-filled.ensures.gives in
+    let as_long : length part ≡ 512 * (end - done) = c.fill_front-filled.auto.bytes ∙ long in
+    let front = c.fill_front-filled.ensures.gives in
     let few = front.few in
     let some = is.0 in
     let within = is.1 in
     record {
-      more = front_more c.args.way c.args.sector piece done (omega arith) c.args.missing.now c.loop-done.missing old mid so_far.more c.fill_front.new.missing new (512 * done) (512 * end - 512 * done) c.in_ok-filled.filled.sectors part refl front;
-      sound = c.in_ok-filled.ensures.sound;
+      more = front_more c.args.way c.args.sector piece done (omega arith) c.args.holes.now.items c.loop-done.holes.items old mid so_far.more c.fill_front-filled.new.holes.items new (512 * done) (512 * end - 512 * done) c.fill_front-filled.result.sectors part refl front;
+      sound = c.fill_front-filled.ensures.sound;
       array = front.more.fills.rests.array ∙ so_far.array;
       long = length-replaced (512 * done) (512 * end - 512 * done) piece part (omega arith) (omega arith) (omega arith) ∙ same;
       few = omega arith;
-      some = λ more. c.in_ok-filled.ensures.next;
+      some = λ more. c.fill_front-filled.ensures.next;
+      most =
+          let so_many = so_far.most in
+          let one = c.fill_front-filled.ensures.more in
+          let at_least = front.some in
+          omega arith;
+      room = c.fill_front-filled.ensures.room ∙ so_far.room;
+      fit = c.fill_front-filled.ensures.fit;
     }
-
-pub returns-in_err-filled-clause-gives : goal.returns-in_err-filled-clause-gives
-returns-in_err-filled-clause-gives g c =
-    let so_far = c.loop-done.invariant in
-    let before = c.loop-done-test.true in
-    let same = so_far.long in
-    let few = so_far.few in
-    let all = c.requires.whole in
-    let piece = c.loop-done.piece in
-    let done = c.loop-done.done in
-    let end : ℕ = done + c.min.result in
-    let is = asked piece done c.loop-done.most end (omega arith) (so_far.some (omega arith)) (let least = c.min.ensures in omega arith) in
-    let long = as_asked piece done end is.0 is.1 in
-    let within = is.1 in
-    let some = is.0 in
-    let fault = c.in_err-filled.field-0.0 in
-    let passed : c.from_residual.result ≡ Err fault = search rules in
-    rw passed
-    (until_unnoted c.args.way c.args.sector piece done (omega arith) c.args.missing.now c.loop-done.missing c.args.mirror.now c.loop-done.mirror so_far.more c.fill_front.new.missing c.fill_front.new.mirror
-    (length c.args.piece.now / 512) (length (take (512 * end - 512 * done) (drop (512 * done) piece)) / 512) (omega arith) (omega arith) c.in_err-filled.ensures.gives)
 
 pub returns-clause-gives : goal.returns-clause-gives
 returns-clause-gives g c =
@@ -121,4 +120,4 @@ returns-clause-gives g c =
     let few = so_far.few in
     let past = c.loop-done-test.false in
     let all = c.requires.whole in
-    piece_filled c.args.way c.args.sector c.loop-done.piece c.loop-done.done (omega arith) c.args.missing.now c.loop-done.missing c.args.mirror.now c.loop-done.mirror so_far.more (omega arith)
+    piece_filled c.args.way c.args.sector c.loop-done.piece c.loop-done.done (omega arith) c.args.holes.now.items c.loop-done.holes.items c.args.mirror.now c.loop-done.mirror so_far.more (omega arith)

@@ -19,6 +19,7 @@ loop-done-init g c = record {
   array = refl;
   long = refl;
   few = omega arith;
+  holes = refl;
 }
 
 pub overflow_add-sector : goal.overflow_add-sector
@@ -31,6 +32,15 @@ pub put_filled_piece-requires-clause-whole : goal.put_filled_piece-requires-clau
 put_filled_piece-requires-clause-whole g c =
     let is = piece_of c.loop-done.buffer c.loop-done.done c.args.count c.min-sectors.result c.loop-done-test.true (c.loop-done.invariant.long ∙ c.requires.room) c.min-sectors.ensures in
     let long = is.2 in
+    omega arith
+
+pub put_filled_piece-requires-clause-holes : goal.put_filled_piece-requires-clause-holes
+put_filled_piece-requires-clause-holes g c =
+    let is = piece_of c.loop-done.buffer c.loop-done.done c.args.count c.min-sectors.result c.loop-done-test.true (c.loop-done.invariant.long ∙ c.requires.room) c.min-sectors.ensures in
+    let long = is.2 in
+    let as_much = c.loop-done.invariant.holes in
+    let room = c.requires.holes in
+    let least = c.min-sectors.ensures in
     omega arith
 
 pub put_filled_piece-requires-clause-may : goal.put_filled_piece-requires-clause-may
@@ -70,6 +80,7 @@ loop-done-preserved g c =
       array = puts.more.fills.rests.array ∙ so_far.array;
       long = length-append piece (drop (512 * sectors) buffer) ∙ (omega arith);
       few = omega arith;
+      holes = c.in_ok-put_filled_piece.ensures.holes ∙ so_far.holes;
     }
 
 pub returns-in_err-put_filled_piece-clause-gives : goal.returns-in_err-put_filled_piece-clause-gives

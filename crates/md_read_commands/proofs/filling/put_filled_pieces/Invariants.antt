@@ -1,4 +1,5 @@
 use Rattle.std.proofs.Common.{◌≡◌, ◌-◌, ◌≤◌, length}
+use Rattle.std.specs.Prelude.{vec_capacity}
 use Rattle.md_array.specs.Consistency.{IsConsistent}
 use Rattle.md_read_commands.proofs.FilledPut.{FilledSoFar}
 use Rattle.md_read_commands.proofs.filling.put_filled_pieces.Given as goal
@@ -13,4 +14,5 @@ invariant-loop-done g l = record {
   array : l.mirror.array ≡ l.fn.mirror.array;
   long : length l.buffer ≡ length l.fn.buffer;
   few : l.done ≤ l.count;
+  holes : vec_capacity l.holes ≡ vec_capacity l.fn.holes;
 }

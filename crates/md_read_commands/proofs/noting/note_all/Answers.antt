@@ -7,9 +7,8 @@ pub returns-in_err-both : goal.returns-in_err-both
 returns-in_err-both c =
     let fault = c.in_err-both.field-0.0 in
     let passed : c.from_residual.result ≡ Err fault = search rules in
-    let are = c.runs.ensures.runs in
     rw passed (
       refl,
-      some_bad c.args.missing.now c.runs.ensures.canonical
-          (λ none. true≢false (sym (c.is_empty.ensures ∙ ap (λ (l : List Run). length l == 0) (are ∙ none)) ∙ c.if-is_empty.false)),
+      some_bad c.args.missing.now c.requires.fit
+          (λ none. true≢false (sym (c.is_empty.ensures ∙ ap (λ (l : List Run). length l == 0) none) ∙ c.if-is_empty.false)),
     )

@@ -1,0 +1,7 @@
+use Rattle.std.proofs.Common.{subst, sym}
+use Rattle.md_badblocks.specs.Runs.{IsCanonical}
+use Rattle.md_read_commands.proofs.Noted.{canonical_fit}
+use Rattle.md_read_commands.proofs.noting.join_sets.Goals as goal
+
+pub add_all-requires : goal.add_all-requires
+add_all-requires c = record { fit = canonical_fit c.runs.result.now (subst IsCanonical (sym c.runs.ensures.runs) c.runs.ensures.canonical) }
