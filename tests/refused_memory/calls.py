@@ -126,7 +126,7 @@ ANSWERS = {
     "md_read_commands::serve_array": "serve --readonly",
     "md_serve_commands::serve_writable": "serve",
     # Whoever has no memory for it goes on, and says that nobody looked.
-    "md_notices::find_signatures": "add, unseen",
+    "md_notices::signature_list": "add, unseen",
 }
 
 # A command that answers `NoMemory' and is refused with all memory, later than another one that makes the calls before this one alone: so

@@ -40,6 +40,6 @@ pub use noticing::{
     roles_unnamed, states_of,
 };
 pub use parting::{first_in_sync, is_parted, was_apart};
-pub use signatures::{Look, SIGNATURES, Signature, find_signatures};
+pub use signatures::{Look, SIGNATURES, Signature, find_signatures, signature_list};
 pub use standing_lines::standing_line;
 pub use unnamed::unnamed_in;

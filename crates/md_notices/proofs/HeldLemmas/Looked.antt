@@ -1,11 +1,10 @@
 -- Devices that are looked at one by one.
 use Rattle.md_device.specs.declared.device.Device.{Ghosts}
-use Rattle.std.proofs.Common.{◌≡◌, ◌≢◌, ◌∙◌, ◌+◌, ◌<◌, ◌≤◌, ◌++◌, ◌∷◌, [], ℕ, zero, suc, List, length, map, set, get_or, Some, refl, sym, ap, subst, inl, inr, arith, length-set, length-append, option_map}
+use Rattle.std.proofs.Common.{◌≡◌, ◌≢◌, ◌∙◌, ◌+◌, ◌<◌, ◌≤◌, ◌++◌, ◌∷◌, [], ℕ, zero, suc, List, length, map, set, Some, refl, sym, ap, subst, inl, inr, arith, length-set, length-append, option_map}
 use Rattle.std.specs.Prelude.{slice_get, slice_index_or}
 use Rattle.std.proofs.lemmas.Option.{same_Some, slice_get-get_or, slice_get-map, slice_get_within}
 use Rattle.std.proofs.lemmas.List.{map-set}
-use Rattle.md_notices.specs.Signatures.Reading.{IsOnlySearched}
-use Rattle.md_state.specs.View.{Disk, disk_of, of_disks}
+use Rattle.md_state.specs.View.{Disk, disk_of}
 use Rattle.md_notices.specs.declared.held.held.Held.{Held}
 use Rattle.md_notices.specs.Held.Holding.{LooksAtEach, LooksAtOne, LooksAtPlace}
 use Rattle.md_kept_members.proofs.Members.Indices.{cases_more}

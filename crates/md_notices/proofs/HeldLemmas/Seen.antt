@@ -1,5 +1,5 @@
 -- A device of which no superblock was read, and whose signatures are looked for then.
-use Rattle.std.proofs.Common.{◌≡◌, ◌≢◌, ◌⊎◌, ◌∙◌, ◌<◌, ◌≤◌, ℕ, Bool, List, ◌∷◌, [], length, true, false, inl, inr, sym, ap, arith, subst}
+use Rattle.std.proofs.Common.{◌≡◌, ◌≢◌, ◌⊎◌, ◌∙◌, ◌<◌, ℕ, Bool, List, length, true, false, inl, inr, sym, ap, arith, subst}
 use Rattle.std.specs.List.{filter}
 use Rattle.md_device.specs.declared.fault_list.Fault.{Fault}
 use Rattle.md_device.proofs.Failing.{fails_still}
@@ -13,7 +13,7 @@ use Rattle.md_notices.specs.Signatures.Reading.{IsOnlySearched}
 use Rattle.md_state.specs.View.{Disk, of_disks}
 use Rattle.md_notices.specs.declared.held.held.Held.{Held}
 use Rattle.md_notices.specs.declared.held.held.Held.TheVariants.{Nothing, Unseen, Unread, Member, Signed}
-use Rattle.md_notices.specs.Held.Holding.{BearsFirst, HasNoSuper, IsToldOfDevice, HoldsSigned, LacksSuper, MissesEach, borne}
+use Rattle.md_notices.specs.Held.Holding.{HasNoSuper, IsToldOfDevice, HoldsSigned, LacksSuper, MissesEach, borne}
 
 -- a failure that was counted stays so
 refused_still : {F G : (Fault → Type 0) → Type 0} (content : List ℕ) (honest : _) (fault : MemberFault) → ((P : Fault → Type 0) → F P → G P) → RefusesSuper content honest F fault → RefusesSuper content honest G fault
@@ -64,7 +64,7 @@ module _ (a b c : Disk) (fault : MemberFault) (first : IsOnlySearched of_disks a
 
   pub seen_then : (failed : Bool) → (failed ≡ true → fault ≡ ReadFault) → (failed ≡ false → fault ≢ ReadFault) → (held : Held) → HoldsSigned failed b c held → IsToldOfDevice a c held
   seen_then failed told untold Nothing h = (lacks (untold h.0), λ is. as_borne ∙ h.1 (first.honest ∙ is))
-  seen_then failed told untold Unseen h = h
+  seen_then failed told untold Unseen h = absurd h
   seen_then failed told untold Unread h = (no_super, unread failed told h.0, missed h.1)
   seen_then failed told untold (Member v) h = absurd h
   seen_then failed told untold (Signed s) h = (

@@ -2,10 +2,10 @@
 -- that it takes.
 use Rattle.std.specs.Prelude.{◌≡◌, ◌≢◌, ◌⊎◌, ℕ, ◌+◌, ◌<◌, ◌≤◌, Bool, true, false, List, [], ◌∷◌, length, Some, slice_get}
 use Rattle.std.specs.List.{filter}
-use Rattle.md_super.specs.declared.superblock.Superblock.{Superblock}
 use Rattle.md_members.specs.declared.fault.MemberFault.{MemberFault}
 use Rattle.md_members.specs.declared.fault.MemberFault.TheVariants.{NoMemory, ReadFault}
-use Rattle.md_members.specs.Reading.{CallFails, ReadsSuper, RefusesSuper}
+use Rattle.md_super.specs.declared.fault.SuperFault.TheVariants as super_fault
+use Rattle.md_members.specs.Reading.{CallFails, ReadsSuper, ReadsSuperFault, RefusesSuper}
 use Rattle.md_notices.specs.declared.signatures.signature.Signature.{Signature}
 use Rattle.md_notices.specs.Signatures.Bearing.{bears_signature}
 use Rattle.md_notices.specs.Signatures.Finding.{signatures}
@@ -61,7 +61,7 @@ pub record LacksSuper (d e : Disk) : Type 0 where
 -- also one before, it is not told that there is none.
 abbrev pub HoldsSigned : Bool → Disk → Disk → Held → Type 0
 HoldsSigned failed d e Nothing = (failed ≡ false) × (d.honest ≡ true → borne d ≡ [])
-HoldsSigned failed d e Unseen = Unit {0}
+HoldsSigned failed d e Unseen = ⊥
 HoldsSigned failed d e Unread =
     ((failed ≡ true) ⊎ (d.honest ≡ true → d.failures < e.failures)) × MissesEach d e
 HoldsSigned failed d e (Member v) = ⊥
@@ -69,11 +69,12 @@ HoldsSigned failed d e (Signed s) = BearsFirst d e s
 
 -- What is told of a device, before a look at it and after that: its superblock, or where none can be read,
 -- its first signature. That it holds nothing which is known is told only where each read of it was done; that
--- it could not be read, only where no signature is found. Of a device that is not honest it is told of some
--- bytes that were read.
+-- it could not be read, only where no signature is found. That there was no memory to look is told only where
+-- the device was not used, or where no fault stands in its superblock but that there was no memory for that. Of a
+-- device that is not honest it is told of some bytes that were read.
 abbrev pub IsToldOfDevice : Disk → Disk → Held → Type 0
 IsToldOfDevice d e Nothing = LacksSuper d e × (d.honest ≡ true → borne d ≡ [])
-IsToldOfDevice d e Unseen = Unit {0}
+IsToldOfDevice d e Unseen = (e ≡ d) ⊎ ReadsSuperFault d.content d.honest super_fault.NoMemory
 IsToldOfDevice d e Unread = HasNoSuper d e × (d.honest ≡ true → d.failures < e.failures) × MissesEach d e
 IsToldOfDevice d e (Member v) = ReadsSuper d.content d.honest v
 IsToldOfDevice d e (Signed s) = HasNoSuper d e × BearsFirst d e s

@@ -1,9 +1,7 @@
 // All that a device holds.
-ghost use Rattle.std.specs.Prelude.{◌≡◌, ◌≤◌, IfOk, false, true};
-ghost use Rattle.md_device.specs.Crashes.{LeavesMore};
-ghost use Rattle.md_device.specs.Failing.{OnlyReadsFailed};
-ghost use Rattle.md_notices.specs.Signatures.Finding.{FindsSignatures};
-ghost use Rattle.md_notices.specs.Signatures.Reading.{Heeds};
+ghost use Rattle.std.specs.Prelude.{◌≡◌, ◌≤◌, [], IfOk, false, length, vec_capacity};
+ghost use Rattle.md_notices.specs.Signatures.Finding.{FindsSignatures, signatures};
+ghost use Rattle.md_notices.specs.Signatures.Reading.{Heeds, IsOnlySearched};
 
 use crate::signatures::bearing::bears;
 use crate::signatures::signature::{SIGNATURES, Signature};
@@ -17,25 +15,28 @@ pub struct Look {
     pub has_failed: bool,
 }
 
-/// The signatures that a device bears, in the order of `SIGNATURES`. It is read in a few sectors, and not written.
-///
-/// A sector that it has not, or that it does not give, bears none. `AllocError` comes only where memory was refused.
-pub fn find_signatures<D: Device>(alloc: Global, device: &mut D) -> Result<Look, AllocError>
-    ensures kept { D.content device.new ≡ D.content device.old }
-    ensures honest { D.honest device.new ≡ D.honest device.old }
-    ensures counted { D.failures device.old ≤ D.failures device.new }
-    ensures grown { OnlyReadsFailed (D.faults device.old) (D.faults device.new) }
-    ensures within { D.honest device.old ≡ true
-        → LeavesMore (D.crashes device.old) (D.crashes device.new) (λ left. left ≡ D.content device.old) }
-    ensures finds { IfOk result (λ look. FindsSignatures D.Device device.old device.new look.found.items) }
-    ensures heeds { IfOk result (λ look. Heeds D.Device device.old device.new false look.has_failed) }
+/// An empty list that has room for all signatures.
+pub fn signature_list(alloc: Global) -> Result<Vec<Signature>, AllocError>
+    ensures { IfOk result (λ found. (found.items ≡ []) × (length signatures ≤ vec_capacity found)) }
 {
-    let mut found = Vec::new(alloc);
+    Vec::with_capacity(alloc, SIGNATURES.len())
+}
+
+/// The signatures that a device bears, in the order of `SIGNATURES`, in a list of `signature_list`. It is read in a few
+/// sectors, and not written, and no memory is taken.
+///
+/// A sector that it has not, or that it does not give, bears none.
+pub fn find_signatures<D: Device>(mut found: Vec<Signature>, device: &mut D) -> Look
+    requires room { (found.items ≡ []) × (length signatures ≤ vec_capacity found) }
+    ensures only_read { IsOnlySearched D.Device device.old device.new }
+    ensures finds { FindsSignatures D.Device device.old device.new result.found.items }
+    ensures heeds { Heeds D.Device device.old device.new false result.has_failed }
+{
     let mut has_failed = false;
     for signature in SIGNATURES {
         if bears(device, signature, &mut has_failed) {
-            found.push(signature)?;
+            found.push_reserved(signature);
         }
     }
-    Ok(Look { found, has_failed })
+    Look { found, has_failed }
 }

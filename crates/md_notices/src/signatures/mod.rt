@@ -4,7 +4,7 @@
 //! Start with `find_signatures`; `table.rt` has the magic numbers, and where they stand.
 //!
 //! ```
-//! let look = find_signatures(alloc, &mut device)?;
+//! let look = find_signatures(signature_list(alloc)?, &mut device);
 //! let name = look.found.first().map(|signature| signature.text());
 //! ```
 
@@ -16,5 +16,5 @@ mod read_sector;
 mod signature;
 mod table;
 
-pub use finding::{Look, find_signatures};
+pub use finding::{Look, find_signatures, signature_list};
 pub use signature::{SIGNATURES, Signature};

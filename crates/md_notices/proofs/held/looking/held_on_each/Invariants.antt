@@ -1,4 +1,4 @@
-use Rattle.std.proofs.Common.{◌≡◌, ◌≤◌, length, map, vec_capacity}
+use Rattle.std.proofs.Common.{◌≤◌, length, map, vec_capacity}
 use Rattle.md_state.specs.View.{disk_of}
 use Rattle.md_notices.proofs.HeldLemmas.Looked.{AreLookedAt}
 use Rattle.md_notices.proofs.held.looking.held_on_each.Given as goal
