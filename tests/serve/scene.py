@@ -24,6 +24,8 @@ SECTORS = 256
 JUNK = 0xEE
 # The buffer of a request, and what any command takes.
 MOST_MEMORY_KIB = (32 << 10) + 3072
+# What is there without requests, and the room for small ones.
+SMALL_MEMORY_KIB = (1 << 10) + 3072
 CLIENTS = {"nbdinfo": "libnbd-bin", "nbdcopy": "libnbd-bin", "qemu-img": "qemu-utils", "nbdfuse": "nbdfuse"}
 
 

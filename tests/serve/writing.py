@@ -1,11 +1,12 @@
-"""`mdcli serve` for writing: what was answered 0 stands on each member, however the session ended; the array is stopped after it; and
-no other command has the images meanwhile. Each write to an image and each wait for its disk fails in turn, or is the last one before
+"""`mdcli serve` for writing: what was answered 0 before a flush that was, or before the end, stands on each member, however the session
+ended; the array is stopped after it; and no other command has the images meanwhile. Each write to an image and each wait for its disk fails in turn, or is the last one before
 the process is killed, by the library of write_crashes/stop.c."""
 
 import concurrent.futures
 import os
 import random
 import shutil
+import signal
 import struct
 import subprocess
 import time
@@ -65,10 +66,13 @@ SCRIPT = [
 # The same in short, of which each call is stopped.
 CALLS = [
     write_of(0, new(1, 4), 1),
+    write_of(4, new(5, 2), 6),
     write_of(120, new(2, 16), 2),
     FLUSH,
     write_of(3, new(3), 3),
     read_of(0, 8, 4),
+    write_of(10, new(6), 7),
+    write_of(11, new(7), 8, nbd.FUA),
     write_of(SECTORS - 2, new(4, 2), 5),
     FLUSH,
 ]
@@ -93,6 +97,7 @@ def check_all(tally, scratch):
             tally.skipped(name, "there is no C compiler")
     check_clients(tally, pair)
     check_mounted(tally, folder)
+    check_taken_up(tally, folder)
 
 
 class Pair:
@@ -267,8 +272,30 @@ def check_memory(tally, folder):
     if found.marks or len(found.in_sync) != 2:
         reasons.append("it is not stopped: %s" % found.summary())
     tally.judge("writing: 32 MiB at once, in %d KiB" % MOST_MEMORY_KIB, reasons)
+    check_joined(tally, images, words, bytes(server.data))
     for path in words:
         os.unlink(path)
+
+
+def check_joined(tally, images, words, data):
+    """Writes that lie together wait, and are written at once: what waits takes less memory than the longest write."""
+    draw, count, sectors = random.Random(4), 40, 1024
+    pieces = [draw.randbytes(sectors * SECTOR) for _ in range(count)]
+    served = Served(["serve", *words])
+    stream = OPENING + b"".join(write_of(n * sectors, piece, n) for n, piece in enumerate(pieces)) + FLUSH
+    server = nbd.Server(data, writable=True)
+    wanted, _ = server.answers(stream)
+    got, peak = served.tell(stream, len(wanted)), served.peak_kib()
+    reasons = [] if got == wanted else ["other bytes"]
+    # Before the server is left: the flush has been answered.
+    found = members.Found([Path(path).read_bytes() for path in words])
+    reasons += ["member %d has other bytes" % m.number for m in found.in_sync if m.data() != bytes(server.data)]
+    if peak > MOST_MEMORY_KIB:
+        reasons.append("%d KiB were in memory" % peak)
+    ended = served.leave()
+    if ended != (0, ""):
+        reasons.append("it ended so: %r" % (ended,))
+    tally.judge("writing: %d writes that lie together" % count, reasons)
 
 
 # ---- calls that fail, and a server that is killed
@@ -340,7 +367,7 @@ def check_halted(tally, folder, library):
             wrong = [] if (answer.status, answer.errors) == (1, "mdcli: Halted\n") else ["%d, %r" % (answer.status, answer.errors)]
             if errors != [0] * done + [nbd.EIO] * (len(CALLS) - done):
                 wrong.append("the answers are %r" % errors)
-            wrong += against_either(pair, Path(pair.paths[0]).read_bytes(), done)
+            wrong += against_told(pair, Path(pair.paths[0]).read_bytes(), done)
             reasons += ["call %d: %s" % (number, reason) for reason in wrong]
         if not halted:
             reasons.append("no request was an error")
@@ -348,7 +375,7 @@ def check_halted(tally, folder, library):
 
 
 def check_killed(tally, folder, library):
-    """After the process was killed, and a resync, what was answered 0 stands."""
+    """After the process was killed, and a resync, what was answered 0 before a flush that was answered stands."""
     pair = Pair(folder, ["h.img", "i.img"])
     for how in ("before", "half"):
         reasons = []
@@ -362,17 +389,29 @@ def check_killed(tally, folder, library):
             wrong += [] if done.status == 0 else ["resync: %r" % done.errors]
             done = Answer(["check", "--readonly", *pair.paths])
             wrong += done.against(0, b"mismatched chunks: 0\n")
-            wrong += against_either(pair, Path(pair.paths[0]).read_bytes(), len(errors))
+            wrong += against_told(pair, Path(pair.paths[0]).read_bytes(), len(errors))
             reasons += ["call %d: %s" % (number, reason) for reason in wrong]
         tally.judge("writing: killed at each call, %s" % how, reasons[:5])
 
 
-def against_either(pair, content, done):
-    """What is wrong with a member of which so many requests were answered: the next one may be there in part."""
-    before, after = data_after(pair, CALLS[:done]), data_after(pair, CALLS[: done + 1])
+def stands_of(requests):
+    """How many of these requests, which were answered, stand whatever comes: those up to the last flush, or write with FUA."""
+    lasting = [n + 1 for n, request in enumerate(requests) if is_lasting(request)]
+    return lasting[-1] if lasting else 0
+
+
+def is_lasting(request):
+    flags, kind = struct.unpack(">HH", request[4:8])
+    return kind == nbd.FLUSH or (kind == nbd.WRITE and flags == nbd.FUA)
+
+
+def against_told(pair, content, done):
+    """What is wrong with a member of which so many requests were answered: each sector is as one of those that need not stand yet left
+    it, or the next one, or as it was before them."""
+    states = [data_after(pair, CALLS[:count]) for count in range(stands_of(CALLS[:done]), min(done + 2, len(CALLS) + 1))]
     data = members.Member(content).data()
     places = range(0, len(data), SECTOR)
-    wrong = [n // SECTOR for n in places if data[n : n + SECTOR] not in (before[n : n + SECTOR], after[n : n + SECTOR])]
+    wrong = [n // SECTOR for n in places if data[n : n + SECTOR] not in [state[n : n + SECTOR] for state in states]]
     return ["sectors %r have other bytes" % wrong[:5]] if wrong else []
 
 
@@ -473,6 +512,81 @@ def files_against(folder, pair, files):
     content.write_bytes(found.in_sync[0].data())
     done = run_client(["e2fsck", "-fn", str(content)])
     reasons += [] if done.returncode == 0 else ["e2fsck: %r" % done.stdout]
+    point.mkdir()
+    done = run_client(["mount", "-o", "loop,ro", str(content), str(point)])
+    if done.returncode != 0:
+        return reasons + ["mount: %r" % done.stderr]
+    try:
+        return reasons + [name for name, wanted in files.items() if (point / name).read_bytes() != wanted]
+    finally:
+        run_client(["umount", str(point)])
+
+
+def check_taken_up(tally, folder):
+    """The server of a file system is killed while files are written: after a resync those that were synced before are there."""
+    name = "writing: a killed server of a file system"
+    reason = installed("nbdfuse")
+    tools = [tool for tool in ("mkfs.ext4", "e2fsck", "mount", "umount") if not shutil.which(tool)]
+    if not reason and (not os.path.exists("/dev/fuse") or os.geteuid() != 0 or tools):
+        reason = "it takes root, /dev/fuse, and mkfs.ext4, e2fsck and mount"
+    if reason:
+        tally.skipped(name, reason)
+        return
+    images = Images(folder)
+    pair = images.array(["m.img", "n.img"], bytes(32 << 20), "--assume-clean")
+    mount = Mount(images, "killed", ["serve", *pair])
+    files, reasons = {}, list(mount.reasons)
+    if not reasons:
+        files, reasons = files_until_killed(folder, mount)
+    mount.close()
+    wait_until_free(pair)
+    tally.judge(name, reasons or files_after_resync(folder, pair, files))
+
+
+def files_until_killed(folder, mount):
+    """Files that were synced on a file system, and why not; the server is killed while more are written."""
+    point, draw, files = folder / "put_until", random.Random(3), {}
+    point.mkdir()
+    for words in (["mkfs.ext4", "-q", str(mount.file)], ["mount", "-o", "loop", str(mount.file), str(point)]):
+        done = run_client(words)
+        if done.returncode != 0:
+            return files, ["%s: %r" % (words[0], done.stderr)]
+    try:
+        for number in range(20):
+            files["file%d" % number] = draw.randbytes(draw.randint(1, 100000))
+            (point / ("file%d" % number)).write_bytes(files["file%d" % number])
+        synced = run_client(["sync", "-f", str(point)]).returncode == 0
+        more = subprocess.Popen(
+            ["dd", "if=/dev/urandom", "of=" + str(point / "more"), "bs=64k", "count=200", "oflag=dsync"],
+            stdin=subprocess.DEVNULL,
+            stdout=subprocess.DEVNULL,
+            stderr=subprocess.DEVNULL,
+        )
+        time.sleep(0.3)
+        for server in children_of(mount.process.pid):
+            os.kill(server, signal.SIGKILL)
+        more.wait(timeout=SECONDS)
+    finally:
+        run_client(["umount", str(point)])
+    return files, [] if synced else ["sync failed"]
+
+
+def children_of(process):
+    return [int(word) for word in Path("/proc/%d/task/%d/children" % (process, process)).read_text().split()]
+
+
+def files_after_resync(folder, pair, files):
+    """What is wrong with the members after a resync: they are alike, and have the files, once the journal was played."""
+    reasons = members.Found([Path(path).read_bytes() for path in pair]).uncovered()
+    done = Answer(["resync", *pair])
+    reasons += [] if done.status == 0 else ["resync: %r" % done.errors]
+    found = members.Found([Path(path).read_bytes() for path in pair])
+    content, point = folder / "content_after", folder / "got_after"
+    content.write_bytes(found.in_sync[0].data())
+    if content.read_bytes() != found.in_sync[-1].data():
+        reasons.append("the members differ")
+    done = run_client(["e2fsck", "-fy", str(content)])
+    reasons += [] if done.returncode in (0, 1) else ["e2fsck: %r" % done.stdout]
     point.mkdir()
     done = run_client(["mount", "-o", "loop,ro", str(content), str(point)])
     if done.returncode != 0:

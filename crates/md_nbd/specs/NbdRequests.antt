@@ -32,6 +32,10 @@ CMD_DISC = 2
 abbrev pub CMD_FLUSH : ℕ
 CMD_FLUSH = 3
 
+-- NBD_CMD_FLAG_FUA ("Command flags")
+abbrev pub FLAG_FUA : ℕ
+FLAG_FUA = 1
+
 -- how many bytes follow the head of a request: those that it writes, also where it is refused
 abbrev pub payload_of : Request → ℕ
 payload_of r = if r.kind == CMD_WRITE then r.length else 0

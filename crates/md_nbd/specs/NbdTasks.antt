@@ -6,7 +6,7 @@ use Rattle.md_nbd.specs.declared.request.Request.{Request}
 use Rattle.md_nbd.specs.declared.task.Task.{Task}
 use Rattle.md_nbd.specs.declared.task.Task.TheVariants.{Read, Write, Flush, Disconnect, Refuse}
 use Rattle.md_nbd.specs.Export.{most_bytes, sector_bytes}
-use Rattle.md_nbd.specs.NbdRequests.{CMD_DISC, CMD_FLUSH, CMD_READ, CMD_WRITE, payload_of}
+use Rattle.md_nbd.specs.NbdRequests.{CMD_DISC, CMD_FLUSH, CMD_READ, CMD_WRITE, FLAG_FUA, payload_of}
 
 -- Whole sectors, and at least one.
 abbrev pub has_whole_sectors : Request → Bool
@@ -15,8 +15,8 @@ has_whole_sectors r = (r.offset % sector_bytes == 0) && (r.length % sector_bytes
 abbrev pub is_past_end : Export → Request → Bool
 is_past_end e r = nat_lt e.size (r.offset + r.length)
 
--- No flag but FUA, bit 0, where the export offers it, with any command. FUA changes nothing, since each write that is answered
--- is on stable storage as it is.
+-- No flag but FUA, bit 0, where the export offers it, with any command. It asks that a write be on stable storage before it is
+-- answered, and with other commands for nothing.
 abbrev pub has_known_flags : Export → Request → Bool
 has_known_flags e r = nat_lt r.flags (if e.readonly then 1 else 2)
 
@@ -31,7 +31,7 @@ abbrev pub write_task_of : Export → Request → Task
 write_task_of e r =
     if nat_lt most_bytes r.length then Refuse TooLarge
     else (if is_past_end e r then Refuse NoSpace
-    else (if has_whole_sectors r then Write (r.offset / sector_bytes) (r.length / sector_bytes)
+    else (if has_whole_sectors r then Write (r.offset / sector_bytes) (r.length / sector_bytes) (r.flags == FLAG_FUA)
     else Refuse Invalid))
 
 -- A write to what is only read is not permitted, whatever else is wrong with it. A client that goes need not be right.
@@ -50,10 +50,10 @@ task_of e r =
 abbrev pub IsInExport : Export → ℕ → ℕ → Type 0
 IsInExport e sector sectors = (0 < sectors) × (sector_bytes * sectors ≤ most_bytes) × (sector_bytes * sector + sector_bytes * sectors ≤ e.size)
 
--- The sectors lie in the array, and just those that are written come with the request.
+-- The sectors lie in the array, as many as the request says, and just those that are written come with it.
 abbrev pub FitsExport : Export → Request → Task → Type 0
-FitsExport e r (Read sector sectors) = IsInExport e sector sectors × (payload_of r ≡ 0)
-FitsExport e r (Write sector sectors) = IsInExport e sector sectors × (payload_of r ≡ sector_bytes * sectors)
+FitsExport e r (Read sector sectors) = IsInExport e sector sectors × (payload_of r ≡ 0) × (r.length ≡ sector_bytes * sectors)
+FitsExport e r (Write sector sectors through) = IsInExport e sector sectors × (payload_of r ≡ sector_bytes * sectors)
 FitsExport e r Flush = payload_of r ≡ 0
 FitsExport e r Disconnect = payload_of r ≡ 0
 FitsExport e r (Refuse error) = Unit {0}

@@ -1,9 +1,11 @@
 // Requests of a client.
-ghost use Rattle.std.specs.Prelude.{◌≡◌, ◌++◌, IfNone, IfSome, OnOk, length};
+ghost use Rattle.std.specs.Prelude.{◌≡◌, ◌≤◌, ◌++◌, IfNone, IfSome, OnOk, length};
 ghost use Rattle.std.specs.Int.{w16, w32, w64, to_be_bytes};
+ghost use Rattle.md_nbd.specs.Export.{most_bytes};
 ghost use Rattle.md_nbd.specs.NbdRequests.{payload_of, request_bytes, request_magic};
 ghost use Rattle.md_nbd.specs.declared.request.Request.{Request as RequestValue};
 
+use crate::export::MOST_BYTES;
 use crate::number_fields::{u16_of, u32_of, u64_of};
 use std::alloc::AllocError;
 
@@ -16,6 +18,8 @@ pub(crate) const CMD_WRITE: u16 = 1;
 pub(crate) const CMD_DISC: u16 = 2;
 
 pub(crate) const CMD_FLUSH: u16 = 3;
+
+pub(crate) const FLAG_FUA: u16 = 1;
 
 /// How many bytes the head of a request has. What it writes comes after them.
 pub const REQUEST_BYTES: usize = 28;
@@ -63,6 +67,19 @@ pub fn payload_of(request: &Request) -> u32
     ensures { result ≡ payload_of request.now }
 {
     if request.kind == CMD_WRITE {
+        request.length
+    } else {
+        0
+    }
+}
+
+/// How much room a request takes that reads or writes no more than the server keeps room for; none where it is longer.
+pub(crate) fn room_of(request: &Request) -> u32
+    ensures within { request.now.length ≤ most_bytes → result ≡ request.now.length }
+    ensures payload { payload_of request.now ≤ most_bytes → payload_of request.now ≤ result }
+    ensures most { result ≤ most_bytes }
+{
+    if request.length <= MOST_BYTES {
         request.length
     } else {
         0

@@ -4,15 +4,15 @@ ghost use Rattle.md_nbd.specs.NbdTasks.{FitsExport, has_known_flags, has_whole_s
 
 use crate::export::{Export, MOST_BYTES};
 use crate::reply::ErrorCode;
-use crate::request::{CMD_DISC, CMD_FLUSH, CMD_READ, CMD_WRITE, Request};
+use crate::request::{CMD_DISC, CMD_FLUSH, CMD_READ, CMD_WRITE, FLAG_FUA, Request};
 
 /// What a request asks the server to do. Sectors have 512 bytes.
 #[derive(Clone, Copy, Debug, PartialEq, Eq)]
 pub enum Task {
     /// To read so many sectors, the second number, from the first on.
     Read(u64, u32),
-    /// To write so many sectors, the second number, from the first on.
-    Write(u64, u32),
+    /// To write so many sectors, the second number, from the first on; and whether they have to stand before the answer.
+    Write(u64, u32, bool),
     Flush,
     /// To go.
     Disconnect,
@@ -68,7 +68,8 @@ fn write_task(export: &Export, request: &Request) -> Task
     if !has_whole_sectors(request) {
         return Task::Refuse(ErrorCode::Invalid);
     }
-    Task::Write(request.offset / 512, request.length / 512)
+    let through = request.flags == FLAG_FUA;
+    Task::Write(request.offset / 512, request.length / 512, through)
 }
 
 /// What a request asks for, or why it is refused. What is read or written lies in the array, and is no more than the server keeps

@@ -59,7 +59,10 @@ fn longer_list_at<D: Device + Drop>(
     requires { k < 64 }
     ensures { result ≡ longer_list_at was.now mirror.now.array.members asked k }
 {
-    if_more(was[k], sector_count_there(mirror, place_after(asked.left, k)))
+    if_more(
+        was[k],
+        sector_count_there(mirror, place_after(asked.left, k)),
+    )
 }
 
 /// Of each place before a command how many sectors its member lists after it, where these are more than before. `was` has

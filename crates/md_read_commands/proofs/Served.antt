@@ -100,8 +100,8 @@ same_rests old new same = subst (λ (p : ArrayReader × MirrorView). Rests old.1
 task_rests : (t : Task) (cookie : ℕ) (payload : List ℕ) (old new : ArrayReader × MirrorView) (reply : List ℕ) → DoesTask reader_store t cookie payload old new reply → Rests old.1 new.1
 task_rests (task.Read sector sectors) cookie payload old new reply (inl h) = given_rests old.0.fill old.0.way sector h.bytes old.0.missing new.0.missing old.1 new.1 h.read.1
 task_rests (task.Read sector sectors) cookie payload old new reply (inr h) = lacks_rests old.0.way sector sectors old.1 new.1 h.0.2
-task_rests (task.Write sector sectors) cookie payload old new reply (inl h) = absurd h.0
-task_rests (task.Write sector sectors) cookie payload old new reply (inr h) = same_rests old new h.0
+task_rests (task.Write sector sectors through) cookie payload old new reply (inl h) = absurd h.0
+task_rests (task.Write sector sectors through) cookie payload old new reply (inr h) = same_rests old new h.0
 task_rests task.Flush cookie payload old new reply (inl h) = same_rests old new h.0
 task_rests task.Flush cookie payload old new reply (inr h) = absurd h.0
 task_rests task.Disconnect cookie payload old new reply h = absurd h
@@ -122,6 +122,7 @@ module _ {I S : Type 0} (i : Sources I) (o : Sinks S) (e : Export) (old new : Ar
 
   failed_rests : (mid : ArrayReader × MirrorView) (at : I) (earlier : S) (why : StreamFault) → HasFailed reader_store i o e mid new at to earlier now why → Rests mid.1 new.1
   failed_rests mid at earlier stream.Source h = same_rests mid new h.1
+  failed_rests mid at earlier stream.NoMemory h = same_rests mid new h.0
   failed_rests mid at earlier stream.Sink h = task_rests (task_of e h.last.request) h.last.request.cookie h.last.payload mid new h.last.reply h.answers.does
 
   pub broken_rests : (fault : SessionFault) → BreaksSession reader_store i o e old new from to was now fault → Rests old.1 new.1

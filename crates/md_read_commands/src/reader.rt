@@ -92,7 +92,7 @@ impl<D: Device + Drop> Store<Mirror<D>> for ArrayReader {
 
     ghost unread = { λ p q sector sectors. RefusesRequest p q sector sectors };
 
-    ghost writes = { λ _ _ _ _. ⊥ };
+    ghost writes = { λ _ _ _ _ _. ⊥ };
 
     ghost unwritten = { λ p q _ _. q ≡ p };
 
@@ -115,7 +115,7 @@ impl<D: Device + Drop> Store<Mirror<D>> for ArrayReader {
     }
 
     // The export says that it is only read, so that none comes here.
-    fn write(&mut self, _: &mut Mirror<D>, _: u64, _: &[u8]) -> Result<(), StoreFault> {
+    fn write(&mut self, _: &mut Mirror<D>, _: u64, _: &[u8], _: bool) -> Result<(), StoreFault> {
         Err(StoreFault)
     }
 

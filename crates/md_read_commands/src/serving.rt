@@ -1,10 +1,9 @@
 // The command that serves an array.
-ghost use Rattle.std.specs.Prelude.{◌≡◌, ◌*◌, IfOk, MatchResult, length};
+ghost use Rattle.std.specs.Prelude.{◌≡◌, ◌≤◌, IfOk, MatchResult, length};
 ghost use Rattle.md_inflight.specs.Requests.Pending.{PendingView};
 ghost use Rattle.md_state.specs.Requests.{IsPending};
 ghost use Rattle.md_state.specs.Rests.{Rests};
 ghost use Rattle.md_array.specs.Consistency.{IsConsistent};
-ghost use Rattle.md_nbd.specs.Export.{most_bytes};
 ghost use Rattle.md_read_commands.specs.Serving.{HasServed, IsFreshReader, MayBeServed, RefusesToBegin, ServesArray};
 
 use crate::buffer::buffer;
@@ -15,18 +14,21 @@ use md_badblocks::BadSet;
 use md_commands::{CommandFault, Source};
 use md_device::Device;
 use md_examine::Sink;
-use md_nbd::{Export, MOST_BYTES, SessionFault, serve_client};
+use md_nbd::{Export, SessionFault, serve_client};
 use std::alloc::Global;
 
-// The sectors that one request reads at most.
-const MOST_SECTORS: u64 = MOST_BYTES as u64 / 512;
+// The room for requests at first, in sectors: what a client's options need, and the requests of most clients.
+const LEAST_SECTORS: u64 = 2048;
+
+// The sectors of the longest request that is done.
+const MOST_SECTORS: usize = 65536;
 
 /// Serves an array to a client of the NBD protocol until it goes, and writes nothing. Its sectors are those that
 /// `read_array_readonly` puts out. A request of which a sector is not given is answered with EIO, and no other is; or, with
 /// `fill`, with zeros in the place of such sectors, which come back. They take memory, and where there is none the answer is EIO.
 ///
-/// That the mirror is halted, or members in sync may differ, is looked for before memory for a request's sectors is taken, which
-/// is 32 MiB, and with `fill` 1 MiB more, and that before the client is greeted.
+/// That the mirror is halted, or members in sync may differ, is looked for before memory for requests is taken, which is 1 MiB, with
+/// `fill` 1 MiB more, and that before the client is greeted. It grows with a client's requests, to 32 MiB at most.
 ///
 /// `InputFault` says that the input failed, or that the client did not go between two messages, `OutputFault` that the output
 /// failed. `Read` with `Unreadable` says that zeros were given, and the first sector for which they were: the client has gone in
@@ -66,11 +68,11 @@ fn begin<D: Device + Drop>(
         (λ r. IsFreshReader fill mirror.now r.0)
         (RefusesToBegin mirror.now) }
     ensures may { IfOk result (λ r. MayBeServed r.0.way mirror.now) }
-    ensures room { IfOk result (λ r. length r.1.items ≡ most_bytes) }
+    ensures room { IfOk result (λ r. 65536 ≤ length r.1.items) }
 {
     let way = way_as_it_is(mirror, 0, mirror.chunks().size)?;
-    let room = buffer(alloc, MOST_SECTORS)?;
-    let most = if fill { MOST_SECTORS as usize } else { 0 };
+    let room = buffer(alloc, LEAST_SECTORS)?;
+    let most = if fill { MOST_SECTORS } else { 0 };
     let holes = Vec::with_capacity(alloc, most)?;
     let reader = ArrayReader {
         alloc,
@@ -87,11 +89,11 @@ fn serve<D: Device + Drop, I: Source, S: Sink>(
     alloc: Global,
     mirror: &mut Mirror<D>,
     reader: &mut ArrayReader,
-    room: &mut [u8],
+    room: &mut Vec<u8>,
     input: &mut I,
     out: &mut S,
 ) -> Result<(), CommandFault>
-    requires room { length room.old ≡ most_bytes }
+    requires room { 65536 ≤ length room.old.items }
     requires may { MayBeServed reader.old.way mirror.old }
     ensures gives { HasServed I.Source S.Sink reader.old reader.new mirror.old mirror.new
         input.old input.new out.old out.new result }

@@ -1,5 +1,5 @@
 -- Of a halted mirror nothing is done any more.
-use Rattle.std.proofs.Common.{◌≡◌, ◌∙◌, inl, inr, ⊎_elim, ℕ, true, false, List, [], ◌∷◌, sym, ap, subst, arith, true≢false}
+use Rattle.std.proofs.Common.{◌≡◌, ◌∙◌, inl, inr, ⊎_elim, ℕ, Bool, true, false, List, [], ◌∷◌, sym, ap, subst, arith, true≢false}
 use Rattle.std.specs.Prelude.{slice_index_or}
 use Rattle.md_faults.specs.declared.step_fault.BeginFault.{BeginFault}
 use Rattle.md_faults.specs.declared.step_fault.BeginFault.TheVariants as begin
@@ -7,7 +7,7 @@ use Rattle.md_state.specs.View.{MirrorView}
 use Rattle.md_read.specs.declared.fault.UnreadFault.{UnreadFault}
 use Rattle.md_read.specs.declared.fault.UnreadFault.TheVariants as unread
 use Rattle.md_read.specs.Reading.{RefusesRead}
-use Rattle.md_write.specs.Writing.{RefusesWrite, Writes}
+use Rattle.md_write.specs.Writing.{RefusesWrite}
 use Rattle.md_nbd.specs.declared.export.Export.{Export}
 use Rattle.md_nbd.specs.declared.reply.ErrorCode.TheVariants.{Io}
 use Rattle.md_nbd.specs.declared.task.Task.{Task}
@@ -16,26 +16,12 @@ use Rattle.md_nbd.specs.NbdTasks.{task_of}
 use Rattle.md_nbd.specs.SimpleReplies.{error_reply, success_reply}
 use Rattle.md_nbd.specs.Server.Exchanges.{AnswersInTurn, AnswersRequest, DoesTask, Exchange}
 use Rattle.md_serve_commands.specs.declared.writer.ArrayWriter.{ArrayWriter}
-use Rattle.md_serve_commands.specs.Writable.{FailsToClear, writer_store}
+use Rattle.md_serve_commands.specs.Waiting.{FailsToClear, FailsToFlush, FailsToRead, FailsWaiting, FailsToTake, ReadsBehind, WritesWaiting, TakesWrite, writer_store}
 use Rattle.md_serve_commands.specs.Told.{IsForArray}
 
 -- ---- a reply without an error is none with one
-not_both : (cookie : ℕ) → success_reply cookie ≡ error_reply Io cookie → ⊥
+pub not_both : (cookie : ℕ) → success_reply cookie ≡ error_reply Io cookie → ⊥
 not_both cookie e = (let last : 0 ≡ 5 = ap (λ (l : List ℕ). slice_index_or l 7 0) e in absurd (omega (arith, last)))
-
-write_done : (t : Task) (sector sectors cookie : ℕ) (payload : List ℕ) (old new : ArrayWriter × MirrorView) (reply : List ℕ) → t ≡ task.Write sector sectors
-    → DoesTask writer_store t cookie payload old new reply → reply ≡ success_reply cookie → Writes sector payload old.1 new.1
-write_done t sector sectors cookie payload old new reply is does told =
-    by (subst (λ (u : Task). DoesTask writer_store u cookie payload old new reply) is does)
-  where
-    by : DoesTask writer_store (task.Write sector sectors) cookie payload old new reply → Writes sector payload old.1 new.1
-    by (inl h) = h.0.0
-    by (inr h) = absurd (not_both cookie (sym told ∙ h.1))
-
-pub told_done : (e : Export) (old new : ArrayWriter × MirrorView) (x : Exchange) (sector sectors : ℕ) → AnswersRequest writer_store e old new x → task_of e x.request ≡ task.Write sector sectors
-    → x.reply ≡ success_reply x.request.cookie → Writes sector x.payload old.1 new.1
-told_done e old new x sector sectors answers is told =
-    write_done (task_of e x.request) sector sectors x.request.cookie x.payload old new x.reply is answers.does told
 
 -- ---- a halted mirror
 module _ (old new : MirrorView) (halted : old.array.halted ≡ true) where
@@ -64,14 +50,54 @@ module _ (old new : MirrorView) (halted : old.array.halted ≡ true) where
 abbrev StaysWithError : Task → ℕ → ArrayWriter × MirrorView → ArrayWriter × MirrorView → List ℕ → Type 0
 StaysWithError t cookie old new reply = (new.1 ≡ old.1) × (IsForArray t → reply ≡ error_reply Io cookie)
 
+-- ---- what waits
+module _ (p q : ArrayWriter × MirrorView) (halted : p.1.array.halted ≡ true) where
+  waiting_halted : (mid : MirrorView) → WritesWaiting p.0 p.1 mid → mid ≡ p.1
+  waiting_halted mid (inl h) = h.1
+  waiting_halted mid (inr h) = runs_not p.1 mid halted h.0.begins.may.running
+
+  fails_halted : FailsWaiting p q → q.1 ≡ p.1
+  fails_halted h = unwritten_halted p.1 q.1 halted h.fault p.0.start p.0.run.items h.refused.refused
+
+  -- what is done behind what waited, by a mirror that stays as it is
+  behind : (mid : MirrorView) → WritesWaiting p.0 p.1 mid → (mid.array.halted ≡ true → q.1 ≡ mid) → q.1 ≡ p.1
+  behind mid waited h =
+      let same = waiting_halted mid waited in
+      h (ap (λ (v : MirrorView). v.array.halted) same ∙ halted) ∙ same
+
+  no_read : (sector : ℕ) (bytes : List ℕ) → ReadsBehind p q sector bytes → ⊥
+  no_read sector bytes h =
+      true≢false (sym (ap (λ (v : MirrorView). v.array.halted) (waiting_halted h.mid h.waited) ∙ halted) ∙ h.given.0.may.running)
+
+  no_write : (sector : ℕ) (bytes : List ℕ) (through : Bool) → TakesWrite p q sector bytes through → ⊥
+  no_write sector bytes true h = true≢false (sym halted ∙ h.running)
+  no_write sector bytes false (inl h) = true≢false (sym halted ∙ h.running)
+  no_write sector bytes false (inr (inl h)) = true≢false (sym halted ∙ h.running)
+  no_write sector bytes false (inr (inr h)) = true≢false (sym halted ∙ h.running)
+
+  lacks_halted : (sector sectors : ℕ) → FailsToRead p q sector sectors → q.1 ≡ p.1
+  lacks_halted sector sectors (inl h) = fails_halted h
+  lacks_halted sector sectors (inr h) = behind h.mid h.waited (λ on. unread_halted h.mid q.1 on h.refused.fault sector h.refused.bytes h.refused.refused)
+
+  untaken_halted : (sector : ℕ) (bytes : List ℕ) → FailsToTake p q sector bytes → q.1 ≡ p.1
+  untaken_halted sector bytes (inl h) = h.mirror
+  untaken_halted sector bytes (inr (inl h)) = fails_halted h
+  untaken_halted sector bytes (inr (inr (inl h))) = waiting_halted q.1 h.waited
+  untaken_halted sector bytes (inr (inr (inr h))) = behind h.mid h.waited (λ on. unwritten_halted h.mid q.1 on h.refused.fault sector bytes h.refused.refused)
+
+  unflushed_too : FailsToFlush p q → q.1 ≡ p.1
+  unflushed_too (inl h) = h.mirror
+  unflushed_too (inr (inl h)) = fails_halted h
+  unflushed_too (inr (inr h)) = behind h.mid h.waited (λ on. unflushed_halted h.mid q.1 on h.refused)
+
 task_halted : (t : Task) (cookie : ℕ) (payload : List ℕ) (old new : ArrayWriter × MirrorView) (reply : List ℕ) → old.1.array.halted ≡ true → DoesTask writer_store t cookie payload old new reply
     → StaysWithError t cookie old new reply
-task_halted (task.Read sector sectors) cookie payload old new reply halted (inl h) = runs_not old.1 new.1 halted h.read.0.may.running
-task_halted (task.Read sector sectors) cookie payload old new reply halted (inr h) = (unread_halted old.1 new.1 halted h.0.fault sector h.0.bytes h.0.refused, λ _. h.1)
-task_halted (task.Write sector sectors) cookie payload old new reply halted (inl h) = runs_not old.1 new.1 halted h.0.0.begins.may.running
-task_halted (task.Write sector sectors) cookie payload old new reply halted (inr h) = (unwritten_halted old.1 new.1 halted h.0.fault sector payload h.0.refused, λ _. h.1)
-task_halted task.Flush cookie payload old new reply halted (inl h) = runs_not old.1 new.1 halted h.0.running
-task_halted task.Flush cookie payload old new reply halted (inr h) = (unflushed_halted old.1 new.1 halted h.0, λ _. h.1)
+task_halted (task.Read sector sectors) cookie payload old new reply halted (inl h) = absurd (no_read old new halted sector h.bytes h.read)
+task_halted (task.Read sector sectors) cookie payload old new reply halted (inr h) = (lacks_halted old new halted sector sectors h.0, λ _. h.1)
+task_halted (task.Write sector sectors through) cookie payload old new reply halted (inl h) = absurd (no_write old new halted sector payload through h.0)
+task_halted (task.Write sector sectors through) cookie payload old new reply halted (inr h) = (untaken_halted old new halted sector payload h.0, λ _. h.1)
+task_halted task.Flush cookie payload old new reply halted (inl h) = absurd (true≢false (sym halted ∙ h.0.running))
+task_halted task.Flush cookie payload old new reply halted (inr h) = (unflushed_too old new halted h.0, λ _. h.1)
 task_halted task.Disconnect cookie payload old new reply halted h = absurd h
 task_halted (task.Refuse error) cookie payload old new reply halted h = (ap (λ (p : ArrayWriter × MirrorView). p.1) h.0, λ no. absurd no)
 

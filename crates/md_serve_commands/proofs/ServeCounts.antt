@@ -1,5 +1,6 @@
 -- No request wins or loses a device, and so no session does.
 use Rattle.std.proofs.Common.{◌≡◌, ◌∙◌, inl, inr, ⊎_elim, ℕ, List, [], ◌∷◌, None, Result, Ok, Err, refl}
+use Rattle.std.specs.Prelude.{MatchResult}
 use Rattle.md_bitmap.specs.declared.chunks.Chunks.{Chunks}
 use Rattle.md_model.specs.Events.{Event}
 use Rattle.md_inflight.specs.Requests.Pending.{PendingView}
@@ -22,8 +23,13 @@ use Rattle.md_commands.specs.declared.fault.CommandFault.{CommandFault}
 use Rattle.md_commands.specs.declared.fault.CommandFault.TheVariants.{InputFault, NoPieceMemory, OutputFault, Read, Resync}
 use Rattle.md_commands.specs.declared.source.Source.{Ghosts as Sources}
 use Rattle.md_commands.proofs.DeviceCounts.{AsMany, KeepsMembers, fails_after, halts, led, none_in_flight, not_readied, nothing, readied, refused, same, stopped}
-use Rattle.md_serve_commands.specs.Writable.{ClearsMarks, HasServed, IsUnserved, RefusesToMakeReady, RefusesToServe, RunsOn, ServesAndStops, ServesWritable, StopsThen, array_writer, writable_export}
-use Rattle.md_serve_commands.proofs.Exchanged.{EachKeeps, broken_keeps, session_keeps}
+use Rattle.md_nbd.specs.declared.server.session.SessionEnd.{SessionEnd}
+use Rattle.md_nbd.specs.declared.server.session.SessionFault.{SessionFault}
+use Rattle.md_nbd.specs.Server.Sessions.{BreaksSession, EndsSession}
+use Rattle.md_serve_commands.specs.declared.writer.ArrayWriter.{ArrayWriter}
+use Rattle.md_serve_commands.specs.Waiting.{ClearsMarks, RefusesWaiting, RunsOn, WritesWaiting, writer_store}
+use Rattle.md_serve_commands.specs.Writable.{HasServed, IsUnserved, RefusesToMakeReady, RefusesToServe, ServesAndStops, ServesWritable, StopsThen, told_after, writable_export}
+use Rattle.md_serve_commands.proofs.Exchanged.{EachKeeps, broken_keeps, session_keeps, waiting_keeps, refused_keeps}
 
 -- ---- a write
 -- an event by which no member leaves, comes in, or comes into sync
@@ -102,15 +108,25 @@ each_as_many = record {
 }
 
 -- ---- the command
-module _ {I S : Type 0} (i : Sources I) (o : Sinks S) (old new : MirrorView) (from to : I) (was now : S) where
-  client_served : (result : Result (Unit {0}) CommandFault) → HasServed i o old new from to was now result → AsMany old new
-  client_served (Ok x) h = session_keeps AsMany each_as_many i o (writable_export old.array) (array_writer old.array, old) (h.ends.last, new) from to was h.told h.end h.ends.session
-  client_served (Err InputFault) (inl h) = session_keeps AsMany each_as_many i o (writable_export old.array) (array_writer old.array, old) (h.ends.last, new) from to was now h.end h.ends.session
-  client_served (Err InputFault) (inr h) = broken_keeps AsMany each_as_many i o (writable_export old.array) (array_writer old.array, old) (h.last, new) from to was now _ h.session
-  client_served (Err OutputFault) (inl h) = broken_keeps AsMany each_as_many i o (writable_export old.array) (array_writer old.array, old) (h.last, new) from to was now _ h.session
-  client_served (Err OutputFault) (inr h) = session_keeps AsMany each_as_many i o (writable_export old.array) (array_writer old.array, old) (h.ends.last, new) from to was h.told h.end h.ends.session
-  client_served (Err NoPieceMemory) h = broken_keeps AsMany each_as_many i o (writable_export old.array) (array_writer old.array, old) (h.last, new) from to was now _ h.session
+module _ {I S : Type 0} (i : Sources I) (o : Sinks S) (first last : ArrayWriter) (old new : MirrorView) (from to : I) (was now : S) where
+  ended : (told : S) (end : SessionEnd) → EndsSession writer_store i o (writable_export old.array) (first, old) (last, new) from to was told end → AsMany old new
+  ended told end h = session_keeps AsMany each_as_many i o (writable_export old.array) (first, old) (last, new) from to was told end h
+
+  broken : (fault : SessionFault) → BreaksSession writer_store i o (writable_export old.array) (first, old) (last, new) from to was now fault → AsMany old new
+  broken fault h = broken_keeps AsMany each_as_many i o (writable_export old.array) (first, old) (last, new) from to was now fault h
+
+  client_served : (result : Result (Unit {0}) CommandFault) → HasServed i o first last old new from to was now result → AsMany old new
+  client_served (Ok x) h = ended h.told h.end h.session
+  client_served (Err InputFault) (inl h) = ended now h.end h.session
+  client_served (Err InputFault) (inr h) = broken _ h
+  client_served (Err OutputFault) (inl h) = broken _ h
+  client_served (Err OutputFault) (inr h) = ended h.told h.end h.session
+  client_served (Err NoPieceMemory) h = broken _ h
   client_served (Err fault) h = absurd h
+
+waiting_or_not : (w : ArrayWriter) (old new : MirrorView) (kept : Result (Unit {0}) BeginFault) → MatchResult kept (λ _. WritesWaiting w old new) (RefusesWaiting w old new) → AsMany old new
+waiting_or_not w old new (Ok x) h = waiting_keeps AsMany each_as_many w old new h
+waiting_or_not w old new (Err fault) h = refused_keeps AsMany each_as_many w old new fault h
 
 stopped_then : (told : Result (Unit {0}) CommandFault) (old new : MirrorView) (result : Result (Unit {0}) CommandFault) → StopsThen told old new result → AsMany old new
 stopped_then told old new result h = ⊎_elim (λ s. stopped old new s.0) (λ r. not_stopped r.0 old new r.1) h
@@ -118,8 +134,9 @@ stopped_then told old new result h = ⊎_elim (λ s. stopped old new s.0) (λ r.
 module _ {I S : Type 0} (i : Sources I) (o : Sinks S) (old new : MirrorView) (from to : I) (was now : S) where
   and_stopped : (result : Result (Unit {0}) CommandFault) → ServesAndStops i o old new from to was now result → AsMany old new
   and_stopped result h =
-      stopped_then h.told h.served new result h.stops
-      ∙ client_served i o h.ready h.served from to was now h.told h.session
+      stopped_then (told_after h.kept h.told) h.written new result h.stops
+      ∙ waiting_or_not h.last h.served h.written h.kept h.late
+      ∙ client_served i o h.first h.last h.ready h.served from to was now h.told h.session
       ∙ readied old h.ready h.readied.readied
 
   unserved : (fault : CommandFault) → IsUnserved i o old new from to was now fault → AsMany old new

@@ -26,7 +26,7 @@ use Rattle.md_nbd.specs.declared.task.Task.TheVariants as task
 use Rattle.md_nbd.specs.NbdTasks.{task_of}
 use Rattle.md_nbd.specs.Server.Exchanges.{AnswersInTurn, DoesTask, Exchange}
 use Rattle.md_serve_commands.specs.declared.writer.ArrayWriter.{ArrayWriter}
-use Rattle.md_serve_commands.specs.Writable.{ClearsMarks, FailsToClear, RunsOn, writer_store}
+use Rattle.md_serve_commands.specs.Waiting.{ClearsMarks, FailsToClear, FailsToFlush, FailsToRead, FailsWaiting, FailsToTake, FlushesAll, ReadsBehind, RunsOn, WritesWaiting, TakesWrite, WritesThrough, writer_store}
 use Rattle.md_serve_commands.specs.Told.{GoesByEvents}
 use Rattle.md_serve_commands.proofs.Halted.{session_halted}
 
@@ -120,14 +120,57 @@ module _ (old new : MirrorView) (running : new.array.halted ≡ false) where
   uncleared : FailsToClear old new → GoesByEvents old new
   uncleared h = ⊎_elim (λ r. goes_nowhere old new r.unchanged) (λ r. stop_halted r.1) h.0
 
+-- ---- what waits
+waited : (w : ArrayWriter) (old new : MirrorView) → WritesWaiting w old new → GoesByEvents old new
+waited w old new (inl h) = goes_nowhere old new h.1
+waited w old new (inr h) = written w.start w.run.items old new h.0
+
+module _ (p q : ArrayWriter × MirrorView) where
+  behind : (mid : MirrorView) → WritesWaiting p.0 p.1 mid → GoesByEvents mid q.1 → GoesByEvents p.1 q.1
+  behind mid h on = goes_then p.1 mid q.1 (waited p.0 p.1 mid h) on
+
+  was_read : (sector : ℕ) (bytes : List ℕ) → ReadsBehind p q sector bytes → GoesByEvents p.1 q.1
+  was_read sector bytes h = behind h.mid h.waited (goes_reading h.mid q.1 h.given.0.rests)
+
+  was_through : (sector : ℕ) (bytes : List ℕ) → WritesThrough p q sector bytes → GoesByEvents p.1 q.1
+  was_through sector bytes h = behind h.mid h.waited (written sector bytes h.mid q.1 h.written.0)
+
+  was_taken : (sector : ℕ) (bytes : List ℕ) (through : Bool) → TakesWrite p q sector bytes through → GoesByEvents p.1 q.1
+  was_taken sector bytes true h = was_through sector bytes h
+  was_taken sector bytes false (inl h) = goes_nowhere p.1 q.1 h.mirror
+  was_taken sector bytes false (inr (inl h)) = waited p.0 p.1 q.1 h.waited
+  was_taken sector bytes false (inr (inr h)) = was_through sector bytes h
+
+  module _ (running : q.1.array.halted ≡ false) where
+    fails : FailsWaiting p q → GoesByEvents p.1 q.1
+    fails h = not_written p.1 q.1 running h.fault p.0.start p.0.run.items h.refused.refused
+
+    was_unread : (sector sectors : ℕ) → FailsToRead p q sector sectors → GoesByEvents p.1 q.1
+    was_unread sector sectors (inl h) = fails h
+    was_unread sector sectors (inr h) = behind h.mid h.waited (not_read h.mid q.1 running h.refused.fault sector h.refused.bytes h.refused.refused)
+
+    was_untaken : (sector : ℕ) (bytes : List ℕ) → FailsToTake p q sector bytes → GoesByEvents p.1 q.1
+    was_untaken sector bytes (inl h) = goes_nowhere p.1 q.1 h.mirror
+    was_untaken sector bytes (inr (inl h)) = fails h
+    was_untaken sector bytes (inr (inr (inl h))) = waited p.0 p.1 q.1 h.waited
+    was_untaken sector bytes (inr (inr (inr h))) = behind h.mid h.waited (not_written h.mid q.1 running h.refused.fault sector bytes h.refused.refused)
+
+    was_flushed : FlushesAll p q → GoesByEvents p.1 q.1
+    was_flushed h = behind h.mid h.waited (⊎_elim (λ s. goes_nowhere h.mid q.1 s) (λ c. cleared h.mid q.1 running c) h.marks)
+
+    was_unflushed : FailsToFlush p q → GoesByEvents p.1 q.1
+    was_unflushed (inl h) = goes_nowhere p.1 q.1 h.mirror
+    was_unflushed (inr (inl h)) = fails h
+    was_unflushed (inr (inr h)) = behind h.mid h.waited (uncleared h.mid q.1 running h.refused)
+
 task_goes : (t : Task) (cookie : ℕ) (payload : List ℕ) (old new : ArrayWriter × MirrorView) (reply : List ℕ) → new.1.array.halted ≡ false → DoesTask writer_store t cookie payload old new reply
     → GoesByEvents old.1 new.1
-task_goes (task.Read sector sectors) cookie payload old new reply running (inl h) = goes_reading old.1 new.1 h.read.0.rests
-task_goes (task.Read sector sectors) cookie payload old new reply running (inr h) = not_read old.1 new.1 running h.0.fault sector h.0.bytes h.0.refused
-task_goes (task.Write sector sectors) cookie payload old new reply running (inl h) = written sector payload old.1 new.1 h.0.0
-task_goes (task.Write sector sectors) cookie payload old new reply running (inr h) = not_written old.1 new.1 running h.0.fault sector payload h.0.refused
-task_goes task.Flush cookie payload old new reply running (inl h) = cleared old.1 new.1 running h.0
-task_goes task.Flush cookie payload old new reply running (inr h) = uncleared old.1 new.1 running h.0
+task_goes (task.Read sector sectors) cookie payload old new reply running (inl h) = was_read old new sector h.bytes h.read
+task_goes (task.Read sector sectors) cookie payload old new reply running (inr h) = was_unread old new running sector sectors h.0
+task_goes (task.Write sector sectors through) cookie payload old new reply running (inl h) = was_taken old new sector payload through h.0
+task_goes (task.Write sector sectors through) cookie payload old new reply running (inr h) = was_untaken old new running sector payload h.0
+task_goes task.Flush cookie payload old new reply running (inl h) = was_flushed old new running h.0
+task_goes task.Flush cookie payload old new reply running (inr h) = was_unflushed old new running h.0
 task_goes task.Disconnect cookie payload old new reply running h = absurd h
 task_goes (task.Refuse error) cookie payload old new reply running h = goes_nowhere old.1 new.1 (ap (λ (p : ArrayWriter × MirrorView). p.1) h.0)
 

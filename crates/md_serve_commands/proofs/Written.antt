@@ -1,5 +1,6 @@
 -- An array is served, and written to.
-use Rattle.std.proofs.Common.{◌≡◌, ◌∙◌, ◌*◌, ⊎_elim, Bool, true, false, refl, sym, ap, subst, true≢false}
+use Rattle.std.proofs.Common.{◌≡◌, ◌∙◌, ◌*◌, ⊎_elim, Bool, true, false, refl, sym, ap, subst, true≢false, Result, Ok, Err}
+use Rattle.std.specs.Prelude.{MatchResult}
 use Rattle.md_bitmap.specs.declared.chunks.Chunks.{Chunks}
 use Rattle.md_resync.proofs.Told.{resynced_array}
 use Rattle.md_state.specs.View.{ArrayView, MirrorView}
@@ -13,7 +14,8 @@ use Rattle.md_nbd.specs.declared.server.session.SessionFault.{SessionFault}
 use Rattle.md_nbd.specs.Export.{sector_bytes}
 use Rattle.md_nbd.specs.Server.Sessions.{BreaksSession, EndsSession, is_orderly}
 use Rattle.md_serve_commands.specs.declared.writer.ArrayWriter.{ArrayWriter}
-use Rattle.md_serve_commands.specs.Writable.{BreaksSo, EndsSo, IsReadyToServe, KeepsPending, MayBeWritten, ServesClient, array_writer, writable_export, writer_store}
+use Rattle.md_serve_commands.specs.Waiting.{KeepsPending, writer_store}
+use Rattle.md_serve_commands.specs.Writable.{IsReadyToServe, MayBeWritten, ServesClient, writable_export}
 use Rattle.md_serve_commands.proofs.Exchanged.{EachKeeps, broken_keeps, session_keeps}
 
 -- ---- requests in flight stay so
@@ -37,37 +39,36 @@ module _ {I S : Type 0} (i : Sources I) (o : Sinks S) (e : Export) (old new : Ar
   broken_pending fault h = broken_keeps KeepsPending pending_keeps i o e old new from to was now fault h
 
 -- ---- the session of an array
--- what clients are told of, and who serves them, by the mirror's chunks
+-- what clients are told of, by the mirror's chunks
 abbrev pub export_by : Chunks → Export
 export_by k = record { size = sector_bytes * k.size; readonly = false }
 
-abbrev pub writer_by : Chunks → ArrayWriter
-writer_by k = record { sectors = k.size }
+module _ {I S : Type 0} (i : Sources I) (o : Sinks S) (k : Chunks) (first last : ArrayWriter) (old new : MirrorView) (from to : I) (was now : S) (is : k ≡ old.array.chunks) where
+  pub session_told : (end : SessionEnd) → EndsSession writer_store i o (export_by k) (first, old) (last, new) from to was now end
+      → EndsSession writer_store i o (writable_export old.array) (first, old) (last, new) from to was now end
+  session_told end h = subst (λ (e : Export). EndsSession writer_store i o e (first, old) (last, new) from to was now end) (ap export_by is) h
 
-module _ {I S : Type 0} (i : Sources I) (o : Sinks S) (k : Chunks) (last : ArrayWriter) (old new : MirrorView) (from to : I) (was now : S) (is : k ≡ old.array.chunks) where
-  pub ends_so : (end : SessionEnd) → EndsSession writer_store i o (export_by k) (writer_by k, old) (last, new) from to was now end → EndsSo i o old new from to was now end
-  ends_so end h = record {
-    last = last;
-    session = subst (λ (c : Chunks). EndsSession writer_store i o (export_by c) (writer_by c, old) (last, new) from to was now end) is h;
-  }
+  pub broken_told : (fault named : SessionFault) → fault ≡ named → BreaksSession writer_store i o (export_by k) (first, old) (last, new) from to was now fault
+      → BreaksSession writer_store i o (writable_export old.array) (first, old) (last, new) from to was now named
+  broken_told fault named same h =
+      subst (λ (f : SessionFault). BreaksSession writer_store i o (writable_export old.array) (first, old) (last, new) from to was now f) same
+      (subst (λ (e : Export). BreaksSession writer_store i o e (first, old) (last, new) from to was now fault) (ap export_by is) h)
 
-  pub breaks_so : (fault named : SessionFault) → fault ≡ named → BreaksSession writer_store i o (export_by k) (writer_by k, old) (last, new) from to was now fault
-      → BreaksSo i o old new from to was now named
-  breaks_so fault named same h = record {
-    last = last;
-    session = subst (λ (f : SessionFault). BreaksSession writer_store i o (writable_export old.array) (array_writer old.array, old) (last, new) from to was now f) same
-        (subst (λ (c : Chunks). BreaksSession writer_store i o (export_by c) (writer_by c, old) (last, new) from to was now fault) is h);
-  }
-
-pub served_client : {I S : Type 0} (i : Sources I) (o : Sinks S) (old new : MirrorView) (from to : I) (was told now : S) (end : SessionEnd) → is_orderly end ≡ true → EndsSo i o old new from to was told end
-    → Flushes o.contents o.failed o.is_flushed told now → ServesClient i o old new from to was now
-served_client i o old new from to was told now end orderly ends flushes = record {
+pub served_client : {I S : Type 0} (i : Sources I) (o : Sinks S) (first last : ArrayWriter) (old new : MirrorView) (from to : I) (was told now : S) (end : SessionEnd) → is_orderly end ≡ true
+    → EndsSession writer_store i o (writable_export old.array) (first, old) (last, new) from to was told end
+    → Flushes o.contents o.failed o.is_flushed told now → ServesClient i o first last old new from to was now
+served_client i o first last old new from to was told now end orderly session flushes = record {
   end = end;
   orderly = orderly;
   told = told;
-  ends = ends;
+  session = session;
   flushed = record { puts = flushes.puts; flushed = flushes.flushed };
 }
+
+-- ---- after it
+pub answer_is : {T E : Type 0} (r : Result T E) → MatchResult r (λ x. r ≡ Ok x) (λ e. r ≡ Err e)
+answer_is (Ok x) = refl
+answer_is (Err e) = refl
 
 -- ---- before it
 pub is_ready : (old ready : MirrorView) → MayBeWritten old.array → ResyncsIfNeeded old ready → IsReadyToServe old ready

@@ -1,5 +1,7 @@
--- What a client is told of, stands; and once the mirror is halted it is told of nothing more.
-use Rattle.std.specs.Prelude.{◌≡◌, ℕ, true, false, List, Option}
+-- What a client is told of is written or waits to be, and stands once a flush is told of; and once the mirror is halted it is told of
+-- nothing more.
+use Rattle.std.specs.Prelude.{◌≡◌, ◌⊎◌, ℕ, ◌+◌, ◌*◌, Bool, true, false, List, [], ◌∷◌, ◌++◌, Option}
+use Rattle.std.specs.List.{flat_map}
 use Rattle.md_model.specs.Events.{Event}
 use Rattle.md_state.specs.Requests.{AreInFlight}
 use Rattle.md_state.specs.View.{MirrorView}
@@ -14,20 +16,74 @@ use Rattle.md_nbd.specs.SimpleReplies.{error_reply, success_reply}
 use Rattle.md_nbd.specs.Server.Exchanges.{AnswersInTurn, AnswersRequest, Exchange}
 use Rattle.md_write.specs.Writing.{Writes}
 use Rattle.md_serve_commands.specs.declared.writer.ArrayWriter.{ArrayWriter}
-use Rattle.md_serve_commands.specs.Writable.{writer_store}
+use Rattle.md_nbd.specs.Export.{sector_bytes}
+use Rattle.md_serve_commands.specs.Waiting.{writer_store}
 
--- A write that is answered without an error is done: each member in sync has its bytes.
-abbrev pub ToldWritesAreDone : Type 0
-ToldWritesAreDone =
-    (e : Export) (old new : ArrayWriter × MirrorView) (x : Exchange) (sector sectors : ℕ)
-    → AnswersRequest writer_store e old new x → task_of e x.request ≡ Write sector sectors
+-- ---- the bytes of writes
+-- bytes and their places in the array, from the first on
+abbrev pub cells : ℕ → List ℕ → List (ℕ × ℕ)
+cells at [] = []
+cells at (b ∷ bs) = (at, b) ∷ cells (at + 1) bs
+
+-- a write: from which sector on, and its bytes
+abbrev pub ArrayWrite : Type 0
+ArrayWrite = ℕ × List ℕ
+
+abbrev pub cells_of : ArrayWrite → List (ℕ × ℕ)
+cells_of w = cells (sector_bytes * w.0) w.1
+
+abbrev pub waiting_cells : ArrayWriter → List (ℕ × ℕ)
+waiting_cells w = cells (sector_bytes * w.start) w.run.items
+
+-- These writes were done, one after another, and nothing else: each member in sync has their bytes.
+abbrev pub WritesInTurn : MirrorView → List ArrayWrite → MirrorView → Type 0
+WritesInTurn old [] new = new ≡ old
+WritesInTurn old (w ∷ ws) new = (mid : MirrorView) × Writes w.0 w.1 old mid × WritesInTurn mid ws new
+
+-- What waited, and then what a client is told of, was written, each byte in its turn and at its place, or waits.
+pub record KeepsBytes (told : List (ℕ × ℕ)) (old new : ArrayWriter × MirrorView) (mid : MirrorView)
+    : Type 0 where
+  pub writes : List ArrayWrite
+  pub done : WritesInTurn old.1 writes mid
+  pub bytes : waiting_cells old.0 ++ told ≡ flat_map cells_of writes ++ waiting_cells new.0
+
+-- A write that is answered without an error is done, or waits behind all that was told of before; one that is to stand is done, and
+-- nothing waits.
+pub record IsWriteTold (sector : ℕ) (bytes : List ℕ) (through : Bool) (old new : ArrayWriter × MirrorView)
+    : Type 0 where
+  pub keeps : KeepsBytes (cells_of (sector, bytes)) old new new.1
+  pub stands : through ≡ true → new.0.run.items ≡ []
+
+abbrev pub ToldWritesAreKept : Type 0
+ToldWritesAreKept =
+    (e : Export) (old new : ArrayWriter × MirrorView) (x : Exchange) (sector sectors : ℕ) (through : Bool)
+    → AnswersRequest writer_store e old new x → task_of e x.request ≡ Write sector sectors through
     → x.reply ≡ success_reply x.request.cookie
-    → Writes sector x.payload old.1 new.1
+    → IsWriteTold sector x.payload through old new
+
+-- Once a flush is answered without an error nothing waits: all that was told of is done.
+pub record IsFlushTold (old new : ArrayWriter × MirrorView) : Type 0 where
+  pub mid : MirrorView
+  pub keeps : KeepsBytes [] old new mid
+  pub none : new.0.run.items ≡ []
+
+abbrev pub ToldFlushesStand : Type 0
+ToldFlushesStand =
+    (e : Export) (old new : ArrayWriter × MirrorView) (x : Exchange)
+    → AnswersRequest writer_store e old new x → task_of e x.request ≡ Flush
+    → x.reply ≡ success_reply x.request.cookie
+    → IsFlushTold old new
+
+-- By no request, whatever it is answered, is a byte lost that waits: it is written in its turn, or waits still.
+abbrev pub NothingIsDropped : Type 0
+NothingIsDropped =
+    (e : Export) (old new : ArrayWriter × MirrorView) (x : Exchange) → AnswersRequest writer_store e old new x
+    → (told : List (ℕ × ℕ)) × (mid : MirrorView) × KeepsBytes told old new mid
 
 -- the request asks for something that the array would have to do
 abbrev pub IsForArray : Task → Type 0
 IsForArray (Read sector sectors) = Unit {0}
-IsForArray (Write sector sectors) = Unit {0}
+IsForArray (Write sector sectors through) = Unit {0}
 IsForArray Flush = Unit {0}
 IsForArray task = ⊥
 

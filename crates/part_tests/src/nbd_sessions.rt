@@ -4,9 +4,7 @@ ghost use Rattle.std.specs.Prelude.{◌/◌, None, false, length, ⊤};
 use crate::checks::{holds, same};
 use md_commands::{Source, SourceFault};
 use md_examine::{Sink, SinkFault};
-use md_nbd::{
-    Export, Gone, Haggled, MOST_BYTES, SessionEnd, Store, StoreFault, haggle, serve_client,
-};
+use md_nbd::{Export, Gone, Haggled, SessionEnd, Store, StoreFault, haggle, serve_client};
 use std::test::Fail;
 
 // Gives these bytes, at most seven at a time.
@@ -103,7 +101,7 @@ impl Store<Vec<u8>> for Plain {
 
     ghost unread = { λ _ _ _ _. ⊤ };
 
-    ghost writes = { λ _ _ _ _. ⊤ };
+    ghost writes = { λ _ _ _ _ _. ⊤ };
 
     ghost unwritten = { λ _ _ _ _. ⊤ };
 
@@ -117,7 +115,13 @@ impl Store<Vec<u8>> for Plain {
         Ok(())
     }
 
-    fn write(&mut self, lent: &mut Vec<u8>, sector: u64, bytes: &[u8]) -> Result<(), StoreFault> {
+    fn write(
+        &mut self,
+        lent: &mut Vec<u8>,
+        sector: u64,
+        bytes: &[u8],
+        _: bool,
+    ) -> Result<(), StoreFault> {
         let at = 512 * sector as usize;
         lent[at..at + bytes.len()].copy_from_slice(bytes);
         Ok(())
@@ -159,7 +163,7 @@ fn serves_a_client(rt: HostRuntime) -> Result<(), Fail> {
     said.extend_from_slice(&READ)?;
     said.extend_from_slice(&DISCONNECT)?;
     let mut store = vec![in rt.alloc(); b'.'; 2048]?;
-    let mut buf = vec![in rt.alloc(); 0; MOST_BYTES as usize]?;
+    let mut buf = vec![in rt.alloc(); 0; 65536]?;
     let mut input = Given {
         bytes: said.as_slice(),
     };

@@ -12,11 +12,12 @@ use Rattle.md_commands.specs.declared.source.Source.{Ghosts as Sources}
 use Rattle.md_examine.specs.declared.sink.Sink.{Ghosts as Sinks}
 use Rattle.md_nbd.specs.declared.server.transmission.Gone.{Gone}
 use Rattle.md_nbd.specs.declared.server.transmission.Gone.TheVariants as gone
+use Rattle.md_nbd.specs.declared.server.transmission.StreamFault.{StreamFault}
 use Rattle.md_nbd.specs.declared.server.transmission.StreamFault.TheVariants as fault
 use Rattle.md_nbd.specs.Server.Exchanges.{AnswersInTurn, AnswersRequest, DoesTask, Exchange, exchange_bytes, reply_of}
-use Rattle.md_nbd.specs.Server.RequestsTaken.{GivesNone, TakesRequest}
+use Rattle.md_nbd.specs.Server.RequestsTaken.{FailsToTake, GivesNone, TakesRequest}
 use Rattle.md_nbd.specs.Server.Told.{FailsToTell, IsAskedToGo, TellsTask}
-use Rattle.md_nbd.specs.Server.Transmission.{BreaksOff, GivesDisconnect, HasAnswered, HasGone, Transmits}
+use Rattle.md_nbd.specs.Server.Transmission.{BreaksOff, GivesDisconnect, HasAnswered, HasFailed, HasGone, Transmits}
 use Rattle.md_nbd.proofs.ServerLemmas.Pieces.{gives_both, gives_nothing}
 use Rattle.md_nbd.proofs.ServerLemmas.ToldReplies.{puts_both, puts_nothing}
 
@@ -91,10 +92,16 @@ pub all_answered : {S M I O : Type 0} (s : Stores S M) (i : Sources I) (o : Sink
     → SoManyAnswered s i o e (2 ^ 64 - 1) old mid from at was then → Transmits s i o e old mid from at was then gone.Exhausted
 all_answered s i o e old mid from at was then h = record { exchanges = h.exchanges; at = at; answered = h.answered; gone = (h.count_is, refl) }
 
-pub source_failed : {S M I O : Type 0} (s : Stores S M) (i : Sources I) (o : Sinks O) (e : Export) (count : ℕ) (old mid : S × M) (from at to : I) (was then : O)
-    → SoManyAnswered s i o e count old mid from at was then → i.failed to ≡ true → BreaksOff s i o e old mid from to was then fault.Source
-source_failed s i o e count old mid from at to was then h failed =
-    record { exchanges = h.exchanges; mid = mid; at = at; before = then; answered = h.answered; failed = (failed, refl, refl) }
+not_taken : {S M I O : Type 0} (s : Stores S M) (i : Sources I) (o : Sinks O) (e : Export) (mid : S × M) (at to : I) (then : O) (why : StreamFault) → FailsToTake i to why
+    → HasFailed s i o e mid mid at to then then why
+not_taken s i o e mid at to then fault.Source h = (h, refl, refl)
+not_taken s i o e mid at to then fault.NoMemory h = (refl, refl)
+not_taken s i o e mid at to then fault.Sink h = absurd h
+
+pub taking_failed : {S M I O : Type 0} (s : Stores S M) (i : Sources I) (o : Sinks O) (e : Export) (count : ℕ) (old mid : S × M) (from at to : I) (was then : O) (why : StreamFault)
+    → SoManyAnswered s i o e count old mid from at was then → FailsToTake i to why → BreaksOff s i o e old mid from to was then why
+taking_failed s i o e count old mid from at to was then why h failed =
+    record { exchanges = h.exchanges; mid = mid; at = at; before = then; answered = h.answered; failed = not_taken s i o e mid at to then why failed }
 
 pub sink_failed : {S M I O : Type 0} (s : Stores S M) (i : Sources I) (o : Sinks O) (e : Export) (count : ℕ) (old mid new : S × M) (from at to : I) (was then now : O) (r : Request) (buf : List ℕ)
     → SoManyAnswered s i o e count old mid from at was then → TakesRequest i at to buf r → FailsToTell s o (task_of e r) r.cookie (take (payload_of r) buf) mid new now → BreaksOff s i o e old new from to was now fault.Sink

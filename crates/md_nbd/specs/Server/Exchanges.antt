@@ -35,7 +35,7 @@ module _ {S M : Type 0} (s : Stores S M) where
   -- changes nothing.
   abbrev pub DoesTask : Task → ℕ → List ℕ → S × M → S × M → List ℕ → Type 0
   DoesTask (Read sector sectors) cookie payload old new reply = RepliesWithBytes old new sector sectors cookie reply ⊎ (s.unread old new sector sectors × (reply ≡ error_reply Io cookie))
-  DoesTask (Write sector sectors) cookie payload old new reply = (s.writes old new sector payload × (reply ≡ success_reply cookie)) ⊎ (s.unwritten old new sector payload × (reply ≡ error_reply Io cookie))
+  DoesTask (Write sector sectors through) cookie payload old new reply = (s.writes old new sector payload through × (reply ≡ success_reply cookie)) ⊎ (s.unwritten old new sector payload × (reply ≡ error_reply Io cookie))
   DoesTask Flush cookie payload old new reply = (s.flushes old new × (reply ≡ success_reply cookie)) ⊎ (s.unflushed old new × (reply ≡ error_reply Io cookie))
   DoesTask Disconnect cookie payload old new reply = ⊥
   DoesTask (Refuse error) cookie payload old new reply = (new ≡ old) × (reply ≡ error_reply error cookie)

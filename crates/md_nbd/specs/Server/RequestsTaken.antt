@@ -1,5 +1,5 @@
 -- A request is taken from the source, or none comes any more.
-use Rattle.std.specs.Prelude.{◌≡◌, ◌⊎◌, ℕ, ◌<◌, ◌≤◌, List, [], ◌++◌, length, take, Result, MatchResult}
+use Rattle.std.specs.Prelude.{◌≡◌, ◌⊎◌, ℕ, ◌<◌, ◌≤◌, true, List, [], ◌++◌, length, take, Result, MatchResult}
 use Rattle.std.specs.Io.KnownBytes.{IsAtEnd}
 use Rattle.md_nbd.specs.declared.request.Request.{Request}
 use Rattle.md_nbd.specs.Export.{most_bytes}
@@ -7,6 +7,8 @@ use Rattle.md_nbd.specs.NbdRequests.{payload_of, request_bytes}
 use Rattle.md_commands.specs.declared.source.Source.{Ghosts as Sources}
 use Rattle.md_nbd.specs.declared.server.transmission.Gone.{Gone}
 use Rattle.md_nbd.specs.declared.server.transmission.Gone.TheVariants as gone
+use Rattle.md_nbd.specs.declared.server.transmission.StreamFault.{StreamFault}
+use Rattle.md_nbd.specs.declared.server.transmission.StreamFault.TheVariants as fault
 use Rattle.md_commands.specs.Source.{Gives}
 
 -- A request came, and the bytes that it writes stand at the front of the buffer.
@@ -53,6 +55,12 @@ GivesNone i old new gone.NoRequest = GivesNoRequest i old new
 GivesNone i old new gone.TooLong = GivesTooLong i old new
 GivesNone i old new gone.Disconnected = ⊥
 GivesNone i old new gone.Exhausted = ⊥
+
+-- The source has failed, or there was no memory for what the request reads or writes.
+abbrev pub FailsToTake : {I : Type 0} → Sources I → I → StreamFault → Type 0
+FailsToTake i new fault.Source = i.failed new ≡ true
+FailsToTake i new fault.NoMemory = Unit {0}
+FailsToTake i new fault.Sink = ⊥
 
 abbrev pub TakesRequestOrNone : {I : Type 0} → Sources I → I → I → List ℕ → Result Request Gone → Type 0
 TakesRequestOrNone i old new buf result = MatchResult result (TakesRequest i old new buf) (GivesNone i old new)

@@ -41,6 +41,7 @@ of_haggling haggling.NoMemory = fault.NoMemory
 abbrev pub of_stream : StreamFault → SessionFault
 of_stream stream.Source = fault.Source
 of_stream stream.Sink = fault.Sink
+of_stream stream.NoMemory = fault.NoMemory
 
 -- ---- the greeting
 module _ {I O : Type 0} (i : Sources I) (o : Sinks O) (from to : I) (was now : O) where

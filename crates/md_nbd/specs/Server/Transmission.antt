@@ -55,12 +55,14 @@ pub record IsUntold {S M I O : Type 0} (s : Stores S M) (i : Sources I) (o : Sin
   pub answers : AnswersRequest s e mid new last
   pub failed : o.failed now ≡ true
 
--- The stream that is named has failed. Where that is the source, nothing was done since the last reply.
+-- The stream that is named has failed, or there is no memory for a request. Unless the sink has failed, nothing was done since the
+-- last reply.
 abbrev pub HasFailed : {S M I O : Type 0} → Stores S M → Sources I → Sinks O → Export → S × M → S × M → I → I → O → O → StreamFault → Type 0
 HasFailed s i o e mid new at to then now fault.Source = (i.failed to ≡ true) × (new ≡ mid) × (now ≡ then)
+HasFailed s i o e mid new at to then now fault.NoMemory = (new ≡ mid) × (now ≡ then)
 HasFailed s i o e mid new at to then now fault.Sink = IsUntold s i o e mid new at to now
 
--- Requests came and were answered, and then a stream failed.
+-- Requests came and were answered, and then a stream failed, or memory.
 pub record BreaksOff {S M I O : Type 0} (s : Stores S M) (i : Sources I) (o : Sinks O) (e : Export) (old new : S × M) (from to : I) (was now : O) (why : StreamFault) : Type 0 where
   pub exchanges : List Exchange
   pub mid : S × M

@@ -1,25 +1,57 @@
 // A request is taken from the source.
-ghost use Rattle.std.specs.Prelude.{◌≡◌, MatchResult, length, true};
+ghost use Rattle.std.specs.Prelude.{◌≡◌, ◌≤◌, IfOk, MatchResult, OnOk, length, take, true};
 ghost use Rattle.md_nbd.specs.Export.{most_bytes};
-ghost use Rattle.md_nbd.specs.Server.RequestsTaken.{TakesRequestOrNone};
+ghost use Rattle.md_nbd.specs.Server.FrontFilled.{FillsFrontOf};
+ghost use Rattle.md_nbd.specs.Server.RequestsTaken.{FailsToTake, TakesRequestOrNone};
 
-use crate::request::{Request, decode_request, payload_of};
+use crate::export::MOST_BYTES;
+use crate::request::{Request, decode_request, payload_of, room_of};
 use crate::server::filling_front::fill_front;
-use crate::server::transmission::Gone;
+use crate::server::transmission::{Gone, StreamFault};
 use md_commands::{Source, SourceFault};
+use std::alloc::{AllocError, Global};
 
-/// Takes the next request, and what it writes into the front of `buf`; or says why there is none.
-pub(crate) fn take_request<I: Source>(
+// Makes `buf` so long, and takes new memory for it only where it is shorter. The old memory goes before, and with it what stood there.
+fn make_room(alloc: Global, buf: &mut Vec<u8>, len: usize) -> Result<(), AllocError>
+    ensures { OnOk result (len ≤ length buf.new.items) }
+{
+    if buf.len() < len {
+        *buf = Vec::new(alloc);
+        buf.resize(len, 0)?;
+    }
+    Ok(())
+}
+
+// Takes so many bytes into the front of `buf`, fewer only where the source ended.
+fn take_payload<I: Source>(
     input: &mut I,
     buf: &mut [u8],
-) -> Result<Result<Request, Gone>, SourceFault>
-    requires { length buf.old ≡ most_bytes }
+    payload: usize,
+) -> Result<usize, SourceFault>
+    requires { payload ≤ length buf.old }
     ensures { MatchResult result
-        (TakesRequestOrNone I.Source input.old input.new buf.new)
+        (FillsFrontOf I.Source input.old input.new (take payload buf.new))
         (λ _. I.failed input.new ≡ true) }
 {
+    fill_front(input, &mut buf[..payload])
+}
+
+/// Takes the next request, and what it writes into the front of `buf`, which gets room for what the request reads or writes; or says
+/// why there is none.
+pub(crate) fn take_request<I: Source>(
+    alloc: Global,
+    input: &mut I,
+    buf: &mut Vec<u8>,
+) -> Result<Result<Request, Gone>, StreamFault>
+    ensures takes { MatchResult result
+        (TakesRequestOrNone I.Source input.old input.new buf.new.items)
+        (FailsToTake I.Source input.new) }
+    ensures room { IfOk result (λ taken. IfOk taken (λ r. r.length ≤ most_bytes → r.length ≤ length buf.new.items)) }
+{
     let mut head = [0; 28];
-    let taken = fill_front(input, &mut head)?;
+    let Ok(taken) = fill_front(input, &mut head) else {
+        return Err(StreamFault::Source);
+    };
     if taken == 0 {
         return Ok(Err(Gone::Ended));
     }
@@ -29,11 +61,18 @@ pub(crate) fn take_request<I: Source>(
     let Some(request) = decode_request(&head) else {
         return Ok(Err(Gone::NoRequest));
     };
-    let payload = payload_of(&request) as usize;
-    if payload > buf.len() {
+    let payload = payload_of(&request);
+    if payload > MOST_BYTES {
         return Ok(Err(Gone::TooLong));
     }
-    if fill_front(input, &mut buf[..payload])? < payload {
+    let Ok(()) = make_room(alloc, buf, room_of(&request) as usize) else {
+        return Err(StreamFault::NoMemory);
+    };
+    let payload = payload as usize;
+    let Ok(filled) = take_payload(input, buf, payload) else {
+        return Err(StreamFault::Source);
+    };
+    if filled < payload {
         return Ok(Err(Gone::Cut));
     }
     Ok(Ok(request))

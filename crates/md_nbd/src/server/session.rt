@@ -1,6 +1,6 @@
 // A whole session with a client: the greeting, the client's flags, its options, and its requests.
 ghost use Rattle.std.specs.Prelude.{◌≡◌, ◌*◌, ◌≤◌, MatchResult, length};
-ghost use Rattle.md_nbd.specs.Export.{most_bytes, sector_bytes};
+ghost use Rattle.md_nbd.specs.Export.{sector_bytes};
 ghost use Rattle.md_nbd.specs.Server.Sessions.{BreaksSession, EndsSession, FailsToGreet, GreetsOrEnds, is_orderly};
 
 use crate::export::Export;
@@ -76,6 +76,7 @@ impl From<StreamFault> for SessionFault {
         match fault {
             StreamFault::Source => SessionFault::Source,
             StreamFault::Sink => SessionFault::Sink,
+            StreamFault::NoMemory => SessionFault::NoMemory,
         }
     }
 }
@@ -107,17 +108,17 @@ fn greet<I: Source, O: Sink>(
 }
 
 /// Serves one client, from the greeting on until it goes, and says how the session ended. What is read and written stands in
-/// `buf`, and so do the options; an answer to an option takes memory while it is put out.
+/// `buf`, which gets room for it, and so do the options; an answer to an option takes memory while it is put out.
 pub fn serve_client<M, S: Store<M>, I: Source, O: Sink>(
     alloc: Global,
     export: &Export,
     store: &mut S,
     lent: &mut M,
-    buf: &mut [u8],
+    buf: &mut Vec<u8>,
     input: &mut I,
     out: &mut O,
 ) -> Result<SessionEnd, SessionFault>
-    requires room { length buf.old ≡ most_bytes }
+    requires room { 65536 ≤ length buf.old.items }
     requires size { export.now.size ≤ sector_bytes * S.sectors (store.old, lent.old) }
     requires sound { S.is_sound (store.old, lent.old) }
     ensures serves { MatchResult result
@@ -136,6 +137,6 @@ pub fn serve_client<M, S: Store<M>, I: Source, O: Sink>(
         Haggled::Agreed => {}
         why => return Ok(SessionEnd::Unagreed(why)),
     }
-    let gone = answer_requests(export, store, lent, buf, input, out)?;
+    let gone = answer_requests(alloc, export, store, lent, buf, input, out)?;
     Ok(SessionEnd::Gone(gone))
 }

@@ -1,5 +1,5 @@
 // What is served.
-ghost use Rattle.std.specs.Prelude.{◌≡◌, ◌+◌, ◌/◌, ◌%◌, ◌<◌, ◌≤◌, List, ℕ, MatchResult, length};
+ghost use Rattle.std.specs.Prelude.{◌≡◌, ◌+◌, ◌/◌, ◌%◌, ◌<◌, ◌≤◌, Bool, List, ℕ, MatchResult, length};
 
 /// A sector can't be read, or a write or a flush was not done, or not surely.
 #[derive(Clone, Copy, Debug, PartialEq, Eq)]
@@ -20,8 +20,9 @@ pub trait Store<M> {
     /// So many sectors from this one on were not all given.
     ghost unread: { Self × M → Self × M → ℕ → ℕ → Type 0 };
 
-    /// These bytes are written from this sector on, and stand.
-    ghost writes: { Self × M → Self × M → ℕ → List ℕ → Type 0 };
+    /// These bytes are written from this sector on: they are read from now on, and stand once all that was written does, or at
+    /// once if that is asked.
+    ghost writes: { Self × M → Self × M → ℕ → List ℕ → Bool → Type 0 };
 
     /// These bytes are not written from this sector on, or not surely.
     ghost unwritten: { Self × M → Self × M → ℕ → List ℕ → Type 0 };
@@ -44,14 +45,20 @@ pub trait Store<M> {
         ensures sound { is_sound (self.new, lent.new) }
         ensures size { sectors (self.new, lent.new) ≡ sectors (self.old, lent.old) };
 
-    /// Writes these bytes from this sector on.
-    fn write(&mut self, lent: &mut M, sector: u64, bytes: &[u8]) -> Result<(), StoreFault>
+    /// Writes these bytes from this sector on; with `through` they have to stand before the answer.
+    fn write(
+        &mut self,
+        lent: &mut M,
+        sector: u64,
+        bytes: &[u8],
+        through: bool,
+    ) -> Result<(), StoreFault>
         requires whole { length bytes.now % 512 ≡ 0 }
         requires some { 0 < length bytes.now }
         requires fits { sector + length bytes.now / 512 ≤ sectors (self.old, lent.old) }
         requires sound { is_sound (self.old, lent.old) }
         ensures gives { MatchResult result
-            (λ _. writes (self.old, lent.old) (self.new, lent.new) sector bytes.now)
+            (λ _. writes (self.old, lent.old) (self.new, lent.new) sector bytes.now through)
             (λ _. unwritten (self.old, lent.old) (self.new, lent.new) sector bytes.now) }
         ensures sound { is_sound (self.new, lent.new) }
         ensures size { sectors (self.new, lent.new) ≡ sectors (self.old, lent.old) };

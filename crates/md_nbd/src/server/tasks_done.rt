@@ -44,7 +44,7 @@ pub(crate) fn do_read<M, S: Store<M>, O: Sink>(
     }
 }
 
-/// Writes sectors.
+/// Writes sectors, which with `through` have to stand before the answer.
 pub(crate) fn do_write<M, S: Store<M>, O: Sink>(
     store: &mut S,
     lent: &mut M,
@@ -52,17 +52,18 @@ pub(crate) fn do_write<M, S: Store<M>, O: Sink>(
     cookie: u64,
     sector: u64,
     bytes: &[u8],
+    through: bool,
 ) -> Result<(), SinkFault>
     requires whole { length bytes.now % 512 ≡ 0 }
     requires some { 0 < length bytes.now }
     requires fits { sector + length bytes.now / 512 ≤ S.sectors (store.old, lent.old) }
     requires sound { S.is_sound (store.old, lent.old) }
-    ensures tells { TellsTaskOrFails S.Store O.Sink (WriteTask sector (length bytes.now / 512)) cookie bytes.now
+    ensures tells { TellsTaskOrFails S.Store O.Sink (WriteTask sector (length bytes.now / 512) through) cookie bytes.now
         (store.old, lent.old) (store.new, lent.new) out.old out.new result }
     ensures sound { S.is_sound (store.new, lent.new) }
     ensures size { S.sectors (store.new, lent.new) ≡ S.sectors (store.old, lent.old) }
 {
-    match store.write(lent, sector, bytes) {
+    match store.write(lent, sector, bytes, through) {
         Ok(()) => put(out, &success_reply(cookie)),
         Err(StoreFault) => put(out, &error_reply(ErrorCode::Io, cookie)),
     }

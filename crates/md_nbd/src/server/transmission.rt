@@ -14,6 +14,7 @@ use crate::server::tasks_done::{do_flush, do_read, do_refuse, do_write};
 use crate::task::{Task, task_of};
 use md_commands::Source;
 use md_examine::{Sink, SinkFault};
+use std::alloc::Global;
 
 /// Why no more requests are answered.
 #[derive(Clone, Copy, Debug, PartialEq, Eq)]
@@ -32,11 +33,15 @@ pub enum Gone {
     Exhausted,
 }
 
-/// The source or the sink has failed.
+/// Why no more requests are answered, though they may come.
 #[derive(Clone, Copy, Debug, PartialEq, Eq)]
 pub enum StreamFault {
+    /// The source has failed.
     Source,
+    /// The sink has failed.
     Sink,
+    /// There is no memory for what a request reads or writes.
+    NoMemory,
 }
 
 // Does what a request asks for, and answers: false where it asks the server to go.
@@ -48,7 +53,8 @@ fn answer<M, S: Store<M>, O: Sink>(
     buf: &mut [u8],
     out: &mut O,
 ) -> Result<bool, SinkFault>
-    requires room { length buf.old ≡ most_bytes }
+    requires room { request.now.length ≤ most_bytes → request.now.length ≤ length buf.old }
+    requires payload { payload_of request.now ≤ length buf.old }
     requires size { export.now.size ≤ sector_bytes * S.sectors (store.old, lent.old) }
     requires sound { S.is_sound (store.old, lent.old) }
     ensures answers { MatchResult result
@@ -65,9 +71,9 @@ fn answer<M, S: Store<M>, O: Sink>(
             let room = &mut buf[..512 * sectors as usize];
             do_read(store, lent, out, cookie, sector, room)?;
         }
-        Task::Write(sector, sectors) => {
+        Task::Write(sector, sectors, through) => {
             let bytes = &buf[..512 * sectors as usize];
-            do_write(store, lent, out, cookie, sector, bytes)?;
+            do_write(store, lent, out, cookie, sector, bytes, through)?;
         }
         Task::Flush => do_flush(store, lent, out, cookie)?,
         Task::Refuse(error) => do_refuse(store, lent, out, cookie, error)?,
@@ -77,18 +83,18 @@ fn answer<M, S: Store<M>, O: Sink>(
 }
 
 /// Takes requests and answers them, one after another, until the client goes, and says why no more come. What is read and written
-/// stands in `buf`, which is all the memory that it takes.
+/// stands in `buf`, which gets room for that, 32 MiB at most: the server takes no other memory.
 ///
 /// The export may be smaller than the store, and none of its requests goes past it. Where a stream fails no reply is made up for what was not told.
 pub fn answer_requests<M, S: Store<M>, I: Source, O: Sink>(
+    alloc: Global,
     export: &Export,
     store: &mut S,
     lent: &mut M,
-    buf: &mut [u8],
+    buf: &mut Vec<u8>,
     input: &mut I,
     out: &mut O,
 ) -> Result<Gone, StreamFault>
-    requires room { length buf.old ≡ most_bytes }
     requires size { export.now.size ≤ sector_bytes * S.sectors (store.old, lent.old) }
     requires sound { S.is_sound (store.old, lent.old) }
     ensures answers { MatchResult result
@@ -98,10 +104,7 @@ pub fn answer_requests<M, S: Store<M>, I: Source, O: Sink>(
     ensures size { S.sectors (store.new, lent.new) ≡ S.sectors (store.old, lent.old) }
 {
     for answered in 0..u64::MAX {
-        let Ok(taken) = take_request(input, buf) else {
-            return Err(StreamFault::Source);
-        };
-        let request = match taken {
+        let request = match take_request(alloc, input, buf)? {
             Ok(request) => request,
             Err(gone) => return Ok(gone),
         };

@@ -1,8 +1,15 @@
-use Rattle.md_serve_commands.proofs.Halted.{request_halted, session_halted, told_done}
+use Rattle.md_serve_commands.proofs.Halted.{request_halted, session_halted}
+use Rattle.md_serve_commands.proofs.Kept.{flush_told, nothing_dropped, write_told}
 use Rattle.md_serve_commands.proofs.laws.told_writes.Goals as goal
 
-pub returns-clause-done : goal.returns-clause-done
-returns-clause-done c = told_done
+pub returns-clause-kept : goal.returns-clause-kept
+returns-clause-kept c = λ e old new x sector sectors through answers is told. write_told e old new x answers sector sectors through is told
+
+pub returns-clause-flushed : goal.returns-clause-flushed
+returns-clause-flushed c = λ e old new x answers is told. flush_told e old new x answers is told
+
+pub returns-clause-dropped : goal.returns-clause-dropped
+returns-clause-dropped c = nothing_dropped
 
 pub returns-clause-halted : goal.returns-clause-halted
 returns-clause-halted c = request_halted
