@@ -112,7 +112,8 @@ AreFit runs = All (λ run. (0 < run.len) × (run.start + run.len ≤ 2 ^ 54)) ru
 
 -- a set to which sectors of another were added, all of them or not
 abbrev pub HasSomeOf : List Run → List Run → List Run → Type 0
-HasSomeOf was more now = ((s : ℕ) → IsBad was s → IsBad now s) × ((s : ℕ) → IsBad now s → IsBad was s ⊎ IsBad more s)
+HasSomeOf was more now =
+    ((s : ℕ) → IsBad was s → IsBad now s) × ((s : ℕ) → IsBad now s → IsBad was s ⊎ IsBad more s)
 
 -- ---- a part of a longer range
 -- no sector from this one on is missing yet

@@ -89,7 +89,8 @@ abbrev pub RefusesRequest : ArrayReader × MirrorView → ArrayReader × MirrorV
 RefusesRequest old new sector sectors =
     KeepsWay old.0 new.0 × (new.0.missing ≡ old.0.missing)
     × LacksSector old.0.way sector sectors old.1 new.1
-    × (old.0.fill ≡ true → sectors ≤ vec_capacity old.0.holes → FillsUnnotedRequest old.0.way sector sectors old.1 new.1)
+    × (old.0.fill ≡ true → sectors ≤ vec_capacity old.0.holes
+    → FillsUnnotedRequest old.0.way sector sectors old.1 new.1)
 
 -- No write is done, and none is waited for.
 abbrev pub reader_store : Stores ArrayReader MirrorView

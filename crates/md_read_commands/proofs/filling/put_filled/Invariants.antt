@@ -1,8 +1,9 @@
-use Rattle.std.proofs.Common.{◌≡◌, ◌-◌, ◌≤◌, length}
+use Rattle.std.proofs.Common.{◌≡◌, ◌*◌, ◌-◌, ◌≤◌, length, min}
 use Rattle.std.specs.Prelude.{vec_capacity}
 use Rattle.md_array.specs.Consistency.{IsConsistent}
+use Rattle.md_read_commands.specs.Pieces.{piece_sectors}
 use Rattle.md_read_commands.proofs.FilledPut.{FilledSoFar}
-use Rattle.md_read_commands.proofs.filling.put_filled_pieces.Given as goal
+use Rattle.md_read_commands.proofs.filling.put_filled.Given as goal
 
 abbrev pub decreases-loop-done : goal.decreases-loop-done
 decreases-loop-done g l = l.count - l.done
@@ -12,7 +13,7 @@ invariant-loop-done g l = record {
   so_far : FilledSoFar g.S.Sink l.way l.sector l.done l.missing l.fn.mirror l.mirror l.fn.out l.out;
   sound : IsConsistent l.mirror;
   array : l.mirror.array ≡ l.fn.mirror.array;
-  long : length l.buffer ≡ length l.fn.buffer;
+  long : length l.piece.items ≡ 512 * min l.count piece_sectors;
   few : l.done ≤ l.count;
-  holes : vec_capacity l.holes ≡ vec_capacity l.fn.holes;
+  holes : piece_sectors ≤ vec_capacity l.holes;
 }
