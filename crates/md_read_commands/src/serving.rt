@@ -14,14 +14,14 @@ use md_badblocks::BadSet;
 use md_commands::{CommandFault, Source};
 use md_device::Device;
 use md_examine::Sink;
-use md_nbd::{Export, SessionFault, serve_client};
+use md_nbd::{Export, MOST_BYTES, SessionFault, serve_client};
 use std::alloc::Global;
 
 // The room for requests at first, in sectors: what a client's options need, and the requests of most clients.
 const LEAST_SECTORS: u64 = 2048;
 
 // The sectors of the longest request that is done.
-const MOST_SECTORS: usize = 65536;
+const MOST_SECTORS: usize = MOST_BYTES / 512;
 
 /// Serves an array to a client of the NBD protocol until it goes, and writes nothing. Its sectors are those that
 /// `read_array_readonly` puts out. A request of which a sector is not given is answered with EIO, and no other is; or, with
