@@ -21,7 +21,7 @@ use std::alloc::Global;
 const LEAST_SECTORS: u64 = 2048;
 
 // The sectors of the longest request that is done.
-const MOST_SECTORS: usize = MOST_BYTES / 512;
+const MOST_SECTORS: usize = MOST_BYTES as usize / 512;
 
 /// Serves an array to a client of the NBD protocol until it goes, and writes nothing. Its sectors are those that
 /// `read_array_readonly` puts out. A request of which a sector is not given is answered with EIO, and no other is; or, with
