@@ -23,6 +23,7 @@ mod opened;
 mod performing;
 mod running;
 mod session;
+mod set_uuid;
 mod show_devices;
 mod sizing;
 

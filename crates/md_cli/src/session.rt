@@ -3,7 +3,7 @@ use md_badblocks::BadSet;
 use std::alloc::Global;
 
 /// What each command is given of the machine that it runs on: what starts threads, the memory, the input, the output,
-/// who is told of a rebuild or a check, and who is asked. And, of a read that was to put out zeros for sectors that are not
+/// who is told of a rebuild or a check, who is asked, and random bytes for a UUID, where there are any. And, of a read that was to put out zeros for sectors that are not
 /// given, and has put out all, which sectors these are.
 #[derive(Drop)]
 pub struct Session<'a, T, R: Drop, S: Drop, W, A: Drop> {
@@ -13,5 +13,6 @@ pub struct Session<'a, T, R: Drop, S: Drop, W, A: Drop> {
     pub out: S,
     pub watch: &'a W,
     pub asker: A,
+    pub random_bytes: Option<[u8; 16]>,
     pub missing: Option<BadSet>,
 }

@@ -37,11 +37,15 @@ text_in name rows = unwrap_or (first_of name rows) []
 abbrev pub number_in : ℕ → Text → List Row → ℕ
 number_in bits name rows = number_or_zero bits (text_in name rows)
 
+-- the UUID, where one is given
+abbrev pub uuid_in : List Row → Option Text
+uuid_in rows = first_of (codes "uuid") rows
+
 abbrev pub options_in : List Row → Options
 options_in rows = record {
   level = text_in (codes "level") rows;
   raid_devices = number_in 32 (codes "raid-devices") rows;
-  uuid = text_in (codes "uuid") rows;
+  uuid = uuid_in rows;
   name = text_in (codes "name") rows;
   bitmap_chunk = number_in 32 (codes "bitmap-chunk") rows;
   size = option_map (number_or_zero 64) (first_of (codes "size") rows);

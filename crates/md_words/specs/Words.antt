@@ -135,8 +135,7 @@ write_app = completed (with_sector (new_app (codes "write")))
 -- `create`: what it must be given, and what it may
 abbrev pub with_required : App → App
 with_required a =
-    with_rule (with_rule (with_rule a (required (value_rule (codes "level"))))
-    (required (u32_rule (codes "raid-devices")))) (required (value_rule (codes "uuid")))
+    with_rule (with_rule a (required (value_rule (codes "level")))) (required (u32_rule (codes "raid-devices")))
 
 abbrev pub with_optional : App → App
 with_optional a =
@@ -145,7 +144,9 @@ with_optional a =
     (with_rule
     (with_rule
     (with_rule
-    (with_rule a (by_default (codes "md") (value_rule (codes "name"))))
+    (with_rule
+    (with_rule a (value_rule (codes "uuid")))
+    (by_default (codes "md") (value_rule (codes "name"))))
     (by_default (codes "65536") (u32_rule (codes "bitmap-chunk"))))
     (u64_rule (codes "size")))
     (by_default (codes "0") (u64_rule (codes "time"))))

@@ -179,9 +179,9 @@ const RAID_DEVICES: OptionWords = OptionWords {
 const UUID: OptionWords = OptionWords {
     name: "uuid",
     value: "UUID",
-    help: "The UUID of the array",
+    help: "The UUID of the array, with hyphens or as mdadm writes it: by default a random one",
     kind: Kind::Text,
-    required: true,
+    required: false,
     default: None,
 };
 

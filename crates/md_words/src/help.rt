@@ -14,7 +14,7 @@ pub(crate) const PLAN: &str =
 
 /// Of `create`.
 pub(crate) const CREATE: &str =
-    "WHAT THE IMAGES HELD IS LOST, arrays or file systems. At a terminal it is asked first where something is found on one of them, unless --run is given. All of them are opened before the first write: where one can't be written, or is in use, the command is refused and nothing is changed.\n\nThe word `missing` in place of an image stands for a member that is not there. The array is degraded then.\n\nThe status is 0 where the array is made, 1 where it is refused (standard error names the fault), and 2 where the words are not accepted.\n\nExample:\n  mdcli create --level raid1 --raid-devices 2 --uuid 00112233-4455-6677-8899-aabbccddeeff a.img b.img";
+    "WHAT THE IMAGES HELD IS LOST, arrays or file systems. At a terminal it is asked first where something is found on one of them, unless --run is given. All of them are opened before the first write: where one can't be written, or is in use, the command is refused and nothing is changed.\n\nThe word `missing` in place of an image stands for a member that is not there. The array is degraded then.\n\n--uuid is taken with hyphens, and with colons as `mdadm` writes it (00112233:44556677:8899aabb:ccddeeff). Without it the array gets a random UUID, of version 4.\n\nThe status is 0 where the array is made, 1 where it is refused (standard error names the fault), and 2 where the words are not accepted.\n\nExample:\n  mdcli create --level raid1 --raid-devices 2 a.img b.img";
 
 /// Of `grow`.
 pub(crate) const GROW: &str =

@@ -3,7 +3,7 @@ ghost use Rattle.std.specs.Prelude.{◌≡◌, IfOk, [], codes, map, option_map,
 ghost use Rattle.std.specs.Str.{bytes_eq};
 ghost use Rattle.clap.specs.Words.{FailsBy, fault_of, first_of, found_of, matched_of, raw_values, rows_of, subcommand_of, subcommand_rows_of};
 ghost use Rattle.md_words.specs.Words.{mdcli};
-ghost use Rattle.md_words.specs.Parsing.{all_in, ask_found, ask_named, ask_to_change, asked, check_form_in, command_fault, fill_in, full_in, has_maps, image_form_in, image_words, images_found, is_verbose, json_in, lacks_option, list_in, map_out_found, map_out_in, map_out_word, map_words, maps_found, member_at, member_fault, member_in, member_named, names_map_alone, names_no_member, needs_readonly, number_in, number_or_zero, option_fault, options_in, output_found, output_in, output_word, place_in, readonly_in, run_found, run_in, runs, serve_in, text_in, verbose_found, verbose_in, words_fault};
+ghost use Rattle.md_words.specs.Parsing.{all_in, ask_found, ask_named, ask_to_change, asked, check_form_in, command_fault, fill_in, full_in, has_maps, image_form_in, image_words, images_found, is_verbose, json_in, lacks_option, list_in, map_out_found, map_out_in, map_out_word, map_words, maps_found, member_at, member_fault, member_in, member_named, names_map_alone, names_no_member, needs_readonly, number_in, number_or_zero, option_fault, options_in, output_found, output_in, output_word, place_in, readonly_in, run_found, run_in, runs, serve_in, text_in, uuid_in, verbose_found, verbose_in, words_fault};
 ghost use Rattle.md_words.specs.Asks.{ask_of, options_of};
 
 use crate::command::Command;
@@ -46,6 +46,13 @@ fn text_in<'a>(found: &ArgMatches<'a>, name: &str) -> &'a str
     }
 }
 
+// The UUID, where one is given.
+fn uuid_of<'a>(found: &ArgMatches<'a>) -> Option<&'a str>
+    ensures { option_map (λ s. s.now) result ≡ uuid_in (rows_of (found_of found.now)) }
+{
+    found.get_str("uuid")
+}
+
 fn size_of(found: &ArgMatches<'_>) -> Option<u64>
     ensures { result
         ≡ option_map (number_or_zero 64) (first_of (codes "size") (rows_of (found_of found.now))) }
@@ -68,7 +75,7 @@ fn create_options<'a>(found: &ArgMatches<'a>) -> CreateOptions<'a>
     CreateOptions {
         level: text_in(found, "level"),
         raid_devices: u32_or_zero(text_in(found, "raid-devices")),
-        uuid: text_in(found, "uuid"),
+        uuid: uuid_of(found),
         name: text_in(found, "name"),
         bitmap_chunk: u32_or_zero(text_in(found, "bitmap-chunk")),
         size: size_of(found),

@@ -22,6 +22,7 @@ mod pace;
 mod person;
 mod progress;
 mod prompt;
+mod random;
 mod standard_input;
 
 use crate::arguments::arguments;
@@ -32,6 +33,7 @@ use crate::output_file::{destination_of, is_file_ended, output_of};
 use crate::person::Person;
 use crate::progress::Progress;
 use crate::prompt::Prompt;
+use crate::random::bytes_if_needed;
 use crate::standard_input::bytes_left_if_taken;
 use md_cli::{Session, run};
 use md_commands::Input;
@@ -118,6 +120,7 @@ fn main(rt: HostRuntime) -> ExitCode {
         out: CodedJson::new(Buffered::new(rt.alloc(), out), is_json(&parsed)),
         watch: &progress,
         asker: Prompt::new(&rt, &progress, person),
+        random_bytes: bytes_if_needed(&rt, &parsed),
         missing: None,
     };
     let status = run(&mut session, words, parsed, &mut images, &mut err, messages);
