@@ -147,8 +147,8 @@ with_optional a =
     (with_rule
     (with_rule a (value_rule (codes "uuid")))
     (by_default (codes "md") (value_rule (codes "name"))))
-    (by_default (codes "65536") (u32_rule (codes "bitmap-chunk"))))
-    (u64_rule (codes "size")))
+    (by_default (codes "65536") (value_rule (codes "bitmap-chunk"))))
+    (value_rule (codes "size")))
     (by_default (codes "0") (u64_rule (codes "time"))))
     (u32_rule (codes "write-mostly")))
     (flag_rule (codes "assume-clean"))
@@ -161,7 +161,7 @@ abbrev pub grow_app : App
 grow_app =
     completed
     (with_rule (with_rule (new_app (codes "grow")) (required (value_rule (codes "bitmap"))))
-    (by_default (codes "65536") (u32_rule (codes "bitmap-chunk"))))
+    (by_default (codes "65536") (value_rule (codes "bitmap-chunk"))))
 
 -- the program itself has a version, and asks for a command
 abbrev pub with_version : App → App
