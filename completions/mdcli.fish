@@ -45,7 +45,7 @@ complete -c mdcli -n '__fish_seen_subcommand_from grow' -l bitmap -x -a 'interna
 complete -c mdcli -n '__fish_seen_subcommand_from assemble detail plan read check resync rebuild' -l map -x -d "The image is a copy of a disk, and FILE ddrescue's map of it: what it lacks is not read; of each image one"
 complete -c mdcli -n '__fish_seen_subcommand_from plan fail remove rebuild' -l member -x -d "The member: its place among the images, from 0, or its image as it is listed"
 complete -c mdcli -n '__fish_seen_subcommand_from read write' -l sector -x -d "The first sector of the array, from 0; a sector has 512 bytes"
-complete -c mdcli -n '__fish_seen_subcommand_from read' -l count -x -d "The number of sectors"
+complete -c mdcli -n '__fish_seen_subcommand_from read' -l count -x -d "The number of sectors: by default all up to the end of the array"
 complete -c mdcli -n '__fish_seen_subcommand_from read' -l fill -d "Goes on past sectors that are not given, and writes zeros in their place"
 complete -c mdcli -n '__fish_seen_subcommand_from read' -l map-out -x -d "With --fill: makes a new file, ddrescue's map of the array as far as it is read"
 complete -c mdcli -n '__fish_seen_subcommand_from read' -l output -x -d "Makes a new file of the sectors, and writes nothing to standard output; blocks of zeros are holes in it"

@@ -11,10 +11,11 @@ use crate::arrays::with_array;
 use crate::create_options::params_of;
 use crate::creating::create_images;
 use crate::growing::grow_array;
+use crate::read_watch::ReadWatch;
 use crate::session::Session;
 use clap::Error;
 use md_badblocks::BadSet;
-use md_commands::{CommandFault, Source, Watch};
+use md_commands::{CommandFault, Source};
 use md_examine::Sink;
 use md_examine_commands::examine_images;
 use md_images::Images;
@@ -50,7 +51,7 @@ pub fn run<
     T: Threads + Wait + Sync,
     R: Source + Drop,
     S: Sink + Drop,
-    W: Watch + Sync,
+    W: ReadWatch + Sync,
     A: Asker + Drop,
     E: Write + Sink,
 >(
@@ -108,7 +109,7 @@ fn act<
     T: Threads + Wait + Sync,
     R: Source + Drop,
     S: Sink + Drop,
-    W: Watch + Sync,
+    W: ReadWatch + Sync,
     A: Asker + Drop,
 >(
     session: &mut Session<'_, T, R, S, W, A>,

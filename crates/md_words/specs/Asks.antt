@@ -35,7 +35,7 @@ pub data Ask : Type 0 where
   assembles : Bool → Bool → Ask
   details : Bool → Bool → Ask
   plans : ℕ → Bool → Bool → Ask  -- the rebuild of the member with this index
-  reads : ℕ → ℕ → Bool → Bool → Ask  -- from a sector on, so many; whether zeros stand for those that are not given
+  reads : ℕ → Option ℕ → Bool → Bool → Ask  -- from a sector on, so many or all; whether zeros stand for those that are not given
   serves : Bool → Ask  -- reading only; whether zeros stand for sectors that are not given
   serves_writable : Ask
   checks : CheckForm → Bool → Ask

@@ -128,15 +128,15 @@ abbrev pub run_found : Option (Text × List Row) → Bool
 run_found None = false
 run_found (Some p) = run_in p.1
 
--- the member, the sector and the number of sectors that a command names
+-- the member, the sector and the number of sectors, where there is one, that a command names
 abbrev pub member_in : List Row → ℕ
 member_in rows = unwrap_or (member_named rows) 0
 
 abbrev pub sector_in : List Row → ℕ
 sector_in rows = number_in 64 (codes "sector") rows
 
-abbrev pub count_in : List Row → ℕ
-count_in rows = number_in 64 (codes "count") rows
+abbrev pub count_in : List Row → Option ℕ
+count_in rows = option_map (number_or_zero 64) (first_of (codes "count") rows)
 
 -- what the command of a name asks for, where it is one that changes an array; of any other name it is examine
 abbrev pub ask_to_change : Text → List Row → Ask

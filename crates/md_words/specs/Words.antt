@@ -124,7 +124,7 @@ with_fill a =
 abbrev pub read_app : App
 read_app =
     with_images
-    (with_fill (with_rule (with_sector (new_app (codes "read"))) (required (u64_rule (codes "count")))))
+    (with_fill (with_rule (with_sector (new_app (codes "read"))) (u64_rule (codes "count"))))
 
 abbrev pub serve_app : App
 serve_app = with_images (with_rule (new_app (codes "serve")) (flag_rule (codes "fill")))

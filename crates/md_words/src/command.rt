@@ -47,10 +47,10 @@ pub enum Command<'a> {
         json: bool,
         readonly: bool,
     },
-    /// Puts out so many sectors of it, from this one on, and with `fill` zeros in the place of those that are not given.
+    /// Puts out so many sectors of it, or all up to its end, from this one on, and with `fill` zeros in the place of those that are not given.
     Read {
         sector: u64,
-        count: u64,
+        count: Option<u64>,
         fill: bool,
         readonly: bool,
     },

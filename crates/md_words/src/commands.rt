@@ -116,9 +116,9 @@ const SECTOR: OptionWords = OptionWords {
 const COUNT: OptionWords = OptionWords {
     name: "count",
     value: "N",
-    help: "The number of sectors",
+    help: "The number of sectors: by default all up to the end of the array",
     kind: Kind::U64,
-    required: true,
+    required: false,
     default: None,
 };
 

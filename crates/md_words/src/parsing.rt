@@ -4,7 +4,7 @@ ghost use Rattle.std.specs.Str.{bytes_eq};
 ghost use Rattle.clap.specs.Words.{FailsBy, fault_of, first_of, found_of, matched_of, raw_values, rows_of, subcommand_of, subcommand_rows_of};
 ghost use Rattle.md_words.specs.Words.{mdcli};
 ghost use Rattle.md_words.specs.Numbers.{number_or_zero};
-ghost use Rattle.md_words.specs.Parsing.{all_in, ask_found, ask_named, ask_to_change, asked, check_form_in, chunk_in, command_fault, fill_in, full_in, has_maps, image_form_in, image_words, images_found, is_no_size, is_verbose, json_in, lacks_option, list_in, map_out_found, map_out_in, map_out_word, map_words, maps_found, member_at, member_fault, member_in, member_named, names_map_alone, names_no_member, names_no_size, needs_readonly, number_in, option_fault, options_in, output_found, output_in, output_word, place_in, readonly_in, run_found, run_in, runs, serve_in, size_fault, size_in, text_in, uuid_in, value_fault, verbose_found, verbose_in, words_fault};
+ghost use Rattle.md_words.specs.Parsing.{all_in, ask_found, ask_named, ask_to_change, asked, check_form_in, chunk_in, command_fault, count_in, fill_in, full_in, has_maps, image_form_in, image_words, images_found, is_no_size, is_verbose, json_in, lacks_option, list_in, map_out_found, map_out_in, map_out_word, map_words, maps_found, member_at, member_fault, member_in, member_named, names_map_alone, names_no_member, names_no_size, needs_readonly, number_in, option_fault, options_in, output_found, output_in, output_word, place_in, readonly_in, run_found, run_in, runs, serve_in, size_fault, size_in, text_in, uuid_in, value_fault, verbose_found, verbose_in, words_fault};
 ghost use Rattle.md_words.specs.Asks.{ask_of, options_of};
 
 use crate::command::Command;
@@ -184,6 +184,14 @@ fn number_in<'a>(found: &ArgMatches<'a>, name: &str) -> u64
     u64_or_zero(text_in(found, name))
 }
 
+// The number of sectors, where one is given.
+fn count_of(found: &ArgMatches<'_>) -> Option<u64>
+    ensures { result ≡ count_in (rows_of (found_of found.now)) }
+{
+    let text = found.get_str("count")?;
+    Some(u64_or_zero(text))
+}
+
 // The place among images of the first of this name.
 fn position_of(images: &[&str], name: &str) -> Option<usize>
     ensures { result ≡ position (λ image. bytes_eq image.now name.now) images.now }
@@ -289,7 +297,7 @@ fn command_of<'a>(name: &str, found: &ArgMatches<'a>) -> Command<'a>
         }
     } else if name == "read" {
         let sector = number_in(found, "sector");
-        let count = number_in(found, "count");
+        let count = count_of(found);
         Command::Read {
             sector,
             count,

@@ -23,6 +23,7 @@ mod person;
 mod progress;
 mod prompt;
 mod random;
+mod reading;
 mod standard_input;
 
 use crate::arguments::arguments;
@@ -127,7 +128,8 @@ fn main(rt: HostRuntime) -> ExitCode {
     progress.clear();
     let Session { out, missing, .. } = session;
     let is_ended = is_file_ended(out.into_inner().into_inner(), output, messages, &mut err);
-    let is_map_made = is_map_made(&rt, map, missing, messages, &mut err);
+    let count = progress.sectors_to_read();
+    let is_map_made = is_map_made(&rt, map, count, missing, messages, &mut err);
     if !is_ended || !is_map_made {
         return ExitCode::from(REFUSED);
     }
