@@ -52,17 +52,17 @@ fn sectors_of(kib: Option<u64>) -> Option<Option<u64>>
 #[tactic(auto, unfolding(crate::specs::CreateOptions::create_option_fault))]
 pub(crate) fn params_of(
     options: &CreateOptions<'_>,
-    random_bytes: Option<[u8; 16]>,
+    random: Option<[u8; 16]>,
     count: usize,
 ) -> Result<CreateParams, OptionFault>
-    ensures sound { IfOk result (λ _. create_option_fault (options_of options.now) random_bytes count ≡ None) }
-    ensures params { IfOk result (AreParamsOf (options_of options.now) random_bytes) }
-    ensures refused { IfErr result (λ f. create_option_fault (options_of options.now) random_bytes count ≡ Some f) }
+    ensures sound { IfOk result (λ _. create_option_fault (options_of options.now) random count ≡ None) }
+    ensures params { IfOk result (AreParamsOf (options_of options.now) random) }
+    ensures refused { IfErr result (λ f. create_option_fault (options_of options.now) random count ≡ Some f) }
 {
     if !is_raid1(options.level) {
         return Err(OptionFault::BadLevel);
     }
-    let set_uuid = set_uuid_of(options.uuid, random_bytes).ok_or(OptionFault::BadUuid)?;
+    let set_uuid = set_uuid_of(options.uuid, random).ok_or(OptionFault::BadUuid)?;
     let name = set_name_of(options.name).ok_or(OptionFault::BadName)?;
     if count != options.raid_devices as usize {
         return Err(OptionFault::BadCount);

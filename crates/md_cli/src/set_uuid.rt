@@ -1,7 +1,7 @@
 // The UUID of an array that `create` makes.
 ghost use Rattle.std.specs.Prelude.{◌≡◌, length, option_map};
 ghost use Rattle.uuid.specs.Text.{parsed};
-ghost use Rattle.md_cli.specs.SetUuid.{has_colons, random_uuid, set_uuid_of, uuid_in, without_colons};
+ghost use Rattle.md_cli.specs.SetUuid.{has_colons, random_uuid, set_uuid_of, uuid_of_text, without_colons};
 
 use uuid::{Builder, Uuid};
 
@@ -29,8 +29,8 @@ fn parsed_uuid(text: &[u8]) -> Option<Uuid>
     Uuid::try_parse_ascii(text).ok()
 }
 
-fn uuid_in(text: &str) -> Option<Uuid>
-    ensures { result ≡ uuid_in text.now }
+fn uuid_of_text(text: &str) -> Option<Uuid>
+    ensures { result ≡ uuid_of_text text.now }
 {
     let text = text.as_bytes();
     if has_colons(text) {
@@ -46,11 +46,11 @@ fn random_uuid(bytes: [u8; 16]) -> Uuid
 }
 
 /// The UUID that a text says or, where there is none, one of version 4 that is made of random bytes.
-pub(crate) fn set_uuid_of(text: Option<&str>, random_bytes: Option<[u8; 16]>) -> Option<Uuid>
-    ensures { result ≡ set_uuid_of (option_map (λ s. s.now) text) random_bytes }
+pub(crate) fn set_uuid_of(text: Option<&str>, random: Option<[u8; 16]>) -> Option<Uuid>
+    ensures { result ≡ set_uuid_of (option_map (λ s. s.now) text.entry) random }
 {
     match text {
-        Some(text) => uuid_in(text),
-        None => Some(random_uuid(random_bytes?)),
+        Some(text) => uuid_of_text(text),
+        None => Some(random_uuid(random?)),
     }
 }

@@ -34,8 +34,8 @@ number_or None kib size = size
 number_or (Some number) kib size = (number, kib)
 
 -- A size by its number and by the KiB of its unit. As mdadm(8) has it, the suffix is K, M, G or T; without one it is KiB.
-abbrev pub sized : Text → Text × ℕ
-sized text =
+abbrev pub number_and_unit : Text → Text × ℕ
+number_and_unit text =
     number_or (before 75 text) 1 (number_or (before 77 text) 1024
     (number_or (before 71 text) (1024 ^ 2) (number_or (before 84 text) (1024 ^ 3) (text, 1))))
 
@@ -46,4 +46,4 @@ kib_of bits size =
     then Some (number_or_zero 64 size.0 * size.1) else None
 
 unfoldable pub kib_in : ℕ → Text → Option ℕ
-kib_in bits text = kib_of bits (sized text)
+kib_in bits text = kib_of bits (number_and_unit text)

@@ -135,7 +135,8 @@ write_app = completed (with_sector (new_app (codes "write")))
 -- `create`: what it must be given, and what it may
 abbrev pub with_required : App → App
 with_required a =
-    with_rule (with_rule a (required (value_rule (codes "level")))) (required (u32_rule (codes "raid-devices")))
+    with_rule (with_rule a (required (value_rule (codes "level"))))
+    (required (u32_rule (codes "raid-devices")))
 
 abbrev pub with_optional : App → App
 with_optional a =

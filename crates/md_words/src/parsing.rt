@@ -479,10 +479,8 @@ fn check_sizes(alloc: Global, matches: &ArgMatches<'_>) -> Result<(), Error>
 fn check_values(alloc: Global, matches: &ArgMatches<'_>) -> Result<(), Error>
     ensures { FailsBy (value_fault (subcommand_rows_of matches.now)) result }
 {
-    match check_member(alloc, matches) {
-        Ok(()) => check_sizes(alloc, matches),
-        Err(error) => Err(error),
-    }
+    check_member(alloc, matches)?;
+    check_sizes(alloc, matches)
 }
 
 // Whether a map is to be made of a read that ends at what is not given.

@@ -1,6 +1,6 @@
 // Sizes that words say.
 ghost use Rattle.std.specs.Prelude.{◌≡◌, ◌<◌, option_map};
-ghost use Rattle.md_words.specs.Numbers.{before, kib_in, kib_of, sized};
+ghost use Rattle.md_words.specs.Numbers.{before, kib_in, kib_of, number_and_unit};
 
 // In KiB.
 const MIB: u64 = 1 << 10;
@@ -18,8 +18,8 @@ fn before<'a>(text: &'a str, letter: char) -> Option<&'a str>
 }
 
 // The number of a size, and the KiB of its unit, which mdadm(8) has as a suffix.
-fn sized(text: &str) -> (&str, u64)
-    ensures { (result.0.now, result.1) ≡ sized text.now }
+fn number_and_unit(text: &str) -> (&str, u64)
+    ensures { (result.0.now, result.1) ≡ number_and_unit text.now }
 {
     if let Some(number) = before(text, 'K') {
         (number, 1)
@@ -49,7 +49,7 @@ fn kib_of(number: &str, unit: u64) -> Option<u64>
 pub(crate) fn u64_kib(text: &str) -> Option<u64>
     ensures { result ≡ kib_in 64 text.now }
 {
-    let (number, unit) = sized(text);
+    let (number, unit) = number_and_unit(text);
     kib_of(number, unit)
 }
 

@@ -23,7 +23,7 @@ mod person;
 mod progress;
 mod prompt;
 mod random;
-mod reading;
+mod read_length;
 mod standard_input;
 
 use crate::arguments::arguments;

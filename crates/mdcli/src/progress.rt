@@ -3,7 +3,7 @@ ghost use Rattle.std.specs.Prelude.{⊤};
 
 use crate::comparing::Comparing;
 use crate::copying::Copying;
-use crate::reading::Reading;
+use crate::read_length::ReadLength;
 use md_cli::ReadWatch;
 use md_commands::{Gate, Watch};
 use md_files::Line;
@@ -35,7 +35,7 @@ pub struct Progress<'a> {
     written: AtomicU64,
     copying: Copying,
     comparing: Comparing,
-    reading: Reading,
+    read_length: ReadLength,
     // In milliseconds after the beginning, when the line may be drawn again.
     due: AtomicU64,
     is_shown: AtomicBool,
@@ -51,7 +51,7 @@ impl<'a> Progress<'a> {
             written: AtomicU64::new(0),
             copying: Copying::new(),
             comparing: Comparing::new(),
-            reading: Reading::new(),
+            read_length: ReadLength::new(),
             due: AtomicU64::new(0),
             is_shown: AtomicBool::new(false),
         }
@@ -59,7 +59,7 @@ impl<'a> Progress<'a> {
 
     /// How many sectors of the array are to be read; 0 before that is known.
     pub fn sectors_to_read(&self) -> u64 {
-        self.reading.sectors()
+        self.read_length.sectors()
     }
 
     fn draw_if_due(&self) {
@@ -91,7 +91,7 @@ impl<'a> Progress<'a> {
             }
             LongTask::Check => !self.comparing.has_begun(),
             // How long an array is shows once it is opened.
-            LongTask::Read(None) => !self.reading.has_begun(),
+            LongTask::Read(None) => !self.read_length.has_begun(),
             LongTask::Read(Some(_)) | LongTask::Resync => false,
         }
     }
@@ -212,6 +212,6 @@ impl<'a> ReadWatch for Progress<'a> {
     ghost reads = { λ _ _. ⊤ };
 
     fn begins_read(&self, sectors: u64) {
-        self.reading.begin(sectors);
+        self.read_length.begin(sectors);
     }
 }

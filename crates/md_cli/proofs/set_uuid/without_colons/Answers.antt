@@ -1,4 +1,4 @@
-use Rattle.std.proofs.Common.{◌≡◌, ◌∙◌, ◌+◌, ◌/◌, arith, length-set, refl, slice_index, sym}
+use Rattle.std.proofs.Common.{◌∙◌, ◌+◌, ◌/◌, arith, length-set, refl, slice_index}
 use Rattle.uuid.proofs.TextLemmas.{by_index_same, place_written}
 use Rattle.md_cli.proofs.set_uuid.without_colons.Goals as goal
 

@@ -3,14 +3,14 @@ use std::sync::atomic::{AtomicBool, AtomicU64, Ordering};
 
 /// How many sectors of the array are to be read, once that is known. Workers ask at once.
 #[derive(Drop)]
-pub struct Reading {
+pub struct ReadLength {
     has_begun: AtomicBool,
     sectors: AtomicU64,
 }
 
-impl Reading {
-    pub fn new() -> Reading {
-        Reading {
+impl ReadLength {
+    pub fn new() -> ReadLength {
+        ReadLength {
             has_begun: AtomicBool::new(false),
             sectors: AtomicU64::new(0),
         }

@@ -1,7 +1,7 @@
 use Rattle.std.proofs.Common.{◌≡◌, ◌∙◌, Bool, ap, cond, false, refl, sym, true}
 use Rattle.uuid.specs.Text.{parsed}
-use Rattle.md_cli.specs.SetUuid.{has_colons, uuid_in, without_colons}
-use Rattle.md_cli.proofs.set_uuid.uuid_in.Goals as goal
+use Rattle.md_cli.specs.SetUuid.{has_colons, without_colons}
+use Rattle.md_cli.proofs.set_uuid.uuid_of_text.Goals as goal
 
 first_of_two : {X : Type 0} (b : Bool) (x y : X) → b ≡ true → x ≡ cond b x y
 first_of_two true x y e = refl
