@@ -767,6 +767,9 @@ CASES = [
         [
             create("raid1", 2, 4, "--assume-clean a b", output=CLEAN, changes="a b"),
             Step("read --sector 8 --count 2 a b", BLANK),
+            Step("read --sector 62 a b", BLANK),
+            Step("read --sector 64 a b", fault="OutOfRange"),
+            Step("read --readonly --sector 65 a b", fault="OutOfRange"),
             Step("write --sector 8 a b", WRITTEN, changes="a b", given=DATA),
             Step("read --sector 8 --count 2 b a", DATA.decode()),
             Step("check b a", AGREE),
@@ -817,6 +820,13 @@ CASES = [
                 fault="Unreadable 9",
                 told=FILLED % 9,
                 made={"new": map_out(8, 2, 9)},
+            ),
+            Step(
+                "read --fill --map-out whole --readonly --sector 8 --map a=late --map b=late a b",
+                DATA[:SECTOR].decode() + "\0" * (55 * SECTOR),
+                fault="Unreadable 9",
+                told=FILLED % 9,
+                made={"whole": map_out(8, 56, 9)},
             ),
             # What is there already is never overwritten: it may be an image.
             Step("read --fill --map-out b --sector 8 --count 2 a b", fault="MapOutExists"),

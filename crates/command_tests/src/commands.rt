@@ -71,6 +71,7 @@ pub(crate) fn give<R: Abort + Threads + Wait + Sync>(
         out: Output::new(vec![in alloc]?),
         watch: &Silent,
         asker: Nobody,
+        random_bytes: None,
         missing: None,
         is_all_out: false,
     };

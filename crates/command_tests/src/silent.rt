@@ -1,10 +1,11 @@
-// A rebuild or a check that nobody watches, and a question that nobody sees.
+// A rebuild, a check or a read that nobody watches, and a question that nobody sees.
 ghost use Rattle.std.specs.Prelude.{⊤, false};
 
+use md_cli::ReadWatch;
 use md_commands::{Gate, Watch};
 use md_messages::Asker;
 
-/// Is told of a rebuild or a check, and says nothing of it.
+/// Is told of a rebuild, a check or a read, and says nothing of it.
 pub(crate) struct Silent;
 
 impl Gate for Silent {
@@ -25,6 +26,12 @@ impl Watch for Silent {
     fn begins(&self, _chunks: u32, _first: Option<u32>) {}
 
     fn begins_check(&self, _sectors: u64) {}
+}
+
+impl ReadWatch for Silent {
+    ghost reads = { λ _ _. ⊤ };
+
+    fn begins_read(&self, _sectors: u64) {}
 }
 
 /// Nobody sees what is asked.

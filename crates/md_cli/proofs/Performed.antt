@@ -24,7 +24,7 @@ use Rattle.md_messages.specs.Question.{Question}
 use Rattle.md_messages.specs.declared.notices.Notices.{Notices}
 use Rattle.md_cli.specs.Asking.{PerformsOrDeclines}
 use Rattle.md_cli.specs.Opened.{OpenedView, count, moves_device, beside_place, with_beside}
-use Rattle.md_cli.specs.Performing.{Performs}
+use Rattle.md_cli.specs.Performing.{Performs, sectors_asked}
 use Rattle.md_cli.specs.Streams.{Streams}
 
 -- Where there was a device beside the array only if the command brought one: as many devices as before come back, the one beside
@@ -74,15 +74,15 @@ module _ {R S A : Type 0} (r : SourceGhosts R) (s : SinkGhosts S) (names : List 
   all_kept (details json readonly) result brings h = kept _ before after brings (ap (λ (o : OpenedView). o.beside) h.0) (ap (λ (o : OpenedView). length o.mirror.disks) h.0)
   all_kept (plans k json readonly) result brings h = kept _ before after brings (ap (λ (o : OpenedView). o.beside) h.0) (ap (λ (o : OpenedView). length o.mirror.disks) h.0)
   all_kept (reads sector count true readonly) result brings h =
-      kept _ before after brings h.0 (fills_as_many s readonly sector count before.mirror after.mirror old.output new.output new.missing result h.2)
+      kept _ before after brings h.0 (fills_as_many s readonly sector (sectors_asked before.mirror.array sector count) before.mirror after.mirror old.output new.output new.missing result h.2)
   all_kept (reads sector count false false) (Ok v) brings h =
-      kept _ before after brings h.0 (done_read s before.mirror after.mirror old.output new.output sector count h.2)
+      kept _ before after brings h.0 (done_read s before.mirror after.mirror old.output new.output sector (sectors_asked before.mirror.array sector count) h.2)
   all_kept (reads sector count false false) (Err f) brings h =
-      kept _ before after brings h.0 (reads_as_many s before.mirror after.mirror old.output new.output sector count f h.2)
+      kept _ before after brings h.0 (reads_as_many s before.mirror after.mirror old.output new.output sector (sectors_asked before.mirror.array sector count) f h.2)
   all_kept (reads sector count false true) (Ok v) brings h =
-      kept _ before after brings h.0 (done_readonly s before.mirror after.mirror old.output new.output sector count h.2)
+      kept _ before after brings h.0 (done_readonly s before.mirror after.mirror old.output new.output sector (sectors_asked before.mirror.array sector count) h.2)
   all_kept (reads sector count false true) (Err f) brings h =
-      kept _ before after brings h.0 (reads_readonly_as_many s before.mirror after.mirror old.output new.output sector count f h.2)
+      kept _ before after brings h.0 (reads_readonly_as_many s before.mirror after.mirror old.output new.output sector (sectors_asked before.mirror.array sector count) f h.2)
   all_kept (serves fill) result brings h = kept _ before after brings h.0 h.1.rests.disks.same.as_many
   all_kept serves_writable result brings h =
       kept _ before after brings h.0 (serves_as_many r s before.mirror after.mirror old.input new.input old.output new.output result h.1)

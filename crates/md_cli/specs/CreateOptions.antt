@@ -1,13 +1,13 @@
 -- What `create` makes of its options.
 use Rattle.std.specs.Prelude.{◌≡◌, ℕ, ◌-◌, ◌*◌, ◌^◌, ◌==◌, ◌||◌, Bool, List, [], ◌∷◌, ◌++◌, codes, length, nat_lt, replicate, Option, Some, None, is_some, if◌then◌else◌}
 use Rattle.std.specs.Str.{bytes_eq}
-use Rattle.uuid.specs.Text.{parsed}
 use Rattle.clap.specs.Words.{Text}
 use Rattle.md_format.specs.FirstFault.{check, first_fault}
 use Rattle.md_create.specs.declared.params.CreateParams.{CreateParams}
 use Rattle.md_commands.specs.declared.option_fault.OptionFault.{OptionFault}
 use Rattle.md_commands.specs.declared.option_fault.OptionFault.TheVariants.{BadLevel, BadUuid, BadName, BadCount, BadChunk, BadSize}
 use Rattle.md_words.specs.Asks.{Options}
+use Rattle.md_cli.specs.SetUuid.{set_uuid_of}
 
 -- the names of RAID 1
 abbrev pub is_raid1 : Text → Bool
@@ -27,12 +27,12 @@ abbrev pub sectors_of_kib : Option ℕ → Option (Option ℕ)
 sectors_of_kib None = Some None
 sectors_of_kib (Some kib) = if nat_lt (2 * kib) (2 ^ 64) then Some (Some (2 * kib)) else None
 
--- why the options are refused with so many image words, looked for in this order
-unfoldable pub create_option_fault : Options → ℕ → Option OptionFault
-create_option_fault o count =
+-- why the options are refused with these random bytes and so many image words, looked for in this order
+unfoldable pub create_option_fault : Options → Option (List ℕ) → ℕ → Option OptionFault
+create_option_fault o random count =
     first_fault (
     check (is_raid1 o.level) BadLevel
-    ∷ check (is_some (parsed o.uuid)) BadUuid
+    ∷ check (is_some (set_uuid_of o.uuid random)) BadUuid
     ∷ check (is_some (set_name_of o.name)) BadName
     ∷ check (count == o.raid_devices) BadCount
     ∷ check (is_some (bytes_of_kib o.bitmap_chunk)) BadChunk
@@ -40,8 +40,8 @@ create_option_fault o count =
     ∷ [])
 
 -- what the array is to be made from
-pub record AreParamsOf (o : Options) (p : CreateParams) : Type 0 where
-  pub set_uuid : Some p.set_uuid ≡ parsed o.uuid
+pub record AreParamsOf (o : Options) (random : Option (List ℕ)) (p : CreateParams) : Type 0 where
+  pub set_uuid : Some p.set_uuid ≡ set_uuid_of o.uuid random
   pub name : Some p.name ≡ set_name_of o.name
   pub ctime : p.ctime ≡ o.time
   pub size : Some p.size ≡ sectors_of_kib o.size

@@ -14,5 +14,7 @@ pub mod Opened
 pub mod Performing
 -- What one run gives.
 pub mod Running
+-- The UUID of an array that `create` makes.
+pub mod SetUuid
 -- The input and the output of a run.
 pub mod Streams

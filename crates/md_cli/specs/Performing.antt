@@ -1,5 +1,5 @@
 -- What commands do with an opened array.
-use Rattle.std.specs.Prelude.{◌≡◌, ℕ, Bool, true, false, List, Some, Result, MatchResult, if◌then◌else◌}
+use Rattle.std.specs.Prelude.{◌≡◌, ◌-◌, ℕ, Bool, true, false, List, Option, Some, None, Result, MatchResult, if◌then◌else◌}
 use Rattle.md_metadata.specs.declared.coming_back.extent_of_rebuild.RebuildExtent.{RebuildExtent}
 use Rattle.md_metadata.specs.declared.coming_back.extent_of_rebuild.RebuildExtent.TheVariants.{All, Marked}
 use Rattle.md_commands.specs.declared.source.Source.{Ghosts as SourceGhosts}
@@ -26,7 +26,7 @@ use Rattle.md_report.specs.CheckReport.{list_text}
 use Rattle.md_badblocks.specs.declared.run.Run.{Run}
 use Rattle.md_state.specs.Rests.{Rests}
 use Rattle.md_state.specs.Steps.Fail.{FailsMember}
-use Rattle.md_state.specs.View.{Disk}
+use Rattle.md_state.specs.View.{ArrayView, Disk}
 use Rattle.md_words.specs.Asks.{Ask, assembles, details, plans, reads, serves, serves_writable, checks, writes, resyncs, stops, fails, removes, adds, re_adds, rebuilds}
 use Rattle.md_words.specs.declared.form.CheckForm.{CheckForm}
 use Rattle.md_words.specs.declared.form.CheckForm.TheVariants as check_form
@@ -36,6 +36,11 @@ use Rattle.md_cli.specs.Streams.{Streams}
 -- what a member that comes back is rebuilt in: what is marked, or all of it
 abbrev pub rebuild_extent : Bool → RebuildExtent
 rebuild_extent full = if full then All else Marked
+
+-- how many sectors are read from this one on: as many as are asked for, or else all up to the end of the array
+abbrev pub sectors_asked : ArrayView → ℕ → Option ℕ → ℕ
+sectors_asked array sector None = array.chunks.size - sector
+sectors_asked array sector (Some count) = count
 
 module _ {S : Type 0} (s : SinkGhosts S) where
   -- Sectors of the array are put out: after a resync where one is needed or, where no image may be changed, as they would be after it.
@@ -131,7 +136,8 @@ module _ {R S A : Type 0} (r : SourceGhosts R) (s : SinkGhosts S) (names : List 
       (RefusesToPlan s before.mirror.array k old.output new.output)
   Performs (reads sector count fill readonly) before after old new result =
       (after.beside ≡ before.beside) × (new.input ≡ old.input)
-      × PerformsRead s sector count fill readonly before after old new result
+      × PerformsRead s sector (sectors_asked before.mirror.array sector count) fill readonly before after old
+      new result
   Performs (serves fill) before after old new result =
       (after.beside ≡ before.beside) × PerformsServe r s fill before after old new result
   Performs serves_writable before after old new result =

@@ -1,6 +1,6 @@
 -- What one run gives.
 use Rattle.md_device.specs.declared.device.Device.{Ghosts as DeviceGhosts}
-use Rattle.std.specs.Prelude.{◌≡◌, ◌≢◌, ◌⊎◌, ℕ, true, false, List, [], ◌∷◌, length, Some, None, Result, Ok, Err}
+use Rattle.std.specs.Prelude.{◌≡◌, ◌≢◌, ◌⊎◌, ℕ, true, false, List, [], ◌∷◌, length, Option, Some, None, Result, Ok, Err}
 use Rattle.clap.specs.Words.{Text}
 use Rattle.md_images.specs.declared.access.Access.TheVariants.{Change}
 use Rattle.md_images.specs.declared.images.Images.{Ghosts as ImagesGhosts}
@@ -43,28 +43,28 @@ module _ {I D S : Type 0} (i : ImagesGhosts I D) (g : DeviceGhosts D) (s : SinkG
     pub looked : i.known before ≡ true → (name : Text) → i.asked after name ≡ i.asked before name
 
 -- the options of `create` are refused
-pub record RefusesOptions {I X : Type 0} (o : Options) (words : List Text) (before after : I) (old new : X)
-    (result : Result (Unit {0}) CommandFault) : Type 0 where
+pub record RefusesOptions {I X : Type 0} (o : Options) (random : Option (List ℕ)) (words : List Text)
+    (before after : I) (old new : X) (result : Result (Unit {0}) CommandFault) : Type 0 where
   pub first : OptionFault
-  pub is_first : create_option_fault o (length words) ≡ Some first
+  pub is_first : create_option_fault o random (length words) ≡ Some first
   pub refused : result ≡ Err (fault.Options first)
   pub idle : DoesNothing before after old new
 
 module _ {I D R S A : Type 0} (i : ImagesGhosts I D) (g : DeviceGhosts D) (s : SinkGhosts S)
-    (asker : AskerGhosts A) where
+    (asker : AskerGhosts A) (random : Option (List ℕ)) where
   -- an array is made: the options are refused, or they say what it is made from
   pub record Creates (o : Options) (words : List Text) (before after : I) (old new : Told R S A)
       (result : Result (Unit {0}) CommandFault) : Type 0 where
-    pub sound : create_option_fault o (length words) ≡ None
+    pub sound : create_option_fault o random (length words) ≡ None
     pub params : CreateParams
-    pub params_are : AreParamsOf o params
+    pub params_are : AreParamsOf o random params
     pub done : UsesImages i g (CreatesOn s (question asker (creates o) words) params words) Change
         (image_list true words) before after old new result
 
   abbrev pub MakesArray : Options → List Text → I → I → Told R S A → Told R S A
       → Result (Unit {0}) CommandFault → Type 0
   MakesArray o words before after old new result =
-      RefusesOptions o words before after old new result ⊎ Creates o words before after old new result
+      RefusesOptions o random words before after old new result ⊎ Creates o words before after old new result
 
 module _ {I D R S A : Type 0} (i : ImagesGhosts I D) (g : DeviceGhosts D) (r : SourceGhosts R)
     (s : SinkGhosts S) (asker : AskerGhosts A) where
@@ -76,7 +76,10 @@ module _ {I D R S A : Type 0} (i : ImagesGhosts I D) (g : DeviceGhosts D) (r : S
         (WorksOn r s (question asker ask (names_with ask words)) (names_with ask words) ask)
         (access_of ask) (image_list false (names_with ask words)) before after old new result
 
-  -- What each command does with the images that its words name. The input is read by `write` and `serve` alone.
+module _ {I D R S A : Type 0} (i : ImagesGhosts I D) (g : DeviceGhosts D) (r : SourceGhosts R)
+    (s : SinkGhosts S) (asker : AskerGhosts A) (random : Option (List ℕ)) where
+  -- What each command does with the images that its words name. The input is read by `write` and `serve` alone, and random bytes
+  -- are used by `create` alone.
   abbrev pub Obeys : Ask → List Text → I → I → Told R S A → Told R S A
       → Result (Unit {0}) CommandFault → Type 0
   Obeys (examines form) words before after old new result =
@@ -89,11 +92,11 @@ module _ {I D R S A : Type 0} (i : ImagesGhosts I D) (g : DeviceGhosts D) (r : S
       OnlyPutsOut old new × ExaminesImage i g s (examines_badblocks form) words before
       after old.streams.output new.streams.output result
   Obeys (creates o) words before after old new result =
-      MakesArray i g s asker o words before after old new result
+      MakesArray i g s asker random o words before after old new result
   Obeys (grows bitmap kib) words before after old new result =
       OnlyPutsOut old new
       × GrowsArray i g s bitmap kib words before after old.streams.output new.streams.output result
-  Obeys ask words before after old new result = OpensArray ask words before after old new result
+  Obeys ask words before after old new result = OpensArray i g r s asker ask words before after old new result
 
   -- the command's own answer, whose status this is, and what it noticed, which is told beside it
   pub record DoesCommand (telling : Result (Unit {0}) CommandFault → Notices → Type 0) (ask : Ask)

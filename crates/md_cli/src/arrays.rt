@@ -8,8 +8,9 @@ ghost use Rattle.md_cli.specs.Arrays.{KeepsImages, UsesImages, WorksOn, names_wi
 ghost use Rattle.md_cli.specs.Streams.{told_of};
 
 use crate::devices::with_devices;
+use crate::read_watch::ReadWatch;
 use crate::session::Session;
-use md_commands::{CommandFault, Source, Watch};
+use md_commands::{CommandFault, Source};
 use md_examine::Sink;
 use md_images::{Images, image_list, put_back, take_images};
 use md_messages::{Asker, Notices};
@@ -25,7 +26,7 @@ pub(crate) fn with_array<
     T: Threads + Wait + Sync,
     R: Source + Drop,
     S: Sink + Drop,
-    W: Watch + Sync,
+    W: ReadWatch + Sync,
     A: Asker + Drop,
 >(
     session: &mut Session<'_, T, R, S, W, A>,
@@ -75,7 +76,7 @@ fn with_images<
     T: Threads + Wait + Sync,
     R: Source + Drop,
     S: Sink + Drop,
-    W: Watch + Sync,
+    W: ReadWatch + Sync,
     A: Asker + Drop,
 >(
     session: &mut Session<'_, T, R, S, W, A>,

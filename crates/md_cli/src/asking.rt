@@ -10,8 +10,9 @@ ghost use Rattle.md_cli.specs.Streams.{streams_of};
 
 use crate::opened::Opened;
 use crate::performing::perform;
+use crate::read_watch::ReadWatch;
 use crate::session::Session;
-use md_commands::{CommandFault, Source, Watch};
+use md_commands::{CommandFault, Source};
 use md_device::Device;
 use md_examine::Sink;
 use md_messages::{Asker, Notices, ask_first};
@@ -26,7 +27,7 @@ pub(crate) fn perform_asked<
     T: Threads + Wait + Sync,
     R: Source + Drop,
     S: Sink + Drop,
-    W: Watch + Sync,
+    W: ReadWatch + Sync,
     A: Asker + Drop,
 >(
     session: &mut Session<'_, T, R, S, W, A>,

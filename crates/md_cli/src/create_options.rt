@@ -1,13 +1,12 @@
 // From the options of `create` to what the array is made from.
 ghost use Rattle.std.specs.Prelude.{◌≡◌, ℕ, IfOk, IfErr, None, Some};
-ghost use Rattle.uuid.specs.Text.{parsed};
 ghost use Rattle.md_words.specs.Asks.{options_of};
 ghost use Rattle.md_cli.specs.CreateOptions.{AreParamsOf, bytes_of_kib, is_raid1, create_option_fault, sectors_of_kib, set_name_of};
 
+use crate::set_uuid::set_uuid_of;
 use md_commands::OptionFault;
 use md_create::CreateParams;
 use md_words::CreateOptions;
-use uuid::Uuid;
 
 // The longest name of an array, in bytes.
 const NAME_BYTES: usize = 32;
@@ -16,12 +15,6 @@ fn is_raid1(level: &str) -> bool
     ensures { result ≡ is_raid1 level.now }
 {
     level == "1" || level == "raid1" || level == "mirror"
-}
-
-fn uuid_of(text: &str) -> Option<Uuid>
-    ensures { result ≡ parsed text.now }
-{
-    Uuid::try_parse(text).ok()
 }
 
 // The name as a superblock has it.
@@ -54,20 +47,22 @@ fn sectors_of(kib: Option<u64>) -> Option<Option<u64>>
     }
 }
 
-/// What the array is made from, for so many image words, or the first fault of the options.
+/// What the array is made from, for so many image words, or the first fault of the options. Where they name no UUID one is
+/// made of the random bytes.
 #[tactic(auto, unfolding(crate::specs::CreateOptions::create_option_fault))]
 pub(crate) fn params_of(
     options: &CreateOptions<'_>,
+    random: Option<[u8; 16]>,
     count: usize,
 ) -> Result<CreateParams, OptionFault>
-    ensures sound { IfOk result (λ _. create_option_fault (options_of options.now) count ≡ None) }
-    ensures params { IfOk result (AreParamsOf (options_of options.now)) }
-    ensures refused { IfErr result (λ f. create_option_fault (options_of options.now) count ≡ Some f) }
+    ensures sound { IfOk result (λ _. create_option_fault (options_of options.now) random count ≡ None) }
+    ensures params { IfOk result (AreParamsOf (options_of options.now) random) }
+    ensures refused { IfErr result (λ f. create_option_fault (options_of options.now) random count ≡ Some f) }
 {
     if !is_raid1(options.level) {
         return Err(OptionFault::BadLevel);
     }
-    let set_uuid = uuid_of(options.uuid).ok_or(OptionFault::BadUuid)?;
+    let set_uuid = set_uuid_of(options.uuid, random).ok_or(OptionFault::BadUuid)?;
     let name = set_name_of(options.name).ok_or(OptionFault::BadName)?;
     if count != options.raid_devices as usize {
         return Err(OptionFault::BadCount);

@@ -10,9 +10,10 @@ ghost use Rattle.md_cli.specs.Streams.{told_of};
 
 use crate::asking::perform_asked;
 use crate::opened::{Opened, all_back, room_for};
+use crate::read_watch::ReadWatch;
 use crate::session::Session;
 use md_array::{Mirror, OpenFault};
-use md_commands::{CommandFault, Source, Watch};
+use md_commands::{CommandFault, Source};
 use md_device::Device;
 use md_examine::Sink;
 use md_images::{SharedRead, lay_over};
@@ -28,7 +29,7 @@ pub(crate) fn with_devices<
     T: Threads + Wait + Sync,
     R: Source + Drop,
     S: Sink + Drop,
-    W: Watch + Sync,
+    W: ReadWatch + Sync,
     A: Asker + Drop,
 >(
     session: &mut Session<'_, T, R, S, W, A>,
@@ -61,7 +62,7 @@ fn look_at_devices<
     T: Threads + Wait + Sync,
     R: Source + Drop,
     S: Sink + Drop,
-    W: Watch + Sync,
+    W: ReadWatch + Sync,
     A: Asker + Drop,
 >(
     session: &mut Session<'_, T, R, S, W, A>,
@@ -107,7 +108,7 @@ fn open_devices<
     T: Threads + Wait + Sync,
     R: Source + Drop,
     S: Sink + Drop,
-    W: Watch + Sync,
+    W: ReadWatch + Sync,
     A: Asker + Drop,
 >(
     session: &mut Session<'_, T, R, S, W, A>,
@@ -156,7 +157,7 @@ fn open_members<
     T: Threads + Wait + Sync,
     R: Source + Drop,
     S: Sink + Drop,
-    W: Watch + Sync,
+    W: ReadWatch + Sync,
     A: Asker + Drop,
 >(
     session: &mut Session<'_, T, R, S, W, A>,

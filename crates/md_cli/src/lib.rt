@@ -21,10 +21,13 @@ mod growing;
 mod lay_out_each;
 mod opened;
 mod performing;
+mod read_watch;
 mod running;
 mod session;
+mod set_uuid;
 mod show_devices;
 mod sizing;
 
+pub use read_watch::ReadWatch;
 pub use running::run;
 pub use session::Session;

@@ -8,10 +8,11 @@ ghost use Rattle.md_commands.specs.Planning.{RefusesToPlan, ShowsPlan};
 ghost use Rattle.md_read_commands.specs.Filling.{ReadsFilled, has_put_all};
 ghost use Rattle.md_messages.specs.Telling.{texts};
 ghost use Rattle.md_cli.specs.Opened.{opened_view};
-ghost use Rattle.md_cli.specs.Performing.{PerformsAdd, Performs, PerformsReAdd, PerformsRead, PerformsRemove, PerformsServe, ShowsMismatches, ShowsSectors};
+ghost use Rattle.md_cli.specs.Performing.{PerformsAdd, Performs, PerformsReAdd, PerformsRead, PerformsRemove, PerformsServe, ShowsMismatches, ShowsSectors, sectors_asked};
 ghost use Rattle.md_cli.specs.Streams.{streams_of};
 
 use crate::opened::Opened;
+use crate::read_watch::ReadWatch;
 use crate::session::Session;
 use md_array::Mirror;
 use md_commands::{
@@ -38,7 +39,7 @@ pub(crate) fn perform<
     T: Threads + Wait + Sync,
     R: Source + Drop,
     S: Sink + Drop,
-    W: Watch + Sync,
+    W: ReadWatch + Sync,
     A: Drop,
 >(
     session: &mut Session<'_, T, R, S, W, A>,
@@ -166,25 +167,40 @@ fn plan<D: Device + Drop, S: Sink>(
     Ok(show_plan(alloc, mirror, member, out)?)
 }
 
+// How many sectors are to be read: so many, or all from this one on.
+fn sectors_asked<D: Device + Drop>(mirror: &Mirror<D>, sector: u64, count: Option<u64>) -> u64
+    ensures { result ≡ sectors_asked mirror.now.array sector count }
+{
+    match count {
+        Some(count) => count,
+        None => mirror.chunks().size.saturating_sub(sector),
+    }
+}
+
 // Puts out sectors of the array, perhaps with zeros in the place of those that are not given.
-fn read_sectors<D: Device + Drop, T, R: Source + Drop, S: Sink + Drop, W, A: Drop>(
+fn read_sectors<D: Device + Drop, T, R: Source + Drop, S: Sink + Drop, W: ReadWatch, A: Drop>(
     session: &mut Session<'_, T, R, S, W, A>,
     opened: &mut Opened<D>,
     sector: u64,
-    count: u64,
+    count: Option<u64>,
     fill: bool,
     readonly: bool,
 ) -> Result<(), CommandFault>
     requires sound { IsConsistent opened.old.mirror }
     ensures kept { (opened_view D.Device opened.new).beside ≡ (opened_view D.Device opened.old).beside }
     ensures input { session.new.input ≡ session.old.input }
-    ensures reads { PerformsRead S.Sink sector count fill readonly
+    ensures reads { PerformsRead S.Sink sector
+        (sectors_asked (opened_view D.Device opened.old).mirror.array sector count) fill readonly
         (opened_view D.Device opened.old) (opened_view D.Device opened.new)
         (streams_of session.old) (streams_of session.new) result }
+    ensures told { W.reads session.old.watch.now
+        (sectors_asked (opened_view D.Device opened.old).mirror.array sector count) }
     ensures noted { fill ≡ false → session.new.missing ≡ session.old.missing }
     ensures unasked { session.new.asker ≡ session.old.asker }
     ensures flushed { IfOk result (λ _. S.is_flushed session.new.out) }
 {
+    let count = sectors_asked(&opened.mirror, sector, count);
+    session.watch.begins_read(count);
     if fill {
         return read_filled(session, opened, sector, count, readonly);
     }

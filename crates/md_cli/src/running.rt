@@ -11,10 +11,11 @@ use crate::arrays::with_array;
 use crate::create_options::params_of;
 use crate::creating::create_images;
 use crate::growing::grow_array;
+use crate::read_watch::ReadWatch;
 use crate::session::Session;
 use clap::Error;
 use md_badblocks::BadSet;
-use md_commands::{CommandFault, Source, Watch};
+use md_commands::{CommandFault, Source};
 use md_examine::Sink;
 use md_examine_commands::examine_images;
 use md_images::Images;
@@ -40,6 +41,8 @@ use std::thread::Threads;
 /// beside it. Where one can't be written, nothing else changes. Of a refused one it is told last, where there is advice, of
 /// whose words no clause speaks. The fault's line is `refusal_line` (`FaultText/Commands.antt` there).
 ///
+/// The session's random bytes are used by `create` alone, where its words name no UUID.
+///
 /// The session's watch is told of a rebuild, by `rebuild` and `re-add`, and of a check, whose workers its `rt` starts. It is
 /// asked before a command overwrites what perhaps should stay; where the answer is not yes the command is refused.
 pub fn run<
@@ -48,7 +51,7 @@ pub fn run<
     T: Threads + Wait + Sync,
     R: Source + Drop,
     S: Sink + Drop,
-    W: Watch + Sync,
+    W: ReadWatch + Sync,
     A: Asker + Drop,
     E: Write + Sink,
 >(
@@ -67,7 +70,7 @@ pub fn run<
     ensures taken { words_fault (texts words.entry.now) ≡ [] →
         ((is_err parsed.entry ≡ true) × (result ≡ 2)
         × DoesNothing images.old images.new (streams_of session.old) (streams_of session.new))
-        ⊎ DoesCommand I.Images I.Dev.Device R.Source S.Sink A.Asker
+        ⊎ DoesCommand I.Images I.Dev.Device R.Source S.Sink A.Asker session.old.random_bytes
         (TellsNoticed E.Sink (audience_of A.Asker session.old messages) (asked (texts words.entry.now))
         (image_words (texts words.entry.now)) (streams_of session.new).missing err.old err.new)
         (asked (texts words.entry.now)) (image_words (texts words.entry.now))
@@ -106,7 +109,7 @@ fn act<
     T: Threads + Wait + Sync,
     R: Source + Drop,
     S: Sink + Drop,
-    W: Watch + Sync,
+    W: ReadWatch + Sync,
     A: Asker + Drop,
 >(
     session: &mut Session<'_, T, R, S, W, A>,
@@ -115,7 +118,7 @@ fn act<
     names: &[&str],
     notices: &mut Notices,
 ) -> Result<(), CommandFault>
-    ensures gives { Obeys I.Images I.Dev.Device R.Source S.Sink A.Asker
+    ensures gives { Obeys I.Images I.Dev.Device R.Source S.Sink A.Asker session.old.random_bytes
         (ask_of command.entry) (texts names.now)
         images.old images.new (told_of session.old notices.old) (told_of session.new notices.new) result }
     ensures flushed { IfOk result (λ _. S.is_flushed session.new.out) }
@@ -153,12 +156,12 @@ fn create_array<I: Images, T, R: Source + Drop, S: Sink + Drop, W, A: Asker + Dr
     names: &[&str],
     notices: &mut Notices,
 ) -> Result<(), CommandFault>
-    ensures gives { MakesArray I.Images I.Dev.Device S.Sink A.Asker
+    ensures gives { MakesArray I.Images I.Dev.Device S.Sink A.Asker session.old.random_bytes
         (options_of options.entry) (texts names.now)
         images.old images.new (told_of session.old notices.old) (told_of session.new notices.new) result }
     ensures flushed { IfOk result (λ _. S.is_flushed session.new.out) }
 {
-    match params_of(&options, names.len()) {
+    match params_of(&options, session.random_bytes, names.len()) {
         Ok(params) => {
             let command = Command::Create(options);
             create_images(session, command, &params, images, names, notices)

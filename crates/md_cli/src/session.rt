@@ -3,8 +3,9 @@ use md_badblocks::BadSet;
 use std::alloc::Global;
 
 /// What each command is given of the machine that it runs on: what starts threads, the memory, the input, the output,
-/// who is told of a rebuild or a check, and who is asked. And, of a read that was to put out zeros for sectors that are not
-/// given, which sectors these are, also where it ended before all were put out, and whether all were.
+/// who is told of a rebuild or a check, who is asked, and random bytes for a UUID, where there are any. And, of a read that was to
+/// put out zeros for sectors that are not given, which sectors these are, also where it ended before all were put out, and
+/// whether all were.
 #[derive(Drop)]
 pub struct Session<'a, T, R: Drop, S: Drop, W, A: Drop> {
     pub rt: &'a T,
@@ -13,6 +14,7 @@ pub struct Session<'a, T, R: Drop, S: Drop, W, A: Drop> {
     pub out: S,
     pub watch: &'a W,
     pub asker: A,
+    pub random_bytes: Option<[u8; 16]>,
     pub missing: Option<BadSet>,
     pub is_all_out: bool,
 }

@@ -1,3 +1,4 @@
 pub mod CommandLine
 pub mod Members
 pub mod Numbers
+pub mod Suffix

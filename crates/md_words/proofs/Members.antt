@@ -10,7 +10,8 @@ use Rattle.clap.specs.Values.{kind_of}
 use Rattle.clap.specs.Words.{HasKind, Row, Text}
 use Rattle.clap.specs.declared.error.Error.{Error}
 use Rattle.clap.specs.declared.error.kind.ErrorKind.TheVariants as kind
-use Rattle.md_words.specs.Parsing.{fits_bits, lacks_option, member_at, member_fault, names_no_member, number_or_zero, option_fault, place_in}
+use Rattle.md_words.specs.Numbers.{fits_bits, number_or_zero}
+use Rattle.md_words.specs.Parsing.{lacks_option, member_at, member_fault, names_no_member, names_no_size, option_fault, place_in, size_fault}
 use Rattle.md_words.proofs.Numbers.{is_no_number_refused, is_number_parsed, number_read}
 
 prefix_len-map : {X Y : Type 0} (p : Y → Bool) (f : X → Y) (xs : List X) → prefix_len p (map f xs) ≡ prefix_len (λ x. p (f x)) xs
@@ -53,6 +54,13 @@ unknown_fails o name rows e is unknown told =
     let among : HasKind (cond (names_no_member rows) (kind.ValueValidation ∷ []) []) e =
     subst (λ (b : Bool). HasKind (cond b (kind.ValueValidation ∷ []) []) e) (sym unknown) (inr (inl told)) in
     subst (λ (p : Option (Text × List Row)). HasKind (member_fault p) e) (sym is) among
+
+-- so is a size that is none
+pub unsized_fails : (o : Option (Text × List Row)) (name : Text) (rows : List Row) (e : Error) → o ≡ Some (name, rows) → names_no_size rows ≡ true → kind_of e ≡ kind.ValueValidation → HasKind (size_fault o) e
+unsized_fails o name rows e is unsized told =
+    let among : HasKind (cond (names_no_size rows) (kind.ValueValidation ∷ []) []) e =
+    subst (λ (b : Bool). HasKind (cond b (kind.ValueValidation ∷ []) []) e) (sym unsized) (inr (inl told)) in
+    subst (λ (p : Option (Text × List Row)). HasKind (size_fault p) e) (sym is) among
 
 -- an option without one that it needs is refused
 pub lacking_fails : (o : Option (Text × List Row)) (name : Text) (rows : List Row) (e : Error) → o ≡ Some (name, rows) → lacks_option name rows ≡ true → kind_of e ≡ kind.MissingRequiredArgument → HasKind (option_fault o) e

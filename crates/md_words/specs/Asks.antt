@@ -1,5 +1,5 @@
 -- What a command is, and what it may do with the images.
-use Rattle.std.specs.Prelude.{ℕ, Bool, true, false, Option, Some, None, if◌then◌else◌}
+use Rattle.std.specs.Prelude.{ℕ, Bool, true, false, Option, Some, None, is_none, option_map, if◌then◌else◌}
 use Rattle.clap.specs.Words.{Text}
 use Rattle.md_images.specs.declared.access.Access.{Access}
 use Rattle.md_images.specs.declared.access.Access.TheVariants.{Change, ChangeOrLook, Look}
@@ -17,7 +17,7 @@ use Rattle.md_words.specs.declared.long_task.LongTask.TheVariants as long
 pub record Options : Type 0 where
   pub level : Text
   pub raid_devices : ℕ
-  pub uuid : Text
+  pub uuid : Option Text
   pub name : Text
   pub bitmap_chunk : ℕ
   pub size : Option ℕ
@@ -35,7 +35,7 @@ pub data Ask : Type 0 where
   assembles : Bool → Bool → Ask
   details : Bool → Bool → Ask
   plans : ℕ → Bool → Bool → Ask  -- the rebuild of the member with this index
-  reads : ℕ → ℕ → Bool → Bool → Ask  -- from a sector on, so many; whether zeros stand for those that are not given
+  reads : ℕ → Option ℕ → Bool → Bool → Ask  -- from a sector on, so many or all; whether zeros stand for those that are not given
   serves : Bool → Ask  -- reading only; whether zeros stand for sectors that are not given
   serves_writable : Ask
   checks : CheckForm → Bool → Ask
@@ -137,6 +137,11 @@ abbrev pub takes_input : Ask → Bool
 takes_input (writes sector) = true
 takes_input _ = false
 
+-- whether it makes a UUID of random bytes
+abbrev pub needs_random_bytes : Ask → Bool
+needs_random_bytes (creates o) = is_none o.uuid
+needs_random_bytes _ = false
+
 -- what a terminal is shown the progress of, where it takes long
 abbrev pub long_task_of : Ask → Option LongTask
 long_task_of (reads sector count fill readonly) = Some (long.Read count)
@@ -151,7 +156,7 @@ abbrev pub options_of : CreateOptions → Options
 options_of o = record {
   level = o.level.now;
   raid_devices = o.raid_devices;
-  uuid = o.uuid.now;
+  uuid = option_map (λ s. s.now) o.uuid;
   name = o.name.now;
   bitmap_chunk = o.bitmap_chunk;
   size = o.size;

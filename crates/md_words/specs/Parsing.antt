@@ -1,34 +1,16 @@
 -- How a command comes from the words.
-use Rattle.std.specs.Prelude.{ℕ, ◌^◌, Bool, false, List, [], ◌∷◌, Option, Some, None, ◌&&◌, ◌||◌, codes, is_none, length, min, nat_lt, option_map, position, unwrap_or, if◌then◌else◌, is_some, not}
-use Rattle.std.specs.List.{list_all}
+use Rattle.std.specs.Prelude.{ℕ, Bool, false, List, [], ◌∷◌, Option, Some, None, ◌&&◌, ◌||◌, codes, is_none, min, option_map, position, unwrap_or, if◌then◌else◌, is_some, not}
 use Rattle.std.specs.Str.{bytes_eq}
-use Rattle.std.specs.Str.Parse.{digits_value, without_leading_plus}
-use Rattle.std.specs.Char.{digit_value}
 use Rattle.clap.specs.Kinds.{or_else}
 use Rattle.clap.specs.Words.{Kinds, Row, Text, all_of, fault_of, first_of, subcommand_of}
 use Rattle.clap.specs.declared.error.kind.ErrorKind.TheVariants as kind
+use Rattle.md_words.specs.Numbers.{fits_bits, kib_in, number_or_zero}
 use Rattle.md_words.specs.Words.{mdcli}
 use Rattle.md_words.specs.declared.form.CheckForm.{CheckForm}
 use Rattle.md_words.specs.declared.form.CheckForm.TheVariants as check_form
 use Rattle.md_words.specs.declared.form.ImageForm.{ImageForm}
 use Rattle.md_words.specs.declared.form.ImageForm.TheVariants as image_form
 use Rattle.md_words.specs.Asks.{Ask, Options, examines, examines_bitmap, examines_badblocks, creates, grows, assembles, details, plans, reads, serves, serves_writable, checks, writes, resyncs, stops, fails, removes, adds, re_adds, rebuilds}
-
--- whether the text is a number: one decimal digit or more, and nothing else
-abbrev pub is_number : Text → Bool
-is_number text = nat_lt 0 (length text) && list_all (λ c. nat_lt (digit_value c) 10) text
-
--- the number that a text says, which a plus may precede; 0 for one that is no number of so many bits, which the parser
--- takes for no option
-abbrev pub number_or_zero : ℕ → Text → ℕ
-number_or_zero bits text =
-    let digits = without_leading_plus text in
-    if is_number digits && nat_lt (digits_value 10 digits) (2 ^ bits) then digits_value 10 digits else 0
-
-abbrev pub fits_bits : ℕ → Text → Bool
-fits_bits bits text =
-    let digits = without_leading_plus text in
-    is_number digits && nat_lt (digits_value 10 digits) (2 ^ bits)
 
 -- the value of an option among a command's, empty where it has none
 abbrev pub text_in : Text → List Row → Text
@@ -37,14 +19,29 @@ text_in name rows = unwrap_or (first_of name rows) []
 abbrev pub number_in : ℕ → Text → List Row → ℕ
 number_in bits name rows = number_or_zero bits (text_in name rows)
 
+-- the UUID, where one is given
+abbrev pub uuid_in : List Row → Option Text
+uuid_in rows = first_of (codes "uuid") rows
+
+-- a size in KiB, 0 for what is none, which is not taken
+abbrev pub kib_or_zero : ℕ → Text → ℕ
+kib_or_zero bits text = unwrap_or (kib_in bits text) 0
+
+-- the size of a chunk of the bitmap, and the one of the array, where it is given
+abbrev pub chunk_in : List Row → ℕ
+chunk_in rows = kib_or_zero 32 (text_in (codes "bitmap-chunk") rows)
+
+abbrev pub size_in : List Row → Option ℕ
+size_in rows = option_map (kib_or_zero 64) (first_of (codes "size") rows)
+
 abbrev pub options_in : List Row → Options
 options_in rows = record {
   level = text_in (codes "level") rows;
   raid_devices = number_in 32 (codes "raid-devices") rows;
-  uuid = text_in (codes "uuid") rows;
+  uuid = uuid_in rows;
   name = text_in (codes "name") rows;
-  bitmap_chunk = number_in 32 (codes "bitmap-chunk") rows;
-  size = option_map (number_or_zero 64) (first_of (codes "size") rows);
+  bitmap_chunk = chunk_in rows;
+  size = size_in rows;
   time = number_in 64 (codes "time") rows;
   write_mostly = option_map (number_or_zero 32) (first_of (codes "write-mostly") rows);
   assume_clean = bytes_eq (text_in (codes "assume-clean") rows) (codes "true");
@@ -131,15 +128,15 @@ abbrev pub run_found : Option (Text × List Row) → Bool
 run_found None = false
 run_found (Some p) = run_in p.1
 
--- the member, the sector and the number of sectors that a command names
+-- the member, the sector and the number of sectors, where there is one, that a command names
 abbrev pub member_in : List Row → ℕ
 member_in rows = unwrap_or (member_named rows) 0
 
 abbrev pub sector_in : List Row → ℕ
 sector_in rows = number_in 64 (codes "sector") rows
 
-abbrev pub count_in : List Row → ℕ
-count_in rows = number_in 64 (codes "count") rows
+abbrev pub count_in : List Row → Option ℕ
+count_in rows = option_map (number_or_zero 64) (first_of (codes "count") rows)
 
 -- what the command of a name asks for, where it is one that changes an array; of any other name it is examine
 abbrev pub ask_to_change : Text → List Row → Ask
@@ -165,7 +162,7 @@ ask_named name rows =
     else if bytes_eq name (codes "examine-badblocks") then examines_badblocks (image_form_in rows)
     else if bytes_eq name (codes "create") then creates (options_in rows)
     else if bytes_eq name (codes "grow") then grows (text_in (codes "bitmap") rows)
-    (number_in 32 (codes "bitmap-chunk") rows)
+    (chunk_in rows)
     else if bytes_eq name (codes "assemble") then assembles (json_in rows) (readonly_in rows)
     else if bytes_eq name (codes "detail") then details (json_in rows) (readonly_in rows)
     else if bytes_eq name (codes "plan") then plans (member_in rows) (json_in rows) (readonly_in rows)
@@ -231,6 +228,19 @@ abbrev pub member_fault : Option (Text × List Row) → Kinds
 member_fault None = []
 member_fault (Some p) = if names_no_member p.1 then kind.ValueValidation ∷ [] else []
 
+-- whether a size is given that is none of so many bits
+abbrev pub is_no_size : ℕ → Option Text → Bool
+is_no_size bits None = false
+is_no_size bits (Some text) = is_none (kib_in bits text)
+
+abbrev pub names_no_size : List Row → Bool
+names_no_size rows =
+    is_no_size 64 (first_of (codes "size") rows) || is_no_size 32 (first_of (codes "bitmap-chunk") rows)
+
+abbrev pub size_fault : Option (Text × List Row) → Kinds
+size_fault None = []
+size_fault (Some p) = if names_no_size p.1 then kind.ValueValidation ∷ [] else []
+
 -- whether a map is to be made of a read that ends at what is not given
 abbrev pub names_map_alone : List Row → Bool
 names_map_alone rows = is_some (map_out_in rows) && not (fill_in rows)
@@ -251,9 +261,12 @@ abbrev pub option_fault : Option (Text × List Row) → Kinds
 option_fault None = []
 option_fault (Some p) = if lacks_option p.0 p.1 then kind.MissingRequiredArgument ∷ [] else []
 
--- why the words of a command are not taken: for the member that they name, or else for its options
+-- why the words of a command are not taken: for a value, first the member that they name, or else for its options
+abbrev pub value_fault : Option (Text × List Row) → Kinds
+value_fault command = or_else (member_fault command) (size_fault command)
+
 abbrev pub command_fault : Option (Text × List Row) → Kinds
-command_fault command = or_else (member_fault command) (option_fault command)
+command_fault command = or_else (value_fault command) (option_fault command)
 
 -- why the words are not taken: for what the parser says, or else for what the command is given
 unfoldable pub words_fault : List Text → Kinds

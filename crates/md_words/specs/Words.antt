@@ -124,7 +124,7 @@ with_fill a =
 abbrev pub read_app : App
 read_app =
     with_images
-    (with_fill (with_rule (with_sector (new_app (codes "read"))) (required (u64_rule (codes "count")))))
+    (with_fill (with_rule (with_sector (new_app (codes "read"))) (u64_rule (codes "count"))))
 
 abbrev pub serve_app : App
 serve_app = with_images (with_rule (new_app (codes "serve")) (flag_rule (codes "fill")))
@@ -135,8 +135,8 @@ write_app = completed (with_sector (new_app (codes "write")))
 -- `create`: what it must be given, and what it may
 abbrev pub with_required : App → App
 with_required a =
-    with_rule (with_rule (with_rule a (required (value_rule (codes "level"))))
-    (required (u32_rule (codes "raid-devices")))) (required (value_rule (codes "uuid")))
+    with_rule (with_rule a (required (value_rule (codes "level"))))
+    (required (u32_rule (codes "raid-devices")))
 
 abbrev pub with_optional : App → App
 with_optional a =
@@ -145,9 +145,11 @@ with_optional a =
     (with_rule
     (with_rule
     (with_rule
-    (with_rule a (by_default (codes "md") (value_rule (codes "name"))))
-    (by_default (codes "65536") (u32_rule (codes "bitmap-chunk"))))
-    (u64_rule (codes "size")))
+    (with_rule
+    (with_rule a (value_rule (codes "uuid")))
+    (by_default (codes "md") (value_rule (codes "name"))))
+    (by_default (codes "65536") (value_rule (codes "bitmap-chunk"))))
+    (value_rule (codes "size")))
     (by_default (codes "0") (u64_rule (codes "time"))))
     (u32_rule (codes "write-mostly")))
     (flag_rule (codes "assume-clean"))
@@ -160,7 +162,7 @@ abbrev pub grow_app : App
 grow_app =
     completed
     (with_rule (with_rule (new_app (codes "grow")) (required (value_rule (codes "bitmap"))))
-    (by_default (codes "65536") (u32_rule (codes "bitmap-chunk"))))
+    (by_default (codes "65536") (value_rule (codes "bitmap-chunk"))))
 
 -- the program itself has a version, and asks for a command
 abbrev pub with_version : App → App

@@ -1,6 +1,6 @@
 // A command, and what it may do with the images.
 ghost use Rattle.std.specs.Prelude.{◌≡◌, option_map};
-ghost use Rattle.md_words.specs.Asks.{access_of, ask_of, device_to_add, failing_of, fills, is_readonly, leaving_of, long_task_of, member_of, opens_array, overwritten_by, takes_input, tells_parted};
+ghost use Rattle.md_words.specs.Asks.{access_of, ask_of, device_to_add, failing_of, fills, is_readonly, leaving_of, long_task_of, member_of, needs_random_bytes, opens_array, overwritten_by, takes_input, tells_parted};
 
 use crate::create_options::CreateOptions;
 use crate::form::{CheckForm, ImageForm};
@@ -47,10 +47,10 @@ pub enum Command<'a> {
         json: bool,
         readonly: bool,
     },
-    /// Puts out so many sectors of it, from this one on, and with `fill` zeros in the place of those that are not given.
+    /// Puts out so many sectors of it, or all up to its end, from this one on, and with `fill` zeros in the place of those that are not given.
     Read {
         sector: u64,
-        count: u64,
+        count: Option<u64>,
         fill: bool,
         readonly: bool,
     },
@@ -401,6 +401,34 @@ impl<'a> Command<'a> {
             | Command::Serve { .. }
             | Command::ServeWritable
             | Command::Check { .. }
+            | Command::Resync
+            | Command::Stop
+            | Command::Fail { .. }
+            | Command::Remove { .. }
+            | Command::Add { .. }
+            | Command::ReAdd { .. }
+            | Command::Rebuild { .. } => false,
+        }
+    }
+
+    /// Whether it makes a UUID of random bytes.
+    pub fn needs_random_bytes(self) -> bool
+        ensures { result ≡ needs_random_bytes (ask_of self.entry) }
+    {
+        match self {
+            Command::Create(options) => options.uuid.is_none(),
+            Command::Examine { .. }
+            | Command::ExamineBitmap { .. }
+            | Command::ExamineBadblocks { .. }
+            | Command::Grow { .. }
+            | Command::Assemble { .. }
+            | Command::Detail { .. }
+            | Command::Plan { .. }
+            | Command::Read { .. }
+            | Command::Serve { .. }
+            | Command::ServeWritable
+            | Command::Check { .. }
+            | Command::Write { .. }
             | Command::Resync
             | Command::Stop
             | Command::Fail { .. }

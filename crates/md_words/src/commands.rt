@@ -116,9 +116,9 @@ const SECTOR: OptionWords = OptionWords {
 const COUNT: OptionWords = OptionWords {
     name: "count",
     value: "N",
-    help: "The number of sectors",
+    help: "The number of sectors: by default all up to the end of the array",
     kind: Kind::U64,
-    required: true,
+    required: false,
     default: None,
 };
 
@@ -179,9 +179,9 @@ const RAID_DEVICES: OptionWords = OptionWords {
 const UUID: OptionWords = OptionWords {
     name: "uuid",
     value: "UUID",
-    help: "The UUID of the array",
+    help: "The UUID of the array, with hyphens or as mdadm writes it: by default a random one",
     kind: Kind::Text,
-    required: true,
+    required: false,
     default: None,
 };
 
@@ -196,9 +196,9 @@ const NAME: OptionWords = OptionWords {
 
 const BITMAP_CHUNK: OptionWords = OptionWords {
     name: "bitmap-chunk",
-    value: "KIB",
-    help: "The size of a chunk of the bitmap",
-    kind: Kind::U32,
+    value: "SIZE",
+    help: "The size of a chunk of the bitmap, in KiB or with the suffix K, M, G or T",
+    kind: Kind::Text,
     required: false,
     default: Some("65536"),
 };
@@ -214,9 +214,9 @@ const BITMAP: OptionWords = OptionWords {
 
 const SIZE: OptionWords = OptionWords {
     name: "size",
-    value: "KIB",
-    help: "The size of the array: by default all that its members have",
-    kind: Kind::U64,
+    value: "SIZE",
+    help: "The size of the array, in KiB or with the suffix K, M, G or T: by default all that its members have",
+    kind: Kind::Text,
     required: false,
     default: None,
 };

@@ -1,12 +1,12 @@
 // The options of `create`, as the words give them.
 
-/// What `create` is asked for. The level, the UUID and the name are the words themselves; what they
-/// have to be is looked at later.
+/// What `create` is asked for. The level, the UUID, if one is given, and the name are the words themselves;
+/// what they have to be is looked at later.
 #[derive(Clone, Copy, Debug)]
 pub struct CreateOptions<'a> {
     pub level: &'a str,
     pub raid_devices: u32,
-    pub uuid: &'a str,
+    pub uuid: Option<&'a str>,
     pub name: &'a str,
     /// In KiB.
     pub bitmap_chunk: u32,

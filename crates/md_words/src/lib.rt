@@ -19,6 +19,7 @@ mod long_task;
 mod overwritten;
 mod parsing;
 mod request;
+mod sizes;
 
 pub use command::Command;
 pub use create_options::CreateOptions;

@@ -3,8 +3,8 @@
 /// What a command does that takes long, so that a terminal is shown its progress.
 #[derive(Clone, Copy, Debug)]
 pub enum LongTask {
-    /// So many sectors of the array are read.
-    Read(u64),
+    /// So many sectors of the array are read, or all up to its end.
+    Read(Option<u64>),
     /// Marked chunks are copied.
     Resync,
     /// Chunks are copied to a member that lacks them.

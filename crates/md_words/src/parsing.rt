@@ -3,7 +3,8 @@ ghost use Rattle.std.specs.Prelude.{◌≡◌, IfOk, [], codes, map, option_map,
 ghost use Rattle.std.specs.Str.{bytes_eq};
 ghost use Rattle.clap.specs.Words.{FailsBy, fault_of, first_of, found_of, matched_of, raw_values, rows_of, subcommand_of, subcommand_rows_of};
 ghost use Rattle.md_words.specs.Words.{mdcli};
-ghost use Rattle.md_words.specs.Parsing.{all_in, ask_found, ask_named, ask_to_change, asked, check_form_in, command_fault, fill_in, full_in, has_maps, image_form_in, image_words, images_found, is_verbose, json_in, lacks_option, list_in, map_out_found, map_out_in, map_out_word, map_words, maps_found, member_at, member_fault, member_in, member_named, names_map_alone, names_no_member, needs_readonly, number_in, number_or_zero, option_fault, options_in, output_found, output_in, output_word, place_in, readonly_in, run_found, run_in, runs, serve_in, text_in, verbose_found, verbose_in, words_fault};
+ghost use Rattle.md_words.specs.Numbers.{number_or_zero};
+ghost use Rattle.md_words.specs.Parsing.{all_in, ask_found, ask_named, ask_to_change, asked, check_form_in, chunk_in, command_fault, count_in, fill_in, full_in, has_maps, image_form_in, image_words, images_found, is_no_size, is_verbose, json_in, lacks_option, list_in, map_out_found, map_out_in, map_out_word, map_words, maps_found, member_at, member_fault, member_in, member_named, names_map_alone, names_no_member, names_no_size, needs_readonly, number_in, option_fault, options_in, output_found, output_in, output_word, place_in, readonly_in, run_found, run_in, runs, serve_in, size_fault, size_in, text_in, uuid_in, value_fault, verbose_found, verbose_in, words_fault};
 ghost use Rattle.md_words.specs.Asks.{ask_of, options_of};
 
 use crate::command::Command;
@@ -11,6 +12,7 @@ use crate::command_line::command_line;
 use crate::create_options::CreateOptions;
 use crate::form::{CheckForm, ImageForm};
 use crate::request::Request;
+use crate::sizes::{u32_kib, u64_kib};
 use clap::error::ErrorKind;
 use clap::{ArgMatches, Error};
 use std::alloc::{AllocError, Global};
@@ -46,12 +48,24 @@ fn text_in<'a>(found: &ArgMatches<'a>, name: &str) -> &'a str
     }
 }
 
+// The UUID, where one is given.
+fn uuid_of<'a>(found: &ArgMatches<'a>) -> Option<&'a str>
+    ensures { option_map (λ s. s.now) result ≡ uuid_in (rows_of (found_of found.now)) }
+{
+    found.get_str("uuid")
+}
+
 fn size_of(found: &ArgMatches<'_>) -> Option<u64>
-    ensures { result
-        ≡ option_map (number_or_zero 64) (first_of (codes "size") (rows_of (found_of found.now))) }
+    ensures { result ≡ size_in (rows_of (found_of found.now)) }
 {
     let text = found.get_str("size")?;
-    Some(u64_or_zero(text))
+    Some(u64_kib(text).unwrap_or(0))
+}
+
+fn chunk_of(found: &ArgMatches<'_>) -> u32
+    ensures { result ≡ chunk_in (rows_of (found_of found.now)) }
+{
+    u32_kib(text_in(found, "bitmap-chunk")).unwrap_or(0)
 }
 
 fn write_mostly_of(found: &ArgMatches<'_>) -> Option<u32>
@@ -68,9 +82,9 @@ fn create_options<'a>(found: &ArgMatches<'a>) -> CreateOptions<'a>
     CreateOptions {
         level: text_in(found, "level"),
         raid_devices: u32_or_zero(text_in(found, "raid-devices")),
-        uuid: text_in(found, "uuid"),
+        uuid: uuid_of(found),
         name: text_in(found, "name"),
-        bitmap_chunk: u32_or_zero(text_in(found, "bitmap-chunk")),
+        bitmap_chunk: chunk_of(found),
         size: size_of(found),
         time: u64_or_zero(text_in(found, "time")),
         write_mostly: write_mostly_of(found),
@@ -170,6 +184,14 @@ fn number_in<'a>(found: &ArgMatches<'a>, name: &str) -> u64
     u64_or_zero(text_in(found, name))
 }
 
+// The number of sectors, where one is given.
+fn count_of(found: &ArgMatches<'_>) -> Option<u64>
+    ensures { result ≡ count_in (rows_of (found_of found.now)) }
+{
+    let text = found.get_str("count")?;
+    Some(u64_or_zero(text))
+}
+
 // The place among images of the first of this name.
 fn position_of(images: &[&str], name: &str) -> Option<usize>
     ensures { result ≡ position (λ image. bytes_eq image.now name.now) images.now }
@@ -255,7 +277,7 @@ fn command_of<'a>(name: &str, found: &ArgMatches<'a>) -> Command<'a>
     } else if name == "grow" {
         Command::Grow {
             bitmap: text_in(found, "bitmap"),
-            chunk: u32_or_zero(text_in(found, "bitmap-chunk")),
+            chunk: chunk_of(found),
         }
     } else if name == "assemble" {
         Command::Assemble {
@@ -275,7 +297,7 @@ fn command_of<'a>(name: &str, found: &ArgMatches<'a>) -> Command<'a>
         }
     } else if name == "read" {
         let sector = number_in(found, "sector");
-        let count = number_in(found, "count");
+        let count = count_of(found);
         Command::Read {
             sector,
             count,
@@ -409,6 +431,58 @@ fn check_member(alloc: Global, matches: &ArgMatches<'_>) -> Result<(), Error>
     Err(program.error(ErrorKind::ValueValidation, message)?)
 }
 
+// Whether a size is given that is none.
+fn is_no_size(found: &ArgMatches<'_>) -> bool
+    ensures { result ≡ is_no_size 64 (first_of (codes "size") (rows_of (found_of found.now))) }
+{
+    match found.get_str("size") {
+        Some(text) => u64_kib(text).is_none(),
+        None => false,
+    }
+}
+
+fn is_no_chunk(found: &ArgMatches<'_>) -> bool
+    ensures { result ≡ is_no_size 32 (first_of (codes "bitmap-chunk") (rows_of (found_of found.now))) }
+{
+    match found.get_str("bitmap-chunk") {
+        Some(text) => u32_kib(text).is_none(),
+        None => false,
+    }
+}
+
+fn names_no_size(found: &ArgMatches<'_>) -> bool
+    ensures { result ≡ names_no_size (rows_of (found_of found.now)) }
+{
+    is_no_size(found) || is_no_chunk(found)
+}
+
+// Refuses a size that is none, as the parser refuses a value.
+fn check_sizes(alloc: Global, matches: &ArgMatches<'_>) -> Result<(), Error>
+    ensures { FailsBy (size_fault (subcommand_rows_of matches.now)) result }
+{
+    let Some((_, found)) = matches.subcommand() else {
+        return Ok(());
+    };
+    if !names_no_size(found) {
+        return Ok(());
+    }
+    let message = if is_no_size(found) {
+        "invalid value for '--size <SIZE>': it is no number of KiB that fits 64 bits, perhaps with the suffix K, M, G or T"
+    } else {
+        "invalid value for '--bitmap-chunk <SIZE>': it is no number of KiB that fits 32 bits, perhaps with the suffix K, M, G or T"
+    };
+    let mut program = command_line(alloc)?;
+    Err(program.error(ErrorKind::ValueValidation, message)?)
+}
+
+// Refuses a value that the parser takes.
+fn check_values(alloc: Global, matches: &ArgMatches<'_>) -> Result<(), Error>
+    ensures { FailsBy (value_fault (subcommand_rows_of matches.now)) result }
+{
+    check_member(alloc, matches)?;
+    check_sizes(alloc, matches)
+}
+
 // Whether a map is to be made of a read that ends at what is not given.
 fn names_map_alone(found: &ArgMatches<'_>) -> bool
     ensures { result ≡ names_map_alone (rows_of (found_of found.now)) }
@@ -460,7 +534,7 @@ fn check_options(alloc: Global, matches: &ArgMatches<'_>) -> Result<(), Error>
 fn check_command(alloc: Global, matches: &ArgMatches<'_>) -> Result<(), Error>
     ensures { FailsBy (command_fault (subcommand_rows_of matches.now)) result }
 {
-    match check_member(alloc, matches) {
+    match check_values(alloc, matches) {
         Ok(()) => check_options(alloc, matches),
         Err(error) => Err(error),
     }

@@ -22,6 +22,8 @@ mod pace;
 mod person;
 mod progress;
 mod prompt;
+mod random;
+mod read_length;
 mod standard_input;
 
 use crate::arguments::arguments;
@@ -32,6 +34,7 @@ use crate::output_file::{destination_of, is_file_ended, output_of};
 use crate::person::Person;
 use crate::progress::Progress;
 use crate::prompt::Prompt;
+use crate::random::bytes_if_needed;
 use crate::standard_input::bytes_left_if_taken;
 use md_cli::{Session, run};
 use md_commands::Input;
@@ -118,6 +121,7 @@ fn main(rt: HostRuntime) -> ExitCode {
         out: CodedJson::new(Buffered::new(rt.alloc(), out), is_json(&parsed)),
         watch: &progress,
         asker: Prompt::new(&rt, &progress, person),
+        random_bytes: bytes_if_needed(&rt, &parsed),
         missing: None,
         is_all_out: false,
     };
@@ -131,7 +135,8 @@ fn main(rt: HostRuntime) -> ExitCode {
     } = session;
     let is_ended = is_file_ended(out.into_inner().into_inner(), output, messages, &mut err);
     let of_all = if is_all_out { missing } else { None };
-    let is_map_made = is_map_made(&rt, map, of_all, messages, &mut err);
+    let count = progress.sectors_to_read();
+    let is_map_made = is_map_made(&rt, map, count, of_all, messages, &mut err);
     if !is_ended || !is_map_made {
         return ExitCode::from(REFUSED);
     }

@@ -12,7 +12,6 @@ use std::io::{ErrorKind, Write};
 pub struct MapOut<'a> {
     path: &'a str,
     sector: u64,
-    count: u64,
 }
 
 impl<'a> MapOut<'a> {
@@ -25,15 +24,11 @@ impl<'a> MapOut<'a> {
     }
 
     fn of(request: &Request<'a>) -> Option<MapOut<'a>> {
-        let Command::Read { sector, count, .. } = request.command else {
+        let Command::Read { sector, .. } = request.command else {
             return None;
         };
         let path = request.map_out?;
-        Some(MapOut {
-            path,
-            sector,
-            count,
-        })
+        Some(MapOut { path, sector })
     }
 
     // Makes the file, empty, before any image is opened to be changed. Nothing that is there is overwritten: it may be one of them.
@@ -45,9 +40,15 @@ impl<'a> MapOut<'a> {
         }
     }
 
-    // Writes it once all sectors are put out, of which these are missing.
-    fn write(&self, rt: &HostRuntime, file: &MadeFile, missing: BadSet) -> Result<(), MapOutFault> {
-        let Ok(text) = write_map_of_read(rt.alloc(), self.sector, self.count, missing) else {
+    // Writes it once all sectors, so many, are put out, of which these are missing.
+    fn write(
+        &self,
+        rt: &HostRuntime,
+        file: &MadeFile,
+        count: u64,
+        missing: BadSet,
+    ) -> Result<(), MapOutFault> {
+        let Ok(text) = write_map_of_read(rt.alloc(), self.sector, count, missing) else {
             return Err(MapOutFault::NoMemory);
         };
         match file.write_whole(text.as_bytes()) {
@@ -98,10 +99,11 @@ pub fn begun_map<'a, E: Write + Sink>(
     }
 }
 
-/// Writes the map, where one was begun and all sectors are put out; else there is none. Says on `err` why it can't.
+/// Writes the map, where one was begun and all sectors, so many, are put out; else there is none. Says on `err` why it can't.
 pub fn is_map_made<E: Write + Sink>(
     rt: &HostRuntime,
     map: BegunMap<'_>,
+    count: u64,
     missing: Option<BadSet>,
     messages: Messages,
     err: &mut E,
@@ -113,7 +115,7 @@ pub fn is_map_made<E: Write + Sink>(
         file.take_away(rt, map.path);
         return true;
     };
-    match map.write(rt, &file, missing) {
+    match map.write(rt, &file, count, missing) {
         Ok(()) => true,
         Err(fault) => {
             map.tell(fault, messages, err);

@@ -3,6 +3,8 @@ ghost use Rattle.std.specs.Prelude.{⊤};
 
 use crate::comparing::Comparing;
 use crate::copying::Copying;
+use crate::read_length::ReadLength;
+use md_cli::ReadWatch;
 use md_commands::{Gate, Watch};
 use md_files::Line;
 use md_images::Traffic;
@@ -33,6 +35,7 @@ pub struct Progress<'a> {
     written: AtomicU64,
     copying: Copying,
     comparing: Comparing,
+    read_length: ReadLength,
     // In milliseconds after the beginning, when the line may be drawn again.
     due: AtomicU64,
     is_shown: AtomicBool,
@@ -48,9 +51,15 @@ impl<'a> Progress<'a> {
             written: AtomicU64::new(0),
             copying: Copying::new(),
             comparing: Comparing::new(),
+            read_length: ReadLength::new(),
             due: AtomicU64::new(0),
             is_shown: AtomicBool::new(false),
         }
+    }
+
+    /// How many sectors of the array are to be read; 0 before that is known.
+    pub fn sectors_to_read(&self) -> u64 {
+        self.read_length.sectors()
     }
 
     fn draw_if_due(&self) {
@@ -81,7 +90,9 @@ impl<'a> Progress<'a> {
                 !self.copying.has_begun() && self.read.load(Ordering::SeqCst) < MIB
             }
             LongTask::Check => !self.comparing.has_begun(),
-            LongTask::Read(_) | LongTask::Resync => false,
+            // How long an array is shows once it is opened.
+            LongTask::Read(None) => !self.read_length.has_begun(),
+            LongTask::Read(Some(_)) | LongTask::Resync => false,
         }
     }
 
@@ -106,7 +117,8 @@ impl<'a> Progress<'a> {
     fn line(&self, task: LongTask, now: u64) -> Result<String, AllocError> {
         let read = self.read.load(Ordering::SeqCst);
         match task {
-            LongTask::Read(sectors) => {
+            LongTask::Read(count) => {
+                let sectors = count.unwrap_or(self.sectors_to_read());
                 let bytes = sectors.saturating_mul(512);
                 format!(in self.rt.alloc();
                     "{CLEAR}read: {} of {} MiB",
@@ -193,5 +205,13 @@ impl<'a> Watch for Progress<'a> {
         };
         let read = self.read.load(Ordering::SeqCst);
         self.comparing.begin(sectors, now, read);
+    }
+}
+
+impl<'a> ReadWatch for Progress<'a> {
+    ghost reads = { λ _ _. ⊤ };
+
+    fn begins_read(&self, sectors: u64) {
+        self.read_length.begin(sectors);
     }
 }

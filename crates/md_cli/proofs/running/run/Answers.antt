@@ -24,7 +24,7 @@ returns-clause-taken g c taken =
     let images : texts c.in-Ok.request.images.items ≡ image_words words = subst (λ parsed. IfOk parsed (λ r. texts r.images.items ≡ image_words words)) c.in-Ok.is c.requires.images in
     let names_are : texts c.as_slice-names.result.now ≡ image_words words = ap texts c.as_slice-names.ensures.value ∙ images in
     let Doing : Notices → Ask → List Text → Type 0 =
-    λ noticed ask names. Obeys g.I.Images g.I.Dev.Device g.R.Source g.S.Sink g.A.Asker ask names c.args.images.now c.act-outcome.new.images (told_of c.args.session.now noticed) (told_of c.act-outcome.new.session c.act-outcome.new.notices) c.act-outcome.result in
+    λ noticed ask names. Obeys g.I.Images g.I.Dev.Device g.R.Source g.S.Sink g.A.Asker c.args.session.now.random_bytes ask names c.args.images.now c.act-outcome.new.images (told_of c.args.session.now noticed) (told_of c.act-outcome.new.session c.act-outcome.new.notices) c.act-outcome.result in
     let none : c.none-notices.result ≡ nothing = c.none-notices.ensures in
     let Telling : Bool → Ask → List Text → Type 0 =
     λ shown ask names. TellsNoticed g.E.Sink (record { messages = c.args.messages; was_shown = shown }) ask names (streams_of c.act-outcome.new.session).missing c.args.err.now c.answer.new.err c.act-outcome.result c.act-outcome.new.notices in

@@ -1,7 +1,7 @@
 use Rattle.std.proofs.Common.{subst, sym}
 use Rattle.clap.specs.Kinds.{or_else}
 use Rattle.clap.specs.Words.{FailsBy, Kinds, subcommand_rows_of}
-use Rattle.md_words.specs.Parsing.{member_fault, option_fault}
+use Rattle.md_words.specs.Parsing.{option_fault, value_fault}
 use Rattle.md_words.proofs.CommandLine.{first_fails}
 use Rattle.md_words.proofs.parsing.check_command.Goals as goal
 
@@ -11,4 +11,4 @@ returns-in-Ok c =
 
 pub returns-in-Err : goal.returns-in-Err
 returns-in-Err c =
-    first_fails (member_fault (subcommand_rows_of c.args.matches.now)) (option_fault (subcommand_rows_of c.args.matches.now)) c.in-Err.error c.in-Err.ensures
+    first_fails (value_fault (subcommand_rows_of c.args.matches.now)) (option_fault (subcommand_rows_of c.args.matches.now)) c.in-Err.error c.in-Err.ensures

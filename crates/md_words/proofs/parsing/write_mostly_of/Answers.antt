@@ -1,7 +1,7 @@
 use Rattle.std.proofs.Common.{◌≡◌, ◌∙◌, Option, None, Some, ap, option_map, codes, rules, ℕ}
 use Rattle.clap.proofs.WalkLemmas.{first_value-rows}
 use Rattle.clap.specs.Words.{Text, found_of}
-use Rattle.md_words.specs.Parsing.{number_or_zero}
+use Rattle.md_words.specs.Numbers.{number_or_zero}
 use Rattle.md_words.proofs.parsing.write_mostly_of.Goals as goal
 
 abbrev role_in : Option Text → Option ℕ

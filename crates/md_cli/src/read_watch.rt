@@ -1,0 +1,15 @@
+// What is told of a read.
+ghost use Rattle.std.specs.Prelude.{ℕ};
+
+use md_commands::Watch;
+
+/// Is told of a read too, so that its progress can be shown.
+pub trait ReadWatch: Watch {
+    /// It was told that so many sectors of the array are to be read. Only `begins_read` says it, so that a call of which a
+    /// contract says it has told the watch.
+    ghost reads: { Self → ℕ → Type 0 };
+
+    /// So many sectors of the array are to be read: those that are asked for, or all up to its end.
+    fn begins_read(&self, sectors: u64)
+        ensures { reads self.now sectors };
+}
