@@ -41,15 +41,51 @@ pub(crate) fn put_filled<D: Device + Drop, S: Sink>(
 {
     let mut piece = buffer(alloc, count.min(PIECE_SECTORS))?;
     let mut holes = Vec::with_capacity(alloc, PIECE_SECTORS as usize)?;
+    let asked = Sectors { sector, count };
+    put_filled_pieces(mirror, way, asked, &mut piece, &mut holes, missing, out)
+}
+
+// So many sectors of the array, from this one on.
+#[derive(Clone, Copy)]
+struct Sectors {
+    sector: u64,
+    count: u64,
+}
+
+// Puts them out through this buffer, of a piece, or of all of them where these are fewer. `holes` is room for those of a piece that are
+// not given.
+fn put_filled_pieces<D: Device + Drop, S: Sink>(
+    mirror: &mut Mirror<D>,
+    way: Way,
+    asked: Sectors,
+    buffer: &mut [u8],
+    holes: &mut Vec<Run>,
+    missing: &mut BadSet,
+    out: &mut S,
+) -> Result<(), CommandFault>
+    requires room { length buffer.old ≡ 512 * min asked.count piece_sectors }
+    requires holes { piece_sectors ≤ vec_capacity holes.old }
+    requires may { MayReadBy way mirror.old.array asked.sector asked.count }
+    requires fits { asked.sector + asked.count < 2 ^ 64 }
+    requires sound { IsConsistent mirror.old }
+    requires none { missing.old ≡ [] }
+    ensures gives { MatchResult result
+        (λ _. PutsFilled S.Sink way asked.sector asked.count missing.new mirror.old mirror.new
+        out.old out.new)
+        (RefusesFilled S.Sink way asked.sector asked.count missing.new mirror.old mirror.new
+        out.old out.new) }
+    ensures sound { IsConsistent mirror.new }
+    ensures pending { (p : PendingView) → IsPending mirror.old.array p → IsPending mirror.new.array p }
+{
     let mut done = 0;
-    while done < count {
-        let sectors = PIECE_SECTORS.min(count - done);
+    while done < asked.count {
+        let sectors = PIECE_SECTORS.min(asked.count - done);
         put_filled_piece(
             mirror,
             way,
-            sector + done,
-            &mut piece[..512 * sectors as usize],
-            &mut holes,
+            asked.sector + done,
+            &mut buffer[..512 * sectors as usize],
+            holes,
             missing,
             out,
         )?;
