@@ -360,6 +360,9 @@ FORGOTTEN = "mdcli: %s: is in sync in this very array, and is not among the imag
 EXT = "mdcli: %s: holds an ext2, ext3 or ext4 file system\n"
 XFS = "mdcli: %s: holds an XFS file system\n"
 PARTED = "mdcli: %s: was used without %s since they parted: what was written to it alone is not in this array\n"
+# What a rebuild newly lists: one chunk.
+UNREAD = "mdcli: %s: could not be read in places: the sectors that are listed as bad in it are now 8\n"
+UNGIVEN = "mdcli: %s: no member gave all of it: the sectors that are listed as bad in it are now 8\n"
 # With --verbose: what to do with an image that can't be read in a place, and with one that can't be read in more places than it can
 # list.
 COPY = "%s: copy the disk by ddrescue, and use the copy with its map (`--map`), without which zeros would count as data; or leave the image out\n"
@@ -865,7 +868,7 @@ CASES = [
             # They give the chunks in turn: the first chunks 0, 2, 4 and 6, the second the others.
             Step("plan --member 2 --map a=third --map b=far a b c", PLAN),
             # What the one does not give the other one does, in a second pass.
-            Step("rebuild --member 2 --map a=third --map b=far a b c", REBUILT_FROM_COPIES, changes="a b c"),
+            Step("rebuild --member 2 --map a=third --map b=far a b c", REBUILT_FROM_COPIES, told=UNREAD % "a" + UNREAD % "b", changes="a b c"),
             Step("examine-badblocks a", "        2064 for 8 sectors\n"),
             Step("check a b c", AGREE),
         ],
@@ -1211,7 +1214,7 @@ CASES = [
             Step("write --sector 0 a", "in sync 1 of 2, events 3, marked 8\n", changes="a", given=members.pattern(1, 64)),
             Made("a", "a", listing),
             Step("add --device b a", "in sync 1 of 2, events 4, marked 8\n", changes="a b"),
-            Step("rebuild --member 1 a b", REBUILT_FROM_ONE, changes="a b"),
+            Step("rebuild --member 1 a b", REBUILT_FROM_ONE, told=UNGIVEN % "b", changes="a b"),
             Step("examine-badblocks b", "        2088 for 8 sectors\n"),
             Step("examine-badblocks a", "        2091 for 1 sectors\n"),
             Step("read --sector 43 --count 1 a b", fault="Unreadable 43"),
@@ -1250,7 +1253,7 @@ CASES = [
         {"a": VAULT, "b": ZEROS, "late": lacks((9, 1))},
         [
             NEW_BESIDE_VAULT,
-            Step("rebuild --verbose --map a=late --member 1 a b", REBUILT_BUT_ONE, changes="a b"),
+            Step("rebuild --verbose --map a=late --member 1 a b", REBUILT_BUT_ONE, told=UNREAD % "a" + UNGIVEN % "b", changes="a b"),
             Step("examine-badblocks --verbose a", "        2056 for 8 sectors\n"),
             Step("examine-badblocks --verbose b", "        2056 for 8 sectors\n"),
         ],
