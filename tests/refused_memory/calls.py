@@ -25,6 +25,7 @@ WITHIN = {
     "md_kept_members::members_of": "md_array::Mirror::open",
     "md_masks::read_map": "md_masks::mask_images",
     "md_masks::write_map": "md_masks::write_map_of_read",
+    "md_nbd::answer_requests": "md_nbd::serve_client",
     "md_masks::MaskedImages::add": "md_masks::mask_images",
     "md_masks::MaskedImages::lacking": "md_masks::mask_images",
     "md_members::read_super": "md_members::read_member",
