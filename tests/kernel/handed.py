@@ -113,7 +113,7 @@ def against(lab, state, told, contents):
     reasons = []
     if told.one("mismatches") != "0":
         reasons.append("the kernel's check finds %s sectors that differ" % told.one("mismatches"))
-    if told.one("degraded") != str(state.degraded):
+    if told.one("degraded") not in ([str(state.degraded)] + ["0"] * state.takes_late):
         text = "%s members are not in sync, and not %d: %s"
         reasons.append(text % (told.one("degraded"), state.degraded, told.words.get("member")))
     reasons += ["mdadm failed: " + words for words in told.words.get("failed", [])]

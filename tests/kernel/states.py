@@ -33,7 +33,7 @@ class State:
     """Images that are handed over. `holds` has contents of the array: each sector is as one of them has it. `known_as` says as which
     of known.py it may be wrong."""
 
-    def __init__(self, name, contents, holds, given=None, missing=(), known_as=None, may_refuse=False, mended=None, grows_after=()):
+    def __init__(self, name, contents, holds, given=None, missing=(), known_as=None, may_refuse=False, mended=None, grows_after=(), takes_late=False):
         self.name = name
         self.contents = contents
         self.holds = holds
@@ -48,6 +48,8 @@ class State:
         # By these words what the kernel left without a bitmap gets one, before it is looked at.
         self.grows_after = grows_after
         self.degraded = 0 if grows_after else self.lacking()
+        # Whether a kernel may take a member that is one event behind, and that the others have out.
+        self.takes_late = takes_late
 
     def lacking(self):
         """How many members are not in sync once the kernel has gone on: it rebuilds what is recovering, and takes spares."""
@@ -384,3 +386,17 @@ class States:
         yield State("then the member is failed and removed", self.lab.left(killed(), 1, [0, 1]), [new])
         yield State("and the member is not there", killed(), [new], given=[0])
         yield State("and a kernel that took it gets it anew", killed(), [new], mended=1)
+
+    def killed_re_add_then_written_without(self):
+        """The member has the old data in what was written since, before the first chunk that it lacked. A kernel may take it, where it
+        is one event behind: then it has to copy all of it."""
+
+        def left():
+            return self.lab.run(self.arrays.removed(), ["write", "--sector", SECTORS - CHUNK], [0], WRITTEN[: CHUNK * SECTOR])
+
+        words = ["re-add", "--device", Image(1)]
+        new = with_written(with_written(ONE, SECTORS - CHUNK, WRITTEN[: CHUNK * SECTOR]))
+        for number in range(3, 1 + len(self.lab.calls(left(), words, [0]))):
+            contents = self.lab.stopped(left(), words, [0], b"", "before", number)
+            written = self.lab.run(contents, WRITE, [0], WRITTEN)
+            yield State("before call %d" % number, written, [new], takes_late=True)

@@ -15,10 +15,11 @@ from sweeping import MOST, sweep
 # A test whose reads are to overlap waits through a thousand million turns where the other thread found no memory.
 SECONDS = 60
 
-# The crates, and which of their tests are not swept: those that play every order of steps, which make the calls of the others thousands of
-# times, those that plan large tables, which take long, and those that crash an array at each write, or many times.
+# The crates, and which of their tests are not swept: those that play every order of steps, or sessions by the thousand, which make the
+# calls of the others thousands of times, those that plan large tables, which take long, and those that crash an array at each write, or
+# many times.
 SUITES = {
-    "part_tests": r"plans::large_tables::",
+    "part_tests": r"plans::large_tables::|nbd_spoiled::",
     "step_tests": r"\w+::every_order::",
     "call_tests": None,
     "crash_tests": r"each_write::|lives::",

@@ -249,7 +249,9 @@ class Mount:
 
     def close(self):
         if self.process.poll() is None:
-            run_client([shutil.which("fusermount3") or "fusermount", "-u", str(self.folder)])
+            # The package fuse3 may not be there; root mounts without it.
+            helper = shutil.which("fusermount3") or shutil.which("fusermount")
+            run_client([helper, "-u", str(self.folder)] if helper else ["umount", str(self.folder)])
             try:
                 self.process.wait(timeout=SECONDS)
             except subprocess.TimeoutExpired:

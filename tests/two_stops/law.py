@@ -55,7 +55,25 @@ class Law:
             if wrong:
                 reasons.append("member %d, in sync, has what it never had at sector %d" % (member.number, wrong[0]))
         if found.in_sync:
-            reasons += self.against_recovering(found)
+            reasons += self.against_recovering(found) + self.against_taken_late(found)
+        return reasons
+
+    @staticmethod
+    def against_taken_late(found):
+        """Kernels from before 2024 take a member that is one event behind at its own word, whatever the others say of it. While the others are
+        written to without it they are one event ahead of it, until they are stopped."""
+        reasons = []
+        if found.freshest.superblock.resync_offset != members.CLEAN:
+            return reasons
+        for member in filter(None, found.members):
+            own, newest = member.superblock, found.freshest.superblock
+            if members.Found.role_by(member, member) >= newest.raid_disks or own.events + 1 < newest.events:
+                continue
+            said = own.recovery_offset if own.feature_map & members.RECOVERY_BIT else 0
+            for one in found.in_sync:
+                wrong = [at for at in members.differing(member, one) if at < said]
+                if wrong:
+                    reasons.append("member %d, for a kernel, differs at sector %d, before its recovery_offset" % (member.number, wrong[0]))
         return reasons
 
     @staticmethod

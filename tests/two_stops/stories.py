@@ -128,7 +128,16 @@ def made_stories():
         contents = REBUILDS.prepared(scratch, contents, [(["add", "--device", scratch.path(2)], [0, 1], b"")])
         return story_of_leaving(scratch, "remove, a spare", contents, ["remove", "--member", 2])
 
-    stories = {name: make for name, make in locals().items() if name.startswith(("create_", "fail_", "remove_"))}
+    def re_add_of_the_last_chunk(scratch):
+        """The second command writes before the only chunk that the member lacked, with the member or without it."""
+        away = [(["fail", "--member", 1], [0, 1], b""), (["remove", "--member", 1], [0, 1], b"")]
+        written = (["write", "--sector", SECTORS - 8], [0], members.pattern(9, 8))
+        contents = REBUILDS.prepared(scratch, scratch.created([0, 1], SECTORS, 4, ["--assume-clean"]), away + [written])
+        first = Command(["re-add", "--device", scratch.path(1)], [0])
+        alone = Command(["write", "--sector", OTHERS_AT], [0], OTHERS_WRITTEN, OTHERS_AT)
+        return Story("re-add, of the last chunk", contents, first, [first, alone] + follow_ups([0, 1]))
+
+    stories = {name: make for name, make in locals().items() if name.startswith(("create_", "fail_", "remove_", "re_add_"))}
     for arrays, story_of in ((WRITES, story_of_write_case), (REBUILDS, story_of_rebuild_case)):
         for name in names_of(arrays):
             stories[name] = maker(arrays, story_of, name)

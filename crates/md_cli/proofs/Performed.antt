@@ -74,7 +74,7 @@ module _ {R S A : Type 0} (r : SourceGhosts R) (s : SinkGhosts S) (names : List 
   all_kept (details json readonly) result brings h = kept _ before after brings (ap (λ (o : OpenedView). o.beside) h.0) (ap (λ (o : OpenedView). length o.mirror.disks) h.0)
   all_kept (plans k json readonly) result brings h = kept _ before after brings (ap (λ (o : OpenedView). o.beside) h.0) (ap (λ (o : OpenedView). length o.mirror.disks) h.0)
   all_kept (reads sector count true readonly) result brings h =
-      kept _ before after brings h.0 (fills_as_many s readonly sector (sectors_asked before.mirror.array sector count) before.mirror after.mirror old.output new.output new.missing result h.2)
+      kept _ before after brings h.0 (fills_as_many s readonly sector (sectors_asked before.mirror.array sector count) before.mirror after.mirror old.output new.output new.missing result h.2.0)
   all_kept (reads sector count false false) (Ok v) brings h =
       kept _ before after brings h.0 (done_read s before.mirror after.mirror old.output new.output sector (sectors_asked before.mirror.array sector count) h.2)
   all_kept (reads sector count false false) (Err f) brings h =

@@ -16,7 +16,7 @@ use Rattle.md_commands.specs.Resyncing.{RefusesToResync, ResyncsArray}
 use Rattle.md_commands.specs.Stopping.{RefusesToStop, StopsArray, StopsArrayAfter}
 use Rattle.md_commands.specs.Writing.{RefusesToWrite, WritesArray}
 use Rattle.md_commands.specs.declared.fault.CommandFault.{CommandFault}
-use Rattle.md_read_commands.specs.Filling.{ReadsFilled}
+use Rattle.md_read_commands.specs.Filling.{ReadsFilled, has_put_all}
 use Rattle.md_read_commands.specs.Reading.{ReadsArray, ReadsReadonly, RefusesReadonly, RefusesToRead}
 use Rattle.md_read_commands.specs.Serving.{ServesArray}
 use Rattle.md_serve_commands.specs.Writable.{ServesWritable}
@@ -55,13 +55,15 @@ module _ {S : Type 0} (s : SinkGhosts S) where
       (λ _. ReadsReadonly s sector count before.mirror after.mirror old new)
       (RefusesReadonly s sector count before.mirror after.mirror old new)
 
-  -- the same, or with zeros in the place of sectors that are not given; then which these are is noted, where all are put out
+  -- the same, or with zeros in the place of sectors that are not given; then it is noted which these are, and whether all sectors are
+  -- put out
   abbrev pub PerformsRead : {R A : Type 0} → ℕ → ℕ → Bool → Bool → OpenedView → OpenedView → Streams R S A
       → Streams R S A → Result (Unit {0}) CommandFault → Type 0
   PerformsRead sector count false readonly before after old new result =
       ShowsSectors sector count readonly before after old.output new.output result
   PerformsRead sector count true readonly before after old new result =
       ReadsFilled s readonly sector count before.mirror after.mirror old.output new.output new.missing result
+      × (new.all_out ≡ has_put_all result)
 
   -- The members in sync are compared, and in how many chunks two differ is put out, or which these are.
   abbrev pub ShowsMismatches : CheckForm → List Text → OpenedView → OpenedView → S → S

@@ -1,5 +1,5 @@
 -- The input and the output of a run, who is asked, and what it noticed.
-use Rattle.std.specs.Prelude.{◌≡◌, List, Option}
+use Rattle.std.specs.Prelude.{◌≡◌, Bool, List, Option}
 use Rattle.md_badblocks.specs.declared.run.Run.{Run}
 use Rattle.md_messages.specs.declared.asker.Asker.{Ghosts as AskerGhosts}
 use Rattle.md_messages.specs.declared.messages.Audience.{Audience}
@@ -12,6 +12,7 @@ pub record Streams (R S A : Type 0) : Type 0 where
   pub output : S
   pub missing : Option (List Run)  -- the sectors for which zeros were put out
   pub asker : A  -- who is asked, and was
+  pub all_out : Bool  -- whether all sectors of a read that was to put out zeros are put out
 
 abbrev pub streams_of : {T R S W A : Type 0} → Session T R S W A → Streams R S A
 streams_of session = record {
@@ -19,6 +20,7 @@ streams_of session = record {
   output = session.out;
   missing = session.missing;
   asker = session.asker;
+  all_out = session.is_all_out;
 }
 
 -- The streams of a command that is done, and what was noticed of the array beside them.

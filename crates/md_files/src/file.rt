@@ -1,5 +1,5 @@
 // A device in a file or a block device.
-ghost use Rattle.std.specs.Prelude.{◌≡◌, ◌≢◌, ◌+◌, ◌*◌, ◌^◌, ◌≤◌, ◌↔◌, ◌⊎◌, [], length, true, false, replicate, None, Ok, IfOk, IsErr, IsErrOf, OnOk, OnErr, IsTrue, refl, ⊤};
+ghost use Rattle.std.specs.Prelude.{◌≡◌, ◌≢◌, ◌+◌, ◌*◌, ◌^◌, ◌<◌, ◌≤◌, ◌↔◌, ◌⊎◌, [], length, true, false, replicate, None, Ok, IfOk, IsErr, IsErrOf, OnOk, OnErr, IsTrue, refl, ⊤};
 ghost use Rattle.std.specs.Fs.{file_type, IsDir, IsFile};
 ghost use Rattle.md_device.specs.Failing.{AddsItself, failed_read, failed_write};
 ghost use Rattle.md_images.specs.declared.access.Access.TheVariants.{Look, Change};
@@ -7,6 +7,7 @@ ghost use Rattle.md_images.specs.declared.access.Access.TheVariants.{Look, Chang
 use crate::backing::Backing;
 use crate::block_device::BlockDevice;
 use crate::in_use::check_unused;
+use crate::zeros::{BLOCK, is_zero};
 use md_device::{Device, Fault, FaultList, ReadFault, WriteFault};
 use md_images::{Access, ImageFault, SharedRead};
 use std::fs::{File, Files, Metadata, OpenOptions, TryLockError};
@@ -15,6 +16,9 @@ use std::marker::Model;
 use std::os::unix::fs::{FileExt, FileTypeExt};
 use std::{fs, io};
 
+// Zeros are looked for in pieces of so many bytes.
+const PIECE: usize = 16 * BLOCK;
+
 /// A device whose sectors are those of a regular file or of a block device. Contracts see its number
 /// of sectors, whether it can be written, whether it has failed for good, and which of its calls failed.
 ///
@@ -22,6 +26,9 @@ use std::{fs, io};
 /// either fails. So it is a device that is not honest, and zeros stand for its content. What they
 /// do to a regular file that does not fail is tested. That a write waits for stable storage is
 /// neither proved nor tested: it asks the system for that before it answers `Ok`.
+///
+/// Of what is written, pieces of 64 KiB of zeros are left out where zeros stand already. What is read of the file then was on
+/// stable storage, as long as nothing else writes to it: it is synced when it is opened to be changed, and at each write.
 ///
 /// While it is open the file is locked against other openings, and dropping it ends the lock.
 #[derive(Drop)]
@@ -225,12 +232,60 @@ impl FileDevice {
         if !self.writable || self.is_cut_before(end) {
             return Err(WriteFault);
         }
-        let file = &self.file;
-        file.write_all_at(bytes, 512 * sector)
-            .map_err(|_| WriteFault)?;
-
-        self.sync()
+        if self.write_but_zeros(bytes, 512 * sector)? {
+            self.sync()
+        } else {
+            Ok(())
+        }
     }
+
+    // Writes these bytes from here on, but for pieces of zeros where the file has zeros: so what is sparse stays so, and what is empty
+    // costs no write. The answer is whether any were written.
+    fn write_but_zeros(&self, bytes: &[u8], from: u64) -> Result<bool, WriteFault>
+        requires { from + length bytes.now < 2 ^ 64 }
+    {
+        let mut start = 0;
+        let mut is_written = false;
+        for piece in 0..bytes.len() / PIECE {
+            let at = PIECE * piece;
+            if is_zero_piece(&bytes[at..at + PIECE]) && self.holds_zeros(from + at as u64) {
+                is_written |= self.write_run(&bytes[start..at], from + start as u64)?;
+                start = at + PIECE;
+            }
+        }
+        Ok(is_written | self.write_run(&bytes[start..], from + start as u64)?)
+    }
+
+    // Writes them all. The answer is whether there are any.
+    fn write_run(&self, bytes: &[u8], from: u64) -> Result<bool, WriteFault>
+        requires { from + length bytes.now < 2 ^ 64 }
+    {
+        let file = &self.file;
+        file.write_all_at(bytes, from).map_err(|_| WriteFault)?;
+        Ok(!bytes.is_empty())
+    }
+
+    // Whether a piece of the file from here on is known to have zeros alone.
+    fn holds_zeros(&self, from: u64) -> bool
+        requires { from + 65536 < 2 ^ 64 }
+    {
+        let file = &self.file;
+        let mut block = [0; BLOCK];
+        for k in 0..PIECE / BLOCK {
+            let at = from + (BLOCK * k) as u64;
+            if file.read_exact_at(&mut block, at).is_err() || !is_zero(&block) {
+                return false;
+            }
+        }
+        true
+    }
+}
+
+// Whether a piece is all zeros.
+fn is_zero_piece(piece: &[u8]) -> bool
+    requires { length piece.now ≡ 65536 }
+{
+    (0..PIECE / BLOCK).all(|k| is_zero(&piece[BLOCK * k..BLOCK * k + BLOCK]))
 }
 
 // Refuses what is neither a regular file nor a block device, and tells which block device it is.

@@ -22,6 +22,7 @@ mod mounts;
 mod sparse;
 mod streams;
 mod told;
+mod zeros;
 
 pub use backing::Backing;
 pub use file::FileDevice;

@@ -32,16 +32,17 @@ abbrev pub own_role : Superblock → ℕ
 own_role v = role_in v v.dev_number
 
 -- What is kept of it: its bitmap and its log as they were read, and of its superblock what is written next. That is what is done
--- first, so that its superblock is not due.
-pub record IsKeptTakenBack (offset sure : ℕ) (info : MemberInfo) (m : MemberView) : Type 0 where
-  pub superblock : m.superblock ≡ recovering sure (kept_superblock info)
+-- first, so that its superblock is not due. It says that the member has nothing: a kernel goes by it also where the others were written
+-- to before they tell of this member.
+pub record IsKeptTakenBack (offset : ℕ) (info : MemberInfo) (m : MemberView) : Type 0 where
+  pub superblock : m.superblock ≡ recovering 0 (kept_superblock info)
   pub header : info.header ≡ Some m.header
   pub stored : info.marks ≡ Some m.stored
   pub bad : m.bad ≡ info.bad
   pub state : m.state ≡ Recovering (own_role info.superblock)
   pub due : m.due ≡ false
   pub offset_is : m.offset ≡ offset
-  pub stored_offset : m.stored_offset ≡ sure
+  pub stored_offset : m.stored_offset ≡ 0
 
 -- ---- a spare that is admitted, and how far it is rebuilt
 -- A spare is recovering in a role from now on, and nothing of it is done. Its superblock is written first, so

@@ -10,10 +10,11 @@ use md_members::MemberInfo;
 use md_super::{FEATURE_RECOVERY_OFFSET, Superblock};
 
 /// What is kept of a device that was read, and is taken back in the role that its own superblock gives it.
-/// It is rebuilt up to `offset`, and its superblock is to have the offset `sure`.
-pub fn taken_back(info: MemberInfo, offset: u64, sure: u64) -> Member
+/// It is rebuilt up to `offset`. Its superblock is to have the offset 0: it comes before those of the others, and where these
+/// are written to before they tell of it, a kernel takes such a device at its word.
+pub fn taken_back(info: MemberInfo, offset: u64) -> Member
     requires { IsWhole info }
-    ensures { IsKeptTakenBack offset sure info result }
+    ensures { IsKeptTakenBack offset info result }
 {
     let MemberInfo {
         superblock,
@@ -24,14 +25,14 @@ pub fn taken_back(info: MemberInfo, offset: u64, sure: u64) -> Member
     } = info;
     let role = superblock.role_of(superblock.dev_number);
     Member {
-        superblock: recovering(stored_next(superblock, &bad), sure),
+        superblock: recovering(stored_next(superblock, &bad), 0),
         header: header.unwrap(),
         stored: marks.unwrap(),
         bad,
         state: MemberState::Recovering(role),
         due: false,
         offset,
-        stored_offset: sure,
+        stored_offset: 0,
     }
 }
 

@@ -5,15 +5,17 @@ use Rattle.std.proofs.lemmas.List.{append-nil}
 use Rattle.md_state.specs.View.{MirrorView}
 use Rattle.md_write.specs.Writing.{Writes}
 use Rattle.md_nbd.specs.declared.export.Export.{Export}
+use Rattle.md_nbd.specs.declared.reply.ErrorCode.{ErrorCode}
+use Rattle.md_nbd.specs.declared.reply.ErrorCode.TheVariants.{Io}
 use Rattle.md_nbd.specs.declared.task.Task.{Task}
 use Rattle.md_nbd.specs.declared.task.Task.TheVariants as task
 use Rattle.md_nbd.specs.Export.{sector_bytes}
 use Rattle.md_nbd.specs.NbdTasks.{task_of}
-use Rattle.md_nbd.specs.SimpleReplies.{success_reply}
+use Rattle.md_nbd.specs.SimpleReplies.{error_reply, success_reply}
 use Rattle.md_nbd.specs.Server.Exchanges.{AnswersRequest, DoesTask, Exchange}
 use Rattle.md_serve_commands.specs.declared.writer.ArrayWriter.{ArrayWriter}
-use Rattle.md_serve_commands.specs.Waiting.{FailsToFlush, FailsToRead, FailsToTake, FlushesAll, JoinsWaiting, ReadsBehind, WritesWaiting, StillWaits, TakesWrite, WaitsAnew, WritesThrough, writer_store}
-use Rattle.md_serve_commands.specs.Told.{ArrayWrite, IsFlushTold, IsWriteTold, KeepsBytes, WritesInTurn, cells, cells_of, waiting_cells}
+use Rattle.md_serve_commands.specs.Waiting.{FailsToFlush, FailsToRead, FailsToTake, FailsWaiting, FlushesAll, JoinsWaiting, ReadsBehind, WritesWaiting, StillWaits, TakesWrite, WaitsAnew, WritesThrough, writer_store}
+use Rattle.md_serve_commands.specs.Told.{AddsTold, ArrayWrite, DropsNothing, IsFlushTold, IsWriteTold, KeepsBytes, WritesInTurn, WritesNothing, cells, cells_of, waiting_cells}
 use Rattle.md_serve_commands.proofs.Halted.{not_both}
 
 cells_join : (at : ℕ) (xs ys : List ℕ) → cells at (xs ++ ys) ≡ cells at xs ++ cells (at + length xs) ys
@@ -110,47 +112,66 @@ module _ (e : Export) (old new : ArrayWriter × MirrorView) (x : Exchange) (answ
   flush_told is told = by (subst (λ (u : Task). DoesTask writer_store u x.request.cookie x.payload old new x.reply) is answers.does)
     where
       by : DoesTask writer_store task.Flush x.request.cookie x.payload old new x.reply → IsFlushTold old new
-      by (inl h) = record { mid = h.0.mid; keeps = waiting_kept old new h.0.mid h.0.waited h.0.none; none = h.0.none }
+      by (inl h) = record { mid = h.0.mid; keeps = waiting_kept old new h.0.mid h.0.waited h.0.none; none = h.0.none; marks = h.0.marks }
       by (inr h) = absurd (not_both x.request.cookie (sym told ∙ h.1))
 
 -- ---- no request drops what waits
-abbrev Drops : ArrayWriter × MirrorView → ArrayWriter × MirrorView → Type 0
-Drops p q = (told : List (ℕ × ℕ)) × (mid : MirrorView) × KeepsBytes told p q mid
+module _ (t : Task) (p q : ArrayWriter × MirrorView) (x : Exchange) (untold : AddsTold t x.request.cookie x.payload x.reply []) where
+  still : StillWaits p.0 q.0 → WritesNothing p.1 q.1 t x.payload p.0 → DropsNothing t p q x
+  still h ends = record { told = []; adds = untold; mid = p.1; keeps = still_kept p q h; ends = ends }
 
-module _ (p q : ArrayWriter × MirrorView) where
-  still : StillWaits p.0 q.0 → Drops p q
-  still h = ([], p.1, still_kept p q h)
+  waited : (mid : MirrorView) → WritesWaiting p.0 p.1 mid → q.0.run.items ≡ [] → WritesNothing mid q.1 t x.payload p.0 → DropsNothing t p q x
+  waited mid h none ends = record { told = []; adds = untold; mid = mid; keeps = waiting_kept p q mid h none; ends = ends }
 
-  waited : (mid : MirrorView) → WritesWaiting p.0 p.1 mid → q.0.run.items ≡ [] → Drops p q
-  waited mid h none = ([], mid, waiting_kept p q mid h none)
+  refused : FailsWaiting p q → DropsNothing t p q x
+  refused h = still h.still (inl (record { fault = h.fault; refused = h.refused.refused; pending = h.refused.pending }))
 
-  unread : (sector sectors : ℕ) → FailsToRead p q sector sectors → Drops p q
-  unread sector sectors (inl h) = still h.still
-  unread sector sectors (inr h) = waited h.mid h.waited h.none
+module _ (p q : ArrayWriter × MirrorView) (x : Exchange) where
+  unread : (sector sectors : ℕ) → FailsToRead p q sector sectors → DropsNothing (task.Read sector sectors) p q x
+  unread sector sectors (inl h) = refused (task.Read sector sectors) p q x refl h
+  unread sector sectors (inr h) = waited (task.Read sector sectors) p q x refl h.mid h.waited h.none (inr (inr h.refused))
 
-  untaken : (sector : ℕ) (bytes : List ℕ) → FailsToTake p q sector bytes → Drops p q
-  untaken sector bytes (inl h) = still h.still
-  untaken sector bytes (inr (inl h)) = still h.still
-  untaken sector bytes (inr (inr (inl h))) = waited q.1 h.waited h.none
-  untaken sector bytes (inr (inr (inr h))) = waited h.mid h.waited h.none
+  untaken : (sector sectors : ℕ) (through : Bool) → x.reply ≡ error_reply Io x.request.cookie → FailsToTake p q sector x.payload
+      → DropsNothing (task.Write sector sectors through) p q x
+  untaken sector sectors through told (inl h) = still (task.Write sector sectors through) p q x (inr (told, refl)) h.still (inr (inl h.mirror))
+  untaken sector sectors through told (inr (inl h)) = refused (task.Write sector sectors through) p q x (inr (told, refl)) h
+  untaken sector sectors through told (inr (inr (inl h))) = waited (task.Write sector sectors through) p q x (inr (told, refl)) q.1 h.waited h.none (inr (inl refl))
+  untaken sector sectors through told (inr (inr (inr h))) = waited (task.Write sector sectors through) p q x (inr (told, refl)) h.mid h.waited h.none (inr (inr h.refused))
 
-  unflushed : FailsToFlush p q → Drops p q
-  unflushed (inl h) = still h.still
-  unflushed (inr (inl h)) = still h.still
-  unflushed (inr (inr h)) = waited h.mid h.waited h.none
+  taken : (sector sectors : ℕ) (through : Bool) → x.reply ≡ success_reply x.request.cookie → TakesWrite p q sector x.payload through
+      → DropsNothing (task.Write sector sectors through) p q x
+  taken sector sectors through told h = record {
+    told = cells_of (sector, x.payload);
+    adds = inl (told, refl);
+    mid = q.1;
+    keeps = (taken_told p q sector x.payload through h).keeps;
+    ends = inr (inl refl);
+  }
 
-  unchanged : q ≡ p → Drops p q
-  unchanged same = subst (λ (r : ArrayWriter × MirrorView). Drops p r) (sym same) ([], p.1, still_kept p p (record { start = refl; run = refl }))
+  unflushed : FailsToFlush p q → DropsNothing task.Flush p q x
+  unflushed (inl h) = still task.Flush p q x refl h.still (inr (inl h.mirror))
+  unflushed (inr (inl h)) = refused task.Flush p q x refl h
+  unflushed (inr (inr h)) = waited task.Flush p q x refl h.mid h.waited h.none (inr (inr (inr h.refused)))
 
-task_drops : (t : Task) (cookie : ℕ) (payload : List ℕ) (old new : ArrayWriter × MirrorView) (reply : List ℕ) → DoesTask writer_store t cookie payload old new reply → Drops old new
-task_drops (task.Read sector sectors) cookie payload old new reply (inl h) = waited old new h.read.mid h.read.waited h.read.none
-task_drops (task.Read sector sectors) cookie payload old new reply (inr h) = unread old new sector sectors h.0
-task_drops (task.Write sector sectors through) cookie payload old new reply (inl h) = (cells_of (sector, payload), new.1, (taken_told old new sector payload through h.0).keeps)
-task_drops (task.Write sector sectors through) cookie payload old new reply (inr h) = untaken old new sector payload h.0
-task_drops task.Flush cookie payload old new reply (inl h) = waited old new h.0.mid h.0.waited h.0.none
-task_drops task.Flush cookie payload old new reply (inr h) = unflushed old new h.0
-task_drops task.Disconnect cookie payload old new reply h = absurd h
-task_drops (task.Refuse error) cookie payload old new reply h = unchanged old new h.0
+  flushed : FlushesAll p q → DropsNothing task.Flush p q x
+  flushed h = waited task.Flush p q x refl h.mid h.waited h.none (inr (⊎_elim (λ same. inl same) (λ cleared. inr (inl cleared)) h.marks))
 
-pub nothing_dropped : (e : Export) (old new : ArrayWriter × MirrorView) (x : Exchange) → AnswersRequest writer_store e old new x → Drops old new
-nothing_dropped e old new x answers = task_drops (task_of e x.request) x.request.cookie x.payload old new x.reply answers.does
+  unchanged : (error : ErrorCode) → q ≡ p → DropsNothing (task.Refuse error) p q x
+  unchanged error same =
+      still (task.Refuse error) p q x refl
+      (record { start = ap (λ (r : ArrayWriter × MirrorView). r.0.start) same; run = ap (λ (r : ArrayWriter × MirrorView). r.0.run.items) same })
+      (inr (ap (λ (r : ArrayWriter × MirrorView). r.1) same))
+
+task_drops : (t : Task) (p q : ArrayWriter × MirrorView) (x : Exchange) → DoesTask writer_store t x.request.cookie x.payload p q x.reply → DropsNothing t p q x
+task_drops (task.Read sector sectors) p q x (inl h) =
+    waited (task.Read sector sectors) p q x refl h.read.mid h.read.waited h.read.none (inr (inl (h.bytes, h.read.given)))
+task_drops (task.Read sector sectors) p q x (inr h) = unread p q x sector sectors h.0
+task_drops (task.Write sector sectors through) p q x (inl h) = taken p q x sector sectors through h.1 h.0
+task_drops (task.Write sector sectors through) p q x (inr h) = untaken p q x sector sectors through h.1 h.0
+task_drops task.Flush p q x (inl h) = flushed p q x h.0
+task_drops task.Flush p q x (inr h) = unflushed p q x h.0
+task_drops task.Disconnect p q x h = absurd h
+task_drops (task.Refuse error) p q x h = unchanged p q x error h.0
+
+pub nothing_dropped : (e : Export) (old new : ArrayWriter × MirrorView) (x : Exchange) → AnswersRequest writer_store e old new x → DropsNothing (task_of e x.request) old new x
+nothing_dropped e old new x answers = task_drops (task_of e x.request) old new x answers.does

@@ -17,7 +17,7 @@ use Rattle.md_nbd.specs.Server.Exchanges.{AnswersInTurn, AnswersRequest, Exchang
 use Rattle.md_write.specs.Writing.{Writes}
 use Rattle.md_serve_commands.specs.declared.writer.ArrayWriter.{ArrayWriter}
 use Rattle.md_nbd.specs.Export.{sector_bytes}
-use Rattle.md_serve_commands.specs.Waiting.{writer_store}
+use Rattle.md_serve_commands.specs.Waiting.{ClearsMarks, FailsToClear, FailsToGive, FailsToWrite, GivesSectors, writer_store}
 
 -- ---- the bytes of writes
 -- bytes and their places in the array, from the first on
@@ -61,11 +61,13 @@ ToldWritesAreKept =
     → x.reply ≡ success_reply x.request.cookie
     → IsWriteTold sector x.payload through old new
 
--- Once a flush is answered without an error nothing waits: all that was told of is done.
+-- Once a flush is answered without an error nothing waits: all that was told of is done, and after it nothing but that marks may be
+-- cleared.
 pub record IsFlushTold (old new : ArrayWriter × MirrorView) : Type 0 where
   pub mid : MirrorView
   pub keeps : KeepsBytes [] old new mid
   pub none : new.0.run.items ≡ []
+  pub marks : (new.1 ≡ mid) ⊎ ClearsMarks mid new.1
 
 abbrev pub ToldFlushesStand : Type 0
 ToldFlushesStand =
@@ -74,11 +76,40 @@ ToldFlushesStand =
     → x.reply ≡ success_reply x.request.cookie
     → IsFlushTold old new
 
--- By no request, whatever it is answered, is a byte lost that waits: it is written in its turn, or waits still.
+-- What a client is told of by the reply to a request: the bytes of a write that is answered without an error, and else of none.
+abbrev pub AddsTold : Task → ℕ → List ℕ → List ℕ → List (ℕ × ℕ) → Type 0
+AddsTold (Write sector sectors through) cookie payload reply told =
+    ((reply ≡ success_reply cookie) × (told ≡ cells_of (sector, payload)))
+    ⊎ ((reply ≡ error_reply Io cookie) × (told ≡ []))
+AddsTold task cookie payload reply told = told ≡ []
+
+module _ (old new : MirrorView) where
+  -- What the request itself may do and not be told of as written: its sectors are read, or its write is refused, or marks are cleared.
+  abbrev pub IsNoneButAsked : Task → List ℕ → Type 0
+  IsNoneButAsked (Read sector sectors) payload =
+      ((bytes : List ℕ) × GivesSectors old new sector bytes) ⊎ FailsToGive old new sector sectors
+  IsNoneButAsked (Write sector sectors through) payload = (new ≡ old) ⊎ FailsToWrite old new sector payload
+  IsNoneButAsked Flush payload = (new ≡ old) ⊎ ClearsMarks old new ⊎ FailsToClear old new
+  IsNoneButAsked task payload = new ≡ old
+
+  -- No write is done but one that is refused, of what waits or of what the request writes.
+  abbrev pub WritesNothing : Task → List ℕ → ArrayWriter → Type 0
+  WritesNothing task payload waiting =
+      FailsToWrite old new waiting.start waiting.run.items ⊎ IsNoneButAsked task payload
+
+-- By a request, whatever it is answered, no byte is lost that waits or is told of: it is written in its turn, or waits still. And no
+-- other is written.
+pub record DropsNothing (task : Task) (old new : ArrayWriter × MirrorView) (x : Exchange) : Type 0 where
+  pub told : List (ℕ × ℕ)
+  pub adds : AddsTold task x.request.cookie x.payload x.reply told
+  pub mid : MirrorView
+  pub keeps : KeepsBytes told old new mid
+  pub ends : WritesNothing mid new.1 task x.payload old.0
+
 abbrev pub NothingIsDropped : Type 0
 NothingIsDropped =
     (e : Export) (old new : ArrayWriter × MirrorView) (x : Exchange) → AnswersRequest writer_store e old new x
-    → (told : List (ℕ × ℕ)) × (mid : MirrorView) × KeepsBytes told old new mid
+    → DropsNothing (task_of e x.request) old new x
 
 -- the request asks for something that the array would have to do
 abbrev pub IsForArray : Task → Type 0

@@ -18,11 +18,15 @@ mod checks;
 #[cfg(test)]
 mod collector_reports;
 #[cfg(test)]
+mod dice;
+#[cfg(test)]
 mod image_files;
 #[cfg(test)]
 mod nbd_messages;
 #[cfg(test)]
 mod nbd_sessions;
+#[cfg(test)]
+mod nbd_spoiled;
 #[cfg(test)]
 mod plans;
 #[cfg(test)]

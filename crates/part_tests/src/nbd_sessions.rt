@@ -9,8 +9,8 @@ use std::test::Fail;
 
 // Gives these bytes, at most seven at a time.
 #[derive(Drop)]
-struct Given<'a> {
-    bytes: &'a [u8],
+pub(crate) struct Given<'a> {
+    pub(crate) bytes: &'a [u8],
 }
 
 impl<'a> Source for Given<'a> {
@@ -34,9 +34,9 @@ impl<'a> Source for Given<'a> {
 }
 
 #[derive(Drop)]
-struct Kept {
-    bytes: Vec<u8>,
-    failed: bool,
+pub(crate) struct Kept {
+    pub(crate) bytes: Vec<u8>,
+    pub(crate) failed: bool,
 }
 
 impl Sink for Kept {

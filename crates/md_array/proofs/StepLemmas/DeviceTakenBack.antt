@@ -59,7 +59,7 @@ module _ (offset : ℕ) (v : Superblock) (content : List ℕ) (sector : ℕ) whe
   next_recovering = ap (λ b. (b && has_bad_block_log v) && is_logged content (sector_from_super v.bblog_offset) v.bblog_size v.bblog_shift sector) same_bad_blocks
 
 -- ---- as it was read
-module _ (content : List ℕ) (offset sure : ℕ) (info : MemberInfo) (m : MemberView) (taken : IsKeptTakenBack offset sure info m) (read : members.IsReadMember content true info) where
+module _ (content : List ℕ) (offset : ℕ) (info : MemberInfo) (m : MemberView) (taken : IsKeptTakenBack offset info m) (read : members.IsReadMember content true info) where
   abbrev kept : Superblock
   kept = kept_superblock info
 
@@ -73,11 +73,11 @@ module _ (content : List ℕ) (offset sure : ℕ) (info : MemberInfo) (m : Membe
       let fields = block_spells content v read.superblock in
       let sound = subst NoSuperFault (read.superblock.read.from_device refl) read.superblock.sound in
       ap (λ (own : Superblock). is_listed own content sector) taken.superblock
-      ∙ listed_recovering sure kept content sector
+      ∙ listed_recovering 0 kept content sector
       ∙ listed_kept_of content v info.bad fields sound sector
       ∙ listed_as_next v v content fields sound refl sector
       ∙ sym (bad.same_listed content v info.bad sector read.bad)
-      ∙ sym (next_recovering sure kept content sector)
+      ∙ sym (next_recovering 0 kept content sector)
       ∙ sym (ap (λ (own : Superblock). is_listed_next own content sector) taken.superblock)
 
   has_read : HasRead content kept m.header info.marks
@@ -107,7 +107,7 @@ module _ (content : List ℕ) (offset sure : ℕ) (info : MemberInfo) (m : Membe
       let sound = subst NoSuperFault (read.superblock.read.from_device refl) read.superblock.sound in
       let as_read = bad.listed_as_read content v info.bad sector read.bad in
       ap (λ (own : Superblock). is_listed own content sector) taken.superblock
-      ∙ listed_recovering sure kept content sector
+      ∙ listed_recovering 0 kept content sector
       ∙ listed_kept_of content v info.bad fields sound sector
       ∙ listed_as_next v v content fields sound refl sector
       ∙ bad.same_test (is_listed_next v content sector) (lies_in info.bad sector) as_read (bad.bad_from_test info.bad sector, bad.test_from_bad info.bad sector)

@@ -41,7 +41,7 @@ use Rattle.md_kept_members.specs.OnDevices.Superblocks.{IsReadable, write_of}
 use Rattle.md_state.specs.DiskWrites.{IsFailed, IsWritten}
 use Rattle.md_state.specs.Steps.NoteJoined.{joined}
 use Rattle.md_state.specs.Members.{is_degraded}
-use Rattle.md_state.specs.Steps.ReAdd.{MayReAdd, RefusesToTakeBack, IsOffsetBack, IsReAddable, IsSureBack}
+use Rattle.md_state.specs.Steps.ReAdd.{MayReAdd, RefusesToTakeBack, IsOffsetBack, IsReAddable}
 use Rattle.md_state.specs.Requests.{IsPending, lacks}
 use Rattle.md_state.specs.Steps.Rise.{risen}
 use Rattle.md_state.specs.View.{ArrayView, Disk, MirrorView, disk_of, of_disks}
@@ -112,7 +112,7 @@ reads_of content honest info m (Some g) None header stored b = absurd b
 reads_of content honest info m None (Some s) header stored b = absurd b
 reads_of content honest info m None None header stored b = absurd (none-some m.header header)
 
-module _ (a : ArrayView) (offset sure : ℕ) (info : MemberInfo) (m : MemberView) (taken : IsKeptTakenBack offset sure info m) (may : MayReAdd a info) (content : List ℕ) (honest : Bool) (read : members.IsReadMember content honest info) where
+module _ (a : ArrayView) (offset : ℕ) (info : MemberInfo) (m : MemberView) (taken : IsKeptTakenBack offset info m) (may : MayReAdd a info) (content : List ℕ) (honest : Bool) (read : members.IsReadMember content honest info) where
   reads : ReadsBitmapOf content info m
   reads = reads_of content honest info m info.header info.marks taken.header taken.stored read.bitmap
 
@@ -144,12 +144,12 @@ module _ (a : ArrayView) (offset sure : ℕ) (info : MemberInfo) (m : MemberView
       record {
         long = omega arith;
         short = omega arith;
-        has = ap has_bitmap taken.superblock ∙ recovering_bitmap sure v ∙ bitmap_same info.bad info.superblock ∙ reads.has;
-        placed = rw (taken.superblock, reads.counted, ← as_long) (recovering_placed sure v _ _ (placed_next info.bad info.superblock.recovery_offset info.superblock _ _ reads.placed));
+        has = ap has_bitmap taken.superblock ∙ recovering_bitmap 0 v ∙ bitmap_same info.bad info.superblock ∙ reads.has;
+        placed = rw (taken.superblock, reads.counted, ← as_long) (recovering_placed 0 v _ _ (placed_next info.bad info.superblock.recovery_offset info.superblock _ _ reads.placed));
         few_chunks = rw reads.counted reads.few;
         sound = record { chunk_size = m.header.sound.chunk_size; few_chunks = subst (λ n. chunk_count n m.header.chunksize ≤ 1048576) size_there reads.few };
         told = λ _ sector bad.
-            ap reads_log taken.superblock ∙ recovering_log_bit sure v
+            ap reads_log taken.superblock ∙ recovering_log_bit 0 v
             ∙ told_next content honest info.superblock info.bad read.bad sector (sym (ap (λ (runs : List Run). lies_in runs sector) taken.bad) ∙ bad);
       }
 
@@ -184,10 +184,7 @@ module _ (k : ℕ) (device : Disk) (old new : MirrorView) (c : IsConsistent old)
   abbrev offset : ℕ
   offset = r.recorded.takes.offset
 
-  abbrev sure : ℕ
-  sure = r.recorded.takes.sure
-
-  abbrev taken : IsKeptTakenBack offset sure info m
+  abbrev taken : IsKeptTakenBack offset info m
   taken = r.recorded.takes.taken
 
   abbrev may : MayReAdd a info
@@ -215,25 +212,25 @@ module _ (k : ℕ) (device : Disk) (old new : MirrorView) (c : IsConsistent old)
   small =
       let low = may.fits.role.has_role in
       let few = a.shared.in_profile.few_disks in
-      rw (number_there a offset sure info m taken may device.content device.honest r.read)
+      rw (number_there a offset info m taken may device.content device.honest r.read)
       (small_number a.shared.raid_disks device.content device.honest info few r.read low)
 
   pub room : length a.members < 64
   room = elim (cases_lt (length a.members) 64) [ inl low ↦ low | inr full ↦ absurd (may.room full) ]
 
   pub absent : has_number a.members m.superblock.dev_number ≡ false
-  absent = ap (has_number a.members) (number_there a offset sure info m taken may device.content device.honest r.read) ∙ may.fits.role.absent
+  absent = ap (has_number a.members) (number_there a offset info m taken may device.content device.honest r.read) ∙ may.fits.role.absent
 
   pub taken_back_is_consistent : IsConsistent new
   unfolding after
   taken_back_is_consistent =
       subst IsConsistent (sym is_after)
       (joined_is_consistent a m role small absent room (recovers_alone a m role taken.state may.free may.fits.role.has_role)
-      (size_kept a offset sure info m taken may device.content device.honest r.read)
-      (width_kept a offset sure info m taken may device.content device.honest r.read)
-      (count_kept a offset sure info m taken may device.content device.honest r.read c.chunks.size c.chunks.count)
+      (size_kept a offset info m taken may device.content device.honest r.read)
+      (width_kept a offset info m taken may device.content device.honest r.read)
+      (count_kept a offset info m taken may device.content device.honest r.read c.chunks.size c.chunks.count)
       old.disks r.recorded.now
-      (fits_taken a offset sure info m taken may device.content device.honest r.read r.recorded.now as_long short_device)
+      (fits_taken a offset info m taken may device.content device.honest r.read r.recorded.now as_long short_device)
       c)
 
   pub taken_back_keeps_pending : (p : PendingView) → IsPending old.array p → IsPending new.array p
@@ -301,7 +298,7 @@ joined_is a b m v full number role shared same told due is =
     ∙ (λ i. record (joined a m role) { members = map made_due a.members ++ record m { due = sym due i } ∷ [] })
 
 -- on its device, by the contract of the write
-module _ {D : Type 0} (g : Ghosts D) (was now : D) (a : ArrayView) (offset sure : ℕ) (info : MemberInfo) (m : MemberView) (offset_is : IsOffsetBack a info offset) (sure_is : IsSureBack a offset sure) (taken : IsKeptTakenBack offset sure info m) (v : Superblock)
+module _ {D : Type 0} (g : Ghosts D) (was now : D) (a : ArrayView) (offset : ℕ) (info : MemberInfo) (m : MemberView) (offset_is : IsOffsetBack a info offset) (taken : IsKeptTakenBack offset info m) (v : Superblock)
     (shared : v ≡ joined_shared a.shared a.members info.superblock.dev_number (own_role info.superblock)) (outside : SameOutside (512 * 8) (length (write_of v m).bytes) (g.content was) (g.content now)) where
   number_kept : m.superblock.dev_number ≡ info.superblock.dev_number
   number_kept = ap (λ (x : Superblock). x.dev_number) taken.superblock
@@ -317,7 +314,7 @@ module _ {D : Type 0} (g : Ghosts D) (was now : D) (a : ArrayView) (offset sure 
       record {
         last = last;
         short = short;
-        takes = record { may = may; member = m; offset = offset; offset_is = offset_is; sure = sure; sure_is = sure_is; taken = taken; array = array };
+        takes = record { may = may; member = m; offset = offset; offset_is = offset_is; taken = taken; array = array };
         readable = subst (λ (x : Superblock). IsReadable (merged x m.superblock)) same readable;
         now = disk_of g now;
         written = subst (λ (x : Superblock). IsWritten 0 (write_of x m) (disk_of g was ∷ []) (disk_of g now ∷ [])) same
@@ -331,8 +328,6 @@ module _ {D : Type 0} (g : Ghosts D) (was now : D) (a : ArrayView) (offset sure 
     member = m;
     offset = offset;
     offset_is = subst (λ (x : ArrayView). IsOffsetBack x info offset) (sym array) offset_is;
-    sure = sure;
-    sure_is = subst (λ (x : ArrayView). IsSureBack x offset sure) (sym array) sure_is;
     taken = taken;
     failed = subst (λ (x : ArrayView). IsFailed 0 (write_of (joined_shared x.shared x.members m.superblock.dev_number (own_role info.superblock)) m) (disk_of g was ∷ []) (disk_of g now ∷ [])) (sym array)
         (subst (λ (x : Superblock). IsFailed 0 (write_of x m) (disk_of g was ∷ []) (disk_of g now ∷ [])) shared_kept

@@ -89,10 +89,7 @@ module _ (k : ℕ) (device : Disk) (old new : MirrorView) (c : IsConsistent old)
   abbrev offset : ℕ
   offset = r.recorded.takes.offset
 
-  abbrev sure : ℕ
-  sure = r.recorded.takes.sure
-
-  abbrev taken : IsKeptTakenBack offset sure info m
+  abbrev taken : IsKeptTakenBack offset info m
   taken = r.recorded.takes.taken
 
   abbrev now : Disk
@@ -123,7 +120,7 @@ module _ (k : ℕ) (device : Disk) (old new : MirrorView) (c : IsConsistent old)
   was = device_super device.content info.superblock its_read.superblock
 
   its_number : m.superblock.dev_number ≡ own.number
-  its_number = number_there a offset sure info m taken r.recorded.takes.may device.content device.honest r.read
+  its_number = number_there a offset info m taken r.recorded.takes.may device.content device.honest r.read
 
   small_number : m.superblock.dev_number < 1920
   small_number = small k device old new c r
@@ -143,7 +140,7 @@ module _ (k : ℕ) (device : Disk) (old new : MirrorView) (c : IsConsistent old)
       (written.tried.outside device now (got_last old.disks device) (got_last old.disks now))
 
   fit : FitsMember a m device
-  fit = fits_taken a offset sure info m taken r.recorded.takes.may device.content device.honest r.read device refl (short_device k device old new c r)
+  fit = fits_taken a offset info m taken r.recorded.takes.may device.content device.honest r.read device refl (short_device k device old new c r)
 
   on_device : block_on now.content ≡ (super_write b m).bytes
   on_device =
@@ -155,40 +152,27 @@ module _ (k : ℕ) (device : Disk) (old new : MirrorView) (c : IsConsistent old)
   parts = record {
     placed = fit.placed;
     bitmap = fit.placed.bitmap fit.has;
-    size = size_kept a offset sure info m taken r.recorded.takes.may device.content device.honest r.read ∙ sym c.chunks.size;
-    count = count_kept a offset sure info m taken r.recorded.takes.may device.content device.honest r.read c.chunks.size c.chunks.count;
+    size = size_kept a offset info m taken r.recorded.takes.may device.content device.honest r.read ∙ sym c.chunks.size;
+    count = count_kept a offset info m taken r.recorded.takes.may device.content device.honest r.read c.chunks.size c.chunks.count;
   }
 
   width : m.header.chunksize / 512 ≡ a.chunks.sectors
-  width = width_kept a offset sure info m taken r.recorded.takes.may device.content device.honest r.read
+  width = width_kept a offset info m taken r.recorded.takes.may device.content device.honest r.read
 
   stored_here : stored_of b m now.content ≡ record (stored_of b m device.content) { super = Some (super_of (merged b.shared m.superblock)) }
-  stored_here = stored_now device.content offset sure info m taken its_read b readable now.content parts outside on_device
+  stored_here = stored_now device.content offset info m taken its_read b readable now.content parts outside on_device
 
   bit : has_recovery_offset m.superblock ≡ true
   bit =
       ap has_recovery_offset taken.superblock
       ∙ ap (λ n. not (n == 0)) (and_or_self 2 (kept_superblock info).feature_map)
 
-  its_sure : m.superblock.recovery_offset ≡ sure
+  its_sure : m.superblock.recovery_offset ≡ 0
   its_sure = ap (λ (v : Superblock). v.recovery_offset) taken.superblock
 
   -- it says so by then
   told : m.stored_offset ≡ m.superblock.recovery_offset
   told = taken.stored_offset ∙ sym its_sure
-
-  -- no chunk before its sure offset is marked
-  none_marked : (s : ℕ) → s < a.chunks.size → s < sure → (nat_lt (s / a.chunks.sectors) a.marks.chunks && is_set a.marks.bytes (s / a.chunks.sectors)) ≡ false
-  none_marked s low before =
-      let back = r.recorded.takes.sure_is in
-      let is = back.is in
-      let clear : is_set a.marks.bytes (s / a.chunks.sectors) ≡ false = elim back.first [
-        | inl x ↦ let start = x.4 in x.3 (s / a.chunks.sectors) (div_below s a.chunks.sectors x.0 c.chunks.wide (omega arith))
-        | inr none ↦
-            let bounds = div_ceil_times a.chunks.size a.chunks.sectors c.chunks.wide in
-            none.0 (s / a.chunks.sectors) (subst (λ (x : ℕ). s / a.chunks.sectors < x) (sym c.chunks.count) (div_below s a.chunks.sectors (div_ceil a.chunks.size a.chunks.sectors) c.chunks.wide (omega (arith, bounds.0))))
-      ] in
-      ap (λ t. nat_lt (s / a.chunks.sectors) a.marks.chunks && t) clear ∙ and-false (nat_lt (s / a.chunks.sectors) a.marks.chunks)
 
   -- each chunk that its accepted bitmap marks is marked in the array, or its offset is 0
   module _ (requests : ℕ → Option Request) where
@@ -198,20 +182,20 @@ module _ (k : ℕ) (device : Disk) (old new : MirrorView) (c : IsConsistent old)
     no_others : HasNoOtherMarks a info → membership.HasNoOtherMarks g world (stored_of b m device.content)
     no_others h s low marked =
         let chunk : ℕ = s / a.chunks.sectors in
-        let count = count_kept a offset sure info m taken r.recorded.takes.may device.content device.honest r.read c.chunks.size c.chunks.count in
+        let count = count_kept a offset info m taken r.recorded.takes.may device.content device.honest r.read c.chunks.size c.chunks.count in
         let accepted : is_accepted (stored_of b m device.content) ≡ true = its_bitmap h in
         let bit : (nat_lt chunk a.marks.chunks && is_set (drop (512 * sector_from_super m.superblock.bitmap_offset + 256) device.content) chunk) ≡ true =
         sym (ap (λ t. cond t ((stored_of b m device.content).bits chunk) true) accepted) ∙ marked in
         let parts = and_parts (nat_lt chunk a.marks.chunks) _ bit in
         let below : chunk < a.marks.chunks = is_below chunk a.marks.chunks parts.0 in
         let stored : is_set m.stored.bytes chunk ≡ true =
-        sym (bits_there device.content offset sure info m taken its_read chunk (subst (λ n. chunk < n) (sym count) below)) ∙ parts.1 in
+        sym (bits_there device.content offset info m taken its_read chunk (subst (λ n. chunk < n) (sym count) below)) ∙ parts.1 in
         let same : h.marks ≡ m.stored = same_Some h.marks m.stored (sym h.has_marks ∙ taken.stored) in
         and_from (nat_lt chunk a.marks.chunks) (is_set a.marks.bytes chunk) parts.0
         (h.among chunk below (ap (λ (x : Bitmap). is_set x.bytes chunk) same ∙ stored))
       where
         its_bitmap : HasNoOtherMarks a info → is_accepted (stored_of b m device.content) ≡ true
-        its_bitmap h = accepted_taken device.content offset sure info m taken its_read b h.header h.has_header h.accepted was
+        its_bitmap h = accepted_taken device.content offset info m taken its_read b h.header h.has_header h.accepted was
             (r.recorded.takes.may.fits.of_array.set_uuid) (r.recorded.takes.may.fits.of_array.size)
 
     -- nor were marks cleared on one of the two alone, as far as that is told
@@ -219,7 +203,7 @@ module _ (k : ℕ) (device : Disk) (old new : MirrorView) (c : IsConsistent old)
     unused h = record {
       marks = no_others h;
       cleared =
-          let same = cleared_there device.content offset sure info m taken its_read b h.header h.has_header in
+          let same = cleared_there device.content offset info m taken its_read b h.header h.has_header in
           let low = h.cleared.cleared in
           omega arith;
       no_copy = ap model.has_missed_writes (sym (same_state a info.superblock)) ∙ stale_kind (state_of a.shared info.superblock) ∙ h.cleared.no_copy;
@@ -267,25 +251,25 @@ module _ (k : ℕ) (device : Disk) (old new : MirrorView) (c : IsConsistent old)
         ∙ ap (λ (f : ℕ → ℕ). put m.superblock.dev_number role f d) (λ i e. risen_role a full e i)
         ∙ ap (λ n. put n role (role_at_rise g w) d) its_number
 
-    its_super : super_of (merged b.shared m.superblock) ≡ membership.joined_super (counts.risen g w full) own.number (own.role own.number) true sure
+    its_super : super_of (merged b.shared m.superblock) ≡ membership.joined_super (counts.risen g w full) own.number (own.role own.number) true 0
     its_super = λ i. record { number = its_number i; events = a.shared.events + 1; role = λ d. its_roles d i; recovering = bit i; offset = its_sure i }
 
     device_taken : membership.IsTakenBack g w (counts.risen g w full) own m.offset (stored_of b m device.content) (stored_of b m now.content)
     device_taken = record {
       was = was;
       passes = subst (λ (o : ℕ). ((o ≡ g.size) × membership.HasNoOtherUse g w own (stored_of b m device.content)) ⊎ (o ≡ 0)) (sym taken.offset_is) (passes requests);
-      sure_offset = sure;
-      within = let is = r.recorded.takes.sure_is.is in let same = taken.offset_is in omega arith;
-      unmarked = none_marked;
+      sure_offset = 0;
+      within = omega arith;
+      unmarked = λ s low before. absurd (omega arith);
       rest = stored_here ∙ (λ i. record (stored_of b m device.content) { super = Some (its_super i) });
     }
 
     known : (n : ℕ) → (nat_lt n a.marks.chunks && is_set m.stored.bytes n) ≡ (stored_of b m now.content).bits n
-    known = known_now device.content offset sure info m taken its_read b readable now.content parts outside on_device
+    known = known_now device.content offset info m taken its_read b readable now.content parts outside on_device
 
     lists : (s : ℕ) → lists_of b m s ≡ (stored_of b m now.content).listed s
     lists s =
-        sym (ap (λ t. nat_lt s a.chunks.size && t) (listed_is_bad device.content offset sure info m taken its_read (m.superblock.data_offset + s)))
+        sym (ap (λ t. nat_lt s a.chunks.size && t) (listed_is_bad device.content offset info m taken its_read (m.superblock.data_offset + s)))
         ∙ sym (ap (λ (x : Stored). x.listed s) stored_here)
 
     its_newcomer : newcomer a m role small_number now.content
@@ -326,7 +310,7 @@ module _ (k : ℕ) (device : Disk) (old new : MirrorView) (c : IsConsistent old)
   re_add_read failed_at spoiled are =
       subst (λ (v : MirrorView). AreReadAsKept v failed_at (put (length a.members) false spoiled)) (sym (is_after k device old new c r))
       (read_joined a m role small_number old.disks now failed_at spoiled c.fits.as_many
-      (λ s. read_now device.content offset sure info m taken its_read b readable now.content parts outside on_device failed_at s width)
+      (λ s. read_now device.content offset info m taken its_read b readable now.content parts outside on_device failed_at s width)
       are)
 
   honest_now : AreHonest old.disks → AreHonest new.disks

@@ -17,7 +17,7 @@ use Rattle.md_kept_members.specs.OnDevices.Superblocks.{IsReadable, write_of}
 use Rattle.md_state.specs.DeviceChanges.{IsLeftAlone, StaysHonest}
 use Rattle.md_state.specs.DiskWrites.{IsFailed, IsWritten}
 use Rattle.md_state.specs.Members.{IsMember}
-use Rattle.md_state.specs.Steps.ReAdd.{IsOffsetBack, IsSureBack, MayReAdd, RefusesToTakeBack, TakesBack}
+use Rattle.md_state.specs.Steps.ReAdd.{IsOffsetBack, MayReAdd, RefusesToTakeBack, TakesBack}
 use Rattle.md_state.specs.Trying.{Refuses}
 use Rattle.md_state.specs.View.{Disk, MirrorView, of_disks}
 use Rattle.md_array.specs.Events.{Happens}
@@ -54,9 +54,7 @@ pub record FailsToRecordLast (device handed_back : Disk) (info : MemberInfo) (ol
   pub member : MemberView
   pub offset : ℕ
   pub offset_is : IsOffsetBack old.array info offset
-  pub sure : ℕ
-  pub sure_is : IsSureBack old.array offset sure
-  pub taken : IsKeptTakenBack offset sure info member
+  pub taken : IsKeptTakenBack offset info member
   pub failed : IsFailed 0 (write_of (joined_shared old.array.shared old.array.members member.superblock.dev_number (own_role info.superblock)) member) (device ∷ []) (handed_back ∷ [])
 
 abbrev pub RefusesToRecordLast : Disk → Disk → MemberInfo → MirrorView → MirrorView → ReAddFault → Type 0

@@ -18,8 +18,8 @@ use std::alloc::Global;
 
 impl<D: Device + Drop> Mirror<D> {
     /// Takes a device back that left this array, as a member that is recovering in its own former role: the
-    /// event count rises, and its superblock is written, with RECOVERY_OFFSET in the feature map. Its index
-    /// is that of the last member. The fault is the first in the order of `ReAddFault`, but that memory is
+    /// event count rises, and its superblock is written, with RECOVERY_OFFSET in the feature map and the
+    /// recovery_offset 0, which a checkpoint raises. Its index is that of the last member. The fault is the first in the order of `ReAddFault`, but that memory is
     /// taken before the write. The device is given back with it, unwritten unless the fault is `WriteFault`.
     ///
     /// `missing` then names the marked chunks alone, or every chunk where the device may have been used elsewhere
@@ -73,7 +73,6 @@ impl<D: Device + Drop> Mirror<D> {
         let role = info.superblock.role_of(number);
         let full = !self.array.is_degraded();
         let offset = self.array.offset_back(&info);
-        let sure = self.array.sure_offset_back(offset);
         let Ok(shared) = self.array.shared_with(alloc, number, role) else {
             return Err((device, ReAddFault::NoMemory));
         };
@@ -83,7 +82,7 @@ impl<D: Device + Drop> Mirror<D> {
         if self.devices.reserve(1).is_err() {
             return Err((device, ReAddFault::NoMemory));
         }
-        let member = taken_back(info, offset, sure);
+        let member = taken_back(info, offset);
         let mut device = device;
         if store_superblock(&mut device, &shared, &member).is_err() {
             return Err((device, ReAddFault::WriteFault));

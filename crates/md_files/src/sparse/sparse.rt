@@ -4,10 +4,8 @@ ghost use Rattle.md_examine.specs.Sink.{PutsOrFails};
 ghost use Rattle.md_files.specs.Sparse.Sparse.{file_of};
 
 use crate::sparse::hole_file::HoleFile;
+use crate::zeros::{BLOCK, is_zero};
 use md_examine::{Sink, SinkFault};
-
-// How long the blocks are that are left out.
-const BLOCK: usize = 4096;
 
 /// A sink into a file. Of what is put into it, each block of 4 KiB of zeros is left out, counted from where a `put` begins; the
 /// bytes of the file are the same as if it were written. Runs of other blocks are passed on whole.
@@ -74,10 +72,4 @@ fn leave_out<F: HoleFile>(file: &mut F, before: &[u8]) -> Result<(), SinkFault>
     file.write(before)?;
     file.skip(BLOCK)?;
     Ok(())
-}
-
-fn is_zero(bytes: &[u8]) -> bool
-    ensures { result ≡ true → bytes.now ≡ replicate (length bytes.now) 0 }
-{
-    bytes.iter().all(|byte| *byte == 0)
 }

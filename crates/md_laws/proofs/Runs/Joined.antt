@@ -58,7 +58,7 @@ module _ (a : ArrayView) (m : MemberView) (left : List ℕ) (parts : HasParts a 
   own : IsOwnSuper a.shared m.superblock now v
   own = own_stays a.shared m.superblock left now (block_beside_bitmap a m left now parts still) (log_beside_bitmap a m left now parts still) has v there
 
-  superblock_is : back.superblock ≡ recovering r.recorded.takes.sure (kept_superblock r.info)
+  superblock_is : back.superblock ≡ recovering 0 (kept_superblock r.info)
   superblock_is = r.recorded.takes.taken.superblock
 
   data_offset : back.superblock.data_offset ≡ m.superblock.data_offset
@@ -67,7 +67,7 @@ module _ (a : ArrayView) (m : MemberView) (left : List ℕ) (parts : HasParts a 
   listed : (sector : ℕ) → is_listed back.superblock now sector ≡ is_listed m.superblock now sector
   listed sector =
       ap (λ (x : Superblock). is_listed x now sector) superblock_is
-      ∙ listed_recovering r.recorded.takes.sure (kept_superblock r.info) now (super_of v) (super_shown (block_on now) v there.fields there.sound) sector
+      ∙ listed_recovering 0 (kept_superblock r.info) now (super_of v) (super_shown (block_on now) v there.fields there.sound) sector
       ∙ listed_kept_of now v r.info.bad there.fields there.sound sector
       ∙ own.listed sector
 

@@ -1,6 +1,6 @@
 -- A device that left is taken back in its former role (super_1_validate and hot_add_disk in the kernel's md driver, which let it by
 -- events_cleared; the other conditions and their order are this project's own).
-use Rattle.std.specs.Prelude.{◌≡◌, ◌⊎◌, ℕ, ◌*◌, ◌≤◌, ◌<◌, true, false, min, Some}
+use Rattle.std.specs.Prelude.{◌≡◌, ◌⊎◌, ℕ, ◌≤◌, ◌<◌, true, false, Some}
 use Rattle.md_super.specs.declared.superblock.Superblock.{Superblock}
 use Rattle.md_bitmap.specs.declared.header.BitmapHeader.{BitmapHeader}
 use Rattle.md_bitmap.specs.Marks.{Bitmap, is_set}
@@ -62,28 +62,13 @@ pub record HasNoOtherMarks (a : ArrayView) (info : MemberInfo) : Type 0 where
 abbrev pub IsOffsetBack : ArrayView → MemberInfo → ℕ → Type 0
 IsOffsetBack a info offset = (HasNoOtherMarks a info × (offset ≡ a.chunks.size)) ⊎ ((HasNoOtherMarks a info → ⊥) × (offset ≡ 0))
 
--- the start of the first marked chunk, or the array's size where none is
-abbrev pub IsFirstMarked : ArrayView → ℕ → Type 0
-IsFirstMarked a sector =
-    ((c : ℕ) × (c < a.marks.chunks) × (is_set a.marks.bytes c ≡ true) × ((b : ℕ) → b < c → is_set a.marks.bytes b ≡ false) × (sector ≡ c * a.chunks.sectors))
-    ⊎ (((c : ℕ) → c < a.marks.chunks → is_set a.marks.bytes c ≡ false) × (sector ≡ a.chunks.size))
-
--- A device that lacks the marked chunks alone surely has what is before the first of them, marked or not; one that lacks every chunk
--- nothing.
-pub record IsSureBack (a : ArrayView) (offset sure : ℕ) : Type 0 where
-  pub marked : ℕ
-  pub first : IsFirstMarked a marked
-  pub is : sure ≡ min offset marked
-
 -- the array with it
 pub record TakesBack (info : MemberInfo) (old new : ArrayView) : Type 0 where
   pub may : MayReAdd old info
   pub member : MemberView
   pub offset : ℕ
   pub offset_is : IsOffsetBack old info offset
-  pub sure : ℕ
-  pub sure_is : IsSureBack old offset sure
-  pub taken : IsKeptTakenBack offset sure info member
+  pub taken : IsKeptTakenBack offset info member
   pub array : new ≡ joined old member (own_role info.superblock)
 
 -- no role is free for it

@@ -2,8 +2,7 @@
 ghost use Rattle.std.specs.Prelude.{◌≡◌, ◌↔◌, ◌≤◌, IsTrue, MatchResult, Some};
 ghost use Rattle.md_bitmap.specs.Marks.{Bitmap};
 ghost use Rattle.md_kept_members.specs.Remembering.{IsWhole};
-ghost use Rattle.md_state.specs.InMemory.{HasMarksOfSize};
-ghost use Rattle.md_state.specs.Steps.ReAdd.{HasNoOtherClearing, HasNoOtherMarks, IsFirstMarked, IsOffsetBack, IsReAddable, IsSureBack, LeftInTime, MayReAdd, RefusesToTakeBack};
+ghost use Rattle.md_state.specs.Steps.ReAdd.{HasNoOtherClearing, HasNoOtherMarks, IsOffsetBack, IsReAddable, LeftInTime, MayReAdd, RefusesToTakeBack};
 
 use crate::array::Array;
 use crate::steps::note_joined::MOST_MEMBERS;
@@ -50,26 +49,6 @@ impl Array {
         } else {
             0
         }
-    }
-
-    /// What a device surely has that comes back with this offset: its superblock is to say no more.
-    pub fn sure_offset_back(&self, offset: u64) -> u64
-        requires { HasMarksOfSize self.now }
-        ensures { IsSureBack self.now offset result }
-    {
-        offset.min(self.first_marked_sector())
-    }
-
-    fn first_marked_sector(&self) -> u64
-        requires { HasMarksOfSize self.now }
-        ensures { IsFirstMarked self.now result }
-    {
-        for chunk in 0..self.marks.chunks() {
-            if self.marks.is_marked(chunk) {
-                return u64::from(chunk) * u64::from(self.chunks.sectors);
-            }
-        }
-        self.chunks.size
     }
 
     fn has_no_other_marks(&self, info: &MemberInfo) -> bool

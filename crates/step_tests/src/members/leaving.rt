@@ -277,7 +277,6 @@ const SIXTH_BACK: Stored = Stored {
     entries: 6,
     features: 3,
     events: 12,
-    recovery_offset: 64,
     devflags: 1,
     ..UNWRITTEN
 };

@@ -50,7 +50,7 @@ returns-then-is_err-3 g c =
     ∙ ap (λ (x : Inside g.row.D.Denot). record { disks = map of x.devices.items; array = x.array }) c.self-inside.view_is
     ∙ c.self.view_is in
     let shared = c.in-Ok.ensures ∙ ap (λ role. joined_shared c.self.inside.array.shared c.self.inside.array.members c.args.info.superblock.dev_number role) c.role_of-role.ensures in
-    not_recorded g.D.Device c.args.device c.store_superblock.new.device c.self.inside.array c.offset_back-offset.result c.sure_offset_back-sure.result c.args.info m c.offset_back-offset.ensures c.sure_offset_back-sure.ensures c.taken_back-member.ensures c.in-Ok.shared shared c.store_superblock.ensures.outside
+    not_recorded g.D.Device c.args.device c.store_superblock.new.device c.self.inside.array c.offset_back-offset.result c.args.info m c.offset_back-offset.ensures c.taken_back-member.ensures c.in-Ok.shared shared c.store_superblock.ensures.outside
     old new unchanged (ap (λ (v : MirrorView). v.array) (sym c.self.view_is))
     (err_of c.store_superblock.result _ _ c.if-is_err-3.ensures.value c.store_superblock.ensures.writes)
 
@@ -81,7 +81,7 @@ returns g c =
     let count = ap length items ∙ length_push devices c.store_superblock.new.device in
     let last : c.len.result - 1 ≡ length before.members = omega (arith, c.len.ensures, c.push_reserved-2.new.self.ok.0) in
     subst (λ (v : MirrorView). RecordsLast (c.len.result - 1) (of c.args.device) c.args.info v new) c.self.view_is
-    (recorded_last g.D.Device c.args.device c.store_superblock.new.device before c.offset_back-offset.result c.sure_offset_back-sure.result c.args.info m c.offset_back-offset.ensures c.sure_offset_back-sure.ensures c.taken_back-member.ensures c.in-Ok.shared shared c.store_superblock.ensures.outside
+    (recorded_last g.D.Device c.args.device c.store_superblock.new.device before c.offset_back-offset.result c.args.info m c.offset_back-offset.ensures c.taken_back-member.ensures c.in-Ok.shared shared c.store_superblock.ensures.outside
     devices c.push_reserved-2.new.self.items c.note_joined.new.self (c.len.result - 1)
     (subst (λ (v : MirrorView). MayReAdd v.array c.args.info) (sym c.self.view_is) c.requires.may)
     array c.store_superblock.ensures.readable
