@@ -1,6 +1,5 @@
 -- A crash within a rebuild is a crash of a run.
 use Rattle.std.proofs.Common.{◌≡◌, ◌∙◌, ◌⊎◌, ◌++◌, ℕ, true, false, true≢false, List, [], ◌∷◌, Option, Some, None, inl, inr, refl, sym, ap, subst}
-use Rattle.std.proofs.lemmas.List.{append-nil}
 use Rattle.std.proofs.lemmas.Option.{same_Some}
 use Rattle.md_assembly.specs.States.{is_in_sync, is_recorded, is_recovering, is_spare}
 use Rattle.md_bitmap.specs.Marks.{Bitmap}
@@ -51,9 +50,9 @@ use Rattle.md_copy.proofs.Leads.RebuildLeads.{begin_holds, filled, listing_befor
 use Rattle.md_copy.proofs.Stored.TargetStates.{target_rebuilt}
 use Rattle.md_copy.proofs.Leads.UnfinishedEnrol.{prepares}
 use Rattle.md_call_laws.specs.Rebuilds.RebuildCrashes.{HasFilled, HasPassed, IsCrashAfter, IsCrashBefore, IsSuperWhole, CrashesAdmitting, CrashesAtCheckpoint, CrashesAtFailedCheckpoint, CrashesCopying, CrashesEnrolling, CrashesFilling, CrashesFirst, CrashesInListed, CrashesInPass, CrashesInPasses, CrashesListing, CrashesPassUnrecorded, CrashesReadying, CrashesRecording, CrashesStoring, CrashesUnadmitted, CrashesUnenrolled, CrashesUnrecorded}
-use Rattle.md_call_laws.proofs.RebuildLemmas.RebuildSteps.{Before, ComesUnspoiled, IfSome, admission_comes, begun_comes, checkpoint_comes, checkpoint_unspoils, fill_comes, filled_comes, if_some, listed_comes, lowered_comes, noted_comes, noting_comes, passes_come, recorded_comes, so_last, some_map, stored_comes, stores_come, then_unspoiled, un_listed, un_noted, unshifted_if, until_last, whole_stores}
+use Rattle.md_call_laws.proofs.RebuildLemmas.RebuildSteps.{Before, ComesUnspoiled, admission_comes, begun_comes, checkpoint_comes, checkpoint_unspoils, fill_comes, filled_comes, listed_comes, lowered_comes, noted_comes, noting_comes, passes_come, recorded_comes, so_last, stored_comes, stores_come, then_unspoiled, until_last, whole_stores}
 use Rattle.md_call_laws.proofs.RebuildLemmas.Steady.{Comes, IsSteadyAt, comes_then, end, end_steady, steady_at}
-use Rattle.md_call_laws.proofs.RebuildLemmas.Unshifted.{Unshifted, unshifted_begun, whole_lists}
+use Rattle.md_call_laws.proofs.RebuildLemmas.Unshifted.{Unshifted, un_noted, unshifted_before_last, unshifted_begun, unshifted_first, unshifted_later, whole_stores_lists}
 
 -- ---- who is in sync
 -- was so before
@@ -423,13 +422,13 @@ noted_out target chunks p before after v x noted so h notes =
     recovering_is_out target noted (ready_noted target p.failed x noted notes (recorded_ready target chunks p before after v x h so.ready so.held so.lacking)).recovering
 
 module _ (target : ℕ) (chunks : List ℕ) (p : PassView) (before after : Bitmap) (t : Moment) (at : IsSteadyAt t) (so : HoldsSoFar target t.mirror before chunks) (new : MirrorView)
-    (h : ListsPass target chunks p before after t.mirror new) (un : Unshifted t.mirror.array) where
+    (h : ListsPass target chunks p before after t.mirror new) (un : Unshifted p.failed t.mirror.array) where
   pub listing_crash : (left : List Disk) (in_flight : AreInFlight h.lists.noted.array t.requests)
       → CrashesIn h.lists.stores.goes.events None h.lists.noted t.requests (λ v r. (v ≡ new) × (r ≡ t.requests)) (h.lists.stores.goes.leads None t.requests in_flight) left → IsCrashBefore target t left
   listing_crash left in_flight stop =
-      let c = noting_comes target chunks p before after t at so new h un in
+      let c = noting_comes target chunks p before after t at so new h in
       let goes = h.lists.stores.goes in
-      let whole = whole_lists goes.events None h.lists.noted t.requests (λ v r. (v ≡ new) × (r ≡ t.requests)) (goes.leads None t.requests in_flight) goes.steps h.lists.stores.unfailing (un_noted target chunks p before after t at so new h un) in
+      let whole = whole_stores_lists p.failed h.lists.noted new h.lists.stores (un_noted target chunks p before after t.mirror new h p.failed un) t.requests in_flight in
       later_crash target t c left
       (lists_stop target (end c) (end_steady c at) (noted_out target chunks p before after t.mirror h.recorded h.lists.noted so h.records h.lists.notes) new goes in_flight whole left stop)
 
@@ -441,18 +440,19 @@ module _ (target : ℕ) (chunks : List ℕ) (p : PassView) (before after : Bitma
 
 -- ---- within one of several passes
 pub passes_stop : (target : ℕ) (ps : List PassView) (chunks rest : List ℕ) (before after : Bitmap) (t : Moment) → IsSteadyAt t → HoldsSoFar target t.mirror before chunks
-    → (new : MirrorView) (h : AreListedPasses target ps chunks rest before after t.mirror new) → IfSome ps (Unshifted t.mirror.array)
+    → (new : MirrorView) (h : AreListedPasses target ps chunks rest before after t.mirror new) → Unshifted (failed_of ps) t.mirror.array
     → (left : List Disk) → CrashesInPasses IsSuperWhole target ps chunks rest before after t.mirror new h t.requests left → IsCrashBefore target t left
 passes_stop target [] chunks rest before after t at so new h un left stop = absurd stop
-passes_stop target (p ∷ ps) chunks rest before after t at so new h un left (inl here) = listed_crash target chunks p before h.0 t at so h.1 h.2 un left here
+passes_stop target (p ∷ ps) chunks rest before after t at so new h un left (inl here) =
+    listed_crash target chunks p before h.0 t at so h.1 h.2 (unshifted_first p.failed (failed_of ps) t.mirror.array un) left here
 passes_stop target (p ∷ ps) chunks rest before after t at so new h un left (inr later) =
-    let c = listed_comes target chunks p before h.0 t at so h.1 h.2 un in
+    let c = listed_comes target chunks p before h.0 t at so h.1 h.2 (unshifted_first p.failed (failed_of ps) t.mirror.array un) in
     later_crash target t c left
     (passes_stop target ps (failed_chunks p) rest h.0 after (end c) (end_steady c at) (listed_holds target chunks p before h.0 t.mirror h.1 h.2 so) new h.3
-    (if_some ps (un_listed target chunks p before h.0 t at so h.1 h.2 un)) left later)
+    (unshifted_later target chunks p ps before h.0 t.mirror h.1 h.2 un) left later)
 
 module _ (target : ℕ) (m : MemberView) (passes : List PassView) (before after : Bitmap) (t : Moment) (at : IsSteadyAt t) (so : HoldsSoFar target t.mirror before (missing_chunks t.mirror.array m)) (new : MirrorView)
-    (h : CopiesAll target m passes before after t.mirror new) (un : IfSome h.listed (Unshifted t.mirror.array)) where
+    (h : CopiesAll target m passes before after t.mirror new) (un : Unshifted (failed_of h.listed) t.mirror.array) where
   pub copying_crash : (left : List Disk) → CrashesCopying IsSuperWhole target m passes before after t.mirror new h t.requests left → IsCrashBefore target t left
   copying_crash left stop = elim stop [
     | inl within ↦ passes_stop target h.listed (missing_chunks t.mirror.array m) h.left before h.mid t at so h.now h.passed un left within
@@ -473,10 +473,8 @@ module _ (target : ℕ) (chunks : List ℕ) (copied : Bitmap) (t : Moment) (at :
   so_ready : HoldsSoFar target h.ready h.none first
   so_ready = begin_holds target t.mirror h.ready h.none h.begins
 
-  unshifted : IfSome h.passes (Unshifted h.ready.array)
-  unshifted =
-      some_map h.passes (unshifted_begun target t.mirror h.ready h.none h.begins)
-      (unshifted_if target h.passes [] first chunks h.none copied h.ready now t.mirror h.passed (λ some. h.unshifted (λ none. some (ap failed_of (append-nil h.passes) ∙ none))))
+  unshifted : Unshifted (failed_of h.passes) h.ready.array
+  unshifted = unshifted_begun target (failed_of h.passes) t.mirror h.ready h.none h.begins h.unshifted
 
   pub passed : Comes (Before target) t now
   passed = comes_then readied (passes_come target h.passes first chunks h.none copied (end readied) (end_steady readied at) so_ready now h.passed unshifted)
@@ -502,11 +500,10 @@ module _ (target : ℕ) (kept orphans : Bitmap) (t : Moment) (at : IsSteadyAt t)
   pub so_begun : HoldsSoFar target h.ready h.none (missing_chunks h.ready.array h.begins.now)
   so_begun = begin_holds target t.mirror h.ready h.none h.begins
 
-  pub un_begun : IfSome c.listed (Unshifted h.ready.array)
+  pub un_begun : Unshifted (failed_of c.listed) h.ready.array
   un_begun =
-      some_map c.listed (unshifted_begun target t.mirror h.ready h.none h.begins)
-      (unshifted_if target c.listed (c.last ∷ []) (missing_chunks h.ready.array h.begins.now) c.left h.none c.mid h.ready c.now t.mirror c.passed
-      (λ some. h.unshifted (λ none. some (ap failed_of (sym c.passes_are) ∙ none))))
+      unshifted_begun target (failed_of c.listed) t.mirror h.ready h.none h.begins
+      (unshifted_before_last target h.begins.now h.passes h.none h.copied h.ready filled_at c t.mirror.array h.unshifted)
 
   -- until its last checkpoint, and by that
   pub until_offset : Comes (Before target) t c.records.filled

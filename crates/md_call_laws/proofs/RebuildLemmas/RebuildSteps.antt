@@ -1,5 +1,5 @@
 -- The steps of a rebuild, each from a moment of a mirror's life: by its events a run leads to the mirror after it.
-use Rattle.std.proofs.Common.{◌≡◌, ◌∙◌, ◌++◌, ℕ, Bool, true, false, List, [], ◌∷◌, None, Option, Some, refl, sym, ap, subst, inl, inr}
+use Rattle.std.proofs.Common.{◌≡◌, ◌∙◌, ◌++◌, ℕ, Bool, true, false, List, [], ◌∷◌, None, Option, Some, refl, ap, subst, inl, inr}
 use Rattle.md_assembly.specs.States.{is_spare}
 use Rattle.md_bitmap.specs.Marks.{Bitmap}
 use Rattle.md_cert.specs.declared.slots.Slot.{Slot}
@@ -31,9 +31,8 @@ use Rattle.md_copy.specs.Rebuilt.{failed_of}
 use Rattle.md_copy.specs.Storing.{StoresFirst}
 use Rattle.md_copy.proofs.Passing.PassesTold.{HoldsSoFar, chain_holds, listed_holds}
 use Rattle.md_copy.proofs.Leads.RebuildLeads.{filled, listing_before, lowering_events, lowering_leads, noting_before, storing_before}
-use Rattle.md_call_laws.specs.Rebuilds.RebuildRuns.{LogsUnshifted}
 use Rattle.md_call_laws.proofs.RebuildLemmas.Steady.{Comes, IsSteadyAt, comes_by, comes_same, comes_then, end, end_steady, holds_some}
-use Rattle.md_call_laws.proofs.RebuildLemmas.Unshifted.{Unshifted, unshifted_listed, unshifted_noted, unshifted_recorded, whole_lists}
+use Rattle.md_call_laws.proofs.RebuildLemmas.Unshifted.{Unshifted, un_noted, unshifted_first, unshifted_later, whole_stores_lists}
 
 abbrev pub Before : ℕ → Event → Type 0
 Before target = IsBeforeEnrol target
@@ -168,70 +167,38 @@ noted_comes target failed t at new h =
     comes_by (Before target) t new goes.events (all_such IsNoting (Before target) (noting_before target) goes.events goes.steps) leads at
     (whole_of goes.events None t.mirror t.requests (λ m r. (m ≡ new) × (r ≡ t.requests)) leads (all_such IsNoting IsNoFailedRecord noting_records goes.events goes.steps))
 
-pub lists_comes : (target : ℕ) (failed : List Slot) (t : Moment) → IsSteadyAt t → Unshifted t.mirror.array → (new : MirrorView) → StoresLists failed t.mirror new → Comes (Before target) t new
+pub lists_comes : (target : ℕ) (failed : List Slot) (t : Moment) → IsSteadyAt t → Unshifted failed t.mirror.array → (new : MirrorView) → StoresLists failed t.mirror new → Comes (Before target) t new
 lists_comes target failed t at un new h =
     let goes = h.goes in
-    let leads = goes.leads None t.requests at.sound.in_flight in
-    comes_by (Before target) t new goes.events (all_such IsStoringList (Before target) (listing_before target) goes.events goes.steps) leads at
-    (whole_lists goes.events None t.mirror t.requests (λ m r. (m ≡ new) × (r ≡ t.requests)) leads goes.steps h.unfailing un)
+    comes_by (Before target) t new goes.events (all_such IsStoringList (Before target) (listing_before target) goes.events goes.steps) (goes.leads None t.requests at.sound.in_flight) at
+    (whole_stores_lists failed t.mirror new h un t.requests at.sound.in_flight)
 
 -- ---- passes
 module _ (target : ℕ) (chunks : List ℕ) (p : PassView) (before after : Bitmap) (t : Moment) (at : IsSteadyAt t) (so : HoldsSoFar target t.mirror before chunks) (new : MirrorView)
-    (h : ListsPass target chunks p before after t.mirror new) (un : Unshifted t.mirror.array) where
+    (h : ListsPass target chunks p before after t.mirror new) where
   pub pass_comes : Comes (Before target) t h.recorded
   pass_comes = recorded_comes target chunks p before after t at so h.recorded h.records
-
-  un_recorded : Unshifted h.recorded.array
-  un_recorded =
-      unshifted_recorded target after h.records.filled h.recorded h.records.checkpoints (subst Unshifted (sym h.records.makes.copies.filling.array) un)
-
-  pub un_noted : Unshifted h.lists.noted.array
-  un_noted = unshifted_noted p.failed h.recorded h.lists.noted h.lists.notes un_recorded
-
-  pub un_listed : Unshifted new.array
-  un_listed = unshifted_listed p.failed h.recorded new h.lists un_recorded
 
   -- what failed is noted
   pub noting_comes : Comes (Before target) t h.lists.noted
   noting_comes = comes_then pass_comes (noted_comes target p.failed (end pass_comes) (end_steady pass_comes at) h.lists.noted h.lists.notes)
 
-  pub listed_comes : Comes (Before target) t new
-  listed_comes = comes_then noting_comes (lists_comes target p.failed (end noting_comes) (end_steady noting_comes at) un_noted new h.lists.stores)
-
--- of some list that has an element
-abbrev pub IfSome : List PassView → Type 0 → Type 0
-IfSome [] T = Unit {0}
-IfSome (p ∷ ps) T = T
-
-pub if_some : {T : Type 0} (ps : List PassView) → T → IfSome ps T
-if_some {T} [] x = tt
-if_some {T} (p ∷ ps) x = x
-
-pub some_map : {S T : Type 0} (ps : List PassView) → (S → T) → IfSome ps S → IfSome ps T
-some_map {S} {T} [] f x = tt
-some_map {S} {T} (p ∷ ps) f x = f x
-
-none_first : (xs ys : List Slot) → xs ++ ys ≡ [] → xs ≡ []
-none_first [] ys is = refl
-none_first (x ∷ xs) ys is = absurd cc
-
--- where a pass of several was followed by a listing, some slot failed
-pub unshifted_if : (target : ℕ) (ps more : List PassView) (chunks rest : List ℕ) (before after : Bitmap) (old new v : MirrorView) → AreListedPasses target ps chunks rest before after old new
-    → LogsUnshifted (failed_of (ps ++ more)) v → IfSome ps (Unshifted v.array)
-unshifted_if target [] more chunks rest before after old new v h un = tt
-unshifted_if target (p ∷ ps) more chunks rest before after old new v h un = un (λ none. h.2.some (none_first p.failed (failed_of (ps ++ more)) none))
+  pub listed_comes : Unshifted p.failed t.mirror.array → Comes (Before target) t new
+  listed_comes un =
+      comes_then noting_comes
+      (lists_comes target p.failed (end noting_comes) (end_steady noting_comes at) (un_noted target chunks p before after t.mirror new h p.failed un) new h.lists.stores)
 
 pub passes_come : (target : ℕ) (ps : List PassView) (chunks rest : List ℕ) (before after : Bitmap) (t : Moment) → IsSteadyAt t → HoldsSoFar target t.mirror before chunks
-    → (new : MirrorView) → AreListedPasses target ps chunks rest before after t.mirror new → IfSome ps (Unshifted t.mirror.array) → Comes (Before target) t new
+    → (new : MirrorView) → AreListedPasses target ps chunks rest before after t.mirror new → Unshifted (failed_of ps) t.mirror.array → Comes (Before target) t new
 passes_come target [] chunks rest before after t at so new h un = comes_same (Before target) t new h.2
 passes_come target (p ∷ ps) chunks rest before after t at so new h un =
-    let c = listed_comes target chunks p before h.0 t at so h.1 h.2 un in
+    let c = listed_comes target chunks p before h.0 t at so h.1 h.2 (unshifted_first p.failed (failed_of ps) t.mirror.array un) in
     comes_then c
     (passes_come target ps (failed_chunks p) rest h.0 after (end c) (end_steady c at) (listed_holds target chunks p before h.0 t.mirror h.1 h.2 so) new h.3
-    (if_some ps (un_listed target chunks p before h.0 t at so h.1 h.2 un)))
+    (unshifted_later target chunks p ps before h.0 t.mirror h.1 h.2 un))
 
 module _ (target : ℕ) (m : MemberView) (passes : List PassView) (before after : Bitmap) (t : Moment) (at : IsSteadyAt t) (so : HoldsSoFar target t.mirror before (missing_chunks t.mirror.array m)) (new : MirrorView)
-    (h : CopiesAll target m passes before after t.mirror new) (un : IfSome h.listed (Unshifted t.mirror.array)) where
+    (h : CopiesAll target m passes before after t.mirror new) (un : Unshifted (failed_of h.listed) t.mirror.array) where
   abbrev first : List ℕ
   first = missing_chunks t.mirror.array m
 

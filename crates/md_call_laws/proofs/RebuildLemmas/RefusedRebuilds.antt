@@ -1,6 +1,5 @@
 -- A rebuild that ends because memory was refused, or a log has no room: a run leads to where it is recorded how far its target is rebuilt.
-use Rattle.std.proofs.Common.{◌≡◌, ◌∙◌, ◌⊎◌, ℕ, true, List, [], ◌∷◌, None, refl, sym, ap, subst, inl, inr}
-use Rattle.std.proofs.lemmas.List.{append-nil}
+use Rattle.std.proofs.Common.{◌≡◌, ◌⊎◌, ℕ, true, List, None, refl, sym, subst, inl, inr}
 use Rattle.md_assembly.specs.States.{is_recovering}
 use Rattle.md_bitmap.specs.Marks.{Bitmap}
 use Rattle.md_cert.specs.declared.slots.Slot.{Slot}
@@ -23,11 +22,11 @@ use Rattle.md_copy.proofs.Leads.RebuildLeads.{begin_holds, listing_before}
 use Rattle.md_call_laws.specs.Rebuilds.RebuildRuns.{LogsUnshifted}
 use Rattle.md_call_laws.specs.Rebuilds.RefusedRebuilds.{HasLost, HasGivenUp, HasUnshifted, LostIsARun, RefusedIsARun, CrashesLeaving, CrashesLeavingAnyhow, CrashesLeavingLost, CrashesLeavingLostAnyhow, CrashesUnleft, CrashesUnleftLost, passes_then}
 use Rattle.md_call_laws.proofs.RebuildLemmas.RebuildRun.{stays_along}
-use Rattle.md_call_laws.proofs.RebuildLemmas.RebuildSteps.{Before, IfSome, all_come, begun_comes, noted_comes, passes_come, recorded_comes, some_map, unshifted_if}
+use Rattle.md_call_laws.proofs.RebuildLemmas.RebuildSteps.{Before, all_come, begun_comes, noted_comes, passes_come, recorded_comes}
 use Rattle.md_call_laws.proofs.RebuildLemmas.SpoiledRebuilds.{later_anyhow, offset_anyhow}
 use Rattle.md_call_laws.proofs.RebuildLemmas.Steady.{Comes, IsSteadyAt, comes_by, comes_then, end, end_steady, steady_at, steady_with}
 use Rattle.md_call_laws.proofs.RebuildLemmas.RebuildCrashes.{later_crash, passed, passed_holds, recording_crash, unrecorded_offset_crash}
-use Rattle.md_call_laws.proofs.RebuildLemmas.Unshifted.{Unshifted, unshifted_begun}
+use Rattle.md_call_laws.proofs.RebuildLemmas.Unshifted.{Unshifted, unshifted_before_last, unshifted_begun}
 
 -- a run leads there, and the target is recovering then
 record ComesReady (target : ℕ) (t : Moment) (new : MirrorView) : Type 0 where
@@ -39,7 +38,7 @@ module _ (target : ℕ) (t : Moment) (at : IsSteadyAt t) (m : MemberView) (none 
   abbrev first : List ℕ
   first = missing_chunks t.mirror.array m
 
-  module _ (passes : List PassView) (chunks : List ℕ) (copied : Bitmap) (now : MirrorView) (passed : AreListedPasses target passes first chunks none copied t.mirror now) (un : IfSome passes (Unshifted t.mirror.array)) where
+  module _ (passes : List PassView) (chunks : List ℕ) (copied : Bitmap) (now : MirrorView) (passed : AreListedPasses target passes first chunks none copied t.mirror now) (un : Unshifted (failed_of passes) t.mirror.array) where
     until_now : Comes (Before target) t now
     until_now = passes_come target passes first chunks none copied t at so now passed un
 
@@ -60,25 +59,18 @@ module _ (target : ℕ) (t : Moment) (at : IsSteadyAt t) (m : MemberView) (none 
         }
 
   -- after all
-  ends_copied : (passes : List PassView) (copied : Bitmap) (stopped : MirrorView) (h : CopiesAll target m passes none copied t.mirror stopped) → IfSome h.listed (Unshifted t.mirror.array) → ComesReady target t stopped
+  ends_copied : (passes : List PassView) (copied : Bitmap) (stopped : MirrorView) (h : CopiesAll target m passes none copied t.mirror stopped) → Unshifted (failed_of h.listed) t.mirror.array → ComesReady target t stopped
   ends_copied passes copied stopped h un = record {
     comes = all_come target m passes none copied t at so stopped h un;
     recovers = (told.filled_ready target m passes none copied t.mirror stopped h so).recovering;
   }
 
 -- ---- from the moment of the call
--- what is asked of logs, once a pass may be planned
-module _ (target : ℕ) (old ready : MirrorView) (none : Bitmap) (b : BeginsRebuild target old ready none) where
-  between_unshifted : (passes : List PassView) (chunks : List ℕ) (copied : Bitmap) (now : MirrorView) → AreListedPasses target passes (missing_chunks ready.array b.now) chunks none copied ready now
-      → LogsUnshifted (failed_of passes) old → IfSome passes (Unshifted ready.array)
-  between_unshifted passes chunks copied now h un =
-      some_map passes (unshifted_begun target old ready none b)
-      (unshifted_if target passes [] (missing_chunks ready.array b.now) chunks none copied ready now old h (λ some. un (λ none_failed. some (ap failed_of (append-nil passes) ∙ none_failed))))
-
-  all_unshifted : (passes : List PassView) (copied : Bitmap) (stopped : MirrorView) (h : CopiesAll target b.now passes none copied ready stopped) → LogsUnshifted (failed_of passes) old → IfSome h.listed (Unshifted ready.array)
-  all_unshifted passes copied stopped h un =
-      some_map h.listed (unshifted_begun target old ready none b)
-      (unshifted_if target h.listed (h.last ∷ []) (missing_chunks ready.array b.now) h.left none h.mid ready h.now old h.passed (λ some. un (λ none_failed. some (ap failed_of (sym h.passes_are) ∙ none_failed))))
+-- what is asked of logs, once a pass may be planned and all are made
+all_unshifted : (target : ℕ) (old ready : MirrorView) (none : Bitmap) (b : BeginsRebuild target old ready none) (passes : List PassView) (copied : Bitmap) (stopped : MirrorView)
+    (h : CopiesAll target b.now passes none copied ready stopped) → LogsUnshifted (failed_of passes) old → Unshifted (failed_of h.listed) ready.array
+all_unshifted target old ready none b passes copied stopped h un =
+    unshifted_begun target (failed_of h.listed) old ready none b (unshifted_before_last target b.now passes none copied ready stopped h old.array un)
 
 module _ (target : ℕ) (t : Moment) (at : IsSteadyAt t) (copied : Bitmap) (stopped ready : MirrorView) (none : Bitmap) (b : BeginsRebuild target t.mirror ready none) where
   begun : Comes (Before target) t ready
@@ -92,15 +84,15 @@ module _ (target : ℕ) (t : Moment) (at : IsSteadyAt t) (copied : Bitmap) (stop
   At = ComesReady target (end begun) stopped
 
   ends_so : (why : LacksMemoryToRebuild target b.now none copied ready stopped ⊎ ((k : ℕ) × LacksRoom k target b.now none copied ready stopped)) → LogsUnshifted (failed_of (passes_then why)) t.mirror → At
-  ends_so (inl (inl e)) un = ends_now target (end begun) (end_steady begun at) b.now none so e.passes e.left e.copied e.now e.passed (between_unshifted target t.mirror ready none b e.passes e.left e.copied e.now e.passed un) stopped e.why.1
+  ends_so (inl (inl e)) un = ends_now target (end begun) (end_steady begun at) b.now none so e.passes e.left e.copied e.now e.passed (unshifted_begun target (failed_of e.passes) t.mirror ready none b un) stopped e.why.1
   ends_so (inl (inr (inl e))) un =
-      ends_noting target (end begun) (end_steady begun at) b.now none so e.passes e.left e.copied e.now e.passed (between_unshifted target t.mirror ready none b e.passes e.left e.copied e.now e.passed un) e.why.pass copied e.why.recorded stopped
+      ends_noting target (end begun) (end_steady begun at) b.now none so e.passes e.left e.copied e.now e.passed (unshifted_begun target (failed_of e.passes) t.mirror ready none b un) e.why.pass copied e.why.recorded stopped
       e.why.records e.why.fails.taken e.why.fails.notes
   ends_so (inl (inr (inr e))) un =
       subst (ComesReady target (end begun)) (sym e.why.unchanged)
       (ends_copied target (end begun) (end_steady begun at) b.now none so e.passes e.copied e.filled e.fills.copies (all_unshifted target t.mirror ready none b e.passes e.copied e.filled e.fills.copies un))
   ends_so (inr (k, inl e)) un =
-      ends_noting target (end begun) (end_steady begun at) b.now none so e.passes e.left e.copied e.now e.passed (between_unshifted target t.mirror ready none b e.passes e.left e.copied e.now e.passed un) e.why.pass copied e.why.recorded stopped
+      ends_noting target (end begun) (end_steady begun at) b.now none so e.passes e.left e.copied e.now e.passed (unshifted_begun target (failed_of e.passes) t.mirror ready none b un) e.why.pass copied e.why.recorded stopped
       e.why.records e.why.fails.taken e.why.fails.notes
   ends_so (inr (k, inr e)) un =
       let f = e.1 in

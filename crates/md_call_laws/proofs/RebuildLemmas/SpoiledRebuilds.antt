@@ -29,6 +29,7 @@ use Rattle.md_rebuild_table.specs.Sources.{missing_chunks}
 use Rattle.md_copy.specs.Passing.{AreListedPasses, CopiesAll, ListsPass, RecordsPass}
 use Rattle.md_copy.specs.Readying.{AdmitsAfter, FailsAdmission, Readies}
 use Rattle.md_copy.specs.RebuildEvents.{IsBeforeEnrol, IsOfUnfinished}
+use Rattle.md_copy.specs.Rebuilt.{failed_of}
 use Rattle.md_copy.specs.Rebuilding.{EndsStoring}
 use Rattle.md_copy.proofs.Ready.Lowered.{lowered_but}
 use Rattle.md_copy.specs.Storing.{FailsToRecordTarget}
@@ -39,10 +40,10 @@ use Rattle.md_copy.proofs.Leads.RefusedLeads.{unfinished_of}
 use Rattle.md_copy.proofs.Stored.StoredFirst.{rebuilt_still}
 use Rattle.md_copy.proofs.Stored.TargetStates.{target_rebuilt}
 use Rattle.md_call_laws.specs.Rebuilds.RebuildCrashes.{AnySuper, HasFilled, IsCrashBefore, IsCrashUnfinished, CrashesAdmittingAnyhow, CrashesAtCheckpointAnyhow, CrashesCopying, CrashesEnrollingAnyhow, CrashesInListed, CrashesInPass, CrashesInPasses, CrashesReadying, CrashesRecordingAnyhow, CrashesTelling, CrashesUnadmittedAnyhow, CrashesUnenrolledAnyhow}
-use Rattle.md_call_laws.proofs.RebuildLemmas.RebuildSteps.{Before, IfSome, if_some, listed_comes, so_last, un_listed, until_last}
+use Rattle.md_call_laws.proofs.RebuildLemmas.RebuildSteps.{Before, listed_comes, so_last, until_last}
 use Rattle.md_call_laws.proofs.RebuildLemmas.Steady.{Comes, IsSteadyAt, end, end_steady, steady_at}
 use Rattle.md_call_laws.proofs.RebuildLemmas.RebuildCrashes.{after_crash, all_filled, before_admission, before_failure, before_crash, begun, first_done, listing_crash, lowered_done, pass_filling_crash, recovers_filled, recovers_made, so_begun, un_begun, until_filled, until_made}
-use Rattle.md_call_laws.proofs.RebuildLemmas.Unshifted.{Unshifted}
+use Rattle.md_call_laws.proofs.RebuildLemmas.Unshifted.{Unshifted, unshifted_first, unshifted_later}
 
 -- one in which the target is not spoiled is such a crash
 pub unfinished : (target : ℕ) (t : Moment) (left : List Disk) → IsCrashBefore target t left → IsCrashUnfinished target t left
@@ -159,7 +160,7 @@ module _ (target : ℕ) (chunks : List ℕ) (p : PassView) (before after : Bitma
   ]
 
 module _ (target : ℕ) (chunks : List ℕ) (p : PassView) (before after : Bitmap) (t : Moment) (at : IsSteadyAt t) (so : HoldsSoFar target t.mirror before chunks) (new : MirrorView)
-    (h : ListsPass target chunks p before after t.mirror new) (un : Unshifted t.mirror.array) where
+    (h : ListsPass target chunks p before after t.mirror new) (un : Unshifted p.failed t.mirror.array) where
   pub listed_anyhow : (left : List Disk) → CrashesInListed AnySuper target chunks p before after t.mirror new h t.requests left → IsCrashUnfinished target t left
   listed_anyhow left stop = elim stop [
     | inl passing ↦ pass_anyhow target chunks p before after t at so h.recorded h.records left passing
@@ -167,15 +168,16 @@ module _ (target : ℕ) (chunks : List ℕ) (p : PassView) (before after : Bitma
   ]
 
 pub passes_anyhow : (target : ℕ) (ps : List PassView) (chunks rest : List ℕ) (before after : Bitmap) (t : Moment) → IsSteadyAt t → HoldsSoFar target t.mirror before chunks
-    → (new : MirrorView) (h : AreListedPasses target ps chunks rest before after t.mirror new) → IfSome ps (Unshifted t.mirror.array)
+    → (new : MirrorView) (h : AreListedPasses target ps chunks rest before after t.mirror new) → Unshifted (failed_of ps) t.mirror.array
     → (left : List Disk) → CrashesInPasses AnySuper target ps chunks rest before after t.mirror new h t.requests left → IsCrashUnfinished target t left
 passes_anyhow target [] chunks rest before after t at so new h un left stop = absurd stop
-passes_anyhow target (p ∷ ps) chunks rest before after t at so new h un left (inl here) = listed_anyhow target chunks p before h.0 t at so h.1 h.2 un left here
+passes_anyhow target (p ∷ ps) chunks rest before after t at so new h un left (inl here) =
+    listed_anyhow target chunks p before h.0 t at so h.1 h.2 (unshifted_first p.failed (failed_of ps) t.mirror.array un) left here
 passes_anyhow target (p ∷ ps) chunks rest before after t at so new h un left (inr later) =
-    let c = listed_comes target chunks p before h.0 t at so h.1 h.2 un in
+    let c = listed_comes target chunks p before h.0 t at so h.1 h.2 (unshifted_first p.failed (failed_of ps) t.mirror.array un) in
     later_anyhow target t c left
     (passes_anyhow target ps (failed_chunks p) rest h.0 after (end c) (end_steady c at) (listed_holds target chunks p before h.0 t.mirror h.1 h.2 so) new h.3
-    (if_some ps (un_listed target chunks p before h.0 t at so h.1 h.2 un)) left later)
+    (unshifted_later target chunks p ps before h.0 t.mirror h.1 h.2 un) left later)
 
 -- ---- within all of a rebuild until the target is filled, and while it comes into sync
 module _ (target : ℕ) (kept orphans : Bitmap) (t : Moment) (at : IsSteadyAt t) (filled : MirrorView) (h : HasFilled target kept orphans t.mirror filled) where

@@ -161,9 +161,9 @@ CrashesAtFailedCheckpoint =
     → (left : List Disk) → MayAllBeLeft t.mirror.disks new.disks (contents_of left) → AtDevice target t.mirror.disks left (λ d e. block_on e.content ≡ block_on d.content)
     → IsCrashBefore target t left))
 
--- A crash while the lists of sources are stored: by these events, of which some may have failed. Each log was
--- read without a shift, or stored since. Each failed write of a superblock left the old one, the new one or
--- none (`AllLeftWhole`).
+-- A crash while the lists of sources are stored: by these events, of which some may have failed. Each log that
+-- they store was read without a shift, or stored since. Each failed write of a superblock left the old one,
+-- the new one or none (`AllLeftWhole`).
 abbrev pub CrashesListing : Type 0
 CrashesListing =
     AtMoments (λ t.

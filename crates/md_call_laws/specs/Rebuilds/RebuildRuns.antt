@@ -1,10 +1,10 @@
 -- A rebuild in the life of a mirror is a run.
-use Rattle.std.specs.Prelude.{◌≡◌, ◌≢◌, ℕ, List, [], None}
+use Rattle.std.specs.Prelude.{◌≡◌, ℕ, List, None}
 use Rattle.md_cert.specs.declared.slots.Slot.{Slot}
 use Rattle.md_kept_members.specs.View.{MemberView}
 use Rattle.md_model.specs.Content.{Content, Holds}
 use Rattle.md_model.specs.Events.{Event}
-use Rattle.md_state.specs.Members.{IsInSync}
+use Rattle.md_state.specs.Members.{IsMember}
 use Rattle.md_state.specs.Requests.{AreInFlight}
 use Rattle.md_state.specs.View.{Disk, MirrorView, geometry_of}
 use Rattle.md_array.specs.InTurn.{AllLeftWhole, AllOf}
@@ -14,6 +14,7 @@ use Rattle.md_laws.specs.Runs.{IsStart, MirrorRunWith, Moment}
 use Rattle.md_metadata.specs.Going.{GoesOn, only_others}
 use Rattle.md_metadata.specs.Storing.{IsStoring}
 use Rattle.md_copy.specs.declared.rebuilt.Rebuilt.{Rebuilt}
+use Rattle.md_copy.specs.Listing.{HasFailedSlot}
 use Rattle.md_copy.specs.RebuildEvents.{IsOfRebuild}
 use Rattle.md_copy.specs.Rebuilding.{Rebuilds}
 use Rattle.md_copy.specs.Rebuilt.{failed_of}
@@ -25,10 +26,10 @@ AtMomentsWith Holds_at =
     (before : List Disk) (m : MirrorView) (a : Content) → IsStart before m → Holds (geometry_of m.array) a (world_of m none_in_flight)
     → (es : List Event) (rest : List (List Event)) (final : MirrorView) (t : Moment) (b : Content) → MirrorLifeWith m a es rest final t b → Holds_at t b
 
--- Where slots failed, the log of each member in sync was read without a shift, or stored since: else the write of the log and that of the superblock
--- are no events of their own. Where no slot failed, no list is stored, and nothing is asked.
+-- The log of each member of which a slot failed was read without a shift, or stored since: else the write of the log and that of the superblock
+-- are no events of their own. The lists of these members are stored, and no others; so nothing is asked where no slot failed.
 abbrev pub LogsUnshifted : List Slot → MirrorView → Type 0
-LogsUnshifted failed v = failed ≢ [] → (k : ℕ) (m : MemberView) → IsInSync v.array k m → m.superblock.bblog_shift ≡ 0
+LogsUnshifted failed v = (k : ℕ) (m : MemberView) → IsMember v.array k m → HasFailedSlot failed m → m.superblock.bblog_shift ≡ 0
 
 -- Events of a kind lead from a moment to this mirror, and the content stays what it is.
 pub record RunsTo (Of : Event → Type 0) (t : Moment) (content : Content) (new : MirrorView) : Type 0 where

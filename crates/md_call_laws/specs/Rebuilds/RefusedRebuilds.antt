@@ -77,8 +77,8 @@ CrashesLeavingAnyhow =
 
 -- ---- where a list of a source could not be stored
 -- A rebuild came to this mirror by these events. Some of their writes may have failed. Each write of a
--- superblock that did left the old one, the new one or none. Each log was read without a shift, or stored
--- since (`AllLeftWhole`). The target is recovering still.
+-- superblock that did left the old one, the new one or none. Each log that they store was read without a
+-- shift, or stored since (`AllLeftWhole`). The target is recovering still.
 pub record HasLost (target : ℕ) (t : Moment) (last : MirrorView) : Type 0 where
   pub chunks : List ℕ
   pub copied : Bitmap

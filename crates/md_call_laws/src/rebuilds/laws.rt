@@ -28,8 +28,8 @@ pub fn held_before()
 {}
 
 /// A rebuild that is done is a run of the mirror, from any moment of a life on, and the content stays what it was:
-/// up to the mirror in which its target is in sync, and on to the end of the call. Where slots failed and lists were
-/// stored, it is asked that the logs were read without a shift.
+/// up to the mirror in which its target is in sync, and on to the end of the call. Of a member of which a slot failed,
+/// so that its list is stored, it is asked that its log was read without a shift, or stored since.
 pub fn rebuild_runs()
     ensures enrolled { RebuildIsARun }
     ensures records_stored { RebuildRunsOn }
