@@ -20,6 +20,11 @@ SET = "00112233-4455-6677-8899-aabbccddeeff"
 # The example member, and what `examine` has to say of it.
 VAULT = (TOP / "examples" / "vault.img").read_bytes()
 REPORT = (TOP / "examples" / "vault.examine.txt").read_text()
+# What `scan` has to say of it, and of an array whose other member is not named.
+SCANNED = (
+    "ARRAY /dev/md/vault level=raid1 metadata=1.2 num-devices=2 UUID=00112233:44556677:8899aabb:ccddeeff name=vault\n"
+    "   devices=a\n# device 0: a, in sync, events 10\n# device 1: missing\n"
+)
 ZEROS = bytes(2112 * SECTOR)
 # An NBD client that greets and goes, and what it is answered: the greeting, and that it may go.
 NBD_LEAVE = struct.pack(">I", 3) + b"IHAVEOPT" + struct.pack(">II", 2, 0)
@@ -30,14 +35,14 @@ SHORT = bytes(2111 * SECTOR)
 
 class Step:
     """A run of the program: its words, its input, its output (or the head and the tail of it, or a list of some of its lines), its
-    fault, or what it tells on standard error, the images that it changes, and the files that it makes. What it touches are images that
+    status (where it is none of 0 and 1), its fault, or what it tells on standard error, the images that it changes, and the files that it makes. What it touches are images that
     it changes on its way, and leaves as they were where nothing comes between."""
 
-    def __init__(self, words, output="", fault=None, told="", changes="", given=b"", made=None, touches=""):
+    def __init__(self, words, output="", fault=None, told="", changes="", given=b"", made=None, touches="", status=None):
         self.words = words.split()
         self.given = given
         self.output = output
-        self.status = 1 if fault else 0
+        self.status = status or (1 if fault else 0)
         self.errors = ("mdcli: %s\n" % fault if fault else "") + told
         self.changes = changes.split()
         self.touches = touches.split()
@@ -348,6 +353,9 @@ ALONE = "in sync 1 of 2, events 6, marked 1\n"
 AGREE = "mismatched chunks: 0\n"
 DIFFER = "mismatched chunks: 1\n"
 STORED = "mdcli: a: its bitmap did not tell of the array, so all chunks are marked in it now\n"
+# The status of a check that is to say that members differ, where they do.
+DIFFERS = 3
+
 # What a check says of the only member in sync.
 UNCOMPARED = "mdcli: %s: no other member is in sync, so nothing was compared\n"
 # What a read says that was to go on past sectors which no member gives.
@@ -540,11 +548,17 @@ OBJECTS_OF_TWO = ",".join(
     for k, name in enumerate("ab")
 )
 SHORT_OBJECT = '{"report":"assemble","in_sync":2,"raid_devices":2,"events":1,"marked_chunks":0,"members":[%s]}\n' % OBJECTS_OF_TWO
-EQUAL = '{"report":"check","mismatched_chunks":0,"mismatches":[],"members":[%s]}\n' % OBJECTS_OF_TWO
-CHECKED = '{"report":"check","mismatched_chunks":1,"mismatches":[{"sector":8,"sectors":8,"pairs":[[0,1]]}],"members":[%s]}\n' % OBJECTS_OF_TWO
+EQUAL = '{"report":"check","mismatched_chunks":0,"mismatches":[],"members":[%s],"compared_members":[0,1]}\n' % OBJECTS_OF_TWO
+CHECKED = '{"report":"check","mismatched_chunks":1,"mismatches":[{"sector":8,"sectors":8,"pairs":[[0,1]]}],"members":[%s],"compared_members":[0,1]}\n' % OBJECTS_OF_TWO
+
+# Why an array is not opened, where the report was to be an object.
+REFUSED_OBJECT = (
+    '{"fault":"Member 1 Super Magic","text":"mdcli: Member 1 Super Magic","advice":"b: perhaps the member is a partition of this disk, '
+    'or its metadata is 0.90, 1.0 or 1.1, which stand elsewhere"}\n'
+)
 
 # The same with the second image first: a member's index is its place among the images.
-CHECKED_TURNED = CHECKED[: CHECKED.index('"members":')] + '"members":[%s]}\n' % ",".join(
+CHECKED_TURNED = CHECKED[: CHECKED.index('"members":')] + '"members":[%s],"compared_members":[0,1]}\n' % ",".join(
     '{"image":"%s","index":%d,"device_number":%d,"role":%d,"state":"in sync","write_mostly":false}' % (name, index, role, role)
     for index, (name, role) in enumerate((("b", 1), ("a", 0)))
 )
@@ -585,6 +599,7 @@ CASES = [
     ("examine", {"a": VAULT}, [Step("examine a", REPORT)]),
     ("examine, a byte after the roles", {"a": PADDED}, [Step("examine a", REPORT)]),
     ("examine --json", {"a": VAULT}, [Step("examine --json a", OBJECT)]),
+    ("scan", {"a": VAULT, "b": ZEROS}, [Step("scan a b", SCANNED, told="b: Super Magic\n")]),
     ("examine-bitmap", {"a": LOGGED}, [Step("examine-bitmap a", BITMAP_REPORT)]),
     ("examine-bitmap, no bitmap", {"a": WITHOUT_BITMAP}, [Step("examine-bitmap a", fault="NoBitmap")]),
     (
@@ -915,14 +930,20 @@ CASES = [
             Step("check --readonly b a", DIFFER),
             Step("check --list a b", "           8 for 8 sectors, members 0!=1\n" + DIFFER),
             Step("check --json a b", CHECKED),
+            # Only where it is asked for does the status say that they differ.
+            Step("check --exit-code a b", DIFFER, status=DIFFERS),
+            Step("check --readonly --exit-code --list b a", "           8 for 8 sectors, members 0!=1\n" + DIFFER, status=DIFFERS),
+            Step("check --exit-code --json a b", CHECKED, status=DIFFERS),
             Step("assemble --json --readonly a b", SHORT_OBJECT),
-            Step("detail --json --readonly a b", ('{"report":"detail","array_uuid":"', '}]}\n')),
+            Step("detail --json --readonly a b", ('{"report":"detail","array_uuid":"', '}],"missing_roles":[],"used_apart":[],"bad_sectors":[[],[]]}\n')),
             # In a further chunk the member lists the sector that differs as bad.
             Made("b", "b", lambda image: members.with_bad_blocks(members.with_data(image, 43, DATA[:SECTOR]), [(2048 + 43, 1)])),
             Step("check a b", DIFFER),
             Made("b", "b", lambda image: members.with_bad_blocks(image, [(2048 + 8, 1), (2048 + 43, 1)])),
             Step("check a b", AGREE),
             Step("check --list --readonly a b", AGREE),
+            Step("check --exit-code a b", AGREE),
+            Step("check --exit-code --list a b", AGREE),
             Step("check b", AGREE, told=UNNAMED % (0, 0) + UNCOMPARED % "b"),
         ],
     ),
@@ -969,6 +990,7 @@ CASES = [
             Step("check a a", fault="BadImage 1"),
             Step("check --readonly a c", fault="BadImage 1"),
             Step("check", fault="Assemble Empty"),
+            Step("check --exit-code a b", fault="Member 0 Super Magic"),
         ],
     ),
     (
@@ -1160,6 +1182,16 @@ CASES = [
             # A number is a place, also where an image has that name.
             Step("fail --member 0 a 0", fault="Member 1 Super Magic"),
             Step("fail --member 2 a c", fault="BadMember"),
+        ],
+    ),
+    (
+        "a third member is rebuilt, and the plan is not shown",
+        THREE,
+        WITH_A_SPARE
+        + [
+            Step("rebuild --quiet --member 2 a b c", "rebuilt member 2, passes 1, orphans 0\n", changes="a b c"),
+            Step("check a b c", AGREE),
+            Step("rebuild --quiet --member 2 a b c", fault="NotSpare"),
         ],
     ),
     (
@@ -1602,6 +1634,20 @@ AS_JSON = [
             "c": members.with_superblock(rebuilt_up_to(16)(VAULT), set_name=b'a"\\\xe4\x01' + bytes(27), resync_offset=0),
         },
         [SaysTheSame("examine " + name) for name in "abc"],
+    ),
+    (
+        "why a command is refused, as JSON",
+        {"a": VAULT, "b": ZEROS},
+        [
+            Step("detail --json --readonly a b", REFUSED_OBJECT, fault="Member 1 Super Magic"),
+            Step("check --json --exit-code a b", REFUSED_OBJECT, fault="Member 1 Super Magic"),
+            Step("detail --readonly a b", fault="Member 1 Super Magic"),
+            SaysTheSame("assemble a a"),
+            SaysTheSame("plan --member 0 a"),
+            SaysTheSame("plan --member 7 a"),
+            SaysTheSame("check"),
+            SaysTheSame("examine b"),
+        ],
     ),
     (
         "examine --json, refused",

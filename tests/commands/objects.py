@@ -243,9 +243,21 @@ ONE_IMAGE = {"examine": superblock, "examine-bitmap": bitmap, "examine-badblocks
 ARRAY = {"assemble": summary, "detail": detail, "plan": plan, "check": check}
 
 
+def roles_and_apart(found, raid_devices, told):
+    """Of members that were found: the roles in which none is in sync or recovering, and which were used apart, as lines on standard error
+    tell."""
+    taken = [member["role"] for member in found if member["state"] != "stale"]
+    return {
+        "missing_roles": [role for role in range(raid_devices) if role not in taken],
+        "used_apart": [
+            member["index"] for member in found if any(line.startswith("mdcli: %s: was used without " % member["image"]) for line in told)
+        ],
+    }
+
+
 class SaysTheSame:
     """A report as text and as JSON, which says the same: at the same status, with the same on standard error, and no image is
-    changed. It is the object alone in its line, its fields in their order."""
+    changed. It is the object alone in its line, its fields in their order. So is the one that says why it is refused."""
 
     def __init__(self, words):
         # A list where names have white space.
@@ -261,8 +273,14 @@ class SaysTheSame:
         if (status, errors) != (text[0], text[2]):
             return ["with --json it answers %r, and %r without" % ((status, errors), (text[0], text[2]))]
         if status != 0:
-            return ["it wrote %r, and is refused" % output] if output else []
+            return against(output, self.refusal(command, rest, errors, run))
         return against(output, self.wanted(command, text[1], images, run))
+
+    def refusal(self, command, rest, errors, run):
+        """Why it is refused: the line of standard error, and the one that it gets after it, where more is to be said."""
+        line = errors.splitlines()[0]
+        told = run([command, "--json", "--verbose"] + rest)[2].splitlines()
+        return {"fault": line.partition(": ")[2], "text": line, "advice": told[1]}
 
     def wanted(self, command, text, images, run):
         lines = text.splitlines()
@@ -271,7 +289,14 @@ class SaysTheSame:
         if command in ONE_IMAGE:
             return ONE_IMAGE[command](lines)
         wanted = ARRAY[command](lines)
-        wanted["members"] = members(run(["detail", "--readonly"] + images)[1], images)
+        _, shown, told = run(["detail", "--readonly"] + images)
+        found = members(shown, images)
+        wanted["members"] = found
+        if command == "check":
+            wanted["compared_members"] = [member["index"] for member in found if member["state"] == "in sync"]
+        if command == "detail":
+            wanted.update(roles_and_apart(found, wanted["raid_devices"], told.splitlines()))
+            wanted["bad_sectors"] = [runs(run(["examine-badblocks", image])[1].splitlines()) for image in images]
         return wanted
 
 

@@ -114,6 +114,7 @@ ANSWERS = {
     "md_create::create": "create",
     "md_grow::grow": "grow",
     "md_examine_commands::examine_images": "examine-bitmap",
+    "md_examine_commands::look_at_each": "scan",
     "md_notices::held_on_each": "create",
     "md_images::take_images": "assemble",
     "md_images::image_list": "assemble",

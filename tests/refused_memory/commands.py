@@ -5,6 +5,7 @@ or with a refusal and no report, and changes no image but those that it changes 
 
 import collections
 import concurrent.futures
+import json
 import subprocess
 import sys
 import tempfile
@@ -58,6 +59,8 @@ def against_refusal(step, answer, before, after):
     # what it asked before a message for which there is none.
     goes_on = "--fill" in step.words or step.words[0] == "serve"
     is_part = goes_on and isinstance(step.output, str) and step.output.startswith(output)
+    # Where there is memory for it again, an object says why.
+    is_part = is_part or "--json" in step.words and is_object_of(output, errors)
     reasons = [] if status in (1, 2) and (is_part or not output) and errors else ["the answer is %r" % (answer,)]
     # Without memory for a word it is not said that it is none.
     if "UTF-8" in errors:
@@ -71,6 +74,14 @@ def against_refusal(step, answer, before, after):
     # A file that is made has what was written to it before, if it is there.
     other = [name for name in after if name not in before and not step.made.get(name, b"").startswith(after[name])]
     return reasons + ["%s is %r" % (name, after[name]) for name in other]
+
+
+def is_object_of(output, errors):
+    """It is the object of this refusal alone in its line, with the advice or, where there was no memory for that, without."""
+    line = errors.splitlines()[0] if errors else ""
+    head = {"fault": line.partition(": ")[2], "text": line}
+    begun = json.dumps(head, separators=(",", ":"))[:-1] + ',"advice":'
+    return output.startswith(begun) and output.endswith(("\"}\n", "null}\n")) and output.count("\n") == 1
 
 
 def says_less(step, answer, before, after):

@@ -74,6 +74,7 @@ pub(crate) fn give<R: Abort + Threads + Wait + Sync>(
         random_bytes: None,
         missing: None,
         is_all_out: false,
+        mismatched: None,
     };
     let status = runs(&mut session, case.words, images, case.messages, case.says)?;
     holds(rt, "the status", status == case.status);

@@ -5,7 +5,7 @@ use Rattle.clap.specs.Words.{Text}
 use Rattle.md_commands.specs.declared.source.Source.{Ghosts as SourceGhosts}
 use Rattle.md_examine.specs.declared.sink.Sink.{Ghosts as SinkGhosts}
 use Rattle.md_images.specs.declared.images.Images.{Ghosts as ImagesGhosts}
-use Rattle.md_words.specs.Asks.{Ask, opens_array, examines, examines_bitmap, examines_badblocks, creates, grows}
+use Rattle.md_words.specs.Asks.{Ask, opens_array, examines, examines_bitmap, examines_badblocks, scans, creates, grows}
 use Rattle.md_commands.specs.declared.fault.CommandFault.{CommandFault}
 use Rattle.md_messages.specs.declared.asker.Asker.{Ghosts as AskerGhosts}
 use Rattle.md_cli.specs.Running.{Obeys, OpensArray}
@@ -16,6 +16,7 @@ module _ {I D R S A : Type 0} (i : ImagesGhosts I D) (g : DeviceGhosts D) (r : S
   does_by (examines form) e h = absurd (true≢false (sym e))
   does_by (examines_bitmap form) e h = absurd (true≢false (sym e))
   does_by (examines_badblocks form) e h = absurd (true≢false (sym e))
+  does_by (scans json) e h = absurd (true≢false (sym e))
   does_by (creates o) e h = absurd (true≢false (sym e))
   does_by (grows bitmap kib) e h = absurd (true≢false (sym e))
   does_by _ e h = h

@@ -13,12 +13,13 @@ use Rattle.md_read_commands.proofs.ReadCounts.{done_read, done_readonly, fills_a
 use Rattle.md_serve_commands.proofs.ServeCounts.{serves_as_many}
 use Rattle.md_commands.specs.declared.source.Source.{Ghosts as SourceGhosts}
 use Rattle.md_commands.specs.Adding.{KeepsDevice}
+use Rattle.md_commands.specs.Rebuilding.{rebuilt_shown}
 use Rattle.md_commands.specs.Removing.{HandsBack}
 use Rattle.md_examine.specs.declared.sink.Sink.{Ghosts as SinkGhosts}
 use Rattle.md_state.specs.View.{Disk, disk_of}
 use Rattle.md_images.specs.Taking.{Text}
 use Rattle.md_words.specs.declared.form.CheckForm.TheVariants as check_form
-use Rattle.md_words.specs.Asks.{Ask, device_to_add, leaving_of, examines, examines_bitmap, examines_badblocks, creates, grows, assembles, details, plans, reads, serves, serves_writable, checks, writes, resyncs, stops, fails, removes, adds, re_adds, rebuilds}
+use Rattle.md_words.specs.Asks.{Ask, device_to_add, leaving_of, examines, examines_bitmap, examines_badblocks, scans, creates, grows, assembles, details, plans, reads, serves, serves_writable, checks, writes, resyncs, stops, fails, removes, adds, re_adds, rebuilds}
 use Rattle.md_commands.specs.declared.fault.CommandFault.{CommandFault}
 use Rattle.md_messages.specs.Question.{Question}
 use Rattle.md_messages.specs.declared.notices.Notices.{Notices}
@@ -68,6 +69,7 @@ module _ {R S A : Type 0} (r : SourceGhosts R) (s : SinkGhosts S) (names : List 
   all_kept (examines form) result brings h = absurd h
   all_kept (examines_bitmap form) result brings h = absurd h
   all_kept (examines_badblocks form) result brings h = absurd h
+  all_kept (scans json) result brings h = absurd h
   all_kept (creates o) result brings h = absurd h
   all_kept (grows bitmap kib) result brings h = absurd h
   all_kept (assembles json readonly) result brings h = kept _ before after brings (ap (λ (o : OpenedView). o.beside) h.0) (ap (λ (o : OpenedView). length o.mirror.disks) h.0)
@@ -86,14 +88,14 @@ module _ {R S A : Type 0} (r : SourceGhosts R) (s : SinkGhosts S) (names : List 
   all_kept (serves fill) result brings h = kept _ before after brings h.0 h.1.rests.disks.same.as_many
   all_kept serves_writable result brings h =
       kept _ before after brings h.0 (serves_as_many r s before.mirror after.mirror old.input new.input old.output new.output result h.1)
-  all_kept (checks check_form.List readonly) (Ok v) brings h = kept _ before after brings h.0 (done_list s before.mirror after.mirror old.output new.output _ h.2)
-  all_kept (checks check_form.List readonly) (Err f) brings h =
+  all_kept (checks check_form.List exit_code readonly) (Ok v) brings h = kept _ before after brings h.0 (done_list s before.mirror after.mirror old.output new.output _ h.2.count h.2.shows)
+  all_kept (checks check_form.List exit_code readonly) (Err f) brings h =
       kept _ before after brings h.0 (lists_as_many s before.mirror after.mirror old.output new.output f h.2)
-  all_kept (checks check_form.Json readonly) (Ok v) brings h = kept _ before after brings h.0 (done_list s before.mirror after.mirror old.output new.output _ h.2)
-  all_kept (checks check_form.Json readonly) (Err f) brings h =
+  all_kept (checks check_form.Json exit_code readonly) (Ok v) brings h = kept _ before after brings h.0 (done_list s before.mirror after.mirror old.output new.output _ h.2.count h.2.shows)
+  all_kept (checks check_form.Json exit_code readonly) (Err f) brings h =
       kept _ before after brings h.0 (lists_as_many s before.mirror after.mirror old.output new.output f h.2)
-  all_kept (checks check_form.Count readonly) (Ok v) brings h = kept _ before after brings h.0 (done_check s before.mirror after.mirror old.output new.output h.2)
-  all_kept (checks check_form.Count readonly) (Err f) brings h =
+  all_kept (checks check_form.Count exit_code readonly) (Ok v) brings h = kept _ before after brings h.0 (done_check s before.mirror after.mirror old.output new.output h.2.count h.2.shows)
+  all_kept (checks check_form.Count exit_code readonly) (Err f) brings h =
       kept _ before after brings h.0 (checks_as_many s before.mirror after.mirror old.output new.output f h.2)
   all_kept (writes sector) (Ok v) brings h = kept _ before after brings h.0 (done_write sector h.1.bytes before.mirror after.mirror h.1.done)
   all_kept (writes sector) (Err f) brings h =
@@ -107,8 +109,8 @@ module _ {R S A : Type 0} (r : SourceGhosts R) (s : SinkGhosts S) (names : List 
   all_kept (fails k) (Ok v) brings h = kept _ before after brings h.0 (done_fail s k before.mirror after.mirror old.output new.output h.2)
   all_kept (fails k) (Err f) brings h =
       kept _ before after brings h.0 (fails_as_many s k before.mirror after.mirror old.output new.output f h.2)
-  all_kept (rebuilds k) (Ok v) brings h = kept _ before after brings h.0 (done_rebuild s k before.mirror after.mirror old.output new.output h.2)
-  all_kept (rebuilds k) (Err f) brings h =
+  all_kept (rebuilds k quiet) (Ok v) brings h = kept _ before after brings h.0 (done_rebuild s k before.mirror after.mirror old.output new.output (rebuilt_shown quiet k) h.2)
+  all_kept (rebuilds k quiet) (Err f) brings h =
       kept _ before after brings h.0 (rebuilds_as_many s k before.mirror after.mirror old.output new.output f h.2)
   all_kept (removes k) result brings h = record {
     as_many = left_place k before.mirror.disks after.mirror.disks after.beside h.1.handed_back
@@ -133,6 +135,7 @@ module _ {R S A : Type 0} (r : SourceGhosts R) (s : SinkGhosts S) (names : List 
   performs_asked (examines form) h = h
   performs_asked (examines_bitmap form) h = h
   performs_asked (examines_badblocks form) h = h
+  performs_asked (scans json) h = h
   performs_asked (creates o) h = h
   performs_asked (grows bitmap kib) h = h
   performs_asked (assembles json readonly) h = h
@@ -142,7 +145,7 @@ module _ {R S A : Type 0} (r : SourceGhosts R) (s : SinkGhosts S) (names : List 
   performs_asked (reads sector count false readonly) h = h
   performs_asked (serves fill) h = (h.0, record { missing = h.1.missing; serves = h.1.serves; rests = h.1.rests; noted = h.1.noted })
   performs_asked serves_writable h = h
-  performs_asked (checks form readonly) h = h
+  performs_asked (checks form exit_code readonly) h = h
   performs_asked (writes sector) h = h
   performs_asked resyncs h = h
   performs_asked stops h = h
@@ -150,7 +153,7 @@ module _ {R S A : Type 0} (r : SourceGhosts R) (s : SinkGhosts S) (names : List 
   performs_asked (removes k) h = h
   performs_asked (adds name) h = h
   performs_asked (re_adds name full) h = h
-  performs_asked (rebuilds k) h = h
+  performs_asked (rebuilds k quiet) h = h
 
 -- one that is to join comes last
 pub joins_last : (ask : Ask) → is_some (device_to_add ask) ≡ true → leaving_of ask ≡ None

@@ -3,7 +3,7 @@ use Rattle.std.specs.Prelude.{◌≡◌, ◌⊎◌, false, List, Result, Ok, Err
 use Rattle.clap.specs.Words.{Text}
 use Rattle.md_commands.specs.declared.source.Source.{Ghosts as SourceGhosts}
 use Rattle.md_examine.specs.declared.sink.Sink.{Ghosts as SinkGhosts}
-use Rattle.md_words.specs.Asks.{Ask, fills}
+use Rattle.md_words.specs.Asks.{Ask, compares, fills}
 use Rattle.md_commands.specs.declared.fault.CommandFault.{CommandFault}
 use Rattle.md_messages.specs.Question.{Question}
 use Rattle.md_messages.specs.declared.notices.Notices.{Notices}
@@ -29,6 +29,8 @@ module _ {R S A : Type 0} (r : SourceGhosts R) (s : SinkGhosts S) (q : Question 
     pub performs : Performs r s names ask before after old new result
     -- no other command notes for which sectors zeros were put out
     pub noted : fills ask ≡ false → new.missing ≡ old.missing
+    -- nor in how many chunks members differ
+    pub counted : compares ask ≡ false → new.mismatched ≡ old.mismatched
 
   abbrev pub PerformsOrDeclines : OpenedView → OpenedView → Streams R S A → Streams R S A
       → Result (Unit {0}) CommandFault → Type 0

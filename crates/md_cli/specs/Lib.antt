@@ -12,8 +12,12 @@ pub mod Growing
 pub mod Opened
 -- What commands do with an opened array.
 pub mod Performing
+-- Why a command is refused, as a JSON object.
+pub mod Refusing
 -- What one run gives.
 pub mod Running
+-- What is shown and told of the arrays of which images are members.
+pub mod Scanning
 -- The UUID of an array that `create` makes.
 pub mod SetUuid
 -- The input and the output of a run.

@@ -1,5 +1,5 @@
 -- What commands do with an opened array.
-use Rattle.std.specs.Prelude.{◌≡◌, ◌-◌, ℕ, Bool, true, false, List, Option, Some, None, Result, MatchResult, if◌then◌else◌}
+use Rattle.std.specs.Prelude.{◌≡◌, ◌-◌, ℕ, Bool, true, false, List, Option, Some, None, Result, Ok, Err, MatchResult, if◌then◌else◌}
 use Rattle.md_metadata.specs.declared.coming_back.extent_of_rebuild.RebuildExtent.{RebuildExtent}
 use Rattle.md_metadata.specs.declared.coming_back.extent_of_rebuild.RebuildExtent.TheVariants.{All, Marked}
 use Rattle.md_commands.specs.declared.source.Source.{Ghosts as SourceGhosts}
@@ -10,7 +10,7 @@ use Rattle.md_commands.specs.Objects.{checked_line, detail_shown, plan_shown, su
 use Rattle.md_commands.specs.Output.{ShowsText}
 use Rattle.md_commands.specs.Planning.{RefusesToPlan, ShowsPlan}
 use Rattle.md_commands.specs.ReAdding.{ReAddsDevice, RefusesToReAdd}
-use Rattle.md_commands.specs.Rebuilding.{RebuildsArray, RefusesToRebuild}
+use Rattle.md_commands.specs.Rebuilding.{RebuildsArray, RefusesToRebuild, rebuilt_shown}
 use Rattle.md_commands.specs.Removing.{HandsBack, RefusesToRemove, RemovesMember}
 use Rattle.md_commands.specs.Resyncing.{RefusesToResync, ResyncsArray}
 use Rattle.md_commands.specs.Stopping.{RefusesToStop, StopsArray, StopsArrayAfter}
@@ -65,21 +65,37 @@ module _ {S : Type 0} (s : SinkGhosts S) where
       ReadsFilled s readonly sector count before.mirror after.mirror old.output new.output new.missing result
       × (new.all_out ≡ has_put_all result)
 
-  -- The members in sync are compared, and in how many chunks two differ is put out, or which these are.
+  -- The members in sync are compared, and in how many chunks two differ is put out, or which these are. The answer is how many.
   abbrev pub ShowsMismatches : CheckForm → List Text → OpenedView → OpenedView → S → S
-      → Result (Unit {0}) CommandFault → Type 0
+      → Result ℕ CommandFault → Type 0
   ShowsMismatches check_form.Count names before after old new result =
       MatchResult result
-      (λ _. ChecksMembers s before.mirror after.mirror old new)
+      (λ count. ChecksMembers s count before.mirror after.mirror old new)
       (RefusesToCheck s before.mirror after.mirror old new)
   ShowsMismatches check_form.List names before after old new result =
       MatchResult result
-      (λ _. ListsMismatches s (list_text before.mirror.array.chunks) before.mirror after.mirror old new)
+      (λ count. ListsMismatches s (list_text before.mirror.array.chunks) count before.mirror after.mirror
+      old new)
       (RefusesToList s before.mirror after.mirror old new)
   ShowsMismatches check_form.Json names before after old new result =
       MatchResult result
-      (λ _. ListsMismatches s (checked_line before.mirror.array names) before.mirror after.mirror old new)
+      (λ count. ListsMismatches s (checked_line before.mirror.array names) count before.mirror after.mirror
+      old new)
       (RefusesToList s before.mirror after.mirror old new)
+
+  -- This is done, and how many chunks these are is noted.
+  pub record CountsMismatches (form : CheckForm) (names : List Text) (before after : OpenedView) (old new : S)
+      (mismatched : Option ℕ) : Type 0 where
+    pub count : ℕ
+    pub shows : ShowsMismatches form names before after old new (Ok count)
+    pub noted : mismatched ≡ Some count
+
+  abbrev pub PerformsCheck : CheckForm → List Text → OpenedView → OpenedView → S → S → Option ℕ
+      → Result (Unit {0}) CommandFault → Type 0
+  PerformsCheck form names before after old new mismatched result =
+      MatchResult result
+      (λ _. CountsMismatches form names before after old new mismatched)
+      (λ fault. ShowsMismatches form names before after old new (Err fault))
 
   -- Member k leaves, and then the array is stopped and shown. Its device stands beside the array then.
   pub record PerformsRemove (k : ℕ) (before after : OpenedView) (old new : S)
@@ -145,9 +161,9 @@ module _ {R S A : Type 0} (r : SourceGhosts R) (s : SinkGhosts S) (names : List 
   Performs serves_writable before after old new result =
       (after.beside ≡ before.beside)
       × ServesWritable r s before.mirror after.mirror old.input new.input old.output new.output result
-  Performs (checks form readonly) before after old new result =
+  Performs (checks form exit_code readonly) before after old new result =
       (after.beside ≡ before.beside) × (new.input ≡ old.input)
-      × ShowsMismatches s form names before after old.output new.output result
+      × PerformsCheck s form names before after old.output new.output new.mismatched result
   Performs (writes sector) before after old new result =
       (after.beside ≡ before.beside)
       × MatchResult result
@@ -175,10 +191,10 @@ module _ {R S A : Type 0} (r : SourceGhosts R) (s : SinkGhosts S) (names : List 
   Performs (re_adds name full) before after old new result =
       (new.input ≡ old.input)
       × PerformsReAdd s (rebuild_extent full) before after old.output new.output result
-  Performs (rebuilds k) before after old new result =
+  Performs (rebuilds k quiet) before after old new result =
       (after.beside ≡ before.beside) × (new.input ≡ old.input)
       × MatchResult result
-      (λ _. RebuildsArray s k before.mirror after.mirror old.output new.output)
+      (λ _. RebuildsArray s k before.mirror after.mirror old.output new.output (rebuilt_shown quiet k))
       (RefusesToRebuild s k before.mirror after.mirror old.output new.output)
   -- the others open no array
   Performs _ before after old new result = ⊥

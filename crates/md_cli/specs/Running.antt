@@ -1,6 +1,6 @@
 -- What one run gives.
 use Rattle.md_device.specs.declared.device.Device.{Ghosts as DeviceGhosts}
-use Rattle.std.specs.Prelude.{◌≡◌, ◌≢◌, ◌⊎◌, ℕ, true, false, List, [], ◌∷◌, length, Option, Some, None, Result, Ok, Err}
+use Rattle.std.specs.Prelude.{◌≡◌, ◌≢◌, ◌⊎◌, ◌&&◌, ℕ, Bool, true, false, nat_lt, if◌then◌else◌, List, [], ◌∷◌, length, map, Option, Some, None, Result, Ok, Err}
 use Rattle.clap.specs.Words.{Text}
 use Rattle.md_images.specs.declared.access.Access.TheVariants.{Change}
 use Rattle.md_images.specs.declared.images.Images.{Ghosts as ImagesGhosts}
@@ -8,10 +8,12 @@ use Rattle.md_create.specs.declared.params.CreateParams.{CreateParams}
 use Rattle.md_commands.specs.declared.fault.CommandFault.{CommandFault}
 use Rattle.md_commands.specs.declared.fault.CommandFault.TheVariants as fault
 use Rattle.md_commands.specs.declared.option_fault.OptionFault.{OptionFault}
-use Rattle.md_words.specs.Asks.{Ask, Options, access_of, creates, grows, examines, examines_badblocks, examines_bitmap, is_readonly}
+use Rattle.md_words.specs.Asks.{Ask, Options, access_of, creates, grows, examines, examines_badblocks, examines_bitmap, is_json, is_readonly, scans, tells_by_status}
 use Rattle.md_commands.specs.declared.source.Source.{Ghosts as SourceGhosts}
 use Rattle.md_examine.specs.declared.sink.Sink.{Ghosts as SinkGhosts}
 use Rattle.md_examine_commands.specs.Examining.{ExaminesOne}
+use Rattle.md_examine_commands.specs.EachImage.{Name}
+use Rattle.md_messages.specs.declared.messages.Messages.{Messages}
 use Rattle.md_messages.specs.Noticed.{nothing}
 use Rattle.md_messages.specs.Question.{question}
 use Rattle.md_messages.specs.declared.asker.Asker.{Ghosts as AskerGhosts}
@@ -20,13 +22,20 @@ use Rattle.md_cli.specs.Arrays.{KeepsImages, UsesImages, WorksOn, names_with}
 use Rattle.md_cli.specs.CreateOptions.{AreParamsOf, create_option_fault}
 use Rattle.md_cli.specs.Creating.{CreatesOn}
 use Rattle.md_cli.specs.Growing.{GrowsArray}
+use Rattle.md_cli.specs.Refusing.{ShowsIfRefused}
+use Rattle.md_cli.specs.Scanning.{ScansImages}
 use Rattle.md_cli.specs.Streams.{OnlyPutsOut, Streams, Told}
 use Rattle.md_images.specs.Taking.{image_list}
 
--- the status of a command: done, or refused
-abbrev pub status_of : Result (Unit {0}) CommandFault → ℕ
-status_of (Ok _) = 0
-status_of (Err _) = 1
+-- whether members were found to differ in some chunk
+abbrev pub differs : Option ℕ → Bool
+differs None = false
+differs (Some count) = nat_lt 0 count
+
+-- The status of a command: done, or refused. Where it is to say that members differ, it is 3 if it is done and they do.
+abbrev pub status_of : Bool → Option ℕ → Result (Unit {0}) CommandFault → ℕ
+status_of tells mismatched (Ok _) = if tells && differs mismatched then 3 else 0
+status_of tells mismatched (Err _) = 1
 
 -- nothing is done: no image is touched, nothing is read from the input, and nothing is written to the output
 abbrev pub DoesNothing : {I X : Type 0} → I → I → X → X → Type 0
@@ -96,14 +105,30 @@ module _ {I D R S A : Type 0} (i : ImagesGhosts I D) (g : DeviceGhosts D) (r : S
   Obeys (grows bitmap kib) words before after old new result =
       OnlyPutsOut old new
       × GrowsArray i g s bitmap kib words before after old.streams.output new.streams.output result
+  Obeys (scans json) words before after old new result = ⊥
   Obeys ask words before after old new result = OpensArray i g r s asker ask words before after old new result
 
-  -- the command's own answer, whose status this is, and what it noticed, which is told beside it
+  -- The command's own answer, whose status this is, and the output as it left it; where it is refused and its report was to be a
+  -- JSON object, an object that says why comes after that. And what it noticed, which is told beside it.
   pub record DoesCommand (telling : Result (Unit {0}) CommandFault → Notices → Type 0) (ask : Ask)
       (words : List Text) (before after : I) (old new : Streams R S A) (status : ℕ) : Type 0 where
     pub result : Result (Unit {0}) CommandFault
-    pub status_is : status ≡ status_of result
+    pub status_is : status ≡ status_of (tells_by_status ask) new.mismatched result
     pub noticed : Notices
+    pub left : S
     pub does : Obeys ask words before after (record { streams = old; notices = nothing })
-        (record { streams = new; notices = noticed }) result
+        (record { streams = record new { output = left }; notices = noticed }) result
+    pub shown : ShowsIfRefused s (is_json ask) left new.output result
     pub told : telling result noticed
+
+-- Images that are named are looked at, and it is shown of which arrays they are members. Nothing but the output and standard error is
+-- another.
+pub record DoesScan {I D S E R A : Type 0} (i : ImagesGhosts I D) (g : DeviceGhosts D) (s : SinkGhosts S)
+    (e : SinkGhosts E) (json : Bool) (messages : Messages) (words : List Text) (before after : I)
+    (old new : Streams R S A) (was now : E) (status : ℕ) : Type 0 where
+  pub names : List Name
+  pub named : map (λ n. n.now) names ≡ words
+  pub scans : ScansImages i g s e (record { json = json; is_named = true; messages = messages }) names before
+      after old.output new.output was now status
+  pub looked : i.known before ≡ true → (name : Text) → i.asked after name ≡ i.asked before name
+  pub only : new ≡ record old { output = new.output }

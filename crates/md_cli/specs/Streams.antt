@@ -1,5 +1,5 @@
 -- The input and the output of a run, who is asked, and what it noticed.
-use Rattle.std.specs.Prelude.{◌≡◌, Bool, List, Option}
+use Rattle.std.specs.Prelude.{◌≡◌, ℕ, Bool, List, Option}
 use Rattle.md_badblocks.specs.declared.run.Run.{Run}
 use Rattle.md_messages.specs.declared.asker.Asker.{Ghosts as AskerGhosts}
 use Rattle.md_messages.specs.declared.messages.Audience.{Audience}
@@ -11,6 +11,7 @@ pub record Streams (R S A : Type 0) : Type 0 where
   pub input : R
   pub output : S
   pub missing : Option (List Run)  -- the sectors for which zeros were put out
+  pub mismatched : Option ℕ  -- in how many chunks a check found members to differ
   pub asker : A  -- who is asked, and was
   pub all_out : Bool  -- whether all sectors of a read that was to put out zeros are put out
 
@@ -19,6 +20,7 @@ streams_of session = record {
   input = session.input;
   output = session.out;
   missing = session.missing;
+  mismatched = session.mismatched;
   asker = session.asker;
   all_out = session.is_all_out;
 }

@@ -3,7 +3,8 @@
 //! Start with `run` (`src/running.rt`), and what it gives, `Obeys` in `specs/Running.antt`. A command on an array goes one
 //! way: its images are taken (`src/arrays.rt`), their devices are opened as a mirror (`src/devices.rt`), and the command is
 //! done with it (`src/performing.rt`). `create` makes an array of images (`src/creating.rt`). The commands on one image are
-//! in `md_examine_commands`, what is told and asked in `md_messages`.
+//! in `md_examine_commands`, what is told and asked in `md_messages`. `scan` tells of which arrays images are members
+//! (`src/scanning.rt`).
 //!
 //! ```
 //! let words = ["mdcli", "detail", "sda.img", "sdb.img"];
@@ -22,12 +23,16 @@ mod lay_out_each;
 mod opened;
 mod performing;
 mod read_watch;
+mod refusing;
 mod running;
+mod scanning;
 mod session;
 mod set_uuid;
 mod show_devices;
 mod sizing;
 
 pub use read_watch::ReadWatch;
+pub use refusing::show_why;
 pub use running::run;
+pub use scanning::{ScanOptions, scan};
 pub use session::Session;

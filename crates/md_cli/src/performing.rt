@@ -1,14 +1,14 @@
 // What commands do with an opened array.
 ghost use Rattle.std.specs.Prelude.{◌≡◌, IfOk, MatchResult, false, is_some, true};
 ghost use Rattle.md_array.specs.Consistency.{IsConsistent};
-ghost use Rattle.md_words.specs.Asks.{ask_of, device_to_add, fills, opens_array};
+ghost use Rattle.md_words.specs.Asks.{ask_of, compares, device_to_add, fills, opens_array};
 ghost use Rattle.md_commands.specs.Objects.{detail_shown, plan_shown, summary_shown};
 ghost use Rattle.md_commands.specs.Output.{ShowsText};
 ghost use Rattle.md_commands.specs.Planning.{RefusesToPlan, ShowsPlan};
 ghost use Rattle.md_read_commands.specs.Filling.{ReadsFilled, has_put_all};
 ghost use Rattle.md_messages.specs.Telling.{texts};
 ghost use Rattle.md_cli.specs.Opened.{opened_view};
-ghost use Rattle.md_cli.specs.Performing.{PerformsAdd, Performs, PerformsReAdd, PerformsRead, PerformsRemove, PerformsServe, ShowsMismatches, ShowsSectors, sectors_asked};
+ghost use Rattle.md_cli.specs.Performing.{PerformsAdd, PerformsCheck, Performs, PerformsReAdd, PerformsRead, PerformsRemove, PerformsServe, ShowsMismatches, ShowsSectors, sectors_asked};
 ghost use Rattle.md_cli.specs.Streams.{streams_of};
 
 use crate::opened::Opened;
@@ -54,6 +54,8 @@ pub(crate) fn perform<
         (opened_view D.Device opened.old) (opened_view D.Device opened.new)
         (streams_of session.old) (streams_of session.new) result }
     ensures noted { fills (ask_of command.entry) ≡ false → session.new.missing ≡ session.old.missing }
+    ensures counted { compares (ask_of command.entry) ≡ false
+        → session.new.mismatched ≡ session.old.mismatched }
     ensures unasked { session.new.asker ≡ session.old.asker }
     ensures flushed { IfOk result (λ _. S.is_flushed session.new.out) }
 {
@@ -62,6 +64,7 @@ pub(crate) fn perform<
         Command::Examine { .. }
         | Command::ExamineBitmap { .. }
         | Command::ExamineBadblocks { .. }
+        | Command::Scan { .. }
         | Command::Create(_)
         | Command::Grow { .. } => unreachable!(),
         Command::Assemble { json, .. } => {
@@ -82,9 +85,7 @@ pub(crate) fn perform<
             let input = &mut session.input;
             serve_writable(alloc, &mut opened.mirror, input, &mut session.out)
         }
-        Command::Check { form, .. } => {
-            check(rt, alloc, opened, form, watch, names, &mut session.out)
-        }
+        Command::Check { form, .. } => check(session, opened, form, names),
         Command::Write { sector } => {
             let input = &mut session.input;
             Ok(write_array(alloc, &mut opened.mirror, sector, input, &mut session.out)?)
@@ -104,9 +105,9 @@ pub(crate) fn perform<
             let out = &mut session.out;
             re_add(rt, alloc, opened, RebuildExtent::Marked, watch, out)
         }
-        Command::Rebuild { member } => {
-            let out = &mut session.out;
-            Ok(rebuild_member(rt, alloc, &mut opened.mirror, member, watch, out)?)
+        Command::Rebuild { member, quiet } => {
+            let (mirror, out) = (&mut opened.mirror, &mut session.out);
+            Ok(rebuild_member(rt, alloc, mirror, member, quiet, watch, out)?)
         }
     }
 }
@@ -196,6 +197,7 @@ fn read_sectors<D: Device + Drop, T, R: Source + Drop, S: Sink + Drop, W: ReadWa
     ensures told { W.reads session.old.watch.now
         (sectors_asked (opened_view D.Device opened.old).mirror.array sector count) }
     ensures noted { fill ≡ false → session.new.missing ≡ session.old.missing }
+    ensures counted { session.new.mismatched ≡ session.old.mismatched }
     ensures unasked { session.new.asker ≡ session.old.asker }
     ensures flushed { IfOk result (λ _. S.is_flushed session.new.out) }
 {
@@ -245,6 +247,7 @@ fn read_filled<D: Device + Drop, T, R: Source + Drop, S: Sink + Drop, W, A: Drop
     ensures reads { ReadsFilled S.Sink readonly sector count opened.old.mirror opened.new.mirror
         session.old.out session.new.out session.new.missing result }
     ensures all_out { session.new.is_all_out ≡ has_put_all result }
+    ensures counted { session.new.mismatched ≡ session.old.mismatched }
     ensures unasked { session.new.asker ≡ session.old.asker }
     ensures flushed { IfOk result (λ _. S.is_flushed session.new.out) }
 {
@@ -268,6 +271,7 @@ fn serve<D: Device + Drop, T, R: Source + Drop, S: Sink + Drop, W, A: Drop>(
         (opened_view D.Device opened.old) (opened_view D.Device opened.new)
         (streams_of session.old) (streams_of session.new) result }
     ensures noted { fill ≡ false → session.new.missing ≡ session.old.missing }
+    ensures counted { session.new.mismatched ≡ session.old.mismatched }
     ensures unasked { session.new.asker ≡ session.old.asker }
     ensures flushed { IfOk result (λ _. S.is_flushed session.new.out) }
 {
@@ -280,8 +284,39 @@ fn serve<D: Device + Drop, T, R: Source + Drop, S: Sink + Drop, W, A: Drop>(
     Ok(served?)
 }
 
+// Compares the members in sync, and puts out in how many chunks two differ, or which these are. How many is noted.
+fn check<
+    D: Device + Drop + Send,
+    T: Threads + Sync,
+    R: Source + Drop,
+    S: Sink + Drop,
+    W: ReadWatch + Sync,
+    A: Drop,
+>(
+    session: &mut Session<'_, T, R, S, W, A>,
+    opened: &mut Opened<D>,
+    form: CheckForm,
+    names: &[&str],
+) -> Result<(), CommandFault>
+    requires sound { IsConsistent opened.old.mirror }
+    ensures kept { (opened_view D.Device opened.new).beside ≡ (opened_view D.Device opened.old).beside }
+    ensures input { session.new.input ≡ session.old.input }
+    ensures checks { PerformsCheck S.Sink form (texts names.now)
+        (opened_view D.Device opened.old) (opened_view D.Device opened.new)
+        session.old.out session.new.out session.new.mismatched result }
+    ensures noted { session.new.missing ≡ session.old.missing }
+    ensures unasked { session.new.asker ≡ session.old.asker }
+    ensures flushed { IfOk result (λ _. S.is_flushed session.new.out) }
+{
+    let (rt, alloc, watch) = (session.rt, session.alloc, session.watch);
+    let out = &mut session.out;
+    let mismatched = compare(rt, alloc, opened, form, watch, names, out)?;
+    session.mismatched = Some(mismatched);
+    Ok(())
+}
+
 // Compares the members in sync, and puts out in how many chunks two differ, or which these are.
-fn check<D: Device + Drop + Send, T: Threads + Sync, W: Watch + Sync, S: Sink>(
+fn compare<D: Device + Drop + Send, T: Threads + Sync, W: Watch + Sync, S: Sink>(
     rt: &T,
     alloc: Global,
     opened: &mut Opened<D>,
@@ -289,7 +324,7 @@ fn check<D: Device + Drop + Send, T: Threads + Sync, W: Watch + Sync, S: Sink>(
     watch: &W,
     names: &[&str],
     out: &mut S,
-) -> Result<(), CommandFault>
+) -> Result<u32, CommandFault>
     requires sound { IsConsistent opened.old.mirror }
     ensures kept { (opened_view D.Device opened.new).beside ≡ (opened_view D.Device opened.old).beside }
     ensures shows { ShowsMismatches S.Sink form (texts names.now)

@@ -1,10 +1,10 @@
 // One command.
-ghost use Rattle.std.specs.Prelude.{◌≡◌, ◌≢◌, ◌⊎◌, [], IfOk, false, is_err, true};
+ghost use Rattle.std.specs.Prelude.{◌≡◌, ◌≢◌, ◌⊎◌, Bool, [], IfOk, None, Some, false, is_err, true};
 ghost use Rattle.clap.specs.Words.{FailsBy};
 ghost use Rattle.md_words.specs.Parsing.{asked, image_words, words_fault};
-ghost use Rattle.md_words.specs.Asks.{ask_of, options_of};
+ghost use Rattle.md_words.specs.Asks.{ask_of, options_of, scan_form, tells_by_status};
 ghost use Rattle.md_messages.specs.Telling.{PutsTold, TellsNoticed, TellsRefusal, has_advice, refused_text, texts};
-ghost use Rattle.md_cli.specs.Running.{Obeys, DoesCommand, DoesNothing, MakesArray, status_of};
+ghost use Rattle.md_cli.specs.Running.{Obeys, DoesCommand, DoesNothing, DoesScan, MakesArray, differs, status_of};
 ghost use Rattle.md_cli.specs.Streams.{audience_of, streams_of, told_of};
 
 use crate::arrays::with_array;
@@ -12,6 +12,8 @@ use crate::create_options::params_of;
 use crate::creating::create_images;
 use crate::growing::grow_array;
 use crate::read_watch::ReadWatch;
+use crate::refusing::show_if_refused;
+use crate::scanning::{ScanOptions, scan};
 use crate::session::Session;
 use clap::Error;
 use md_badblocks::BadSet;
@@ -29,8 +31,16 @@ use std::io::Write;
 use std::sync::Wait;
 use std::thread::Threads;
 
+// The status of a command that is done, of one that was to say that members differ, where they do, and of one that is refused.
+pub(crate) const DONE: u8 = 0;
+
+const DIFFERS: u8 = 3;
+
+pub(crate) const REFUSED: u8 = 1;
+
 /// Does what the words ask for, of which `parsed` is the parse; the first is the program's name. The status is 0 where it
-/// is done, 1 where it is refused and 2 where the words are not taken, or ask for help.
+/// is done, 1 where it is refused and 2 where the words are not taken, or ask for help. A check that was to say so by its
+/// status has 3 where members differ.
 ///
 /// Out of memory in the parse is status 2 too, and no other cause is one where the words are taken. That a parse of such words
 /// fails only then is tested, since no clause can tell whether memory was there.
@@ -41,7 +51,13 @@ use std::thread::Threads;
 /// beside it. Where one can't be written, nothing else changes. Of a refused one it is told last, where there is advice, of
 /// whose words no clause speaks. The fault's line is `refusal_line` (`FaultText/Commands.antt` there).
 ///
+/// Where a command is refused whose report was to be a JSON object, the output gets a line for it: an object that says why
+/// (`specs/Refusing.antt`). Only where there is no memory for that, it does not.
+///
 /// The session's random bytes are used by `create` alone, where its words name no UUID.
+///
+/// By `scan` the images are looked at one after another, and `err` gets a line for each that shows no member: what it shows is
+/// `ScansImages` (`specs/Scanning.antt`).
 ///
 /// The session's watch is told of a rebuild, by `rebuild` and `re-add`, and of a check, whose workers its `rt` starts. It is
 /// asked before a command overwrites what perhaps should stay; where the answer is not yes the command is refused.
@@ -67,7 +83,8 @@ pub fn run<
     requires fails { FailsBy (words_fault (texts words.now)) parsed }
     ensures refused { words_fault (texts words.entry.now) ≢ [] →
         (result ≡ 2) × DoesNothing images.old images.new (streams_of session.old) (streams_of session.new) }
-    ensures taken { words_fault (texts words.entry.now) ≡ [] →
+    ensures taken { words_fault (texts words.entry.now) ≡ []
+        → scan_form (asked (texts words.entry.now)) ≡ None →
         ((is_err parsed.entry ≡ true) × (result ≡ 2)
         × DoesNothing images.old images.new (streams_of session.old) (streams_of session.new))
         ⊎ DoesCommand I.Images I.Dev.Device R.Source S.Sink A.Asker session.old.random_bytes
@@ -75,7 +92,14 @@ pub fn run<
         (image_words (texts words.entry.now)) (streams_of session.new).missing err.old err.new)
         (asked (texts words.entry.now)) (image_words (texts words.entry.now))
         images.old images.new (streams_of session.old) (streams_of session.new) result }
+    ensures scans { words_fault (texts words.entry.now) ≡ [] → (json : Bool)
+        → scan_form (asked (texts words.entry.now)) ≡ Some json →
+        ((is_err parsed.entry ≡ true) × (result ≡ 2)
+        × DoesNothing images.old images.new (streams_of session.old) (streams_of session.new))
+        ⊎ DoesScan I.Images I.Dev.Device S.Sink E.Sink json messages (image_words (texts words.entry.now))
+        images.old images.new (streams_of session.old) (streams_of session.new) err.old err.new result }
     ensures flushed { result ≡ 0 → S.is_flushed session.new.out }
+    ensures flushed_differing { result ≡ 3 → S.is_flushed session.new.out }
 {
     let request = match parsed {
         Ok(request) => request,
@@ -85,22 +109,36 @@ pub fn run<
         }
     };
     let names = request.images.as_slice();
+    match request.command.scan_form() {
+        Some(json) => {
+            let how = ScanOptions {
+                json,
+                is_named: true,
+                messages,
+            };
+            return scan(session.alloc, how, images, names, &mut session.out, err);
+        }
+        None => {}
+    }
     let mut notices = Notices::none();
     let audience = Audience {
         messages,
         was_shown: session.asker.is_told_first(),
     };
     let outcome = act(session, request.command, images, names, &mut notices);
+    let out = &mut session.out;
+    show_if_refused(session.alloc, &outcome, request.command, names, out);
     let missing = &session.missing;
-    answer(
-        outcome,
+    tell_outcome(
+        &outcome,
         request.command,
         names,
         &notices,
         missing,
         audience,
         err,
-    )
+    );
+    outcome_status(&outcome, request.command, session.mismatched)
 }
 
 // Does a command on the images that are named. `notices` gets what their array tells as it is opened.
@@ -118,6 +156,7 @@ fn act<
     names: &[&str],
     notices: &mut Notices,
 ) -> Result<(), CommandFault>
+    requires other { scan_form (ask_of command) ≡ None }
     ensures gives { Obeys I.Images I.Dev.Device R.Source S.Sink A.Asker session.old.random_bytes
         (ask_of command.entry) (texts names.now)
         images.old images.new (told_of session.old notices.old) (told_of session.new notices.new) result }
@@ -143,7 +182,7 @@ fn act<
         Command::ExamineBadblocks { .. } => {
             examine_images(alloc, command, images, names, &mut session.out)
         }
-        // The others open an array.
+        // The others open an array, but for `scan`.
         _ => unreachable!(),
     }
 }
@@ -170,29 +209,51 @@ fn create_array<I: Images, T, R: Source + Drop, S: Sink + Drop, W, A: Asker + Dr
     }
 }
 
-// The status of a command that was done or refused. Of one that is done, what was noticed is said on `err`.
-fn answer<E: Write + Sink>(
-    outcome: Result<(), CommandFault>,
+// Of a command that is done, what was noticed is said on `err`; of a refused one its fault, and more where advice is asked for.
+fn tell_outcome<E: Write + Sink>(
+    outcome: &Result<(), CommandFault>,
     command: Command<'_>,
     names: &[&str],
     notices: &Notices,
     missing: &Option<BadSet>,
     audience: Audience,
     err: &mut E,
-) -> u8
-    ensures status { result ≡ status_of outcome }
-    ensures tells { TellsNoticed E.Sink audience (ask_of command.entry) (texts names.now) missing.now
-        err.old err.new outcome notices.now }
+)
+    ensures { TellsNoticed E.Sink audience (ask_of command.entry) (texts names.now) missing.now
+        err.old err.new outcome.now notices.now }
 {
     match outcome {
         Ok(()) => {
             let _ = put_told(err, notices, command, names, audience);
-            0
         }
-        Err(fault) => {
-            tell_refusal(&fault, command, names, notices, missing, audience, err);
-            1
-        }
+        Err(fault) => tell_refusal(fault, command, names, notices, missing, audience, err),
+    }
+}
+
+// The status of a command that was done or refused.
+fn outcome_status(
+    outcome: &Result<(), CommandFault>,
+    command: Command<'_>,
+    mismatched: Option<u32>,
+) -> u8
+    ensures { result ≡ status_of (tells_by_status (ask_of command.entry)) mismatched outcome.now }
+{
+    if outcome.is_err() {
+        REFUSED
+    } else if command.tells_by_status() && differs(mismatched) {
+        DIFFERS
+    } else {
+        DONE
+    }
+}
+
+// Whether members were found to differ in some chunk.
+fn differs(mismatched: Option<u32>) -> bool
+    ensures { result ≡ differs mismatched }
+{
+    match mismatched {
+        Some(count) => count > 0,
+        None => false,
     }
 }
 

@@ -5,7 +5,7 @@ use std::alloc::Global;
 /// What each command is given of the machine that it runs on: what starts threads, the memory, the input, the output,
 /// who is told of a rebuild or a check, who is asked, and random bytes for a UUID, where there are any. And, of a read that was to
 /// put out zeros for sectors that are not given, which sectors these are, also where it ended before all were put out, and
-/// whether all were.
+/// whether all were. And, of a check, in how many chunks it found members to differ.
 #[derive(Drop)]
 pub struct Session<'a, T, R: Drop, S: Drop, W, A: Drop> {
     pub rt: &'a T,
@@ -17,4 +17,5 @@ pub struct Session<'a, T, R: Drop, S: Drop, W, A: Drop> {
     pub random_bytes: Option<[u8; 16]>,
     pub missing: Option<BadSet>,
     pub is_all_out: bool,
+    pub mismatched: Option<u32>,
 }

@@ -272,16 +272,16 @@ module _ {S : Type 0} (s : SinkGhosts S) (old new : MirrorView) (before after : 
   resyncs_as_many OutputFault h = stopped_after (Resyncs old) old new (resynced old) h.0
   resyncs_as_many fault h = absurd h
 
-  pub done_check : ChecksMembers s old new before after → AsMany old new
-  done_check h = h.checks.rests.disks.same.as_many
+  pub done_check : (count : ℕ) → ChecksMembers s count old new before after → AsMany old new
+  done_check count h = h.checks.rests.disks.same.as_many
 
   pub checks_as_many : (fault : CommandFault) → RefusesToCheck s old new before after fault → AsMany old new
   checks_as_many (Check fault) h = not_checked fault old new h.0
   checks_as_many OutputFault h = h.checks.rests.disks.same.as_many
   checks_as_many fault h = absurd h
 
-  pub done_list : (text_of : Comparison → List ℕ) → ListsMismatches s text_of old new before after → AsMany old new
-  done_list text_of h = h.compares.finds.rests.disks.same.as_many
+  pub done_list : (text_of : Comparison → List ℕ) (count : ℕ) → ListsMismatches s text_of count old new before after → AsMany old new
+  done_list text_of count h = h.compares.finds.rests.disks.same.as_many
 
   pub lists_as_many : (fault : CommandFault) → RefusesToList s old new before after fault → AsMany old new
   lists_as_many (Check fault) h = not_checked fault old new h.0

@@ -1,7 +1,8 @@
 -- What the command that compares answers: what was found, and then the output.
-use Rattle.std.proofs.Common.{◌∙◌, ℕ, List, Result, Ok, Err, sym, subst}
+use Rattle.std.proofs.Common.{◌≡◌, ◌∙◌, ℕ, List, Result, Ok, Err, sym, subst}
 use Rattle.std.specs.Prelude.{MatchResult}
 use Rattle.md_array.specs.Consistency.{IsConsistent}
+use Rattle.md_bitmap.specs.Marks.{count_set}
 use Rattle.md_check.specs.Checking.{ComparesMembers}
 use Rattle.md_check.specs.Differences.{IsSized}
 use Rattle.md_check.specs.declared.found.Comparison.{Comparison}
@@ -12,10 +13,10 @@ use Rattle.md_commands.specs.Checking.{ListsMismatches, RefusesToList}
 use Rattle.md_commands.specs.Output.{FailsOutput, PutsOut}
 
 module _ {S : Type 0} (s : Ghosts S) (old new : MirrorView) (before after : S) where
-  pub listed_or_not : (text_of : Comparison → List ℕ) (found : Comparison) → ComparesMembers old new found → (result : Result (Unit {0}) CommandFault)
-      → MatchResult result (λ _. PutsOut s before after (text_of found)) (FailsOutput s after)
-      → MatchResult result (λ _. ListsMismatches s text_of old new before after) (RefusesToList s old new before after)
-  listed_or_not text_of found compares (Ok x) shown = record { found = found; compares = compares; shown = shown }
+  pub listed_or_not : (text_of : Comparison → List ℕ) (found : Comparison) → ComparesMembers old new found → (result : Result ℕ CommandFault)
+      → MatchResult result (λ count. (count ≡ count_set found.chunks.bytes found.chunks.chunks) × PutsOut s before after (text_of found)) (FailsOutput s after)
+      → MatchResult result (λ count. ListsMismatches s text_of count old new before after) (RefusesToList s old new before after)
+  listed_or_not text_of found compares (Ok count) shown = record { found = found; compares = compares; counted = shown.0; shown = shown.1 }
   listed_or_not text_of found compares (Err fault) fails =
       subst (λ (f : CommandFault). RefusesToList s old new before after f) (sym fails.is) (record { found = found; compares = compares; failed = fails.failed })
 

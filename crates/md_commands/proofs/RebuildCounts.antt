@@ -205,8 +205,8 @@ rebuilt_readied : (k : ℕ) (told : Rebuilt) (old new : MirrorView) → Rebuilds
 rebuilt_readied k told old new r = rebuilt k told r.ready new r.rebuilds ∙ readied old r.ready r.readied
 
 module _ {S : Type 0} (s : Ghosts S) (k : ℕ) (old new : MirrorView) (before after : S) where
-  pub done_rebuild : RebuildsArray s k old new before after → AsMany old new
-  done_rebuild h = stopped_after (RebuildsResynced k h.told old) old new (rebuilt_readied k h.told old) h.done
+  pub done_rebuild : (text_of : Rebuilt → List ℕ) → RebuildsArray s k old new before after text_of → AsMany old new
+  done_rebuild text_of h = stopped_after (RebuildsResynced k h.told old) old new (rebuilt_readied k h.told old) h.done
 
   pub rebuilds_as_many : (fault : CommandFault) → RefusesToRebuild s k old new before after fault → AsMany old new
   rebuilds_as_many BadMember h = same old new h.0.unchanged

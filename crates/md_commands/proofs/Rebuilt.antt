@@ -1,8 +1,7 @@
 -- What the commands that rebuild answer: the parts of it together.
-use Rattle.std.proofs.Common.{ℕ, Option, Result, Ok, Err, MatchResult, refl, sym, subst, length}
+use Rattle.std.proofs.Common.{ℕ, List, Option, Result, Ok, Err, MatchResult, refl, sym, subst}
 use Rattle.md_copy.specs.declared.rebuilt.Rebuilt.{Rebuilt}
 use Rattle.md_examine.specs.declared.sink.Sink.{Ghosts}
-use Rattle.md_report.specs.RebuiltReport.{rebuilt_text}
 use Rattle.md_state.specs.View.{Disk, MirrorView}
 use Rattle.md_metadata.specs.declared.coming_back.extent_of_rebuild.RebuildExtent.{RebuildExtent}
 use Rattle.md_commands.specs.declared.fault.CommandFault.{CommandFault}
@@ -20,11 +19,11 @@ module _ {S : Type 0} (s : Ghosts S) (k : ℕ) (old new : MirrorView) (before : 
   not_rebuilt member (Stop fault) h = record { member = member; refused = h; unwritten = refl }
   not_rebuilt member fault h = absurd h
 
-  pub rebuilt_or_not : (after : S) (told : Rebuilt) → StopsAfter (RebuildsResynced k told old) new → (result : Result (Unit {0}) CommandFault)
-      → MatchResult result (λ _. PutsOut s before after (rebuilt_text k told.passes told.plans.items (length told.orphans.items))) (FailsOutput s after)
-      → MatchResult result (λ _. RebuildsArray s k old new before after) (RefusesToRebuild s k old new before after)
-  rebuilt_or_not after told done (Ok x) shown = record { told = told; done = done; shown = shown }
-  rebuilt_or_not after told done (Err fault) fails =
+  pub rebuilt_or_not : (text_of : Rebuilt → List ℕ) (after : S) (told : Rebuilt) → StopsAfter (RebuildsResynced k told old) new → (result : Result (Unit {0}) CommandFault)
+      → MatchResult result (λ _. PutsOut s before after (text_of told)) (FailsOutput s after)
+      → MatchResult result (λ _. RebuildsArray s k old new before after text_of) (RefusesToRebuild s k old new before after)
+  rebuilt_or_not text_of after told done (Ok x) shown = record { told = told; done = done; shown = shown }
+  rebuilt_or_not text_of after told done (Err fault) fails =
       subst (λ (f : CommandFault). RefusesToRebuild s k old new before after f) (sym fails.is) (record { told = told; done = done; failed = fails.failed })
 
 -- a member that came back is rebuilt, and the array stopped, or not

@@ -1,5 +1,6 @@
 -- The command that compares the members in sync.
 use Rattle.std.specs.Prelude.{◌≡◌, ◌*◌, ◌-◌, ◌^◌, ℕ, true, List, min}
+use Rattle.md_bitmap.specs.Marks.{count_set}
 use Rattle.md_check.specs.Checking.{Checks, ComparesMembers, RefusesCheck}
 use Rattle.md_check.specs.declared.found.Comparison.{Comparison}
 use Rattle.md_examine.specs.declared.sink.Sink.{Ghosts}
@@ -16,8 +17,7 @@ sectors_to_read a = min (in_sync_members a * a.chunks.size) (2 ^ 64 - 1)
 
 module _ {S : Type 0} (s : Ghosts S) where
   -- they are compared, and in how many chunks two of them differ is shown
-  pub record ChecksMembers (old new : MirrorView) (before after : S) : Type 0 where
-    pub count : ℕ
+  pub record ChecksMembers (count : ℕ) (old new : MirrorView) (before after : S) : Type 0 where
     pub checks : Checks old new count
     pub shown : PutsOut s before after (check_text count)
 
@@ -34,11 +34,12 @@ module _ {S : Type 0} (s : Ghosts S) where
   RefusesToCheck old new before after fault = ⊥
 
   -- They are compared, and the chunks in which two of them differ are shown with the pairs that do, in a text that is
-  -- made of what was found.
-  pub record ListsMismatches (text_of : Comparison → List ℕ) (old new : MirrorView)
+  -- made of what was found: so many chunks.
+  pub record ListsMismatches (text_of : Comparison → List ℕ) (count : ℕ) (old new : MirrorView)
       (before after : S) : Type 0 where
     pub found : Comparison
     pub compares : ComparesMembers old new found
+    pub counted : count ≡ count_set found.chunks.bytes found.chunks.chunks
     pub shown : PutsOut s before after (text_of found)
 
   -- they are compared, and the output failed

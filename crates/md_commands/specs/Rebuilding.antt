@@ -1,10 +1,10 @@
 -- The command that rebuilds a member.
-use Rattle.std.specs.Prelude.{◌≡◌, ℕ, Option, true, length, slice_get}
+use Rattle.std.specs.Prelude.{◌≡◌, ℕ, Bool, List, Option, true, false, length, slice_get}
 use Rattle.md_rebuild_table.specs.declared.fault.RebuildFault.{RebuildFault}
 use Rattle.md_copy.specs.declared.rebuilt.Rebuilt.{Rebuilt}
 use Rattle.md_copy.specs.Rebuilding.{Rebuilds, RefusesRebuild}
 use Rattle.md_examine.specs.declared.sink.Sink.{Ghosts}
-use Rattle.md_report.specs.RebuiltReport.{rebuilt_text}
+use Rattle.md_report.specs.RebuiltReport.{rebuilt_line, rebuilt_text}
 use Rattle.md_state.specs.Trying.{Refuses}
 use Rattle.md_state.specs.View.{ArrayView, MirrorView}
 use Rattle.md_kept_members.specs.View.{MemberView}
@@ -45,13 +45,17 @@ RefusesReadied k old new (Stop fault) =
     FailsToStop (λ mid. (told : Rebuilt) × RebuildsResynced k told old mid) new fault
 RefusesReadied k old new fault = ⊥
 
+-- The report on the rebuild of member k: the plan of each pass, and then a line; or, where it is to be quiet, the line alone.
+abbrev pub rebuilt_shown : Bool → ℕ → Rebuilt → List ℕ
+rebuilt_shown false k told = rebuilt_text k told.passes told.plans.items (length told.orphans.items)
+rebuilt_shown true k told = rebuilt_line k told.passes (length told.orphans.items)
+
 module _ {S : Type 0} (s : Ghosts S) (k : ℕ) (old new : MirrorView) (before after : S) where
-  -- the array is stopped, and then what was done is shown
-  pub record RebuildsArray : Type 0 where
+  -- the array is stopped, and then what was done is shown, in a text that is made of it
+  pub record RebuildsArray (text_of : Rebuilt → List ℕ) : Type 0 where
     pub told : Rebuilt
     pub done : StopsAfter (RebuildsResynced k told old) new
-    pub shown : PutsOut s before after
-        (rebuilt_text k told.passes told.plans.items (length told.orphans.items))
+    pub shown : PutsOut s before after (text_of told)
 
   -- all is done, and the output failed
   pub record RebuildsInVain : Type 0 where

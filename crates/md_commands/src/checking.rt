@@ -21,8 +21,8 @@ use md_report::members_in_sync;
 use std::alloc::Global;
 use std::thread::Threads;
 
-/// Counts the chunks in which two members in sync differ in a sector that neither lists as bad, and puts out
-/// how many they are in one line. Nothing is written, and the array may be one that is not resynced. `watch`
+/// Counts the chunks in which two members in sync differ in a sector that neither lists as bad, gives their count, and puts
+/// it out in one line. Nothing is written, and the array may be one that is not resynced. `watch`
 /// is told how many sectors there are to read, and of each read.
 ///
 ///     let mut out = Output::new(rt.stdout());
@@ -33,10 +33,10 @@ pub fn check_members<D: Device + Drop + Send, W: Watch + Sync, S: Sink, T: Threa
     mirror: &mut Mirror<D>,
     watch: &W,
     out: &mut S,
-) -> Result<(), CommandFault>
+) -> Result<u32, CommandFault>
     requires sound { IsConsistent mirror.old }
     ensures gives { MatchResult result
-        (λ _. ChecksMembers S.Sink mirror.old mirror.new out.old out.new)
+        (λ count. ChecksMembers S.Sink count mirror.old mirror.new out.old out.new)
         (RefusesToCheck S.Sink mirror.old mirror.new out.old out.new) }
     ensures told { W.compares watch.now (sectors_to_read mirror.old.array) }
     ensures told_of_reads { OnOk result (IsToldOfMembers W.Gate watch.now mirror.old.array) }
@@ -55,11 +55,11 @@ pub fn list_mismatches<D: Device + Drop + Send, W: Watch + Sync, S: Sink, T: Thr
     mirror: &mut Mirror<D>,
     watch: &W,
     out: &mut S,
-) -> Result<(), CommandFault>
+) -> Result<u32, CommandFault>
     requires sound { IsConsistent mirror.old }
     ensures gives { MatchResult result
-        (λ _. ListsMismatches S.Sink (list_text mirror.old.array.chunks)
-        mirror.old mirror.new out.old out.new)
+        (λ count. ListsMismatches S.Sink (list_text mirror.old.array.chunks)
+        count mirror.old mirror.new out.old out.new)
         (RefusesToList S.Sink mirror.old mirror.new out.old out.new) }
     ensures told { W.compares watch.now (sectors_to_read mirror.old.array) }
     ensures told_of_reads { OnOk result (IsToldOfMembers W.Gate watch.now mirror.old.array) }
@@ -80,11 +80,11 @@ pub fn check_members_json<D: Device + Drop + Send, W: Watch + Sync, S: Sink, T: 
     watch: &W,
     images: &[&str],
     out: &mut S,
-) -> Result<(), CommandFault>
+) -> Result<u32, CommandFault>
     requires sound { IsConsistent mirror.old }
     ensures gives { MatchResult result
-        (λ _. ListsMismatches S.Sink (checked_line mirror.old.array (texts_of images.now))
-        mirror.old mirror.new out.old out.new)
+        (λ count. ListsMismatches S.Sink (checked_line mirror.old.array (texts_of images.now))
+        count mirror.old mirror.new out.old out.new)
         (RefusesToList S.Sink mirror.old mirror.new out.old out.new) }
     ensures told { W.compares watch.now (sectors_to_read mirror.old.array) }
     ensures told_of_reads { OnOk result (IsToldOfMembers W.Gate watch.now mirror.old.array) }

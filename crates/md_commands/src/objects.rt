@@ -1,5 +1,6 @@
 // What a command puts out as a JSON object.
-ghost use Rattle.std.specs.Prelude.{MatchResult};
+ghost use Rattle.std.specs.Prelude.{◌≡◌, MatchResult};
+ghost use Rattle.md_bitmap.specs.Marks.{count_set};
 ghost use Rattle.md_check.specs.Differences.{IsSized};
 ghost use Rattle.md_report.specs.AsJson.ArrayObjects.{detail_object, summary_object};
 ghost use Rattle.md_report.specs.AsJson.MemberObjects.{texts_of};
@@ -72,20 +73,21 @@ pub(crate) fn put_plan_json<D: Device + Drop, S: Sink>(
     Ok(())
 }
 
-/// Puts out in which chunks members in sync differ, and which.
+/// Puts out in which chunks members in sync differ, and which, and gives how many chunks these are.
 pub(crate) fn put_check_json<D: Device + Drop, S: Sink>(
     found: &Comparison,
     mirror: &Mirror<D>,
     images: &[&str],
     out: &mut S,
-) -> Result<(), CommandFault>
+) -> Result<u32, CommandFault>
     requires { IsSized mirror.now.array.chunks found.now }
     ensures { MatchResult result
-        (λ _. PutsOut S.Sink out.old out.new
+        (λ count. (count ≡ count_set found.now.chunks.bytes found.now.chunks.chunks)
+        × PutsOut S.Sink out.old out.new
         (checked_line mirror.now.array (texts_of images.now) found.now))
         (FailsOutput S.Sink out.new) }
 {
     check_json(out, found, mirror, images)?;
     out.flush()?;
-    Ok(())
+    Ok(found.chunks.count())
 }

@@ -1,11 +1,14 @@
 // What a command puts out.
-ghost use Rattle.std.specs.Prelude.{MatchResult, length};
+ghost use Rattle.std.specs.Prelude.{◌≡◌, MatchResult};
+ghost use Rattle.md_bitmap.specs.Marks.{count_set};
 ghost use Rattle.md_check.specs.Differences.{IsSized};
+ghost use Rattle.md_examine.specs.Sink.{PutsOrFails};
 ghost use Rattle.md_report.specs.CheckReport.{check_text, list_text};
 ghost use Rattle.md_report.specs.DetailReport.{detail_text};
-ghost use Rattle.md_report.specs.RebuiltReport.{planned_text, rebuilt_text};
+ghost use Rattle.md_report.specs.RebuiltReport.{planned_text};
 ghost use Rattle.md_report.specs.SummaryReport.{summary_text};
 ghost use Rattle.md_commands.specs.Output.{FailsOutput, PutsOut};
+ghost use Rattle.md_commands.specs.Rebuilding.{rebuilt_shown};
 
 use crate::fault::CommandFault;
 use md_array::Mirror;
@@ -13,9 +16,12 @@ use md_bitmap::Chunks;
 use md_check::Comparison;
 use md_copy::Rebuilt;
 use md_device::Device;
-use md_examine::Sink;
+use md_examine::{Sink, SinkFault};
 use md_plan::Planned;
-use md_report::{check_list_report, check_report, detail, plan_report, rebuilt_report, summary};
+use md_report::{
+    check_list_report, check_report, detail, plan_report, rebuilt_line_report, rebuilt_report,
+    summary,
+};
 
 /// Puts out an array in one line.
 pub(crate) fn put_summary<D: Device + Drop, S: Sink>(
@@ -57,47 +63,63 @@ pub(crate) fn put_plan<S: Sink>(planned: &Planned, out: &mut S) -> Result<(), Co
     Ok(())
 }
 
-/// Puts out what was rebuilt: the plan of each pass, and a line on the member with this index.
+/// Puts out what was rebuilt: the plan of each pass, unless `quiet`, and a line on the member with this index.
 pub(crate) fn put_rebuilt<S: Sink>(
     rebuilt: &Rebuilt,
     member: u32,
+    quiet: bool,
     out: &mut S,
 ) -> Result<(), CommandFault>
     ensures { MatchResult result
-        (λ _. PutsOut S.Sink out.old out.new
-        (rebuilt_text member rebuilt.now.passes rebuilt.now.plans.items
-        (length rebuilt.now.orphans.items)))
+        (λ _. PutsOut S.Sink out.old out.new (rebuilt_shown quiet member rebuilt.now))
         (FailsOutput S.Sink out.new) }
 {
-    let plans = rebuilt.plans.as_slice();
-    rebuilt_report(out, member, rebuilt.passes, plans, rebuilt.orphans.len())?;
+    put_rebuilt_lines(rebuilt, member, quiet, out)?;
     out.flush()?;
     Ok(())
 }
 
-/// Puts out in how many chunks members in sync differ.
-pub(crate) fn put_checked<S: Sink>(mismatched: u32, out: &mut S) -> Result<(), CommandFault>
+fn put_rebuilt_lines<S: Sink>(
+    rebuilt: &Rebuilt,
+    member: u32,
+    quiet: bool,
+    out: &mut S,
+) -> Result<(), SinkFault>
+    ensures { PutsOrFails S.contents S.failed out.old out.new
+        (rebuilt_shown quiet member rebuilt.now) result }
+{
+    let orphans = rebuilt.orphans.len();
+    if quiet {
+        return rebuilt_line_report(out, member, rebuilt.passes, orphans);
+    }
+    let plans = rebuilt.plans.as_slice();
+    rebuilt_report(out, member, rebuilt.passes, plans, orphans)
+}
+
+/// Puts out in how many chunks members in sync differ, and gives that.
+pub(crate) fn put_checked<S: Sink>(mismatched: u32, out: &mut S) -> Result<u32, CommandFault>
     ensures { MatchResult result
-        (λ _. PutsOut S.Sink out.old out.new (check_text mismatched))
+        (λ count. (count ≡ mismatched) × PutsOut S.Sink out.old out.new (check_text mismatched))
         (FailsOutput S.Sink out.new) }
 {
     check_report(out, mismatched)?;
     out.flush()?;
-    Ok(())
+    Ok(mismatched)
 }
 
-/// Puts out in which chunks members in sync differ, and which.
+/// Puts out in which chunks members in sync differ, and which, and gives how many chunks these are.
 pub(crate) fn put_listed<S: Sink>(
     chunks: Chunks,
     found: &Comparison,
     out: &mut S,
-) -> Result<(), CommandFault>
+) -> Result<u32, CommandFault>
     requires { IsSized chunks found.now }
     ensures { MatchResult result
-        (λ _. PutsOut S.Sink out.old out.new (list_text chunks found.now))
+        (λ count. (count ≡ count_set found.now.chunks.bytes found.now.chunks.chunks)
+        × PutsOut S.Sink out.old out.new (list_text chunks found.now))
         (FailsOutput S.Sink out.new) }
 {
     check_list_report(out, chunks, found)?;
     out.flush()?;
-    Ok(())
+    Ok(found.chunks.count())
 }

@@ -6,7 +6,7 @@ ghost use Rattle.md_state.specs.Members.{IsMember};
 ghost use Rattle.md_state.specs.Requests.{IsPending};
 ghost use Rattle.md_array.specs.Consistency.{IsConsistent};
 ghost use Rattle.md_copy.specs.Rebuilding.{Rebuilds, RefusesRebuild};
-ghost use Rattle.md_commands.specs.Rebuilding.{IsToRebuild, IsToldOfTotals, RebuildsArray, RebuildsResynced, RefusesReadied, RefusesToRebuild};
+ghost use Rattle.md_commands.specs.Rebuilding.{IsToRebuild, IsToldOfTotals, RebuildsArray, RebuildsResynced, RefusesReadied, RefusesToRebuild, rebuilt_shown};
 ghost use Rattle.md_commands.specs.Stopping.{StopsAfter};
 
 use crate::fault::CommandFault;
@@ -25,31 +25,32 @@ use std::sync::Wait;
 use std::thread::Threads;
 
 /// Rebuilds the member with this index from all others at once, then stops the array, and puts out the plan of
-/// each pass and how many passes and orphans there were. A degraded array that is not resynced is resynced
+/// each pass, unless `quiet`, and how many passes and orphans there were. A degraded array that is not resynced is resynced
 /// first. `watch` is told how many chunks the member lacks, and of each read.
 ///
 /// In memory stands one chunk of the array for each member that is read.
 ///
 ///     let mut out = Output::new(rt.stdout());
-///     rebuild_member(&rt, rt.alloc(), &mut mirror, 2, &watch, &mut out)?; // ends with `rebuilt member 2, passes 1, orphans 0`
+///     rebuild_member(&rt, rt.alloc(), &mut mirror, 2, false, &watch, &mut out)?; // ends with `rebuilt member 2, passes 1, orphans 0`
 pub fn rebuild_member<D: Device + Drop + Send, W: Watch + Sync, S: Sink, T: Threads + Wait + Sync>(
     rt: &T,
     alloc: Global,
     mirror: &mut Mirror<D>,
     member: u32,
+    quiet: bool,
     watch: &W,
     out: &mut S,
 ) -> Result<(), CommandFault>
     requires sound { IsConsistent mirror.old }
     ensures gives { MatchResult result
-        (λ _. RebuildsArray S.Sink member mirror.old mirror.new out.old out.new)
+        (λ _. RebuildsArray S.Sink member mirror.old mirror.new out.old out.new (rebuilt_shown quiet member))
         (RefusesToRebuild S.Sink member mirror.old mirror.new out.old out.new) }
     ensures sound { IsConsistent mirror.new }
     ensures pending { (p : PendingView) → IsPending mirror.old.array p → IsPending mirror.new.array p }
 {
     let k = named_member(mirror, member)?;
     let rebuilt = rebuild_and_stop(rt, alloc, mirror, k, watch)?;
-    put_rebuilt(&rebuilt, member, out)
+    put_rebuilt(&rebuilt, member, quiet, out)
 }
 
 // Rebuilds member k, after a resync where it is needed, and stops the array.

@@ -1,2 +1,4 @@
 -- A report that was put out, an output that failed under it, and a part that was not read.
 mod Reported
+-- One image more that is looked at.
+mod ImagesLooked

@@ -32,6 +32,9 @@ use Rattle.md_raw_reports.specs.declared.raw_members.fault.RawFault.{RawFault}
 use Rattle.md_raw_reports.specs.declared.raw_members.fault.RawFault.TheVariants as raw
 use Rattle.md_raw_reports.specs.declared.raw_members.read_parts.RawLog.{RawLog}
 use Rattle.md_words.specs.Asks.{Ask, examines, examines_badblocks, examines_bitmap}
+use Rattle.md_examine_commands.specs.ScanObject.{scan_object}
+use Rattle.md_examine_commands.specs.ScanText.{scan_text}
+use Rattle.md_examine_commands.specs.declared.scan.seen.Seen.{Seen}
 use Rattle.md_words.specs.declared.form.ImageForm.TheVariants as form
 use Rattle.md_images.specs.declared.image_fault.ImageFault.{ImageFault}
 use Rattle.md_images.specs.declared.image_refusal.ImageRefusal.TheVariants.{Unopened}
@@ -59,6 +62,11 @@ bitmap_shown false h m = bitmap_report h m
 abbrev pub badblocks_shown : Bool → List Run → List ℕ
 badblocks_shown true bad = object_line (badblocks_object bad)
 badblocks_shown false bad = badblocks_report bad
+
+-- of which arrays images are members
+abbrev pub scan_shown : Bool → List Seen → List ℕ
+scan_shown true all = object_line (scan_object all)
+scan_shown false all = scan_text all
 
 -- A text of what a device of this content holds.
 module _ (content : List ℕ) (honest json : Bool) (text : List ℕ) where

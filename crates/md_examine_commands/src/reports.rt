@@ -1,8 +1,9 @@
 // The reports on one image are put out, and what the output holds back of them is passed on.
 ghost use Rattle.std.specs.Prelude.{◌≤◌};
 ghost use Rattle.md_commands.specs.Output.{ShowsText};
-ghost use Rattle.md_examine_commands.specs.Examining.{badblocks_shown, bitmap_shown, raw_bitmap_shown, raw_log_shown, raw_superblock_shown, superblock_shown};
+ghost use Rattle.md_examine_commands.specs.Examining.{badblocks_shown, bitmap_shown, raw_bitmap_shown, raw_log_shown, raw_superblock_shown, scan_shown, superblock_shown};
 
+use crate::scan::{Seen, scan_json, scan_report};
 use md_badblocks::BadSet;
 use md_bitmap::{BitmapHeader, Marks};
 use md_commands::CommandFault;
@@ -62,6 +63,20 @@ pub(crate) fn put_badblocks<S: Sink>(
         return Ok(());
     }
     examine_badblocks(out, bad)?;
+    out.flush()?;
+    Ok(())
+}
+
+/// Shows of which arrays images are members, by their superblocks.
+pub fn show_scan<S: Sink>(json: bool, seen: &[Seen<'_>], out: &mut S) -> Result<(), CommandFault>
+    ensures { ShowsText S.Sink (scan_shown json seen.now) out.old out.new result }
+{
+    if json {
+        scan_json(out, seen)?;
+        out.flush()?;
+        return Ok(());
+    }
+    scan_report(out, seen)?;
     out.flush()?;
     Ok(())
 }

@@ -180,7 +180,7 @@ noticed_text audience ask names n =
 
 -- a check that is done compared nothing, where one member is in sync alone
 abbrev pub uncompared_lines : Ask → List Text → Notices → List ℕ
-uncompared_lines (checks form readonly) names n = line_of uncompared_text (name_in names n.alone)
+uncompared_lines (checks form exit_code readonly) names n = line_of uncompared_text (name_in names n.alone)
 uncompared_lines ask names n = []
 
 -- what an image held that was added is lost

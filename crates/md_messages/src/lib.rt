@@ -27,9 +27,9 @@ mod question;
 mod telling;
 mod terminal;
 
-pub use advice::advise;
+pub use advice::{advice_words, advise};
 pub use asker::Asker;
-pub use fault_text::put_fault_line;
+pub use fault_text::{fault_words, put_fault_line, put_member, refusal_words};
 pub use messages::{Audience, Messages};
 pub use missing::put_missing_lines;
 pub use notices::Notices;

@@ -17,13 +17,13 @@ use Rattle.md_report.specs.DetailReport.{member_lines, member_text}
 abbrev pub in_sync_first : List MemberView → ℕ → ℕ
 in_sync_first ms k = count_by (λ m. is_in_sync m.state) (take k ms)
 
-there : (ms : List MemberView) (k : ℕ) → k < length ms → (m : MemberView) × (slice_get ms k ≡ Some m)
+pub there : (ms : List MemberView) (k : ℕ) → k < length ms → (m : MemberView) × (slice_get ms k ≡ Some m)
 there [] k lt = absurd (omega arith)
 there (m ∷ ms) zero lt = (m, refl)
 there (m ∷ ms) (suc k) lt = there ms k (omega arith)
 
 -- the state that was read is that of the member
-state_there : (ms : List MemberView) (k : ℕ) (m : MemberView) (state : MemberState) → slice_get ms k ≡ Some m → option_map (λ m. m.state) (slice_get ms k) ≡ Some state → (get_or ms k m).state ≡ state
+pub state_there : (ms : List MemberView) (k : ℕ) (m : MemberView) (state : MemberState) → slice_get ms k ≡ Some m → option_map (λ m. m.state) (slice_get ms k) ≡ Some state → (get_or ms k m).state ≡ state
 state_there ms k m state at e =
     ap (λ x. x.state) (get_or_from_slice_get ms k m m at) ∙ same_Some m.state state (sym (ap (option_map (λ x. x.state)) at) ∙ e)
 

@@ -8,9 +8,13 @@ pub mod BitmapObject
 pub mod BadblocksObject
 -- The members of an array, with the images that they are on.
 pub mod MemberObjects
+-- The lists of a report in detail.
+pub mod StandingLists
 -- The objects of a whole array.
 pub mod ArrayObjects
 -- The object of a check.
 pub mod CheckObject
 -- The object of a rebuild's plan.
 pub mod PlanObject
+-- The object of a command that is refused.
+pub mod RefusalObject

@@ -20,11 +20,11 @@ mod rebuilt_lines;
 mod summary_report;
 
 pub use as_json::{
-    badblocks_json, bitmap_json, check_json, detail_json, plan_json, put_quoted, summary_json,
-    superblock_json,
+    badblocks_json, bitmap_json, check_json, detail_json, plan_json, put_quoted, refusal_json,
+    summary_json, superblock_json,
 };
 pub use check_line::{check_list_report, check_report};
 pub use detail_report::detail;
 pub use plan_lines::plan_report;
-pub use rebuilt_lines::rebuilt_report;
+pub use rebuilt_lines::{rebuilt_line_report, rebuilt_report};
 pub use summary_report::{members_in_sync, summary};

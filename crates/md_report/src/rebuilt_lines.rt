@@ -21,7 +21,7 @@ pub fn rebuilt_report<S: Sink>(
     ensures { PutsOrFails S.contents S.failed out.old out.new (rebuilt_text member passes plans.now orphans) result }
 {
     plan_reports(out, plans)?;
-    last_line(out, member, passes, orphans)?;
+    rebuilt_line_report(out, member, passes, orphans)?;
     Ok(())
 }
 
@@ -41,8 +41,9 @@ fn planned_report<S: Sink>(out: &mut S, planned: &Planned) -> Result<(), SinkFau
     plan_report(out, &planned.plan, &planned.certificate, orphans)
 }
 
+/// Writes that line alone.
 #[tactic(auto, unfolding(crate::specs::RebuiltReport::rebuilt_line), using(md_examine::proofs::Puts::puts_then))]
-fn last_line<S: Sink>(
+pub fn rebuilt_line_report<S: Sink>(
     out: &mut S,
     member: u32,
     passes: u32,

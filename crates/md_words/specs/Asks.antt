@@ -7,7 +7,9 @@ use Rattle.md_words.specs.declared.create_options.CreateOptions.{CreateOptions}
 use Rattle.md_words.specs.declared.command.Command.{Command}
 use Rattle.md_words.specs.declared.command.Command.TheVariants as command
 use Rattle.md_words.specs.declared.form.CheckForm.{CheckForm}
+use Rattle.md_words.specs.declared.form.CheckForm.TheVariants as check_form
 use Rattle.md_words.specs.declared.form.ImageForm.{ImageForm}
+use Rattle.md_words.specs.declared.form.ImageForm.TheVariants as image_form
 use Rattle.md_words.specs.declared.overwritten.Overwritten.{Overwritten}
 use Rattle.md_words.specs.declared.overwritten.Overwritten.TheVariants as overwritten
 use Rattle.md_words.specs.declared.long_task.LongTask.{LongTask}
@@ -30,6 +32,7 @@ pub data Ask : Type 0 where
   examines : ImageForm → Ask
   examines_bitmap : ImageForm → Ask
   examines_badblocks : ImageForm → Ask
+  scans : Bool → Ask
   creates : Options → Ask
   grows : Text → ℕ → Ask  -- the members get a bitmap of this kind, with chunks of so many KiB
   assembles : Bool → Bool → Ask
@@ -38,7 +41,7 @@ pub data Ask : Type 0 where
   reads : ℕ → Option ℕ → Bool → Bool → Ask  -- from a sector on, so many or all; whether zeros stand for those that are not given
   serves : Bool → Ask  -- reading only; whether zeros stand for sectors that are not given
   serves_writable : Ask
-  checks : CheckForm → Bool → Ask
+  checks : CheckForm → Bool → Bool → Ask  -- whether the status says that members differ
   writes : ℕ → Ask  -- from a sector on
   resyncs : Ask
   stops : Ask
@@ -46,7 +49,7 @@ pub data Ask : Type 0 where
   removes : ℕ → Ask  -- it leaves the array
   adds : Text → Ask  -- the image under this name joins it
   re_adds : Text → Bool → Ask  -- the image under this name, which left it, comes back and gets what it lacks; whether that is all of it
-  rebuilds : ℕ → Ask  -- the member with this index gets what it lacks
+  rebuilds : ℕ → Bool → Ask  -- the member with this index gets what it lacks; whether the report has no plan
 
 -- whether no image may be changed, by a command that else might change some
 abbrev pub is_readonly : Ask → Bool
@@ -55,7 +58,7 @@ is_readonly (details json readonly) = readonly
 is_readonly (plans k json readonly) = readonly
 is_readonly (reads sector count fill readonly) = readonly
 is_readonly (serves fill) = true
-is_readonly (checks form readonly) = readonly
+is_readonly (checks form exit_code readonly) = readonly
 is_readonly _ = false
 
 -- How images are opened where they may be changed: opening an array to show what it is may store marks, and what writes to
@@ -64,12 +67,13 @@ abbrev pub full_access_of : Ask → Access
 full_access_of (examines form) = Look
 full_access_of (examines_bitmap form) = Look
 full_access_of (examines_badblocks form) = Look
+full_access_of (scans json) = Look
 full_access_of (assembles json readonly) = ChangeOrLook
 full_access_of (details json readonly) = ChangeOrLook
 full_access_of (plans k json readonly) = ChangeOrLook
 full_access_of (reads sector count fill readonly) = ChangeOrLook
 full_access_of (serves fill) = ChangeOrLook
-full_access_of (checks form readonly) = ChangeOrLook
+full_access_of (checks form exit_code readonly) = ChangeOrLook
 full_access_of _ = Change
 
 -- how the images are opened
@@ -81,9 +85,15 @@ abbrev pub opens_array : Ask → Bool
 opens_array (examines form) = false
 opens_array (examines_bitmap form) = false
 opens_array (examines_badblocks form) = false
+opens_array (scans json) = false
 opens_array (creates o) = false
 opens_array (grows bitmap kib) = false
 opens_array _ = true
+
+-- where it tells of which arrays images are members: whether the report is a JSON object
+abbrev pub scan_form : Ask → Option Bool
+scan_form (scans json) = Some json
+scan_form _ = None
 
 -- whether it puts out zeros for sectors that are not given
 abbrev pub fills : Ask → Bool
@@ -102,7 +112,7 @@ abbrev pub member_of : Ask → Option ℕ
 member_of (plans k json readonly) = Some k
 member_of (fails k) = Some k
 member_of (removes k) = Some k
-member_of (rebuilds k) = Some k
+member_of (rebuilds k quiet) = Some k
 member_of _ = None
 
 -- the member that is to leave it
@@ -121,7 +131,7 @@ tells_parted (assembles json readonly) = true
 tells_parted (details json readonly) = true
 tells_parted (plans k json readonly) = true
 tells_parted (re_adds name full) = true
-tells_parted (rebuilds k) = true
+tells_parted (rebuilds k quiet) = true
 tells_parted _ = false
 
 -- what it overwrites that perhaps should stay
@@ -129,8 +139,39 @@ abbrev pub overwritten_by : Ask → Overwritten
 overwritten_by (creates o) = overwritten.Images
 overwritten_by (adds name) = overwritten.NewDevice
 overwritten_by (re_adds name full) = overwritten.ReturningDevice
-overwritten_by (rebuilds k) = overwritten.Member k
+overwritten_by (rebuilds k quiet) = overwritten.Member k
 overwritten_by _ = overwritten.Nothing
+
+-- whether a report is a JSON object
+abbrev pub is_json_of_image : ImageForm → Bool
+is_json_of_image image_form.Json = true
+is_json_of_image image_form.RawJson = true
+is_json_of_image _ = false
+
+abbrev pub is_json_of_check : CheckForm → Bool
+is_json_of_check check_form.Json = true
+is_json_of_check _ = false
+
+abbrev pub is_json : Ask → Bool
+is_json (examines form) = is_json_of_image form
+is_json (examines_bitmap form) = is_json_of_image form
+is_json (examines_badblocks form) = is_json_of_image form
+is_json (scans json) = json
+is_json (assembles json readonly) = json
+is_json (details json readonly) = json
+is_json (plans k json readonly) = json
+is_json (checks form exit_code readonly) = is_json_of_check form
+is_json _ = false
+
+-- whether it compares the members in sync
+abbrev pub compares : Ask → Bool
+compares (checks form exit_code readonly) = true
+compares _ = false
+
+-- whether its status says that chunks differ
+abbrev pub tells_by_status : Ask → Bool
+tells_by_status (checks form exit_code readonly) = exit_code
+tells_by_status _ = false
 
 -- whether it reads the input
 abbrev pub takes_input : Ask → Bool
@@ -145,10 +186,10 @@ needs_random_bytes _ = false
 -- what a terminal is shown the progress of, where it takes long
 abbrev pub long_task_of : Ask → Option LongTask
 long_task_of (reads sector count fill readonly) = Some (long.Read count)
-long_task_of (checks form readonly) = Some long.Check
+long_task_of (checks form exit_code readonly) = Some long.Check
 long_task_of resyncs = Some long.Resync
 long_task_of (re_adds name full) = Some long.Rebuild
-long_task_of (rebuilds k) = Some long.Rebuild
+long_task_of (rebuilds k quiet) = Some long.Rebuild
 long_task_of _ = None
 
 -- The options of `create` as they were parsed.
@@ -169,6 +210,7 @@ abbrev pub ask_of : Command → Ask
 ask_of (command.Examine form) = examines form
 ask_of (command.ExamineBitmap form) = examines_bitmap form
 ask_of (command.ExamineBadblocks form) = examines_badblocks form
+ask_of (command.Scan json) = scans json
 ask_of (command.Create options) = creates (options_of options)
 ask_of (command.Grow bitmap kib) = grows bitmap.now kib
 ask_of (command.Assemble json readonly) = assembles json readonly
@@ -177,7 +219,7 @@ ask_of (command.Plan k json readonly) = plans k json readonly
 ask_of (command.Read sector count fill readonly) = reads sector count fill readonly
 ask_of (command.Serve fill) = serves fill
 ask_of command.ServeWritable = serves_writable
-ask_of (command.Check form readonly) = checks form readonly
+ask_of (command.Check form exit_code readonly) = checks form exit_code readonly
 ask_of (command.Write sector) = writes sector
 ask_of command.Resync = resyncs
 ask_of command.Stop = stops
@@ -185,4 +227,4 @@ ask_of (command.Fail k) = fails k
 ask_of (command.Remove k) = removes k
 ask_of (command.Add device) = adds device.now
 ask_of (command.ReAdd device full) = re_adds device.now full
-ask_of (command.Rebuild k) = rebuilds k
+ask_of (command.Rebuild k quiet) = rebuilds k quiet

@@ -10,7 +10,7 @@ use Rattle.md_words.specs.declared.form.CheckForm.{CheckForm}
 use Rattle.md_words.specs.declared.form.CheckForm.TheVariants as check_form
 use Rattle.md_words.specs.declared.form.ImageForm.{ImageForm}
 use Rattle.md_words.specs.declared.form.ImageForm.TheVariants as image_form
-use Rattle.md_words.specs.Asks.{Ask, Options, examines, examines_bitmap, examines_badblocks, creates, grows, assembles, details, plans, reads, serves, serves_writable, checks, writes, resyncs, stops, fails, removes, adds, re_adds, rebuilds}
+use Rattle.md_words.specs.Asks.{Ask, Options, examines, examines_bitmap, examines_badblocks, scans, creates, grows, assembles, details, plans, reads, serves, serves_writable, checks, writes, resyncs, stops, fails, removes, adds, re_adds, rebuilds}
 
 -- the value of an option among a command's, empty where it has none
 abbrev pub text_in : Text → List Row → Text
@@ -57,6 +57,13 @@ all_in rows = bytes_eq (text_in (codes "all") rows) (codes "true")
 
 abbrev pub list_in : List Row → Bool
 list_in rows = bytes_eq (text_in (codes "list") rows) (codes "true")
+
+-- whether the status is to say that members differ, and whether the report has no plan
+abbrev pub exit_code_in : List Row → Bool
+exit_code_in rows = bytes_eq (text_in (codes "exit-code") rows) (codes "true")
+
+abbrev pub quiet_in : List Row → Bool
+quiet_in rows = bytes_eq (text_in (codes "quiet") rows) (codes "true")
 
 -- whether the report is to be a JSON object
 abbrev pub json_in : List Row → Bool
@@ -148,7 +155,7 @@ ask_to_change name rows =
     else if bytes_eq name (codes "remove") then removes (member_in rows)
     else if bytes_eq name (codes "add") then adds (text_in (codes "device") rows)
     else if bytes_eq name (codes "re-add") then re_adds (text_in (codes "device") rows) (full_in rows)
-    else if bytes_eq name (codes "rebuild") then rebuilds (member_in rows)
+    else if bytes_eq name (codes "rebuild") then rebuilds (member_in rows) (quiet_in rows)
     else examines (image_form_in rows)
 
 -- what `serve` asks for
@@ -160,6 +167,7 @@ abbrev pub ask_named : Text → List Row → Ask
 ask_named name rows =
     if bytes_eq name (codes "examine-bitmap") then examines_bitmap (image_form_in rows)
     else if bytes_eq name (codes "examine-badblocks") then examines_badblocks (image_form_in rows)
+    else if bytes_eq name (codes "scan") then scans (json_in rows)
     else if bytes_eq name (codes "create") then creates (options_in rows)
     else if bytes_eq name (codes "grow") then grows (text_in (codes "bitmap") rows)
     (chunk_in rows)
@@ -169,7 +177,8 @@ ask_named name rows =
     else if bytes_eq name (codes "read") then reads (sector_in rows) (count_in rows) (fill_in rows)
     (readonly_in rows)
     else if bytes_eq name (codes "serve") then serve_in rows
-    else if bytes_eq name (codes "check") then checks (check_form_in rows) (readonly_in rows)
+    else if bytes_eq name (codes "check") then checks (check_form_in rows) (exit_code_in rows)
+    (readonly_in rows)
     else ask_to_change name rows
 
 abbrev pub ask_found : Option (Text × List Row) → Ask

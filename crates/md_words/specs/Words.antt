@@ -64,6 +64,10 @@ abbrev pub examine_app : Text → App
 examine_app name =
     completed (with_readonly (with_json (with_rule (new_app name) (flag_rule (codes "all")))))
 
+-- A command that tells of which arrays images are members.
+abbrev pub scan_app : App
+scan_app = completed (with_readonly (with_json (new_app (codes "scan"))))
+
 -- A command that shows an array, the plan of a rebuild, or sectors, or compares the members.
 abbrev pub with_images : App → App
 with_images a = completed (with_map (with_readonly a))
@@ -79,9 +83,13 @@ resync_app = completed (with_map (new_app (codes "resync")))
 abbrev pub with_member : App → App
 with_member a = with_rule a (required (value_rule (codes "member")))
 
--- the members are compared, and where they differ may be listed
+-- the members are compared, and where they differ may be listed, and told by the status
 abbrev pub check_app : App
-check_app = with_images (with_json (with_rule (new_app (codes "check")) (flag_rule (codes "list"))))
+check_app =
+    with_images
+    (with_json
+    (with_rule (with_rule (new_app (codes "check")) (flag_rule (codes "list")))
+    (flag_rule (codes "exit-code"))))
 
 abbrev pub plan_app : App
 plan_app = with_images (with_json (with_member (new_app (codes "plan"))))
@@ -107,9 +115,11 @@ re_add_app =
     completed
     (with_run (with_rule (with_device_option (new_app (codes "re-add"))) (flag_rule (codes "full"))))
 
--- A command by which a member gets the data that it lacks.
+-- A command by which a member gets the data that it lacks. Its report may have no plan.
 abbrev pub rebuild_app : App
-rebuild_app = completed (with_map (with_run (with_member (new_app (codes "rebuild")))))
+rebuild_app =
+    completed
+    (with_map (with_run (with_rule (with_member (new_app (codes "rebuild"))) (flag_rule (codes "quiet")))))
 
 -- an option that is a sector of the array
 abbrev pub with_sector : App → App
@@ -171,13 +181,15 @@ with_version a = record a { top = record a.top { has_version = true } }
 abbrev pub required_command : App → App
 required_command a = record a { top = record a.top { subcommand_required = true } }
 
--- the commands on one image, those that make an array or show it, those on its data, and those by which members change
+-- the commands on one image, and the one that tells of which arrays images are members, those that make an array or show it, those on its data, and those by which members change
 abbrev pub with_examine_commands : App → App
 with_examine_commands a =
     with_subcommand
+    (with_subcommand
     (with_subcommand (with_subcommand a (examine_app (codes "examine")).top)
     (examine_app (codes "examine-bitmap")).top)
-    (examine_app (codes "examine-badblocks")).top
+    (examine_app (codes "examine-badblocks")).top)
+    scan_app.top
 
 abbrev pub with_array_commands : App → App
 with_array_commands a =

@@ -1,6 +1,6 @@
 // A command, and what it may do with the images.
 ghost use Rattle.std.specs.Prelude.{◌≡◌, option_map};
-ghost use Rattle.md_words.specs.Asks.{access_of, ask_of, device_to_add, failing_of, fills, is_readonly, leaving_of, long_task_of, member_of, needs_random_bytes, opens_array, overwritten_by, takes_input, tells_parted};
+ghost use Rattle.md_words.specs.Asks.{access_of, ask_of, device_to_add, failing_of, fills, is_json, is_readonly, leaving_of, long_task_of, member_of, needs_random_bytes, opens_array, overwritten_by, scan_form, takes_input, tells_by_status, tells_parted};
 
 use crate::create_options::CreateOptions;
 use crate::form::{CheckForm, ImageForm};
@@ -23,6 +23,10 @@ pub enum Command<'a> {
     /// Shows its bad blocks, or the log as it stands.
     ExamineBadblocks {
         form: ImageForm,
+    },
+    /// Shows of which arrays the images are members.
+    Scan {
+        json: bool,
     },
     /// Makes an array of the images, and shows it in one line.
     Create(CreateOptions<'a>),
@@ -61,9 +65,11 @@ pub enum Command<'a> {
     },
     /// Serves it to a client that may write to it, and stops it.
     ServeWritable,
-    /// Counts the chunks in which its members in sync differ, or shows which they are too.
+    /// Counts the chunks in which its members in sync differ, or shows which they are too. With `exit_code` its status says
+    /// whether there are any.
     Check {
         form: CheckForm,
+        exit_code: bool,
         readonly: bool,
     },
     /// Writes the input to it, from this sector on, and stops it.
@@ -92,9 +98,10 @@ pub enum Command<'a> {
         device: &'a str,
         full: bool,
     },
-    /// The member with this index gets what it lacks. The array is stopped then.
+    /// The member with this index gets what it lacks. The array is stopped then. With `quiet` the report has no plan.
     Rebuild {
         member: u32,
+        quiet: bool,
     },
 }
 
@@ -109,7 +116,8 @@ impl<'a> Command<'a> {
         match self {
             Command::Examine { .. }
             | Command::ExamineBitmap { .. }
-            | Command::ExamineBadblocks { .. } => Access::Look,
+            | Command::ExamineBadblocks { .. }
+            | Command::Scan { .. } => Access::Look,
             // Opening the array may store marks.
             Command::Assemble { .. }
             | Command::Detail { .. }
@@ -145,6 +153,7 @@ impl<'a> Command<'a> {
             Command::Examine { .. }
             | Command::ExamineBitmap { .. }
             | Command::ExamineBadblocks { .. }
+            | Command::Scan { .. }
             | Command::Create(_)
             | Command::Grow { .. }
             | Command::ServeWritable
@@ -167,6 +176,7 @@ impl<'a> Command<'a> {
             Command::Examine { .. }
             | Command::ExamineBitmap { .. }
             | Command::ExamineBadblocks { .. }
+            | Command::Scan { .. }
             | Command::Create(_)
             | Command::Grow { .. } => false,
             Command::Assemble { .. }
@@ -187,6 +197,16 @@ impl<'a> Command<'a> {
         }
     }
 
+    /// Where it tells of which arrays images are members: whether the report is a JSON object.
+    pub fn scan_form(self) -> Option<bool>
+        ensures { result ≡ scan_form (ask_of self.entry) }
+    {
+        match self {
+            Command::Scan { json } => Some(json),
+            _ => None,
+        }
+    }
+
     /// Whether it puts out zeros for sectors that are not given.
     pub fn fills(self) -> bool
         ensures { result ≡ fills (ask_of self.entry) }
@@ -197,6 +217,7 @@ impl<'a> Command<'a> {
             Command::Examine { .. }
             | Command::ExamineBitmap { .. }
             | Command::ExamineBadblocks { .. }
+            | Command::Scan { .. }
             | Command::Create(_)
             | Command::Grow { .. }
             | Command::Assemble { .. }
@@ -225,6 +246,7 @@ impl<'a> Command<'a> {
             Command::Examine { .. }
             | Command::ExamineBitmap { .. }
             | Command::ExamineBadblocks { .. }
+            | Command::Scan { .. }
             | Command::Create(_)
             | Command::Grow { .. }
             | Command::Assemble { .. }
@@ -251,10 +273,11 @@ impl<'a> Command<'a> {
             Command::Plan { member, .. } => Some(member),
             Command::Fail { member } => Some(member),
             Command::Remove { member } => Some(member),
-            Command::Rebuild { member } => Some(member),
+            Command::Rebuild { member, .. } => Some(member),
             Command::Examine { .. }
             | Command::ExamineBitmap { .. }
             | Command::ExamineBadblocks { .. }
+            | Command::Scan { .. }
             | Command::Create(_)
             | Command::Grow { .. }
             | Command::Assemble { .. }
@@ -280,6 +303,7 @@ impl<'a> Command<'a> {
             Command::Examine { .. }
             | Command::ExamineBitmap { .. }
             | Command::ExamineBadblocks { .. }
+            | Command::Scan { .. }
             | Command::Create(_)
             | Command::Grow { .. }
             | Command::Assemble { .. }
@@ -308,6 +332,7 @@ impl<'a> Command<'a> {
             Command::Examine { .. }
             | Command::ExamineBitmap { .. }
             | Command::ExamineBadblocks { .. }
+            | Command::Scan { .. }
             | Command::Create(_)
             | Command::Grow { .. }
             | Command::Assemble { .. }
@@ -340,6 +365,7 @@ impl<'a> Command<'a> {
             Command::Examine { .. }
             | Command::ExamineBitmap { .. }
             | Command::ExamineBadblocks { .. }
+            | Command::Scan { .. }
             | Command::Create(_)
             | Command::Grow { .. }
             | Command::Read { .. }
@@ -363,10 +389,11 @@ impl<'a> Command<'a> {
             Command::Create(_) => Overwritten::Images,
             Command::Add { .. } => Overwritten::NewDevice,
             Command::ReAdd { .. } => Overwritten::ReturningDevice,
-            Command::Rebuild { member } => Overwritten::Member(member),
+            Command::Rebuild { member, .. } => Overwritten::Member(member),
             Command::Examine { .. }
             | Command::ExamineBitmap { .. }
             | Command::ExamineBadblocks { .. }
+            | Command::Scan { .. }
             | Command::Grow { .. }
             | Command::Assemble { .. }
             | Command::Detail { .. }
@@ -383,6 +410,64 @@ impl<'a> Command<'a> {
         }
     }
 
+    /// Whether its report is a JSON object.
+    pub fn is_json(self) -> bool
+        ensures { result ≡ is_json (ask_of self.entry) }
+    {
+        match self {
+            Command::Examine { form }
+            | Command::ExamineBitmap { form }
+            | Command::ExamineBadblocks { form } => form.is_json(),
+            Command::Scan { json } => json,
+            Command::Assemble { json, .. } => json,
+            Command::Detail { json, .. } => json,
+            Command::Plan { json, .. } => json,
+            Command::Check { form, .. } => form.is_json(),
+            Command::Create(_)
+            | Command::Grow { .. }
+            | Command::Read { .. }
+            | Command::Serve { .. }
+            | Command::ServeWritable
+            | Command::Write { .. }
+            | Command::Resync
+            | Command::Stop
+            | Command::Fail { .. }
+            | Command::Remove { .. }
+            | Command::Add { .. }
+            | Command::ReAdd { .. }
+            | Command::Rebuild { .. } => false,
+        }
+    }
+
+    /// Whether its status says that chunks differ, where they do.
+    pub fn tells_by_status(self) -> bool
+        ensures { result ≡ tells_by_status (ask_of self.entry) }
+    {
+        match self {
+            Command::Check { exit_code, .. } => exit_code,
+            Command::Examine { .. }
+            | Command::ExamineBitmap { .. }
+            | Command::ExamineBadblocks { .. }
+            | Command::Scan { .. }
+            | Command::Create(_)
+            | Command::Grow { .. }
+            | Command::Assemble { .. }
+            | Command::Detail { .. }
+            | Command::Plan { .. }
+            | Command::Read { .. }
+            | Command::Serve { .. }
+            | Command::ServeWritable
+            | Command::Write { .. }
+            | Command::Resync
+            | Command::Stop
+            | Command::Fail { .. }
+            | Command::Remove { .. }
+            | Command::Add { .. }
+            | Command::ReAdd { .. }
+            | Command::Rebuild { .. } => false,
+        }
+    }
+
     /// Whether it reads the input, which it holds in memory.
     pub fn takes_input(self) -> bool
         ensures { result ≡ takes_input (ask_of self.entry) }
@@ -392,6 +477,7 @@ impl<'a> Command<'a> {
             Command::Examine { .. }
             | Command::ExamineBitmap { .. }
             | Command::ExamineBadblocks { .. }
+            | Command::Scan { .. }
             | Command::Create(_)
             | Command::Grow { .. }
             | Command::Assemble { .. }
@@ -420,6 +506,7 @@ impl<'a> Command<'a> {
             Command::Examine { .. }
             | Command::ExamineBitmap { .. }
             | Command::ExamineBadblocks { .. }
+            | Command::Scan { .. }
             | Command::Grow { .. }
             | Command::Assemble { .. }
             | Command::Detail { .. }
@@ -451,6 +538,7 @@ impl<'a> Command<'a> {
             Command::Examine { .. }
             | Command::ExamineBitmap { .. }
             | Command::ExamineBadblocks { .. }
+            | Command::Scan { .. }
             | Command::Create(_)
             | Command::Grow { .. }
             | Command::Assemble { .. }

@@ -143,7 +143,7 @@ fn with_commands<'a>(
     Ok(program)
 }
 
-// The commands on one image.
+// The commands on one image, and the one that tells of which arrays images are members.
 fn examine_commands<'a>(alloc: Global, program: Command<'a>) -> Result<Command<'a>, AllocError>
     ensures { IfOk result (λ c. app_of c ≡ with_examine_commands (app_of program.entry)) }
 {

@@ -68,10 +68,28 @@ const LIST: OptionWords = OptionWords {
     default: None,
 };
 
+const EXIT_CODE: OptionWords = OptionWords {
+    name: "exit-code",
+    value: "",
+    help: "Ends with status 3 where members differ",
+    kind: Kind::Flag,
+    required: false,
+    default: None,
+};
+
+const QUIET: OptionWords = OptionWords {
+    name: "quiet",
+    value: "",
+    help: "Shows the last line of the report alone, without the plan",
+    kind: Kind::Flag,
+    required: false,
+    default: None,
+};
+
 const JSON: OptionWords = OptionWords {
     name: "json",
     value: "",
-    help: "Shows the report as a JSON object, in one line",
+    help: "Shows the report, or why the command is refused, as a JSON object, in one line",
     kind: Kind::Flag,
     required: false,
     default: None,
@@ -275,8 +293,8 @@ const MAP_SERVED: OptionWords = OptionWords {
     default: None,
 };
 
-/// The commands on one image.
-pub(crate) const EXAMINE_COMMANDS: [CommandWords; 3] = [
+/// The commands on one image, and the one that tells of which arrays images are members.
+pub(crate) const EXAMINE_COMMANDS: [CommandWords; 4] = [
     CommandWords {
         name: "examine",
         about: "Shows the superblock of a member's image",
@@ -294,6 +312,12 @@ pub(crate) const EXAMINE_COMMANDS: [CommandWords; 3] = [
         about: "Shows the bad block log of a member's image",
         after_help: help::EXAMINE,
         options: &[ALL, JSON, READONLY],
+    },
+    CommandWords {
+        name: "scan",
+        about: "Shows of which arrays the images are members, for mdadm.conf; none given: all block devices",
+        after_help: help::SCAN,
+        options: &[JSON, READONLY],
     },
 ];
 
@@ -366,7 +390,7 @@ pub(crate) const DATA_COMMANDS: [CommandWords; 6] = [
         name: "check",
         about: "Counts the chunks in which members in sync differ; may store marks",
         after_help: help::CHECK,
-        options: &[LIST, JSON, READONLY, MAP],
+        options: &[LIST, EXIT_CODE, JSON, READONLY, MAP],
     },
     CommandWords {
         name: "resync",
@@ -416,6 +440,6 @@ pub(crate) const REBUILD_COMMANDS: [CommandWords; 2] = [
         name: "rebuild",
         about: "Rebuilds a member from all others at once by its plan, and stops the array",
         after_help: help::REBUILD,
-        options: &[MEMBER, RUN, MAP],
+        options: &[MEMBER, QUIET, RUN, MAP],
     },
 ];

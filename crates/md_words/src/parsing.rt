@@ -4,7 +4,7 @@ ghost use Rattle.std.specs.Str.{bytes_eq};
 ghost use Rattle.clap.specs.Words.{FailsBy, fault_of, first_of, found_of, matched_of, raw_values, rows_of, subcommand_of, subcommand_rows_of};
 ghost use Rattle.md_words.specs.Words.{mdcli};
 ghost use Rattle.md_words.specs.Numbers.{number_or_zero};
-ghost use Rattle.md_words.specs.Parsing.{all_in, ask_found, ask_named, ask_to_change, asked, check_form_in, chunk_in, command_fault, count_in, fill_in, full_in, has_maps, image_form_in, image_words, images_found, is_no_size, is_verbose, json_in, lacks_option, list_in, map_out_found, map_out_in, map_out_word, map_words, maps_found, member_at, member_fault, member_in, member_named, names_map_alone, names_no_member, names_no_size, needs_readonly, number_in, option_fault, options_in, output_found, output_in, output_word, place_in, readonly_in, run_found, run_in, runs, serve_in, size_fault, size_in, text_in, uuid_in, value_fault, verbose_found, verbose_in, words_fault};
+ghost use Rattle.md_words.specs.Parsing.{all_in, ask_found, ask_named, ask_to_change, asked, check_form_in, chunk_in, command_fault, count_in, exit_code_in, fill_in, full_in, has_maps, image_form_in, image_words, images_found, is_no_size, is_verbose, json_in, lacks_option, list_in, map_out_found, map_out_in, map_out_word, map_words, maps_found, member_at, member_fault, member_in, member_named, names_map_alone, names_no_member, names_no_size, needs_readonly, number_in, option_fault, options_in, output_found, output_in, output_word, place_in, quiet_in, readonly_in, run_found, run_in, runs, serve_in, size_fault, size_in, text_in, uuid_in, value_fault, verbose_found, verbose_in, words_fault};
 ghost use Rattle.md_words.specs.Asks.{ask_of, options_of};
 
 use crate::command::Command;
@@ -108,6 +108,18 @@ fn is_list(found: &ArgMatches<'_>) -> bool
     ensures { result ≡ list_in (rows_of (found_of found.now)) }
 {
     text_in(found, "list") == "true"
+}
+
+fn is_exit_code(found: &ArgMatches<'_>) -> bool
+    ensures { result ≡ exit_code_in (rows_of (found_of found.now)) }
+{
+    text_in(found, "exit-code") == "true"
+}
+
+fn is_quiet(found: &ArgMatches<'_>) -> bool
+    ensures { result ≡ quiet_in (rows_of (found_of found.now)) }
+{
+    text_in(found, "quiet") == "true"
 }
 
 fn is_json(found: &ArgMatches<'_>) -> bool
@@ -272,6 +284,10 @@ fn command_of<'a>(name: &str, found: &ArgMatches<'a>) -> Command<'a>
         Command::ExamineBadblocks {
             form: image_form(found),
         }
+    } else if name == "scan" {
+        Command::Scan {
+            json: is_json(found),
+        }
     } else if name == "create" {
         Command::Create(create_options(found))
     } else if name == "grow" {
@@ -309,6 +325,7 @@ fn command_of<'a>(name: &str, found: &ArgMatches<'a>) -> Command<'a>
     } else if name == "check" {
         Command::Check {
             form: check_form(found),
+            exit_code: is_exit_code(found),
             readonly: is_readonly(found),
         }
     } else {
@@ -348,6 +365,7 @@ fn command_that_changes<'a>(name: &str, found: &ArgMatches<'a>) -> Command<'a>
     } else if name == "rebuild" {
         Command::Rebuild {
             member: member_in(found),
+            quiet: is_quiet(found),
         }
     } else {
         Command::Examine {

@@ -2,13 +2,14 @@
 //!
 //! Start with `main`. It has the words parsed (`md_words`), lays the maps of `--map` over the files (`maps.rt`,
 //! `files.rt`), makes the files of `--output` and `--map-out` (`output_file.rt`, `map_out.rt`), and leaves the rest to
-//! `run` of `md_cli`.
+//! `run` of `md_cli`. Where `scan` is given no image, it goes over all block devices (`all_devices.rt`).
 //!
 //! ```
 //! mdcli detail --readonly --map sda.img=sda.map sda.img sdb.img
 //! ```
 #![tactic(auto)]
 
+mod all_devices;
 mod arguments;
 mod comparing;
 mod copying;
@@ -26,6 +27,7 @@ mod random;
 mod read_length;
 mod standard_input;
 
+use crate::all_devices::{scan_all, scan_of_all};
 use crate::arguments::arguments;
 use crate::files::FileImages;
 use crate::map_out::{MapOut, begun_map, is_map_made};
@@ -42,7 +44,7 @@ use md_examine::Buffered;
 use md_files::{Cleared, CodedJson, Line};
 use md_masks::MaskedImages;
 use md_messages::Messages;
-use md_words::{CheckForm, Command, ImageForm, Request, parse};
+use md_words::{Request, parse};
 use std::alloc::{AllocError, Global};
 use std::fs::File;
 use std::io::{self, IsTerminal};
@@ -100,7 +102,8 @@ fn main(rt: HostRuntime) -> ExitCode {
         Ok(images) => images,
         Err(fault) => {
             if let Ok(request) = &parsed {
-                tell_refusal(fault, request, messages, &mut err);
+                let mut out = CodedJson::new(standard, request.command.is_json());
+                tell_refusal(rt.alloc(), fault, request, messages, &mut out, &mut err);
             }
             return ExitCode::from(REFUSED);
         }
@@ -124,8 +127,22 @@ fn main(rt: HostRuntime) -> ExitCode {
         random_bytes: bytes_if_needed(&rt, &parsed),
         missing: None,
         is_all_out: false,
+        mismatched: None,
     };
-    let status = run(&mut session, words, parsed, &mut images, &mut err, messages);
+    let status = match scan_of_all(&parsed) {
+        Some(json) => {
+            let mut devices = FileImages::new(&rt, &progress);
+            scan_all(
+                &rt,
+                json,
+                messages,
+                &mut devices,
+                &mut session.out,
+                &mut err,
+            )
+        }
+        None => run(&mut session, words, parsed, &mut images, &mut err, messages),
+    };
     progress.clear();
     let Session {
         out,
@@ -145,20 +162,9 @@ fn main(rt: HostRuntime) -> ExitCode {
 
 // Whether the report is a JSON object.
 fn is_json<E>(parsed: &Result<Request<'_>, E>) -> bool {
-    let Ok(request) = parsed else {
-        return false;
-    };
-    match request.command {
-        Command::Examine { form }
-        | Command::ExamineBitmap { form }
-        | Command::ExamineBadblocks { form } => {
-            matches!(form, ImageForm::Json | ImageForm::RawJson)
-        }
-        Command::Assemble { json, .. }
-        | Command::Detail { json, .. }
-        | Command::Plan { json, .. } => json,
-        Command::Check { form, .. } => matches!(form, CheckForm::Json),
-        _ => false,
+    match parsed {
+        Ok(request) => request.command.is_json(),
+        Err(_) => false,
     }
 }
 

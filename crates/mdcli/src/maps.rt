@@ -1,12 +1,14 @@
 // Images under the maps that words name.
 use crate::files::FileImages;
+use md_cli::show_why;
 use md_commands::CommandFault;
-use md_examine::{Sink, put_name};
+use md_examine::{Output, Sink, put_name};
 use md_masks::{
     MapRefusal, MapText, MapWord, MapsFault, MaskedImages, map_advice, map_list, mask_images,
     strange_command,
 };
 use md_messages::{Messages, advise};
+use md_report::refusal_json;
 use md_words::Request;
 use std::alloc::{AllocError, Global};
 use std::fs::File;
@@ -14,6 +16,9 @@ use std::io::{self, ErrorKind, Read, Write};
 
 // No map of a disk has so many bytes: each block of it takes some 40.
 const LIMIT: u64 = 64 << 20;
+
+// What a refusal's line begins with.
+const PROGRAM: &str = "mdcli: ";
 
 // So much of a map's own line is shown.
 const SHOWN: usize = 400;
@@ -97,40 +102,92 @@ fn unread(place: usize, error: io::Error) -> MapsFault {
     MapsFault::BadMap(place, MapRefusal::Unread(error))
 }
 
-/// Says why the maps are refused, as `run` says why a command is.
-pub fn tell_refusal<E: Write + Sink>(
+/// Says why the maps are refused, as `run` says why a command is: on `err`, and on `out` where the report was to be a JSON object.
+pub fn tell_refusal<S: Sink, E: Write + Sink>(
+    alloc: Global,
     fault: MapsFault,
     request: &Request<'_>,
     messages: Messages,
+    out: &mut S,
     err: &mut E,
 ) {
-    let _ = writeln!(err, "mdcli: {fault}");
-    if messages == Messages::Plain {
-        return;
-    }
     match fault {
         MapsFault::BadMap(place, refusal) => {
-            if let Some(word) = request.maps.get(place) {
-                let _ = put_name(err, word);
-                let _ = write!(err, ": ");
-            }
-            let what_to_do = map_advice(&refusal);
-            let _ = match refusal {
-                MapRefusal::Unread(error) => writeln!(err, "{error}; {what_to_do}"),
-                _ => writeln!(err, "{what_to_do}"),
-            };
+            tell_bad_map(alloc, place, &refusal, request, messages, out, err);
         }
         MapsFault::BadImage(image, refusal) => {
             let fault = CommandFault::BadImage(image, refusal);
-            advise(&fault, &request.images, request.command, err);
+            tell_fault(alloc, &fault, request, messages, out, err);
         }
         MapsFault::NoMemory => {
-            advise(
-                &CommandFault::NoMemory,
-                &request.images,
-                request.command,
-                err,
-            );
+            let fault = CommandFault::NoMemory;
+            tell_fault(alloc, &fault, request, messages, out, err);
         }
     }
+}
+
+fn tell_fault<S: Sink, E: Write>(
+    alloc: Global,
+    fault: &CommandFault,
+    request: &Request<'_>,
+    messages: Messages,
+    out: &mut S,
+    err: &mut E,
+) {
+    let (command, names) = (request.command, request.images.as_slice());
+    let _ = writeln!(err, "mdcli: {fault}");
+    if messages != Messages::Plain {
+        advise(fault, names, command, err);
+    }
+    show_why(alloc, fault, command, names, out);
+}
+
+fn tell_bad_map<S: Sink, E: Write>(
+    alloc: Global,
+    place: usize,
+    refusal: &MapRefusal,
+    request: &Request<'_>,
+    messages: Messages,
+    out: &mut S,
+    err: &mut E,
+) {
+    let word = request.maps.get(place).copied();
+    let _ = writeln!(err, "mdcli: BadMap {place} {refusal}");
+    if messages != Messages::Plain && put_advice(word, refusal, err).is_some() {
+        let _ = writeln!(err);
+    }
+    if request.command.is_json() {
+        let _ = show_bad_map(alloc, place, word, refusal, out);
+    }
+}
+
+// What to do about a map that is refused. None where a write fails.
+fn put_advice<E: Write>(word: Option<&str>, refusal: &MapRefusal, out: &mut E) -> Option<()> {
+    if let Some(word) = word {
+        put_name(&mut Output::new(&mut *out), word).ok()?;
+        write!(out, ": ").ok()?;
+    }
+    let what_to_do = map_advice(refusal);
+    match refusal {
+        MapRefusal::Unread(error) => write!(out, "{error}; {what_to_do}").ok(),
+        _ => write!(out, "{what_to_do}").ok(),
+    }
+}
+
+// None where there is no memory, or the output fails.
+fn show_bad_map<S: Sink>(
+    alloc: Global,
+    place: usize,
+    word: Option<&str>,
+    refusal: &MapRefusal,
+    out: &mut S,
+) -> Option<()> {
+    let mut fault = Vec::new(alloc);
+    write!(fault, "BadMap {place} {refusal}").ok()?;
+    let mut line = Vec::from_slice(alloc, PROGRAM.as_bytes()).ok()?;
+    line.extend_from_slice(&fault).ok()?;
+    let mut advice = Vec::new(alloc);
+    put_advice(word, refusal, &mut advice)?;
+    refusal_json(out, &fault, &line, Some(&advice)).ok()?;
+    out.flush().ok()
 }

@@ -37,6 +37,10 @@ fault_text (command.Write why) = begin_text why
 fault_text (command.Stop why) = stop_text why
 fault_text command.OutputFault = codes "OutputFault"
 
+-- the text of a fault after the program's name
+unfoldable pub told_fault : CommandFault → List ℕ
+told_fault why = codes "mdcli: " ++ fault_text why
+
 -- the line that standard error is told
 unfoldable pub refusal_line : CommandFault → List ℕ
 refusal_line why = codes "mdcli: " ++ fault_text why ++ codes "\n"

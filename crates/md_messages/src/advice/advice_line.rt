@@ -13,6 +13,7 @@ use md_metadata::StopFault;
 use md_rebuild_table::RebuildFault;
 use md_resync::ResyncFault;
 use md_words::{Command, LongTask};
+use std::alloc::Global;
 use std::io::Write;
 
 // The image that a fault is about.
@@ -170,18 +171,42 @@ pub fn advise<'a, E: Write>(
     command: Command<'a>,
     err: &mut E,
 ) {
+    if put_advice(fault, names, command, err).is_some() {
+        let _ = writeln!(err);
+    }
+}
+
+/// What to do about a fault, in memory, without the end of the line; none where there is no memory for it.
+pub fn advice_words<'a>(
+    alloc: Global,
+    fault: &CommandFault,
+    names: &[&'a str],
+    command: Command<'a>,
+) -> Option<Vec<u8>> {
+    let mut words = Vec::new(alloc);
+    put_advice(fault, names, command, &mut words)?;
+    Some(words)
+}
+
+// None where a write fails.
+fn put_advice<'a, E: Write>(
+    fault: &CommandFault,
+    names: &[&'a str],
+    command: Command<'a>,
+    out: &mut E,
+) -> Option<()> {
     if let Some(culprit) = culprit_of(fault) {
         if let Some(path) = path_of(culprit, names, command) {
-            let _ = put_name(&mut Output::new(&mut *err), path);
-            let _ = write!(err, ": ");
+            put_name(&mut Output::new(&mut *out), path).ok()?;
+            write!(out, ": ").ok()?;
         }
     }
     let what_to_do = what_to_do(fault, names, command);
-    let _ = match fault {
+    match fault {
         CommandFault::BadImage(_, ImageRefusal::Unopened(ImageFault::Io(error))) => {
-            writeln!(err, "{error}; {what_to_do}")
+            write!(out, "{error}; {what_to_do}").ok()
         }
-        CommandFault::BadImage(_, refusal) => writeln!(err, "{refusal}"),
-        _ => writeln!(err, "{what_to_do}"),
-    };
+        CommandFault::BadImage(_, refusal) => write!(out, "{refusal}").ok(),
+        _ => write!(out, "{what_to_do}").ok(),
+    }
 }

@@ -1,13 +1,15 @@
 // The text of a fault of a command.
+ghost use Rattle.std.specs.Prelude.{◌≡◌, IfOk};
 ghost use Rattle.md_examine.specs.Sink.{PutsOrFails};
-ghost use Rattle.md_messages.specs.FaultText.Commands.{refusal_line, fault_text};
+ghost use Rattle.md_messages.specs.FaultText.Commands.{refusal_line, fault_text, told_fault};
 
 use crate::fault_text::calls::{put_check, put_rebuild, put_resync, put_stop, put_unread};
 use crate::fault_text::members::put_member;
 use crate::fault_text::openings::{put_create, put_grow, put_open, put_option};
 use crate::fault_text::steps::{put_add, put_begin, put_fail, put_re_add, put_remove};
 use md_commands::CommandFault;
-use md_examine::{Sink, SinkFault, number_after};
+use md_examine::{Output, Sink, SinkFault, number_after};
+use std::alloc::Global;
 
 #[tactic(auto, unfolding(crate::specs::FaultText::Commands::fault_text))]
 fn put_fault<S: Sink>(out: &mut S, fault: &CommandFault) -> Result<(), SinkFault>
@@ -52,4 +54,32 @@ pub fn put_fault_line<S: Sink>(out: &mut S, fault: &CommandFault) -> Result<(), 
     put_fault(out, fault)?;
     out.put(b"\n")?;
     Ok(())
+}
+
+// The text of a fault after the program's name.
+#[tactic(auto, unfolding(crate::specs::FaultText::Commands::told_fault), using(md_examine::proofs::Puts::puts_then))]
+fn put_told_fault<S: Sink>(out: &mut S, fault: &CommandFault) -> Result<(), SinkFault>
+    ensures { PutsOrFails S.contents S.failed out.old out.new (told_fault fault.now) result }
+{
+    out.put(b"mdcli: ")?;
+    put_fault(out, fault)?;
+    Ok(())
+}
+
+/// The name and the values of a fault. It fails only where there is no memory.
+pub fn fault_words(alloc: Global, fault: &CommandFault) -> Result<Vec<u8>, SinkFault>
+    ensures { IfOk result (λ words. words.items ≡ fault_text fault.now) }
+{
+    let mut out = Output::new(Vec::new(alloc));
+    put_fault(&mut out, fault)?;
+    Ok(out.into_inner())
+}
+
+/// The line of a command that is refused, without its end. It fails only where there is no memory.
+pub fn refusal_words(alloc: Global, fault: &CommandFault) -> Result<Vec<u8>, SinkFault>
+    ensures { IfOk result (λ words. words.items ≡ told_fault fault.now) }
+{
+    let mut out = Output::new(Vec::new(alloc));
+    put_told_fault(&mut out, fault)?;
+    Ok(out.into_inner())
 }

@@ -75,8 +75,8 @@ fn put_log_part<S: Sink>(out: &mut S, fault: LogFault) -> Result<(), SinkFault>
     Ok(())
 }
 
-/// Puts out why a device is not read as a member.
-pub(crate) fn put_member<S: Sink>(out: &mut S, fault: MemberFault) -> Result<(), SinkFault>
+/// Puts out why a device is not read as a member. It takes no memory, and fails only where the output has failed.
+pub fn put_member<S: Sink>(out: &mut S, fault: MemberFault) -> Result<(), SinkFault>
     ensures { PutsOrFails S.contents S.failed out.old out.new (member_refusal_text fault) result }
 {
     match fault {

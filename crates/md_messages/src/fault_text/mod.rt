@@ -13,4 +13,5 @@ mod members;
 mod openings;
 mod steps;
 
-pub use commands::put_fault_line;
+pub use commands::{fault_words, put_fault_line, refusal_words};
+pub use members::put_member;

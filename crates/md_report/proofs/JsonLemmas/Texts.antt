@@ -105,6 +105,11 @@ puts_list contents failed {a = a} {e = e} f name xs key bracket elements close =
     let P : List ℕ → Type 0 = λ t. Puts contents failed a e ((44 ∷ key_text name) ++ (91 ∷ t)) in
     subst P (elements_closed f false xs) (puts_then contents failed key (puts_then contents failed bracket (puts_then contents failed elements close)))
 
+pub puts_array : {S : Type 0} (contents : S → Option (List ℕ)) (failed : S → Bool) {a b c d : S} {X : Type 0} (f : X → Data) (xs : List X) → Puts contents failed a b (91 ∷ []) → Puts contents failed b c (elements_text f false xs) → Puts contents failed c d (93 ∷ []) → Puts contents failed a d (compact_text (list_of f xs))
+puts_array contents failed {a = a} {d = d} f xs bracket elements close =
+    let P : List ℕ → Type 0 = λ t. Puts contents failed a d (91 ∷ t) in
+    subst P (elements_closed f false xs) (puts_then contents failed bracket (puts_then contents failed elements close))
+
 -- whether something stands before element i
 abbrev pub is_later : Bool → ℕ → Bool
 is_later later zero = later

@@ -1,4 +1,4 @@
--- The objects of a whole array: in short and in detail. In each the members come last.
+-- The objects of a whole array: in short and in detail. In detail lists come after the members.
 use Rattle.std.specs.Prelude.{ℕ, not, List, [], ◌∷◌, codes}
 use Rattle.uuid.specs.Text.{hyphenated_text, lower}
 use Rattle.serde_json.specs.Data.{Data, boolean, string}
@@ -10,6 +10,7 @@ use Rattle.md_examine.specs.SuperblockReport.{state_text}
 use Rattle.md_report.specs.SummaryReport.{in_sync_members, marked_chunks}
 use Rattle.md_report.specs.AsJson.MemberObjects.{member_list}
 use Rattle.md_report.specs.AsJson.Objects.{Field, field, report_of, whole}
+use Rattle.md_report.specs.AsJson.StandingLists.{standing_fields}
 
 unfoldable pub members_fields : ArrayView → List (List ℕ) → List Field
 members_fields a images = field (codes "members") (member_list a images) ∷ []
@@ -48,4 +49,4 @@ abbrev pub summary_object : ArrayView → List (List ℕ) → Data
 summary_object a images = report_of (codes "assemble") (summary_fields a ∷ members_fields a images ∷ [])
 
 abbrev pub detail_object : ArrayView → List (List ℕ) → Data
-detail_object a images = report_of (codes "detail") (shared_fields a.shared ∷ condition_fields a ∷ members_fields a images ∷ [])
+detail_object a images = report_of (codes "detail") (shared_fields a.shared ∷ condition_fields a ∷ members_fields a images ∷ standing_fields a ∷ [])

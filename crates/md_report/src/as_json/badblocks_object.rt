@@ -32,7 +32,8 @@ fn run_list<S: Sink>(out: &mut S, runs: &[Run]) -> Result<(), SinkFault>
     Ok(())
 }
 
-fn run_elements<S: Sink>(out: &mut S, runs: &[Run]) -> Result<(), SinkFault>
+/// The runs, as the elements of a list.
+pub(crate) fn run_elements<S: Sink>(out: &mut S, runs: &[Run]) -> Result<(), SinkFault>
     ensures { PutsOrFails S.contents S.failed out.old out.new
         (elements_text run_object false runs.now) result }
 {

@@ -1,17 +1,19 @@
 // The object of a check.
-ghost use Rattle.std.specs.Prelude.{◌≡◌, ◌<◌, ◌||◌, ◌++◌, codes, false, if◌then◌else◌, []};
+ghost use Rattle.std.specs.Prelude.{◌≡◌, ◌<◌, ◌++◌, codes, false, if◌then◌else◌, length, []};
 ghost use Rattle.std.specs.Int.{div_ceil};
 ghost use Rattle.std.specs.List.{All};
 ghost use Rattle.serde_json.specs.Written.{comma_if, compact_text};
 ghost use Rattle.md_bitmap.specs.Marks.{is_set};
 ghost use Rattle.md_check.specs.Differences.{IsSized};
 ghost use Rattle.md_examine.specs.Sink.{PutsOrFails};
-ghost use Rattle.md_report.specs.AsJson.CheckObject.{check_object, chunk_list_fields, chunk_object, chunks_to, count_fields, pair_value, pairs_in, run_of_chunk};
+ghost use Rattle.md_report.specs.AsJson.CheckObject.{check_object, chunk_list_fields, chunk_object, chunks_to, compared_fields, compared_to, count_fields, pair_value, pairs_in, run_of_chunk};
 ghost use Rattle.md_report.specs.AsJson.MemberObjects.{texts_of};
-ghost use Rattle.md_report.specs.AsJson.Objects.{elements_text, later_text, object_line, list_of, next_text};
+ghost use Rattle.md_report.specs.AsJson.Objects.{elements_text, later_text, object_line, list_of, next_text, whole};
 
 use crate::as_json::member_objects::members;
-use crate::as_json::values::{close, comma_if, next_key, next_number, number, open, open_number};
+use crate::as_json::values::{
+    chosen_number, close, comma_if, next_key, next_number, number, open, open_number, stands_before,
+};
 use md_array::Mirror;
 use md_badblocks::Run;
 use md_bitmap::{Chunks, Marks};
@@ -20,8 +22,8 @@ use md_device::Device;
 use md_examine::{Sink, SinkFault};
 
 /// Writes a check as an object, alone in its line: in how many chunks members in sync differ, of each of these the
-/// sectors and the pairs of members that differ there, and the members, of which `images` are the names. It takes no
-/// memory, and fails only where the sink has failed.
+/// sectors and the pairs of members that differ there, the members, of which `images` are the names, and the indices of those
+/// that were compared. It takes no memory, and fails only where the sink has failed.
 pub fn check_json<S: Sink, D: Device + Drop>(
     out: &mut S,
     found: &Comparison,
@@ -36,6 +38,7 @@ pub fn check_json<S: Sink, D: Device + Drop>(
     mismatch_counts(out, &found.chunks)?;
     chunk_list(out, mirror.chunks(), found)?;
     members(out, mirror, images)?;
+    compared_members(out, mirror)?;
     close(out)?;
     Ok(())
 }
@@ -44,6 +47,38 @@ fn mismatch_counts<S: Sink>(out: &mut S, set: &Marks) -> Result<(), SinkFault>
     ensures { PutsOrFails S.contents S.failed out.old out.new (later_text (count_fields set.now)) result }
 {
     next_number(out, "mismatched_chunks", set.count())?;
+    Ok(())
+}
+
+// The members in sync.
+fn compared_members<S: Sink, D: Device + Drop>(
+    out: &mut S,
+    mirror: &Mirror<D>,
+) -> Result<(), SinkFault>
+    ensures { PutsOrFails S.contents S.failed out.old out.new
+        (later_text (compared_fields mirror.now.array.members)) result }
+{
+    next_key(out, "compared_members")?;
+    out.put(b"[")?;
+    compared_elements(out, mirror)?;
+    out.put(b"]")?;
+    Ok(())
+}
+
+fn compared_elements<S: Sink, D: Device + Drop>(
+    out: &mut S,
+    mirror: &Mirror<D>,
+) -> Result<(), SinkFault>
+    ensures { PutsOrFails S.contents S.failed out.old out.new
+        (elements_text whole false
+        (compared_to mirror.now.array.members (length mirror.now.array.members))) result }
+{
+    let mut later = false;
+    for k in 0..mirror.members() {
+        let compared = mirror.state(k).is_in_sync();
+        chosen_number(out, later, compared, k)?;
+        later = stands_before(later, compared);
+    }
     Ok(())
 }
 
@@ -72,13 +107,6 @@ fn chunk_elements<S: Sink>(out: &mut S, chunks: Chunks, found: &Comparison) -> R
         later = stands_before(later, differs);
     }
     Ok(())
-}
-
-// Whether an element stands before the next one.
-fn stands_before(later: bool, written: bool) -> bool
-    ensures { result ≡ (later || written) }
-{
-    later || written
 }
 
 // A chunk in which members differ.

@@ -14,6 +14,8 @@ mod check_object;
 mod member_objects;
 mod plan_object;
 mod quoting;
+mod refusal_object;
+mod standing_lists;
 mod superblock_object;
 pub mod values;
 
@@ -23,4 +25,5 @@ pub use bitmap_object::bitmap_json;
 pub use check_object::check_json;
 pub use plan_object::plan_json;
 pub use quoting::put_quoted;
+pub use refusal_object::refusal_json;
 pub use superblock_object::superblock_json;

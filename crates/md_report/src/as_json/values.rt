@@ -1,6 +1,6 @@
 //! How an object is written: fields after the first one, each with its comma, its name and its value.
 
-ghost use Rattle.std.specs.Prelude.{◌≡◌, ◌++◌, ◌∷◌, codes};
+ghost use Rattle.std.specs.Prelude.{◌≡◌, ◌||◌, ◌++◌, ◌∷◌, [], codes, if◌then◌else◌};
 ghost use Rattle.std.specs.Fmt.{signed_decimal};
 ghost use Rattle.uuid.specs.Text.{hyphenated_text, lower};
 ghost use Rattle.json.specs.Print.{quoted, token_text};
@@ -9,7 +9,7 @@ ghost use Rattle.serde_json.specs.Written.{comma_if, compact_text};
 ghost use Rattle.md_examine.specs.Lines.{name_text};
 ghost use Rattle.md_examine.specs.Sink.{PutsOrFails};
 ghost use Rattle.md_examine.specs.SuperblockReport.{state_text};
-ghost use Rattle.md_report.specs.AsJson.Objects.{close_text, key_text, next_text, open_text, signed};
+ghost use Rattle.md_report.specs.AsJson.Objects.{close_text, key_text, next_text, open_text, signed, whole};
 
 use crate::as_json::quoting::put_quoted;
 use itoa::{Buffer, Integer};
@@ -117,6 +117,39 @@ pub fn open_number<S: Sink, I: Integer>(out: &mut S, name: &str, n: I) -> Result
 {
     out.put(b"{")?;
     key(out, name)?;
+    number(out, n)?;
+    Ok(())
+}
+
+/// Whether an element stands before the next one.
+pub(crate) fn stands_before(later: bool, written: bool) -> bool
+    ensures { result ≡ (later || written) }
+{
+    later || written
+}
+
+/// A number as an element of a list, where it is one of those that are chosen.
+pub(crate) fn chosen_number<S: Sink>(
+    out: &mut S,
+    later: bool,
+    chosen: bool,
+    n: usize,
+) -> Result<(), SinkFault>
+    ensures { PutsOrFails S.contents S.failed out.old out.new
+        (if chosen then (comma_if later ++ compact_text (whole n)) else []) result }
+{
+    if !chosen {
+        return Ok(());
+    }
+    number_element(out, later, n)
+}
+
+#[tactic(auto, using(md_examine::proofs::Puts::puts_then))]
+fn number_element<S: Sink>(out: &mut S, later: bool, n: usize) -> Result<(), SinkFault>
+    ensures { PutsOrFails S.contents S.failed out.old out.new
+        (comma_if later ++ compact_text (whole n)) result }
+{
+    out.put(comma_if(later))?;
     number(out, n)?;
     Ok(())
 }

@@ -16,4 +16,5 @@ returns-in-Ok-clause-answers g c =
       agreed = subst (λ asker. question g.A.Asker ask names c.args.notices.now c.args.session.now.asker asker (Ok tt)) (sym c.perform.ensures.unasked) c.in-Ok.ensures;
       performs = performs_asked g.R.Source g.S.Sink names (view c.args.opened.now) (view c.perform.new.opened) (streams_of c.args.session.now) (streams_of c.perform.new.session) c.ask_first.new.asker c.perform.result ask c.perform.ensures.performs;
       noted = c.perform.ensures.noted;
+      counted = c.perform.ensures.counted;
     })

@@ -1,4 +1,5 @@
-use Rattle.std.proofs.Common.{MatchResult, refl, subst, sym}
+use Rattle.std.proofs.Common.{◌≡◌, MatchResult, refl, subst, sym}
+use Rattle.md_bitmap.specs.Marks.{count_set}
 use Rattle.md_check.specs.Differences.{IsSized}
 use Rattle.md_report.specs.AsJson.MemberObjects.{texts_of}
 use Rattle.md_state.specs.View.{ArrayView}
@@ -20,7 +21,7 @@ returns-clause-gives g c =
     let images = texts_of c.args.images.now in
     let compares = own_ok _ _ _ c.compare_members.result _ _ c.compare_members.ensures.gives c.in_ok-found.ensures.cases c.in_ok-found.ensures.variant refl in
     let old = c.args.mirror.now in
-    let shown = subst (λ (a : ArrayView). MatchResult put.result (λ _. PutsOut g.S.Sink c.args.out.now put.new.out (checked_line a images c.in_ok-found.found)) (FailsOutput g.S.Sink put.new.out)) compares.finds.rests.array put.ensures in
+    let shown = subst (λ (a : ArrayView). MatchResult put.result (λ count. (count ≡ count_set c.in_ok-found.found.chunks.bytes c.in_ok-found.found.chunks.chunks) × PutsOut g.S.Sink c.args.out.now put.new.out (checked_line a images c.in_ok-found.found)) (FailsOutput g.S.Sink put.new.out)) compares.finds.rests.array put.ensures in
     listed_or_not g.S.Sink old c.compare_members.new.mirror c.args.out.now put.new.out (checked_line old.array images) c.in_ok-found.found compares put.result shown
 
 pub returns-clause-told_of_reads : goal.returns-clause-told_of_reads

@@ -1,5 +1,6 @@
-use Rattle.std.proofs.Common.{MatchResult, refl, subst, sym}
+use Rattle.std.proofs.Common.{◌≡◌, MatchResult, refl, subst, sym}
 use Rattle.md_bitmap.specs.declared.chunks.Chunks.{Chunks}
+use Rattle.md_bitmap.specs.Marks.{count_set}
 use Rattle.md_check.specs.Differences.{IsSized}
 use Rattle.md_report.specs.CheckReport.{list_text}
 use Rattle.md_commands.specs.Output.{FailsOutput, PutsOut}
@@ -18,7 +19,7 @@ returns-clause-gives g c =
     let put = c.put_listed in
     let compares = own_ok _ _ _ c.compare_members.result _ _ c.compare_members.ensures.gives c.in_ok-found.ensures.cases c.in_ok-found.ensures.variant refl in
     let old = c.args.mirror.now in
-    let shown = subst (λ (chunks : Chunks). MatchResult put.result (λ _. PutsOut g.S.Sink c.args.out.now put.new.out (list_text chunks c.in_ok-found.found)) (FailsOutput g.S.Sink put.new.out)) c.chunks-chunks.ensures put.ensures in
+    let shown = subst (λ (chunks : Chunks). MatchResult put.result (λ count. (count ≡ count_set c.in_ok-found.found.chunks.bytes c.in_ok-found.found.chunks.chunks) × PutsOut g.S.Sink c.args.out.now put.new.out (list_text chunks c.in_ok-found.found)) (FailsOutput g.S.Sink put.new.out)) c.chunks-chunks.ensures put.ensures in
     listed_or_not g.S.Sink old c.compare_members.new.mirror c.args.out.now put.new.out (list_text old.array.chunks) c.in_ok-found.found compares put.result shown
 
 pub returns-clause-told_of_reads : goal.returns-clause-told_of_reads

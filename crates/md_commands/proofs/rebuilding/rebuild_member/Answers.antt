@@ -1,7 +1,7 @@
 use Rattle.std.proofs.Common.{rules, ◌≡◌, ℕ, length, refl, subst}
 use Rattle.std.specs.Prelude.{Err, ◌<◌}
 use Rattle.md_commands.specs.declared.fault.CommandFault.TheVariants.{BadMember}
-use Rattle.md_commands.specs.Rebuilding.{RebuildsResynced, RefusesReadied}
+use Rattle.md_commands.specs.Rebuilding.{RebuildsResynced, RefusesReadied, rebuilt_shown}
 use Rattle.md_commands.specs.Stopping.{StopsAfter}
 use Rattle.md_commands.proofs.Rebuilt.{not_rebuilt, rebuilt_or_not}
 use Rattle.md_commands.proofs.rebuilding.rebuild_member.Goals as goal
@@ -27,4 +27,4 @@ returns-clause-gives g c =
     let new = c.rebuild_and_stop.new.mirror in
     let told = c.in_ok-rebuilt.rebuilt in
     let done = subst (λ (n : ℕ). StopsAfter (RebuildsResynced n told old) new) c.in_ok-k.ensures.0 c.in_ok-rebuilt.ensures.gives in
-    rebuilt_or_not g.S.Sink c.args.member old new c.args.out.now c.put_rebuilt.new.out told done c.put_rebuilt.result c.put_rebuilt.ensures
+    rebuilt_or_not g.S.Sink c.args.member old new c.args.out.now (rebuilt_shown c.args.quiet c.args.member) c.put_rebuilt.new.out told done c.put_rebuilt.result c.put_rebuilt.ensures
