@@ -2,13 +2,14 @@
 # SPDX-License-Identifier: MIT OR Apache-2.0
 
 _mdcli_commands() {
-  printf '%s\n' examine examine-bitmap examine-badblocks create grow assemble detail plan read serve write check resync stop fail remove add re-add rebuild help
+  printf '%s\n' examine examine-bitmap examine-badblocks scan create grow assemble detail plan read serve write check resync stop fail remove add re-add rebuild help
 }
 
 # The options of a command, beside --help and --verbose. A value follows one that ends in =.
 _mdcli_options() {
   case $1 in
     examine | examine-bitmap | examine-badblocks) printf '%s\n' --all --json --readonly ;;
+    scan) printf '%s\n' --json --readonly ;;
     create) printf '%s\n' --level= --raid-devices= --uuid= --name= --bitmap-chunk= --size= --time= --write-mostly= --assume-clean --run ;;
     grow) printf '%s\n' --bitmap= --bitmap-chunk= ;;
     assemble | detail) printf '%s\n' --json --readonly --map= ;;
@@ -16,12 +17,12 @@ _mdcli_options() {
     read) printf '%s\n' --sector= --count= --fill --map-out= --output= --readonly --map= ;;
     serve) printf '%s\n' --fill --readonly --map= ;;
     write) printf '%s\n' --sector= ;;
-    check) printf '%s\n' --list --json --readonly --map= ;;
+    check) printf '%s\n' --list --exit-code --json --readonly --map= ;;
     resync) printf '%s\n' --map= ;;
     fail | remove) printf '%s\n' --member= ;;
     add) printf '%s\n' --device= --run ;;
     re-add) printf '%s\n' --device= --full --run ;;
-    rebuild) printf '%s\n' --member= --run --map= ;;
+    rebuild) printf '%s\n' --member= --quiet --run --map= ;;
   esac
 }
 

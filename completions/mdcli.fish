@@ -8,6 +8,7 @@ complete -c mdcli -n __fish_use_subcommand -s V -l version -d 'Print the version
 complete -c mdcli -n __fish_use_subcommand -a examine -d "Shows the superblock of a member's image"
 complete -c mdcli -n __fish_use_subcommand -a examine-bitmap -d "Shows the write-intent bitmap of a member's image"
 complete -c mdcli -n __fish_use_subcommand -a examine-badblocks -d "Shows the bad block log of a member's image"
+complete -c mdcli -n __fish_use_subcommand -a scan -d "Shows of which arrays the images are members, for mdadm.conf; none given: all block devices"
 complete -c mdcli -n __fish_use_subcommand -a create -d "Makes an array of the images; what they held is lost"
 complete -c mdcli -n __fish_use_subcommand -a grow -d "Gives the members of an array a write-intent bitmap that it lacks"
 complete -c mdcli -n __fish_use_subcommand -a assemble -d "Shows in a line what array the images make; may store marks"
@@ -29,8 +30,8 @@ complete -c mdcli -n __fish_use_subcommand -a help -d "Shows the help of a comma
 complete -c mdcli -n 'not __fish_use_subcommand; and not __fish_seen_subcommand_from help' -F
 
 complete -c mdcli -n '__fish_seen_subcommand_from examine examine-bitmap examine-badblocks' -l all -d "Shows what stands there, though it may be refused, with each fault in it"
-complete -c mdcli -n '__fish_seen_subcommand_from examine examine-bitmap examine-badblocks assemble detail plan check' -l json -d "Shows the report as a JSON object, in one line"
-complete -c mdcli -n '__fish_seen_subcommand_from examine examine-bitmap examine-badblocks assemble detail plan read check' -l readonly -d "Changes no image: what would be stored is kept in memory"
+complete -c mdcli -n '__fish_seen_subcommand_from examine examine-bitmap examine-badblocks scan assemble detail plan check' -l json -d "Shows the report, or why the command is refused, as a JSON object, in one line"
+complete -c mdcli -n '__fish_seen_subcommand_from examine examine-bitmap examine-badblocks scan assemble detail plan read check' -l readonly -d "Changes no image: what would be stored is kept in memory"
 complete -c mdcli -n '__fish_seen_subcommand_from create' -l level -x -a 'raid1 mirror 1' -d "The RAID level: 1, raid1 or mirror"
 complete -c mdcli -n '__fish_seen_subcommand_from create' -l raid-devices -x -d "The number of members"
 complete -c mdcli -n '__fish_seen_subcommand_from create' -l uuid -x -d "The UUID of the array, with hyphens or as mdadm writes it: by default a random one"
@@ -53,8 +54,10 @@ complete -c mdcli -n '__fish_seen_subcommand_from serve' -l fill -d "With --read
 complete -c mdcli -n '__fish_seen_subcommand_from serve' -l readonly -d "Changes no image, and refuses writes"
 complete -c mdcli -n '__fish_seen_subcommand_from serve' -l map -x -d "With --readonly: the image is a copy of a disk, and FILE ddrescue's map of it: what it lacks is not read; of each image one"
 complete -c mdcli -n '__fish_seen_subcommand_from check' -l list -d "Shows where members differ too, and which: a line for each such chunk"
+complete -c mdcli -n '__fish_seen_subcommand_from check' -l exit-code -d "Ends with status 3 where members differ"
 complete -c mdcli -n '__fish_seen_subcommand_from add re-add' -l device -r -F -d "The image that joins the array: a file or a block device, none of those listed"
 complete -c mdcli -n '__fish_seen_subcommand_from re-add' -l full -d "Rebuilds all of it, whatever its bitmap says"
-complete -c mdcli -n '__fish_seen_subcommand_from examine examine-bitmap examine-badblocks create grow assemble detail plan read serve write check resync stop fail remove add re-add rebuild' -s v -l verbose -d "Says more of a refusal: the image that it is about, and what to do"
+complete -c mdcli -n '__fish_seen_subcommand_from rebuild' -l quiet -d "Shows the last line of the report alone, without the plan"
+complete -c mdcli -n '__fish_seen_subcommand_from examine examine-bitmap examine-badblocks scan create grow assemble detail plan read serve write check resync stop fail remove add re-add rebuild' -s v -l verbose -d "Says more of a refusal: the image that it is about, and what to do"
 
 complete -c mdcli -n '__fish_seen_subcommand_from create' -a missing -d 'A member that is not there'
