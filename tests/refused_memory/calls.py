@@ -138,9 +138,14 @@ LATER = {
     "md_masks::mask_images": ("read: OutputFileExists", "detail: BadMap 0 Line 4 Cut"),
 }
 
-# These take no memory: one says so where a count is spent, one gives a list of faults, which may be that a decoding found none, and of one
+# These take no memory: one says so where a count is spent, one gives a list of faults, which may be that a decoding found none, and of two
 # the contract excludes that fault.
-TAKES_NONE = {"md_device::Fuse::share", "md_raw_reports::super_faults_of", "md_rebuild_table::check_rebuild"}
+TAKES_NONE = {
+    "md_device::Fuse::share",
+    "md_examine_commands::show_scan",
+    "md_raw_reports::super_faults_of",
+    "md_rebuild_table::check_rebuild",
+}
 
 NOT_SHIPPED = re.compile(r"(.*_tests|example_members|bench_parts|mdcli)$")
 TYPE = re.compile(r"^pub (?:enum|struct) (\w+)[^;{]*\{(.*?)^\}", re.M | re.S)
