@@ -40,6 +40,10 @@ class Command:
         """Of the words for images the parser takes any number; the commands on one image have this name."""
         return self.name.startswith("examine")
 
+    def may_name_none(self):
+        """Where no image is named, it goes over all block devices."""
+        return self.name == "scan"
+
 
 def help_of(words):
     """Help is status 2, with its text on standard error."""
