@@ -10,7 +10,7 @@ _mdcli_options() {
   case $1 in
     examine | examine-bitmap | examine-badblocks) printf '%s\n' --all --json --readonly ;;
     scan) printf '%s\n' --json --readonly ;;
-    create) printf '%s\n' --level= --raid-devices= --uuid= --name= --bitmap-chunk= --size= --time= --write-mostly= --assume-clean --run ;;
+    create) printf '%s\n' --level= --raid-devices= --uuid= --name= --bitmap-chunk= --size= --time= --write-mostly= --assume-clean --json --run ;;
     grow) printf '%s\n' --bitmap= --bitmap-chunk= ;;
     assemble | detail) printf '%s\n' --json --readonly --map= ;;
     plan) printf '%s\n' --member= --json --readonly --map= ;;
@@ -19,10 +19,11 @@ _mdcli_options() {
     write) printf '%s\n' --sector= ;;
     check) printf '%s\n' --list --exit-code --json --readonly --map= ;;
     resync) printf '%s\n' --map= ;;
+    stop) printf '%s\n' --json ;;
     fail | remove) printf '%s\n' --member= ;;
-    add) printf '%s\n' --device= --run ;;
+    add) printf '%s\n' --device= --json --run ;;
     re-add) printf '%s\n' --device= --full --run ;;
-    rebuild) printf '%s\n' --member= --quiet --run --map= ;;
+    rebuild) printf '%s\n' --member= --quiet --json --run --map= ;;
   esac
 }
 

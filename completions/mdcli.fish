@@ -30,7 +30,7 @@ complete -c mdcli -n __fish_use_subcommand -a help -d "Shows the help of a comma
 complete -c mdcli -n 'not __fish_use_subcommand; and not __fish_seen_subcommand_from help' -F
 
 complete -c mdcli -n '__fish_seen_subcommand_from examine examine-bitmap examine-badblocks' -l all -d "Shows what stands there, though it may be refused, with each fault in it"
-complete -c mdcli -n '__fish_seen_subcommand_from examine examine-bitmap examine-badblocks scan assemble detail plan check' -l json -d "Shows the report, or why the command is refused, as a JSON object, in one line"
+complete -c mdcli -n '__fish_seen_subcommand_from examine examine-bitmap examine-badblocks scan create assemble detail plan check stop add rebuild' -l json -d "Shows the report, or why the command is refused, as a JSON object, in one line"
 complete -c mdcli -n '__fish_seen_subcommand_from examine examine-bitmap examine-badblocks scan assemble detail plan read check' -l readonly -d "Changes no image: what would be stored is kept in memory"
 complete -c mdcli -n '__fish_seen_subcommand_from create' -l level -x -a 'raid1 mirror 1' -d "The RAID level: 1, raid1 or mirror"
 complete -c mdcli -n '__fish_seen_subcommand_from create' -l raid-devices -x -d "The number of members"
@@ -45,8 +45,8 @@ complete -c mdcli -n '__fish_seen_subcommand_from create add re-add rebuild' -l 
 complete -c mdcli -n '__fish_seen_subcommand_from grow' -l bitmap -x -a 'internal' -d "The bitmap that the members get: one on each of them"
 complete -c mdcli -n '__fish_seen_subcommand_from assemble detail plan read check resync rebuild' -l map -x -d "The image is a copy of a disk, and FILE ddrescue's map of it: what it lacks is not read; of each image one"
 complete -c mdcli -n '__fish_seen_subcommand_from plan fail remove rebuild' -l member -x -d "The member: its place among the images, from 0, or its image as it is listed"
-complete -c mdcli -n '__fish_seen_subcommand_from read write' -l sector -x -d "The first sector of the array, from 0; a sector has 512 bytes"
-complete -c mdcli -n '__fish_seen_subcommand_from read' -l count -x -d "The number of sectors: by default all up to the end of the array"
+complete -c mdcli -n '__fish_seen_subcommand_from read write' -l sector -x -d "The first sector of the array, from 0; a sector has 512 bytes. As 64M: that far from its start"
+complete -c mdcli -n '__fish_seen_subcommand_from read' -l count -x -d "The number of sectors, or a size as 64M: by default all up to the end of the array"
 complete -c mdcli -n '__fish_seen_subcommand_from read' -l fill -d "Goes on past sectors that are not given, and writes zeros in their place"
 complete -c mdcli -n '__fish_seen_subcommand_from read' -l map-out -x -d "With --fill: makes a new file, ddrescue's map of the array as far as it is read"
 complete -c mdcli -n '__fish_seen_subcommand_from read' -l output -x -d "Makes a new file of the sectors, and writes nothing to standard output; blocks of zeros are holes in it"

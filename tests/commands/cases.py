@@ -308,6 +308,21 @@ Marked Chunks   : 0 of 8
      1      0      0 in sync
 """
 
+# The same with the images, and a line over those of the members.
+DETAIL_WITH_IMAGES = """\
+Array UUID      : 00112233-4455-6677-8899-aabbccddeeff
+Name            : md
+Raid Devices    : 2
+Array Size      : 64 sectors
+In Sync         : 2
+State           : clean
+Events          : 8
+Marked Chunks   : 0 of 8
+ Index Number   Role State  Image
+     0      1      1 in sync  b
+     1      0      0 in sync  a
+"""
+
 DETAIL_OF_RECOVERING = """\
 Array UUID      : 00112233-4455-6677-8899-aabbccddeeff
 Name            : md
@@ -547,6 +562,14 @@ OBJECTS_OF_TWO = ",".join(
     '{"image":"%s","index":%d,"device_number":%d,"role":%d,"state":"in sync","write_mostly":false}' % (name, k, k, k)
     for k, name in enumerate("ab")
 )
+# Two members of three, the second of which stands in the last role, and a spare.
+OBJECTS_AROUND = ",".join(
+    '{"image":"%s","index":%d,"device_number":%d,"role":%d,"state":"in sync","write_mostly":false}' % (name, k, 2 * k, 2 * k)
+    for k, name in enumerate("ab")
+)
+OBJECT_OF_SPARE = ',{"image":"c","index":2,"device_number":3,"role":null,"state":"spare","write_mostly":false}'
+MADE_OBJECT = '{"report":"create","in_sync":2,"raid_devices":3,"events":1,"marked_chunks":0,"members":[%s]}\n' % OBJECTS_AROUND
+ADDED_OBJECT = '{"report":"add","in_sync":2,"raid_devices":3,"events":2,"marked_chunks":0,"members":[%s]}\n' % (OBJECTS_AROUND + OBJECT_OF_SPARE)
 SHORT_OBJECT = '{"report":"assemble","in_sync":2,"raid_devices":2,"events":1,"marked_chunks":0,"members":[%s]}\n' % OBJECTS_OF_TWO
 EQUAL = '{"report":"check","mismatched_chunks":0,"mismatches":[],"members":[%s],"compared_members":[0,1]}\n' % OBJECTS_OF_TWO
 CHECKED = '{"report":"check","mismatched_chunks":1,"mismatches":[{"sector":8,"sectors":8,"pairs":[[0,1]]}],"members":[%s],"compared_members":[0,1]}\n' % OBJECTS_OF_TWO
@@ -671,6 +694,28 @@ CASES = [
             create("raid1", 2, 4, "--assume-clean a b", output=CLEAN, changes="a b"),
             Step("assemble b a", CLEAN),
             Step("detail a b", DETAIL),
+        ],
+    ),
+    (
+        "an array is made, gets a spare and is stopped, as JSON",
+        THREE,
+        [
+            create("raid1", 3, 4, "--json --assume-clean a missing b", output=MADE_OBJECT, changes="a b"),
+            Step("add --json --device c a b", ADDED_OBJECT, changes="a b c"),
+            Step("stop --json a b c", ADDED_OBJECT.replace("add", "stop")),
+            Step("stop a b c", "in sync 2 of 3, events 2, marked 0\n"),
+            create("5", 3, 4, "--json a missing b", output=('{"fault":"BadLevel","text":"mdcli: BadLevel","advice":"', '"}\n'), fault="BadLevel"),
+        ],
+    ),
+    (
+        "sectors as sizes",
+        TWO,
+        [
+            create("raid1", 2, 4, "--assume-clean a b", output=CLEAN, changes="a b"),
+            Step("write --sector 4K a b", WRITTEN, changes="a b", given=DATA),
+            Step("read --sector 8 --count 2 a b", DATA.decode()),
+            Step("read --sector 4K --count 1K a b", DATA.decode()),
+            Step("read --sector 4K --count 1M a b", fault="OutOfRange"),
         ],
     ),
     ("create, another level", TWO, [create("5", 2, 4, "a b", fault="BadLevel")]),
@@ -1192,6 +1237,20 @@ CASES = [
             Step("rebuild --quiet --member 2 a b c", "rebuilt member 2, passes 1, orphans 0\n", changes="a b c"),
             Step("check a b c", AGREE),
             Step("rebuild --quiet --member 2 a b c", fault="NotSpare"),
+            Step(
+                "rebuild --json --member 2 a b c",
+                ('{"fault":"NotSpare","text":"mdcli: NotSpare","advice":"', '"}\n'),
+                fault="NotSpare",
+            ),
+        ],
+    ),
+    (
+        "a third member is rebuilt, and what was done is an object",
+        THREE,
+        WITH_A_SPARE
+        + [
+            Step("rebuild --json --quiet --member 2 a b c", '{"report":"rebuild","member":2,"passes":1,"orphans":[]}\n', changes="a b c"),
+            Step("check a b c", AGREE),
         ],
     ),
     (
@@ -1641,6 +1700,7 @@ AS_JSON = [
         [
             Step("detail --json --readonly a b", REFUSED_OBJECT, fault="Member 1 Super Magic"),
             Step("check --json --exit-code a b", REFUSED_OBJECT, fault="Member 1 Super Magic"),
+            Step("stop --json a b", REFUSED_OBJECT, fault="Member 1 Super Magic"),
             Step("detail --readonly a b", fault="Member 1 Super Magic"),
             SaysTheSame("assemble a a"),
             SaysTheSame("plan --member 0 a"),
@@ -1941,7 +2001,7 @@ AS_JSON = [
 # With --verbose. Of a command that is done nothing more is told, and one that only looks is refused in the same words as one that may
 # change images. No call for memory is refused in these either.
 VERBOSE = [
-    ("the life of a mirror, verbose", TWO, [verbose(step) for step in LIFE_APART + LIFE_TOGETHER]),
+    ("the life of a mirror, verbose", TWO, [verbose(step) for step in LIFE_APART + LIFE_TOGETHER[:-1]] + [Step("detail --verbose b a", DETAIL_WITH_IMAGES), SaysTheSame("detail b a")]),
     (
         "the example members are only looked at, verbose",
         {"a": VAULT, "b": OTHER, "late": lacks((9, 1))},

@@ -69,7 +69,7 @@ def constants():
 
 
 # Of these faults it depends on the image, the command or what failed which text is said: this one comes second.
-SECOND = {"LogFull #": "LEAVE_SOURCE_OUT", "NoMemory": "WRITE_IN_PARTS", "OutputFileFault": "READ_ON"}
+SECOND = {"LogFull #": "LEAVE_SOURCE_OUT", "NoMemory": "WRITE_A_FILE", "OutputFileFault": "READ_ON"}
 
 # A fault of this name comes of an option, too.
 OTHER = {"BadChunk": ("OptionFault", "BadChunk")}

@@ -95,12 +95,14 @@ FAILS = {
 # A command of the program that answers `NoMemory'.
 ANSWERS = {
     "md_commands::add_device": "add",
+    "md_commands::add_device_json": "add --json",
     "md_commands::check_members": "check",
     "md_commands::check_members_json": "check --json",
     "md_commands::fail_member": "fail",
     "md_commands::list_mismatches": "check --list",
     "md_commands::re_add_device": "re-add",
     "md_commands::rebuild_member": "rebuild",
+    "md_commands::rebuild_member_json": "rebuild --json",
     "md_commands::remove_member": "remove",
     "md_commands::resync_array": "resync",
     "md_commands::show_detail": "detail",
@@ -110,6 +112,7 @@ ANSWERS = {
     "md_commands::show_summary": "assemble",
     "md_commands::show_summary_json": "assemble --json",
     "md_commands::stop_array": "stop",
+    "md_commands::stop_array_json": "stop --json",
     "md_commands::write_array": "write",
     "md_create::create": "create",
     "md_grow::grow": "grow",
@@ -141,6 +144,7 @@ LATER = {
 # These take no memory: one says so where a count is spent, one gives a list of faults, which may be that a decoding found none, and of two
 # the contract excludes that fault.
 TAKES_NONE = {
+    "md_commands::show_verbose_detail",
     "md_device::Fuse::share",
     "md_examine_commands::show_scan",
     "md_raw_reports::super_faults_of",

@@ -49,7 +49,7 @@ const MADE: [Case; 4] = [
     },
 ];
 
-const TAKEN_BACK: [Case; 4] = [
+const TAKEN_BACK: [Case; 7] = [
     Case {
         words: &["mdcli", "remove", "--member", "1", "a", "b"],
         shows: "in sync 1 of 2, events 6, marked 1\n",
@@ -71,6 +71,35 @@ const TAKEN_BACK: [Case; 4] = [
         input: &[Step::Gives(&FEWER)],
         status: 1,
         says: "mdcli: BadLength\n",
+        ..DONE
+    },
+    // It ends before the length that it told.
+    Case {
+        words: &["mdcli", "write", "--sector", "0", "a", "b"],
+        input: &[Step::Gives(&SECTOR)],
+        told: Some(1024),
+        status: 1,
+        says: "mdcli: BadLength\n",
+        ..DONE
+    },
+    // It goes on after that.
+    Case {
+        words: &["mdcli", "write", "--sector", "0", "a", "b"],
+        input: &[Step::Gives(&SECTOR), Step::Gives(&SECTOR)],
+        told: Some(512),
+        status: 1,
+        says: "mdcli: BadLength\n",
+        ..DONE
+    },
+    Case {
+        words: &["mdcli", "write", "--sector", "0", "a", "b"],
+        input: &[
+            Step::Gives(&SECTOR),
+            Step::IsInterrupted,
+            Step::Gives(&SECTOR),
+        ],
+        told: Some(1024),
+        shows: "in sync 2 of 2, events 10, marked 0\n",
         ..DONE
     },
 ];

@@ -22,6 +22,8 @@ pub(crate) struct Case {
     pub(crate) words: &'static [&'static str],
     // What the reads of its input answer.
     pub(crate) input: &'static [Step],
+    // How many bytes it tells that they give.
+    pub(crate) told: Option<u64>,
     pub(crate) messages: Messages,
     pub(crate) status: u8,
     pub(crate) says: &'static str,
@@ -35,6 +37,7 @@ pub(crate) const DONE: Case = Case {
     images: &[MEMBER],
     words: &[],
     input: &[],
+    told: None,
     messages: Messages::Plain,
     status: 0,
     says: "",
@@ -67,7 +70,7 @@ pub(crate) fn give<R: Abort + Threads + Wait + Sync>(
     let mut session = Session {
         rt,
         alloc,
-        input: Input::new(Steps { steps: case.input }),
+        input: Input::of_length(Steps { steps: case.input }, case.told),
         out: Output::new(vec![in alloc]?),
         watch: &Silent,
         asker: Nobody,

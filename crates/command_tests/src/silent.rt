@@ -1,11 +1,11 @@
-// A rebuild, a check or a read that nobody watches, and a question that nobody sees.
+// A rebuild, a check, a read or a write that nobody watches, and a question that nobody sees.
 ghost use Rattle.std.specs.Prelude.{⊤, false};
 
 use md_cli::ReadWatch;
 use md_commands::{Gate, Watch};
 use md_messages::Asker;
 
-/// Is told of a rebuild, a check or a read, and says nothing of it.
+/// Is told of a rebuild, a check, a read or a write, and says nothing of it.
 pub(crate) struct Silent;
 
 impl Gate for Silent {
@@ -23,9 +23,13 @@ impl Watch for Silent {
 
     ghost compares = { λ _ _. ⊤ };
 
+    ghost has_written = { λ _ _. ⊤ };
+
     fn begins(&self, _chunks: u32, _first: Option<u32>) {}
 
     fn begins_check(&self, _sectors: u64) {}
+
+    fn wrote(&self, _sectors: u64) {}
 }
 
 impl ReadWatch for Silent {

@@ -13,7 +13,6 @@ use Rattle.md_read_commands.proofs.ReadCounts.{done_read, done_readonly, fills_a
 use Rattle.md_serve_commands.proofs.ServeCounts.{serves_as_many}
 use Rattle.md_commands.specs.declared.source.Source.{Ghosts as SourceGhosts}
 use Rattle.md_commands.specs.Adding.{KeepsDevice}
-use Rattle.md_commands.specs.Rebuilding.{rebuilt_shown}
 use Rattle.md_commands.specs.Removing.{HandsBack}
 use Rattle.md_examine.specs.declared.sink.Sink.{Ghosts as SinkGhosts}
 use Rattle.md_state.specs.View.{Disk, disk_of}
@@ -25,7 +24,7 @@ use Rattle.md_messages.specs.Question.{Question}
 use Rattle.md_messages.specs.declared.notices.Notices.{Notices}
 use Rattle.md_cli.specs.Asking.{PerformsOrDeclines}
 use Rattle.md_cli.specs.Opened.{OpenedView, count, moves_device, beside_place, with_beside}
-use Rattle.md_cli.specs.Performing.{Performs, sectors_asked}
+use Rattle.md_cli.specs.Performing.{Performs, rebuilt_told, sectors_asked}
 use Rattle.md_cli.specs.Streams.{Streams}
 
 -- Where there was a device beside the array only if the command brought one: as many devices as before come back, the one beside
@@ -73,7 +72,7 @@ module _ {R S A : Type 0} (r : SourceGhosts R) (s : SinkGhosts S) (names : List 
   all_kept (creates o) result brings h = absurd h
   all_kept (grows bitmap kib) result brings h = absurd h
   all_kept (assembles json readonly) result brings h = kept _ before after brings (ap (λ (o : OpenedView). o.beside) h.0) (ap (λ (o : OpenedView). length o.mirror.disks) h.0)
-  all_kept (details json readonly) result brings h = kept _ before after brings (ap (λ (o : OpenedView). o.beside) h.0) (ap (λ (o : OpenedView). length o.mirror.disks) h.0)
+  all_kept (details form readonly) result brings h = kept _ before after brings (ap (λ (o : OpenedView). o.beside) h.0) (ap (λ (o : OpenedView). length o.mirror.disks) h.0)
   all_kept (plans k json readonly) result brings h = kept _ before after brings (ap (λ (o : OpenedView). o.beside) h.0) (ap (λ (o : OpenedView). length o.mirror.disks) h.0)
   all_kept (reads sector count true readonly) result brings h =
       kept _ before after brings h.0 (fills_as_many s readonly sector (sectors_asked before.mirror.array sector count) before.mirror after.mirror old.output new.output new.missing result h.2.0)
@@ -97,20 +96,20 @@ module _ {R S A : Type 0} (r : SourceGhosts R) (s : SinkGhosts S) (names : List 
   all_kept (checks check_form.Count exit_code readonly) (Ok v) brings h = kept _ before after brings h.0 (done_check s before.mirror after.mirror old.output new.output h.2.count h.2.shows)
   all_kept (checks check_form.Count exit_code readonly) (Err f) brings h =
       kept _ before after brings h.0 (checks_as_many s before.mirror after.mirror old.output new.output f h.2)
-  all_kept (writes sector) (Ok v) brings h = kept _ before after brings h.0 (done_write sector h.1.bytes before.mirror after.mirror h.1.done)
+  all_kept (writes sector) (Ok v) brings h = kept _ before after brings h.0 (done_write r s sector before.mirror after.mirror old.input new.input old.output new.output h.1.writes)
   all_kept (writes sector) (Err f) brings h =
-      kept _ before after brings h.0 (writes_as_many s before.mirror after.mirror old.output new.output r sector old.input new.input f h.1)
+      kept _ before after brings h.0 (writes_as_many s before.mirror after.mirror old.output new.output r sector old.input new.input h.1.written f h.1.writes)
   all_kept resyncs (Ok v) brings h = kept _ before after brings h.0 (done_resync before.mirror after.mirror h.2.stops)
   all_kept resyncs (Err f) brings h =
       kept _ before after brings h.0 (resyncs_as_many s before.mirror after.mirror old.output new.output f h.2)
-  all_kept stops (Ok v) brings h = kept _ before after brings h.0 (stopped before.mirror after.mirror h.2.stops)
-  all_kept stops (Err f) brings h =
+  all_kept (stops json) (Ok v) brings h = kept _ before after brings h.0 (stopped before.mirror after.mirror h.2.stops)
+  all_kept (stops json) (Err f) brings h =
       kept _ before after brings h.0 (stops_as_many s before.mirror after.mirror old.output new.output f h.2)
   all_kept (fails k) (Ok v) brings h = kept _ before after brings h.0 (done_fail s k before.mirror after.mirror old.output new.output h.2)
   all_kept (fails k) (Err f) brings h =
       kept _ before after brings h.0 (fails_as_many s k before.mirror after.mirror old.output new.output f h.2)
-  all_kept (rebuilds k quiet) (Ok v) brings h = kept _ before after brings h.0 (done_rebuild s k before.mirror after.mirror old.output new.output (rebuilt_shown quiet k) h.2)
-  all_kept (rebuilds k quiet) (Err f) brings h =
+  all_kept (rebuilds k form) (Ok v) brings h = kept _ before after brings h.0 (done_rebuild s k before.mirror after.mirror old.output new.output (rebuilt_told form k) h.2)
+  all_kept (rebuilds k form) (Err f) brings h =
       kept _ before after brings h.0 (rebuilds_as_many s k before.mirror after.mirror old.output new.output f h.2)
   all_kept (removes k) result brings h = record {
     as_many = left_place k before.mirror.disks after.mirror.disks after.beside h.1.handed_back
@@ -118,7 +117,7 @@ module _ {R S A : Type 0} (r : SourceGhosts R) (s : SinkGhosts S) (names : List 
     within = left_within k before.mirror.disks after.mirror.disks after.beside h.1.handed_back;
     moves = λ _. refl;
   }
-  all_kept (adds name) result brings h = record {
+  all_kept (adds name json) result brings h = record {
     as_many = joins_count before.mirror.disks after.mirror.disks after.beside h.1.kept ∙ ap (λ (n : ℕ). length before.mirror.disks + n) (sym (one_there before.beside h.1.device h.1.is));
     within = λ _. le_refl _;
     moves = λ _. refl;
@@ -139,7 +138,7 @@ module _ {R S A : Type 0} (r : SourceGhosts R) (s : SinkGhosts S) (names : List 
   performs_asked (creates o) h = h
   performs_asked (grows bitmap kib) h = h
   performs_asked (assembles json readonly) h = h
-  performs_asked (details json readonly) h = h
+  performs_asked (details form readonly) h = h
   performs_asked (plans k json readonly) h = h
   performs_asked (reads sector count true readonly) h = h
   performs_asked (reads sector count false readonly) h = h
@@ -148,12 +147,12 @@ module _ {R S A : Type 0} (r : SourceGhosts R) (s : SinkGhosts S) (names : List 
   performs_asked (checks form exit_code readonly) h = h
   performs_asked (writes sector) h = h
   performs_asked resyncs h = h
-  performs_asked stops h = h
+  performs_asked (stops json) h = h
   performs_asked (fails k) h = h
   performs_asked (removes k) h = h
-  performs_asked (adds name) h = h
+  performs_asked (adds name json) h = h
   performs_asked (re_adds name full) h = h
-  performs_asked (rebuilds k quiet) h = h
+  performs_asked (rebuilds k form) h = h
 
 -- one that is to join comes last
 pub joins_last : (ask : Ask) → is_some (device_to_add ask) ≡ true → leaving_of ask ≡ None

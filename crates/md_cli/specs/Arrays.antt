@@ -2,7 +2,7 @@
 use Rattle.md_device.specs.declared.device.Device.{Ghosts}
 use Rattle.std.specs.Prelude.{◌≡◌, ◌⊎◌, ◌<◌, ℕ, Bool, true, false, List, [], length, map, Option, is_some, Result, Err}
 use Rattle.clap.specs.Words.{Text}
-use Rattle.md_state.specs.View.{Disk, MirrorView, disk_of}
+use Rattle.md_state.specs.View.{ArrayView, Disk, MirrorView, disk_of}
 use Rattle.md_array.specs.Open.Opened.{IsOpenedFrom}
 use Rattle.md_array.specs.Open.Refusals.{RefusesOpen}
 use Rattle.md_array.specs.declared.fault.OpenFault.{OpenFault}
@@ -13,7 +13,6 @@ use Rattle.md_commands.specs.Faults.{of_images}
 use Rattle.md_commands.specs.declared.fault.CommandFault.{CommandFault}
 use Rattle.md_commands.specs.declared.fault.CommandFault.TheVariants.{NoMemory, Open}
 use Rattle.md_examine.specs.declared.sink.Sink.{Ghosts as SinkGhosts}
-use Rattle.md_report.specs.SummaryReport.{summary_text}
 use Rattle.md_images.specs.declared.access.Access.{Access}
 use Rattle.md_images.specs.declared.fault.ImagesFault.{ImagesFault}
 use Rattle.md_images.specs.declared.images.Images.{Ghosts as ImagesGhosts}
@@ -42,14 +41,15 @@ module _ {X : Type 0} where
     pub refused : RefusesOpen before after fault
     pub unused : new ≡ old
 
-module _ {S : Type 0} (s : SinkGhosts S) where
-  -- The devices are opened as a mirror, which is shown in a line. `before` and `after` are the devices as contracts see them.
+module _ {S : Type 0} (s : SinkGhosts S) (text_of : ArrayView → List ℕ) where
+  -- The devices are opened as a mirror, which is shown in a text that is made of it. `before` and `after` are the devices as contracts
+  -- see them.
   pub record ShowsMirror (before after : List Disk) (old new : S)
       (result : Result (Unit {0}) CommandFault) : Type 0 where
     pub mirror : MirrorView
     pub opened : IsOpenedFrom before mirror
     pub devices : after ≡ mirror.disks
-    pub shown : ShowsText s (summary_text mirror.array) old new result
+    pub shown : ShowsText s (text_of mirror.array) old new result
 
   abbrev pub ShowsDevices : List Disk → List Disk → S → S → Result (Unit {0}) CommandFault → Type 0
   ShowsDevices before after old new result =

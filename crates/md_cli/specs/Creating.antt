@@ -1,5 +1,5 @@
 -- What `create` does with the devices of the images.
-use Rattle.std.specs.Prelude.{◌≡◌, ◌⊎◌, ℕ, ◌/◌, ◌<◌, true, List, [], ◌∷◌, drop, length, Option, Some, None, Result, Ok, Err, slice_get, slice_index_or, if◌then◌else◌}
+use Rattle.std.specs.Prelude.{◌≡◌, ◌⊎◌, ℕ, ◌/◌, ◌<◌, Bool, true, List, [], ◌∷◌, codes, drop, length, Option, Some, None, Result, Ok, Err, slice_get, slice_index_or, if◌then◌else◌}
 use Rattle.clap.specs.Words.{Text}
 use Rattle.md_create.specs.Geometry.{IsGeometry}
 use Rattle.md_create.specs.Values.{AreMembers}
@@ -8,8 +8,9 @@ use Rattle.md_create.specs.Writes.{DoesWrites, FailsInWrites}
 use Rattle.md_create.specs.declared.params.CreateParams.{CreateParams}
 use Rattle.md_create.specs.declared.params.NewMember.{NewMember}
 use Rattle.md_create.specs.declared.fault.CreateFault.TheVariants.{BadGeometry, NoMemory}
-use Rattle.md_state.specs.View.{Disk, of_disks}
+use Rattle.md_state.specs.View.{ArrayView, Disk, of_disks}
 use Rattle.md_examine.specs.declared.sink.Sink.{Ghosts}
+use Rattle.md_commands.specs.Objects.{summary_shown}
 use Rattle.md_commands.specs.declared.fault.CommandFault.{CommandFault}
 use Rattle.md_commands.specs.declared.fault.CommandFault.TheVariants as fault
 use Rattle.md_messages.specs.Holding.{NotesHeldOnEach}
@@ -18,7 +19,7 @@ use Rattle.md_messages.specs.declared.notices.Notices.{Notices}
 use Rattle.md_cli.specs.Arrays.{ShowsDevices}
 use Rattle.md_cli.specs.Asking.{Declines}
 use Rattle.md_cli.specs.Streams.{Streams, Told}
-use Rattle.md_images.specs.Taking.{Word, image_list, is_missing_word}
+use Rattle.md_images.specs.Taking.{Word, image_list, is_missing_word, names_of}
 
 -- the sectors of a device
 abbrev pub sectors_on : Disk → ℕ
@@ -79,7 +80,12 @@ module _ (params : CreateParams) (words : List Text) where
     pub untouched : after ≡ before
     pub unwritten : new ≡ old
 
-module _ {S : Type 0} (s : Ghosts S) (list : List Word) (members : List NewMember) where
+-- How a new array is shown: as text or as an object, which names the images, but for the words that stand for missing members.
+abbrev pub created_shown : Bool → List Text → ArrayView → List ℕ
+created_shown json words = summary_shown (codes "create") json (names_of (image_list true words))
+
+module _ {S : Type 0} (s : Ghosts S) (text_of : ArrayView → List ℕ) (list : List Word)
+    (members : List NewMember) where
   -- A write fails while a member is laid out, which is named by the place of its image word.
   pub record FailsOnDevice (before after : List Disk) (old new : S)
       (result : Result (Unit {0}) CommandFault) : Type 0 where
@@ -90,25 +96,26 @@ module _ {S : Type 0} (s : Ghosts S) (list : List Word) (members : List NewMembe
     pub stopped : At FailsInLayout before after members place
     pub unwritten : new ≡ old
 
-  -- All members are laid out, and the devices are opened and shown in a line.
+  -- All members are laid out, and the devices are opened and shown.
   pub record LaysOutAll (before after : List Disk) (old new : S)
       (result : Result (Unit {0}) CommandFault) : Type 0 where
     pub middle : List Disk
     pub laid_out : AreLaidOut before middle members (length before)
-    pub opened : ShowsDevices s middle after old new result
+    pub opened : ShowsDevices s text_of middle after old new result
 
   abbrev pub LaysOutOn : List Disk → List Disk → S → S → Result (Unit {0}) CommandFault → Type 0
   LaysOutOn before after old new result =
       FailsOnDevice before after old new result ⊎ LaysOutAll before after old new result
 
 -- The members are laid out, where the question allows it.
-pub record LaysOutAgreed {R S A : Type 0} (s : Ghosts S) (q : Question A) (n : Notices) (list : List Word)
-    (members : List NewMember) (before after : List Disk) (old new : Streams R S A)
-    (result : Result (Unit {0}) CommandFault) : Type 0 where
+pub record LaysOutAgreed {R S A : Type 0} (s : Ghosts S) (text_of : ArrayView → List ℕ) (q : Question A)
+    (n : Notices) (list : List Word) (members : List NewMember) (before after : List Disk)
+    (old new : Streams R S A) (result : Result (Unit {0}) CommandFault) : Type 0 where
   pub agreed : q n old.asker new.asker (Ok tt)
-  pub lays_out : LaysOutOn s list members before after old.output new.output result
+  pub lays_out : LaysOutOn s text_of list members before after old.output new.output result
 
-module _ {R S A : Type 0} (s : Ghosts S) (q : Question A) (params : CreateParams) (words : List Text) where
+module _ {R S A : Type 0} (s : Ghosts S) (json : Bool) (q : Question A) (params : CreateParams)
+    (words : List Text) where
   -- The devices make an array. What they hold is noted, for which they are only read; then its members are laid out on them, where
   -- the question allows it.
   pub record MakesMembers (before after : List Disk) (old new : Told R S A)
@@ -118,8 +125,8 @@ module _ {R S A : Type 0} (s : Ghosts S) (q : Question A) (params : CreateParams
     pub seen : List Disk
     pub looks : NotesHeldOnEach before seen old.notices new.notices
     pub rest : new.streams ≡ record old.streams { output = new.streams.output; asker = new.streams.asker }
-    pub done : LaysOutAgreed s q new.notices (image_list true words) members seen after old.streams
-        new.streams result
+    pub done : LaysOutAgreed s (created_shown json words) q new.notices (image_list true words) members seen
+        after old.streams new.streams result
         ⊎ Declines q new.notices seen after old.streams new.streams result
 
   abbrev pub CreatesOn : List Disk → List Disk → Told R S A → Told R S A

@@ -13,6 +13,7 @@ use Rattle.md_grow.specs.declared.fault.GrowFault.{GrowFault}
 use Rattle.md_commands.specs.declared.fault.CommandFault.{CommandFault}
 use Rattle.md_commands.specs.declared.fault.CommandFault.TheVariants as fault
 use Rattle.md_commands.specs.declared.option_fault.OptionFault.TheVariants.{BadBitmap, BadChunk}
+use Rattle.md_report.specs.SummaryReport.{summary_text}
 use Rattle.md_cli.specs.Arrays.{ShowsDevices, UsesImages}
 use Rattle.md_cli.specs.CreateOptions.{bytes_of_kib}
 
@@ -33,7 +34,7 @@ module _ {S : Type 0} (s : SinkGhosts S) (chunk_bytes : ℕ) where
       (result : Result (Unit {0}) CommandFault) : Type 0 where
     pub middle : List Disk
     pub grown : Grows chunk_bytes before middle
-    pub opened : ShowsDevices s middle after old new result
+    pub opened : ShowsDevices s summary_text middle after old new result
 
   -- No member gets a bitmap, or not all of them do.
   pub record RefusesGrown (before after : List Disk) (old new : S)

@@ -1,16 +1,16 @@
 -- What commands do with an opened array.
-use Rattle.std.specs.Prelude.{◌≡◌, ◌-◌, ℕ, Bool, true, false, List, Option, Some, None, Result, Ok, Err, MatchResult, if◌then◌else◌}
+use Rattle.std.specs.Prelude.{◌≡◌, ◌-◌, ℕ, Bool, true, false, codes, List, Option, Some, None, Result, Ok, Err, MatchResult, if◌then◌else◌}
 use Rattle.md_metadata.specs.declared.coming_back.extent_of_rebuild.RebuildExtent.{RebuildExtent}
 use Rattle.md_metadata.specs.declared.coming_back.extent_of_rebuild.RebuildExtent.TheVariants.{All, Marked}
 use Rattle.md_commands.specs.declared.source.Source.{Ghosts as SourceGhosts}
 use Rattle.md_commands.specs.Adding.{AddsDevice, KeepsDevice, RefusesJoining}
 use Rattle.md_commands.specs.Checking.{ChecksMembers, ListsMismatches, RefusesToCheck, RefusesToList}
 use Rattle.md_commands.specs.Failing.{RefusesToFail}
-use Rattle.md_commands.specs.Objects.{checked_line, detail_shown, plan_shown, summary_shown}
+use Rattle.md_commands.specs.Objects.{checked_line, detail_line, plan_shown, rebuilt_object_line, summary_shown}
 use Rattle.md_commands.specs.Output.{ShowsText}
 use Rattle.md_commands.specs.Planning.{RefusesToPlan, ShowsPlan}
 use Rattle.md_commands.specs.ReAdding.{ReAddsDevice, RefusesToReAdd}
-use Rattle.md_commands.specs.Rebuilding.{RebuildsArray, RefusesToRebuild, rebuilt_shown}
+use Rattle.md_commands.specs.Rebuilding.{RebuildsArray, RebuiltText, RefusesToRebuild, rebuilt_shown}
 use Rattle.md_commands.specs.Removing.{HandsBack, RefusesToRemove, RemovesMember}
 use Rattle.md_commands.specs.Resyncing.{RefusesToResync, ResyncsArray}
 use Rattle.md_commands.specs.Stopping.{RefusesToStop, StopsArray, StopsArrayAfter}
@@ -23,6 +23,9 @@ use Rattle.md_serve_commands.specs.Writable.{ServesWritable}
 use Rattle.md_examine.specs.declared.sink.Sink.{Ghosts as SinkGhosts}
 use Rattle.md_images.specs.Taking.{Text}
 use Rattle.md_report.specs.CheckReport.{list_text}
+use Rattle.md_report.specs.DetailReport.{detail_text}
+use Rattle.md_report.specs.SummaryReport.{summary_text}
+use Rattle.md_report.specs.VerboseReport.{verbose_text}
 use Rattle.md_badblocks.specs.declared.run.Run.{Run}
 use Rattle.md_state.specs.Rests.{Rests}
 use Rattle.md_state.specs.Steps.Fail.{FailsMember}
@@ -30,12 +33,28 @@ use Rattle.md_state.specs.View.{ArrayView, Disk}
 use Rattle.md_words.specs.Asks.{Ask, assembles, details, plans, reads, serves, serves_writable, checks, writes, resyncs, stops, fails, removes, adds, re_adds, rebuilds}
 use Rattle.md_words.specs.declared.form.CheckForm.{CheckForm}
 use Rattle.md_words.specs.declared.form.CheckForm.TheVariants as check_form
+use Rattle.md_words.specs.declared.form.DetailForm.{DetailForm}
+use Rattle.md_words.specs.declared.form.DetailForm.TheVariants as detail_form
+use Rattle.md_words.specs.declared.form.RebuildForm.{RebuildForm}
+use Rattle.md_words.specs.declared.form.RebuildForm.TheVariants as rebuild_form
 use Rattle.md_cli.specs.Opened.{OpenedView}
 use Rattle.md_cli.specs.Streams.{Streams}
 
 -- what a member that comes back is rebuilt in: what is marked, or all of it
 abbrev pub rebuild_extent : Bool → RebuildExtent
 rebuild_extent full = if full then All else Marked
+
+-- how an array is shown in detail, whose members are on these images
+abbrev pub detail_shown : DetailForm → List Text → ArrayView → List ℕ
+detail_shown detail_form.Text images a = detail_text a
+detail_shown detail_form.Verbose images a = verbose_text a images
+detail_shown detail_form.Json images a = detail_line images a
+
+-- what is told of the rebuild of member k: the plan of each pass and a line, the line alone, or an object
+abbrev pub rebuilt_told : RebuildForm → ℕ → RebuiltText
+rebuilt_told rebuild_form.Plans k = rebuilt_shown false k
+rebuilt_told rebuild_form.Line k = rebuilt_shown true k
+rebuilt_told rebuild_form.Json k = rebuilt_object_line k
 
 -- how many sectors are read from this one on: as many as are asked for, or else all up to the end of the array
 abbrev pub sectors_asked : ArrayView → ℕ → Option ℕ → ℕ
@@ -97,22 +116,30 @@ module _ {S : Type 0} (s : SinkGhosts S) where
       (λ _. CountsMismatches form names before after old new mismatched)
       (λ fault. ShowsMismatches form names before after old new (Err fault))
 
+  -- The array is stopped, and shown in a text that is made of it.
+  abbrev pub PerformsStop : (ArrayView → List ℕ) → OpenedView → OpenedView → S → S
+      → Result (Unit {0}) CommandFault → Type 0
+  PerformsStop text_of before after old new result =
+      MatchResult result
+      (λ _. StopsArray s text_of before.mirror after.mirror old new)
+      (RefusesToStop s before.mirror after.mirror old new)
+
   -- Member k leaves, and then the array is stopped and shown. Its device stands beside the array then.
   pub record PerformsRemove (k : ℕ) (before after : OpenedView) (old new : S)
       (result : Result (Unit {0}) CommandFault) : Type 0 where
     pub handed_back : HandsBack k before.mirror.disks after.mirror.disks after.beside
     pub removes : MatchResult result
-        (λ _. StopsArrayAfter s (RemovesMember k before.mirror) after.mirror old new)
+        (λ _. StopsArrayAfter s summary_text (RemovesMember k before.mirror) after.mirror old new)
         (RefusesToRemove s k before.mirror after.mirror old new)
 
   -- The device beside the array joins it, and then the array is stopped and shown. If it does not join, it stands there again.
-  pub record PerformsAdd (before after : OpenedView) (old new : S)
+  pub record PerformsAdd (text_of : ArrayView → List ℕ) (before after : OpenedView) (old new : S)
       (result : Result (Unit {0}) CommandFault) : Type 0 where
     pub device : Disk
     pub is : before.beside ≡ Some device
     pub kept : KeepsDevice before.mirror.disks after.mirror.disks after.beside
     pub adds : MatchResult result
-        (λ _. StopsArrayAfter s (AddsDevice device before.mirror) after.mirror old new)
+        (λ _. StopsArrayAfter s text_of (AddsDevice device before.mirror) after.mirror old new)
         (RefusesJoining s device after.beside before.mirror after.mirror old new)
 
   -- it comes back, and gets what it lacks
@@ -122,7 +149,7 @@ module _ {S : Type 0} (s : SinkGhosts S) where
     pub is : before.beside ≡ Some device
     pub kept : KeepsDevice before.mirror.disks after.mirror.disks after.beside
     pub re_adds : MatchResult result
-        (λ _. StopsArrayAfter s (ReAddsDevice extent device before.mirror) after.mirror old new)
+        (λ _. StopsArrayAfter s summary_text (ReAddsDevice extent device before.mirror) after.mirror old new)
         (RefusesToReAdd s extent device after.beside before.mirror after.mirror old new)
 
 module _ {R S A : Type 0} (r : SourceGhosts R) (s : SinkGhosts S) where
@@ -135,6 +162,15 @@ module _ {R S A : Type 0} (r : SourceGhosts R) (s : SinkGhosts S) where
     pub rests : Rests before.mirror after.mirror
     pub noted : fill ≡ true → new.missing ≡ Some missing
 
+module _ {R S : Type 0} (r : SourceGhosts R) (s : SinkGhosts S) where
+  -- The input is written, and then the array is stopped and shown; or not all of it is, but perhaps so many sectors.
+  pub record PerformsWrite (sector : ℕ) (before after : OpenedView) (input rest : R) (old new : S)
+      (result : Result (Unit {0}) CommandFault) : Type 0 where
+    pub written : ℕ
+    pub writes : MatchResult result
+        (λ _. WritesArray r s sector before.mirror after.mirror input rest old new)
+        (RefusesToWrite r s sector before.mirror after.mirror input rest old new written)
+
 module _ {R S A : Type 0} (r : SourceGhosts R) (s : SinkGhosts S) (names : List Text) where
   -- The array as it was opened and as it is left, from the images of these names, that of a device which joins last; and the streams
   -- before and after. A report leaves the array as it is. The input is read by `write` and `serve` alone.
@@ -142,10 +178,11 @@ module _ {R S A : Type 0} (r : SourceGhosts R) (s : SinkGhosts S) (names : List 
       → Result (Unit {0}) CommandFault → Type 0
   Performs (assembles json readonly) before after old new result =
       (after ≡ before) × (new.input ≡ old.input)
-      × ShowsText s (summary_shown json names before.mirror.array) old.output new.output result
-  Performs (details json readonly) before after old new result =
+      × ShowsText s (summary_shown (codes "assemble") json names before.mirror.array) old.output new.output
+      result
+  Performs (details form readonly) before after old new result =
       (after ≡ before) × (new.input ≡ old.input)
-      × ShowsText s (detail_shown json names before.mirror.array) old.output new.output result
+      × ShowsText s (detail_shown form names before.mirror.array) old.output new.output result
   Performs (plans k json readonly) before after old new result =
       (after ≡ before) × (new.input ≡ old.input)
       × MatchResult result
@@ -166,35 +203,32 @@ module _ {R S A : Type 0} (r : SourceGhosts R) (s : SinkGhosts S) (names : List 
       × PerformsCheck s form names before after old.output new.output new.mismatched result
   Performs (writes sector) before after old new result =
       (after.beside ≡ before.beside)
-      × MatchResult result
-      (λ _. WritesArray r s sector before.mirror after.mirror old.input new.input old.output new.output)
-      (RefusesToWrite r s sector before.mirror after.mirror old.input new.input old.output new.output)
+      × PerformsWrite r s sector before after old.input new.input old.output new.output result
   Performs resyncs before after old new result =
       (after.beside ≡ before.beside) × (new.input ≡ old.input)
       × MatchResult result
       (λ _. ResyncsArray s before.mirror after.mirror old.output new.output)
       (RefusesToResync s before.mirror after.mirror old.output new.output)
-  Performs stops before after old new result =
+  Performs (stops json) before after old new result =
       (after.beside ≡ before.beside) × (new.input ≡ old.input)
-      × MatchResult result
-      (λ _. StopsArray s before.mirror after.mirror old.output new.output)
-      (RefusesToStop s before.mirror after.mirror old.output new.output)
+      × PerformsStop s (summary_shown (codes "stop") json names) before after old.output new.output result
   Performs (fails k) before after old new result =
       (after.beside ≡ before.beside) × (new.input ≡ old.input)
       × MatchResult result
-      (λ _. StopsArrayAfter s (FailsMember k before.mirror) after.mirror old.output new.output)
+      (λ _. StopsArrayAfter s summary_text (FailsMember k before.mirror) after.mirror old.output new.output)
       (RefusesToFail s k before.mirror after.mirror old.output new.output)
   Performs (removes k) before after old new result =
       (new.input ≡ old.input) × PerformsRemove s k before after old.output new.output result
-  Performs (adds name) before after old new result =
-      (new.input ≡ old.input) × PerformsAdd s before after old.output new.output result
+  Performs (adds name json) before after old new result =
+      (new.input ≡ old.input)
+      × PerformsAdd s (summary_shown (codes "add") json names) before after old.output new.output result
   Performs (re_adds name full) before after old new result =
       (new.input ≡ old.input)
       × PerformsReAdd s (rebuild_extent full) before after old.output new.output result
-  Performs (rebuilds k quiet) before after old new result =
+  Performs (rebuilds k form) before after old new result =
       (after.beside ≡ before.beside) × (new.input ≡ old.input)
       × MatchResult result
-      (λ _. RebuildsArray s k before.mirror after.mirror old.output new.output (rebuilt_shown quiet k))
+      (λ _. RebuildsArray s k before.mirror after.mirror old.output new.output (rebuilt_told form k))
       (RefusesToRebuild s k before.mirror after.mirror old.output new.output)
   -- the others open no array
   Performs _ before after old new result = ⊥

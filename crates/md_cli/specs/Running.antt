@@ -67,7 +67,7 @@ module _ {I D R S A : Type 0} (i : ImagesGhosts I D) (g : DeviceGhosts D) (s : S
     pub sound : create_option_fault o random (length words) ≡ None
     pub params : CreateParams
     pub params_are : AreParamsOf o random params
-    pub done : UsesImages i g (CreatesOn s (question asker (creates o) words) params words) Change
+    pub done : UsesImages i g (CreatesOn s o.json (question asker (creates o) words) params words) Change
         (image_list true words) before after old new result
 
   abbrev pub MakesArray : Options → List Text → I → I → Told R S A → Told R S A

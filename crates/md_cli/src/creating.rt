@@ -1,6 +1,7 @@
 // The command that makes an array.
-ghost use Rattle.std.specs.Prelude.{◌≡◌, ◌≢◌, ◌*◌, ◌≤◌, ℕ, Err, IfErr, IfOk, Some, length, map, slice_get, true};
-ghost use Rattle.md_words.specs.Asks.{ask_of};
+ghost use Rattle.std.specs.Prelude.{◌≡◌, ◌≢◌, ◌*◌, ◌≤◌, ℕ, Err, IfErr, IfOk, Some, codes, length, map, slice_get, true};
+ghost use Rattle.md_commands.specs.Objects.{summary_shown};
+ghost use Rattle.md_words.specs.Asks.{ask_of, is_json};
 ghost use Rattle.md_state.specs.View.{Disk};
 ghost use Rattle.md_messages.specs.Question.{question};
 ghost use Rattle.md_messages.specs.Telling.{texts};
@@ -11,7 +12,8 @@ ghost use Rattle.md_images.specs.Taking.{image_list, word_of};
 
 use crate::lay_out_each::lay_out_each;
 use crate::session::Session;
-use crate::show_devices::show_devices;
+use crate::show_devices::show_created;
+use crate::shown_names::shown_names;
 use crate::sizing::sizes_of;
 use md_commands::CommandFault;
 use md_create::{CreateFault, CreateParams, NewMember, create};
@@ -43,12 +45,14 @@ fn members_of<D: Device>(
     }
 }
 
-// Lays the members of an array out on its devices, opens it and shows it in a line. The devices come back in their order.
+// Lays the members of an array out on its devices, opens it and shows it. The devices come back in their order.
 fn lay_out_on<D: Device + Drop, S: Sink>(
     alloc: Global,
     words: &[ImageWord<'_>],
     mut devices: Vec<D>,
     members: &[NewMember],
+    json: bool,
+    images: &[&str],
     out: &mut S,
 ) -> (Vec<D>, Result<(), CommandFault>)
     requires as_many { length devices.items ≡ length words.now }
@@ -56,7 +60,8 @@ fn lay_out_on<D: Device + Drop, S: Sink>(
     requires room { (k : ℕ) (d : Disk) → slice_get (disks D.Device devices.items) k ≡ Some d
         → 512 * 2048 ≤ length d.content }
     ensures as_many { length result.0.items ≡ length devices.items }
-    ensures gives { LaysOutOn S.Sink (map word_of words.now) members.now
+    ensures gives { LaysOutOn S.Sink (summary_shown (codes "create") json (texts images.now))
+        (map word_of words.now) members.now
         (disks D.Device devices.items) (disks D.Device result.0.items) out.old out.new result.1 }
     ensures flushed { IfOk result.1 (λ _. S.is_flushed out.new) }
 {
@@ -67,10 +72,10 @@ fn lay_out_on<D: Device + Drop, S: Sink>(
             Err(CommandFault::MetadataFault(words[place].index)),
         );
     }
-    show_devices(alloc, devices, out)
+    show_created(alloc, devices, json, images, out)
 }
 
-// Makes an array of the devices, opens it and shows it in a line. What they hold is noted, and may be asked of, before
+// Makes an array of the devices, opens it and shows it. What they hold is noted, and may be asked of, before
 // anything is written. The devices come back in their order.
 fn create_on<D: Device + Drop, T, R: Drop, S: Sink + Drop, W, A: Asker + Drop>(
     session: &mut Session<'_, T, R, S, W, A>,
@@ -84,7 +89,7 @@ fn create_on<D: Device + Drop, T, R: Drop, S: Sink + Drop, W, A: Asker + Drop>(
     requires words { map word_of words.now ≡ image_list true (texts names.now) }
     requires as_many { length devices.items ≡ length words.now }
     ensures as_many { length result.0.items ≡ length devices.items }
-    ensures gives { CreatesOn S.Sink
+    ensures gives { CreatesOn S.Sink (is_json (ask_of command.entry))
         (question A.Asker (ask_of command.entry) (texts names.now))
         params.now (texts names.now)
         (disks D.Device devices.items) (disks D.Device result.0.items)
@@ -95,6 +100,9 @@ fn create_on<D: Device + Drop, T, R: Drop, S: Sink + Drop, W, A: Asker + Drop>(
         Ok(members) => members,
         Err(fault) => return (devices, Err(fault)),
     };
+    let Ok(images) = shown_names(session.alloc, words) else {
+        return (devices, Err(CommandFault::NoMemory));
+    };
     if notices
         .note_held_on_each(session.alloc, &mut devices)
         .is_err()
@@ -103,14 +111,15 @@ fn create_on<D: Device + Drop, T, R: Drop, S: Sink + Drop, W, A: Asker + Drop>(
     }
     match ask_first(session.alloc, &mut session.asker, command, notices, names) {
         Ok(()) => {
-            let out = &mut session.out;
-            lay_out_on(session.alloc, words, devices, members.as_slice(), out)
+            let (json, out) = (command.is_json(), &mut session.out);
+            let (members, images) = (members.as_slice(), images.as_slice());
+            lay_out_on(session.alloc, words, devices, members, json, images, out)
         }
         Err(fault) => (devices, Err(fault)),
     }
 }
 
-/// Makes an array of the images, shows it in a line, and puts the images back. `notices` gets what they held.
+/// Makes an array of the images, shows it, and puts the images back. `notices` gets what they held.
 pub(crate) fn create_images<I: Images, T, R: Drop, S: Sink + Drop, W, A: Asker + Drop>(
     session: &mut Session<'_, T, R, S, W, A>,
     command: Command<'_>,
@@ -120,7 +129,8 @@ pub(crate) fn create_images<I: Images, T, R: Drop, S: Sink + Drop, W, A: Asker +
     notices: &mut Notices,
 ) -> Result<(), CommandFault>
     ensures gives { UsesImages I.Images I.Dev.Device
-        (CreatesOn S.Sink (question A.Asker (ask_of command.entry) (texts names.now))
+        (CreatesOn S.Sink (is_json (ask_of command.entry))
+        (question A.Asker (ask_of command.entry) (texts names.now))
         params.now (texts names.now))
         Access.Change (image_list true (texts names.now))
         images.old images.new (told_of session.old notices.old) (told_of session.new notices.new) result }

@@ -29,6 +29,8 @@ mod scanning;
 mod session;
 mod set_uuid;
 mod show_devices;
+mod show_short;
+mod shown_names;
 mod sizing;
 
 pub use read_watch::ReadWatch;

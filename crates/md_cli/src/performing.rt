@@ -1,25 +1,30 @@
 // What commands do with an opened array.
-ghost use Rattle.std.specs.Prelude.{◌≡◌, IfOk, MatchResult, false, is_some, true};
+ghost use Rattle.std.specs.Prelude.{◌≡◌, IfOk, MatchResult, codes, false, is_some, option_map, true};
 ghost use Rattle.md_array.specs.Consistency.{IsConsistent};
 ghost use Rattle.md_words.specs.Asks.{ask_of, compares, device_to_add, fills, opens_array};
-ghost use Rattle.md_commands.specs.Objects.{detail_shown, plan_shown, summary_shown};
+ghost use Rattle.md_state.specs.View.{disk_of};
+ghost use Rattle.md_commands.specs.Adding.{AddsDevice, KeepsDevice, RefusesJoining};
+ghost use Rattle.md_commands.specs.Objects.{plan_shown, summary_shown};
 ghost use Rattle.md_commands.specs.Output.{ShowsText};
 ghost use Rattle.md_commands.specs.Planning.{RefusesToPlan, ShowsPlan};
+ghost use Rattle.md_commands.specs.Rebuilding.{RebuildsArray, RefusesToRebuild};
+ghost use Rattle.md_commands.specs.Stopping.{StopsArrayAfter};
 ghost use Rattle.md_read_commands.specs.Filling.{ReadsFilled, has_put_all};
 ghost use Rattle.md_messages.specs.Telling.{texts};
 ghost use Rattle.md_cli.specs.Opened.{opened_view};
-ghost use Rattle.md_cli.specs.Performing.{PerformsAdd, PerformsCheck, Performs, PerformsReAdd, PerformsRead, PerformsRemove, PerformsServe, ShowsMismatches, ShowsSectors, sectors_asked};
+ghost use Rattle.md_cli.specs.Performing.{PerformsAdd, PerformsCheck, Performs, PerformsReAdd, PerformsRead, PerformsRemove, PerformsServe, PerformsStop, PerformsWrite, ShowsMismatches, ShowsSectors, detail_shown, rebuilt_told, sectors_asked};
 ghost use Rattle.md_cli.specs.Streams.{streams_of};
 
 use crate::opened::Opened;
 use crate::read_watch::ReadWatch;
 use crate::session::Session;
+use crate::show_short::show_short;
 use md_array::Mirror;
 use md_commands::{
-    CommandFault, RebuildExtent, Source, Watch, add_device, check_members, check_members_json,
-    fail_member, list_mismatches, re_add_device, rebuild_member, remove_member, resync_array,
-    show_detail, show_detail_json, show_plan, show_plan_json, show_summary, show_summary_json,
-    stop_array, write_array,
+    CommandFault, RebuildExtent, Source, Watch, add_device, add_device_json, check_members,
+    check_members_json, fail_member, list_mismatches, re_add_device, rebuild_member,
+    rebuild_member_json, remove_member, resync_array, show_detail, show_detail_json, show_plan,
+    show_plan_json, show_verbose_detail, stop_array, stop_array_json, write_array,
 };
 use md_device::Device;
 use md_examine::Sink;
@@ -27,7 +32,7 @@ use md_read_commands::{
     has_put_all, read_array, read_array_filled, read_array_readonly, serve_array,
 };
 use md_serve_commands::serve_writable;
-use md_words::{CheckForm, Command};
+use md_words::{CheckForm, Command, DetailForm, RebuildForm};
 use std::alloc::Global;
 use std::sync::Wait;
 use std::thread::Threads;
@@ -70,7 +75,7 @@ pub(crate) fn perform<
         Command::Assemble { json, .. } => {
             assemble(&opened.mirror, json, names, &mut session.out)
         }
-        Command::Detail { json, .. } => detail(&opened.mirror, json, names, &mut session.out),
+        Command::Detail { form, .. } => detail(&opened.mirror, form, names, &mut session.out),
         Command::Plan { member, json, .. } => {
             plan(alloc, &opened.mirror, member, json, names, &mut session.out)
         }
@@ -87,16 +92,16 @@ pub(crate) fn perform<
         }
         Command::Check { form, .. } => check(session, opened, form, names),
         Command::Write { sector } => {
-            let input = &mut session.input;
-            Ok(write_array(alloc, &mut opened.mirror, sector, input, &mut session.out)?)
+            let (input, out) = (&mut session.input, &mut session.out);
+            write_input(alloc, opened, sector, input, watch, out)
         }
         Command::Resync => Ok(resync_array(alloc, &mut opened.mirror, &mut session.out)?),
-        Command::Stop => Ok(stop_array(&mut opened.mirror, &mut session.out)?),
+        Command::Stop { json } => stop(opened, json, names, &mut session.out),
         Command::Fail { member } => {
             Ok(fail_member(&mut opened.mirror, member, &mut session.out)?)
         }
         Command::Remove { member } => remove(opened, member, &mut session.out),
-        Command::Add { .. } => add(alloc, opened, &mut session.out),
+        Command::Add { json, .. } => add(alloc, opened, json, names, &mut session.out),
         Command::ReAdd { full: true, .. } => {
             let out = &mut session.out;
             re_add(rt, alloc, opened, RebuildExtent::All, watch, out)
@@ -105,9 +110,9 @@ pub(crate) fn perform<
             let out = &mut session.out;
             re_add(rt, alloc, opened, RebuildExtent::Marked, watch, out)
         }
-        Command::Rebuild { member, quiet } => {
+        Command::Rebuild { member, form } => {
             let (mirror, out) = (&mut opened.mirror, &mut session.out);
-            Ok(rebuild_member(rt, alloc, mirror, member, quiet, watch, out)?)
+            rebuild(rt, alloc, mirror, member, form, watch, out)
         }
     }
 }
@@ -119,31 +124,29 @@ fn assemble<D: Device + Drop, S: Sink>(
     names: &[&str],
     out: &mut S,
 ) -> Result<(), CommandFault>
-    ensures shows { ShowsText S.Sink (summary_shown json (texts names.now) mirror.now.array)
-        out.old out.new result }
+    ensures shows { ShowsText S.Sink
+        (summary_shown (codes "assemble") json (texts names.now) mirror.now.array) out.old out.new result }
     ensures flushed { IfOk result (λ _. S.is_flushed out.new) }
 {
-    if json {
-        return Ok(show_summary_json(mirror, names, out)?);
-    }
-    Ok(show_summary(mirror, out)?)
+    show_short(mirror, "assemble", json, names, out)
 }
 
 // Puts it out with the state of each member.
 fn detail<D: Device + Drop, S: Sink>(
     mirror: &Mirror<D>,
-    json: bool,
+    form: DetailForm,
     names: &[&str],
     out: &mut S,
 ) -> Result<(), CommandFault>
-    ensures shows { ShowsText S.Sink (detail_shown json (texts names.now) mirror.now.array)
+    ensures shows { ShowsText S.Sink (detail_shown form (texts names.now) mirror.now.array)
         out.old out.new result }
     ensures flushed { IfOk result (λ _. S.is_flushed out.new) }
 {
-    if json {
-        return Ok(show_detail_json(mirror, names, out)?);
+    match form {
+        DetailForm::Text => Ok(show_detail(mirror, out)?),
+        DetailForm::Verbose => Ok(show_verbose_detail(mirror, names, out)?),
+        DetailForm::Json => Ok(show_detail_json(mirror, names, out)?),
     }
-    Ok(show_detail(mirror, out)?)
 }
 
 // Puts out the plan of a rebuild of the member with this index.
@@ -284,6 +287,26 @@ fn serve<D: Device + Drop, T, R: Source + Drop, S: Sink + Drop, W, A: Drop>(
     Ok(served?)
 }
 
+// Writes the input to the array, and stops it. The watch is told how many sectors stand of one that is not written to its end.
+fn write_input<D: Device + Drop, R: Source, W: Watch, S: Sink>(
+    alloc: Global,
+    opened: &mut Opened<D>,
+    sector: u64,
+    input: &mut R,
+    watch: &W,
+    out: &mut S,
+) -> Result<(), CommandFault>
+    requires sound { IsConsistent opened.old.mirror }
+    ensures kept { (opened_view D.Device opened.new).beside ≡ (opened_view D.Device opened.old).beside }
+    ensures writes { PerformsWrite R.Source S.Sink sector
+        (opened_view D.Device opened.old) (opened_view D.Device opened.new) input.old input.new
+        out.old out.new result }
+    ensures flushed { IfOk result (λ _. S.is_flushed out.new) }
+{
+    let mirror = &mut opened.mirror;
+    Ok(write_array(alloc, mirror, sector, input, watch, out)?)
+}
+
 // Compares the members in sync, and puts out in how many chunks two differ, or which these are. How many is noted.
 fn check<
     D: Device + Drop + Send,
@@ -339,6 +362,25 @@ fn compare<D: Device + Drop + Send, T: Threads + Sync, W: Watch + Sync, S: Sink>
     }
 }
 
+// Stops the array, and puts out what it is then.
+fn stop<D: Device + Drop, S: Sink>(
+    opened: &mut Opened<D>,
+    json: bool,
+    names: &[&str],
+    out: &mut S,
+) -> Result<(), CommandFault>
+    requires sound { IsConsistent opened.old.mirror }
+    ensures kept { (opened_view D.Device opened.new).beside ≡ (opened_view D.Device opened.old).beside }
+    ensures stops { PerformsStop S.Sink (summary_shown (codes "stop") json (texts names.now))
+        (opened_view D.Device opened.old) (opened_view D.Device opened.new) out.old out.new result }
+    ensures flushed { IfOk result (λ _. S.is_flushed out.new) }
+{
+    if json {
+        return Ok(stop_array_json(&mut opened.mirror, names, out)?);
+    }
+    Ok(stop_array(&mut opened.mirror, out)?)
+}
+
 // Removes the member with this index. Its device stands beside the array then, if it left.
 fn remove<D: Device + Drop, S: Sink>(
     opened: &mut Opened<D>,
@@ -359,20 +401,69 @@ fn remove<D: Device + Drop, S: Sink>(
 fn add<D: Device + Drop, S: Sink>(
     alloc: Global,
     opened: &mut Opened<D>,
+    json: bool,
+    names: &[&str],
     out: &mut S,
 ) -> Result<(), CommandFault>
     requires sound { IsConsistent opened.old.mirror }
     requires some { is_some opened.old.beside ≡ true }
-    ensures adds { PerformsAdd S.Sink
+    ensures adds { PerformsAdd S.Sink (summary_shown (codes "add") json (texts names.now))
         (opened_view D.Device opened.old) (opened_view D.Device opened.new) out.old out.new result }
     ensures flushed { IfOk result (λ _. S.is_flushed out.new) }
 {
     let Some(device) = opened.beside.take() else {
         unreachable!()
     };
-    let (device, added) = add_device(alloc, &mut opened.mirror, device, out);
+    let (device, added) = add_shown(alloc, &mut opened.mirror, device, json, names, out);
     opened.beside = device;
     Ok(added?)
+}
+
+// Adds a device, and puts out what the array is then.
+fn add_shown<D: Device + Drop, S: Sink>(
+    alloc: Global,
+    mirror: &mut Mirror<D>,
+    device: D,
+    json: bool,
+    names: &[&str],
+    out: &mut S,
+) -> (Option<D>, Result<(), CommandFault>)
+    requires sound { IsConsistent mirror.old }
+    ensures gives { MatchResult result.1
+        (λ _. StopsArrayAfter S.Sink (summary_shown (codes "add") json (texts names.now))
+        (AddsDevice (disk_of D.Device device) mirror.old) mirror.new out.old out.new)
+        (RefusesJoining S.Sink (disk_of D.Device device) (option_map (disk_of D.Device) result.0) mirror.old
+        mirror.new out.old out.new) }
+    ensures device { KeepsDevice mirror.old.disks mirror.new.disks (option_map (disk_of D.Device) result.0) }
+    ensures flushed { IfOk result.1 (λ _. S.is_flushed out.new) }
+{
+    if json {
+        return add_device_json(alloc, mirror, device, names, out);
+    }
+    add_device(alloc, mirror, device, out)
+}
+
+// Rebuilds the member with this index, and puts out what was done.
+fn rebuild<D: Device + Drop + Send, T: Threads + Wait + Sync, W: Watch + Sync, S: Sink>(
+    rt: &T,
+    alloc: Global,
+    mirror: &mut Mirror<D>,
+    member: u32,
+    form: RebuildForm,
+    watch: &W,
+    out: &mut S,
+) -> Result<(), CommandFault>
+    requires sound { IsConsistent mirror.old }
+    ensures rebuilds { MatchResult result
+        (λ _. RebuildsArray S.Sink member mirror.old mirror.new out.old out.new (rebuilt_told form member))
+        (RefusesToRebuild S.Sink member mirror.old mirror.new out.old out.new) }
+    ensures flushed { IfOk result (λ _. S.is_flushed out.new) }
+{
+    match form {
+        RebuildForm::Plans => Ok(rebuild_member(rt, alloc, mirror, member, false, watch, out)?),
+        RebuildForm::Line => Ok(rebuild_member(rt, alloc, mirror, member, true, watch, out)?),
+        RebuildForm::Json => Ok(rebuild_member_json(rt, alloc, mirror, member, watch, out)?),
+    }
 }
 
 // Takes the device back that stands beside the array, and rebuilds it. If it does not join, it stands there again.

@@ -1,5 +1,6 @@
 -- Of the commands of this crate that don't rebuild, only `add` wins a device, and only `remove` loses one.
-use Rattle.std.proofs.Common.{◌≡◌, ◌∙◌, ◌⊎◌, inl, inr, ⊎_elim, ℕ, ◌+◌, Bool, true, false, List, [], ◌∷◌, ◌++◌, length, Option, Some, None, Result, Ok, Err, MatchResult, refl, sym, ap}
+use Rattle.std.proofs.Common.{◌≡◌, ◌∙◌, ◌⊎◌, inl, inr, ⊎_elim, ℕ, ◌+◌, ◌-◌, ◌/◌, Bool, true, false, List, [], ◌∷◌, ◌++◌, length, arith, Option, Some, None, Result, Ok, Err, MatchResult, refl, sym, ap}
+use Rattle.std.proofs.lemmas.Bool.{cases_lt}
 use Rattle.std.proofs.lemmas.List.{length-append}
 use Rattle.std.proofs.lemmas.List.Edits.{length-remove}
 use Rattle.std.proofs.lemmas.Option.{none-some, slice_get_within}
@@ -52,7 +53,8 @@ use Rattle.md_commands.specs.Failing.{RefusesToFail}
 use Rattle.md_commands.specs.Removing.{HandsBack, RefusesRemoving}
 use Rattle.md_commands.specs.Resyncing.{RefusesNeededResync, RefusesToResync, ResyncsIfNeeded, needs_resync}
 use Rattle.md_commands.specs.Stopping.{FailsToStop, FailsToStopArray, RefusesToStop, StopsAfter, StopsArray, StopsArrayAfter}
-use Rattle.md_commands.specs.Writing.{RefusesAnyInput, RefusesItsBytes, RefusesToldInput, RefusesToWrite, WritesReadied}
+use Rattle.md_commands.specs.Writing.{FailsInput, RefusesInMemory, RefusesToldInput, RefusesToWrite, RefusesWriting, WritesArray, WritesBytes, WritesReadied}
+use Rattle.md_commands.specs.WritingPieces.{HasWritten, RefusesPieces, WritesFront, WritesPieces}
 
 -- as many devices after as before
 abbrev pub AsMany : MirrorView → MirrorView → Type 0
@@ -260,6 +262,45 @@ not_checked check.NoMemory old new h = refused old new _ h
 wrote_readied : (sector : ℕ) (bytes : List ℕ) (old new : MirrorView) → WritesReadied sector bytes old new → AsMany old new
 wrote_readied sector bytes old new w = wrote sector bytes w.ready new w.writes ∙ readied old w.ready w.readied
 
+-- ---- an input that is written piece by piece
+pieces_wrote : (sector left : ℕ) (pieces : List (List ℕ)) (old new : MirrorView) → WritesPieces sector left pieces old new → AsMany old new
+pieces_wrote sector left [] old new h = same old new h
+pieces_wrote sector left (piece ∷ pieces) old new h =
+    pieces_wrote (sector + length piece / 512) (left - length piece / 512) pieces h.0 new h.3 ∙ wrote sector piece old h.0 h.2
+
+front_wrote : (sector count : ℕ) (bytes : List ℕ) (old new : MirrorView) → WritesFront sector count bytes old new → AsMany old new
+front_wrote sector count bytes old new w = pieces_wrote sector count w.pieces w.ready new w.each ∙ readied old w.ready w.readied.readied
+
+some_wrote : (sector count written : ℕ) (bytes : List ℕ) (old new : MirrorView) → HasWritten sector count written bytes old new → AsMany old new
+some_wrote sector count written bytes old new h = elim (cases_lt 0 written) [
+  | inl some ↦ front_wrote sector count bytes old new (h.some some)
+  | inr none ↦ same old new (h.none (omega arith))
+]
+
+bytes_wrote : (told : Option ℕ) (sector : ℕ) (bytes : List ℕ) (old new : MirrorView) → WritesBytes told sector bytes old new → AsMany old new
+bytes_wrote None sector bytes old new w = wrote_readied sector bytes old new w
+bytes_wrote (Some len) sector bytes old new w = front_wrote sector (len / 512) bytes old new w.1
+
+module _ {I : Type 0} (i : SourceGhosts I) (sector : ℕ) (old new : MirrorView) (input rest : I) where
+  pieces_refused : (len written : ℕ) (fault : CommandFault) → RefusesPieces i sector len written old new input rest fault → AsMany old new
+  pieces_refused len written InputFault h = some_wrote sector (len / 512) written h.bytes old new h.stands
+  pieces_refused len written NoPieceMemory h = same old new h.1
+  pieces_refused len written BadLength h = some_wrote sector (len / 512) written h.bytes old new h.stands
+  pieces_refused len written (Resync fault) h = not_readied fault old new h.refused
+  pieces_refused len written (Write begin.OutOfRange) h = readied old new h.readied
+  pieces_refused len written (Write fault) h =
+      not_written fault (sector + written) h.piece h.mid new h.refused ∙ front_wrote sector (len / 512) h.bytes old h.mid h.stands
+  pieces_refused len written fault h = absurd h
+
+  in_memory_refused : (fault : CommandFault) → RefusesInMemory i sector old new input rest fault → AsMany old new
+  in_memory_refused (Resync fault) h = not_readied fault old new h.refused
+  in_memory_refused (Write fault) h = not_written fault sector h.bytes h.refused.ready new h.refused.refused ∙ readied old h.refused.ready h.refused.readied
+  in_memory_refused fault h = same old new h.1
+
+  writing_refused : (written : ℕ) (told : Option ℕ) (fault : CommandFault) → RefusesWriting i sector old new input rest told written fault → AsMany old new
+  writing_refused written None fault h = in_memory_refused fault h.1
+  writing_refused written (Some len) fault h = pieces_refused len written fault h
+
 module _ {S : Type 0} (s : SinkGhosts S) (old new : MirrorView) (before after : S) where
   pub stops_as_many : (fault : CommandFault) → RefusesToStop s old new before after fault → AsMany old new
   stops_as_many (Stop fault) h = not_stopped fault old new h.0
@@ -288,36 +329,35 @@ module _ {S : Type 0} (s : SinkGhosts S) (old new : MirrorView) (before after : 
   lists_as_many OutputFault h = h.compares.finds.rests.disks.same.as_many
   lists_as_many fault h = absurd h
 
-  module _ {I : Type 0} (i : SourceGhosts I) (sector : ℕ) (input rest : I) where
+  module _ {I : Type 0} (i : SourceGhosts I) (sector : ℕ) (input rest : I) (written : ℕ) where
     unread : (fault : CommandFault) → RefusesToldInput i s sector old new input rest before after fault → AsMany old new
     unread fault h = same old new h.unchanged
 
-    refused_input : (fault : CommandFault) → RefusesAnyInput i s sector old new input rest before after fault → AsMany old new
-    refused_input fault h = same old new h.unchanged
+    not_all_written : (fault : CommandFault) → FailsInput i s sector old new input rest before after written fault → AsMany old new
+    not_all_written fault h = writing_refused i sector old new input rest written (i.told input) fault h.refused
 
-    bytes_not_written : (fault : BeginFault) → RefusesItsBytes i s sector old new input rest before after (Write fault) → AsMany old new
-    bytes_not_written fault r = not_written fault sector r.bytes r.refused.ready new r.refused.refused ∙ readied old r.refused.ready r.refused.readied
-
-    pub writes_as_many : (fault : CommandFault) → RefusesToWrite i s sector old new input rest before after fault → AsMany old new
-    writes_as_many InputFault h = refused_input InputFault h
-    writes_as_many NoPieceMemory h = refused_input NoPieceMemory h
-    writes_as_many OutOfRange h = ⊎_elim (unread OutOfRange) (refused_input OutOfRange) h
-    writes_as_many BadLength h = ⊎_elim (unread BadLength) (refused_input BadLength) h
-    writes_as_many (Resync fault) h = not_readied fault old new h.refused
+    pub writes_as_many : (fault : CommandFault) → RefusesToWrite i s sector old new input rest before after written fault → AsMany old new
+    writes_as_many InputFault h = not_all_written InputFault h
+    writes_as_many NoPieceMemory h = not_all_written NoPieceMemory h
+    writes_as_many OutOfRange h = ⊎_elim (unread OutOfRange) (not_all_written OutOfRange) h
+    writes_as_many BadLength h = ⊎_elim (unread BadLength) (not_all_written BadLength) h
+    writes_as_many (Resync fault) h = not_all_written (Resync fault) h
     writes_as_many (Write fault) h = ⊎_elim
         (λ r. refused old new _ r.refused)
-        (⊎_elim (unread (Write fault)) (bytes_not_written fault))
+        (⊎_elim (unread (Write fault)) (not_all_written (Write fault)))
         h
-    writes_as_many (Stop fault) h = fails_after (WritesReadied sector h.bytes old) old new fault (wrote_readied sector h.bytes old) h.refused
-    writes_as_many OutputFault h = stopped_after (WritesReadied sector h.bytes old) old new (wrote_readied sector h.bytes old) h.done
+    writes_as_many (Stop fault) h = fails_after (WritesBytes (i.told input) sector h.bytes old) old new fault (bytes_wrote (i.told input) sector h.bytes old) h.refused
+    writes_as_many OutputFault h = stopped_after (WritesBytes (i.told input) sector h.bytes old) old new (bytes_wrote (i.told input) sector h.bytes old) h.done
     writes_as_many fault h = absurd h
 
 -- where the command is done
 pub done_resync : (old new : MirrorView) → StopsAfter (Resyncs old) new → AsMany old new
 done_resync old new = stopped_after (Resyncs old) old new (resynced old)
 
-pub done_write : (sector : ℕ) (bytes : List ℕ) (old new : MirrorView) → StopsAfter (WritesReadied sector bytes old) new → AsMany old new
-done_write sector bytes old new = stopped_after (WritesReadied sector bytes old) old new (wrote_readied sector bytes old)
+pub done_write : {I S : Type 0} (i : SourceGhosts I) (s : SinkGhosts S) (sector : ℕ) (old new : MirrorView) (input rest : I) (before after : S)
+    → WritesArray i s sector old new input rest before after → AsMany old new
+done_write i s sector old new input rest before after h =
+    stopped_after (WritesBytes (i.told input) sector h.bytes old) old new (bytes_wrote (i.told input) sector h.bytes old) h.done
 
 -- ---- a member fails
 failed : (k : ℕ) (old new : MirrorView) → FailsMember k old new → AsMany old new
@@ -330,7 +370,7 @@ not_failed fail.LastMember k old new h = refused old new _ h
 not_failed fail.EventsFull k old new h = refused old new _ h
 
 module _ {S : Type 0} (s : SinkGhosts S) (k : ℕ) (old new : MirrorView) (before after : S) where
-  pub done_fail : StopsArrayAfter s (FailsMember k old) new before after → AsMany old new
+  pub done_fail : {text_of : ArrayView → List ℕ} → StopsArrayAfter s text_of (FailsMember k old) new before after → AsMany old new
   done_fail h = stopped h.mid new h.stops.stops ∙ failed k old h.mid h.through
 
   not_stopped_after : (fault : CommandFault) → FailsToStopArray s (FailsMember k old) new before after fault → AsMany old new
@@ -353,16 +393,16 @@ stays k old new (Remove fault) h = not_removed fault k old new h.1
 stays k old new fault h = absurd h
 
 -- the array is stopped after it, or not
-as_many_stopped : {S : Type 0} (s : SinkGhosts S) (old new : MirrorView) (before after : S) (result : Result (Unit {0}) CommandFault)
-    → MatchResult result (λ _. StopsArray s old new before after) (RefusesToStop s old new before after) → AsMany old new
-as_many_stopped s old new before after (Ok x) h = stopped old new h.stops
-as_many_stopped s old new before after (Err fault) h = stops_as_many s old new before after fault h
+as_many_stopped : {S : Type 0} (text_of : ArrayView → List ℕ) (s : SinkGhosts S) (old new : MirrorView) (before after : S) (result : Result (Unit {0}) CommandFault)
+    → MatchResult result (λ _. StopsArray s text_of old new before after) (RefusesToStop s old new before after) → AsMany old new
+as_many_stopped text_of s old new before after (Ok x) h = stopped old new h.stops
+as_many_stopped text_of s old new before after (Err fault) h = stops_as_many s old new before after fault h
 
-pub leaves : {S : Type 0} (s : SinkGhosts S) (k : ℕ) (d : Disk) (old mid new : MirrorView) (before after : S) (result : Result (Unit {0}) CommandFault)
-    → Removes k d old mid → MatchResult result (λ _. StopsArray s mid new before after) (RefusesToStop s mid new before after) → HandsBack k old.disks new.disks (Some d)
-leaves s k d old mid new before after result r h = (
+pub leaves : {S : Type 0} (text_of : ArrayView → List ℕ) (s : SinkGhosts S) (k : ℕ) (d : Disk) (old mid new : MirrorView) (before after : S) (result : Result (Unit {0}) CommandFault)
+    → Removes k d old mid → MatchResult result (λ _. StopsArray s text_of mid new before after) (RefusesToStop s mid new before after) → HandsBack k old.disks new.disks (Some d)
+leaves text_of s k d old mid new before after result r h = (
   r.device,
-  ap (λ (n : ℕ). n + 1) (as_many_stopped s mid new before after result h ∙ ap length r.disks) ∙ length-remove old.disks k (slice_get_within old.disks k d r.device),
+  ap (λ (n : ℕ). n + 1) (as_many_stopped text_of s mid new before after result h ∙ ap length r.disks) ∙ length-remove old.disks k (slice_get_within old.disks k d r.device),
 )
 
 -- ---- a device is added
@@ -377,9 +417,9 @@ not_added add.EventsFull device given old new h = same old new h.unchanged
 not_added add.WriteFault device given old new h = same old new h.fails.unchanged
 not_added add.NoMemory device given old new h = same old new h.unchanged
 
-pub joins : {S : Type 0} (s : SinkGhosts S) (k : ℕ) (device : Disk) (old mid new : MirrorView) (before after : S) (result : Result (Unit {0}) CommandFault)
-    → Adds k device old mid → MatchResult result (λ _. StopsArray s mid new before after) (RefusesToStop s mid new before after) → KeepsDevice old.disks new.disks None
-joins s k device old mid new before after result a h = as_many_stopped s mid new before after result h ∙ added k device old mid a
+pub joins : {S : Type 0} (text_of : ArrayView → List ℕ) (s : SinkGhosts S) (k : ℕ) (device : Disk) (old mid new : MirrorView) (before after : S) (result : Result (Unit {0}) CommandFault)
+    → Adds k device old mid → MatchResult result (λ _. StopsArray s text_of mid new before after) (RefusesToStop s mid new before after) → KeepsDevice old.disks new.disks None
+joins text_of s k device old mid new before after result a h = as_many_stopped text_of s mid new before after result h ∙ added k device old mid a
 
 pub comes_back : (fault : AddFault) (device given : Disk) (old new : MirrorView) → RefusesAdd device given old new fault → KeepsDevice old.disks new.disks (Some given)
 comes_back = not_added

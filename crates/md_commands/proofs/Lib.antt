@@ -3,6 +3,9 @@ pub mod DeviceCounts
 pub mod InputRead
 pub mod Lacked
 pub mod Listed
+pub mod PiecesMarked
+pub mod PiecesTaken
+pub mod PiecesWritten
 pub mod Planned
 pub mod RebuildCounts
 pub mod RebuildPending
@@ -10,4 +13,5 @@ pub mod Rebuilt
 pub mod Resynced
 pub mod StoppedAfter
 pub mod Wrapped
+pub mod WriteKeepsChunks
 pub mod Written

@@ -9,7 +9,7 @@ use Rattle.md_faults.specs.declared.re_add_fault.ReAddFault.{ReAddFault}
 use Rattle.md_metadata.specs.Going.{GoesOn, only_others}
 use Rattle.md_metadata.specs.Storing.{IsStoring}
 use Rattle.md_resync.specs.declared.fault.ResyncFault.{ResyncFault}
-use Rattle.md_state.specs.View.{Disk, MirrorView}
+use Rattle.md_state.specs.View.{ArrayView, Disk, MirrorView}
 use Rattle.md_array.specs.Steps.ReAdd.{ReAdds}
 use Rattle.md_rebuild_table.specs.declared.fault.RebuildFault.{RebuildFault}
 use Rattle.md_rebuild_table.specs.declared.fault.RebuildFault.TheVariants as rebuild
@@ -226,19 +226,19 @@ come_back Marked k device old new r = re_added k device old new r
 come_back All k device old new r = re_added k r.comes.stale old new r.comes.re_adds
 
 -- a member was rebuilt, or not, and the array stopped after it, or not
-shown_as_many : {S : Type 0} (s : Ghosts S) (k : ℕ) (old new : MirrorView) (before after : S) (result : Result (Unit {0}) CommandFault)
-    → MatchResult result (λ _. StopsArrayAfter s (RebuildsMember k old) new before after) (RefusesRebuilding s k old new before after) → AsMany old new
-shown_as_many s k old new before after (Ok x) h = stopped h.mid new h.stops.stops ∙ rebuilt k h.through.0 old h.mid h.through.1
-shown_as_many s k old new before after (Err (Rebuild fault)) h = not_rebuilt fault k old new h.0
-shown_as_many s k old new before after (Err fault) h =
+shown_as_many : {S : Type 0} (text_of : ArrayView → List ℕ) (s : Ghosts S) (k : ℕ) (old new : MirrorView) (before after : S) (result : Result (Unit {0}) CommandFault)
+    → MatchResult result (λ _. StopsArrayAfter s text_of (RebuildsMember k old) new before after) (RefusesRebuilding s k old new before after) → AsMany old new
+shown_as_many text_of s k old new before after (Ok x) h = stopped h.mid new h.stops.stops ∙ rebuilt k h.through.0 old h.mid h.through.1
+shown_as_many text_of s k old new before after (Err (Rebuild fault)) h = not_rebuilt fault k old new h.0
+shown_as_many text_of s k old new before after (Err fault) h =
     stops_as_many s h.mid new before after fault h.refused ∙ rebuilt k h.through.0 old h.mid h.through.1
 
-pub joins_rebuilt : {S : Type 0} (s : Ghosts S) (extent : RebuildExtent) (k : ℕ) (device : Disk) (old joined new : MirrorView) (before after : S) (result : Result (Unit {0}) CommandFault)
+pub joins_rebuilt : {S : Type 0} (text_of : ArrayView → List ℕ) (s : Ghosts S) (extent : RebuildExtent) (k : ℕ) (device : Disk) (old joined new : MirrorView) (before after : S) (result : Result (Unit {0}) CommandFault)
     → ComesBackReadied extent k device old joined
-    → MatchResult result (λ _. StopsArrayAfter s (RebuildsMember k joined) new before after) (RefusesRebuilding s k joined new before after)
+    → MatchResult result (λ _. StopsArrayAfter s text_of (RebuildsMember k joined) new before after) (RefusesRebuilding s k joined new before after)
     → KeepsDevice old.disks new.disks None
-joins_rebuilt s extent k device old joined new before after result comes h =
-    shown_as_many s k joined new before after result h
+joins_rebuilt text_of s extent k device old joined new before after result comes h =
+    shown_as_many text_of s k joined new before after result h
     ∙ (come_back extent k device comes.ready joined comes.comes ∙ ap (λ (n : ℕ). n + 1) (readied old comes.ready comes.readied))
 
 pub stays_away : (fault : ReAddFault) (device given : Disk) (old ready new : MirrorView) → ResyncsIfNeeded old ready → HandsBackAsWas device given ready new fault

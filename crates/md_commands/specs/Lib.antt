@@ -32,3 +32,5 @@ pub mod Stopping
 pub mod ToldLength
 -- The command that writes to an array.
 pub mod Writing
+-- An input that tells its length is written piece by piece.
+pub mod WritingPieces

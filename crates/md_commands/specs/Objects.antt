@@ -5,8 +5,9 @@ use Rattle.md_report.specs.AsJson.ArrayObjects.{detail_object, summary_object}
 use Rattle.md_report.specs.AsJson.CheckObject.{check_object}
 use Rattle.md_report.specs.AsJson.Objects.{object_line}
 use Rattle.md_report.specs.AsJson.PlanObject.{plan_object}
+use Rattle.md_copy.specs.declared.rebuilt.Rebuilt.{Rebuilt}
 use Rattle.md_plan.specs.declared.planner.Planned.{Planned}
-use Rattle.md_report.specs.DetailReport.{detail_text}
+use Rattle.md_report.specs.AsJson.RebuiltObject.{rebuilt_object}
 use Rattle.md_report.specs.RebuiltReport.{planned_text}
 use Rattle.md_report.specs.SummaryReport.{summary_text}
 use Rattle.md_state.specs.View.{ArrayView}
@@ -20,15 +21,23 @@ planned_line a images planned =
 abbrev pub checked_line : ArrayView → List (List ℕ) → Comparison → List ℕ
 checked_line a images found = object_line (check_object found a images)
 
+-- an array in short, by a command of this name
+abbrev pub summary_line : List ℕ → List (List ℕ) → ArrayView → List ℕ
+summary_line kind images a = object_line (summary_object kind a images)
+
+-- an array in detail
+abbrev pub detail_line : List (List ℕ) → ArrayView → List ℕ
+detail_line images a = object_line (detail_object a images)
+
+-- the rebuild of member k, of which this is told
+abbrev pub rebuilt_object_line : ℕ → Rebuilt → List ℕ
+rebuilt_object_line k told = object_line (rebuilt_object k told.passes told.orphans.items)
+
 -- ---- as a JSON object, or as text
 
-abbrev pub summary_shown : Bool → List (List ℕ) → ArrayView → List ℕ
-summary_shown true images a = object_line (summary_object a images)
-summary_shown false images a = summary_text a
-
-abbrev pub detail_shown : Bool → List (List ℕ) → ArrayView → List ℕ
-detail_shown true images a = object_line (detail_object a images)
-detail_shown false images a = detail_text a
+abbrev pub summary_shown : List ℕ → Bool → List (List ℕ) → ArrayView → List ℕ
+summary_shown kind true images = summary_line kind images
+summary_shown kind false images = summary_text
 
 abbrev pub plan_shown : Bool → List (List ℕ) → ArrayView → Planned → List ℕ
 plan_shown true images a = planned_line a images

@@ -45,6 +45,10 @@ RefusesReadied k old new (Stop fault) =
     FailsToStop (λ mid. (told : Rebuilt) × RebuildsResynced k told old mid) new fault
 RefusesReadied k old new fault = ⊥
 
+-- a report on a rebuild, which is made of what is told of it
+abbrev pub RebuiltText : Type 0
+RebuiltText = Rebuilt → List ℕ
+
 -- The report on the rebuild of member k: the plan of each pass, and then a line; or, where it is to be quiet, the line alone.
 abbrev pub rebuilt_shown : Bool → ℕ → Rebuilt → List ℕ
 rebuilt_shown false k told = rebuilt_text k told.passes told.plans.items (length told.orphans.items)

@@ -1,10 +1,9 @@
 -- The command that stops an array.
-use Rattle.std.specs.Prelude.{◌≡◌, true}
+use Rattle.std.specs.Prelude.{◌≡◌, ℕ, true, List}
 use Rattle.md_examine.specs.declared.sink.Sink.{Ghosts}
-use Rattle.md_state.specs.View.{MirrorView}
+use Rattle.md_state.specs.View.{ArrayView, MirrorView}
 use Rattle.md_metadata.specs.declared.stop_fault.StopFault.{StopFault}
 use Rattle.md_metadata.specs.Stopping.{RefusesStop, StopsMirror}
-use Rattle.md_report.specs.SummaryReport.{summary_text}
 use Rattle.md_commands.specs.declared.fault.CommandFault.{CommandFault}
 use Rattle.md_commands.specs.declared.fault.CommandFault.TheVariants.{OutputFault, Stop}
 use Rattle.md_commands.specs.Output.{PutsOut}
@@ -22,10 +21,11 @@ pub record FailsToStop (Through : MirrorView → Type 0) (new : MirrorView) (fau
   pub refused : RefusesStop mid new fault
 
 module _ {S : Type 0} (s : Ghosts S) where
-  -- the array is stopped, and then shown
-  pub record StopsArray (old new : MirrorView) (before after : S) : Type 0 where
+  -- the array is stopped, and then shown, in a text that is made of it
+  pub record StopsArray (text_of : ArrayView → List ℕ) (old new : MirrorView)
+      (before after : S) : Type 0 where
     pub stops : StopsMirror old new
-    pub shown : PutsOut s before after (summary_text new.array)
+    pub shown : PutsOut s before after (text_of new.array)
 
   abbrev pub RefusesToStop : MirrorView → MirrorView → S → S → CommandFault → Type 0
   RefusesToStop old new before after (Stop fault) = RefusesStop old new fault × (after ≡ before)
@@ -33,11 +33,11 @@ module _ {S : Type 0} (s : Ghosts S) where
   RefusesToStop old new before after fault = ⊥
 
   -- something was done to the mirror, and then the array was stopped, and shown
-  pub record StopsArrayAfter (Through : MirrorView → Type 0) (new : MirrorView)
+  pub record StopsArrayAfter (text_of : ArrayView → List ℕ) (Through : MirrorView → Type 0) (new : MirrorView)
       (before after : S) : Type 0 where
     pub mid : MirrorView
     pub through : Through mid
-    pub stops : StopsArray mid new before after
+    pub stops : StopsArray text_of mid new before after
 
   -- it was not
   pub record FailsToStopArray (Through : MirrorView → Type 0) (new : MirrorView) (before after : S)

@@ -1,10 +1,11 @@
 -- The command that writes to an array.
-use Rattle.std.specs.Prelude.{◌≡◌, ◌⊎◌, ℕ, true, false, List}
+use Rattle.std.specs.Prelude.{◌≡◌, ◌⊎◌, ℕ, ◌/◌, ◌<◌, true, false, List, length, Option, Some, None}
 use Rattle.md_examine.specs.declared.sink.Sink.{Ghosts as SinkGhosts}
 use Rattle.md_faults.specs.declared.step_fault.BeginFault.{BeginFault}
 use Rattle.md_faults.specs.declared.step_fault.BeginFault.TheVariants.{Halted}
 use Rattle.md_state.specs.Trying.{RefusesHalted}
 use Rattle.md_state.specs.View.{MirrorView}
+use Rattle.md_metadata.specs.declared.stop_fault.StopFault.{StopFault}
 use Rattle.md_write.specs.Writing.{RefusesWrite, Writes}
 use Rattle.md_report.specs.SummaryReport.{summary_text}
 use Rattle.md_commands.specs.declared.fault.CommandFault.{CommandFault}
@@ -15,6 +16,7 @@ use Rattle.md_commands.specs.ReadingInput.{IsInput, RefusesInput}
 use Rattle.md_commands.specs.Resyncing.{RefusesNeededResync, ResyncsIfNeeded}
 use Rattle.md_commands.specs.Stopping.{FailsToStop, StopsAfter}
 use Rattle.md_commands.specs.ToldLength.{MayBeRead, RefusesTold}
+use Rattle.md_commands.specs.WritingPieces.{RefusesPieces, WritesFront}
 
 -- the array is resynced where it has to be, and then the bytes are written
 pub record WritesReadied (sector : ℕ) (bytes : List ℕ) (old new : MirrorView) : Type 0 where
@@ -32,8 +34,41 @@ pub record FailsReadyWrite (sector : ℕ) (bytes : List ℕ) (old new : MirrorVi
 abbrev pub RefusesBytes : ℕ → List ℕ → MirrorView → MirrorView → CommandFault → Type 0
 RefusesBytes sector bytes old new (Resync fault) = RefusesNeededResync old new fault
 RefusesBytes sector bytes old new (Write fault) = FailsReadyWrite sector bytes old new fault
-RefusesBytes sector bytes old new (Stop fault) = FailsToStop (WritesReadied sector bytes old) new fault
 RefusesBytes sector bytes old new fault = ⊥
+
+-- The bytes of an input are written: by one write where its length was not told, and else piece by piece.
+abbrev pub WritesBytes : Option ℕ → ℕ → List ℕ → MirrorView → MirrorView → Type 0
+WritesBytes None sector bytes old new = WritesReadied sector bytes old new
+WritesBytes (Some len) sector bytes old new =
+    (length bytes ≡ len) × WritesFront sector (len / 512) bytes old new
+
+module _ {I : Type 0} (i : SourceGhosts I) (sector : ℕ) (old new : MirrorView) (input rest : I) where
+  -- all of the input is written
+  pub record WritesInput (told : Option ℕ) : Type 0 where
+    pub bytes : List ℕ
+    pub is : IsInput i old.array.chunks.size input rest bytes
+    pub writes : WritesBytes told sector bytes old new
+
+  -- it is read into memory, and not written
+  pub record FailsFromMemory (fault : CommandFault) : Type 0 where
+    pub bytes : List ℕ
+    pub is : IsInput i old.array.chunks.size input rest bytes
+    pub refused : RefusesBytes sector bytes old new fault
+
+  -- It is not read into memory, and then nothing is done; or it is not written.
+  abbrev pub RefusesInMemory : CommandFault → Type 0
+  RefusesInMemory (Resync fault) = FailsFromMemory (Resync fault)
+  RefusesInMemory (Write fault) = FailsFromMemory (Write fault)
+  RefusesInMemory fault = RefusesInput i old.array.chunks.size input rest fault × (new ≡ old)
+
+  -- Not all of it is written, but so many sectors: none where its length was not told.
+  abbrev pub RefusesWriting : Option ℕ → ℕ → CommandFault → Type 0
+  RefusesWriting None written fault = (written ≡ 0) × RefusesInMemory fault
+  RefusesWriting (Some len) written fault = RefusesPieces i sector len written old new input rest fault
+
+-- A watch is told how many sectors stand of an input that is not written to its end, where some do.
+abbrev pub IsToldOfFront : {W : Type 0} → (W → ℕ → Type 0) → W → ℕ → Type 0
+IsToldOfFront has_written watch written = 0 < written → has_written watch written
 
 module _ {I S : Type 0} (i : SourceGhosts I) (s : SinkGhosts S) (sector : ℕ) (old new : MirrorView)
     (input rest : I) (before after : S) where
@@ -42,7 +77,7 @@ module _ {I S : Type 0} (i : SourceGhosts I) (s : SinkGhosts S) (sector : ℕ) (
     pub may : MayBeRead old.array sector (i.told input)
     pub bytes : List ℕ
     pub is : IsInput i old.array.chunks.size input rest bytes
-    pub done : StopsAfter (WritesReadied sector bytes old) new
+    pub done : StopsAfter (WritesBytes (i.told input) sector bytes old) new
     pub shown : PutsOut s before after (summary_text new.array)
 
   -- the mirror is halted, and nothing is done
@@ -60,21 +95,20 @@ module _ {I S : Type 0} (i : SourceGhosts I) (s : SinkGhosts S) (sector : ℕ) (
     pub unread : rest ≡ input
     pub unwritten : after ≡ before
 
-  -- the input is read and refused, and nothing else is done
-  pub record RefusesAnyInput (fault : CommandFault) : Type 0 where
+  -- the input is read and refused, or not written to its end
+  pub record FailsInput (written : ℕ) (fault : CommandFault) : Type 0 where
     pub running : old.array.halted ≡ false
     pub may : MayBeRead old.array sector (i.told input)
-    pub refused : RefusesInput i old.array.chunks.size input rest fault
-    pub unchanged : new ≡ old
+    pub refused : RefusesWriting i sector old new input rest (i.told input) written fault
     pub unwritten : after ≡ before
 
-  -- its bytes are not written, or the array is not stopped
-  pub record RefusesItsBytes (fault : CommandFault) : Type 0 where
+  -- it is written, and the array is not stopped
+  pub record FailsUnstopped (fault : StopFault) : Type 0 where
     pub running : old.array.halted ≡ false
     pub may : MayBeRead old.array sector (i.told input)
     pub bytes : List ℕ
     pub is : IsInput i old.array.chunks.size input rest bytes
-    pub refused : RefusesBytes sector bytes old new fault
+    pub refused : FailsToStop (WritesBytes (i.told input) sector bytes old) new fault
     pub unwritten : after ≡ before
 
   -- all is done, and the output failed
@@ -82,17 +116,18 @@ module _ {I S : Type 0} (i : SourceGhosts I) (s : SinkGhosts S) (sector : ℕ) (
     pub may : MayBeRead old.array sector (i.told input)
     pub bytes : List ℕ
     pub is : IsInput i old.array.chunks.size input rest bytes
-    pub done : StopsAfter (WritesReadied sector bytes old) new
+    pub done : StopsAfter (WritesBytes (i.told input) sector bytes old) new
     pub failed : s.failed after ≡ true
 
-  abbrev pub RefusesToWrite : CommandFault → Type 0
-  RefusesToWrite InputFault = RefusesAnyInput InputFault
-  RefusesToWrite NoPieceMemory = RefusesAnyInput NoPieceMemory
-  RefusesToWrite OutOfRange = RefusesToldInput OutOfRange ⊎ RefusesAnyInput OutOfRange
-  RefusesToWrite BadLength = RefusesToldInput BadLength ⊎ RefusesAnyInput BadLength
-  RefusesToWrite (Resync fault) = RefusesItsBytes (Resync fault)
-  RefusesToWrite (Write fault) =
-      RefusesUnread fault ⊎ RefusesToldInput (Write fault) ⊎ RefusesItsBytes (Write fault)
-  RefusesToWrite (Stop fault) = RefusesItsBytes (Stop fault)
-  RefusesToWrite OutputFault = WritesInVain
-  RefusesToWrite fault = ⊥
+  -- of the input so many sectors are written before it is refused
+  abbrev pub RefusesToWrite : ℕ → CommandFault → Type 0
+  RefusesToWrite written InputFault = FailsInput written InputFault
+  RefusesToWrite written NoPieceMemory = FailsInput written NoPieceMemory
+  RefusesToWrite written OutOfRange = RefusesToldInput OutOfRange ⊎ FailsInput written OutOfRange
+  RefusesToWrite written BadLength = RefusesToldInput BadLength ⊎ FailsInput written BadLength
+  RefusesToWrite written (Resync fault) = FailsInput written (Resync fault)
+  RefusesToWrite written (Write fault) =
+      RefusesUnread fault ⊎ RefusesToldInput (Write fault) ⊎ FailsInput written (Write fault)
+  RefusesToWrite written (Stop fault) = FailsUnstopped fault
+  RefusesToWrite written OutputFault = WritesInVain
+  RefusesToWrite written fault = ⊥

@@ -1,13 +1,17 @@
 // The command that adds a device.
-ghost use Rattle.std.specs.Prelude.{MatchResult, option_map};
+ghost use Rattle.std.specs.Prelude.{MatchResult, codes, option_map};
 ghost use Rattle.md_inflight.specs.Requests.Pending.{PendingView};
 ghost use Rattle.md_state.specs.Requests.{IsPending};
 ghost use Rattle.md_state.specs.View.{disk_of};
 ghost use Rattle.md_array.specs.Consistency.{IsConsistent};
+ghost use Rattle.md_report.specs.SummaryReport.{summary_text};
+ghost use Rattle.md_report.specs.AsJson.MemberObjects.{texts_of};
 ghost use Rattle.md_commands.specs.Adding.{AddsDevice, KeepsDevice, RefusesJoining};
+ghost use Rattle.md_commands.specs.Objects.{summary_line};
 ghost use Rattle.md_commands.specs.Stopping.{StopsArrayAfter};
 
 use crate::fault::CommandFault;
+use crate::stopped_object::stop_as_object;
 use crate::stopping::stop_array;
 use md_array::Mirror;
 use md_device::Device;
@@ -30,8 +34,8 @@ pub fn add_device<D: Device + Drop, S: Sink>(
 ) -> (Option<D>, Result<(), CommandFault>)
     requires sound { IsConsistent mirror.old }
     ensures gives { MatchResult result.1
-        (λ _. StopsArrayAfter S.Sink (AddsDevice (disk_of D.Device device) mirror.old) mirror.new out.old
-        out.new)
+        (λ _. StopsArrayAfter S.Sink summary_text (AddsDevice (disk_of D.Device device) mirror.old) mirror.new
+        out.old out.new)
         (RefusesJoining S.Sink (disk_of D.Device device) (option_map (disk_of D.Device) result.0) mirror.old
         mirror.new out.old out.new) }
     ensures device { KeepsDevice mirror.old.disks mirror.new.disks (option_map (disk_of D.Device) result.0) }
@@ -44,5 +48,33 @@ pub fn add_device<D: Device + Drop, S: Sink>(
             (None, stopped)
         }
         Err((device, fault)) => (Some(device), Err(CommandFault::Add(fault))),
+    }
+}
+
+/// Adds a device as `add_device` does, and puts out what the array is then as a JSON object, of whose members these are the
+/// images, that of the device last.
+pub fn add_device_json<D: Device + Drop, S: Sink>(
+    alloc: Global,
+    mirror: &mut Mirror<D>,
+    device: D,
+    images: &[&str],
+    out: &mut S,
+) -> (Option<D>, Result<(), CommandFault>)
+    requires sound { IsConsistent mirror.old }
+    ensures gives { MatchResult result.1
+        (λ _. StopsArrayAfter S.Sink (summary_line (codes "add") (texts_of images.now))
+        (AddsDevice (disk_of D.Device device) mirror.old) mirror.new out.old out.new)
+        (RefusesJoining S.Sink (disk_of D.Device device) (option_map (disk_of D.Device) result.0) mirror.old
+        mirror.new out.old out.new) }
+    ensures device { KeepsDevice mirror.old.disks mirror.new.disks (option_map (disk_of D.Device) result.0) }
+    ensures sound { IsConsistent mirror.new }
+    ensures pending { (p : PendingView) → IsPending mirror.old.array p → IsPending mirror.new.array p }
+{
+    match mirror.add(alloc, device) {
+        Ok(_) => {
+            let stopped = stop_as_object(mirror, "add", images, out);
+            (None, stopped)
+        }
+        Err((back, fault)) => (Some(back), Err(CommandFault::Add(fault))),
     }
 }

@@ -4,6 +4,7 @@ ghost use Rattle.md_inflight.specs.Requests.Pending.{PendingView};
 ghost use Rattle.md_state.specs.Steps.Fail.{FailsMember};
 ghost use Rattle.md_state.specs.Requests.{IsPending};
 ghost use Rattle.md_array.specs.Consistency.{IsConsistent};
+ghost use Rattle.md_report.specs.SummaryReport.{summary_text};
 ghost use Rattle.md_commands.specs.Failing.{RefusesFailing, RefusesToFail};
 ghost use Rattle.md_commands.specs.Stopping.{StopsArrayAfter};
 
@@ -28,7 +29,7 @@ pub fn fail_member<D: Device + Drop, S: Sink>(
 ) -> Result<(), CommandFault>
     requires sound { IsConsistent mirror.old }
     ensures gives { MatchResult result
-        (λ _. StopsArrayAfter S.Sink (FailsMember member mirror.old) mirror.new out.old out.new)
+        (λ _. StopsArrayAfter S.Sink summary_text (FailsMember member mirror.old) mirror.new out.old out.new)
         (RefusesToFail S.Sink member mirror.old mirror.new out.old out.new) }
     ensures sound { IsConsistent mirror.new }
     ensures pending { (p : PendingView) → IsPending mirror.old.array p → IsPending mirror.new.array p }

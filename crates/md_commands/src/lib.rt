@@ -28,12 +28,14 @@ mod removing;
 mod resyncing;
 mod showing;
 mod source;
+mod stopped_object;
 mod stopping;
 mod told_length;
 mod watch;
 mod writing;
+mod writing_pieces;
 
-pub use adding::add_device;
+pub use adding::{add_device, add_device_json};
 pub use checking::{check_members, check_members_json, list_mismatches};
 pub use failing::fail_member;
 pub use fault::CommandFault;
@@ -42,11 +44,14 @@ pub use md_metadata::RebuildExtent;
 pub use option_fault::OptionFault;
 pub use planning::{show_plan, show_plan_json};
 pub use re_adding::re_add_device;
-pub use rebuilding::rebuild_member;
+pub use rebuilding::{rebuild_member, rebuild_member_json};
 pub use removing::remove_member;
 pub use resyncing::{resync_array, resync_if_needed};
-pub use showing::{show_detail, show_detail_json, show_summary, show_summary_json};
+pub use showing::{
+    show_detail, show_detail_json, show_summary, show_summary_json, show_verbose_detail,
+};
 pub use source::{Input, Source, SourceFault};
+pub use stopped_object::stop_array_json;
 pub use stopping::stop_array;
 pub use watch::Watch;
 pub use writing::write_array;

@@ -2,32 +2,31 @@
 ghost use Rattle.std.specs.Prelude.{◌≡◌, MatchResult};
 ghost use Rattle.md_bitmap.specs.Marks.{count_set};
 ghost use Rattle.md_check.specs.Differences.{IsSized};
-ghost use Rattle.md_report.specs.AsJson.ArrayObjects.{detail_object, summary_object};
 ghost use Rattle.md_report.specs.AsJson.MemberObjects.{texts_of};
-ghost use Rattle.md_report.specs.AsJson.Objects.{object_line};
-ghost use Rattle.md_commands.specs.Objects.{checked_line, planned_line};
+ghost use Rattle.md_commands.specs.Objects.{checked_line, detail_line, planned_line, rebuilt_object_line, summary_line};
 ghost use Rattle.md_commands.specs.Output.{FailsOutput, PutsOut};
 
 use crate::fault::CommandFault;
 use md_array::Mirror;
 use md_check::Comparison;
+use md_copy::Rebuilt;
 use md_device::Device;
 use md_examine::Sink;
 use md_plan::Planned;
-use md_report::{check_json, detail_json, plan_json, summary_json};
+use md_report::{check_json, detail_json, plan_json, rebuilt_json, summary_json};
 
-/// Puts out an array in short.
+/// Puts out an array in short, for a command of this name.
 pub(crate) fn put_summary_json<D: Device + Drop, S: Sink>(
     mirror: &Mirror<D>,
+    kind: &str,
     images: &[&str],
     out: &mut S,
 ) -> Result<(), CommandFault>
     ensures { MatchResult result
-        (λ _. PutsOut S.Sink out.old out.new
-        (object_line (summary_object mirror.now.array (texts_of images.now))))
+        (λ _. PutsOut S.Sink out.old out.new (summary_line kind.now (texts_of images.now) mirror.now.array))
         (FailsOutput S.Sink out.new) }
 {
-    summary_json(out, mirror, images)?;
+    summary_json(out, kind, mirror, images)?;
     out.flush()?;
     Ok(())
 }
@@ -39,11 +38,26 @@ pub(crate) fn put_detail_json<D: Device + Drop, S: Sink>(
     out: &mut S,
 ) -> Result<(), CommandFault>
     ensures { MatchResult result
-        (λ _. PutsOut S.Sink out.old out.new
-        (object_line (detail_object mirror.now.array (texts_of images.now))))
+        (λ _. PutsOut S.Sink out.old out.new (detail_line (texts_of images.now) mirror.now.array))
         (FailsOutput S.Sink out.new) }
 {
     detail_json(out, mirror, images)?;
+    out.flush()?;
+    Ok(())
+}
+
+/// Puts out what was rebuilt of the member with this index.
+pub(crate) fn put_rebuilt_json<S: Sink>(
+    rebuilt: &Rebuilt,
+    member: u32,
+    out: &mut S,
+) -> Result<(), CommandFault>
+    ensures { MatchResult result
+        (λ _. PutsOut S.Sink out.old out.new (rebuilt_object_line member rebuilt.now))
+        (FailsOutput S.Sink out.new) }
+{
+    let orphans = rebuilt.orphans.as_slice();
+    rebuilt_json(out, member, rebuilt.passes, orphans)?;
     out.flush()?;
     Ok(())
 }

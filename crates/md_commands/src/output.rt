@@ -7,6 +7,8 @@ ghost use Rattle.md_report.specs.CheckReport.{check_text, list_text};
 ghost use Rattle.md_report.specs.DetailReport.{detail_text};
 ghost use Rattle.md_report.specs.RebuiltReport.{planned_text};
 ghost use Rattle.md_report.specs.SummaryReport.{summary_text};
+ghost use Rattle.md_report.specs.VerboseReport.{verbose_text};
+ghost use Rattle.md_report.specs.AsJson.MemberObjects.{texts_of};
 ghost use Rattle.md_commands.specs.Output.{FailsOutput, PutsOut};
 ghost use Rattle.md_commands.specs.Rebuilding.{rebuilt_shown};
 
@@ -20,7 +22,7 @@ use md_examine::{Sink, SinkFault};
 use md_plan::Planned;
 use md_report::{
     check_list_report, check_report, detail, plan_report, rebuilt_line_report, rebuilt_report,
-    summary,
+    summary, verbose_detail,
 };
 
 /// Puts out an array in one line.
@@ -47,6 +49,21 @@ pub(crate) fn put_detail<D: Device + Drop, S: Sink>(
         (FailsOutput S.Sink out.new) }
 {
     detail(out, mirror)?;
+    out.flush()?;
+    Ok(())
+}
+
+/// Puts out an array with the state of each member and with its image.
+pub(crate) fn put_verbose_detail<D: Device + Drop, S: Sink>(
+    mirror: &Mirror<D>,
+    images: &[&str],
+    out: &mut S,
+) -> Result<(), CommandFault>
+    ensures { MatchResult result
+        (λ _. PutsOut S.Sink out.old out.new (verbose_text mirror.now.array (texts_of images.now)))
+        (FailsOutput S.Sink out.new) }
+{
+    verbose_detail(out, mirror, images)?;
     out.flush()?;
     Ok(())
 }

@@ -4,6 +4,7 @@ ghost use Rattle.md_inflight.specs.Requests.Pending.{PendingView};
 ghost use Rattle.md_state.specs.Requests.{IsPending};
 ghost use Rattle.md_state.specs.View.{disk_of};
 ghost use Rattle.md_array.specs.Consistency.{IsConsistent};
+ghost use Rattle.md_report.specs.SummaryReport.{summary_text};
 ghost use Rattle.md_commands.specs.Adding.{KeepsDevice};
 ghost use Rattle.md_commands.specs.ReAdding.{ReAddsDevice, RebuildsMember, RefusesRebuilding, RefusesToReAdd};
 ghost use Rattle.md_commands.specs.Stopping.{StopsArrayAfter};
@@ -42,8 +43,8 @@ pub fn re_add_device<D: Device + Drop + Send, W: Watch + Sync, S: Sink, T: Threa
 ) -> (Option<D>, Result<(), CommandFault>)
     requires sound { IsConsistent mirror.old }
     ensures gives { MatchResult result.1
-        (λ _. StopsArrayAfter S.Sink (ReAddsDevice extent (disk_of D.Device device) mirror.old) mirror.new
-        out.old out.new)
+        (λ _. StopsArrayAfter S.Sink summary_text (ReAddsDevice extent (disk_of D.Device device) mirror.old)
+        mirror.new out.old out.new)
         (RefusesToReAdd S.Sink extent (disk_of D.Device device) (option_map (disk_of D.Device) result.0)
         mirror.old mirror.new out.old out.new) }
     ensures device { KeepsDevice mirror.old.disks mirror.new.disks (option_map (disk_of D.Device) result.0) }
@@ -74,7 +75,8 @@ fn rebuild_and_show<D: Device + Drop + Send, W: Watch + Sync, S: Sink, T: Thread
     requires member { k < length mirror.old.array.members }
     requires sound { IsConsistent mirror.old }
     ensures gives { MatchResult result
-        (λ _. StopsArrayAfter S.Sink (RebuildsMember k mirror.old) mirror.new out.old out.new)
+        (λ _. StopsArrayAfter S.Sink summary_text (RebuildsMember k mirror.old) mirror.new out.old
+        out.new)
         (RefusesRebuilding S.Sink k mirror.old mirror.new out.old out.new) }
     ensures sound { IsConsistent mirror.new }
     ensures pending { (p : PendingView) → IsPending mirror.old.array p → IsPending mirror.new.array p }

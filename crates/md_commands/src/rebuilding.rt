@@ -6,11 +6,13 @@ ghost use Rattle.md_state.specs.Members.{IsMember};
 ghost use Rattle.md_state.specs.Requests.{IsPending};
 ghost use Rattle.md_array.specs.Consistency.{IsConsistent};
 ghost use Rattle.md_copy.specs.Rebuilding.{Rebuilds, RefusesRebuild};
+ghost use Rattle.md_commands.specs.Objects.{rebuilt_object_line};
 ghost use Rattle.md_commands.specs.Rebuilding.{IsToRebuild, IsToldOfTotals, RebuildsArray, RebuildsResynced, RefusesReadied, RefusesToRebuild, rebuilt_shown};
 ghost use Rattle.md_commands.specs.Stopping.{StopsAfter};
 
 use crate::fault::CommandFault;
 use crate::named_member::named_member;
+use crate::objects::put_rebuilt_json;
 use crate::output::put_rebuilt;
 use crate::resyncing::resync_if_needed;
 use crate::watch::Watch;
@@ -51,6 +53,33 @@ pub fn rebuild_member<D: Device + Drop + Send, W: Watch + Sync, S: Sink, T: Thre
     let k = named_member(mirror, member)?;
     let rebuilt = rebuild_and_stop(rt, alloc, mirror, k, watch)?;
     put_rebuilt(&rebuilt, member, quiet, out)
+}
+
+/// Rebuilds the member with this index as `rebuild_member` does, and puts out a JSON object: how many passes there were, and which
+/// chunks are orphans.
+pub fn rebuild_member_json<
+    D: Device + Drop + Send,
+    W: Watch + Sync,
+    S: Sink,
+    T: Threads + Wait + Sync,
+>(
+    rt: &T,
+    alloc: Global,
+    mirror: &mut Mirror<D>,
+    member: u32,
+    watch: &W,
+    out: &mut S,
+) -> Result<(), CommandFault>
+    requires sound { IsConsistent mirror.old }
+    ensures gives { MatchResult result
+        (λ _. RebuildsArray S.Sink member mirror.old mirror.new out.old out.new (rebuilt_object_line member))
+        (RefusesToRebuild S.Sink member mirror.old mirror.new out.old out.new) }
+    ensures sound { IsConsistent mirror.new }
+    ensures pending { (p : PendingView) → IsPending mirror.old.array p → IsPending mirror.new.array p }
+{
+    let k = named_member(mirror, member)?;
+    let told = rebuild_and_stop(rt, alloc, mirror, k, watch)?;
+    put_rebuilt_json(&told, member, out)
 }
 
 // Rebuilds member k, after a resync where it is needed, and stops the array.

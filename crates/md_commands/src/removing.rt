@@ -5,6 +5,7 @@ ghost use Rattle.md_state.specs.Steps.Remove.{Removes};
 ghost use Rattle.md_state.specs.Requests.{IsPending};
 ghost use Rattle.md_state.specs.View.{disk_of};
 ghost use Rattle.md_array.specs.Consistency.{IsConsistent};
+ghost use Rattle.md_report.specs.SummaryReport.{summary_text};
 ghost use Rattle.md_commands.specs.Removing.{HandsBack, RefusesRemoving, RefusesToRemove, RemovesMember};
 ghost use Rattle.md_commands.specs.Stopping.{StopsArrayAfter};
 
@@ -31,7 +32,8 @@ pub fn remove_member<D: Device + Drop, S: Sink>(
 ) -> (Option<D>, Result<(), CommandFault>)
     requires sound { IsConsistent mirror.old }
     ensures gives { MatchResult result.1
-        (λ _. StopsArrayAfter S.Sink (RemovesMember member mirror.old) mirror.new out.old out.new)
+        (λ _. StopsArrayAfter S.Sink summary_text (RemovesMember member mirror.old) mirror.new out.old
+        out.new)
         (RefusesToRemove S.Sink member mirror.old mirror.new out.old out.new) }
     ensures device { HandsBack member mirror.old.disks mirror.new.disks
         (option_map (disk_of D.Device) result.0) }

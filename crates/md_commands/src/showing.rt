@@ -1,14 +1,14 @@
 // The commands that show an array.
 ghost use Rattle.md_report.specs.DetailReport.{detail_text};
 ghost use Rattle.md_report.specs.SummaryReport.{summary_text};
-ghost use Rattle.md_report.specs.AsJson.ArrayObjects.{detail_object, summary_object};
+ghost use Rattle.md_report.specs.VerboseReport.{verbose_text};
 ghost use Rattle.md_report.specs.AsJson.MemberObjects.{texts_of};
-ghost use Rattle.md_report.specs.AsJson.Objects.{object_line};
+ghost use Rattle.md_commands.specs.Objects.{detail_line, summary_line};
 ghost use Rattle.md_commands.specs.Output.{ShowsText};
 
 use crate::fault::CommandFault;
 use crate::objects::{put_detail_json, put_summary_json};
-use crate::output::{put_detail, put_summary};
+use crate::output::{put_detail, put_summary, put_verbose_detail};
 use md_array::Mirror;
 use md_device::Device;
 use md_examine::Sink;
@@ -36,16 +36,28 @@ pub fn show_detail<D: Device + Drop, S: Sink>(
     put_detail(mirror, out)
 }
 
-/// Puts out an array in short as a JSON object, of whose members these are the images. It stays as it is.
-pub fn show_summary_json<D: Device + Drop, S: Sink>(
+/// Puts out an array with the state of each member and with its image, of which these are the names. It stays as it is.
+pub fn show_verbose_detail<D: Device + Drop, S: Sink>(
     mirror: &Mirror<D>,
     images: &[&str],
     out: &mut S,
 ) -> Result<(), CommandFault>
-    ensures { ShowsText S.Sink (object_line (summary_object mirror.now.array (texts_of images.now)))
+    ensures { ShowsText S.Sink (verbose_text mirror.now.array (texts_of images.now)) out.old out.new result }
+{
+    put_verbose_detail(mirror, images, out)
+}
+
+/// Puts out an array in short as the JSON object of a command of this name. Of its members these are the images. It stays as it is.
+pub fn show_summary_json<D: Device + Drop, S: Sink>(
+    mirror: &Mirror<D>,
+    kind: &str,
+    images: &[&str],
+    out: &mut S,
+) -> Result<(), CommandFault>
+    ensures { ShowsText S.Sink (summary_line kind.now (texts_of images.now) mirror.now.array)
         out.old out.new result }
 {
-    put_summary_json(mirror, images, out)
+    put_summary_json(mirror, kind, images, out)
 }
 
 /// Puts out an array in detail as a JSON object, of whose members these are the images. It stays as it is.
@@ -54,7 +66,7 @@ pub fn show_detail_json<D: Device + Drop, S: Sink>(
     images: &[&str],
     out: &mut S,
 ) -> Result<(), CommandFault>
-    ensures { ShowsText S.Sink (object_line (detail_object mirror.now.array (texts_of images.now)))
+    ensures { ShowsText S.Sink (detail_line (texts_of images.now) mirror.now.array)
         out.old out.new result }
 {
     put_detail_json(mirror, images, out)

@@ -3,6 +3,7 @@ ghost use Rattle.std.specs.Prelude.{MatchResult};
 ghost use Rattle.md_inflight.specs.Requests.Pending.{PendingView};
 ghost use Rattle.md_state.specs.Requests.{IsPending};
 ghost use Rattle.md_array.specs.Consistency.{IsConsistent};
+ghost use Rattle.md_report.specs.SummaryReport.{summary_text};
 ghost use Rattle.md_commands.specs.Stopping.{RefusesToStop, StopsArray};
 
 use crate::fault::CommandFault;
@@ -19,7 +20,7 @@ pub fn stop_array<D: Device + Drop, S: Sink>(
 ) -> Result<(), CommandFault>
     requires sound { IsConsistent mirror.old }
     ensures gives { MatchResult result
-        (λ _. StopsArray S.Sink mirror.old mirror.new out.old out.new)
+        (λ _. StopsArray S.Sink summary_text mirror.old mirror.new out.old out.new)
         (RefusesToStop S.Sink mirror.old mirror.new out.old out.new) }
     ensures sound { IsConsistent mirror.new }
     ensures pending { (p : PendingView) → IsPending mirror.old.array p → IsPending mirror.new.array p }

@@ -1,5 +1,5 @@
 // The length of an input that is told before it is read.
-ghost use Rattle.std.specs.Prelude.{◌≡◌, ◌↔◌, MatchResult, true};
+ghost use Rattle.std.specs.Prelude.{◌≡◌, ◌+◌, ◌^◌, ◌<◌, ◌↔◌, MatchResult, true};
 ghost use Rattle.md_state.specs.Steps.Begin.{IsInRange};
 ghost use Rattle.md_commands.specs.ToldLength.{MayBeRead, RefusesTold};
 
@@ -29,9 +29,10 @@ pub(crate) fn check_told<D: Device + Drop>(
     Ok(())
 }
 
-// Whether the array has these sectors, one at least.
-fn is_in_range<D: Device + Drop>(mirror: &Mirror<D>, sector: u64, sectors: u64) -> bool
-    ensures { (result ≡ true) ↔ IsInRange mirror.now.array sector sectors }
+/// Whether the array has these sectors, one at least.
+pub(crate) fn is_in_range<D: Device + Drop>(mirror: &Mirror<D>, sector: u64, sectors: u64) -> bool
+    ensures is { (result ≡ true) ↔ IsInRange mirror.now.array sector sectors }
+    ensures fits { result ≡ true → sector + sectors < 2 ^ 64 }
 {
     let size = mirror.chunks().size;
     0 < sectors && sectors <= size && sector <= size - sectors

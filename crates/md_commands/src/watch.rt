@@ -1,10 +1,10 @@
-// What is told of a rebuild and of a check.
+// What is told of a rebuild, of a check and of a write.
 ghost use Rattle.std.specs.Prelude.{ℕ, Option};
 
 use md_copy::Gate;
 
 /// Is told of a rebuild, or of a check, so that its progress can be shown: what it has to do, and as a gate of
-/// each read.
+/// each read. And of a write that ends early, what stands.
 pub trait Watch: Gate {
     /// It was told that the member which is rebuilt lacks so many chunks, of which this is the first. Only `begins` says
     /// it, so that a call of which a contract says it has told the watch.
@@ -12,6 +12,9 @@ pub trait Watch: Gate {
 
     /// It was told that the members which are compared have so many sectors in all. Only `begins_check` says it.
     ghost compares: { Self → ℕ → Type 0 };
+
+    /// It was told that so many sectors of an input stand, which is not written to its end. Only `wrote` says it.
+    ghost has_written: { Self → ℕ → Type 0 };
 
     /// The member that is rebuilt lacks so many chunks, of which this is the first. Not each of them need be
     /// read: some may be on no other member. One that can't be read on a member may be read again from another.
@@ -22,4 +25,8 @@ pub trait Watch: Gate {
     /// read: some may be listed as bad, and a single member is not read.
     fn begins_check(&self, sectors: u64)
         ensures { compares self.now sectors };
+
+    /// So many sectors of an input are written and stand, and the others are not: its write is refused.
+    fn wrote(&self, sectors: u64)
+        ensures { has_written self.now sectors };
 }

@@ -1,10 +1,11 @@
 // The command that writes to an array.
-ghost use Rattle.std.specs.Prelude.{◌≡◌, ◌%◌, MatchResult, length};
+ghost use Rattle.std.specs.Prelude.{◌≡◌, ◌%◌, MatchResult, None, ℕ, length};
 ghost use Rattle.md_inflight.specs.Requests.Pending.{PendingView};
 ghost use Rattle.md_state.specs.Requests.{IsPending};
 ghost use Rattle.md_array.specs.Consistency.{IsConsistent};
-ghost use Rattle.md_commands.specs.Stopping.{StopsAfter};
-ghost use Rattle.md_commands.specs.Writing.{RefusesBytes, RefusesToWrite, WritesArray, WritesReadied};
+ghost use Rattle.md_commands.specs.ToldLength.{MayBeRead};
+ghost use Rattle.md_commands.specs.Writing.{IsToldOfFront, RefusesBytes, RefusesInMemory, RefusesToWrite, RefusesWriting, WritesArray, WritesInput, WritesReadied};
+ghost use Rattle.md_commands.specs.WritingPieces.{RefusesPieces, WritesInPieces};
 
 use crate::fault::CommandFault;
 use crate::input::whole_input;
@@ -12,6 +13,8 @@ use crate::output::put_summary;
 use crate::resyncing::resync_if_needed;
 use crate::source::Source;
 use crate::told_length::check_told;
+use crate::watch::Watch;
+use crate::writing_pieces::write_in_pieces;
 use md_array::{BeginFault, Mirror};
 use md_device::Device;
 use md_examine::Sink;
@@ -20,42 +23,131 @@ use md_write::write;
 use std::alloc::Global;
 
 /// Writes all of an input to an array, from this sector on; then stops it, and puts out what it is in one
-/// line. A degraded array that is not resynced is resynced first. The input is read into memory before
-/// anything else is done, to its end or to one byte more than the array has: at `InputFault`, `OutOfRange`,
-/// `BadLength` and `NoMemory` nothing was written. It is not read of a halted mirror, which is `Write` with `Halted`, nor where
-/// it tells its length before (`Source::bytes_left`) and must be refused for that.
+/// line. A degraded array that is not resynced is resynced first. The input is not read of a halted mirror, which is `Write` with
+/// `Halted`, nor where it tells its length before (`Source::bytes_left`) and must be refused for that.
 ///
-/// The sector and the length of the input are compared with the end of the array after the resync: that is
-/// `Write` with `OutOfRange`, also where the input is empty.
+/// An input that tells its length is written piece by piece, each by a `write` of its own: a piece is the memory that it takes, 16 MiB
+/// at most. Nothing is done before the first piece was read. At `InputFault`, and at `BadLength`, which then also says that the input
+/// ended before the length that it told or went on after it, the pieces before stand, and so they do where one is refused; at
+/// `NoPieceMemory` nothing was read. `watch` is told how many sectors stand of an input that is not written to its end.
+///
+/// Any other input is read into memory before anything else is done, to its end or to one byte more than the array has, and
+/// written at once: at `InputFault`, `OutOfRange`, `BadLength` and `NoPieceMemory` nothing was written.
+///
+/// The sector and the length of the input are compared with the end of the array after the resync, and before anything is written:
+/// that is `Write` with `OutOfRange`, also where the input is empty.
 ///
 ///     let mut input = Input::new(&[7; 512][..]);
 ///     let mut out = Output::new(rt.stdout());
-///     write_array(rt.alloc(), &mut mirror, 8, &mut input, &mut out)?; // puts out `in sync 2 of 2, events 3, marked 0`
-pub fn write_array<D: Device + Drop, I: Source, S: Sink>(
+///     write_array(rt.alloc(), &mut mirror, 8, &mut input, &watch, &mut out)?; // puts out `in sync 2 of 2, events 3, marked 0`
+pub fn write_array<D: Device + Drop, I: Source, W: Watch, S: Sink>(
     alloc: Global,
     mirror: &mut Mirror<D>,
     sector: u64,
     input: &mut I,
+    watch: &W,
     out: &mut S,
 ) -> Result<(), CommandFault>
     requires sound { IsConsistent mirror.old }
-    ensures gives { MatchResult result
+    ensures gives { (written : ℕ) × IsToldOfFront W.has_written watch.now written
+        × MatchResult result
         (λ _. WritesArray I.Source S.Sink sector mirror.old mirror.new input.old input.new out.old out.new)
-        (RefusesToWrite I.Source S.Sink sector mirror.old mirror.new input.old input.new out.old out.new) }
+        (RefusesToWrite I.Source S.Sink sector mirror.old mirror.new input.old input.new out.old out.new
+        written) }
     ensures sound { IsConsistent mirror.new }
     ensures pending { (p : PendingView) → IsPending mirror.old.array p → IsPending mirror.new.array p }
 {
     if mirror.halted() {
         return Err(CommandFault::Write(BeginFault::Halted));
     }
-    check_told(mirror, sector, input.bytes_left())?;
-    let bytes = whole_input(alloc, input, mirror.chunks().size)?;
-    write_and_stop(alloc, mirror, sector, &bytes)?;
+    let told = input.bytes_left();
+    check_told(mirror, sector, told)?;
+    write_input(alloc, mirror, sector, told, input, watch)?;
+    stop(mirror).map_err(CommandFault::Stop)?;
     put_summary(mirror, out)
 }
 
-// Writes these bytes to the array, and stops it.
-fn write_and_stop<D: Device + Drop>(
+// Writes all of an input to the array: piece by piece where its length was told.
+fn write_input<D: Device + Drop, I: Source, W: Watch>(
+    alloc: Global,
+    mirror: &mut Mirror<D>,
+    sector: u64,
+    told: Option<u64>,
+    input: &mut I,
+    watch: &W,
+) -> Result<(), CommandFault>
+    requires may { MayBeRead mirror.old.array sector told }
+    requires sound { IsConsistent mirror.old }
+    ensures gives { (written : ℕ) × IsToldOfFront W.has_written watch.now written
+        × MatchResult result
+        (λ _. WritesInput I.Source sector mirror.old mirror.new input.old input.new told)
+        (RefusesWriting I.Source sector mirror.old mirror.new input.old input.new told written) }
+    ensures sound { IsConsistent mirror.new }
+    ensures pending { (p : PendingView) → IsPending mirror.old.array p → IsPending mirror.new.array p }
+{
+    match told {
+        Some(len) => write_watched(alloc, mirror, sector, len, input, watch),
+        None => write_at_once(alloc, mirror, sector, input),
+    }
+}
+
+// Writes an input of so many bytes piece by piece. `watch` is told how many sectors stand where that is refused.
+fn write_watched<D: Device + Drop, I: Source, W: Watch>(
+    alloc: Global,
+    mirror: &mut Mirror<D>,
+    sector: u64,
+    len: u64,
+    input: &mut I,
+    watch: &W,
+) -> Result<(), CommandFault>
+    requires whole { len % 512 ≡ 0 }
+    requires sound { IsConsistent mirror.old }
+    ensures gives { (written : ℕ) × IsToldOfFront W.has_written watch.now written
+        × MatchResult result
+        (λ _. WritesInPieces I.Source sector len mirror.old mirror.new input.old input.new)
+        (RefusesPieces I.Source sector len written mirror.old mirror.new input.old input.new) }
+    ensures sound { IsConsistent mirror.new }
+    ensures pending { (p : PendingView) → IsPending mirror.old.array p → IsPending mirror.new.array p }
+{
+    let mut written = 0;
+    match write_in_pieces(alloc, mirror, sector, len, input, &mut written) {
+        Ok(()) => Ok(()),
+        Err(fault) => {
+            tell_front(watch, written);
+            Err(fault)
+        }
+    }
+}
+
+// Tells a watch how many sectors stand, where some do.
+fn tell_front<W: Watch>(watch: &W, written: u64)
+    ensures { IsToldOfFront W.has_written watch.now written }
+{
+    if written > 0 {
+        watch.wrote(written);
+    }
+}
+
+// Reads an input into memory, and writes its bytes to the array.
+fn write_at_once<D: Device + Drop, I: Source>(
+    alloc: Global,
+    mirror: &mut Mirror<D>,
+    sector: u64,
+    input: &mut I,
+) -> Result<(), CommandFault>
+    requires sound { IsConsistent mirror.old }
+    ensures gives { MatchResult result
+        (λ _. WritesInput I.Source sector mirror.old mirror.new input.old input.new None)
+        (RefusesInMemory I.Source sector mirror.old mirror.new input.old input.new) }
+    ensures sound { IsConsistent mirror.new }
+    ensures pending { (p : PendingView) → IsPending mirror.old.array p → IsPending mirror.new.array p }
+{
+    let bytes = whole_input(alloc, input, mirror.chunks().size)?;
+    write_bytes(alloc, mirror, sector, &bytes)
+}
+
+// Writes these bytes to the array, after a resync where it needs one.
+fn write_bytes<D: Device + Drop>(
     alloc: Global,
     mirror: &mut Mirror<D>,
     sector: u64,
@@ -64,13 +156,12 @@ fn write_and_stop<D: Device + Drop>(
     requires whole { length bytes.now % 512 ≡ 0 }
     requires sound { IsConsistent mirror.old }
     ensures gives { MatchResult result
-        (λ _. StopsAfter (WritesReadied sector bytes.now mirror.old) mirror.new)
+        (λ _. WritesReadied sector bytes.now mirror.old mirror.new)
         (RefusesBytes sector bytes.now mirror.old mirror.new) }
     ensures sound { IsConsistent mirror.new }
     ensures pending { (p : PendingView) → IsPending mirror.old.array p → IsPending mirror.new.array p }
 {
     resync_if_needed(alloc, mirror).map_err(CommandFault::Resync)?;
     write(mirror, sector, bytes).map_err(CommandFault::Write)?;
-    stop(mirror).map_err(CommandFault::Stop)?;
     Ok(())
 }

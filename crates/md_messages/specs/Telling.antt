@@ -185,7 +185,7 @@ uncompared_lines ask names n = []
 
 -- what an image held that was added is lost
 abbrev pub lost_lines : Audience → Ask → List ℕ
-lost_lines audience (adds name) = if has_advice audience.messages then lost_text name else []
+lost_lines audience (adds name json) = if has_advice audience.messages then lost_text name else []
 lost_lines audience ask = []
 
 -- All that standard error is told of a command that is done.

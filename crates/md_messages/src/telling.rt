@@ -449,7 +449,7 @@ fn put_lost<S: Sink>(out: &mut S, command: Command<'_>, audience: Audience) -> R
         (lost_lines audience (ask_of command.entry)) result }
 {
     match command {
-        Command::Add { device } if audience.messages.has_advice() => lost_line(out, device),
+        Command::Add { device, .. } if audience.messages.has_advice() => lost_line(out, device),
         _ => out.put(b""),
     }
 }

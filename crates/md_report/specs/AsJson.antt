@@ -18,3 +18,5 @@ pub mod CheckObject
 pub mod PlanObject
 -- The object of a command that is refused.
 pub mod RefusalObject
+-- The object of a rebuild that is done.
+pub mod RebuiltObject

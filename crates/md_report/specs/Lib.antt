@@ -2,6 +2,8 @@
 pub mod SummaryReport
 -- The report of an array, as text.
 pub mod DetailReport
+-- The report of an array with the images of its members, as text.
+pub mod VerboseReport
 -- The report of a rebuild's plan, as text, in a form of this project's own.
 pub mod PlanReport
 -- The report of a rebuild, as text, in a form of this project's own.

@@ -26,7 +26,8 @@ pub fn detail<S: Sink, D: Device + Drop>(out: &mut S, mirror: &Mirror<D>) -> Res
     Ok(())
 }
 
-fn shared_lines<S: Sink>(out: &mut S, v: &Superblock) -> Result<(), SinkFault>
+/// What the members share.
+pub(crate) fn shared_lines<S: Sink>(out: &mut S, v: &Superblock) -> Result<(), SinkFault>
     ensures { PutsOrFails S.contents S.failed out.old out.new (shared_lines v.now) result }
 {
     uuid_line(out, "Array UUID     ", &v.set_uuid)?;
@@ -36,7 +37,11 @@ fn shared_lines<S: Sink>(out: &mut S, v: &Superblock) -> Result<(), SinkFault>
     Ok(())
 }
 
-fn condition<S: Sink, D: Device + Drop>(out: &mut S, mirror: &Mirror<D>) -> Result<(), SinkFault>
+/// What changes as the array is used.
+pub(crate) fn condition<S: Sink, D: Device + Drop>(
+    out: &mut S,
+    mirror: &Mirror<D>,
+) -> Result<(), SinkFault>
     ensures { PutsOrFails S.contents S.failed out.old out.new (condition_lines mirror.now.array) result }
 {
     decimal_line(out, "In Sync        ", members_in_sync(mirror))?;

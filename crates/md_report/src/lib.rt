@@ -18,13 +18,15 @@ mod member_lines;
 mod plan_lines;
 mod rebuilt_lines;
 mod summary_report;
+mod verbose_report;
 
 pub use as_json::{
-    badblocks_json, bitmap_json, check_json, detail_json, plan_json, put_quoted, refusal_json,
-    summary_json, superblock_json,
+    badblocks_json, bitmap_json, check_json, detail_json, plan_json, put_quoted, rebuilt_json,
+    refusal_json, summary_json, superblock_json,
 };
 pub use check_line::{check_list_report, check_report};
 pub use detail_report::detail;
 pub use plan_lines::plan_report;
 pub use rebuilt_lines::{rebuilt_line_report, rebuilt_report};
 pub use summary_report::{members_in_sync, summary};
+pub use verbose_report::verbose_detail;

@@ -56,14 +56,16 @@ fn member_line<S: Sink>(
     Ok(())
 }
 
-fn flag<S: Sink>(out: &mut S, mostly: bool) -> Result<(), SinkFault>
+/// Whether the member is write-mostly.
+pub(crate) fn flag<S: Sink>(out: &mut S, mostly: bool) -> Result<(), SinkFault>
     ensures { PutsOrFails S.contents S.failed out.old out.new (text_where mostly (codes ", write-mostly")) result }
 {
     out.put(text_where(mostly, b", write-mostly"))
 }
 
+/// A number in its place.
 #[tactic(auto, using(md_examine::proofs::Puts::puts_then))]
-fn number<S: Sink, I: Integer>(out: &mut S, n: I) -> Result<(), SinkFault>
+pub(crate) fn number<S: Sink, I: Integer>(out: &mut S, n: I) -> Result<(), SinkFault>
     ensures { PutsOrFails S.contents S.failed out.old out.new (place_text (I.text n)) result }
 {
     right_aligned_number(out, PLACES, n)?;
@@ -71,7 +73,8 @@ fn number<S: Sink, I: Integer>(out: &mut S, n: I) -> Result<(), SinkFault>
     Ok(())
 }
 
-fn role<S: Sink>(out: &mut S, state: MemberState) -> Result<(), SinkFault>
+/// The role of a member that has one.
+pub(crate) fn role<S: Sink>(out: &mut S, state: MemberState) -> Result<(), SinkFault>
     ensures { PutsOrFails S.contents S.failed out.old out.new (place_text (role_text_or_dash (role_of state))) result }
 {
     match state {
@@ -91,7 +94,12 @@ fn dash<S: Sink>(out: &mut S) -> Result<(), SinkFault>
     Ok(())
 }
 
-fn standing<S: Sink>(out: &mut S, state: MemberState, re_added: bool) -> Result<(), SinkFault>
+/// What a member is called.
+pub(crate) fn standing<S: Sink>(
+    out: &mut S,
+    state: MemberState,
+    re_added: bool,
+) -> Result<(), SinkFault>
     ensures { PutsOrFails S.contents S.failed out.old out.new (standing_text state re_added) result }
 {
     match state {

@@ -7,7 +7,7 @@ use Rattle.std.proofs.lemmas.List.{take_more}
 use Rattle.std.proofs.Math.Seq.{get_or-append_seam, take-append_seam, take-length}
 use Rattle.std.specs.Result.{result_unwrap_or}
 use Rattle.std.specs.Str.Parse.{ParsesUnsigned}
-use Rattle.md_words.specs.Numbers.{before, ends_in, kib_of, number_or_zero}
+use Rattle.md_words.specs.Numbers.{before, ends_in, total_of, number_or_zero}
 use Rattle.md_words.proofs.Numbers.{is_no_number_refused, is_number_parsed, not_true, number_read}
 
 taken : {X : Type 0} (b : Bool) (x y : X) → b ≡ true → x ≡ cond b x y
@@ -53,14 +53,14 @@ made_below most value (Some x) h = ap (λ (n : ℕ). Some n) h.1 ∙ taken (nat_
 made_below most value None h = left (nat_lt value most) (Some value) None (not_true (nat_lt value most) (λ less. h (ltb-true value most less)))
 
 -- so many units, where a text says a number, and none where it does not
-pub numbered_size : {E : Type 0} (text : List ℕ) (unit n : ℕ) (r : Result ℕ E) → r ≡ Ok n → ParsesUnsigned 64 10 text r → cond (nat_lt (n * unit) (2 ^ 64)) (Some (n * unit)) None ≡ kib_of 64 (text, unit)
+pub numbered_size : {E : Type 0} (text : List ℕ) (unit n : ℕ) (r : Result ℕ E) → r ≡ Ok n → ParsesUnsigned 64 10 text r → cond (nat_lt (n * unit) (2 ^ 64)) (Some (n * unit)) None ≡ total_of 64 (text, unit)
 numbered_size text unit n r is h =
     let kib = number_or_zero 64 text * unit in
     let number : n ≡ number_or_zero 64 text = sym (ap (λ q. result_unwrap_or q 0) is) ∙ number_read 64 text r h in
     ap (λ (k : ℕ). cond (nat_lt (k * unit) (2 ^ 64)) (Some (k * unit)) None) number
     ∙ ap (λ (b : Bool). cond (b && nat_lt kib (2 ^ 64)) (Some kib) None) (sym (is_number_parsed 64 text n r is h))
 
-pub no_size : {E : Type 0} (text : List ℕ) (unit : ℕ) (e : E) (r : Result ℕ E) → r ≡ Err e → ParsesUnsigned 64 10 text r → None ≡ kib_of 64 (text, unit)
+pub no_size : {E : Type 0} (text : List ℕ) (unit : ℕ) (e : E) (r : Result ℕ E) → r ≡ Err e → ParsesUnsigned 64 10 text r → None ≡ total_of 64 (text, unit)
 no_size text unit e r is h =
     let kib = number_or_zero 64 text * unit in
     ap (λ (b : Bool). cond (b && nat_lt kib (2 ^ 64)) (Some kib) None) (sym (is_no_number_refused 64 text e r is h))

@@ -8,6 +8,10 @@ use Rattle.md_words.specs.declared.command.Command.{Command}
 use Rattle.md_words.specs.declared.command.Command.TheVariants as command
 use Rattle.md_words.specs.declared.form.CheckForm.{CheckForm}
 use Rattle.md_words.specs.declared.form.CheckForm.TheVariants as check_form
+use Rattle.md_words.specs.declared.form.DetailForm.{DetailForm}
+use Rattle.md_words.specs.declared.form.DetailForm.TheVariants as detail_form
+use Rattle.md_words.specs.declared.form.RebuildForm.{RebuildForm}
+use Rattle.md_words.specs.declared.form.RebuildForm.TheVariants as rebuild_form
 use Rattle.md_words.specs.declared.form.ImageForm.{ImageForm}
 use Rattle.md_words.specs.declared.form.ImageForm.TheVariants as image_form
 use Rattle.md_words.specs.declared.overwritten.Overwritten.{Overwritten}
@@ -26,8 +30,10 @@ pub record Options : Type 0 where
   pub time : ℕ
   pub write_mostly : Option ℕ  -- the role of the member that is read only where no other can serve
   pub assume_clean : Bool
+  pub json : Bool  -- the report is a JSON object
 
--- What is asked for. A last `Bool` says whether no image may be changed, and one before it whether the report is a JSON object.
+-- What is asked for. Of a command that may change no image a last `Bool` says whether it is not to. One before it, or else the last,
+-- says whether the report is a JSON object.
 pub data Ask : Type 0 where
   examines : ImageForm → Ask
   examines_bitmap : ImageForm → Ask
@@ -36,7 +42,7 @@ pub data Ask : Type 0 where
   creates : Options → Ask
   grows : Text → ℕ → Ask  -- the members get a bitmap of this kind, with chunks of so many KiB
   assembles : Bool → Bool → Ask
-  details : Bool → Bool → Ask
+  details : DetailForm → Bool → Ask
   plans : ℕ → Bool → Bool → Ask  -- the rebuild of the member with this index
   reads : ℕ → Option ℕ → Bool → Bool → Ask  -- from a sector on, so many or all; whether zeros stand for those that are not given
   serves : Bool → Ask  -- reading only; whether zeros stand for sectors that are not given
@@ -44,17 +50,17 @@ pub data Ask : Type 0 where
   checks : CheckForm → Bool → Bool → Ask  -- whether the status says that members differ
   writes : ℕ → Ask  -- from a sector on
   resyncs : Ask
-  stops : Ask
+  stops : Bool → Ask
   fails : ℕ → Ask  -- the member with this index
   removes : ℕ → Ask  -- it leaves the array
-  adds : Text → Ask  -- the image under this name joins it
+  adds : Text → Bool → Ask  -- the image under this name joins it
   re_adds : Text → Bool → Ask  -- the image under this name, which left it, comes back and gets what it lacks; whether that is all of it
-  rebuilds : ℕ → Bool → Ask  -- the member with this index gets what it lacks; whether the report has no plan
+  rebuilds : ℕ → RebuildForm → Ask  -- the member with this index gets what it lacks
 
 -- whether no image may be changed, by a command that else might change some
 abbrev pub is_readonly : Ask → Bool
 is_readonly (assembles json readonly) = readonly
-is_readonly (details json readonly) = readonly
+is_readonly (details form readonly) = readonly
 is_readonly (plans k json readonly) = readonly
 is_readonly (reads sector count fill readonly) = readonly
 is_readonly (serves fill) = true
@@ -69,7 +75,7 @@ full_access_of (examines_bitmap form) = Look
 full_access_of (examines_badblocks form) = Look
 full_access_of (scans json) = Look
 full_access_of (assembles json readonly) = ChangeOrLook
-full_access_of (details json readonly) = ChangeOrLook
+full_access_of (details form readonly) = ChangeOrLook
 full_access_of (plans k json readonly) = ChangeOrLook
 full_access_of (reads sector count fill readonly) = ChangeOrLook
 full_access_of (serves fill) = ChangeOrLook
@@ -103,7 +109,7 @@ fills _ = false
 
 -- the image that is to join it
 abbrev pub device_to_add : Ask → Option Text
-device_to_add (adds name) = Some name
+device_to_add (adds name json) = Some name
 device_to_add (re_adds name full) = Some name
 device_to_add _ = None
 
@@ -112,7 +118,7 @@ abbrev pub member_of : Ask → Option ℕ
 member_of (plans k json readonly) = Some k
 member_of (fails k) = Some k
 member_of (removes k) = Some k
-member_of (rebuilds k quiet) = Some k
+member_of (rebuilds k form) = Some k
 member_of _ = None
 
 -- the member that is to leave it
@@ -128,18 +134,18 @@ failing_of _ = None
 -- whether it says which members were used without those in sync: it shows the array, or rebuilds
 abbrev pub tells_parted : Ask → Bool
 tells_parted (assembles json readonly) = true
-tells_parted (details json readonly) = true
+tells_parted (details form readonly) = true
 tells_parted (plans k json readonly) = true
 tells_parted (re_adds name full) = true
-tells_parted (rebuilds k quiet) = true
+tells_parted (rebuilds k form) = true
 tells_parted _ = false
 
 -- what it overwrites that perhaps should stay
 abbrev pub overwritten_by : Ask → Overwritten
 overwritten_by (creates o) = overwritten.Images
-overwritten_by (adds name) = overwritten.NewDevice
+overwritten_by (adds name json) = overwritten.NewDevice
 overwritten_by (re_adds name full) = overwritten.ReturningDevice
-overwritten_by (rebuilds k quiet) = overwritten.Member k
+overwritten_by (rebuilds k form) = overwritten.Member k
 overwritten_by _ = overwritten.Nothing
 
 -- whether a report is a JSON object
@@ -152,15 +158,27 @@ abbrev pub is_json_of_check : CheckForm → Bool
 is_json_of_check check_form.Json = true
 is_json_of_check _ = false
 
+abbrev pub is_json_of_rebuild : RebuildForm → Bool
+is_json_of_rebuild rebuild_form.Json = true
+is_json_of_rebuild _ = false
+
+abbrev pub is_json_of_detail : DetailForm → Bool
+is_json_of_detail detail_form.Json = true
+is_json_of_detail _ = false
+
 abbrev pub is_json : Ask → Bool
 is_json (examines form) = is_json_of_image form
 is_json (examines_bitmap form) = is_json_of_image form
 is_json (examines_badblocks form) = is_json_of_image form
 is_json (scans json) = json
 is_json (assembles json readonly) = json
-is_json (details json readonly) = json
+is_json (details form readonly) = is_json_of_detail form
 is_json (plans k json readonly) = json
 is_json (checks form exit_code readonly) = is_json_of_check form
+is_json (creates o) = o.json
+is_json (stops json) = json
+is_json (adds name json) = json
+is_json (rebuilds k form) = is_json_of_rebuild form
 is_json _ = false
 
 -- whether it compares the members in sync
@@ -189,7 +207,7 @@ long_task_of (reads sector count fill readonly) = Some (long.Read count)
 long_task_of (checks form exit_code readonly) = Some long.Check
 long_task_of resyncs = Some long.Resync
 long_task_of (re_adds name full) = Some long.Rebuild
-long_task_of (rebuilds k quiet) = Some long.Rebuild
+long_task_of (rebuilds k form) = Some long.Rebuild
 long_task_of _ = None
 
 -- The options of `create` as they were parsed.
@@ -204,6 +222,7 @@ options_of o = record {
   time = o.time;
   write_mostly = o.write_mostly;
   assume_clean = o.assume_clean;
+  json = o.json;
 }
 
 abbrev pub ask_of : Command → Ask
@@ -214,7 +233,7 @@ ask_of (command.Scan json) = scans json
 ask_of (command.Create options) = creates (options_of options)
 ask_of (command.Grow bitmap kib) = grows bitmap.now kib
 ask_of (command.Assemble json readonly) = assembles json readonly
-ask_of (command.Detail json readonly) = details json readonly
+ask_of (command.Detail form readonly) = details form readonly
 ask_of (command.Plan k json readonly) = plans k json readonly
 ask_of (command.Read sector count fill readonly) = reads sector count fill readonly
 ask_of (command.Serve fill) = serves fill
@@ -222,9 +241,9 @@ ask_of command.ServeWritable = serves_writable
 ask_of (command.Check form exit_code readonly) = checks form exit_code readonly
 ask_of (command.Write sector) = writes sector
 ask_of command.Resync = resyncs
-ask_of command.Stop = stops
+ask_of (command.Stop json) = stops json
 ask_of (command.Fail k) = fails k
 ask_of (command.Remove k) = removes k
-ask_of (command.Add device) = adds device.now
+ask_of (command.Add device json) = adds device.now json
 ask_of (command.ReAdd device full) = re_adds device.now full
-ask_of (command.Rebuild k quiet) = rebuilds k quiet
+ask_of (command.Rebuild k form) = rebuilds k form

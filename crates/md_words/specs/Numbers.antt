@@ -33,17 +33,23 @@ abbrev pub number_or : Option Text → ℕ → Text × ℕ → Text × ℕ
 number_or None kib size = size
 number_or (Some number) kib size = (number, kib)
 
--- A size by its number and by the KiB of its unit. As mdadm(8) has it, the suffix is K, M, G or T; without one it is KiB.
-abbrev pub number_and_unit : Text → Text × ℕ
-number_and_unit text =
-    number_or (before 75 text) 1 (number_or (before 77 text) 1024
-    (number_or (before 71 text) (1024 ^ 2) (number_or (before 84 text) (1024 ^ 3) (text, 1))))
+-- A size by its number and its unit, in units of which a KiB has this many. As mdadm(8) has it, the suffix is K, M, G or T; without
+-- one the number stands for itself.
+abbrev pub number_and_unit : ℕ → Text → Text × ℕ
+number_and_unit kib text =
+    number_or (before 75 text) kib (number_or (before 77 text) (1024 * kib)
+    (number_or (before 71 text) (1024 ^ 2 * kib) (number_or (before 84 text) (1024 ^ 3 * kib) (text, 1))))
 
--- the KiB of a size, which fit so many bits, if the text says one
-abbrev pub kib_of : ℕ → Text × ℕ → Option ℕ
-kib_of bits size =
+-- a number of units altogether, which fit so many bits, if the text is a number
+abbrev pub total_of : ℕ → Text × ℕ → Option ℕ
+total_of bits size =
     if fits_bits 64 size.0 && nat_lt (number_or_zero 64 size.0 * size.1) (2 ^ bits)
     then Some (number_or_zero 64 size.0 * size.1) else None
 
+-- the KiB of a size, if the text says one: a plain number is so many KiB
 unfoldable pub kib_in : ℕ → Text → Option ℕ
-kib_in bits text = kib_of bits (number_and_unit text)
+kib_in bits text = total_of bits (number_and_unit 1 text)
+
+-- the sectors of 512 bytes that a text says: a plain number is so many sectors
+unfoldable pub sectors_in : Text → Option ℕ
+sectors_in text = total_of 64 (number_and_unit 2 text)

@@ -4,10 +4,14 @@ use Rattle.std.specs.Str.{bytes_eq}
 use Rattle.clap.specs.Kinds.{or_else}
 use Rattle.clap.specs.Words.{Kinds, Row, Text, all_of, fault_of, first_of, subcommand_of}
 use Rattle.clap.specs.declared.error.kind.ErrorKind.TheVariants as kind
-use Rattle.md_words.specs.Numbers.{fits_bits, kib_in, number_or_zero}
+use Rattle.md_words.specs.Numbers.{fits_bits, kib_in, number_or_zero, sectors_in}
 use Rattle.md_words.specs.Words.{mdcli}
 use Rattle.md_words.specs.declared.form.CheckForm.{CheckForm}
 use Rattle.md_words.specs.declared.form.CheckForm.TheVariants as check_form
+use Rattle.md_words.specs.declared.form.DetailForm.{DetailForm}
+use Rattle.md_words.specs.declared.form.DetailForm.TheVariants as detail_form
+use Rattle.md_words.specs.declared.form.RebuildForm.{RebuildForm}
+use Rattle.md_words.specs.declared.form.RebuildForm.TheVariants as rebuild_form
 use Rattle.md_words.specs.declared.form.ImageForm.{ImageForm}
 use Rattle.md_words.specs.declared.form.ImageForm.TheVariants as image_form
 use Rattle.md_words.specs.Asks.{Ask, Options, examines, examines_bitmap, examines_badblocks, scans, creates, grows, assembles, details, plans, reads, serves, serves_writable, checks, writes, resyncs, stops, fails, removes, adds, re_adds, rebuilds}
@@ -34,6 +38,10 @@ chunk_in rows = kib_or_zero 32 (text_in (codes "bitmap-chunk") rows)
 abbrev pub size_in : List Row → Option ℕ
 size_in rows = option_map (kib_or_zero 64) (first_of (codes "size") rows)
 
+-- whether the report is to be a JSON object
+abbrev pub json_in : List Row → Bool
+json_in rows = bytes_eq (text_in (codes "json") rows) (codes "true")
+
 abbrev pub options_in : List Row → Options
 options_in rows = record {
   level = text_in (codes "level") rows;
@@ -45,6 +53,7 @@ options_in rows = record {
   time = number_in 64 (codes "time") rows;
   write_mostly = option_map (number_or_zero 32) (first_of (codes "write-mostly") rows);
   assume_clean = bytes_eq (text_in (codes "assume-clean") rows) (codes "true");
+  json = json_in rows;
 }
 
 -- whether the images may only be looked at
@@ -65,9 +74,9 @@ exit_code_in rows = bytes_eq (text_in (codes "exit-code") rows) (codes "true")
 abbrev pub quiet_in : List Row → Bool
 quiet_in rows = bytes_eq (text_in (codes "quiet") rows) (codes "true")
 
--- whether the report is to be a JSON object
-abbrev pub json_in : List Row → Bool
-json_in rows = bytes_eq (text_in (codes "json") rows) (codes "true")
+-- whether more is to be said: of a refusal, and of the members where the array is shown in detail
+abbrev pub verbose_in : List Row → Bool
+verbose_in rows = bytes_eq (text_in (codes "verbose") rows) (codes "true")
 
 -- how the report on an image is shown, and that of a check; the object of a check lists the chunks in any case
 abbrev pub image_form_in : List Row → ImageForm
@@ -78,6 +87,18 @@ image_form_in rows =
 abbrev pub check_form_in : List Row → CheckForm
 check_form_in rows =
     if json_in rows then check_form.Json else if list_in rows then check_form.List else check_form.Count
+
+-- how an array is shown in detail; the object names the images in any case
+abbrev pub detail_form_in : List Row → DetailForm
+detail_form_in rows =
+    if json_in rows then detail_form.Json
+    else if verbose_in rows then detail_form.Verbose else detail_form.Text
+
+-- how the report of a rebuild is shown; the object has no plan in any case
+abbrev pub rebuild_form_in : List Row → RebuildForm
+rebuild_form_in rows =
+    if json_in rows then rebuild_form.Json
+    else if quiet_in rows then rebuild_form.Line else rebuild_form.Plans
 
 -- whether zeros stand for sectors that are not given
 abbrev pub fill_in : List Row → Bool
@@ -135,27 +156,31 @@ abbrev pub run_found : Option (Text × List Row) → Bool
 run_found None = false
 run_found (Some p) = run_in p.1
 
+-- so many sectors, 0 for what is none, which is not taken
+abbrev pub sectors_or_zero : Text → ℕ
+sectors_or_zero text = unwrap_or (sectors_in text) 0
+
 -- the member, the sector and the number of sectors, where there is one, that a command names
 abbrev pub member_in : List Row → ℕ
 member_in rows = unwrap_or (member_named rows) 0
 
 abbrev pub sector_in : List Row → ℕ
-sector_in rows = number_in 64 (codes "sector") rows
+sector_in rows = sectors_or_zero (text_in (codes "sector") rows)
 
 abbrev pub count_in : List Row → Option ℕ
-count_in rows = option_map (number_or_zero 64) (first_of (codes "count") rows)
+count_in rows = option_map sectors_or_zero (first_of (codes "count") rows)
 
 -- what the command of a name asks for, where it is one that changes an array; of any other name it is examine
 abbrev pub ask_to_change : Text → List Row → Ask
 ask_to_change name rows =
     if bytes_eq name (codes "write") then writes (sector_in rows)
     else if bytes_eq name (codes "resync") then resyncs
-    else if bytes_eq name (codes "stop") then stops
+    else if bytes_eq name (codes "stop") then stops (json_in rows)
     else if bytes_eq name (codes "fail") then fails (member_in rows)
     else if bytes_eq name (codes "remove") then removes (member_in rows)
-    else if bytes_eq name (codes "add") then adds (text_in (codes "device") rows)
+    else if bytes_eq name (codes "add") then adds (text_in (codes "device") rows) (json_in rows)
     else if bytes_eq name (codes "re-add") then re_adds (text_in (codes "device") rows) (full_in rows)
-    else if bytes_eq name (codes "rebuild") then rebuilds (member_in rows) (quiet_in rows)
+    else if bytes_eq name (codes "rebuild") then rebuilds (member_in rows) (rebuild_form_in rows)
     else examines (image_form_in rows)
 
 -- what `serve` asks for
@@ -172,7 +197,7 @@ ask_named name rows =
     else if bytes_eq name (codes "grow") then grows (text_in (codes "bitmap") rows)
     (chunk_in rows)
     else if bytes_eq name (codes "assemble") then assembles (json_in rows) (readonly_in rows)
-    else if bytes_eq name (codes "detail") then details (json_in rows) (readonly_in rows)
+    else if bytes_eq name (codes "detail") then details (detail_form_in rows) (readonly_in rows)
     else if bytes_eq name (codes "plan") then plans (member_in rows) (json_in rows) (readonly_in rows)
     else if bytes_eq name (codes "read") then reads (sector_in rows) (count_in rows) (fill_in rows)
     (readonly_in rows)
@@ -188,10 +213,6 @@ ask_found (Some p) = ask_named p.0 p.1
 abbrev pub images_found : Option (Text × List Row) → List Text
 images_found None = []
 images_found (Some p) = images_in p.1
-
--- whether more is to be said of a refusal
-abbrev pub verbose_in : List Row → Bool
-verbose_in rows = bytes_eq (text_in (codes "verbose") rows) (codes "true")
 
 abbrev pub verbose_found : Option (Text × List Row) → Bool
 verbose_found None = false
@@ -242,9 +263,18 @@ abbrev pub is_no_size : ℕ → Option Text → Bool
 is_no_size bits None = false
 is_no_size bits (Some text) = is_none (kib_in bits text)
 
+-- whether sectors are given that are none
+abbrev pub are_no_sectors : Option Text → Bool
+are_no_sectors None = false
+are_no_sectors (Some text) = is_none (sectors_in text)
+
+abbrev pub names_no_sectors : Text → List Row → Bool
+names_no_sectors name rows = are_no_sectors (first_of name rows)
+
 abbrev pub names_no_size : List Row → Bool
 names_no_size rows =
     is_no_size 64 (first_of (codes "size") rows) || is_no_size 32 (first_of (codes "bitmap-chunk") rows)
+    || names_no_sectors (codes "sector") rows || names_no_sectors (codes "count") rows
 
 abbrev pub size_fault : Option (Text × List Row) → Kinds
 size_fault None = []

@@ -43,10 +43,6 @@ by_default value r = record r { defaults = value ∷ [] }
 abbrev pub completed : App → App
 completed a = with_rule (with_rule a verbose_rule) image_rule
 
--- a command with images alone: some that change an array
-abbrev pub bare_app : Text → App
-bare_app name = completed (new_app name)
-
 -- An option that says of an image which sectors it lacks.
 abbrev pub with_map : App → App
 with_map a = with_rule a (texts_rule (codes "map"))
@@ -58,6 +54,10 @@ with_readonly a = with_rule a (flag_rule (codes "readonly"))
 -- A command whose report may be a JSON object.
 abbrev pub with_json : App → App
 with_json a = with_rule a (flag_rule (codes "json"))
+
+-- A command that stops an array.
+abbrev pub stop_app : App
+stop_app = completed (with_json (new_app (codes "stop")))
 
 -- A command that shows an image, and may show it as it stands. It changes none in any case.
 abbrev pub examine_app : Text → App
@@ -108,7 +108,7 @@ with_run a = with_rule a (flag_rule (codes "run"))
 
 -- the commands by which a device joins an array: one that is new to it, and one that comes back, which may get all of its data
 abbrev pub add_app : App
-add_app = completed (with_run (with_device_option (new_app (codes "add"))))
+add_app = completed (with_run (with_json (with_device_option (new_app (codes "add")))))
 
 abbrev pub re_add_app : App
 re_add_app =
@@ -119,11 +119,13 @@ re_add_app =
 abbrev pub rebuild_app : App
 rebuild_app =
     completed
-    (with_map (with_run (with_rule (with_member (new_app (codes "rebuild"))) (flag_rule (codes "quiet")))))
+    (with_map
+    (with_run
+    (with_json (with_rule (with_member (new_app (codes "rebuild"))) (flag_rule (codes "quiet"))))))
 
--- an option that is a sector of the array
+-- an option that is a sector of the array, as a number or as a size
 abbrev pub with_sector : App → App
-with_sector a = with_rule a (required (u64_rule (codes "sector")))
+with_sector a = with_rule a (required (value_rule (codes "sector")))
 
 -- options for sectors that nobody gives, and for where the others go
 abbrev pub with_fill : App → App
@@ -134,7 +136,7 @@ with_fill a =
 abbrev pub read_app : App
 read_app =
     with_images
-    (with_fill (with_rule (with_sector (new_app (codes "read"))) (u64_rule (codes "count"))))
+    (with_fill (with_rule (with_sector (new_app (codes "read"))) (value_rule (codes "count"))))
 
 abbrev pub serve_app : App
 serve_app = with_images (with_rule (new_app (codes "serve")) (flag_rule (codes "fill")))
@@ -165,7 +167,8 @@ with_optional a =
     (flag_rule (codes "assume-clean"))
 
 abbrev pub create_app : App
-create_app = completed (with_run (with_optional (with_required (new_app (codes "create")))))
+create_app =
+    completed (with_run (with_json (with_optional (with_required (new_app (codes "create"))))))
 
 -- `grow`: the bitmap that the members get
 abbrev pub grow_app : App
@@ -208,7 +211,7 @@ with_data_commands a =
     (with_subcommand (with_subcommand (with_subcommand a read_app.top) serve_app.top) write_app.top)
     check_app.top)
     resync_app.top)
-    (bare_app (codes "stop")).top
+    stop_app.top
 
 abbrev pub with_member_commands : App → App
 with_member_commands a =

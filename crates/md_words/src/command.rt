@@ -3,7 +3,7 @@ ghost use Rattle.std.specs.Prelude.{◌≡◌, option_map};
 ghost use Rattle.md_words.specs.Asks.{access_of, ask_of, device_to_add, failing_of, fills, is_json, is_readonly, leaving_of, long_task_of, member_of, needs_random_bytes, opens_array, overwritten_by, scan_form, takes_input, tells_by_status, tells_parted};
 
 use crate::create_options::CreateOptions;
-use crate::form::{CheckForm, ImageForm};
+use crate::form::{CheckForm, DetailForm, ImageForm, RebuildForm};
 use crate::long_task::LongTask;
 use crate::overwritten::Overwritten;
 use md_images::Access;
@@ -42,7 +42,7 @@ pub enum Command<'a> {
     },
     /// Shows it with each member's state.
     Detail {
-        json: bool,
+        form: DetailForm,
         readonly: bool,
     },
     /// Shows the plan of a rebuild of the member with this index.
@@ -79,7 +79,9 @@ pub enum Command<'a> {
     /// Makes its members in sync agree, and stops it.
     Resync,
     /// Stops it: what is to be stored at the end is stored.
-    Stop,
+    Stop {
+        json: bool,
+    },
     /// Makes the member with this index faulty, and stops it.
     Fail {
         member: u32,
@@ -91,6 +93,7 @@ pub enum Command<'a> {
     /// The image under this name, which is none of those listed, joins it. It is stopped then.
     Add {
         device: &'a str,
+        json: bool,
     },
     /// The image under this name, which is none of those listed, left it. It comes back, and gets what it lacks, which with
     /// `full` is all of it, whatever is marked; the array is stopped then.
@@ -98,10 +101,10 @@ pub enum Command<'a> {
         device: &'a str,
         full: bool,
     },
-    /// The member with this index gets what it lacks. The array is stopped then. With `quiet` the report has no plan.
+    /// The member with this index gets what it lacks. The array is stopped then.
     Rebuild {
         member: u32,
-        quiet: bool,
+        form: RebuildForm,
     },
 }
 
@@ -130,7 +133,7 @@ impl<'a> Command<'a> {
             | Command::ServeWritable
             | Command::Write { .. }
             | Command::Resync
-            | Command::Stop
+            | Command::Stop { .. }
             | Command::Fail { .. }
             | Command::Remove { .. }
             | Command::Add { .. }
@@ -159,7 +162,7 @@ impl<'a> Command<'a> {
             | Command::ServeWritable
             | Command::Write { .. }
             | Command::Resync
-            | Command::Stop
+            | Command::Stop { .. }
             | Command::Fail { .. }
             | Command::Remove { .. }
             | Command::Add { .. }
@@ -188,7 +191,7 @@ impl<'a> Command<'a> {
             | Command::Check { .. }
             | Command::Write { .. }
             | Command::Resync
-            | Command::Stop
+            | Command::Stop { .. }
             | Command::Fail { .. }
             | Command::Remove { .. }
             | Command::Add { .. }
@@ -227,7 +230,7 @@ impl<'a> Command<'a> {
             | Command::Check { .. }
             | Command::Write { .. }
             | Command::Resync
-            | Command::Stop
+            | Command::Stop { .. }
             | Command::Fail { .. }
             | Command::Remove { .. }
             | Command::Add { .. }
@@ -241,7 +244,7 @@ impl<'a> Command<'a> {
         ensures { option_map (λ s. s.now) result ≡ device_to_add (ask_of self.entry) }
     {
         match self {
-            Command::Add { device } => Some(device),
+            Command::Add { device, .. } => Some(device),
             Command::ReAdd { device, .. } => Some(device),
             Command::Examine { .. }
             | Command::ExamineBitmap { .. }
@@ -258,7 +261,7 @@ impl<'a> Command<'a> {
             | Command::Check { .. }
             | Command::Write { .. }
             | Command::Resync
-            | Command::Stop
+            | Command::Stop { .. }
             | Command::Fail { .. }
             | Command::Remove { .. }
             | Command::Rebuild { .. } => None,
@@ -288,7 +291,7 @@ impl<'a> Command<'a> {
             | Command::Check { .. }
             | Command::Write { .. }
             | Command::Resync
-            | Command::Stop
+            | Command::Stop { .. }
             | Command::Add { .. }
             | Command::ReAdd { .. } => None,
         }
@@ -315,7 +318,7 @@ impl<'a> Command<'a> {
             | Command::Check { .. }
             | Command::Write { .. }
             | Command::Resync
-            | Command::Stop
+            | Command::Stop { .. }
             | Command::Fail { .. }
             | Command::Add { .. }
             | Command::ReAdd { .. }
@@ -344,7 +347,7 @@ impl<'a> Command<'a> {
             | Command::Check { .. }
             | Command::Write { .. }
             | Command::Resync
-            | Command::Stop
+            | Command::Stop { .. }
             | Command::Remove { .. }
             | Command::Add { .. }
             | Command::ReAdd { .. }
@@ -374,7 +377,7 @@ impl<'a> Command<'a> {
             | Command::Check { .. }
             | Command::Write { .. }
             | Command::Resync
-            | Command::Stop
+            | Command::Stop { .. }
             | Command::Fail { .. }
             | Command::Remove { .. }
             | Command::Add { .. } => false,
@@ -404,7 +407,7 @@ impl<'a> Command<'a> {
             | Command::Check { .. }
             | Command::Write { .. }
             | Command::Resync
-            | Command::Stop
+            | Command::Stop { .. }
             | Command::Fail { .. }
             | Command::Remove { .. } => Overwritten::Nothing,
         }
@@ -420,22 +423,22 @@ impl<'a> Command<'a> {
             | Command::ExamineBadblocks { form } => form.is_json(),
             Command::Scan { json } => json,
             Command::Assemble { json, .. } => json,
-            Command::Detail { json, .. } => json,
+            Command::Detail { form, .. } => form.is_json(),
             Command::Plan { json, .. } => json,
             Command::Check { form, .. } => form.is_json(),
-            Command::Create(_)
-            | Command::Grow { .. }
+            Command::Create(options) => options.json,
+            Command::Stop { json } => json,
+            Command::Add { json, .. } => json,
+            Command::Rebuild { form, .. } => form.is_json(),
+            Command::Grow { .. }
             | Command::Read { .. }
             | Command::Serve { .. }
             | Command::ServeWritable
             | Command::Write { .. }
             | Command::Resync
-            | Command::Stop
             | Command::Fail { .. }
             | Command::Remove { .. }
-            | Command::Add { .. }
-            | Command::ReAdd { .. }
-            | Command::Rebuild { .. } => false,
+            | Command::ReAdd { .. } => false,
         }
     }
 
@@ -459,7 +462,7 @@ impl<'a> Command<'a> {
             | Command::ServeWritable
             | Command::Write { .. }
             | Command::Resync
-            | Command::Stop
+            | Command::Stop { .. }
             | Command::Fail { .. }
             | Command::Remove { .. }
             | Command::Add { .. }
@@ -488,7 +491,7 @@ impl<'a> Command<'a> {
             | Command::ServeWritable
             | Command::Check { .. }
             | Command::Resync
-            | Command::Stop
+            | Command::Stop { .. }
             | Command::Fail { .. }
             | Command::Remove { .. }
             | Command::Add { .. }
@@ -517,7 +520,7 @@ impl<'a> Command<'a> {
             | Command::Check { .. }
             | Command::Write { .. }
             | Command::Resync
-            | Command::Stop
+            | Command::Stop { .. }
             | Command::Fail { .. }
             | Command::Remove { .. }
             | Command::Add { .. }
@@ -547,7 +550,7 @@ impl<'a> Command<'a> {
             | Command::Serve { .. }
             | Command::ServeWritable
             | Command::Write { .. }
-            | Command::Stop
+            | Command::Stop { .. }
             | Command::Fail { .. }
             | Command::Remove { .. }
             | Command::Add { .. } => None,

@@ -125,8 +125,8 @@ const FULL: OptionWords = OptionWords {
 const SECTOR: OptionWords = OptionWords {
     name: "sector",
     value: "S",
-    help: "The first sector of the array, from 0; a sector has 512 bytes",
-    kind: Kind::U64,
+    help: "The first sector of the array, from 0; a sector has 512 bytes. As 64M: that far from its start",
+    kind: Kind::Text,
     required: true,
     default: None,
 };
@@ -134,8 +134,8 @@ const SECTOR: OptionWords = OptionWords {
 const COUNT: OptionWords = OptionWords {
     name: "count",
     value: "N",
-    help: "The number of sectors: by default all up to the end of the array",
-    kind: Kind::U64,
+    help: "The number of sectors, or a size as 64M: by default all up to the end of the array",
+    kind: Kind::Text,
     required: false,
     default: None,
 };
@@ -337,6 +337,7 @@ pub(crate) const ARRAY_COMMANDS: [CommandWords; 5] = [
             TIME,
             WRITE_MOSTLY,
             ASSUME_CLEAN,
+            JSON,
             RUN,
         ],
     },
@@ -355,7 +356,7 @@ pub(crate) const ARRAY_COMMANDS: [CommandWords; 5] = [
     CommandWords {
         name: "detail",
         about: "Shows the array that the images make; may store marks",
-        after_help: help::ARRAY,
+        after_help: help::DETAIL,
         options: &[JSON, READONLY, MAP],
     },
     CommandWords {
@@ -402,7 +403,7 @@ pub(crate) const DATA_COMMANDS: [CommandWords; 6] = [
         name: "stop",
         about: "Stops the array: it is clean then, unless its members may differ",
         after_help: help::STOP,
-        options: &[],
+        options: &[JSON],
     },
 ];
 
@@ -424,7 +425,7 @@ pub(crate) const MEMBER_COMMANDS: [CommandWords; 3] = [
         name: "add",
         about: "Adds an image to the array as a spare, and stops it; what the image held is lost",
         after_help: help::ADD,
-        options: &[DEVICE, RUN],
+        options: &[DEVICE, JSON, RUN],
     },
 ];
 
@@ -440,6 +441,6 @@ pub(crate) const REBUILD_COMMANDS: [CommandWords; 2] = [
         name: "rebuild",
         about: "Rebuilds a member from all others at once by its plan, and stops the array",
         after_help: help::REBUILD,
-        options: &[MEMBER, QUIET, RUN, MAP],
+        options: &[MEMBER, QUIET, JSON, RUN, MAP],
     },
 ];

@@ -17,4 +17,6 @@ pub struct CreateOptions<'a> {
     /// The role of the member that is read only where no other can serve.
     pub write_mostly: Option<u32>,
     pub assume_clean: bool,
+    /// The report is a JSON object.
+    pub json: bool,
 }

@@ -1,6 +1,6 @@
 // How reports are shown.
 ghost use Rattle.std.specs.Prelude.{◌≡◌};
-ghost use Rattle.md_words.specs.Asks.{is_json_of_check, is_json_of_image};
+ghost use Rattle.md_words.specs.Asks.{is_json_of_check, is_json_of_detail, is_json_of_image, is_json_of_rebuild};
 
 /// How the report on one image is shown.
 #[derive(Clone, Copy, Debug)]
@@ -46,6 +46,52 @@ impl CheckForm {
         match self {
             CheckForm::Json => true,
             CheckForm::Count | CheckForm::List => false,
+        }
+    }
+}
+
+/// How an array is shown in detail.
+#[derive(Clone, Copy, Debug)]
+pub enum DetailForm {
+    /// As text.
+    Text,
+    /// As text, with a line over those of the members, and the images that they are on.
+    Verbose,
+    /// As a JSON object.
+    Json,
+}
+
+impl DetailForm {
+    /// Whether it is a JSON object.
+    pub(crate) fn is_json(self) -> bool
+        ensures { result ≡ is_json_of_detail self }
+    {
+        match self {
+            DetailForm::Json => true,
+            DetailForm::Text | DetailForm::Verbose => false,
+        }
+    }
+}
+
+/// How the report of a rebuild is shown.
+#[derive(Clone, Copy, Debug)]
+pub enum RebuildForm {
+    /// The plan of each pass, and then a line, as text.
+    Plans,
+    /// The line alone.
+    Line,
+    /// As a JSON object.
+    Json,
+}
+
+impl RebuildForm {
+    /// Whether it is a JSON object.
+    pub(crate) fn is_json(self) -> bool
+        ensures { result ≡ is_json_of_rebuild self }
+    {
+        match self {
+            RebuildForm::Json => true,
+            RebuildForm::Plans | RebuildForm::Line => false,
         }
     }
 }

@@ -23,7 +23,7 @@ mod sizes;
 
 pub use command::Command;
 pub use create_options::CreateOptions;
-pub use form::{CheckForm, ImageForm};
+pub use form::{CheckForm, DetailForm, ImageForm, RebuildForm};
 pub use long_task::LongTask;
 pub use overwritten::Overwritten;
 pub use parsing::parse;

@@ -4,15 +4,15 @@ ghost use Rattle.std.specs.Str.{bytes_eq};
 ghost use Rattle.clap.specs.Words.{FailsBy, fault_of, first_of, found_of, matched_of, raw_values, rows_of, subcommand_of, subcommand_rows_of};
 ghost use Rattle.md_words.specs.Words.{mdcli};
 ghost use Rattle.md_words.specs.Numbers.{number_or_zero};
-ghost use Rattle.md_words.specs.Parsing.{all_in, ask_found, ask_named, ask_to_change, asked, check_form_in, chunk_in, command_fault, count_in, exit_code_in, fill_in, full_in, has_maps, image_form_in, image_words, images_found, is_no_size, is_verbose, json_in, lacks_option, list_in, map_out_found, map_out_in, map_out_word, map_words, maps_found, member_at, member_fault, member_in, member_named, names_map_alone, names_no_member, names_no_size, needs_readonly, number_in, option_fault, options_in, output_found, output_in, output_word, place_in, quiet_in, readonly_in, run_found, run_in, runs, serve_in, size_fault, size_in, text_in, uuid_in, value_fault, verbose_found, verbose_in, words_fault};
+ghost use Rattle.md_words.specs.Parsing.{all_in, ask_found, ask_named, ask_to_change, asked, check_form_in, chunk_in, command_fault, count_in, detail_form_in, exit_code_in, fill_in, full_in, has_maps, image_form_in, image_words, images_found, is_no_size, is_verbose, json_in, lacks_option, list_in, map_out_found, map_out_in, map_out_word, map_words, maps_found, member_at, member_fault, member_in, member_named, names_map_alone, names_no_member, names_no_sectors, names_no_size, needs_readonly, option_fault, options_in, output_found, output_in, output_word, place_in, quiet_in, readonly_in, rebuild_form_in, run_found, run_in, runs, sector_in, sectors_or_zero, serve_in, size_fault, size_in, text_in, uuid_in, value_fault, verbose_found, verbose_in, words_fault};
 ghost use Rattle.md_words.specs.Asks.{ask_of, options_of};
 
 use crate::command::Command;
 use crate::command_line::command_line;
 use crate::create_options::CreateOptions;
-use crate::form::{CheckForm, ImageForm};
+use crate::form::{CheckForm, DetailForm, ImageForm, RebuildForm};
 use crate::request::Request;
-use crate::sizes::{u32_kib, u64_kib};
+use crate::sizes::{u32_kib, u64_kib, u64_sectors};
 use clap::error::ErrorKind;
 use clap::{ArgMatches, Error};
 use std::alloc::{AllocError, Global};
@@ -89,6 +89,7 @@ fn create_options<'a>(found: &ArgMatches<'a>) -> CreateOptions<'a>
         time: u64_or_zero(text_in(found, "time")),
         write_mostly: write_mostly_of(found),
         assume_clean: text_in(found, "assume-clean") == "true",
+        json: is_json(found),
     }
 }
 
@@ -156,6 +157,36 @@ fn check_form(found: &ArgMatches<'_>) -> CheckForm
     }
 }
 
+fn is_verbose(found: &ArgMatches<'_>) -> bool
+    ensures { result ≡ verbose_in (rows_of (found_of found.now)) }
+{
+    text_in(found, "verbose") == "true"
+}
+
+fn detail_form(found: &ArgMatches<'_>) -> DetailForm
+    ensures { result ≡ detail_form_in (rows_of (found_of found.now)) }
+{
+    if is_json(found) {
+        DetailForm::Json
+    } else if is_verbose(found) {
+        DetailForm::Verbose
+    } else {
+        DetailForm::Text
+    }
+}
+
+fn rebuild_form(found: &ArgMatches<'_>) -> RebuildForm
+    ensures { result ≡ rebuild_form_in (rows_of (found_of found.now)) }
+{
+    if is_json(found) {
+        RebuildForm::Json
+    } else if is_quiet(found) {
+        RebuildForm::Line
+    } else {
+        RebuildForm::Plans
+    }
+}
+
 fn is_fill(found: &ArgMatches<'_>) -> bool
     ensures { result ≡ fill_in (rows_of (found_of found.now)) }
 {
@@ -189,11 +220,18 @@ fn is_run(found: &ArgMatches<'_>) -> bool
     text_in(found, "run") == "true"
 }
 
-// The number that an option has, 0 where it has none.
-fn number_in<'a>(found: &ArgMatches<'a>, name: &str) -> u64
-    ensures { result ≡ number_in 64 name.now (rows_of (found_of found.now)) }
+// The sectors that a text says, 0 where it says none.
+fn sectors_or_zero(text: &str) -> u64
+    ensures { result ≡ sectors_or_zero text.now }
 {
-    u64_or_zero(text_in(found, name))
+    u64_sectors(text).unwrap_or(0)
+}
+
+// The first sector of the array that a command names.
+fn sector_of(found: &ArgMatches<'_>) -> u64
+    ensures { result ≡ sector_in (rows_of (found_of found.now)) }
+{
+    sectors_or_zero(text_in(found, "sector"))
 }
 
 // The number of sectors, where one is given.
@@ -201,7 +239,7 @@ fn count_of(found: &ArgMatches<'_>) -> Option<u64>
     ensures { result ≡ count_in (rows_of (found_of found.now)) }
 {
     let text = found.get_str("count")?;
-    Some(u64_or_zero(text))
+    Some(sectors_or_zero(text))
 }
 
 // The place among images of the first of this name.
@@ -302,7 +340,7 @@ fn command_of<'a>(name: &str, found: &ArgMatches<'a>) -> Command<'a>
         }
     } else if name == "detail" {
         Command::Detail {
-            json: is_json(found),
+            form: detail_form(found),
             readonly: is_readonly(found),
         }
     } else if name == "plan" {
@@ -312,7 +350,7 @@ fn command_of<'a>(name: &str, found: &ArgMatches<'a>) -> Command<'a>
             readonly: is_readonly(found),
         }
     } else if name == "read" {
-        let sector = number_in(found, "sector");
+        let sector = sector_of(found);
         let count = count_of(found);
         Command::Read {
             sector,
@@ -339,12 +377,14 @@ fn command_that_changes<'a>(name: &str, found: &ArgMatches<'a>) -> Command<'a>
 {
     if name == "write" {
         Command::Write {
-            sector: number_in(found, "sector"),
+            sector: sector_of(found),
         }
     } else if name == "resync" {
         Command::Resync
     } else if name == "stop" {
-        Command::Stop
+        Command::Stop {
+            json: is_json(found),
+        }
     } else if name == "fail" {
         Command::Fail {
             member: member_in(found),
@@ -356,6 +396,7 @@ fn command_that_changes<'a>(name: &str, found: &ArgMatches<'a>) -> Command<'a>
     } else if name == "add" {
         Command::Add {
             device: text_in(found, "device"),
+            json: is_json(found),
         }
     } else if name == "re-add" {
         Command::ReAdd {
@@ -365,19 +406,13 @@ fn command_that_changes<'a>(name: &str, found: &ArgMatches<'a>) -> Command<'a>
     } else if name == "rebuild" {
         Command::Rebuild {
             member: member_in(found),
-            quiet: is_quiet(found),
+            form: rebuild_form(found),
         }
     } else {
         Command::Examine {
             form: image_form(found),
         }
     }
-}
-
-fn is_verbose(found: &ArgMatches<'_>) -> bool
-    ensures { result ≡ verbose_in (rows_of (found_of found.now)) }
-{
-    text_in(found, "verbose") == "true"
 }
 
 fn request_of<'a>(alloc: Global, matches: &ArgMatches<'a>) -> Result<Request<'a>, AllocError>
@@ -468,10 +503,36 @@ fn is_no_chunk(found: &ArgMatches<'_>) -> bool
     }
 }
 
+// Whether an option gives sectors that are none.
+fn names_no_sectors(found: &ArgMatches<'_>, name: &str) -> bool
+    ensures { result ≡ names_no_sectors name.now (rows_of (found_of found.now)) }
+{
+    match found.get_str(name) {
+        Some(text) => u64_sectors(text).is_none(),
+        None => false,
+    }
+}
+
 fn names_no_size(found: &ArgMatches<'_>) -> bool
     ensures { result ≡ names_no_size (rows_of (found_of found.now)) }
 {
-    is_no_size(found) || is_no_chunk(found)
+    is_no_size(found)
+        || is_no_chunk(found)
+        || names_no_sectors(found, "sector")
+        || names_no_sectors(found, "count")
+}
+
+// What is said of the first that is none.
+fn size_message(found: &ArgMatches<'_>) -> &'static str {
+    if is_no_size(found) {
+        "invalid value for '--size <SIZE>': it is no number of KiB that fits 64 bits, perhaps with the suffix K, M, G or T"
+    } else if is_no_chunk(found) {
+        "invalid value for '--bitmap-chunk <SIZE>': it is no number of KiB that fits 32 bits, perhaps with the suffix K, M, G or T"
+    } else if names_no_sectors(found, "sector") {
+        "invalid value for '--sector <S>': it is no number of sectors that fits 64 bits, nor a size with the suffix K, M, G or T"
+    } else {
+        "invalid value for '--count <N>': it is no number of sectors that fits 64 bits, nor a size with the suffix K, M, G or T"
+    }
 }
 
 // Refuses a size that is none, as the parser refuses a value.
@@ -484,13 +545,8 @@ fn check_sizes(alloc: Global, matches: &ArgMatches<'_>) -> Result<(), Error>
     if !names_no_size(found) {
         return Ok(());
     }
-    let message = if is_no_size(found) {
-        "invalid value for '--size <SIZE>': it is no number of KiB that fits 64 bits, perhaps with the suffix K, M, G or T"
-    } else {
-        "invalid value for '--bitmap-chunk <SIZE>': it is no number of KiB that fits 32 bits, perhaps with the suffix K, M, G or T"
-    };
     let mut program = command_line(alloc)?;
-    Err(program.error(ErrorKind::ValueValidation, message)?)
+    Err(program.error(ErrorKind::ValueValidation, size_message(found))?)
 }
 
 // Refuses a value that the parser takes.

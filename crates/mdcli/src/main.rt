@@ -47,7 +47,7 @@ use md_messages::Messages;
 use md_words::{Request, parse};
 use std::alloc::{AllocError, Global};
 use std::fs::File;
-use std::io::{self, IsTerminal};
+use std::io::{self, IsTerminal, Write};
 use std::process::ExitCode;
 use std::rt::Files;
 
@@ -144,6 +144,7 @@ fn main(rt: HostRuntime) -> ExitCode {
         None => run(&mut session, words, parsed, &mut images, &mut err, messages),
     };
     progress.clear();
+    tell_standing(progress.sectors_standing(), &mut err);
     let Session {
         out,
         missing,
@@ -158,6 +159,16 @@ fn main(rt: HostRuntime) -> ExitCode {
         return ExitCode::from(REFUSED);
     }
     ExitCode::from(status)
+}
+
+// Of an input that was not written to its end it is said how many sectors stand, where some do.
+fn tell_standing<E: Write>(sectors: u64, err: &mut E) {
+    if sectors > 0 {
+        let _ = writeln!(
+            err,
+            "mdcli: the first {sectors} sectors of the input are written"
+        );
+    }
 }
 
 // Whether the report is a JSON object.

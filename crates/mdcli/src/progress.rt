@@ -36,6 +36,8 @@ pub struct Progress<'a> {
     copying: Copying,
     comparing: Comparing,
     read_length: ReadLength,
+    // How many sectors of an input stand that is not written to its end.
+    standing: AtomicU64,
     // In milliseconds after the beginning, when the line may be drawn again.
     due: AtomicU64,
     is_shown: AtomicBool,
@@ -52,6 +54,7 @@ impl<'a> Progress<'a> {
             copying: Copying::new(),
             comparing: Comparing::new(),
             read_length: ReadLength::new(),
+            standing: AtomicU64::new(0),
             due: AtomicU64::new(0),
             is_shown: AtomicBool::new(false),
         }
@@ -60,6 +63,11 @@ impl<'a> Progress<'a> {
     /// How many sectors of the array are to be read; 0 before that is known.
     pub fn sectors_to_read(&self) -> u64 {
         self.read_length.sectors()
+    }
+
+    /// How many sectors stand of an input that was not written to its end; 0 where none do.
+    pub fn sectors_standing(&self) -> u64 {
+        self.standing.load(Ordering::SeqCst)
     }
 
     fn draw_if_due(&self) {
@@ -191,6 +199,8 @@ impl<'a> Watch for Progress<'a> {
 
     ghost compares = { λ _ _. ⊤ };
 
+    ghost has_written = { λ _ _. ⊤ };
+
     fn begins(&self, chunks: u32, first: Option<u32>) {
         let Some(now) = self.milliseconds() else {
             return;
@@ -205,6 +215,10 @@ impl<'a> Watch for Progress<'a> {
         };
         let read = self.read.load(Ordering::SeqCst);
         self.comparing.begin(sectors, now, read);
+    }
+
+    fn wrote(&self, sectors: u64) {
+        self.standing.store(sectors, Ordering::SeqCst);
     }
 }
 

@@ -37,8 +37,8 @@ pub(crate) fn advice(fault: &CommandFault) -> &'static str {
             "nothing was overwritten: name another image, or answer `yes`, which `--run` does"
         }
         CommandFault::InputFault =>
-            "see why its file or program fails; `write` has written nothing",
-        CommandFault::BadLength => "give it a multiple of 512 bytes",
+            "see why its file or program fails; where `write` has written some of it, it says how much",
+        CommandFault::BadLength => "give it a multiple of 512 bytes, of a file that stays as it is",
         CommandFault::OutOfRange => WITHIN_ARRAY,
         CommandFault::BadMember => {
             "count the images from 0, in the order in which they are named, or give `--member` an image as it is listed"
@@ -64,8 +64,8 @@ pub(crate) fn advice(fault: &CommandFault) -> &'static str {
 const MORE_MEMORY: &str = "try again with more memory";
 
 /// Where `write` has no room for its input.
-pub(crate) const WRITE_IN_PARTS: &str =
-    "try again with more memory, or write in parts, each from a `--sector` of its own on: all of the input is held in memory";
+pub(crate) const WRITE_A_FILE: &str =
+    "try again with more memory, or give it a regular file, which is written in pieces of 16 MiB: all of any other input is held in memory";
 
 const ANOTHER_OUTPUT: &str =
     "give it an output that takes all of it: what came so far is cut short";

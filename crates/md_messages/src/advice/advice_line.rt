@@ -1,5 +1,5 @@
 // The line for people after a fault.
-use crate::advice::advice::{LEAVE_SOURCE_OUT, WRITE_IN_PARTS, advice};
+use crate::advice::advice::{LEAVE_SOURCE_OUT, WRITE_A_FILE, advice};
 use crate::advice::geometry_advice::geometry_advice;
 use md_array::{AddFault, BeginFault, OpenFault, ReAddFault};
 use md_assembly::AssembleFault;
@@ -150,7 +150,7 @@ fn what_to_do(fault: &CommandFault, names: &[&str], command: Command<'_>) -> &'s
             Command::Create(options) => geometry_advice(&options, names),
             _ => advice(fault),
         },
-        fault if is_unheld_input(fault, command) => WRITE_IN_PARTS,
+        fault if is_unheld_input(fault, command) => WRITE_A_FILE,
         _ => advice(fault),
     }
 }

@@ -44,9 +44,9 @@ condition_fields a =
     ∷ field (codes "marked_chunks") (whole (marked_chunks a.marks))
     ∷ []
 
--- the whole objects
-abbrev pub summary_object : ArrayView → List (List ℕ) → Data
-summary_object a images = report_of (codes "assemble") (summary_fields a ∷ members_fields a images ∷ [])
+-- the whole objects; in short it is the object of the command that shows the array so
+abbrev pub summary_object : List ℕ → ArrayView → List (List ℕ) → Data
+summary_object kind a images = report_of kind (summary_fields a ∷ members_fields a images ∷ [])
 
 abbrev pub detail_object : ArrayView → List (List ℕ) → Data
 detail_object a images = report_of (codes "detail") (shared_fields a.shared ∷ condition_fields a ∷ members_fields a images ∷ standing_fields a ∷ [])

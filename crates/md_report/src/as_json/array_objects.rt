@@ -18,17 +18,18 @@ use md_device::Device;
 use md_examine::{Sink, SinkFault};
 use md_super::Superblock;
 
-/// Writes an array in short as an object, alone in its line, with its members, of which `images` are the names. It takes
-/// no memory, and fails only where the sink has failed.
+/// Writes an array in short as an object, alone in its line, with its members, of which `images` are the names. `kind` is the
+/// command that shows it. It takes no memory, and fails only where the sink has failed.
 pub fn summary_json<S: Sink, D: Device + Drop>(
     out: &mut S,
+    kind: &str,
     mirror: &Mirror<D>,
     images: &[&str],
 ) -> Result<(), SinkFault>
     ensures { PutsOrFails S.contents S.failed out.old out.new
-        (object_line (summary_object mirror.now.array (texts_of images.now))) result }
+        (object_line (summary_object kind.now mirror.now.array (texts_of images.now))) result }
 {
-    open(out, "assemble")?;
+    open(out, kind)?;
     summary(out, mirror)?;
     members(out, mirror, images)?;
     close(out)?;

@@ -120,7 +120,8 @@ fn image<S: Sink>(out: &mut S, images: &[&str], index: usize) -> Result<(), Sink
     word_or_null(out, image_at(images, index))
 }
 
-fn image_at<'a>(images: &[&'a str], index: usize) -> Option<&'a str>
+/// The image of the member with this index.
+pub(crate) fn image_at<'a>(images: &[&'a str], index: usize) -> Option<&'a str>
     ensures { result ≡ slice_get images.now index }
 {
     images.get(index).copied()

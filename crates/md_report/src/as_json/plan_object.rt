@@ -86,7 +86,12 @@ fn short_set<S: Sink>(out: &mut S, certificate: &Certificate) -> Result<(), Sink
     Ok(())
 }
 
-fn number_list<S: Sink>(out: &mut S, name: &str, numbers: &[u32]) -> Result<(), SinkFault>
+/// A field whose value is a list of numbers.
+pub(crate) fn number_list<S: Sink>(
+    out: &mut S,
+    name: &str,
+    numbers: &[u32],
+) -> Result<(), SinkFault>
     ensures { PutsOrFails S.contents S.failed out.old out.new
         (next_text name.now (compact_text (list_of whole numbers.now))) result }
 {

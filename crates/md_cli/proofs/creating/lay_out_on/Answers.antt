@@ -1,8 +1,10 @@
-use Rattle.std.proofs.Common.{◌≡◌, ◌∙◌, ◌<◌, length, map, Err, ap, sym, subst, refl, inl, inr, arith}
+use Rattle.std.proofs.Common.{◌≡◌, ◌∙◌, ◌<◌, codes, length, map, Err, ap, sym, subst, refl, inl, inr, arith}
 use Rattle.std.specs.Prelude.{slice_get}
 use Rattle.std.proofs.lemmas.List.{length-map}
 use Rattle.md_state.specs.View.{disk_of}
 use Rattle.md_commands.specs.declared.fault.CommandFault.TheVariants.{MetadataFault}
+use Rattle.md_commands.specs.Objects.{summary_shown}
+use Rattle.md_messages.specs.Telling.{texts}
 use Rattle.md_cli.specs.Arrays.{ShowsDevices}
 use Rattle.md_cli.specs.Creating.{AreLaidOut, FailsInLayout}
 use Rattle.md_cli.proofs.Created.{at_of, laid_out_of, written_back}
@@ -49,5 +51,5 @@ returns-clause-gives g c =
     inr (record {
       middle = middle;
       laid_out = subst (λ n. AreLaidOut before middle c.args.members.now n) all (laid_out_of _ before _ middle _ c.args.members.now c.lay_out_each-place.result lent refl refl laid.laid_out);
-      opened = subst (λ ds. ShowsDevices g.S.Sink ds (map disk c.show_devices.result.0.items) c.args.out.now c.show_devices.new.out c.show_devices.result.1) back c.show_devices.ensures.gives;
+      opened = subst (λ ds. ShowsDevices g.S.Sink (summary_shown (codes "create") c.args.json (texts c.args.images.now)) ds (map disk c.show_created.result.0.items) c.args.out.now c.show_created.new.out c.show_created.result.1) back c.show_created.ensures.gives;
     })

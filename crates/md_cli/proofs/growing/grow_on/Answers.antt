@@ -1,6 +1,7 @@
 use Rattle.std.proofs.Common.{◌≡◌, ◌∙◌, List, length, map, ap, sym, subst, refl, inl, inr}
 use Rattle.md_state.specs.View.{Disk, disk_of}
 use Rattle.md_grow.specs.Growing.{Grows, RefusesToGrow}
+use Rattle.md_report.specs.SummaryReport.{summary_text}
 use Rattle.md_cli.specs.Arrays.{ShowsDevices}
 use Rattle.md_cli.proofs.Created.{written_back}
 use Rattle.md_cli.proofs.growing.grow_on.Goals as goal
@@ -16,7 +17,7 @@ returns-in-Ok-clause-gives g c =
     inl (record {
       middle = middle;
       grown = subst (λ (ds : List Disk). Grows c.args.chunk_bytes ds middle) lent c.in-Ok.ensures.gives;
-      opened = subst (λ (ds : List Disk). ShowsDevices g.S.Sink ds (map disk c.show_devices.result.0.items) c.args.out.now c.show_devices.new.out c.show_devices.result.1) back c.show_devices.ensures.gives;
+      opened = subst (λ (ds : List Disk). ShowsDevices g.S.Sink summary_text ds (map disk c.show_devices.result.0.items) c.args.out.now c.show_devices.new.out c.show_devices.result.1) back c.show_devices.ensures.gives;
     })
 
 pub returns-in-Err-clause-gives : goal.returns-in-Err-clause-gives

@@ -2,6 +2,7 @@ use Rattle.std.proofs.Common.{◌≡◌, MatchResult, Result, Some, option_map, 
 use Rattle.md_commands.specs.declared.fault.CommandFault.{CommandFault}
 use Rattle.md_commands.specs.ReAdding.{ReAddsDevice, RefusesToReAdd}
 use Rattle.md_commands.specs.Stopping.{StopsArrayAfter}
+use Rattle.md_report.specs.SummaryReport.{summary_text}
 use Rattle.md_state.specs.View.{disk_of}
 use Rattle.md_cli.proofs.performing.re_add.Goals as goal
 
@@ -15,5 +16,5 @@ returns-clause-re_adds g c =
       device = device;
       is = is;
       kept = call.ensures.device;
-      re_adds = subst (λ (r : Result (Unit {0}) CommandFault). MatchResult r (λ _. StopsArrayAfter g.S.Sink (ReAddsDevice c.args.extent device c.args.opened.now.mirror) call.new.mirror c.args.out.now call.new.out) (RefusesToReAdd g.S.Sink c.args.extent device (option_map disk call.result.0) c.args.opened.now.mirror call.new.mirror c.args.out.now call.new.out)) c.in_ok-re_added.was call.ensures.gives;
+      re_adds = subst (λ (r : Result (Unit {0}) CommandFault). MatchResult r (λ _. StopsArrayAfter g.S.Sink summary_text (ReAddsDevice c.args.extent device c.args.opened.now.mirror) call.new.mirror c.args.out.now call.new.out) (RefusesToReAdd g.S.Sink c.args.extent device (option_map disk call.result.0) c.args.opened.now.mirror call.new.mirror c.args.out.now call.new.out)) c.in_ok-re_added.was call.ensures.gives;
     }

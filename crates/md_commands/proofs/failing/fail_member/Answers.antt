@@ -1,5 +1,6 @@
 use Rattle.std.proofs.Common.{rules, ◌≡◌}
 use Rattle.std.specs.Prelude.{Err}
+use Rattle.md_report.specs.SummaryReport.{summary_text}
 use Rattle.md_commands.proofs.StoppedAfter.{failed_or_not, not_failed}
 use Rattle.md_commands.proofs.failing.fail_member.Goals as goal
 
@@ -11,4 +12,4 @@ returns-in_err-fail_named-clause-gives g c =
 
 pub returns-clause-gives : goal.returns-clause-gives
 returns-clause-gives g c =
-    failed_or_not g.S.Sink c.args.member c.args.mirror.now c.fail_named.new.mirror c.stop_array.new.mirror c.args.out.now c.stop_array.new.out c.in_ok-fail_named.ensures.gives c.stop_array.result c.stop_array.ensures.gives
+    failed_or_not g.S.Sink c.args.member c.args.mirror.now c.fail_named.new.mirror c.stop_array.new.mirror c.args.out.now c.stop_array.new.out summary_text c.in_ok-fail_named.ensures.gives c.stop_array.result c.stop_array.ensures.gives

@@ -1,6 +1,7 @@
 use Rattle.std.proofs.Common.{None}
 use Rattle.md_state.specs.View.{disk_of}
 use Rattle.md_commands.specs.ReAdding.{ComesBackReadied}
+use Rattle.md_report.specs.SummaryReport.{summary_text}
 use Rattle.md_commands.proofs.RebuildCounts.{joins_rebuilt, stays_away, stays_untried}
 use Rattle.md_commands.proofs.Rebuilt.{re_added_or_not}
 use Rattle.md_commands.proofs.re_adding.re_add_device.Goals as goal
@@ -19,7 +20,7 @@ returns-in-Ok-clause-gives g c =
       readied = c.in_default.ensures.gives;
       comes = c.in-Ok.ensures.gives;
     } in
-    re_added_or_not g.S.Sink c.args.extent c.in-Ok.k device None old joined c.rebuild_and_show-shown.new.mirror c.args.out.now c.rebuild_and_show-shown.new.out comes c.rebuild_and_show-shown.result c.rebuild_and_show-shown.ensures.gives
+    re_added_or_not g.S.Sink c.args.extent c.in-Ok.k device None old joined c.rebuild_and_show-shown.new.mirror c.args.out.now c.rebuild_and_show-shown.new.out summary_text comes c.rebuild_and_show-shown.result c.rebuild_and_show-shown.ensures.gives
 
 pub returns-in-Ok-clause-device : goal.returns-in-Ok-clause-device
 returns-in-Ok-clause-device g c =
@@ -31,7 +32,7 @@ returns-in-Ok-clause-device g c =
       readied = c.in_default.ensures.gives;
       comes = c.in-Ok.ensures.gives;
     } in
-    joins_rebuilt g.S.Sink c.args.extent c.in-Ok.k device old joined c.rebuild_and_show-shown.new.mirror c.args.out.now c.rebuild_and_show-shown.new.out c.rebuild_and_show-shown.result comes c.rebuild_and_show-shown.ensures.gives
+    joins_rebuilt summary_text g.S.Sink c.args.extent c.in-Ok.k device old joined c.rebuild_and_show-shown.new.mirror c.args.out.now c.rebuild_and_show-shown.new.out c.rebuild_and_show-shown.result comes c.rebuild_and_show-shown.ensures.gives
 
 pub returns-in-Ok-clause-pending : goal.returns-in-Ok-clause-pending
 returns-in-Ok-clause-pending g c p is =

@@ -1,6 +1,7 @@
 use Rattle.std.proofs.Common.{rules, ◌≡◌, refl}
 use Rattle.std.specs.Prelude.{Err}
 use Rattle.md_commands.specs.declared.fault.CommandFault.TheVariants.{Rebuild}
+use Rattle.md_report.specs.SummaryReport.{summary_text}
 use Rattle.md_commands.proofs.Rebuilt.{shown_or_not}
 use Rattle.md_commands.proofs.Wrapped.{own_err, own_ok}
 use Rattle.md_commands.proofs.re_adding.rebuild_and_show.Goals as goal
@@ -13,7 +14,7 @@ returns-in_err-rebuilt-clause-gives g c =
 
 pub returns-clause-gives : goal.returns-clause-gives
 returns-clause-gives g c =
-    shown_or_not g.S.Sink c.args.k c.args.mirror.now c.rebuild_watched.new.mirror c.stop_array.new.mirror c.args.out.now c.stop_array.new.out (c.in_ok-rebuilt.rebuilt, own_ok _ _ _ c.rebuild_watched.result _ _ c.rebuild_watched.ensures.gives c.in_ok-rebuilt.ensures.cases c.in_ok-rebuilt.ensures.variant refl) c.stop_array.result c.stop_array.ensures.gives
+    shown_or_not g.S.Sink c.args.k c.args.mirror.now c.rebuild_watched.new.mirror c.stop_array.new.mirror c.args.out.now c.stop_array.new.out summary_text (c.in_ok-rebuilt.rebuilt, own_ok _ _ _ c.rebuild_watched.result _ _ c.rebuild_watched.ensures.gives c.in_ok-rebuilt.ensures.cases c.in_ok-rebuilt.ensures.variant refl) c.stop_array.result c.stop_array.ensures.gives
 
 pub returns-clause-pending : goal.returns-clause-pending
 returns-clause-pending g c p is = c.stop_array.ensures.pending p (c.rebuild_watched.ensures.pending p is)

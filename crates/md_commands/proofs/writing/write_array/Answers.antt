@@ -1,18 +1,83 @@
-use Rattle.std.proofs.Common.{List, ℕ, Option, subst}
-use Rattle.md_bitmap.specs.declared.chunks.Chunks.{Chunks}
-use Rattle.md_commands.specs.ReadingInput.{IsInput}
-use Rattle.md_commands.specs.Stopping.{StopsAfter}
-use Rattle.md_commands.specs.ToldLength.{MayBeRead}
-use Rattle.md_commands.specs.Writing.{WritesReadied}
-use Rattle.md_commands.proofs.Written.{written_or_not}
+use Rattle.std.proofs.Common.{rules, Err, ◌≡◌, ℕ, Option, true, false, refl, inl, subst}
+use Rattle.md_commands.specs.declared.fault.CommandFault.TheVariants.{Stop}
+use Rattle.md_commands.specs.ToldLength.{MayBeRead, RefusesTold}
+use Rattle.md_commands.specs.Writing.{RefusesWriting, WritesInput}
+use Rattle.md_commands.proofs.Wrapped.{own_err, own_ok}
+use Rattle.md_commands.proofs.Written.{refused_told, refused_writing, told_of_none, written_or_not}
 use Rattle.md_commands.proofs.writing.write_array.Goals as goal
+
+pub returns-then-halted-clause-gives : goal.returns-then-halted-clause-gives
+returns-then-halted-clause-gives g c =
+    let halted : c.args.mirror.now.array.halted ≡ true = search rules in (
+      0,
+      told_of_none g.W.Watch.has_written c.args.watch.now,
+      inl (record { is = refl; refused = record { unchanged = refl; reason = halted }; unread = refl; unwritten = refl }),
+    )
+
+pub returns-in_err-check_told-clause-gives : goal.returns-in_err-check_told-clause-gives
+returns-in_err-check_told-clause-gives g c =
+    let old = c.args.mirror.now in
+    let fault = c.in_err-check_told.field-0.0 in
+    let passed : c.from_residual.result ≡ Err fault = search rules in
+    let running : old.array.halted ≡ false = search rules in
+    let told = subst (λ (t : Option ℕ). RefusesTold old.array c.args.sector t fault) c.bytes_left-told.ensures c.in_err-check_told.ensures in
+    let refused = refused_told g.I.Source g.S.Sink c.args.sector old old c.args.input.now c.args.input.now c.args.out.now c.args.out.now (g.I.Source.told c.args.input.now) fault told
+    (record { running = running; refused = told; unchanged = refl; unread = refl; unwritten = refl }) in
+    (0, told_of_none g.W.Watch.has_written c.args.watch.now, rw passed refused)
+
+pub write_input-requires-clause-may : goal.write_input-requires-clause-may
+write_input-requires-clause-may g c = c.in_ok-check_told.ensures
+
+pub returns-in_err-write_input-clause-gives : goal.returns-in_err-write_input-clause-gives
+returns-in_err-write_input-clause-gives g c =
+    let old = c.args.mirror.now in
+    let new = c.write_input.new.mirror in
+    let rest = c.write_input.new.input in
+    let told = g.I.Source.told c.args.input.now in
+    let fault = c.in_err-write_input.field-0.0 in
+    let passed : c.from_residual-in_err-write_input.result ≡ Err fault = search rules in
+    let running : old.array.halted ≡ false = search rules in
+    let h = c.in_err-write_input.ensures.gives in
+    let may = subst (λ (t : Option ℕ). MayBeRead old.array c.args.sector t) c.bytes_left-told.ensures c.in_ok-check_told.ensures in
+    let refused = subst (λ (t : Option ℕ). RefusesWriting g.I.Source c.args.sector old new c.args.input.now rest t h.0 fault) c.bytes_left-told.ensures h.2 in (
+      h.0,
+      h.1,
+      rw passed (refused_writing g.I.Source g.S.Sink c.args.sector old new c.args.input.now rest c.args.out.now c.args.out.now told h.0 fault refused
+          (record { running = running; may = may; refused = refused; unwritten = refl })),
+    )
+
+pub returns-in_err-map_err-clause-gives : goal.returns-in_err-map_err-clause-gives
+returns-in_err-map_err-clause-gives g c =
+    let old = c.args.mirror.now in
+    let mid = c.write_input.new.mirror in
+    let rest = c.write_input.new.input in
+    let running : old.array.halted ≡ false = search rules in
+    let may = subst (λ (t : Option ℕ). MayBeRead old.array c.args.sector t) c.bytes_left-told.ensures c.in_ok-check_told.ensures in
+    let writes = subst (λ (t : Option ℕ). WritesInput g.I.Source c.args.sector old mid c.args.input.now rest t) c.bytes_left-told.ensures c.in_ok-write_input.ensures.gives.2 in
+    let own = own_err _ _ _ c.stop.result _ _ c.stop.ensures.gives c.in_err-map_err.ensures.cases refl in
+    let is : c.from_residual-in_err-map_err.result ≡ Err (Stop own.0) = let post = own.2 in search rules in (
+      0,
+      told_of_none g.W.Watch.has_written c.args.watch.now,
+      rw is (record { running = running; may = may; bytes = writes.bytes; is = writes.is; refused = record { mid = mid; through = writes.writes; refused = own.1 }; unwritten = refl }),
+    )
 
 pub returns-clause-gives : goal.returns-clause-gives
 returns-clause-gives g c =
     let old = c.args.mirror.now in
-    let new = c.write_and_stop.new.mirror in
-    let bytes = c.in_ok-bytes.bytes.items in
-    let may = subst (λ (told : Option ℕ). MayBeRead old.array c.args.sector told) c.bytes_left.ensures c.in_ok-check_told.ensures in
-    let is = subst (λ (chunks : Chunks). IsInput g.I.Source chunks.size c.args.input.now c.whole_input.new.input bytes) c.chunks.ensures c.in_ok-bytes.ensures in
-    let done = subst (λ (b : List ℕ). StopsAfter (WritesReadied c.args.sector b old) new) c.deref.ensures.value c.in_ok-write_and_stop.ensures.gives in
-    written_or_not g.I.Source g.S.Sink c.args.sector old new c.args.input.now c.whole_input.new.input c.args.out.now c.put_summary.new.out bytes may is done c.put_summary.result c.put_summary.ensures
+    let mid = c.write_input.new.mirror in
+    let new = c.stop.new.mirror in
+    let rest = c.write_input.new.input in
+    let may = subst (λ (t : Option ℕ). MayBeRead old.array c.args.sector t) c.bytes_left-told.ensures c.in_ok-check_told.ensures in
+    let writes = subst (λ (t : Option ℕ). WritesInput g.I.Source c.args.sector old mid c.args.input.now rest t) c.bytes_left-told.ensures c.in_ok-write_input.ensures.gives.2 in
+    let stopped = own_ok _ _ _ c.stop.result _ _ c.stop.ensures.gives c.in_ok-map_err.ensures.cases c.in_ok-map_err.ensures.variant refl in (
+      0,
+      told_of_none g.W.Watch.has_written c.args.watch.now,
+      written_or_not g.I.Source g.S.Sink c.args.sector old new c.args.input.now rest c.args.out.now c.put_summary.new.out writes.bytes may writes.is
+          (record { mid = mid; through = writes.writes; stops = stopped }) c.put_summary.result c.put_summary.ensures,
+    )
+
+pub returns-in_err-map_err-clause-pending : goal.returns-in_err-map_err-clause-pending
+returns-in_err-map_err-clause-pending g c p before = c.stop.ensures.pending p (c.write_input.ensures.pending p before)
+
+pub returns-clause-pending : goal.returns-clause-pending
+returns-clause-pending g c p before = c.stop.ensures.pending p (c.write_input.ensures.pending p before)

@@ -1,11 +1,11 @@
 use Rattle.std.proofs.Common.{◌≡◌, ◌∙◌, Option, None, Some, ap, option_map, codes, rules, ℕ}
 use Rattle.clap.proofs.WalkLemmas.{first_value-rows}
 use Rattle.clap.specs.Words.{Text, found_of}
-use Rattle.md_words.specs.Numbers.{number_or_zero}
+use Rattle.md_words.specs.Parsing.{sectors_or_zero}
 use Rattle.md_words.proofs.parsing.count_of.Goals as goal
 
 abbrev count_at : Option Text → Option ℕ
-count_at = option_map (number_or_zero 64)
+count_at = option_map sectors_or_zero
 
 pub returns-in_err-text : goal.returns-in_err-text
 returns-in_err-text c =
@@ -13,4 +13,4 @@ returns-in_err-text c =
     absent ∙ ap count_at (c.in_err-text.ensures ∙ first_value-rows (found_of c.args.found.now) (codes "count"))
 
 pub returns : goal.returns
-returns c = ap (λ n. Some n) c.u64_or_zero.ensures ∙ ap count_at (c.in_ok-text.ensures ∙ first_value-rows (found_of c.args.found.now) (codes "count"))
+returns c = ap (λ n. Some n) c.sectors_or_zero.ensures ∙ ap count_at (c.in_ok-text.ensures ∙ first_value-rows (found_of c.args.found.now) (codes "count"))

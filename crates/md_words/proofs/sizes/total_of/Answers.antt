@@ -1,6 +1,6 @@
 use Rattle.std.proofs.Common.{◌∙◌, ◌*◌, ◌^◌, rules}
 use Rattle.md_words.proofs.Suffix.{made_below, no_size, numbered_size}
-use Rattle.md_words.proofs.sizes.kib_of.Goals as goal
+use Rattle.md_words.proofs.sizes.total_of.Goals as goal
 
 pub returns-in-Ok : goal.returns-in-Ok
 returns-in-Ok c = made_below (2 ^ 64) (c.in-Ok.units * c.args.unit) c.checked_mul.result c.checked_mul.ensures ∙ numbered_size c.args.number.now c.args.unit c.in-Ok.units c.parse.result c.in-Ok.is (search rules)

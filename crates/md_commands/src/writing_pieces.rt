@@ -1,0 +1,220 @@
+// An input that tells its length is written piece by piece.
+ghost use Rattle.std.specs.Prelude.{◌≡◌, ◌+◌, ◌*◌, ◌/◌, ◌%◌, ◌^◌, ◌<◌, ◌≤◌, IfOk, MatchResult, false, length, min};
+ghost use Rattle.md_inflight.specs.Requests.Pending.{PendingView};
+ghost use Rattle.md_state.specs.Requests.{IsPending};
+ghost use Rattle.md_state.specs.Steps.Begin.{IsInRange};
+ghost use Rattle.md_array.specs.Consistency.{IsConsistent};
+ghost use Rattle.md_commands.specs.ReadingInput.{FailsAfter};
+ghost use Rattle.md_commands.specs.Source.{Gives};
+ghost use Rattle.md_commands.specs.WritingPieces.{BeginsPieces, CopiesPiece, FailsToEnd, FailsToTakePiece, FillsPieceTo, HasEnded, IsInputFault, IsReadyForPieces, RefusesPieces, RefusesReadying, RefusesToCopyPiece, TakesPiece, WritesInPieces, most_at_once, sectors_at_once};
+
+use crate::fault::CommandFault;
+use crate::resyncing::resync_if_needed;
+use crate::source::Source;
+use crate::told_length::is_in_range;
+use md_array::{BeginFault, Mirror};
+use md_device::Device;
+use md_write::write;
+use std::alloc::{AllocError, Global};
+
+// The most sectors of a piece: 16 MiB.
+const MOST_AT_ONCE: u64 = 32_768;
+
+/// Writes an input of so many bytes from this sector of the array on, piece by piece, after a resync where it needs one. `written`
+/// becomes how many sectors are written, also where it is refused.
+pub(crate) fn write_in_pieces<D: Device + Drop, I: Source>(
+    alloc: Global,
+    mirror: &mut Mirror<D>,
+    sector: u64,
+    len: u64,
+    input: &mut I,
+    written: &mut u64,
+) -> Result<(), CommandFault>
+    requires whole { len % 512 ≡ 0 }
+    requires none { written.old ≡ 0 }
+    requires sound { IsConsistent mirror.old }
+    ensures gives { MatchResult result
+        (λ _. WritesInPieces I.Source sector len mirror.old mirror.new input.old input.new)
+        (RefusesPieces I.Source sector len written.new mirror.old mirror.new input.old input.new) }
+    ensures sound { IsConsistent mirror.new }
+    ensures pending { (p : PendingView) → IsPending mirror.old.array p → IsPending mirror.new.array p }
+{
+    let mut buffer = room_for_piece(alloc, len / 512)?;
+    write_pieces(alloc, mirror, sector, len, input, &mut buffer, written)
+}
+
+// Writes an input piece by piece, through a buffer that has room for any of them.
+fn write_pieces<D: Device + Drop, I: Source>(
+    alloc: Global,
+    mirror: &mut Mirror<D>,
+    sector: u64,
+    len: u64,
+    input: &mut I,
+    buffer: &mut [u8],
+    written: &mut u64,
+) -> Result<(), CommandFault>
+    requires whole { len % 512 ≡ 0 }
+    requires room { length buffer.old ≡ 512 * min (len / 512) most_at_once }
+    requires none { written.old ≡ 0 }
+    requires sound { IsConsistent mirror.old }
+    ensures gives { MatchResult result
+        (λ _. WritesInPieces I.Source sector len mirror.old mirror.new input.old input.new)
+        (RefusesPieces I.Source sector len written.new mirror.old mirror.new input.old input.new) }
+    ensures sound { IsConsistent mirror.new }
+    ensures pending { (p : PendingView) → IsPending mirror.old.array p → IsPending mirror.new.array p }
+{
+    let count = len / 512;
+    let first = sectors_at_once(sector, count);
+    let front = &mut buffer[..512 * first as usize];
+    begin_pieces(alloc, mirror, sector, len, input, front)?;
+    *written = first;
+    while *written < count {
+        let at = sector + *written;
+        let sectors = sectors_at_once(at, count - *written);
+        let is_last = *written + sectors == count;
+        let piece = &mut buffer[..512 * sectors as usize];
+        copy_piece(mirror, at, input, piece, is_last)?;
+        *written += sectors;
+    }
+    Ok(())
+}
+
+// How many sectors a piece has that begins at this one, where so many are left.
+fn sectors_at_once(sector: u64, left: u64) -> u64
+    ensures { result ≡ sectors_at_once sector left }
+{
+    left.min(MOST_AT_ONCE - sector % MOST_AT_ONCE)
+}
+
+// Room for any piece of so many sectors.
+fn room_for_piece(alloc: Global, sectors: u64) -> Result<Vec<u8>, AllocError>
+    ensures { IfOk result (λ room. length room.items ≡ 512 * min sectors most_at_once) }
+{
+    vec![in alloc; 0; 512 * sectors.min(MOST_AT_ONCE) as usize]
+}
+
+// Takes the first piece, makes the array ready for all of them, and writes it.
+fn begin_pieces<D: Device + Drop, I: Source>(
+    alloc: Global,
+    mirror: &mut Mirror<D>,
+    sector: u64,
+    len: u64,
+    input: &mut I,
+    piece: &mut [u8],
+) -> Result<(), CommandFault>
+    requires whole { len % 512 ≡ 0 }
+    requires long { length piece.old ≡ 512 * sectors_at_once sector (len / 512) }
+    requires sound { IsConsistent mirror.old }
+    ensures gives { MatchResult result
+        (λ _. BeginsPieces I.Source sector len mirror.old mirror.new input.old input.new piece.new)
+        (RefusesPieces I.Source sector len 0 mirror.old mirror.new input.old input.new) }
+    ensures fits { IfOk result (λ _. sector + len / 512 < 2 ^ 64) }
+    ensures sound { IsConsistent mirror.new }
+    ensures pending { (p : PendingView) → IsPending mirror.old.array p → IsPending mirror.new.array p }
+{
+    let is_last = piece.len() as u64 == len;
+    take_piece(input, piece, is_last)?;
+    make_ready(alloc, mirror, sector, len / 512)?;
+    write(mirror, sector, piece).map_err(CommandFault::Write)?;
+    Ok(())
+}
+
+// Resyncs an array that needs it, and looks whether it has these sectors.
+fn make_ready<D: Device + Drop>(
+    alloc: Global,
+    mirror: &mut Mirror<D>,
+    sector: u64,
+    count: u64,
+) -> Result<(), CommandFault>
+    requires sound { IsConsistent mirror.old }
+    ensures gives { MatchResult result
+        (λ _. IsReadyForPieces sector count mirror.old mirror.new)
+        (RefusesReadying sector count mirror.old mirror.new) }
+    ensures fits { IfOk result (λ _. sector + count < 2 ^ 64) }
+    ensures sound { IsConsistent mirror.new }
+    ensures pending { (p : PendingView) → IsPending mirror.old.array p → IsPending mirror.new.array p }
+{
+    resync_if_needed(alloc, mirror).map_err(CommandFault::Resync)?;
+    if !is_in_range(mirror, sector, count) {
+        return Err(CommandFault::Write(BeginFault::OutOfRange));
+    }
+    Ok(())
+}
+
+// Takes a piece of the input, and writes it.
+fn copy_piece<D: Device + Drop, I: Source>(
+    mirror: &mut Mirror<D>,
+    sector: u64,
+    input: &mut I,
+    piece: &mut [u8],
+    is_last: bool,
+) -> Result<(), CommandFault>
+    requires whole { length piece.old % 512 ≡ 0 }
+    requires sound { IsConsistent mirror.old }
+    ensures gives { MatchResult result
+        (λ _. CopiesPiece I.Source sector is_last mirror.old mirror.new input.old input.new piece.new)
+        (RefusesToCopyPiece I.Source sector is_last (length piece.old) mirror.old mirror.new
+        input.old input.new) }
+    ensures sound { IsConsistent mirror.new }
+    ensures pending { (p : PendingView) → IsPending mirror.old.array p → IsPending mirror.new.array p }
+{
+    take_piece(input, piece, is_last)?;
+    write(mirror, sector, piece).map_err(CommandFault::Write)?;
+    Ok(())
+}
+
+// Takes as many bytes as the piece has, after which no byte comes if it is the last one.
+fn take_piece<I: Source>(input: &mut I, piece: &mut [u8], is_last: bool) -> Result<(), CommandFault>
+    ensures { MatchResult result
+        (λ _. TakesPiece I.Source is_last input.old input.new piece.new)
+        (FailsToTakePiece I.Source is_last (length piece.old) input.old input.new) }
+{
+    fill_piece(input, piece)?;
+    if is_last {
+        return check_end(input);
+    }
+    Ok(())
+}
+
+// Takes as many bytes as the piece has.
+fn fill_piece<I: Source>(input: &mut I, piece: &mut [u8]) -> Result<(), CommandFault>
+    ensures { MatchResult result
+        (λ _. Gives I.remaining I.failed input.old input.new piece.new)
+        (FailsToTakePiece I.Source false (length piece.old) input.old input.new) }
+{
+    let filled = fill_front(input, piece)?;
+    if filled < piece.len() {
+        return Err(CommandFault::BadLength);
+    }
+    Ok(())
+}
+
+// Fills the front of a piece with the next bytes, and answers how many they are: fewer than it has only where the input ended.
+fn fill_front<I: Source>(input: &mut I, piece: &mut [u8]) -> Result<usize, CommandFault>
+    ensures { MatchResult result
+        (FillsPieceTo I.Source input.old input.new piece.new)
+        (IsInputFault (FailsAfter I.Source (length piece.old) input.old input.new)) }
+{
+    let mut filled = 0;
+    while filled < piece.len() {
+        let taken = input.take(&mut piece[filled..])?;
+        if taken == 0 {
+            return Ok(filled);
+        }
+        filled += taken;
+    }
+    Ok(filled)
+}
+
+// Whether no byte comes any more.
+fn check_end<I: Source>(input: &mut I) -> Result<(), CommandFault>
+    ensures { MatchResult result
+        (λ _. HasEnded I.Source input.old input.new)
+        (FailsToEnd I.Source input.old input.new) }
+{
+    let mut byte = [0; 1];
+    if input.take(&mut byte)? > 0 {
+        return Err(CommandFault::BadLength);
+    }
+    Ok(())
+}
