@@ -248,7 +248,8 @@ class Mount:
         return reasons
 
     def close(self):
-        if self.process.poll() is None:
+        # The folder is freed also where nbdfuse has ended by itself: its mount may outlive it.
+        if self.process.poll() is None or self.is_mounted():
             # The package fuse3 may not be there; root mounts without it.
             helper = shutil.which("fusermount3") or shutil.which("fusermount")
             run_client([helper, "-u", str(self.folder)] if helper else ["umount", str(self.folder)])
@@ -257,3 +258,6 @@ class Mount:
             except subprocess.TimeoutExpired:
                 self.process.kill()
                 self.process.wait()
+
+    def is_mounted(self):
+        return any(line.split()[1] == str(self.folder) for line in Path("/proc/self/mounts").read_text().splitlines())

@@ -1,11 +1,8 @@
 -- What is shown and told of the arrays of which images are members.
-use Rattle.std.specs.Prelude.{◌≡◌, ◌⊎◌, ◌==◌, ℕ, Bool, true, false, not, ◌&&◌, ◌||◌, if◌then◌else◌, List, [], ◌++◌, codes, length, Result, Ok, Err}
+use Rattle.std.specs.Prelude.{◌≡◌, ◌⊎◌, ◌==◌, ℕ, Bool, true, false, not, ◌&&◌, if◌then◌else◌, List, [], ◌++◌, codes, length, Result, Ok, Err}
 use Rattle.std.specs.List.{flat_map, list_any}
 use Rattle.md_device.specs.declared.device.Device.{Ghosts}
-use Rattle.md_super.specs.declared.fault.SuperFault.TheVariants.{Magic}
-use Rattle.md_members.specs.declared.fault.MemberFault.TheVariants.{Super, TooShort}
 use Rattle.md_images.specs.declared.images.Images.{Ghosts as ImagesGhosts}
-use Rattle.md_images.specs.declared.image_fault.ImageFault.TheVariants.{Missing}
 use Rattle.md_commands.specs.Output.{ShowsText}
 use Rattle.md_commands.specs.declared.fault.CommandFault.{CommandFault}
 use Rattle.md_commands.specs.declared.fault.CommandFault.TheVariants.{NoMemory}
@@ -13,37 +10,18 @@ use Rattle.md_examine.specs.declared.sink.Sink.{Ghosts as SinkGhosts}
 use Rattle.md_examine.specs.ShownNames.Shown.{shown}
 use Rattle.md_examine_commands.specs.EachImage.{LooksAtAll, LooksInPart, Name}
 use Rattle.md_examine_commands.specs.Examining.{scan_shown}
-use Rattle.md_examine_commands.specs.declared.scan.seen.Seen.{Seen}
+use Rattle.md_examine_commands.specs.Unshown.{fault_word, is_told_why, may_be_member}
 use Rattle.md_examine_commands.specs.declared.scan.each_image.Looked.{Looked}
-use Rattle.md_examine_commands.specs.declared.scan.each_image.Refused.{Refused}
-use Rattle.md_examine_commands.specs.declared.scan.each_image.ScanFault.{ScanFault}
-use Rattle.md_examine_commands.specs.declared.scan.each_image.ScanFault.TheVariants.{Image, Member}
+use Rattle.md_examine_commands.specs.declared.scan.refused.Refused.{Refused}
 use Rattle.md_messages.specs.FaultText.Commands.{refusal_line}
-use Rattle.md_messages.specs.FaultText.Members.{member_refusal_text}
 use Rattle.md_messages.specs.Telling.{PutsTold, has_advice}
 use Rattle.md_cli.specs.declared.scanning.ScanOptions.{ScanOptions}
-
--- The image may be a member all the same: it is not read, or it has a superblock that is refused.
-abbrev pub may_be_member : ScanFault → Bool
-may_be_member (Member TooShort) = false
-may_be_member (Member (Super Magic)) = false
-may_be_member _ = true
-
--- Why an image shows no member is told though nobody named it: not where it is none, or has no node.
-abbrev pub is_news : ScanFault → Bool
-is_news (Image Missing) = false
-is_news why = may_be_member why
-
--- why an image shows no member, in a word
-abbrev pub fault_word : ScanFault → List ℕ
-fault_word (Image why) = codes "BadImage"
-fault_word (Member why) = member_refusal_text why
 
 unfoldable pub unshown_line : Refused → List ℕ
 unshown_line refused = shown refused.name.now ++ codes ": " ++ fault_word refused.fault ++ codes "\n"
 
 abbrev pub unshown_text : Bool → Refused → List ℕ
-unshown_text named refused = if named || is_news refused.fault then unshown_line refused else []
+unshown_text named refused = if is_told_why named refused then unshown_line refused else []
 
 abbrev pub unshown_lines : Bool → List Refused → List ℕ
 unshown_lines named all = flat_map (unshown_text named) all
@@ -71,7 +49,8 @@ module _ {S E : Type 0} (s : SinkGhosts S) (e : SinkGhosts E) (how : ScanOptions
   -- its line, then what to do, of which nothing is said here.
   pub record ShowsLooked : Type 0 where
     pub answer : Result (Unit {0}) CommandFault
-    pub shows : ShowsText s (scan_shown how.json found.seen.items) old new answer
+    pub shows : ShowsText s (scan_shown how.json how.is_named found.seen.items found.refused.items) old new
+        answer
     pub mid : E
     pub told : E
     pub lines : PutsTold e was mid (unshown_lines how.is_named found.refused.items)

@@ -3,16 +3,15 @@ ghost use Rattle.std.specs.Prelude.{◌≡◌, ℕ, List, false, true};
 ghost use Rattle.md_examine.specs.Sink.{PutsOrFails};
 ghost use Rattle.md_messages.specs.Telling.{has_advice};
 ghost use Rattle.std.specs.List.{list_any};
-ghost use Rattle.md_cli.specs.Scanning.{ScansImages, ShowsLooked, fault_word, is_complete, is_news, may_be_member, outcome_line, unshown_line, unshown_lines, unshown_text, scan_status};
+ghost use Rattle.md_examine_commands.specs.Unshown.{may_be_member};
+ghost use Rattle.md_cli.specs.Scanning.{ScansImages, ShowsLooked, is_complete, outcome_line, unshown_line, unshown_lines, unshown_text, scan_status};
 
 use crate::running::{DONE, REFUSED};
 use md_commands::CommandFault;
 use md_examine::{Sink, SinkFault, put_name};
 use md_examine_commands::{Looked, Refused, ScanFault, look_at_each, show_scan};
-use md_images::{ImageFault, ImageRefusal, Images};
-use md_members::MemberFault;
-use md_messages::{Messages, advise, put_fault_line, put_member};
-use md_super::SuperFault;
+use md_images::{ImageRefusal, Images};
+use md_messages::{Messages, advise, put_fault_line};
 use md_words::Command;
 use std::alloc::Global;
 use std::io::Write;
@@ -26,31 +25,10 @@ pub struct ScanOptions {
     pub messages: Messages,
 }
 
-// Whether the image may be a member all the same: it is not read, or it has a superblock that is refused.
-fn may_be_member(fault: &ScanFault) -> bool
-    ensures { result ≡ may_be_member fault.now }
-{
-    match fault {
-        ScanFault::Member(MemberFault::TooShort) => false,
-        ScanFault::Member(MemberFault::Super(SuperFault::Magic)) => false,
-        _ => true,
-    }
-}
-
-// Whether it is told why an image shows no member, where nobody named it: not where it is none, or has no node.
-fn is_news(fault: &ScanFault) -> bool
-    ensures { result ≡ is_news fault.now }
-{
-    match fault {
-        ScanFault::Image(ImageFault::Missing) => false,
-        _ => may_be_member(fault),
-    }
-}
-
 fn may_be_one_of(all: &[Refused<'_>]) -> bool
     ensures { result ≡ list_any (λ refused. may_be_member refused.fault) all.now }
 {
-    all.iter().any(|refused| may_be_member(&refused.fault))
+    all.iter().any(|refused| refused.fault.may_be_member())
 }
 
 // Whether an array was found, and all are shown that a person named and that may be members.
@@ -60,23 +38,13 @@ fn is_complete(is_named: bool, looked: &Looked<'_>) -> bool
     !looked.seen.is_empty() && !(is_named && may_be_one_of(looked.refused.as_slice()))
 }
 
-// The fault alone; of an image that can't be opened the advice says more.
-fn put_fault_word<E: Sink>(err: &mut E, fault: &ScanFault) -> Result<(), SinkFault>
-    ensures { PutsOrFails E.contents E.failed err.old err.new (fault_word fault.now) result }
-{
-    match fault {
-        ScanFault::Image(_) => err.put(b"BadImage"),
-        ScanFault::Member(fault) => put_member(err, *fault),
-    }
-}
-
 #[tactic(auto, unfolding(crate::specs::Scanning::unshown_line), using(md_examine::proofs::Puts::puts_then))]
 fn put_unshown_line<E: Sink>(err: &mut E, refused: &Refused<'_>) -> Result<(), SinkFault>
     ensures { PutsOrFails E.contents E.failed err.old err.new (unshown_line refused.now) result }
 {
     put_name(err, refused.name)?;
     err.put(b": ")?;
-    put_fault_word(err, &refused.fault)?;
+    refused.fault.put_word(err)?;
     err.put(b"\n")?;
     Ok(())
 }
@@ -84,7 +52,7 @@ fn put_unshown_line<E: Sink>(err: &mut E, refused: &Refused<'_>) -> Result<(), S
 fn put_refused<E: Sink>(err: &mut E, is_named: bool, refused: &Refused<'_>) -> Result<(), SinkFault>
     ensures { PutsOrFails E.contents E.failed err.old err.new (unshown_text is_named refused.now) result }
 {
-    if is_named || is_news(&refused.fault) {
+    if refused.is_told_why(is_named) {
         put_unshown_line(err, refused)
     } else {
         err.put(b"")
@@ -113,7 +81,7 @@ fn advise_on_each<E: Write>(how: ScanOptions, all: Vec<Refused<'_>>, err: &mut E
     }
     let command = Command::Scan { json: how.json };
     for refused in all {
-        if how.is_named || is_news(&refused.fault) {
+        if refused.is_told_why(how.is_named) {
             let fault = match refused.fault {
                 ScanFault::Image(fault) => {
                     CommandFault::BadImage(0, ImageRefusal::Unopened(fault))
@@ -160,7 +128,7 @@ fn show_looked<S: Sink, E: Write + Sink>(
     ensures shows { ShowsLooked S.Sink E.Sink how looked.entry out.old out.new err.old err.new result }
     ensures flushed { result ≡ 0 → S.is_flushed out.new }
 {
-    let shown = show_scan(how.json, looked.seen.as_slice(), out);
+    let shown = show_scan(how.json, how.is_named, &looked, out);
     let status = status_of_scan(how.is_named, &shown, &looked);
     let _ = put_each_refused(err, how.is_named, looked.refused.as_slice());
     let _ = put_outcome(err, &shown);

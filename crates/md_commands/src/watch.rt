@@ -26,7 +26,8 @@ pub trait Watch: Gate {
     fn begins_check(&self, sectors: u64)
         ensures { compares self.now sectors };
 
-    /// So many sectors of an input are written and stand, and the others are not: its write is refused.
+    /// So many sectors of an input are written and stand: the write of the next ones is refused. Of those some may be written too, on some
+    /// members.
     fn wrote(&self, sectors: u64)
         ensures { has_written self.now sectors };
 }

@@ -1,7 +1,9 @@
 -- An image that can't be opened, and one image more that is looked at.
-use Rattle.std.proofs.Common.{◌≡◌, ◌∙◌, ℕ, ◌+◌, ◌<◌, Bool, true, List, [], ◌∷◌, ◌++◌, Option, None, Result, Ok, Err, is_err, length, take, get_or, refl, sym, ap, subst, inl, inr, arith, append_assoc, append-nil, true≢false}
+use Rattle.std.proofs.Common.{◌≡◌, ◌≢◌, ◌∙◌, ℕ, ◌+◌, ◌<◌, Bool, true, List, [], ◌∷◌, ◌++◌, Option, None, Result, Ok, Err, is_err, length, take, get_or, refl, sym, ap, subst, inl, inr, arith, append_assoc, append-nil, true≢false}
 use Rattle.std.specs.Prelude.{MatchResult, IsErrAnd}
 use Rattle.std.proofs.lemmas.List.{length-append, length-take, take_all, take_more}
+use Rattle.std.proofs.lemmas.List.Elements.{All-push}
+use Rattle.md_members.specs.declared.fault.MemberFault.TheVariants.{NoMemory}
 use Rattle.md_device.specs.declared.device.Device.{Ghosts}
 use Rattle.md_images.specs.Images.{IsImageRefused}
 use Rattle.md_images.specs.declared.image_fault.ImageFault.{ImageFault}
@@ -9,10 +11,10 @@ use Rattle.md_images.specs.declared.images.Images.{Ghosts as ImagesGhosts}
 use Rattle.md_examine_commands.specs.Examining.{OthersStay}
 use Rattle.md_examine_commands.specs.declared.scan.seen.Seen.{Seen}
 use Rattle.md_examine_commands.specs.declared.scan.each_image.Looked.{Looked}
-use Rattle.md_examine_commands.specs.declared.scan.each_image.Refused.{Refused}
-use Rattle.md_examine_commands.specs.declared.scan.each_image.ScanFault.{ScanFault}
-use Rattle.md_examine_commands.specs.declared.scan.each_image.ScanFault.TheVariants.{Image}
-use Rattle.md_examine_commands.specs.EachImage.{LooksAt, LooksAtAll, LooksAtEach, LooksAtFirst, Name, RefusesToLook, Shown, refused_in, refused_of, seen_in, seen_of}
+use Rattle.md_examine_commands.specs.declared.scan.refused.Refused.{Refused}
+use Rattle.md_examine_commands.specs.declared.scan.refused.ScanFault.{ScanFault}
+use Rattle.md_examine_commands.specs.declared.scan.refused.ScanFault.TheVariants.{Image, Member}
+use Rattle.md_examine_commands.specs.EachImage.{AreKnownWhy, IsKnownWhy, LooksAt, LooksAtAll, LooksAtEach, LooksAtFirst, Name, RefusesToLook, Shown, refused_in, refused_of, seen_in, seen_of}
 
 -- an image that may always be looked at is refused where it has no device
 is_absent : {D : Type 0} (device : Option D) (fault : ImageFault) → IsImageRefused device true fault → device ≡ None
@@ -60,6 +62,11 @@ refused_more (n ∷ names) (x ∷ shown) name one e =
     ap (λ (t : List Refused). refused_in n x ++ t) (refused_more names shown name one (omega arith))
     ∙ sym (append_assoc (refused_in n x) (refused_of names shown) (refused_in name one))
 
+-- one refusal more, of an image of which it is known why
+pub known_more : (refused : List Refused) (name : Name) (one : Shown) → AreKnownWhy refused → IsKnownWhy one → AreKnownWhy (refused ++ refused_in name one)
+known_more refused name (Ok v) h known = subst AreKnownWhy (sym (append-nil refused)) h
+known_more refused name (Err f) h known = All-push (λ (one : Refused). one.fault ≢ Member NoMemory) refused (record { name = name; fault = f }) h (λ e. known (ap (λ (t : ScanFault). Err t) e))
+
 module _ {I D : Type 0} (i : ImagesGhosts I D) (g : Ghosts D) where
   pub each_more : (names : List Name) (before mid after : I) (shown : List Shown) (name : Name) (one : Shown)
       → LooksAtEach i g names before mid shown → LooksAt i g name.now mid after one
@@ -77,6 +84,7 @@ module _ {I D : Type 0} (i : ImagesGhosts I D) (g : Ghosts D) where
     pub first : LooksAtFirst i g names count before after shown
     pub seen : looked.seen.items ≡ seen_of (take count names) shown
     pub refused : looked.refused.items ≡ refused_of (take count names) shown
+    pub memory : AreKnownWhy looked.refused.items
 
   pub first_more : (names : List Name) (count : ℕ) (before mid after : I) (shown : List Shown) (name : Name) (one : Shown) → count < length names
       → LooksAtFirst i g names count before mid shown → get_or names count name ≡ name → LooksAt i g name.now mid after one
@@ -91,8 +99,9 @@ module _ {I D : Type 0} (i : ImagesGhosts I D) (g : Ghosts D) where
   pub one_more : (names : List Name) (count : ℕ) (before mid after : I) (looked new : Looked) (name : Name) (one : Shown) → count < length names
       → Looking names count before mid looked → get_or names count name ≡ name → LooksAt i g name.now mid after one
       → new.seen.items ≡ looked.seen.items ++ seen_in name one → new.refused.items ≡ looked.refused.items ++ refused_in name one
+      → IsKnownWhy one
       → Looking names (count + 1) before after new
-  one_more names count before mid after looked new name one lt so is last seen refused =
+  one_more names count before mid after looked new name one lt so is last seen refused known =
       let next : take (count + 1) names ≡ take count names ++ name ∷ [] = take_more names count name lt ∙ ap (λ (n : Name). take count names ++ n ∷ []) is in
       let cut = length-take count names in
       let long : length (take count names) ≡ count = omega (arith, lt, cut) in
@@ -102,6 +111,7 @@ module _ {I D : Type 0} (i : ImagesGhosts I D) (g : Ghosts D) where
         first = first_more names count before mid after so.shown name one lt so.first is last;
         seen = seen ∙ ap (λ (t : List Seen). t ++ seen_in name one) so.seen ∙ sym (seen_more (take count names) so.shown name one same) ∙ ap (λ (t : List Name). seen_of t (so.shown ++ one ∷ [])) (sym next);
         refused = refused ∙ ap (λ (t : List Refused). t ++ refused_in name one) so.refused ∙ sym (refused_more (take count names) so.shown name one same) ∙ ap (λ (t : List Name). refused_of t (so.shown ++ one ∷ [])) (sym next);
+        memory = subst AreKnownWhy (sym refused) (known_more looked.refused.items name one so.memory known);
       }
 
   -- all of them
@@ -114,4 +124,5 @@ module _ {I D : Type 0} (i : ImagesGhosts I D) (g : Ghosts D) where
         first = so.first;
         seen = so.seen ∙ ap (λ (t : List Name). seen_of t so.shown) whole;
         refused = so.refused ∙ ap (λ (t : List Name). refused_of t so.shown) whole;
+        memory = so.memory;
       }

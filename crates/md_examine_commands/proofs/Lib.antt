@@ -2,3 +2,7 @@
 mod Reported
 -- One image more that is looked at.
 mod ImagesLooked
+-- Texts in which no byte is escaped.
+mod PlainWords
+-- The object of a scan that finds no array.
+mod NoArray

@@ -1,19 +1,20 @@
 -- What reading the superblocks of images gives, one after another.
-use Rattle.std.specs.Prelude.{◌≡◌, ◌⊎◌, ℕ, Bool, true, List, [], ◌∷◌, ◌++◌, Some, None, Result, Ok, Err, MatchResult, length, take}
+use Rattle.std.specs.Prelude.{◌≡◌, ◌≢◌, ◌⊎◌, ℕ, All, Bool, true, List, [], ◌∷◌, ◌++◌, Some, None, Result, Ok, Err, MatchResult, length, take}
 use Rattle.std.specs.Borrow.{Bor}
 use Rattle.md_device.specs.declared.device.Device.{Ghosts}
 use Rattle.md_device.specs.declared.fault_list.Fault.{Fault}
 use Rattle.md_super.specs.declared.superblock.Superblock.{Superblock}
 use Rattle.md_device.specs.Failing.{EachNewFault}
 use Rattle.md_members.specs.Reading.{CallFails, IsReadOf, ReadsSuper, RefusesSuper}
+use Rattle.md_members.specs.declared.fault.MemberFault.TheVariants.{NoMemory}
 use Rattle.md_images.specs.declared.images.Images.{Ghosts as ImagesGhosts}
 use Rattle.md_images.specs.declared.image_fault.ImageFault.{ImageFault}
 use Rattle.md_examine_commands.specs.Examining.{OthersStay}
 use Rattle.md_examine_commands.specs.declared.scan.seen.Seen.{Seen}
 use Rattle.md_examine_commands.specs.declared.scan.each_image.Looked.{Looked}
-use Rattle.md_examine_commands.specs.declared.scan.each_image.Refused.{Refused}
-use Rattle.md_examine_commands.specs.declared.scan.each_image.ScanFault.{ScanFault}
-use Rattle.md_examine_commands.specs.declared.scan.each_image.ScanFault.TheVariants.{Image, Member}
+use Rattle.md_examine_commands.specs.declared.scan.refused.Refused.{Refused}
+use Rattle.md_examine_commands.specs.declared.scan.refused.ScanFault.{ScanFault}
+use Rattle.md_examine_commands.specs.declared.scan.refused.ScanFault.TheVariants.{Image, Member}
 
 -- what an image shows: a superblock, or why there is none
 abbrev pub Shown : Type 0
@@ -29,6 +30,14 @@ seen_in name (Err f) = []
 abbrev pub refused_in : Name → Shown → List Refused
 refused_in name (Ok v) = []
 refused_in name (Err f) = record { name = name; fault = f } ∷ []
+
+-- what an image shows is known: there was memory for it
+abbrev pub IsKnownWhy : Shown → Type 0
+IsKnownWhy shown = shown ≢ Err (Member NoMemory)
+
+-- no image is told as refused because there was no memory for what it shows
+abbrev pub AreKnownWhy : List Refused → Type 0
+AreKnownWhy refused = All (λ one. one.fault ≢ Member NoMemory) refused
 
 -- the superblocks, and the images that show none, of images and what they show
 unfoldable pub seen_of : List Name → List Shown → List Seen
@@ -95,6 +104,7 @@ module _ {I D : Type 0} (i : ImagesGhosts I D) (g : Ghosts D) where
     pub first : LooksAtFirst names (length names) before after shown
     pub seen : looked.seen.items ≡ seen_of names shown
     pub refused : looked.refused.items ≡ refused_of names shown
+    pub memory : AreKnownWhy looked.refused.items
 
   -- after some images there was no memory
   pub record LooksInPart (names : List Name) (before after : I) : Type 0 where

@@ -1,11 +1,12 @@
 -- What the commands that show one image give.
 use Rattle.md_device.specs.declared.device.Device.{Ghosts}
 use Rattle.md_device.specs.declared.fault_list.Fault.{Fault}
-use Rattle.std.specs.Prelude.{◌≡◌, ◌≢◌, ◌⊎◌, ℕ, Bool, true, false, List, Option, Some, None, Result, Err, MatchResult, take}
+use Rattle.std.specs.Prelude.{◌≡◌, ◌≢◌, ◌⊎◌, ℕ, Bool, true, false, List, ◌++◌, codes, Option, Some, None, Result, Err, MatchResult, take}
 use Rattle.md_badblocks.specs.declared.run.Run.{Run}
 use Rattle.md_super.specs.declared.superblock.Superblock.{Superblock as SuperblockValue}
 use Rattle.md_bitmap.specs.declared.header.BitmapHeader.{BitmapHeader}
 use Rattle.md_bitmap.specs.Marks.{Bitmap as BitmapValue}
+use Rattle.serde_json.specs.Written.{compact_text}
 use Rattle.md_members.specs.declared.info.MemberInfo.{MemberInfo}
 use Rattle.md_members.specs.declared.fault.MemberFault.TheVariants as member
 use Rattle.md_members.specs.Reading.{CallFails, ReadsSuper, RefusesSuper}
@@ -34,6 +35,8 @@ use Rattle.md_raw_reports.specs.declared.raw_members.read_parts.RawLog.{RawLog}
 use Rattle.md_words.specs.Asks.{Ask, examines, examines_badblocks, examines_bitmap}
 use Rattle.md_examine_commands.specs.ScanObject.{scan_object}
 use Rattle.md_examine_commands.specs.ScanText.{scan_text}
+use Rattle.md_examine_commands.specs.Unshown.{refused_value}
+use Rattle.md_examine_commands.specs.declared.scan.refused.Refused.{Refused}
 use Rattle.md_examine_commands.specs.declared.scan.seen.Seen.{Seen}
 use Rattle.md_words.specs.declared.form.ImageForm.TheVariants as form
 use Rattle.md_images.specs.declared.image_fault.ImageFault.{ImageFault}
@@ -63,10 +66,16 @@ abbrev pub badblocks_shown : Bool → List Run → List ℕ
 badblocks_shown true bad = object_line (badblocks_object bad)
 badblocks_shown false bad = badblocks_report bad
 
--- of which arrays images are members
-abbrev pub scan_shown : Bool → List Seen → List ℕ
-scan_shown true all = object_line (scan_object all)
-scan_shown false all = scan_text all
+-- of which arrays images are members, and as an object also which are none; `named` says that a person named them
+abbrev pub scan_shown : Bool → Bool → List Seen → List Refused → List ℕ
+scan_shown true named all refused = object_line (scan_object named all refused)
+scan_shown false named all refused = scan_text all
+
+-- the object where no image is a member: no array, and the images that it is told of
+abbrev pub no_array_line : Bool → List Refused → List ℕ
+no_array_line named refused =
+    codes "{\"report\":\"scan\",\"arrays\":[],\"refused\":" ++ compact_text (refused_value named refused)
+    ++ codes "}\n"
 
 -- A text of what a device of this content holds.
 module _ (content : List ℕ) (honest json : Bool) (text : List ℕ) where

@@ -1,5 +1,7 @@
 -- What the commands that show one image give.
 pub mod Examining
+-- Images that show no member.
+pub mod Unshown
 -- Of which arrays images are members, as text.
 pub mod ScanText
 -- The same as an object.

@@ -11,6 +11,8 @@ use Rattle.md_examine.specs.Lines.{name_text}
 use Rattle.md_report.specs.AsJson.MemberObjects.{number_or_null}
 use Rattle.md_report.specs.AsJson.Objects.{Field, field, list_of, object_of, report_of, whole}
 use Rattle.md_examine_commands.specs.ScanText.{decider, fills_role, fresher, is_same_array, is_told_before}
+use Rattle.md_examine_commands.specs.Unshown.{refused_value}
+use Rattle.md_examine_commands.specs.declared.scan.refused.Refused.{Refused}
 use Rattle.md_examine_commands.specs.declared.scan.seen.Seen.{Seen}
 
 abbrev pub state_word : MemberState → List ℕ
@@ -84,9 +86,13 @@ is_first_at all place = is_first_of all place (slice_get all place)
 abbrev pub first_places : List Seen → List ℕ
 first_places all = filter (is_first_at all) (range_with_len 0 (length all))
 
-unfoldable pub scan_fields : List Seen → List Field
-scan_fields all =
-    field (codes "arrays") (list_of (array_at_value all) (first_places all)) ∷ []
+abbrev pub arrays_value : List Seen → Data
+arrays_value all = list_of (array_at_value all) (first_places all)
 
-abbrev pub scan_object : List Seen → Data
-scan_object all = report_of (codes "scan") (scan_fields all ∷ [])
+-- the arrays, and the images that show no member
+unfoldable pub scan_fields : Bool → List Seen → List Refused → List Field
+scan_fields named all refused =
+    field (codes "arrays") (arrays_value all) ∷ field (codes "refused") (refused_value named refused) ∷ []
+
+abbrev pub scan_object : Bool → List Seen → List Refused → Data
+scan_object named all refused = report_of (codes "scan") (scan_fields named all refused ∷ [])

@@ -1,6 +1,6 @@
 -- Of which arrays images are members, as text: for each array an entry in the form of `mdadm --examine --scan --verbose`
 -- (mdadm.conf(5)), and comments in a form of this project's own.
-use Rattle.std.specs.Prelude.{◌==◌, ◌&&◌, ◌||◌, ◌+◌, ◌-◌, ◌/◌, ◌%◌, ℕ, Bool, false, nat_lt, not, is_none, if◌then◌else◌, List, [], ◌∷◌, ◌++◌, chars, codes, decimal, drop, length, position, slice_get, take, Option, Some, None}
+use Rattle.std.specs.Prelude.{◌==◌, ◌&&◌, ◌||◌, ◌+◌, ◌-◌, ◌/◌, ◌%◌, ℕ, Bool, false, nat_le, nat_lt, not, is_none, if◌then◌else◌, List, [], ◌∷◌, ◌++◌, chars, codes, count_by, decimal, drop, length, position, slice_get, take, Option, Some, None}
 use Rattle.std.specs.Char.{digit_char}
 use Rattle.std.specs.List.{flat_map, fold, list_any, range_with_len}
 use Rattle.std.specs.Str.{bytes_eq}
@@ -8,7 +8,7 @@ use Rattle.md_super.specs.declared.superblock.Superblock.{Superblock}
 use Rattle.md_assembly.specs.declared.state.MemberState.{MemberState}
 use Rattle.md_assembly.specs.declared.state.MemberState.TheVariants.{InSync, Recovering, Stale, Spare, Faulty}
 use Rattle.md_assembly.specs.Assembled.{tells_otherwise}
-use Rattle.md_assembly.specs.States.{is_in_sync, role_of, state_of}
+use Rattle.md_assembly.specs.States.{is_in_sync, role_in, role_of, state_of}
 use Rattle.md_examine.specs.Lines.{name_text}
 use Rattle.md_examine.specs.ShownNames.Shown.{is_hidden, shown}
 use Rattle.md_examine_commands.specs.declared.scan.seen.Seen.{Seen}
@@ -22,11 +22,10 @@ is_same_array v seen = bytes_eq v.set_uuid seen.superblock.set_uuid
 abbrev pub is_told_before : Seen → List Seen → Bool
 is_told_before seen before = list_any (is_same_array seen.superblock) before
 
--- of the same device
+-- Of the same device, whatever its number: mdadm draws the device UUID of each new member at random. The kernel ignores it (md_p.h), and
+-- takes two copies of different numbers for two devices.
 abbrev pub is_twin : Superblock → Seen → Bool
-is_twin v seen =
-    is_same_array v seen && (v.dev_number == seen.superblock.dev_number)
-    && bytes_eq v.device_uuid seen.superblock.device_uuid
+is_twin v seen = is_same_array v seen && bytes_eq v.device_uuid seen.superblock.device_uuid
 
 -- of two of an array the one with more events, and where they have as many the first
 abbrev pub is_fresher : Superblock → Seen → Bool
@@ -133,6 +132,21 @@ named_array_line v name =
 abbrev pub array_line : Superblock → List ℕ
 array_line v = named_array_line v (name_text v.set_name)
 
+-- A device that has no place in the array by its own superblock: a spare, one that failed, or a journal, whose roles md_p.h has as
+-- MD_DISK_ROLE_SPARE, _FAULTY and _JOURNAL. mdadm counts each of them as a spare.
+abbrev pub has_no_place : Superblock → Bool
+has_no_place own = nat_le 0xfffd (role_in own own.dev_number)
+
+abbrev pub is_counted_spare : Superblock → Seen → Bool
+is_counted_spare v seen = is_same_array v seen && has_no_place seen.superblock
+
+abbrev pub spare_count_text : ℕ → List ℕ
+spare_count_text count = if count == 0 then [] else codes "   spares=" ++ decimal count
+
+-- how many spares the array has
+abbrev pub spares_text : Superblock → List Seen → List ℕ
+spares_text v all = spare_count_text (count_by (is_counted_spare v) all)
+
 -- the images of an array
 abbrev pub later_device : Superblock → Seen → List ℕ
 later_device v seen = if is_same_array v seen then codes "," ++ device_word seen.name.now else []
@@ -208,9 +222,21 @@ twin_comment v first seen =
     slot_comment (state_of v seen.superblock) ++ shown first.name.now ++ codes " and " ++ shown seen.name.now
     ++ codes " both, with one device UUID: clones?\n"
 
+-- two images of one device, which has another number by each
+unfoldable pub renumbered_comment : Seen → Seen → List ℕ
+renumbered_comment first seen =
+    codes "# " ++ shown first.name.now ++ codes " and " ++ shown seen.name.now
+    ++ (codes " have one device UUID, under the numbers " ++ decimal first.superblock.dev_number)
+    ++ (codes " and " ++ decimal seen.superblock.dev_number) ++ codes ": clones?\n"
+
+abbrev pub copies_comment : Superblock → Seen → Seen → List ℕ
+copies_comment v first seen =
+    if first.superblock.dev_number == seen.superblock.dev_number then twin_comment v first seen
+    else renumbered_comment first seen
+
 abbrev pub twin_of : Superblock → Seen → Option Seen → List ℕ
 twin_of v seen None = []
-twin_of v seen (Some first) = twin_comment v first seen
+twin_of v seen (Some first) = copies_comment v first seen
 
 -- the first image before this place that is of the same device
 abbrev pub twin_before : List Seen → ℕ → Seen → Option Seen
@@ -235,7 +261,7 @@ comments v all =
 -- ---- all arrays
 -- an array whose first image is this one, which the rest follows
 abbrev pub decided : Superblock → Seen → List Seen → List Seen → List ℕ
-decided v first rest all = array_line v ++ devices_line first rest ++ comments v all
+decided v first rest all = array_line v ++ spares_text v all ++ devices_line first rest ++ comments v all
 
 unfoldable pub array_text : Seen → List Seen → List Seen → List ℕ
 array_text first rest all = decided (decider all (fold fresher first.superblock rest)) first rest all

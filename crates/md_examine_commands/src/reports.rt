@@ -1,9 +1,9 @@
 // The reports on one image are put out, and what the output holds back of them is passed on.
-ghost use Rattle.std.specs.Prelude.{◌≤◌};
+ghost use Rattle.std.specs.Prelude.{◌≡◌, ◌≤◌, [], true};
 ghost use Rattle.md_commands.specs.Output.{ShowsText};
-ghost use Rattle.md_examine_commands.specs.Examining.{badblocks_shown, bitmap_shown, raw_bitmap_shown, raw_log_shown, raw_superblock_shown, scan_shown, superblock_shown};
+ghost use Rattle.md_examine_commands.specs.Examining.{badblocks_shown, bitmap_shown, no_array_line, raw_bitmap_shown, raw_log_shown, raw_superblock_shown, scan_shown, superblock_shown};
 
-use crate::scan::{Seen, scan_json, scan_report};
+use crate::scan::{Looked, Refused, Seen, scan_json, scan_report};
 use md_badblocks::BadSet;
 use md_bitmap::{BitmapHeader, Marks};
 use md_commands::CommandFault;
@@ -67,12 +67,39 @@ pub(crate) fn put_badblocks<S: Sink>(
     Ok(())
 }
 
-/// Shows of which arrays images are members, by their superblocks.
-pub fn show_scan<S: Sink>(json: bool, seen: &[Seen<'_>], out: &mut S) -> Result<(), CommandFault>
-    ensures { ShowsText S.Sink (scan_shown json seen.now) out.old out.new result }
+/// Shows of which arrays images are members, by their superblocks; as an object also which of them show no member, and why, of
+/// those that a person named, or where that is news. Where none is a member the object says so.
+pub fn show_scan<S: Sink>(
+    json: bool,
+    is_named: bool,
+    looked: &Looked<'_>,
+    out: &mut S,
+) -> Result<(), CommandFault>
+    ensures shows { ShowsText S.Sink
+        (scan_shown json is_named looked.now.seen.items looked.now.refused.items) out.old out.new result }
+    ensures nothing { json ≡ true → looked.now.seen.items ≡ [] → ShowsText S.Sink
+        (no_array_line is_named looked.now.refused.items) out.old out.new result }
+{
+    put_scan(
+        json,
+        is_named,
+        looked.seen.as_slice(),
+        looked.refused.as_slice(),
+        out,
+    )
+}
+
+fn put_scan<S: Sink>(
+    json: bool,
+    is_named: bool,
+    seen: &[Seen<'_>],
+    refused: &[Refused<'_>],
+    out: &mut S,
+) -> Result<(), CommandFault>
+    ensures { ShowsText S.Sink (scan_shown json is_named seen.now refused.now) out.old out.new result }
 {
     if json {
-        scan_json(out, seen)?;
+        scan_json(out, is_named, seen, refused)?;
         out.flush()?;
         return Ok(());
     }

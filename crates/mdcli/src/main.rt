@@ -163,12 +163,14 @@ fn main(rt: HostRuntime) -> ExitCode {
 
 // Of an input that was not written to its end it is said how many sectors stand, where some do.
 fn tell_standing<E: Write>(sectors: u64, err: &mut E) {
-    if sectors > 0 {
-        let _ = writeln!(
+    let _ = match sectors {
+        0 => Ok(()),
+        1 => writeln!(err, "mdcli: the first sector of the input is written"),
+        _ => writeln!(
             err,
             "mdcli: the first {sectors} sectors of the input are written"
-        );
-    }
+        ),
+    };
 }
 
 // Whether the report is a JSON object.

@@ -1,8 +1,8 @@
 // The entry of an array, as mdadm.conf has it.
-ghost use Rattle.std.specs.Prelude.{◌≡◌};
+ghost use Rattle.std.specs.Prelude.{◌≡◌, count_by};
 ghost use Rattle.std.specs.List.{flat_map};
 ghost use Rattle.md_examine.specs.Sink.{PutsOrFails};
-ghost use Rattle.md_examine_commands.specs.ScanText.{array_line, colon_place, devices_line, later_device, local_name, name_words, named_array_line, node_byte, node_text, path_text};
+ghost use Rattle.md_examine_commands.specs.ScanText.{array_line, colon_place, spare_count_text, devices_line, has_no_place, is_counted_spare, later_device, local_name, name_words, named_array_line, node_byte, node_text, path_text, spares_text};
 
 use crate::scan::conf_words::{put_device, put_id, put_word};
 use crate::scan::seen::{Seen, is_same_array};
@@ -102,6 +102,49 @@ fn put_name_words<S: Sink>(out: &mut S, name: &[u8]) -> Result<(), SinkFault>
     out.put(b" name=")?;
     put_word(out, name)?;
     Ok(())
+}
+
+// The least of the roles that are no place in an array: that of a journal (`MD_DISK_ROLE_JOURNAL` of `md_p.h`). Those of a device
+// that failed and of a spare come after it.
+const LEAST_WITHOUT_PLACE: u16 = 0xfffd;
+
+/// How many spares the array has, where there are some, at the head of the line with its images. As in mdadm each superblock tells of
+/// its own device alone.
+pub(crate) fn put_spares<S: Sink>(
+    out: &mut S,
+    v: &Superblock,
+    all: &[Seen<'_>],
+) -> Result<(), SinkFault>
+    ensures { PutsOrFails S.contents S.failed out.old out.new (spares_text v.now all.now) result }
+{
+    put_count(out, spare_count(v, all))
+}
+
+fn put_count<S: Sink>(out: &mut S, count: usize) -> Result<(), SinkFault>
+    ensures { PutsOrFails S.contents S.failed out.old out.new (spare_count_text count) result }
+{
+    if count == 0 {
+        return out.put(b"");
+    }
+    number_after(out, b"   spares=", count)
+}
+
+fn spare_count(v: &Superblock, all: &[Seen<'_>]) -> usize
+    ensures { result ≡ count_by (is_counted_spare v.now) all.now }
+{
+    all.iter().filter(|seen| is_counted_spare(v, seen)).count()
+}
+
+fn is_counted_spare(v: &Superblock, seen: &Seen<'_>) -> bool
+    ensures { result ≡ is_counted_spare v.now seen.now }
+{
+    is_same_array(v, seen) && has_no_place(&seen.superblock)
+}
+
+fn has_no_place(own: &Superblock) -> bool
+    ensures { result ≡ has_no_place own.now }
+{
+    own.role_of(own.dev_number) >= LEAST_WITHOUT_PLACE
 }
 
 /// The line with the images of an array: the first one, and those of the array that follow.

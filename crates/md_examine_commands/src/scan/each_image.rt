@@ -2,30 +2,15 @@
 ghost use Rattle.std.specs.Prelude.{◌≡◌, ◌<◌, ◌++◌, ℕ, IfOk, List, Some, length, slice_get, true};
 ghost use Rattle.md_device.specs.Failing.{EachNewFault};
 ghost use Rattle.md_members.specs.Reading.{CallFails, IsReadOf};
-ghost use Rattle.md_examine_commands.specs.EachImage.{GivesShown, LooksAt, LooksAtSome, refused_in, seen_in};
+ghost use Rattle.md_examine_commands.specs.EachImage.{GivesShown, IsKnownWhy, LooksAt, LooksAtSome, refused_in, seen_in};
 
+use crate::scan::refused::{Refused, ScanFault};
 use crate::scan::seen::Seen;
 use md_device::Device;
-use md_images::{Access, ImageFault, Images};
+use md_images::{Access, Images};
 use md_members::{MemberFault, read_super};
 use md_super::Superblock;
 use std::alloc::{AllocError, Global};
-
-/// Why an image shows no member.
-#[derive(Debug, Drop)]
-pub enum ScanFault {
-    /// It can't be opened.
-    Image(ImageFault),
-    /// Its superblock is not read, or refused.
-    Member(MemberFault),
-}
-
-/// An image that shows no member, and why.
-#[derive(Debug, Drop)]
-pub struct Refused<'a> {
-    pub name: &'a str,
-    pub fault: ScanFault,
-}
 
 /// What images show, in their order: superblocks, and why there is none.
 #[derive(Drop)]
@@ -41,6 +26,7 @@ impl<'a> Looked<'a> {
             self.new.seen.items ≡ self.old.seen.items ++ seen_in name.entry shown) }
         ensures refused { IfOk result (λ _.
             self.new.refused.items ≡ self.old.refused.items ++ refused_in name.entry shown) }
+        ensures memory { IfOk result (λ _. IsKnownWhy shown) }
     {
         match shown {
             Ok(superblock) => self.seen.push(Seen { name, superblock })?,
@@ -82,7 +68,7 @@ fn read_shown<D: Device>(alloc: Global, device: &mut D) -> Result<Superblock, Sc
 }
 
 /// Reads the superblock of each image. They are only looked at, one after another; `AllocError` comes where there is no memory
-/// for what they show.
+/// for what they show, so that none of them is told as refused for that.
 pub fn look_at_each<'a, I: Images>(
     alloc: Global,
     images: &mut I,

@@ -2,7 +2,7 @@
 ghost use Rattle.std.specs.Prelude.{◌≡◌, ◌<◌, ◌++◌, codes, decimal, length, position};
 ghost use Rattle.std.specs.List.{flat_map, list_any, range_with_len};
 ghost use Rattle.md_examine.specs.Sink.{PutsOrFails};
-ghost use Rattle.md_examine_commands.specs.ScanText.{behind_comment, comments, fills_role, is_in_role, is_other, is_twin, member_comment, member_comment_in, missing_comment, other_comment, place_comment, role_comments, role_member_comment, slot_comment, standing_comment, twin_at, twin_comment, twins};
+ghost use Rattle.md_examine_commands.specs.ScanText.{behind_comment, comments, copies_comment, fills_role, is_in_role, is_other, is_twin, member_comment, member_comment_in, missing_comment, other_comment, place_comment, renumbered_comment, role_comments, role_member_comment, slot_comment, standing_comment, twin_at, twin_comment, twins};
 
 use crate::scan::seen::{Seen, is_same_array, is_twin};
 use md_assembly::{MemberState, state_of};
@@ -264,7 +264,7 @@ fn put_twin_at<S: Sink>(
         return out.put(b"");
     }
     match first_twin(&seen.superblock, &all[..place]) {
-        Some(first) => put_twin(out, v, &all[first], seen),
+        Some(first) => put_copies(out, v, &all[first], seen),
         None => out.put(b""),
     }
 }
@@ -273,6 +273,41 @@ fn first_twin(v: &Superblock, all: &[Seen<'_>]) -> Option<usize>
     ensures { result ≡ position (is_twin v.now) all.now }
 {
     all.iter().position(|seen| is_twin(v, seen))
+}
+
+fn put_copies<S: Sink>(
+    out: &mut S,
+    v: &Superblock,
+    first: &Seen<'_>,
+    seen: &Seen<'_>,
+) -> Result<(), SinkFault>
+    ensures { PutsOrFails S.contents S.failed out.old out.new
+        (copies_comment v.now first.now seen.now) result }
+{
+    if first.superblock.dev_number == seen.superblock.dev_number {
+        put_twin(out, v, first, seen)
+    } else {
+        put_renumbered(out, first, seen)
+    }
+}
+
+// The role by one number may be no role by the other, so that none is named.
+#[tactic(auto, unfolding(crate::specs::ScanText::renumbered_comment), using(md_examine::proofs::Puts::puts_then))]
+fn put_renumbered<S: Sink>(out: &mut S, first: &Seen<'_>, seen: &Seen<'_>) -> Result<(), SinkFault>
+    ensures { PutsOrFails S.contents S.failed out.old out.new (renumbered_comment first.now seen.now) result }
+{
+    out.put(b"# ")?;
+    put_name(out, first.name)?;
+    out.put(b" and ")?;
+    put_name(out, seen.name)?;
+    number_after(
+        out,
+        b" have one device UUID, under the numbers ",
+        first.superblock.dev_number,
+    )?;
+    number_after(out, b" and ", seen.superblock.dev_number)?;
+    out.put(b": clones?\n")?;
+    Ok(())
 }
 
 #[tactic(auto, unfolding(crate::specs::ScanText::twin_comment), using(md_examine::proofs::Puts::puts_then))]

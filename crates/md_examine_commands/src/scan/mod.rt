@@ -12,11 +12,14 @@ mod array_entry;
 mod conf_words;
 mod each_image;
 mod member_comments;
+mod refused;
+mod refused_list;
 mod report;
 mod scan_object;
 mod seen;
 
-pub use each_image::{Looked, Refused, ScanFault, look_at_each};
+pub use each_image::{Looked, look_at_each};
+pub use refused::{Refused, ScanFault};
 pub use report::scan_report;
 pub use scan_object::scan_json;
 pub use seen::Seen;

@@ -3,7 +3,7 @@ ghost use Rattle.std.specs.Prelude.{◌≡◌, ◌<◌, length};
 ghost use Rattle.md_examine.specs.Sink.{PutsOrFails};
 ghost use Rattle.md_examine_commands.specs.ScanText.{array_at, array_text, is_told_before, scan_text};
 
-use crate::scan::array_entry::{put_array_line, put_devices_line};
+use crate::scan::array_entry::{put_array_line, put_devices_line, put_spares};
 use crate::scan::member_comments::put_comments;
 use crate::scan::seen::{Seen, decider, is_same_array};
 use md_examine::{Sink, SinkFault};
@@ -39,7 +39,6 @@ pub(crate) fn is_told_before(seen: &Seen<'_>, before: &[Seen<'_>]) -> bool
         .any(|earlier| is_same_array(&seen.superblock, earlier))
 }
 
-#[tactic(auto, unfolding(crate::specs::ScanText::array_text), using(md_examine::proofs::Puts::puts_then))]
 fn put_array<S: Sink>(
     out: &mut S,
     first: &Seen<'_>,
@@ -50,6 +49,7 @@ fn put_array<S: Sink>(
 {
     let v = decider(&first.superblock, rest, all);
     put_array_line(out, v)?;
+    put_spares(out, v, all)?;
     put_devices_line(out, first, rest)?;
     put_comments(out, v, all)?;
     Ok(())

@@ -7,10 +7,12 @@ ghost use Rattle.md_assembly.specs.States.{role_of, state_of};
 ghost use Rattle.md_examine.specs.Sink.{PutsOrFails};
 ghost use Rattle.md_report.specs.AsJson.MemberObjects.{number_or_null};
 ghost use Rattle.md_report.specs.AsJson.Objects.{elements_text, later_text, list_of, next_text, object_line, whole};
-ghost use Rattle.md_examine_commands.specs.ScanObject.{array_at_value, first_places, is_first_at, is_unseen_role, members_value, scan_array_object, scan_fields, scan_member_object, scan_member_object_in, scan_object, state_word, unseen_roles};
+ghost use Rattle.md_examine_commands.specs.ScanObject.{array_at_value, arrays_value, first_places, is_first_at, is_unseen_role, members_value, scan_array_object, scan_fields, scan_member_object, scan_member_object_in, scan_object, state_word, unseen_roles};
 ghost use Rattle.md_examine_commands.specs.ScanText.{decider, fresher, is_same_array};
 
 use crate::scan::member_comments::is_taken;
+use crate::scan::refused::Refused;
+use crate::scan::refused_list::put_refused_list;
 use crate::scan::report::is_told_before;
 use crate::scan::seen::{Seen, decider, is_same_array};
 use itoa::Buffer;
@@ -22,19 +24,40 @@ use md_report::as_json::values::{
 };
 use md_super::Superblock;
 
-/// Writes of which arrays images are members as an object, alone in its line. It takes no memory, and fails only where the
-/// sink has failed.
-pub fn scan_json<S: Sink>(out: &mut S, all: &[Seen<'_>]) -> Result<(), SinkFault>
-    ensures { PutsOrFails S.contents S.failed out.old out.new (object_line (scan_object all.now)) result }
+/// Writes of which arrays images are members, and which are none, as an object, alone in its line. It takes no memory, and fails
+/// only where the sink has failed.
+pub fn scan_json<S: Sink>(
+    out: &mut S,
+    is_named: bool,
+    all: &[Seen<'_>],
+    refused: &[Refused<'_>],
+) -> Result<(), SinkFault>
+    ensures { PutsOrFails S.contents S.failed out.old out.new
+        (object_line (scan_object is_named all.now refused.now)) result }
 {
     open(out, "scan")?;
-    put_arrays(out, all)?;
+    put_lists(out, is_named, all, refused)?;
     close(out)?;
     Ok(())
 }
 
+fn put_lists<S: Sink>(
+    out: &mut S,
+    is_named: bool,
+    all: &[Seen<'_>],
+    refused: &[Refused<'_>],
+) -> Result<(), SinkFault>
+    ensures { PutsOrFails S.contents S.failed out.old out.new
+        (later_text (scan_fields is_named all.now refused.now)) result }
+{
+    put_arrays(out, all)?;
+    put_refused_list(out, is_named, refused)?;
+    Ok(())
+}
+
 fn put_arrays<S: Sink>(out: &mut S, all: &[Seen<'_>]) -> Result<(), SinkFault>
-    ensures { PutsOrFails S.contents S.failed out.old out.new (later_text (scan_fields all.now)) result }
+    ensures { PutsOrFails S.contents S.failed out.old out.new
+        (next_text (codes "arrays") (compact_text (arrays_value all.now))) result }
 {
     next_key(out, "arrays")?;
     out.put(b"[")?;
@@ -64,7 +87,8 @@ fn is_first(all: &[Seen<'_>], place: usize) -> bool
     !is_told_before(&all[place], &all[..place])
 }
 
-fn stands_before(later: bool, is_there: bool) -> bool
+/// Whether an element stands before the next one.
+pub(crate) fn stands_before(later: bool, is_there: bool) -> bool
     ensures { result ≡ (later || is_there) }
 {
     later || is_there

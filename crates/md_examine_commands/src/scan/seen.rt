@@ -30,13 +30,11 @@ pub(crate) fn is_same_array(v: &Superblock, seen: &Seen<'_>) -> bool
     same_id(&v.set_uuid, &seen.superblock.set_uuid)
 }
 
-/// Whether it is of the same device as this superblock.
+/// Whether it is of the same device as this superblock, whatever its number: no two devices have one device UUID.
 pub(crate) fn is_twin(v: &Superblock, seen: &Seen<'_>) -> bool
     ensures { result ≡ is_twin v.now seen.now }
 {
-    is_same_array(v, seen)
-        && v.dev_number == seen.superblock.dev_number
-        && same_id(&v.device_uuid, &seen.superblock.device_uuid)
+    is_same_array(v, seen) && same_id(&v.device_uuid, &seen.superblock.device_uuid)
 }
 
 fn is_fresher(best: &Superblock, seen: &Seen<'_>) -> bool

@@ -37,7 +37,7 @@ pub(crate) fn advice(fault: &CommandFault) -> &'static str {
             "nothing was overwritten: name another image, or answer `yes`, which `--run` does"
         }
         CommandFault::InputFault =>
-            "see why its file or program fails; where `write` has written some of it, it says how much",
+            "see why its file or program fails; where `write` has written some of it, it says how much: run `resync` then",
         CommandFault::BadLength => "give it a multiple of 512 bytes, of a file that stays as it is",
         CommandFault::OutOfRange => WITHIN_ARRAY,
         CommandFault::BadMember => {

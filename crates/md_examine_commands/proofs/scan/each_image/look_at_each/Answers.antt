@@ -1,13 +1,17 @@
-use Rattle.std.proofs.Common.{◌≡◌, ◌∙◌, ◌+◌, ◌∷◌, ◌++◌, [], refl, arith, length, get_or}
+use Rattle.std.proofs.Common.{◌≡◌, ◌≢◌, ◌∙◌, ◌+◌, ◌∷◌, ◌++◌, [], refl, sym, subst, arith, length, get_or}
+use Rattle.std.proofs.lemmas.List.Elements.{All-nil}
 use Rattle.std.proofs.lemmas.Option.{get_or_from_slice_get}
-use Rattle.md_examine_commands.specs.EachImage.{refused_of, seen_of}
+use Rattle.md_members.specs.declared.fault.MemberFault.TheVariants.{NoMemory}
+use Rattle.md_examine_commands.specs.declared.scan.refused.Refused.{Refused}
+use Rattle.md_examine_commands.specs.declared.scan.refused.ScanFault.TheVariants.{Member}
+use Rattle.md_examine_commands.specs.EachImage.{AreKnownWhy, refused_of, seen_of}
 use Rattle.md_examine_commands.proofs.ImagesLooked.{all_looked, first_more, one_more}
 use Rattle.md_examine_commands.proofs.scan.each_image.look_at_each.Goals as goal
 
 pub loop-place-init : goal.loop-place-init
 unfolding seen_of refused_of
 loop-place-init g c = record {
-  looking = record { shown = []; first = record { many = refl; each = refl }; seen = c.new-seen.ensures.items; refused = c.new-refused.ensures.items };
+  looking = record { shown = []; first = record { many = refl; each = refl }; seen = c.new-seen.ensures.items; refused = c.new-refused.ensures.items; memory = subst AreKnownWhy (sym c.new-refused.ensures.items) (All-nil (λ (one : Refused). one.fault ≢ Member NoMemory)) };
   known = refl;
   asked = λ k n. refl;
 }
@@ -20,7 +24,7 @@ loop-place-preserved g c =
     let inv = c.loop-place.invariant in
     let here : get_or names place name ≡ name = get_or_from_slice_get names place name name c.name_at-name.ensures in
     record {
-      looking = one_more g.I.Images g.I.Dev.Device names place c.args.images.now c.loop-place.images c.look_at-shown.new.images c.loop-place.looked c.add.new.self name c.look_at-shown.result c.loop-place-test.true inv.looking here c.look_at-shown.ensures.looks c.in-Ok.ensures.seen c.in-Ok.ensures.refused;
+      looking = one_more g.I.Images g.I.Dev.Device names place c.args.images.now c.loop-place.images c.look_at-shown.new.images c.loop-place.looked c.add.new.self name c.look_at-shown.result c.loop-place-test.true inv.looking here c.look_at-shown.ensures.looks c.in-Ok.ensures.seen c.in-Ok.ensures.refused c.in-Ok.ensures.memory;
       known = c.look_at-shown.ensures.known ∙ inv.known;
       asked = λ k n. c.look_at-shown.ensures.asked (inv.known ∙ k) n ∙ inv.asked k n;
     }

@@ -6,5 +6,5 @@ use Rattle.md_examine_commands.proofs.scan.scan_object.scan_json.Goals as goal
 
 pub returns : goal.returns
 returns g c =
-    puts_report g.S.Sink.contents g.S.Sink.failed (codes "scan") (scan_fields c.args.all.now ∷ [])
-    c.in_ok-open.ensures (puts_then g.S.Sink.contents g.S.Sink.failed c.in_ok-put_arrays.ensures c.in_ok-close.ensures)
+    puts_report g.S.Sink.contents g.S.Sink.failed (codes "scan") (scan_fields c.args.is_named c.args.all.now c.args.refused.now ∷ [])
+    c.in_ok-open.ensures (puts_then g.S.Sink.contents g.S.Sink.failed c.in_ok-put_lists.ensures c.in_ok-close.ensures)
