@@ -1,9 +1,14 @@
 -- Of a halted mirror nothing is done any more.
-use Rattle.std.proofs.Common.{◌≡◌, ◌∙◌, inl, inr, ⊎_elim, ℕ, Bool, true, false, List, [], ◌∷◌, sym, ap, subst, arith, true≢false}
-use Rattle.std.specs.Prelude.{slice_index_or}
+use Rattle.std.proofs.Common.{◌≡◌, ◌∙◌, inl, inr, ⊎_elim, ℕ, Bool, true, false, List, [], ◌∷◌, Result, Ok, Err, refl, sym, ap, arith, true≢false}
+use Rattle.std.specs.Prelude.{MatchResult, slice_index_or}
 use Rattle.md_faults.specs.declared.step_fault.BeginFault.{BeginFault}
 use Rattle.md_faults.specs.declared.step_fault.BeginFault.TheVariants as begin
 use Rattle.md_state.specs.View.{MirrorView}
+use Rattle.md_metadata.specs.declared.stop_fault.StopFault.{StopFault}
+use Rattle.md_metadata.specs.declared.stop_fault.StopFault.TheVariants as stop
+use Rattle.md_metadata.specs.Stopping.{RefusesStop}
+use Rattle.md_commands.specs.declared.fault.CommandFault.{CommandFault}
+use Rattle.md_commands.specs.declared.fault.CommandFault.TheVariants.{Stop}
 use Rattle.md_read.specs.declared.fault.UnreadFault.{UnreadFault}
 use Rattle.md_read.specs.declared.fault.UnreadFault.TheVariants as unread
 use Rattle.md_read.specs.Reading.{RefusesRead}
@@ -16,8 +21,9 @@ use Rattle.md_nbd.specs.NbdTasks.{task_of}
 use Rattle.md_nbd.specs.SimpleReplies.{error_reply, success_reply}
 use Rattle.md_nbd.specs.Server.Exchanges.{AnswersInTurn, AnswersRequest, DoesTask, Exchange}
 use Rattle.md_serve_commands.specs.declared.writer.ArrayWriter.{ArrayWriter}
-use Rattle.md_serve_commands.specs.Waiting.{FailsToClear, FailsToFlush, FailsToRead, FailsWaiting, FailsToTake, ReadsBehind, WritesWaiting, TakesWrite, writer_store}
-use Rattle.md_serve_commands.specs.Told.{IsForArray}
+use Rattle.md_serve_commands.specs.Waiting.{FailsToClear, FailsToFlush, FailsToRead, FailsWaiting, FailsToTake, ReadsBehind, RefusesWaiting, WritesWaiting, TakesWrite, writer_store}
+use Rattle.md_serve_commands.specs.Writable.{StopsThen, told_after}
+use Rattle.md_serve_commands.specs.Told.{HaltsEnd, IsForArray}
 
 -- ---- a reply without an error is none with one
 pub not_both : (cookie : ℕ) → success_reply cookie ≡ error_reply Io cookie → ⊥
@@ -110,3 +116,32 @@ session_halted e old new [] halted h = ap (λ (p : ArrayWriter × MirrorView). p
 session_halted e old new (x ∷ xs) halted h =
     let first = (request_halted e old h.0 x halted h.1).0 in
     session_halted e h.0 new xs (ap (λ (v : MirrorView). v.array.halted) first ∙ halted) h.2 ∙ first
+
+-- ---- the end
+module _ (old new : MirrorView) (halted : old.array.halted ≡ true) where
+  stop_halted : (fault : StopFault) → RefusesStop old new fault → (new ≡ old) × (fault ≡ stop.Halted)
+  stop_halted stop.Halted (inl h) = (h.unchanged, refl)
+  stop_halted stop.Halted (inr h) = runs_not old new halted h.may.idle.running
+  stop_halted (stop.InFlight n) h = runs_not old new halted h.reason.running
+  stop_halted stop.EventsFull h = runs_not old new halted h.reason.idle.running
+  stop_halted (stop.MemberFailed k) h = runs_not old new halted h.may.idle.running
+
+  abbrev stopped_for : StopFault → Result (Unit {0}) CommandFault
+  stopped_for fault = Err (Stop fault)
+
+  stops_halted : (told result : Result (Unit {0}) CommandFault) → StopsThen told old new result → (new ≡ old) × (result ≡ Err (Stop stop.Halted))
+  stops_halted told result (inl h) = runs_not old new halted h.0.may.idle.running
+  stops_halted told result (inr h) =
+      let x = stop_halted h.0 h.1 in (x.0, h.2 ∙ ap stopped_for x.1)
+
+late_halted : (w : ArrayWriter) (old new : MirrorView) → old.array.halted ≡ true → (kept : Result (Unit {0}) BeginFault) → MatchResult kept (λ _. WritesWaiting w old new) (RefusesWaiting w old new)
+    → new ≡ old
+late_halted w old new halted (Ok x) (inl h) = h.1
+late_halted w old new halted (Ok x) (inr h) = runs_not old new halted h.0.begins.may.running
+late_halted w old new halted (Err fault) h = unwritten_halted old new halted fault w.start w.run.items h.refused
+
+pub end_halted : HaltsEnd
+end_halted last old new told result halted ends =
+    let same = late_halted last old ends.written halted ends.kept ends.late in
+    let stops = stops_halted ends.written new (ap (λ (v : MirrorView). v.array.halted) same ∙ halted) (told_after ends.kept told) result ends.stops in
+    (stops.0 ∙ same, stops.1)

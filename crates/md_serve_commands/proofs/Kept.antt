@@ -14,9 +14,10 @@ use Rattle.md_nbd.specs.NbdTasks.{task_of}
 use Rattle.md_nbd.specs.SimpleReplies.{error_reply, success_reply}
 use Rattle.md_nbd.specs.Server.Exchanges.{AnswersRequest, DoesTask, Exchange}
 use Rattle.md_serve_commands.specs.declared.writer.ArrayWriter.{ArrayWriter}
-use Rattle.md_serve_commands.specs.Waiting.{FailsToFlush, FailsToRead, FailsToTake, FailsWaiting, FlushesAll, JoinsWaiting, ReadsBehind, WritesWaiting, StillWaits, TakesWrite, WaitsAnew, WritesThrough, writer_store}
+use Rattle.md_serve_commands.specs.Waiting.{FailsToFlush, FailsToRead, FailsToTake, FailsWaiting, FlushesAll, JoinsWaiting, WritesWaiting, StillWaits, TakesWrite, WaitsAnew, WritesThrough, writer_store}
 use Rattle.md_serve_commands.specs.Told.{AddsTold, ArrayWrite, DropsNothing, IsFlushTold, IsWriteTold, KeepsBytes, WritesInTurn, WritesNothing, cells, cells_of, waiting_cells}
 use Rattle.md_serve_commands.proofs.Halted.{not_both}
+use Rattle.md_serve_commands.proofs.Running.{flushed_runs, through_runs}
 
 cells_join : (at : ℕ) (xs ys : List ℕ) → cells at (xs ++ ys) ≡ cells at xs ++ cells (at + length xs) ys
 cells_join at [] ys = ap (λ (n : ℕ). cells n ys) (omega arith)
@@ -71,6 +72,7 @@ through_told p q sector bytes through h = record {
       (sym (ap (λ (t : List (ℕ × ℕ)). flat_map cells_of ((sector, bytes) ∷ []) ++ t) (waits_none q.0 h.none)
       ∙ append-nil (flat_map cells_of ((sector, bytes) ∷ [])) ∙ append-nil (cells_of (sector, bytes))));
   stands = λ _. h.none;
+  running = λ _. through_runs p q sector bytes h;
 }
 
 joined_told : (p q : ArrayWriter × MirrorView) (sector : ℕ) (bytes : List ℕ) → JoinsWaiting p q sector bytes → IsWriteTold sector bytes false p q
@@ -85,13 +87,18 @@ joined_told p q sector bytes h =
         bytes = ap (λ (t : List (ℕ × ℕ)). waiting_cells p.0 ++ t) place ∙ sym (cells_join (sector_bytes * p.0.start) p.0.run.items bytes) ∙ sym all;
       };
       stands = λ no. absurd (true≢false (sym no));
+      running = λ no. absurd (true≢false (sym no));
     }
 
 anew_told : (p q : ArrayWriter × MirrorView) (sector : ℕ) (bytes : List ℕ) → WaitsAnew p q sector bytes → IsWriteTold sector bytes false p q
 anew_told p q sector bytes h =
     let all : waiting_cells q.0 ≡ cells (sector_bytes * sector) bytes =
     ap (λ (t : List ℕ). cells (sector_bytes * q.0.start) t) h.run ∙ ap (λ (s : ℕ). cells (sector_bytes * s) bytes) h.start in
-    record { keeps = kept_behind p q q.1 q.1 h.waited [] (cells_of (sector, bytes)) refl (sym all); stands = λ no. absurd (true≢false (sym no)) }
+    record {
+      keeps = kept_behind p q q.1 q.1 h.waited [] (cells_of (sector, bytes)) refl (sym all);
+      stands = λ no. absurd (true≢false (sym no));
+      running = λ no. absurd (true≢false (sym no));
+    }
 
 taken_told : (p q : ArrayWriter × MirrorView) (sector : ℕ) (bytes : List ℕ) (through : Bool) → TakesWrite p q sector bytes through → IsWriteTold sector bytes through p q
 taken_told p q sector bytes true h = through_told p q sector bytes true h
@@ -112,7 +119,7 @@ module _ (e : Export) (old new : ArrayWriter × MirrorView) (x : Exchange) (answ
   flush_told is told = by (subst (λ (u : Task). DoesTask writer_store u x.request.cookie x.payload old new x.reply) is answers.does)
     where
       by : DoesTask writer_store task.Flush x.request.cookie x.payload old new x.reply → IsFlushTold old new
-      by (inl h) = record { mid = h.0.mid; keeps = waiting_kept old new h.0.mid h.0.waited h.0.none; none = h.0.none; marks = h.0.marks }
+      by (inl h) = record { mid = h.0.mid; keeps = waiting_kept old new h.0.mid h.0.waited h.0.none; none = h.0.none; marks = h.0.marks; running = flushed_runs old new h.0 }
       by (inr h) = absurd (not_both x.request.cookie (sym told ∙ h.1))
 
 -- ---- no request drops what waits

@@ -134,8 +134,8 @@ stopped_then told old new result h = ⊎_elim (λ s. stopped old new s.0) (λ r.
 module _ {I S : Type 0} (i : Sources I) (o : Sinks S) (old new : MirrorView) (from to : I) (was now : S) where
   and_stopped : (result : Result (Unit {0}) CommandFault) → ServesAndStops i o old new from to was now result → AsMany old new
   and_stopped result h =
-      stopped_then (told_after h.kept h.told) h.written new result h.stops
-      ∙ waiting_or_not h.last h.served h.written h.kept h.late
+      stopped_then (told_after h.ends.kept h.told) h.ends.written new result h.ends.stops
+      ∙ waiting_or_not h.last h.served h.ends.written h.ends.kept h.ends.late
       ∙ client_served i o h.first h.last h.ready h.served from to was now h.told h.session
       ∙ readied old h.ready h.readied.readied
 

@@ -1,12 +1,15 @@
 -- What a client is told of is written or waits to be, and stands once a flush is told of; and once the mirror is halted it is told of
 -- nothing more.
-use Rattle.std.specs.Prelude.{◌≡◌, ◌⊎◌, ℕ, ◌+◌, ◌*◌, Bool, true, false, List, [], ◌∷◌, ◌++◌, Option}
+use Rattle.std.specs.Prelude.{◌≡◌, ◌⊎◌, ℕ, ◌+◌, ◌*◌, Bool, true, false, List, [], ◌∷◌, ◌++◌, Option, Result, Err}
 use Rattle.std.specs.List.{flat_map}
 use Rattle.md_model.specs.Events.{Event}
 use Rattle.md_state.specs.Requests.{AreInFlight}
 use Rattle.md_state.specs.View.{MirrorView}
 use Rattle.md_array.specs.InTurn.{Requests}
 use Rattle.md_laws.specs.ReadInTurn.{LeadsReading}
+use Rattle.md_metadata.specs.declared.stop_fault.StopFault.TheVariants.{Halted}
+use Rattle.md_commands.specs.declared.fault.CommandFault.{CommandFault}
+use Rattle.md_commands.specs.declared.fault.CommandFault.TheVariants.{Stop}
 use Rattle.md_nbd.specs.declared.export.Export.{Export}
 use Rattle.md_nbd.specs.declared.task.Task.{Task}
 use Rattle.md_nbd.specs.declared.task.Task.TheVariants.{Flush, Read, Write}
@@ -18,6 +21,7 @@ use Rattle.md_write.specs.Writing.{Writes}
 use Rattle.md_serve_commands.specs.declared.writer.ArrayWriter.{ArrayWriter}
 use Rattle.md_nbd.specs.Export.{sector_bytes}
 use Rattle.md_serve_commands.specs.Waiting.{ClearsMarks, FailsToClear, FailsToGive, FailsToWrite, GivesSectors, writer_store}
+use Rattle.md_serve_commands.specs.Writable.{EndsServing}
 
 -- ---- the bytes of writes
 -- bytes and their places in the array, from the first on
@@ -47,12 +51,13 @@ pub record KeepsBytes (told : List (ℕ × ℕ)) (old new : ArrayWriter × Mirro
   pub done : WritesInTurn old.1 writes mid
   pub bytes : waiting_cells old.0 ++ told ≡ flat_map cells_of writes ++ waiting_cells new.0
 
--- A write that is answered without an error is done, or waits behind all that was told of before; one that is to stand is done, and
--- nothing waits.
+-- A write that is answered without an error is done, or waits behind all that was told of before; one that is to stand is done, nothing
+-- waits, and the mirror runs.
 pub record IsWriteTold (sector : ℕ) (bytes : List ℕ) (through : Bool) (old new : ArrayWriter × MirrorView)
     : Type 0 where
   pub keeps : KeepsBytes (cells_of (sector, bytes)) old new new.1
   pub stands : through ≡ true → new.0.run.items ≡ []
+  pub running : through ≡ true → new.1.array.halted ≡ false
 
 abbrev pub ToldWritesAreKept : Type 0
 ToldWritesAreKept =
@@ -62,12 +67,13 @@ ToldWritesAreKept =
     → IsWriteTold sector x.payload through old new
 
 -- Once a flush is answered without an error nothing waits: all that was told of is done, and after it nothing but that marks may be
--- cleared.
+-- cleared. The mirror runs.
 pub record IsFlushTold (old new : ArrayWriter × MirrorView) : Type 0 where
   pub mid : MirrorView
   pub keeps : KeepsBytes [] old new mid
   pub none : new.0.run.items ≡ []
   pub marks : (new.1 ≡ mid) ⊎ ClearsMarks mid new.1
+  pub running : new.1.array.halted ≡ false
 
 abbrev pub ToldFlushesStand : Type 0
 ToldFlushesStand =
@@ -129,6 +135,13 @@ abbrev pub HaltsSession : Type 0
 HaltsSession =
     (e : Export) (old new : ArrayWriter × MirrorView) (xs : List Exchange) → old.1.array.halted ≡ true
     → AnswersInTurn writer_store e old xs new → new.1 ≡ old.1
+
+-- At the end of a session nothing is done of a halted mirror either, and the command says that it is halted.
+abbrev pub HaltsEnd : Type 0
+HaltsEnd =
+    (last : ArrayWriter) (old new : MirrorView) (told result : Result (Unit {0}) CommandFault)
+    → old.array.halted ≡ true → EndsServing last old new told result
+    → (new ≡ old) × (result ≡ Err (Stop Halted))
 
 -- By these events the one mirror went over into the other, whatever requests are in flight, and devices were read between them.
 pub record GoesByEvents (old new : MirrorView) : Type 0 where

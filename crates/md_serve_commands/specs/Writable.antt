@@ -1,5 +1,5 @@
 -- An array is served to a client of the NBD protocol, which reads it and writes to it.
-use Rattle.std.specs.Prelude.{◌≡◌, ◌⊎◌, ℕ, ◌*◌, true, false, List, [], Result, Ok, Err, MatchResult}
+use Rattle.std.specs.Prelude.{◌≡◌, ◌⊎◌, ◌*◌, true, false, [], Result, Ok, Err, MatchResult}
 use Rattle.md_faults.specs.declared.step_fault.BeginFault.{BeginFault}
 use Rattle.md_state.specs.Members.{is_degraded}
 use Rattle.md_state.specs.Trying.{Refuses, RefusesHalted}
@@ -21,7 +21,7 @@ use Rattle.md_nbd.specs.declared.server.session.SessionFault.TheVariants as sess
 use Rattle.md_nbd.specs.Export.{sector_bytes}
 use Rattle.md_nbd.specs.Server.Sessions.{BreaksSession, EndsSession, is_orderly}
 use Rattle.md_serve_commands.specs.declared.writer.ArrayWriter.{ArrayWriter}
-use Rattle.md_serve_commands.specs.Waiting.{IsFreshWriter, RefusesWaiting, WritesWaiting, writer_store}
+use Rattle.md_serve_commands.specs.Waiting.{IsFreshWriter, RefusesWaiting, WaitsWithin, WritesWaiting, writer_store}
 
 -- what clients are told of it: all of it
 abbrev pub writable_export : ArrayView → Export
@@ -113,6 +113,14 @@ abbrev pub told_after : Result (Unit {0}) BeginFault → Result (Unit {0}) Comma
 told_after (Ok x) told = told
 told_after (Err fault) told = Err (Write fault)
 
+-- What waited at the end was written, or it was not, and then the array was stopped, or it was not.
+pub record EndsServing (last : ArrayWriter) (served new : MirrorView)
+    (told result : Result (Unit {0}) CommandFault) : Type 0 where
+  pub written : MirrorView
+  pub kept : Result (Unit {0}) BeginFault
+  pub late : MatchResult kept (λ _. WritesWaiting last served written) (RefusesWaiting last served written)
+  pub stops : StopsThen (told_after kept told) written new result
+
 module _ {I S : Type 0} (i : Sources I) (o : Sinks S) (old new : MirrorView) (from to : I) (was now : S) where
   -- A client was served, then what waited was written, and then the array was stopped, however the session ended.
   pub record ServesAndStops (result : Result (Unit {0}) CommandFault) : Type 0 where
@@ -124,10 +132,8 @@ module _ {I S : Type 0} (i : Sources I) (o : Sinks S) (old new : MirrorView) (fr
     pub served : MirrorView
     pub told : Result (Unit {0}) CommandFault
     pub session : HasServed i o first last ready served from to was now told
-    pub written : MirrorView
-    pub kept : Result (Unit {0}) BeginFault
-    pub late : MatchResult kept (λ _. WritesWaiting last served written) (RefusesWaiting last served written)
-    pub stops : StopsThen (told_after kept told) written new result
+    pub within : WaitsWithin last
+    pub ends : EndsServing last served new told result
 
   -- Nobody was greeted.
   pub record IsUnserved (fault : CommandFault) : Type 0 where

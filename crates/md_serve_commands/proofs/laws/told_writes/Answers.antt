@@ -1,4 +1,4 @@
-use Rattle.md_serve_commands.proofs.Halted.{request_halted, session_halted}
+use Rattle.md_serve_commands.proofs.Halted.{end_halted, request_halted, session_halted}
 use Rattle.md_serve_commands.proofs.Kept.{flush_told, nothing_dropped, write_told}
 use Rattle.md_serve_commands.proofs.laws.told_writes.Goals as goal
 
@@ -16,3 +16,6 @@ returns-clause-halted c = request_halted
 
 pub returns-clause-session : goal.returns-clause-session
 returns-clause-session c = session_halted
+
+pub returns-clause-end : goal.returns-clause-end
+returns-clause-end c = end_halted

@@ -19,10 +19,13 @@ returns-in_err-map_err-clause-gives g c =
       served = c.serve-served.new.mirror;
       told = c.serve-served.result;
       session = c.serve-served.ensures.gives;
-      written = c.write_waiting-late.new.mirror;
-      kept = c.write_waiting-late.result;
-      late = c.write_waiting-late.ensures.gives;
-      stops = inr (own.0, own.1, passed);
+      within = c.serve-served.ensures.waits;
+      ends = record {
+        written = c.write_waiting-late.new.mirror;
+        kept = c.write_waiting-late.result;
+        late = c.write_waiting-late.ensures.gives;
+        stops = inr (own.0, own.1, passed);
+      };
     })
 
 pub returns-in_err-map_err-2-clause-gives : goal.returns-in_err-map_err-2-clause-gives
@@ -38,13 +41,16 @@ returns-in_err-map_err-2-clause-gives g c =
       served = c.serve-served.new.mirror;
       told = c.serve-served.result;
       session = c.serve-served.ensures.gives;
-      written = c.write_waiting-late.new.mirror;
-      kept = c.write_waiting-late.result;
-      late = c.write_waiting-late.ensures.gives;
-      stops = inl (
-        own_ok _ _ _ c.stop.result _ _ c.stop.ensures.gives c.in_ok-map_err.ensures.cases c.in_ok-map_err.ensures.variant refl,
-        passed ∙ ap (λ k. told_after k c.serve-served.result) (sym own.1),
-      );
+      within = c.serve-served.ensures.waits;
+      ends = record {
+        written = c.write_waiting-late.new.mirror;
+        kept = c.write_waiting-late.result;
+        late = c.write_waiting-late.ensures.gives;
+        stops = inl (
+          own_ok _ _ _ c.stop.result _ _ c.stop.ensures.gives c.in_ok-map_err.ensures.cases c.in_ok-map_err.ensures.variant refl,
+          passed ∙ ap (λ k. told_after k c.serve-served.result) (sym own.1),
+        );
+      };
     })
 
 pub returns-clause-gives : goal.returns-clause-gives
@@ -57,12 +63,15 @@ returns-clause-gives g c = inl (record {
   served = c.serve-served.new.mirror;
   told = c.serve-served.result;
   session = c.serve-served.ensures.gives;
-  written = c.write_waiting-late.new.mirror;
-  kept = c.write_waiting-late.result;
-  late = c.write_waiting-late.ensures.gives;
-  stops = inl (
-    own_ok _ _ _ c.stop.result _ _ c.stop.ensures.gives c.in_ok-map_err.ensures.cases c.in_ok-map_err.ensures.variant refl,
-    ap (λ k. told_after k c.serve-served.result)
-        (sym (own_ok _ _ _ c.write_waiting-late.result _ _ (answer_is c.write_waiting-late.result) c.in_ok-map_err-2.ensures.cases c.in_ok-map_err-2.ensures.variant refl)),
-  );
+  within = c.serve-served.ensures.waits;
+  ends = record {
+    written = c.write_waiting-late.new.mirror;
+    kept = c.write_waiting-late.result;
+    late = c.write_waiting-late.ensures.gives;
+    stops = inl (
+      own_ok _ _ _ c.stop.result _ _ c.stop.ensures.gives c.in_ok-map_err.ensures.cases c.in_ok-map_err.ensures.variant refl,
+      ap (λ k. told_after k c.serve-served.result)
+          (sym (own_ok _ _ _ c.write_waiting-late.result _ _ (answer_is c.write_waiting-late.result) c.in_ok-map_err-2.ensures.cases c.in_ok-map_err-2.ensures.variant refl)),
+    );
+  };
 })

@@ -1,0 +1,139 @@
+-- A new array that is resynced has a life in which sessions are told of.
+use Rattle.std.proofs.Common.{◌≡◌, ◌∙◌, inl, false, List, [], ◌∷◌, ◌++◌, None, refl, sym, ap, subst}
+use Rattle.md_model.specs.Content.{Content, TellsAtEnrolment}
+use Rattle.md_model.specs.Events.{Event}
+use Rattle.md_model.specs.Sectors.{Geometry}
+use Rattle.md_model.specs.Worlds.{World}
+use Rattle.md_state.specs.View.{ArrayView, Disk, MirrorView, geometry_of}
+use Rattle.md_array.specs.InTurn.{AllOf}
+use Rattle.md_array.specs.Open.Opened.{IsOpenedFrom}
+use Rattle.md_array.specs.Worlds.{AreHonest, none_in_flight, world_of}
+use Rattle.md_array.proofs.StepLemmas.Turns.{all_on}
+use Rattle.md_laws.specs.Fresh.{AreFresh}
+use Rattle.md_laws.specs.Runs.{IsStart, MirrorRun, MirrorRunTellsEnrolments, Moment, opened_as, then_as}
+use Rattle.md_laws.proofs.Openings.Fresh.{starts_fresh}
+use Rattle.md_laws.proofs.Runs.MirrorContents.{content_at_first, content_told}
+use Rattle.md_laws.proofs.Runs.Moments.{IsSoundAt, run_then, sound_when_opened}
+use Rattle.md_laws.proofs.Runs.ReadTurns.{reading_call_is_run}
+use Rattle.md_metadata.specs.Storing.{IsNoFailure}
+use Rattle.md_resync.specs.Resyncing.{IsOfResync, Resyncs}
+use Rattle.md_resync.specs.Telling.{IsTelling}
+use Rattle.md_resync.proofs.ToldRuns.{all_both, at_told, told_run, told_sound}
+use Rattle.md_call_laws.proofs.CrashLemmas.Agreement.{no_records}
+use Rattle.md_nbd.specs.declared.export.Export.{Export}
+use Rattle.md_nbd.specs.declared.task.Task.{Task}
+use Rattle.md_nbd.specs.declared.task.Task.TheVariants as task
+use Rattle.md_nbd.specs.NbdTasks.{task_of}
+use Rattle.md_nbd.specs.Server.Exchanges.{DoesTask, Exchange}
+use Rattle.md_serve_commands.specs.declared.writer.ArrayWriter.{ArrayWriter}
+use Rattle.md_serve_commands.specs.Waiting.{writer_store}
+use Rattle.md_serve_commands.specs.Calls.{AreNone}
+use Rattle.md_serve_commands.specs.Serving.{task_by}
+use Rattle.md_serve_commands.specs.Sessions.{IsToStand, ServedLeftWhole}
+use Rattle.md_serve_commands.specs.FirstSessions.{HasComeTo, IsFlushDone, MayBeFlushed, SessionsMayBegin}
+use Rattle.md_serve_commands.proofs.GivenAfter.{IsGiving, resync_gives, telling_gives}
+
+-- by a resync no member comes into sync
+none_here : (e : Event) → IsGiving e → (g : Geometry) (w : World) (a : Content) → TellsAtEnrolment g e w a
+none_here (Event.LowerOffset k s) of g w a = tt
+none_here (Event.Record k) of g w a = tt
+none_here (Event.StoreMarks k b) of g w a = tt
+none_here (Event.Copy from k s) of g w a = tt
+none_here Event.Resynced of g w a = tt
+none_here (Event.ClearIdle c) of g w a = tt
+none_here e of g w a = absurd of
+
+none_told : (es : List Event) → AllOf IsGiving es → (t : Moment) (a : Content) (last : Moment) (r : MirrorRun t es last) → MirrorRunTellsEnrolments t a es last r
+none_told [] of t a last r = tt
+none_told (e ∷ es) of t a last r =
+    (none_here e of.0 (geometry_of t.mirror.array) (world_of t.mirror t.requests) a, λ b becomes. none_told es of.1 (then_as t e r.0 r.1) b last r.3)
+
+none_now : AreNone none_in_flight
+none_now n = refl
+
+module _ (before : List Disk) (m new : MirrorView) (honest : AreHonest before) (fresh : AreFresh before) (opened : IsOpenedFrom before m) (r : Resyncs m new) where
+  abbrev t : Moment
+  t = opened_as m
+
+  at : IsSoundAt (opened_as m)
+  at = sound_when_opened before m honest opened
+
+  abbrev there : Moment
+  there = at_told t at r.told r.tells
+
+  at_there : IsSoundAt (at_told t at r.told r.tells)
+  at_there = told_sound t at r.told r.tells
+
+  reaches : (last : Moment) × MirrorRun (at_told t at r.told r.tells) r.then.goes.events last × ((last.mirror ≡ new) × (last.requests ≡ none_in_flight))
+  unfolding at_told
+  reaches =
+      reading_call_is_run r.then.goes.events None (at_told t at r.told r.tells) new none_in_flight (r.then.goes.leads None none_in_flight at_there.in_flight)
+      (no_records r.then.goes.events r.then.goes.steps) at_there.honest
+
+  abbrev last : Moment
+  last = record reaches.0 { mirror = new; requests = none_in_flight }
+
+  abbrev events : List Event
+  events = r.tells.goes.events ++ r.then.goes.events
+
+  whole_run : MirrorRun t events last
+  whole_run =
+      run_then r.tells.goes.events r.then.goes.events t there last (told_run t at r.told r.tells)
+      (subst (MirrorRun there r.then.goes.events) (λ i. record reaches.0 { mirror = reaches.2.0 i; requests = reaches.2.1 i }) reaches.1)
+
+  all_giving : AllOf IsGiving events
+  all_giving =
+      all_on IsGiving r.tells.goes.events r.then.goes.events
+      (all_both IsTelling IsNoFailure IsGiving telling_gives r.tells.goes.events r.tells.goes.steps r.tells.unfailing)
+      (all_both IsOfResync IsNoFailure IsGiving resync_gives r.then.goes.events r.then.goes.steps r.then.unfailing)
+
+  start : IsStart before m
+  start = starts_fresh before m honest opened fresh
+
+  comes_to : HasComeTo before m new
+  comes_to =
+      let c = content_at_first before m start in
+      let b = content_told before m c.0 start c.1 events [] m last (refl, whole_run) (none_told events all_giving t c.0 last whole_run) in
+      record {
+        start = start;
+        first = c.0;
+        holds = c.1;
+        events = events;
+        past = reaches.0;
+        content = b.0;
+        life = b.1;
+        none = none_now;
+        resynced = ap (λ (a : ArrayView). a.resynced) r.then.array.array;
+      }
+
+  runs_there : new.array.halted ≡ false
+  runs_there = ap (λ (a : ArrayView). a.halted) r.then.array.array ∙ r.then.idle.running
+
+-- ---- a flush alone
+module _ (new : MirrorView) (running : new.array.halted ≡ false) (none : AreNone none_in_flight) (e : Export) (w : ArrayWriter) (x : Exchange) (nothing_waits : w.run.items ≡ [])
+    (flush : IsFlushDone e x) where
+  abbrev Flushes : Task → Type 0
+  Flushes u =
+      (does : DoesTask writer_store u x.request.cookie x.payload (w, new) (w, new) x.reply)
+      × ServedLeftWhole none_in_flight none new new (task_by (w, new) (w, new) u x.request.cookie x.payload x.reply does)
+
+  as_flush : Flushes task.Flush
+  as_flush = (inl (record { running = running; mid = new; waited = inl (nothing_waits, refl); none = nothing_waits; marks = inl refl }, flush.told), (tt, tt))
+
+  done_so : Flushes (task_of e x.request)
+  done_so = subst Flushes (sym flush.flush) as_flush
+
+  flushed_alone : MayBeFlushed new none e w x
+  flushed_alone = record {
+    answers = ((w, new), record { payload = flush.whole; does = done_so.0 }, refl);
+    stands = (subst IsToStand (sym flush.flush) tt, flush.told);
+    whole = (done_so.1, tt);
+  }
+
+pub sessions_begin : SessionsMayBegin
+sessions_begin before m new honest fresh opened r = record {
+  comes = comes_to before m new honest fresh opened r;
+  running = runs_there before m new honest fresh opened r;
+  flushes = λ e w x nothing_waits flush.
+      flushed_alone new (runs_there before m new honest fresh opened r) (comes_to before m new honest fresh opened r).none e w x nothing_waits flush;
+}
