@@ -30,7 +30,7 @@ use std::thread::Threads;
 /// each pass, unless `quiet`, and how many passes and orphans there were. A degraded array that is not resynced is resynced
 /// first. `watch` is told how many chunks the member lacks, and of each read.
 ///
-/// In memory stands one chunk of the array for each member that is read.
+/// In memory stand two chunks of the array for each member that is read.
 ///
 ///     let mut out = Output::new(rt.stdout());
 ///     rebuild_member(&rt, rt.alloc(), &mut mirror, 2, false, &watch, &mut out)?; // ends with `rebuilt member 2, passes 1, orphans 0`

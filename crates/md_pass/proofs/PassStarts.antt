@@ -1,35 +1,42 @@
 -- A pass begins: devices have left for queues.
-use Rattle.std.proofs.Common.{◌≡◌, ℕ, ◌<◌, ◌≤◌, ◌⊎◌, Bool, true, false, inl, inr, [], List, length, map, get_or, slice_index, refl, ap, sym, ◌∙◌, arith, subst}
+use Rattle.std.proofs.Common.{◌≡◌, ℕ, ◌-◌, ◌<◌, ◌≤◌, ◌⊎◌, Bool, true, false, inl, inr, [], List, length, map, min, get_or, slice_index, refl, ap, sym, ◌∙◌, arith, subst}
 use Rattle.std.specs.List.{All}
 use Rattle.std.specs.Int.{div_ceil}
 use Rattle.std.proofs.lemmas.Bool.{cases_lt}
-use Rattle.std.proofs.lemmas.List.{get_or-map, length-map}
+use Rattle.std.proofs.lemmas.List.{get_or_default, get_or-map, length-map}
 use Rattle.std.proofs.lemmas.List.Elements.{All-contains}
 use Rattle.std.proofs.lemmas.Simd.{map-map}
 use Rattle.md_device.specs.declared.device.Device.{Ghosts}
+use Rattle.md_bitmap.specs.declared.chunks.Chunks.{Chunks}
 use Rattle.md_bitmap.specs.Marks.{is_set}
 use Rattle.md_collect.specs.Places.{HasRoom}
 use Rattle.md_collect.specs.Collecting.{ArePlanned, IsUnreported}
 use Rattle.md_collect.specs.declared.workers.queue.Queue.{Queue}
 use Rattle.md_device.proofs.Failing.{fails_none}
-use Rattle.md_collect.specs.Workers.Queues.{HasRead, IsOfWaiting}
-use Rattle.md_collect.specs.Workers.Waiting.{HasTurnMemory}
+use Rattle.md_collect.specs.Workers.Queues.{HasRead, IsOfWaiting, slots_read}
+use Rattle.md_collect.specs.Workers.Waiting.{HasMemoryFor, WaitingView}
+use Rattle.md_pass.specs.Handing.{HaveMemory}
 use Rattle.md_collect.proofs.WorkerLemmas.Workers.{none_read}
 use Rattle.md_pass.specs.declared.preparing.Preparation.{Preparation}
 use Rattle.md_pass.specs.declared.source_reading.Reading.{Reading}
 use Rattle.md_pass.specs.declared.source.Source.{Source}
 use Rattle.md_pass.specs.Places.{AreInTurn, AreTaken, FitPlaces, AreDistinct}
-use Rattle.md_pass.specs.Readings.{IsQueueOf, IsOrderOf}
+use Rattle.md_pass.specs.Readings.{HaveFirstMemory, IsQueueOf, IsOrderOf}
 use Rattle.md_pass.specs.TakingReports.{Books}
 use Rattle.md_pass.specs.Preparing.{IsOrdered}
 use Rattle.md_pass.specs.Sources.{MayRead}
 use Rattle.md_pass.specs.Passes.{HasBooks, IsAtStart, IsOfTaken, IsUnderWay, IsPassing, count_left}
+use Rattle.md_pass.proofs.Memories.{remembered, since}
 use Rattle.md_pass.proofs.InTurn.{taken_at, turns_fit}
 use Rattle.md_pass.proofs.Orders.{one_slot, order_apart, order_chunk, order_planned, slot_at}
 use Rattle.md_pass.proofs.Rounds.{first_goes}
 
 no_source : Source
 no_source = record { place = 0; role = 0; offset = 0 }
+
+-- an element that a list has at a place, whatever stands for one that is missing
+pub get_or_self : {X : Type 0} (xs : List X) (k : ℕ) (x d : X) → k < length xs → x ≡ get_or xs k x → get_or xs k d ≡ x
+get_or_self xs k x d below is = get_or_default xs k d x below ∙ sym is
 
 -- the source of a reading in the list of sources
 pub source_at : (rs : List Reading) (k : ℕ) (r : Reading) (s : Source) → k < length rs → get_or (map (λ (x : Reading). x.source) rs) k s ≡ (get_or rs k r).source
@@ -107,7 +114,7 @@ reading_like queue = record { source = no_source; chunks = queue.chunks; reports
 module _ {D L M : Type 0} {g : Ghosts D} where
   begun : (th : Bool) (start : Books) (queue : Queue D L M) → IsAtStart g start queue → IsUnderWay g th start queue queue
   begun th start queue first = record {
-    read = subst (λ n. HasRead g start.collector.chunks (count_left start.copied queue.chunks.items n) queue queue) (sym first.none_done) (none_read queue (record { goes = first_goes start start.collector.chunks queue first refl; none_waits = first.none_waits }));
+    read = subst (λ n. HasRead g start.collector.chunks (count_left start.copied queue.chunks.items n) (since queue queue) queue) (sym first.none_done) (remembered queue queue (none_read queue (first_goes start start.collector.chunks queue first refl) first.none_waits));
     landed = λ j below. absurd (let z = first.none_done in omega (arith, z, below));
     failed = λ j below. absurd (let z = first.none_done in omega (arith, z, below));
     only = fails_none (g.faults queue.device) (λ f. IsOfTaken start queue queue f ⊎ IsOfWaiting start.collector.chunks queue f);
@@ -115,8 +122,8 @@ module _ {D L M : Type 0} {g : Ghosts D} where
   }
 
   first_of : (start : Books) (r : Reading) (queue : Queue D L M) → IsUnreported start.collector → ArePlanned start.collector.chunks start.collector.slots → All (λ slot. is_set start.copied.bytes slot.chunk ≡ false) start.collector.slots → IsOrderOf start.collector.slots r.source.role r.chunks.items → IsQueueOf r queue
-      → HasTurnMemory start.collector.chunks (length r.chunks.items) r.reports → HasRoom (g.content queue.device) r.source.offset start.collector.chunks → IsAtStart g start queue
-  first_of start r queue fresh planned uncopied order is memory room = record {
+      → HasRoom (g.content queue.device) r.source.offset start.collector.chunks → IsAtStart g start queue
+  first_of start r queue fresh planned uncopied order is room = record {
     room = rw is.offset room;
     planned = rw (is.chunks, is.role) (order_planned order);
     chunk = rw is.chunks (order_chunk order start.collector.chunks planned);
@@ -124,7 +131,6 @@ module _ {D L M : Type 0} {g : Ghosts D} where
     uncopied = rw is.chunks (λ j below. let at = slot_at order j below in subst (λ c. is_set start.copied.bytes c ≡ false) at.chunk_is (All-contains (λ (s : _). is_set start.copied.bytes s.chunk ≡ false) start.collector.slots at.slot uncopied at.there));
     none_done = is.none_done;
     none_waits = is.none_waits;
-    memory = rw (is.chunks, is.reports) memory;
     left = is.left ∙ ap (λ (v : _). length v.items) (sym is.chunks);
     none_failed = is.none_failed;
   }
@@ -132,11 +138,11 @@ module _ {D L M : Type 0} {g : Ghosts D} where
   -- queues that were made of readings
   pub starts : (th : Bool) (start : Books) (devices rest : List D) (places : List ℕ) (rs : List Reading) (queues : List (Queue D L M)) → IsUnreported start.collector → ArePlanned start.collector.chunks start.collector.slots → All (λ slot. is_set start.copied.bytes slot.chunk ≡ false) start.collector.slots
       → MayRead g start.collector.chunks start.collector.slots (map (λ (r : Reading). r.source) rs) devices → All (λ (r : Reading). IsOrderOf start.collector.slots r.source.role r.chunks.items) rs
-      → All (λ (r : Reading). HasTurnMemory start.collector.chunks (length r.chunks.items) r.reports) rs → AreInTurn (map (λ (r : Reading). r.source.place) rs) places → HasRoom start.target start.collector.offset start.collector.chunks → start.copied.chunks ≡ div_ceil start.collector.chunks.size start.collector.chunks.sectors
+      → AreInTurn (map (λ (r : Reading). r.source.place) rs) places → HasRoom start.target start.collector.offset start.collector.chunks → start.copied.chunks ≡ div_ceil start.collector.chunks.size start.collector.chunks.sectors
       → length queues ≡ length rs → AreTaken devices places (map (λ (l : Queue D L M). l.device) queues) rest
       → ((i : ℕ) (r : Reading) (d : Queue D L M) → i < length rs → IsQueueOf (get_or rs i r) (get_or queues i d))
       → IsPassing g th queues queues start start
-  starts th start devices rest places rs queues fresh planned uncopied may orders memory turn room marks same taken are = record {
+  starts th start devices rest places rs queues fresh planned uncopied may orders turn room marks same taken are = record {
     begins = firsts;
     apart = apart;
     room = room;
@@ -161,7 +167,7 @@ module _ {D L M : Type 0} {g : Ghosts D} where
           = sym (get_or-map (λ (l : Queue D L M). l.device) queues k d d.device within) ∙ device_at devices devices (map (λ (l : Queue D L M). l.device) queues) rest rs places may turn refl taken k d.device d.device no_source here ∙ ap (λ (s : Source). get_or devices s.place d.device) from in
           let wide : HasRoom (g.content (get_or devices r.source.place d.device)) r.source.offset start.collector.chunks
           = subst (λ (s : Source). HasRoom (g.content (get_or devices s.place d.device)) s.offset start.collector.chunks) from (may.room k no_source (omega (arith, here, length-map rs (λ (x : Reading). x.source))) d.device) in
-          first_of start r (get_or queues k d) fresh planned uncopied (orders k (reading_like d) here) (are k (reading_like d) d here) (memory k (reading_like d) here) (rw at wide)
+          first_of start r (get_or queues k d) fresh planned uncopied (orders k (reading_like d) here) (are k (reading_like d) d here) (rw at wide)
 
       apart : (k m i j : ℕ) (d : Queue D L M) → k < length queues → m < length queues → i < length (get_or queues k d).chunks.items → j < length (get_or queues m d).chunks.items
           → slice_index (get_or queues k d).chunks.items i ≡ slice_index (get_or queues m d).chunks.items j → (k ≡ m) × (i ≡ j)
@@ -185,8 +191,40 @@ module _ {D L M : Type 0} {g : Ghosts D} where
           let there : get_or rs m (reading_like d) ≡ rk = ap (λ x. get_or rs x (reading_like d)) (sym one) in
           (one, order_apart (orders k (reading_like d) hk) planned.rising i j wi' (subst (λ (r : Reading). j < length r.chunks.items) there wj') (e' ∙ ap (λ (r : Reading). slice_index r.chunks.items j) there))
 
-pub turns_enough : {D L M : Type 0} (turns : ℕ) (rs : List Reading) (queues : List (Queue D L M)) → length queues ≡ length rs → All (λ (r : Reading). length r.chunks.items ≤ turns) rs
-    → ((i : ℕ) (r : Reading) (d : Queue D L M) → i < length rs → IsQueueOf (get_or rs i r) (get_or queues i d)) → All (λ (queue : Queue D L M). length queue.chunks.items ≤ turns) queues
-turns_enough turns rs queues same short are k d below =
+pub turns_enough : {D L M : Type 0} (enough : ℕ) (rs : List Reading) (queues : List (Queue D L M)) → length queues ≡ length rs → All (λ (r : Reading). length r.chunks.items ≤ enough) rs
+    → ((i : ℕ) (r : Reading) (d : Queue D L M) → i < length rs → IsQueueOf (get_or rs i r) (get_or queues i d)) → All (λ (queue : Queue D L M). length queue.chunks.items ≤ enough) queues
+turns_enough enough rs queues same short are k d below =
     let here : k < length rs = omega (arith, same, below) in
     rw (are k (reading_like d) d here).chunks (short k (reading_like d) here)
+
+-- memory for two turns of each queue
+pub memory_enough : {D L M : Type 0} (chunks : Chunks) (most : ℕ) (rs : List Reading) (queues : List (Queue D L M)) (waits : List WaitingView) → length queues ≡ length rs → HaveFirstMemory chunks most rs waits
+    → All (λ (r : Reading). HasMemoryFor chunks (min most (length r.chunks.items - most)) r.reports) rs
+    → ((i : ℕ) (r : Reading) (d : Queue D L M) → i < length rs → IsQueueOf (get_or rs i r) (get_or queues i d)) → HaveMemory chunks most queues waits
+memory_enough {D = D} {L = L} {M = M} chunks most rs queues waits same first later are = record {
+  as_many = first.as_many ∙ sym same;
+  idle = first.none;
+  next = λ k q w below.
+      let here : k < length rs = omega (arith, same, below) in
+      let is = are k (reading_like q) q here in
+      let has = first.memory k (reading_like q) w here in
+      record { room = (let room = has.room in let n = read_none k q below in let long = chunk_count k q below in omega (arith, room, n, long)); long = has.long };
+  later = λ k q below.
+      let here : k < length rs = omega (arith, same, below) in
+      let is = are k (reading_like q) q here in
+      let has = later k (reading_like q) here in
+      rw is.reports (record { room = (let room = has.room in let n = read_none k q below in let long = chunk_count k q below in omega (arith, room, n, long)); long = has.long });
+}
+  where
+    read_none : (k : ℕ) (q : Queue D L M) → k < length queues → slots_read (get_or queues k q) ≡ 0
+    read_none k q below =
+        let here : k < length rs = omega (arith, same, below) in
+        let is = are k (reading_like q) q here in
+        let none : length (get_or queues k q).reports.waiting ≡ 0 = ap length is.none_waits in
+        let done = is.none_done in
+        omega (arith, none, done)
+
+    chunk_count : (k : ℕ) (q : Queue D L M) → k < length queues → length (get_or queues k q).chunks.items ≡ length (get_or rs k (reading_like q)).chunks.items
+    chunk_count k q below =
+        let here : k < length rs = omega (arith, same, below) in
+        ap (λ (v : _). length v.items) (are k (reading_like q) q here).chunks

@@ -10,8 +10,7 @@ use Rattle.md_collect.specs.Reports.{is_planned}
 use Rattle.md_collect.specs.Collecting.{copying}
 use Rattle.md_collect.specs.declared.workers.queue.Queue.{Queue}
 use Rattle.md_pass.specs.Beside.{SameBesideCopied, has_chunk}
-use Rattle.md_collect.specs.Workers.Queues.{HasRead, IsOfWaiting, OnlyRead, slots_read}
-use Rattle.md_collect.specs.Workers.Waiting.{HasTurnMemory}
+use Rattle.md_collect.specs.Workers.Queues.{HasRead, IsOfWaiting, OnlyRead}
 use Rattle.md_pass.specs.TakingReports.{Books}
 
 -- The chunk was not copied.
@@ -58,7 +57,6 @@ module _ {D L M : Type 0} (g : Ghosts D) where
     pub uncopied : (j : ℕ) → j < length queue.chunks.items → is_set first.copied.bytes (slice_index queue.chunks.items j) ≡ false
     pub none_done : queue.done ≡ 0
     pub none_waits : queue.reports.waiting ≡ []
-    pub memory : HasTurnMemory first.collector.chunks (length queue.chunks.items) queue.reports
     pub left : queue.share.left ≡ length queue.chunks.items
     pub none_failed : queue.share.failed ≡ 0
 
@@ -68,9 +66,9 @@ module _ {D L M : Type 0} (g : Ghosts D) where
     pub holds : is_set now.copied.bytes c ≡ true → g.honest first.device ≡ true → honest ≡ true
         → chunk_on now.target now.collector.offset now.collector.chunks c ≡ chunk_on (g.content first.device) first.offset now.collector.chunks c
 
-  -- a queue as the pass began, and now
+  -- a queue as the pass began, and now: its reports may lie in other memory
   pub record IsUnderWay (honest : Bool) (now : Books) (first queue : Queue D L M) : Type 0 where
-    pub read : HasRead g now.collector.chunks (count_left now.copied first.chunks.items queue.done) first queue
+    pub read : HasRead g now.collector.chunks (count_left now.copied first.chunks.items queue.done) (record first { reports = record queue.reports { waiting = [] } }) queue
     pub landed : (j : ℕ) → j < queue.done → HasLanded honest now first (slice_index first.chunks.items j)
     pub failed : (j : ℕ) → j < queue.done → is_set now.copied.bytes (slice_index first.chunks.items j) ≡ false
         → FailsInChunk g first.device queue.device first.offset now.collector.chunks (slice_index first.chunks.items j)
@@ -91,17 +89,3 @@ module _ {D L M : Type 0} (g : Ghosts D) where
   pub record QueuesOnlyRead (firsts queues : List (Queue D L M)) : Type 0 where
     pub as_many : length queues ≡ length firsts
     pub each : (k : ℕ) (d : Queue D L M) → k < length firsts → OnlyRead g (slice_index_or firsts k d).device (slice_index_or queues k d).device
-
--- a queue before and after some of its reports were taken
-abbrev pub Goes : {D L M : Type 0} → Queue D L M → Queue D L M → Type 0
-Goes old new = slots_read new ≡ slots_read old
-
--- queues whose devices nobody used
-pub record SameDevices {D L M : Type 0} (olds news : List (Queue D L M)) : Type 0 where
-  pub as_many : length news ≡ length olds
-  pub each : (k : ℕ) (d : Queue D L M) → k < length olds → (slice_index_or news k d).device ≡ (slice_index_or olds k d).device
-
--- Queues and books before and after reports were taken: a pass that is under way goes on.
-pub record HaveTakenReports {D L M : Type 0} (g : Ghosts D) (honest : Bool) (old new : Books) (olds news : List (Queue D L M)) : Type 0 where
-  pub passing : (firsts : List (Queue D L M)) (first : Books) → IsPassing g honest firsts olds first old → IsPassing g honest firsts news first new
-  pub goes : (k : ℕ) (d : Queue D L M) → k < length olds → Goes (slice_index_or olds k d) (slice_index_or news k d)

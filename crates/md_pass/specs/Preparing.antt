@@ -1,5 +1,5 @@
 -- What a pass takes memory for before a device leaves its list, and what it can be carried out on.
-use Rattle.std.specs.Prelude.{◌≡◌, ℕ, List, length, map, filter}
+use Rattle.std.specs.Prelude.{◌≡◌, ℕ, ◌-◌, ◌<◌, List, length, map, min, filter}
 use Rattle.std.specs.Int.{div_ceil}
 use Rattle.std.specs.List.{All}
 use Rattle.md_cert.specs.declared.slots.Slot.{Slot}
@@ -7,26 +7,28 @@ use Rattle.md_device.specs.declared.device.Device.{Ghosts}
 use Rattle.md_bitmap.specs.declared.chunks.Chunks.{Chunks}
 use Rattle.md_collect.specs.Places.{HasRoom}
 use Rattle.md_collect.specs.Collecting.{ArePlanned, IsUnreported, copying}
-use Rattle.md_collect.specs.Workers.Waiting.{HasTurnMemory}
+use Rattle.md_collect.specs.Workers.Waiting.{HasMemoryFor}
 use Rattle.md_pass.specs.declared.preparing.Preparation.{Preparation}
 use Rattle.md_pass.specs.declared.source_reading.Reading.{Reading}
 use Rattle.md_pass.specs.declared.source.Source.{Source}
 use Rattle.md_pass.specs.Copied.{AreUncopied, PassState}
 use Rattle.md_pass.specs.Places.{AreInTurn}
-use Rattle.md_pass.specs.Readings.{IsOrderOf, has_slot}
+use Rattle.md_pass.specs.Readings.{HaveFirstMemory, IsOrderOf, has_slot}
 use Rattle.md_pass.specs.Sources.{MayRead, copy_of}
 
 -- the sources that read
 abbrev pub sources_of : Preparation → List Source
 sources_of p = map (λ (r : Reading). r.source) p.readings.items
 
--- A collector that has no report yet, the chunks that each source reads with memory for their reports, and the places at which the sources' devices leave, one after another.
+-- A collector that has no report yet, the chunks that each source reads with memory for the reports of two turns, and the places at which the sources' devices leave, one after another.
 pub record IsOrdered (p : Preparation) : Type 0 where
   pub fresh : IsUnreported p.collector
   pub chunks : p.chunks ≡ p.collector.chunks
   pub slots : length p.collector.slots ≡ p.slots
   pub orders : All (λ r. IsOrderOf p.collector.slots r.source.role r.chunks.items) p.readings.items
-  pub memory : All (λ r. HasTurnMemory p.collector.chunks (length r.chunks.items) r.reports) p.readings.items
+  pub some : 0 < p.most
+  pub first_memory : HaveFirstMemory p.collector.chunks p.most p.readings.items p.waiting.items
+  pub later_memory : All (λ r. HasMemoryFor p.collector.chunks (min p.most (length r.chunks.items - p.most)) r.reports) p.readings.items
   pub places : AreInTurn (map (λ (r : Reading). r.source.place) p.readings.items) p.places.items
 
 -- A preparation of this plan, for those of these sources that have a slot.

@@ -1,13 +1,13 @@
--- What stands between two steps of a pass, and what becomes of it when a queue's report is taken.
-use Rattle.std.specs.Prelude.{◌≡◌, ℕ, ◌+◌, ◌<◌, ◌≤◌, ◌==◌, ◌||◌, ◌&&◌, ◌∷◌, [], Bool, true, List, length, Some, None, not}
+-- What stands between two steps of a pass, and what becomes of it when a report is taken.
+use Rattle.std.specs.Prelude.{◌≡◌, ℕ, ◌<◌, ◌==◌, ◌||◌, ◌&&◌, ◌∷◌, [], Bool, true, List, Some, None, not}
 use Rattle.md_bitmap.specs.Marks.{Bitmap, is_set}
 use Rattle.md_collect.specs.Places.{with_chunk}
 use Rattle.md_collect.specs.Reports.{ReportView}
 use Rattle.md_collect.specs.Collecting.{CollectorView, report_refusal, IsCounted}
 use Rattle.md_collect.specs.Targets.{ChangesChunk}
-use Rattle.md_collect.specs.declared.workers.queue.Queue.{Queue}
 use Rattle.md_pass.specs.Beside.{has_chunk}
-use Rattle.md_collect.specs.Workers.Queues.{is_failed, slots_read}
+use Rattle.md_collect.specs.Workers.Queues.{is_failed}
+use Rattle.md_collect.specs.Workers.Waiting.{WaitingView}
 
 -- the collector, what stands on the target, and the chunks that were copied
 pub record Books : Type 0 where
@@ -23,24 +23,21 @@ pub record IsMarkedIfDelivered (delivered : Bool) (chunk : ℕ) (old new : Bitma
   pub chunks : new.chunks ≡ old.chunks
   pub bits : (c : ℕ) → is_set new.bytes c ≡ ((delivered && c == chunk) || is_set old.bytes c)
 
-module _ {D L M : Type 0} where
-  -- the collector will take the report that waits first
-  pub record IsAllowed (collector : CollectorView) (copied : Bitmap) (queue : Queue D L M) : Type 0 where
-    pub counts : (r : ReportView) (rest : List ReportView) → queue.reports.waiting ≡ r ∷ rest → report_refusal collector r ≡ None
-    pub planned : (r : ReportView) (rest : List ReportView) → queue.reports.waiting ≡ r ∷ rest → has_chunk collector.slots r.chunk ≡ true
-    pub chunk : (r : ReportView) (rest : List ReportView) → queue.reports.waiting ≡ r ∷ rest → r.chunk < copied.chunks
-    pub within : slots_read queue ≤ length queue.chunks.items
+-- the collector will take the first of these reports
+pub record IsAllowed (collector : CollectorView) (copied : Bitmap) (waiting : List ReportView) : Type 0 where
+  pub counts : (r : ReportView) (rest : List ReportView) → waiting ≡ r ∷ rest → report_refusal collector r ≡ None
+  pub planned : (r : ReportView) (rest : List ReportView) → waiting ≡ r ∷ rest → has_chunk collector.slots r.chunk ≡ true
+  pub chunk : (r : ReportView) (rest : List ReportView) → waiting ≡ r ∷ rest → r.chunk < copied.chunks
 
-  -- It was taken. The bytes of one that was delivered stand on the target, and its chunk is marked.
-  pub record IsReportTaken (honest : Bool) (old new : Books) (queue queue' : Queue D L M) (r : ReportView) (rest : List ReportView) : Type 0 where
-    pub counted : IsCounted r.chunk old.collector new.collector
-    pub marked : IsMarkedIfDelivered (not (is_failed r)) r.chunk old.copied new.copied
-    pub changes : ChangesChunk old.collector r.chunk old.target new.target
-    pub unwritten : is_failed r ≡ true → new.target ≡ old.target
-    pub kept : queue' ≡ record queue { done = queue.done + 1; reports = record queue.reports { waiting = rest } }
-    pub holds : (bytes : List ℕ) → r.bytes ≡ Some bytes → honest ≡ true → new.target ≡ with_chunk old.target old.collector.offset old.collector.chunks r.chunk bytes
+-- A report was taken. The bytes of one that was delivered stand on the target, and its chunk is marked.
+pub record IsReportTaken (honest : Bool) (old new : Books) (r : ReportView) : Type 0 where
+  pub counted : IsCounted r.chunk old.collector new.collector
+  pub marked : IsMarkedIfDelivered (not (is_failed r)) r.chunk old.copied new.copied
+  pub changes : ChangesChunk old.collector r.chunk old.target new.target
+  pub unwritten : is_failed r ≡ true → new.target ≡ old.target
+  pub holds : (bytes : List ℕ) → r.bytes ≡ Some bytes → honest ≡ true → new.target ≡ with_chunk old.target old.collector.offset old.collector.chunks r.chunk bytes
 
-  -- a queue and the books before and after the first of these reports is taken
-  abbrev pub AreReportsTaken : Bool → Books → Books → Queue D L M → Queue D L M → List ReportView → Type 0
-  AreReportsTaken honest old new queue queue' [] = (new ≡ old) × (queue' ≡ queue)
-  AreReportsTaken honest old new queue queue' (r ∷ rest) = IsReportTaken honest old new queue queue' r rest
+-- books and reports before and after the first of those that wait is taken
+abbrev pub AreReportsTaken : Bool → Books → Books → WaitingView → WaitingView → List ReportView → Type 0
+AreReportsTaken honest old new reports reports' [] = (new ≡ old) × (reports' ≡ reports)
+AreReportsTaken honest old new reports reports' (r ∷ rest) = IsReportTaken honest old new r × (reports' ≡ record reports { waiting = rest })

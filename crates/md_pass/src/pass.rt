@@ -38,16 +38,18 @@ pub struct BoardCounts {
 ///
 /// `devices` are all but the target's. Each source reads the chunks of its slots in the order of rounds, in
 /// a worker of its own: in a turn those of 1 MiB, those of 64 KiB where it is the only source, or one where
-/// a chunk is longer. Then the collector takes what they report, first that of each source's first chunk in
-/// the turn, the lowest role first, then that of the second. All memory is taken before a device leaves the
-/// list. The devices are back in their order whatever the answer is.
+/// a chunk is longer. While they read those of the next turn, the collector takes what they report, first that
+/// of each source's first chunk in the turn, the lowest role first, then that of the second. A lone source of
+/// chunks below 1 MiB starts no thread: it reads and is copied by turns. All memory is taken before a device
+/// leaves the list, for each source that of two turns, or of one where it has no more chunks. The devices are
+/// back in their order whatever the answer is.
 ///
 /// `copied` gets a mark for each chunk that was copied. After `Ok` a slot whose chunk has no mark failed: its
 /// source could not be read there, and the target has in that chunk what it had. The board counts them.
 ///
 /// `NoMemory` says that the pass got no memory; nothing was read then. A write that fails ends the pass with
-/// `TargetFault`: by then later chunks of the turn may have been read, the target may have any bytes in the chunks
-/// of the plan, and nothing is said of `copied`.
+/// `TargetFault`, once the reads of the next turn have ended: the target may have any bytes in the chunks of the
+/// plan, and nothing is said of `copied`.
 pub fn copy_pass<D: Device + Drop + Send, G: Gate + Sync, R: Threads + Wait + Sync>(
     rt: &R,
     alloc: Global,
@@ -122,9 +124,11 @@ fn copy_prepared<
         chunks,
         slots,
         mut readings,
+        most,
+        mut waiting,
         places,
     } = prepared;
-    let turns = turns_of(readings.as_slice());
+    let turns = turns_of(readings.as_slice(), most);
     let mut queues = Vec::with_capacity(alloc, readings.len())?;
     let (board, share) = Board::<L, M>::new(slots, left, failed);
     let board = Mutex::new(board);
@@ -136,9 +140,11 @@ fn copy_prepared<
         &board,
         turns,
         chunks,
+        most,
         &mut collector,
         target,
         copied,
+        &mut waiting,
         &mut queues,
     );
     let mut all = put_back(places, &mut queues, devices, rest);

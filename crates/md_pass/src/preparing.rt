@@ -4,12 +4,12 @@ ghost use Rattle.md_collect.specs.Collecting.{ArePlanned};
 ghost use Rattle.md_pass.specs.Preparing.{IsPreparedFor};
 
 use crate::places::places_in_turn;
-use crate::readings::readings_of;
+use crate::readings::{count_readers, first_memory, readings_of};
 use crate::source::Source;
 use crate::source_reading::Reading;
 use md_bitmap::Chunks;
 use md_cert::{NoMemory, Plan};
-use md_collect::Collector;
+use md_collect::{Collector, Reports, batch_of};
 use std::alloc::Global;
 
 /// What a pass takes memory for before a device leaves its list.
@@ -21,6 +21,10 @@ pub(crate) struct Preparation {
     pub(crate) slots: u32,
     /// What each source reads that has a slot.
     pub(crate) readings: Vec<Reading>,
+    /// How many chunks each reads in a turn at most.
+    pub(crate) most: usize,
+    /// Memory for the reports of each one's first turn.
+    pub(crate) waiting: Vec<Reports>,
     /// The places at which their devices leave the list, one after another.
     pub(crate) places: Vec<usize>,
 }
@@ -39,13 +43,17 @@ pub(crate) fn prepare(
     let slots = plan.slots.as_slice();
     let many = slots.len() as u32;
     let collector = Collector::new(alloc, plan, chunks, offset)?;
-    let readings = readings_of(alloc, slots, sources, chunks)?;
+    let most = batch_of(chunks, count_readers(slots, sources));
+    let readings = readings_of(alloc, slots, sources, chunks, most)?;
+    let waiting = first_memory(alloc, readings.as_slice(), chunks, most)?;
     let places = places_in_turn(alloc, readings.as_slice())?;
     Ok(Preparation {
         collector,
         chunks,
         slots: many,
         readings,
+        most,
+        waiting,
         places,
     })
 }

@@ -1,24 +1,27 @@
 // All turns of a pass.
-ghost use Rattle.std.specs.Prelude.{◌≡◌, ◌+◌, ◌<◌, ◌≤◌, length, true, [], ℕ, OnErr, OnOk, slice_index_or};
+ghost use Rattle.std.specs.Prelude.{◌≡◌, ◌+◌, ◌*◌, ◌<◌, ◌≤◌, length, [], ℕ, OnErr, OnOk, slice_index_or};
 ghost use Rattle.std.specs.List.{All};
 ghost use Rattle.md_collect.specs.Reading.{CountsFailure};
 ghost use Rattle.md_collect.specs.Collecting.{copying};
 ghost use Rattle.md_collect.specs.Workers.Gates.{IsToldOfReads};
 ghost use Rattle.md_pass.specs.Beside.{KeepsBeside};
 ghost use Rattle.md_pass.specs.TakingReports.{books};
+ghost use Rattle.md_pass.specs.Handing.{HaveMemory};
 ghost use Rattle.md_pass.specs.Passes.{IsPassing, QueuesOnlyRead};
 
+use crate::beside::take_and_read;
+use crate::hand_over::hand_over;
 use crate::take_report::take_reports;
 use md_bitmap::{Chunks, Marks};
-use md_collect::{Board, Collector, Gate, Queue, turn};
+use md_collect::{Board, Collector, Gate, Queue, Reports};
 use md_device::{Device, WriteFault};
 use std::sync::ledger::Ledger;
 use std::sync::{Mutex, Wait};
 use std::thread::Threads;
 
 /// Goes turn by turn until each queue has read all of its chunks: the workers read the next chunks of each
-/// queue, at least one, and then the collector takes their reports. So as many turns as a queue has chunks
-/// are enough. It takes no memory, so only a failed write of the target ends it before.
+/// queue, and the collector takes meanwhile what they reported in the turn before. It takes no memory, so only
+/// a failed write of the target ends it before.
 #[tactic(auto, using(md_collect::proofs::WorkerLemmas::Gates::told_none))]
 pub(crate) fn run_turns<
     D: Device + Send,
@@ -32,13 +35,16 @@ pub(crate) fn run_turns<
     board: &Mutex<Board<L, M>>,
     turns: usize,
     chunks: Chunks,
+    most: usize,
     collector: &mut Collector,
     target: &mut D,
     copied: &mut Marks,
+    waiting: &mut Vec<Reports>,
     queues: &mut Vec<Queue<D, L, M>>,
 ) -> Result<(), WriteFault>
     requires chunks { chunks ≡ collector.old.chunks }
-    requires turns { All (λ queue. length queue.chunks.items ≤ turns) queues.old.items }
+    requires turns { All (λ queue. length queue.chunks.items ≤ turns * most) queues.old.items }
+    requires memory { HaveMemory chunks most queues.old.items waiting.old.items }
     requires fresh { IsPassing D.Device (D.honest target.old) queues.old.items queues.old.items
         (books collector.old (D.content target.old) copied.old) (books collector.old (D.content target.old) copied.old) }
 
@@ -54,23 +60,11 @@ pub(crate) fn run_turns<
     ensures target { KeepsBeside D.Device (copying collector.old) target.old target.new }
 {
     for _turn in 0..turns {
-        if are_done(queues.as_slice()) {
-            return Ok(());
-        }
-        turn(rt, gate, board, chunks, queues);
-        take_reports(collector, target, copied, queues)?;
+        hand_over(queues, waiting);
+        take_and_read(
+            rt, gate, board, chunks, most, collector, target, copied, waiting, queues,
+        )?;
     }
-    Ok(())
-}
-
-// Whether the collector has taken all reports of each queue.
-fn are_done<D, L: Ledger, M: Ledger>(queues: &[Queue<D, L, M>]) -> bool
-    ensures { result ≡ true → All (λ queue. length queue.chunks.items ≤ queue.done) queues.now }
-{
-    for queue in queues {
-        if queue.done < queue.chunks.len() {
-            return false;
-        }
-    }
-    true
+    hand_over(queues, waiting);
+    take_reports::<D, L, M>(collector, target, copied, waiting)
 }

@@ -16,8 +16,8 @@ use Rattle.md_collect.specs.Reading.{IsReadOfChunk}
 use Rattle.md_collect.specs.Reports.{ReportView}
 use Rattle.md_collect.specs.declared.workers.queue.Queue.{Queue}
 use Rattle.md_collect.specs.Workers.Tally.{Tally}
-use Rattle.md_collect.specs.Workers.Queues.{ReadsNextSlot, HasRead, IsSlotRead, IsReadyForTurn, IsOfWaiting, IsReport, MayReadOn, OnlyRead, is_failed, slots_read}
-use Rattle.md_collect.specs.Workers.Waiting.{HasTurnMemory}
+use Rattle.md_collect.specs.Workers.Queues.{ReadsNextSlot, HasRead, IsSlotRead, IsOfWaiting, IsReport, MayReadOn, OnlyRead, is_failed, slots_read}
+use Rattle.md_collect.specs.Workers.Waiting.{HasMemoryFor}
 use Rattle.md_collect.proofs.WorkerLemmas.OnlyReads.{Reads, not_read, read_then}
 
 pub some_at : (xs : List ℕ) (i x : ℕ) → slice_get xs i ≡ Some x → (i < length xs) × (x ≡ slice_index xs i)
@@ -81,20 +81,20 @@ module _ {D L M : Type 0} {g : Ghosts D} {chunks : Chunks} where
   offset_kept read = ap (λ (l : Queue D L M). l.offset) read.kept
 
   -- nor the memory for reports
-  memory_kept : {first queue : Queue D L M} {lost : ℕ} → HasRead g chunks lost first queue → HasTurnMemory chunks (length first.chunks.items) first.reports → HasTurnMemory chunks (length first.chunks.items) queue.reports
-  memory_kept {first = first} {queue = queue} read memory =
+  pub memory_kept : {first queue : Queue D L M} {lost many : ℕ} → HasRead g chunks lost first queue → HasMemoryFor chunks many first.reports → HasMemoryFor chunks many queue.reports
+  memory_kept {first = first} {queue = queue} {many = many} read memory =
       let same : queue.reports ≡ record first.reports { waiting = queue.reports.waiting } = ap (λ (l : Queue D L M). l.reports) read.kept in
-      subst (HasTurnMemory chunks (length first.chunks.items)) (sym same) (record { room = memory.room; long = memory.long })
+      subst (HasMemoryFor chunks many) (sym same) (record { room = memory.room; long = memory.long })
 
   -- no report waits
-  pub none_read : (queue : Queue D L M) → IsReadyForTurn g chunks queue → HasRead g chunks 0 queue queue
-  none_read queue ready = record {
+  pub none_read : (queue : Queue D L M) → MayReadOn g chunks queue → queue.reports.waiting ≡ [] → HasRead g chunks 0 queue queue
+  none_read queue goes none = record {
     kept = refl;
     only_read = not_read queue.device;
-    within = ready.goes.within;
-    each = λ i r below. absurd (let n = ap length ready.none_waits in omega (arith, n, below));
-    left = ready.goes.left;
-    failed = let n : count_by is_failed queue.reports.waiting ≡ 0 = ap (count_by is_failed) ready.none_waits in omega (arith, n);
+    within = goes.within;
+    each = λ i r below. absurd (let n = ap length none in omega (arith, n, below));
+    left = goes.left;
+    failed = let n : count_by is_failed queue.reports.waiting ≡ 0 = ap (count_by is_failed) none in omega (arith, n);
     risen = λ h. omega arith;
     parts = refl;
   }
@@ -108,7 +108,6 @@ module _ {D L M : Type 0} {g : Ghosts D} {chunks : Chunks} where
         chunk = rw same may.chunk;
         within = rw same read.within;
         left = rw same read.left;
-        memory = rw same (memory_kept read may.memory);
       }
 
   one_more : (first queue new : Queue D L M) → HasRead g chunks 0 first queue → new.done ≡ queue.done → OnlyRead g queue.device new.device → IsSlotRead g chunks queue new → HasRead g chunks 0 first new

@@ -1,5 +1,5 @@
 -- A queue: a source, and the chunks that it reads one after another. Before and after its worker reads the next of them.
-use Rattle.std.specs.Prelude.{◌≡◌, ℕ, ◌+◌, ◌-◌, ◌<◌, ◌≤◌, ◌++◌, ◌∷◌, [], Bool, true, false, List, length, Some, None, count_by, slice_index, slice_index_or, not, is_none}
+use Rattle.std.specs.Prelude.{◌≡◌, ℕ, ◌+◌, ◌-◌, ◌<◌, ◌≤◌, ◌++◌, ◌∷◌, [], Bool, true, false, List, length, min, Some, None, count_by, slice_index, slice_index_or, not, is_none}
 use Rattle.md_device.specs.declared.device.Device.{Ghosts}
 use Rattle.md_device.specs.declared.fault_list.Fault.{Fault}
 use Rattle.md_device.specs.Failing.{EachNewFault}
@@ -8,9 +8,8 @@ use Rattle.md_collect.specs.Places.{IsChunk, HasRoom, bytes_of_chunk}
 use Rattle.md_collect.specs.Reading.{IsChunkOf, CountsFailure, FailsInChunk, IsReadOfChunk, LeavesContent}
 use Rattle.md_collect.specs.Reports.{ReportView}
 use Rattle.md_collect.specs.declared.workers.queue.Queue.{Queue}
-use Rattle.md_collect.specs.Workers.Batches.{batch_of}
 use Rattle.md_collect.specs.Workers.Tally.{noted}
-use Rattle.md_collect.specs.Workers.Waiting.{HasTurnMemory}
+use Rattle.md_collect.specs.Workers.Waiting.{HasMemoryFor}
 
 module _ {D : Type 0} (g : Ghosts D) where
   -- reads leave a device as it was, but that more of its calls may have failed; so does a crash within them
@@ -66,26 +65,25 @@ module _ {D L M : Type 0} (g : Ghosts D) where
     pub risen : g.honest first.device ≡ true → g.failures first.device + queue.share.failed ≤ g.failures queue.device + first.share.failed
     pub parts : queue.share.parts ≡ first.share.parts
 
-  -- its slots are chunks that lie on the device, the share has those that were not read, and there is memory for a turn
+  -- its slots are chunks that lie on the device, and the share has those that were not read
   pub record MayReadOn (chunks : Chunks) (queue : Queue D L M) : Type 0 where
     pub room : HasRoom (g.content queue.device) queue.offset chunks
     pub chunk : (j : ℕ) → j < length queue.chunks.items → IsChunk chunks (slice_index queue.chunks.items j)
     pub within : slots_read queue ≤ length queue.chunks.items
     pub left : queue.share.left ≡ length queue.chunks.items - slots_read queue
-    pub memory : HasTurnMemory chunks (length queue.chunks.items) queue.reports
 
-  -- before a turn: no report waits
-  pub record IsReadyForTurn (chunks : Chunks) (queue : Queue D L M) : Type 0 where
+  -- before a turn of at most so many slots: no report waits, and those of the turn have memory
+  pub record IsReadyForTurn (chunks : Chunks) (most : ℕ) (queue : Queue D L M) : Type 0 where
     pub goes : MayReadOn chunks queue
     pub none_waits : queue.reports.waiting ≡ []
+    pub memory : HasMemoryFor chunks (min most (length queue.chunks.items - queue.done)) queue.reports
 
-  -- A queue before and after its worker: its next slots were read, no more than a batch has, and at least one unless there was none. No call failed
-  -- but reads of those of them whose report says so.
-  pub record HasWorked (chunks : Chunks) (old new : Queue D L M) : Type 0 where
+  -- A queue before and after its worker: so many of its next slots were read, or as many as there were. No call failed but reads of those of them whose
+  -- report says so.
+  pub record HasWorked (chunks : Chunks) (most : ℕ) (old new : Queue D L M) : Type 0 where
     pub read : HasRead chunks 0 old new
     pub done : new.done ≡ old.done
-    pub few : length new.reports.waiting ≤ batch_of chunks
-    pub some : old.done < length old.chunks.items → 0 < length new.reports.waiting
+    pub many : length new.reports.waiting ≡ min most (length old.chunks.items - old.done)
     pub only : EachNewFault (g.faults old.device) (g.faults new.device) (IsOfWaiting chunks new)
 
   -- the next slot was read, and noted on the share

@@ -1,5 +1,5 @@
 -- The reports of a queue that wait for the collector, and memory for further ones.
-use Rattle.std.specs.Prelude.{◌≡◌, ◌+◌, ◌≤◌, ◌++◌, ◌∷◌, [], ℕ, Bool, List, length, min, not, is_none, vec_capacity}
+use Rattle.std.specs.Prelude.{◌≡◌, ◌+◌, ◌≤◌, ◌++◌, ◌∷◌, [], ℕ, Bool, List, length, not, is_none, vec_capacity}
 use Rattle.std.specs.List.{All}
 use Rattle.std_alloc.specs.VecDeque.{deque_capacity}
 use Rattle.std_alloc.specs.declared.vec.Vec.{Vec}
@@ -9,7 +9,6 @@ use Rattle.md_bitmap.specs.declared.chunks.Chunks.{Chunks}
 use Rattle.md_collect.specs.Places.{IsChunk, bytes_of_chunk}
 use Rattle.md_collect.specs.Reading.{ReportsChunk}
 use Rattle.md_collect.specs.Reports.{ReportView}
-use Rattle.md_collect.specs.Workers.Batches.{batch_of}
 
 pub record WaitingView : Type 0 where
   pub waiting : List ReportView  -- in the order in which their chunks were read
@@ -23,9 +22,9 @@ pub record HaveMemory {X Z W : Type 0} (waiting : VecDeque ReportView W) (spares
   pub waits : length waiting.items + length spares.items ≤ deque_capacity waiting
   pub fits : length waiting.items + length spares.items ≤ vec_capacity spares
 
--- memory for the reports of a turn of a queue with so many slots
-pub record HasTurnMemory (chunks : Chunks) (slots : ℕ) (reports : WaitingView) : Type 0 where
-  pub room : min (batch_of chunks) slots ≤ reports.room
+-- memory for so many reports, of whatever chunks
+pub record HasMemoryFor (chunks : Chunks) (many : ℕ) (reports : WaitingView) : Type 0 where
+  pub room : many ≤ reports.room
   pub long : (c : ℕ) → IsChunk chunks c → bytes_of_chunk chunks c ≤ reports.longest
 
 -- a chunk was read, and its report waits, the last

@@ -7,7 +7,7 @@
 //! ```
 //! let (board, share) = Board::<L, M>::new(slots, left, failed);
 //! let board = Mutex::new(board);
-//! turn(rt, gate, &board, chunks, &mut queues);
+//! turn(rt, gate, &board, chunks, most, &mut queues);
 //! ```
 
 mod batch;

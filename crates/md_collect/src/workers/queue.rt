@@ -1,9 +1,9 @@
 // A source with the chunks that it reads, and the worker that reads the next of them.
-ghost use Rattle.std.specs.Prelude.{◌≡◌, ◌<◌, ◌≤◌, length, slice_get};
-ghost use Rattle.md_collect.specs.Workers.Batches.{batch_of};
+ghost use Rattle.std.specs.Prelude.{◌≡◌, ◌+◌, ◌-◌, ◌<◌, ◌≤◌, length, min, slice_get};
 ghost use Rattle.md_collect.specs.Workers.Gates.{IsToldOfReads};
 ghost use Rattle.md_collect.specs.Workers.Queues.{ReadsNextSlot, HasWorked, IsReadyForTurn, MayReadOn, slots_read};
 ghost use Rattle.md_collect.specs.Workers.Tally.{noted};
+ghost use Rattle.md_collect.specs.Workers.Waiting.{HasMemoryFor};
 
 use crate::workers::board::{Board, Share};
 use crate::workers::gate::Gate;
@@ -23,11 +23,11 @@ pub struct Queue<D, L: Ledger, M: Ledger> {
     pub offset: u64,
     /// The chunks that it reads, in the order of rounds.
     pub chunks: Vec<u32>,
-    /// Of how many of them the collector has taken the reports.
+    /// Of how many of them the collector has the reports.
     pub done: usize,
     /// Its share of the board.
     pub share: Share<L, M>,
-    /// What the collector has not yet taken: of the chunks that come next.
+    /// Those that the collector does not have yet: of the chunks that come next.
     pub reports: Reports,
 }
 
@@ -50,9 +50,8 @@ pub(crate) fn work<D: Device, G: Gate, L: Ledger, M: Ledger, R: Wait>(
     most: usize,
     queue: &mut Queue<D, L, M>,
 )
-    requires ready { IsReadyForTurn D.Device chunks queue.old }
-    requires most { (0 < most) × (most ≤ batch_of chunks) }
-    ensures worked { HasWorked D.Device chunks queue.old queue.new }
+    requires { IsReadyForTurn D.Device chunks most queue.old }
+    ensures worked { HasWorked D.Device chunks most queue.old queue.new }
     ensures told { IsToldOfReads G.Gate gate.now queue.old queue.new }
 {
     for _slot in 0..most {
@@ -72,7 +71,8 @@ fn read_next<D: Device, G: Gate, L: Ledger, M: Ledger, R: Wait>(
     queue: &mut Queue<D, L, M>,
 ) -> bool
     requires may { MayReadOn D.Device chunks queue.old }
-    requires few { length queue.old.reports.waiting < batch_of chunks }
+    requires memory { HasMemoryFor chunks
+        (min (length queue.old.reports.waiting + 1) (length queue.old.chunks.items - queue.old.done)) queue.old.reports }
     ensures reads { ReadsNextSlot D.Device chunks queue.old queue.new result }
     ensures told { IsToldOfReads G.Gate gate.now queue.old queue.new }
 {

@@ -1,4 +1,4 @@
-use Rattle.std.proofs.Common.{rules, ◌≡◌, ◌+◌, Err, length, ap, refl, sym, ◌∙◌, arith, subst}
+use Rattle.std.proofs.Common.{rules, ◌≡◌, ◌+◌, ◌*◌, Err, length, ap, refl, sym, ◌∙◌, arith, subst}
 use Rattle.std.proofs.lemmas.List.{length-map}
 use Rattle.md_collect.specs.Collecting.{copying}
 use Rattle.md_pass.specs.declared.fault.PassFault.TheVariants.{NoMemory, TargetFault}
@@ -7,7 +7,7 @@ use Rattle.md_pass.specs.TakingReports.{books}
 use Rattle.md_pass.specs.Places.{FitPlaces}
 use Rattle.md_pass.specs.Copied.{failed_slots, pass_state}
 use Rattle.md_pass.proofs.Orders.{few_slots}
-use Rattle.md_pass.proofs.PassStarts.{all_fit, in_turn, starts, turns_enough}
+use Rattle.md_pass.proofs.PassStarts.{all_fit, in_turn, memory_enough, starts, turns_enough}
 use Rattle.md_pass.proofs.PassEnds.{all_told, count_failed, devices_read, fail_only_there, fail_there, has_copied, have_left, queues_parts, none_left}
 use Rattle.md_pass.proofs.PassSources.{nothing_written}
 use Rattle.md_pass.proofs.Totals.{total_slots}
@@ -33,14 +33,19 @@ take_out-rest-requires-clause-slots g c =
 
 pub run_turns-result-requires-clause-turns : goal.run_turns-result-requires-clause-turns
 run_turns-result-requires-clause-turns g c κs within =
-    turns_enough c.turns_of-turns.result c.args.prepared.readings.items c.take_out-rest.new.queues.items c.take_out-rest.ensures.len (rw (← c.as_slice.ensures.value) c.turns_of-turns.ensures) c.take_out-rest.ensures.queues
+    turns_enough (c.turns_of-turns.result * c.args.prepared.most) c.args.prepared.readings.items c.take_out-rest.new.queues.items c.take_out-rest.ensures.len (rw (← c.as_slice.ensures.value) c.turns_of-turns.ensures) c.take_out-rest.ensures.queues
 
 pub run_turns-result-requires-clause-fresh : goal.run_turns-result-requires-clause-fresh
 run_turns-result-requires-clause-fresh g c κs within =
     let can = c.requires.can in
     let places = c.as_slice-places.result.now in
     starts (g.D.Device.honest c.args.target.now) (books c.args.prepared.collector (g.D.Device.content c.args.target.now) c.args.copied.now) c.args.devices.now.items c.take_out-rest.new.devices.items places c.args.prepared.readings.items
-    c.take_out-rest.new.queues.items can.ordered.fresh can.planned can.uncopied can.sources can.ordered.orders can.ordered.memory (in_turn c.args.prepared places c.as_slice-places.ensures.value can.ordered) can.room can.marks c.take_out-rest.ensures.len c.take_out-rest.ensures.taken c.take_out-rest.ensures.queues
+    c.take_out-rest.new.queues.items can.ordered.fresh can.planned can.uncopied can.sources can.ordered.orders (in_turn c.args.prepared places c.as_slice-places.ensures.value can.ordered) can.room can.marks c.take_out-rest.ensures.len c.take_out-rest.ensures.taken c.take_out-rest.ensures.queues
+
+pub run_turns-result-requires-clause-memory : goal.run_turns-result-requires-clause-memory
+run_turns-result-requires-clause-memory g c κs within =
+    let can = c.requires.can in
+    rw can.ordered.chunks (memory_enough c.args.prepared.collector.chunks c.args.prepared.most c.args.prepared.readings.items c.take_out-rest.new.queues.items c.args.prepared.waiting.items c.take_out-rest.ensures.len can.ordered.first_memory can.ordered.later_memory c.take_out-rest.ensures.queues)
 
 pub put_back-all-requires-clause-fits : goal.put_back-all-requires-clause-fits
 put_back-all-requires-clause-fits g c =

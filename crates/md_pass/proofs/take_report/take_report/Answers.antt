@@ -1,4 +1,4 @@
-use Rattle.std.proofs.Common.{◌≡◌, ◌+◌, Some, None, List, true, false, drop, refl, ap, sym, ◌∙◌, rules}
+use Rattle.std.proofs.Common.{◌≡◌, Some, None, List, true, false, drop, refl, ap, sym, ◌∙◌, rules}
 use Rattle.md_collect.specs.Reports.{ReportView}
 use Rattle.md_collect.specs.Workers.Queues.{is_failed}
 use Rattle.md_pass.proofs.Besides.{writes_one}
@@ -29,14 +29,16 @@ returns-then-failed-clause-reports_taken g c =
     let (rest, waits) = c.in-Some.ensures.some in
     let failed : is_failed c.in-Some.report.now ≡ true = search rules in
     let none : c.in-Some.report.now.bytes ≡ None = none_given c.in-Some.report.now failed in
-    rw waits (record {
-      counted = search rules;
-      marked = record { chunks = refl; bits = λ chunk. rw failed refl };
-      changes = c.take_ref.ensures.outside;
-      unwritten = λ _. ap g.D.Device.content (c.take_ref.ensures.unwritten none);
-      kept = rw c.retire.ensures (ap (λ (xs : List ReportView). record c.args.queue.now { done = c.args.queue.now.done + 1; reports = record c.args.queue.now.reports { waiting = drop 1 xs } }) waits);
-      holds = λ read e. absurd (let z : None ≡ Some read = sym none ∙ e in cc);
-    })
+    rw waits (
+      record {
+        counted = search rules;
+        marked = record { chunks = refl; bits = λ chunk. rw failed refl };
+        changes = c.take_ref.ensures.outside;
+        unwritten = λ _. ap g.D.Device.content (c.take_ref.ensures.unwritten none);
+        holds = λ read e. absurd (let z : None ≡ Some read = sym none ∙ e in cc);
+      },
+      c.retire.ensures ∙ ap (λ (xs : List ReportView). record c.args.reports.now { waiting = drop 1 xs }) waits,
+    )
 
 pub returns-clause-writes : goal.returns-clause-writes
 returns-clause-writes g c =
@@ -48,11 +50,13 @@ pub returns-clause-reports_taken : goal.returns-clause-reports_taken
 returns-clause-reports_taken g c =
     let (rest, waits) = c.in-Some.ensures.some in
     let given : is_failed c.in-Some.report.now ≡ false = search rules in
-    rw waits (record {
-      counted = search rules;
-      marked = record { chunks = c.mark.ensures.chunks; bits = rw (given, ← c.chunk-chunk.ensures) c.mark.ensures.bits };
-      changes = c.take_ref.ensures.outside;
-      unwritten = λ failed. absurd (let z : is_failed c.in-Some.report.now ≡ true = failed in cc);
-      kept = rw c.retire.ensures (ap (λ (xs : List ReportView). record c.args.queue.now { done = c.args.queue.now.done + 1; reports = record c.args.queue.now.reports { waiting = drop 1 xs } }) waits);
-      holds = λ read e h. held c.args.collector.now (g.D.Device.content c.args.target.now) (g.D.Device.content c.take_ref.new.target) c.in-Some.report.now read e (search rules);
-    })
+    rw waits (
+      record {
+        counted = search rules;
+        marked = record { chunks = c.mark.ensures.chunks; bits = rw (given, ← c.chunk-chunk.ensures) c.mark.ensures.bits };
+        changes = c.take_ref.ensures.outside;
+        unwritten = λ failed. absurd (let z : is_failed c.in-Some.report.now ≡ true = failed in cc);
+        holds = λ read e h. held c.args.collector.now (g.D.Device.content c.args.target.now) (g.D.Device.content c.take_ref.new.target) c.in-Some.report.now read e (search rules);
+      },
+      c.retire.ensures ∙ ap (λ (xs : List ReportView). record c.args.reports.now { waiting = drop 1 xs }) waits,
+    )

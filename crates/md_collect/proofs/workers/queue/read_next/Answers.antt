@@ -29,14 +29,14 @@ read-delivered-requires-clause-spare g c =
     let queue = c.args.queue.now in
     let some : slice_get queue.chunks.items (slots_read queue) ≡ Some c.in-Some.chunk = search rules in
     let there = some_at queue.chunks.items (slots_read queue) c.in-Some.chunk some in
-    omega (arith, c.requires.few, there.0, c.requires.may.memory.room)
+    omega (arith, there.0, c.requires.memory.room)
 
 pub read-delivered-requires-clause-long : goal.read-delivered-requires-clause-long
 read-delivered-requires-clause-long g c =
     let queue = c.args.queue.now in
     let some : slice_get queue.chunks.items (slots_read queue) ≡ Some c.in-Some.chunk = search rules in
     let there = some_at queue.chunks.items (slots_read queue) c.in-Some.chunk some in
-    c.requires.may.memory.long c.in-Some.chunk (rw there.1 (c.requires.may.chunk (slots_read queue) there.0))
+    c.requires.memory.long c.in-Some.chunk (rw there.1 (c.requires.may.chunk (slots_read queue) there.0))
 
 pub note-requires : goal.note-requires
 note-requires g c =

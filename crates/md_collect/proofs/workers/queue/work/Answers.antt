@@ -4,23 +4,28 @@ use Rattle.md_device.proofs.Failing.{fails_none}
 use Rattle.md_collect.specs.declared.workers.queue.Queue.{Queue}
 use Rattle.md_collect.specs.Workers.Queues.{IsOfWaiting}
 use Rattle.md_collect.proofs.WorkerLemmas.Gates.{told_then}
-use Rattle.md_collect.proofs.WorkerLemmas.Workers.{chunks_kept, done_kept, may_go_on, none_more_read, none_read, one_more_read, one_more_waits, role_kept, went_on}
+use Rattle.md_collect.proofs.WorkerLemmas.Workers.{chunks_kept, done_kept, may_go_on, memory_kept, none_more_read, none_read, one_more_read, one_more_waits, role_kept, went_on}
 use Rattle.md_collect.proofs.workers.queue.work.Goals as goal
 
 pub loop-slot-init : goal.loop-slot-init
 loop-slot-init g c = record {
-  read = none_read c.args.queue.now c.requires.ready;
+  read = none_read c.args.queue.now c.requires.goes c.requires.none_waits;
   done = refl;
-  count = ap length c.requires.ready.none_waits;
+  count = ap length c.requires.none_waits;
   only = fails_none (g.D.Device.faults c.args.queue.now.device) (IsOfWaiting c.args.chunks c.args.queue.now);
   told = λ j from below. absurd (omega (arith, from, below));
 }
 
 pub read_next-requires-clause-may : goal.read_next-requires-clause-may
-read_next-requires-clause-may g c = may_go_on c.args.queue.now c.loop-slot.queue c.requires.ready.goes c.loop-slot.invariant.read
+read_next-requires-clause-may g c = may_go_on c.args.queue.now c.loop-slot.queue c.requires.goes c.loop-slot.invariant.read
 
-pub read_next-requires-clause-few : goal.read_next-requires-clause-few
-read_next-requires-clause-few g c = omega (arith, c.loop-slot.invariant.count, c.loop-slot-test.true, c.requires.most.1)
+pub read_next-requires-clause-memory : goal.read_next-requires-clause-memory
+read_next-requires-clause-memory g c =
+    let inv = c.loop-slot.invariant in
+    let memory = memory_kept inv.read c.requires.memory in
+    let room = memory.room in
+    let n = ap (λ (v : _). length v.items) (chunks_kept inv.read) in
+    record { room = omega (arith, room, n, inv.done, inv.count, c.loop-slot-test.true); long = memory.long }
 
 pub loop-slot-preserved : goal.loop-slot-preserved
 loop-slot-preserved g c =
@@ -47,10 +52,7 @@ returns-then-not-read_next-clause-worked g c =
     record {
       read = went_on c.args.queue.now c.loop-slot.queue c.read_next.new.queue c.read_next.result inv.read c.read_next.ensures.reads;
       done = ap (λ (l : Queue _ _ _). l.done) same ∙ inv.done;
-      few = omega (arith, many, inv.count, c.loop-slot-test.true, c.requires.most.1);
-      some = λ more.
-          let n = ap (λ (v : _). length v.items) (chunks_kept inv.read) in
-          omega (arith, past, many, n, inv.done, more);
+      many = (let n = ap (λ (v : _). length v.items) (chunks_kept inv.read) in let within = inv.read.within in omega (arith, past, many, n, inv.done, inv.count, within, c.loop-slot-test.true));
       only = subst (λ (l : Queue _ _ _). EachNewFault (g.D.Device.faults c.args.queue.now.device) (g.D.Device.faults l.device) (IsOfWaiting c.args.chunks l)) (sym same) inv.only;
     }
 
@@ -63,7 +65,6 @@ returns-clause-worked g c =
     record {
       read = inv.read;
       done = inv.done;
-      few = omega (arith, inv.count, c.loop-slot.auto._slot-end, c.requires.most.1);
-      some = λ more. omega (arith, inv.count, c.loop-slot-test.false, c.requires.most.0);
+      many = (let within = inv.read.within in omega (arith, inv.count, inv.done, within, c.loop-slot-test.false, c.loop-slot.auto._slot-end));
       only = inv.only;
     }
