@@ -1,5 +1,5 @@
-"""Zeros that are written to an image: where zeros stand already nothing is written, so that a hole stays one; where data stand they
-are gone. Pieces of 64 KiB are looked at, counted from where a write begins."""
+"""Zeros that are written to an image or put out: where zeros stand already nothing is written, so that a hole stays one; where data
+stand they are gone. Pieces of 64 KiB are looked at, counted from where a write begins."""
 
 import os
 
@@ -92,8 +92,42 @@ class Holes:
             self.is_sparse(reasons, new)
         self.tally.judge(name, reasons)
 
+    def with_data(self, name):
+        """A sparse image that has these data, and holes between them."""
+        path = self.image(name)
+        with open(str(path), "r+b") as image:
+            for at in range(0, len(CONTENT), SECTOR):
+                if CONTENT[at] != 0:
+                    image.seek(DATA_AT * SECTOR + at)
+                    image.write(CONTENT[at : at + SECTOR])
+        return path
+
+    def put_out(self, name):
+        reasons, images = [], [self.with_data("six.img"), self.with_data("seven.img")]
+        self.done(reasons, disks.create(images) + ["--assume-clean"])
+        output = self.scratch / "output.img"
+        self.done(reasons, ["read", "--readonly", "--sector", 0, "--output", output] + images)
+        if output.read_bytes() != CONTENT:
+            reasons.append("something else is put out")
+        self.is_sparse(reasons, output)
+        self.tally.judge(name, reasons)
+
+    def resynced(self, name, fill, is_sparse):
+        """All chunks are marked, and the second image differs."""
+        reasons, images = [], [self.with_data("eight.img"), self.image("nine.img", fill)]
+        self.done(reasons, disks.create(images))
+        self.done(reasons, ["resync"] + images)
+        for image in images:
+            self.holds(reasons, image, CONTENT)
+            if is_sparse:
+                self.is_sparse(reasons, image)
+        self.tally.judge(name, reasons)
+
     def all(self):
         self.written("zeros are written into holes: these stay")
         self.written_over("zeros are written over data: these are gone")
         self.rebuilt("a sparse image is rebuilt: it stays sparse", None, True)
         self.rebuilt("an image full of data is rebuilt: it gets the zeros", 0xA5, False)
+        self.put_out("an array with holes is put out: they are holes of the file")
+        self.resynced("sparse images are resynced: they stay sparse", None, True)
+        self.resynced("an image full of data is resynced: it gets the zeros", 0xA5, False)

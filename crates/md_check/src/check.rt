@@ -23,7 +23,7 @@ use std::thread::Threads;
 /// members in sync the chunks in which these two do. Listed sectors are not read, nor is any device where fewer
 /// than two members are in sync.
 ///
-/// Each member in sync is read by a worker of its own, in windows of 1 MiB and each chunk by itself; the
+/// Each member in sync is read by a worker of its own, in windows of 2 MiB and each chunk by itself; the
 /// gate is called round each read, `source` being the member's role. From the second window on the first
 /// member in sync is read a window ahead, and what is read of the others is compared with it at once. A window
 /// in which not all is the same is read of that member again. All memory is taken before a device is used.

@@ -18,8 +18,8 @@ use md_device::Device;
 use std::mem;
 use std::thread::Threads;
 
-/// How many sectors of each member are read at a time.
-pub(crate) const WINDOW: u64 = 2048;
+/// How many sectors of each member are read at a time, 2 MiB: each time threads are started, and waited for.
+pub(crate) const WINDOW: u64 = 4096;
 
 /// A chunk of a member that could not be read.
 #[derive(Clone, Copy, Debug, PartialEq, Eq)]
@@ -41,8 +41,8 @@ pub(crate) fn check_lent<D: Device + Send, G: Gate + Sync, R: Threads + Sync>(
     found: &mut Comparison,
 ) -> Result<(), Missed>
     requires read_here { All (λ reader. HasDataOnDevice D.Device chunks reader) readers.old.items }
-    requires room { All (λ reader. 512 * min 2048 chunks.size ≤ length reader.bytes.items) readers.old.items }
-    requires lead { 512 * min 2048 chunks.size ≤ length lead.old.items }
+    requires room { All (λ reader. 512 * min 4096 chunks.size ≤ length reader.bytes.items) readers.old.items }
+    requires lead { 512 * min 4096 chunks.size ≤ length lead.old.items }
     requires sized { IsSized chunks found.old }
     requires none { IsEmpty found.old }
     ensures kept { KeepsPairs found.old found.new }

@@ -130,7 +130,7 @@ loop-from-preserved g c =
     let read = turn_read firsts olds mids inv.read len turned in
     let adds : AddsCompared (ReaderShows (in_window bytes from) mids) c.args.chunks from (from + sectors) c.loop-from.found c.compare_window.new.found
     = subst (λ (xs : List (Reader _)). AddsCompared (ReaderShows (in_window bytes from) xs) c.args.chunks from (from + sectors) c.loop-from.found c.compare_window.new.found) c.as_slice-in-loop-from-3.ensures.value c.compare_window.ensures in
-    let rooms : (k : ℕ) (d : Reader _) → k < length mids → 512 * min 2048 c.args.chunks.size ≤ length (get_or mids k d).bytes.items
+    let rooms : (k : ℕ) (d : Reader _) → k < length mids → 512 * min 4096 c.args.chunks.size ≤ length (get_or mids k d).bytes.items
     = λ k d below. let long = (turned k d (omega arith)).long in let r = inv.room k d (omega arith) in omega arith in
     record {
       few = omega arith;
@@ -138,10 +138,10 @@ loop-from-preserved g c =
       read = subst (λ (xs : List (Reader _)). AreReadersRead g.D.Device firsts xs) (sym back) (read_exchanged firsts mids news read news_len same);
       unfailing = subst (λ (xs : List (Reader _)). HaveNotFailed g.D.Device (length firsts) firsts xs) (sym back)
           (unfailing_exchanged g.D.Device (length firsts) firsts mids news (omega arith) (turn_unfailing (length firsts) firsts olds mids (omega arith) turned (λ k d below. none k d (omega arith)) inv.unfailing) same);
-      room = subst (λ (xs : List (Reader _)). All (λ (s : Reader _). 512 * min 2048 c.args.chunks.size ≤ length s.bytes.items) xs) (sym back)
-          (rooms_exchanged (512 * min 2048 c.args.chunks.size) mids news first lead news_len lead_room rooms
+      room = subst (λ (xs : List (Reader _)). All (λ (s : Reader _). 512 * min 4096 c.args.chunks.size ≤ length s.bytes.items) xs) (sym back)
+          (rooms_exchanged (512 * min 4096 c.args.chunks.size) mids news first lead news_len lead_room rooms
           (λ k d below is. ap (λ (s : Reader _). s.bytes.items) (here k d below is).0) others);
-      lead_room = lead_room_after (512 * min 2048 c.args.chunks.size) mids first lead c.exchange.new.lead.items lead_room rooms (λ k d below is. ap (λ v. v.items) (here k d below is).1)
+      lead_room = lead_room_after (512 * min 4096 c.args.chunks.size) mids first lead c.exchange.new.lead.items lead_room rooms (λ k d below is. ap (λ v. v.items) (here k d below is).1)
           (λ past. ap (λ v. v.items) (c.exchange.ensures.none (let l = ap length lent.value in omega arith)));
       lead = subst (λ (xs : List (Reader _)). (k : ℕ) (d : Reader _) → k < length xs → k ≡ first → IsLead g.D.Device (from + sectors) (take (512 * ahead) c.exchange.new.lead.items) (get_or xs k d)) (sym back)
           (λ k d below is.
