@@ -16,7 +16,7 @@ _mdcli_options() {
     plan) printf '%s\n' --member= --json --readonly --map= ;;
     read) printf '%s\n' --sector= --count= --fill --map-out= --output= --readonly --map= ;;
     serve) printf '%s\n' --fill --readonly --map= ;;
-    write) printf '%s\n' --sector= ;;
+    write) printf '%s\n' --sector= --count= ;;
     check) printf '%s\n' --list --exit-code --json --readonly --map= ;;
     resync) printf '%s\n' --map= ;;
     stop) printf '%s\n' --json ;;

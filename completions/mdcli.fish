@@ -53,6 +53,7 @@ complete -c mdcli -n '__fish_seen_subcommand_from read' -l output -x -d "Makes a
 complete -c mdcli -n '__fish_seen_subcommand_from serve' -l fill -d "With --readonly: gives zeros in the place of sectors that are not given, which else are an input/output error"
 complete -c mdcli -n '__fish_seen_subcommand_from serve' -l readonly -d "Changes no image, and refuses writes"
 complete -c mdcli -n '__fish_seen_subcommand_from serve' -l map -x -d "With --readonly: the image is a copy of a disk, and FILE ddrescue's map of it: what it lacks is not read; of each image one"
+complete -c mdcli -n '__fish_seen_subcommand_from write' -l count -x -d "The number of sectors that the input has, or a size as 64M: a pipe is then written in pieces, as a file is"
 complete -c mdcli -n '__fish_seen_subcommand_from check' -l list -d "Shows where members differ too, and which: a line for each such chunk"
 complete -c mdcli -n '__fish_seen_subcommand_from check' -l exit-code -d "Ends with status 3 where members differ"
 complete -c mdcli -n '__fish_seen_subcommand_from add re-add' -l device -r -F -d "The image that joins the array: a file or a block device, none of those listed"

@@ -23,11 +23,15 @@ impl Watch for Silent {
 
     ghost compares = { λ _ _. ⊤ };
 
+    ghost writes = { λ _ _. ⊤ };
+
     ghost has_written = { λ _ _. ⊤ };
 
     fn begins(&self, _chunks: u32, _first: Option<u32>) {}
 
     fn begins_check(&self, _sectors: u64) {}
+
+    fn begins_write(&self, _sectors: u64) {}
 
     fn wrote(&self, _sectors: u64) {}
 }

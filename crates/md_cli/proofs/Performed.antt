@@ -96,9 +96,9 @@ module _ {R S A : Type 0} (r : SourceGhosts R) (s : SinkGhosts S) (names : List 
   all_kept (checks check_form.Count exit_code readonly) (Ok v) brings h = kept _ before after brings h.0 (done_check s before.mirror after.mirror old.output new.output h.2.count h.2.shows)
   all_kept (checks check_form.Count exit_code readonly) (Err f) brings h =
       kept _ before after brings h.0 (checks_as_many s before.mirror after.mirror old.output new.output f h.2)
-  all_kept (writes sector) (Ok v) brings h = kept _ before after brings h.0 (done_write r s sector before.mirror after.mirror old.input new.input old.output new.output h.1.writes)
-  all_kept (writes sector) (Err f) brings h =
-      kept _ before after brings h.0 (writes_as_many s before.mirror after.mirror old.output new.output r sector old.input new.input h.1.written f h.1.writes)
+  all_kept (writes sector count) (Ok v) brings h = kept _ before after brings h.0 (done_write r s sector count before.mirror after.mirror old.input new.input old.output new.output h.1.writes)
+  all_kept (writes sector count) (Err f) brings h =
+      kept _ before after brings h.0 (writes_as_many s before.mirror after.mirror old.output new.output r sector count old.input new.input h.1.written f h.1.writes)
   all_kept resyncs (Ok v) brings h = kept _ before after brings h.0 (done_resync before.mirror after.mirror h.2.stops)
   all_kept resyncs (Err f) brings h =
       kept _ before after brings h.0 (resyncs_as_many s before.mirror after.mirror old.output new.output f h.2)
@@ -145,7 +145,7 @@ module _ {R S A : Type 0} (r : SourceGhosts R) (s : SinkGhosts S) (names : List 
   performs_asked (serves fill) h = (h.0, record { missing = h.1.missing; serves = h.1.serves; rests = h.1.rests; noted = h.1.noted })
   performs_asked serves_writable h = h
   performs_asked (checks form exit_code readonly) h = h
-  performs_asked (writes sector) h = h
+  performs_asked (writes sector count) h = h
   performs_asked resyncs h = h
   performs_asked (stops json) h = h
   performs_asked (fails k) h = h

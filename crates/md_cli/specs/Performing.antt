@@ -164,12 +164,12 @@ module _ {R S A : Type 0} (r : SourceGhosts R) (s : SinkGhosts S) where
 
 module _ {R S : Type 0} (r : SourceGhosts R) (s : SinkGhosts S) where
   -- The input is written, and then the array is stopped and shown; or not all of it is, but perhaps so many sectors.
-  pub record PerformsWrite (sector : ℕ) (before after : OpenedView) (input rest : R) (old new : S)
-      (result : Result (Unit {0}) CommandFault) : Type 0 where
+  pub record PerformsWrite (sector : ℕ) (count : Option ℕ) (before after : OpenedView) (input rest : R)
+      (old new : S) (result : Result (Unit {0}) CommandFault) : Type 0 where
     pub written : ℕ
     pub writes : MatchResult result
-        (λ _. WritesArray r s sector before.mirror after.mirror input rest old new)
-        (RefusesToWrite r s sector before.mirror after.mirror input rest old new written)
+        (λ _. WritesArray r s sector count before.mirror after.mirror input rest old new)
+        (RefusesToWrite r s sector count before.mirror after.mirror input rest old new written)
 
 module _ {R S A : Type 0} (r : SourceGhosts R) (s : SinkGhosts S) (names : List Text) where
   -- The array as it was opened and as it is left, from the images of these names, that of a device which joins last; and the streams
@@ -201,9 +201,9 @@ module _ {R S A : Type 0} (r : SourceGhosts R) (s : SinkGhosts S) (names : List 
   Performs (checks form exit_code readonly) before after old new result =
       (after.beside ≡ before.beside) × (new.input ≡ old.input)
       × PerformsCheck s form names before after old.output new.output new.mismatched result
-  Performs (writes sector) before after old new result =
+  Performs (writes sector count) before after old new result =
       (after.beside ≡ before.beside)
-      × PerformsWrite r s sector before after old.input new.input old.output new.output result
+      × PerformsWrite r s sector count before after old.input new.input old.output new.output result
   Performs resyncs before after old new result =
       (after.beside ≡ before.beside) × (new.input ≡ old.input)
       × MatchResult result

@@ -91,9 +91,9 @@ pub(crate) fn perform<
             serve_writable(alloc, &mut opened.mirror, input, &mut session.out)
         }
         Command::Check { form, .. } => check(session, opened, form, names),
-        Command::Write { sector } => {
+        Command::Write { sector, count } => {
             let (input, out) = (&mut session.input, &mut session.out);
-            write_input(alloc, opened, sector, input, watch, out)
+            write_input(alloc, opened, sector, count, input, watch, out)
         }
         Command::Resync => Ok(resync_array(alloc, &mut opened.mirror, &mut session.out)?),
         Command::Stop { json } => stop(opened, json, names, &mut session.out),
@@ -287,24 +287,25 @@ fn serve<D: Device + Drop, T, R: Source + Drop, S: Sink + Drop, W, A: Drop>(
     Ok(served?)
 }
 
-// Writes the input to the array, and stops it. The watch is told how many sectors stand of one that is not written to its end.
+// Writes the input to the array, and stops it. The watch is told how much of one that is written piece by piece stands.
 fn write_input<D: Device + Drop, R: Source, W: Watch, S: Sink>(
     alloc: Global,
     opened: &mut Opened<D>,
     sector: u64,
+    count: Option<u64>,
     input: &mut R,
     watch: &W,
     out: &mut S,
 ) -> Result<(), CommandFault>
     requires sound { IsConsistent opened.old.mirror }
     ensures kept { (opened_view D.Device opened.new).beside ≡ (opened_view D.Device opened.old).beside }
-    ensures writes { PerformsWrite R.Source S.Sink sector
+    ensures writes { PerformsWrite R.Source S.Sink sector count
         (opened_view D.Device opened.old) (opened_view D.Device opened.new) input.old input.new
         out.old out.new result }
     ensures flushed { IfOk result (λ _. S.is_flushed out.new) }
 {
     let mirror = &mut opened.mirror;
-    Ok(write_array(alloc, mirror, sector, input, watch, out)?)
+    Ok(write_array(alloc, mirror, sector, count, input, watch, out)?)
 }
 
 // Compares the members in sync, and puts out in how many chunks two differ, or which these are. How many is noted.

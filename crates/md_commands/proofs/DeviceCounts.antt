@@ -53,6 +53,7 @@ use Rattle.md_commands.specs.Failing.{RefusesToFail}
 use Rattle.md_commands.specs.Removing.{HandsBack, RefusesRemoving}
 use Rattle.md_commands.specs.Resyncing.{RefusesNeededResync, RefusesToResync, ResyncsIfNeeded, needs_resync}
 use Rattle.md_commands.specs.Stopping.{FailsToStop, FailsToStopArray, RefusesToStop, StopsAfter, StopsArray, StopsArrayAfter}
+use Rattle.md_commands.specs.ToldLength.{known_length}
 use Rattle.md_commands.specs.Writing.{FailsInput, RefusesInMemory, RefusesToldInput, RefusesToWrite, RefusesWriting, WritesArray, WritesBytes, WritesReadied}
 use Rattle.md_commands.specs.WritingPieces.{HasWritten, RefusesPieces, WritesFront, WritesPieces}
 
@@ -329,14 +330,17 @@ module _ {S : Type 0} (s : SinkGhosts S) (old new : MirrorView) (before after : 
   lists_as_many OutputFault h = h.compares.finds.rests.disks.same.as_many
   lists_as_many fault h = absurd h
 
-  module _ {I : Type 0} (i : SourceGhosts I) (sector : ℕ) (input rest : I) (written : ℕ) where
-    unread : (fault : CommandFault) → RefusesToldInput i s sector old new input rest before after fault → AsMany old new
+  module _ {I : Type 0} (i : SourceGhosts I) (sector : ℕ) (count : Option ℕ) (input rest : I) (written : ℕ) where
+    abbrev known : Option ℕ
+    known = known_length count (i.told input)
+
+    unread : (fault : CommandFault) → RefusesToldInput i s sector count old new input rest before after fault → AsMany old new
     unread fault h = same old new h.unchanged
 
-    not_all_written : (fault : CommandFault) → FailsInput i s sector old new input rest before after written fault → AsMany old new
-    not_all_written fault h = writing_refused i sector old new input rest written (i.told input) fault h.refused
+    not_all_written : (fault : CommandFault) → FailsInput i s sector count old new input rest before after written fault → AsMany old new
+    not_all_written fault h = writing_refused i sector old new input rest written known fault h.refused
 
-    pub writes_as_many : (fault : CommandFault) → RefusesToWrite i s sector old new input rest before after written fault → AsMany old new
+    pub writes_as_many : (fault : CommandFault) → RefusesToWrite i s sector count old new input rest before after written fault → AsMany old new
     writes_as_many InputFault h = not_all_written InputFault h
     writes_as_many NoPieceMemory h = not_all_written NoPieceMemory h
     writes_as_many OutOfRange h = ⊎_elim (unread OutOfRange) (not_all_written OutOfRange) h
@@ -346,18 +350,18 @@ module _ {S : Type 0} (s : SinkGhosts S) (old new : MirrorView) (before after : 
         (λ r. refused old new _ r.refused)
         (⊎_elim (unread (Write fault)) (not_all_written (Write fault)))
         h
-    writes_as_many (Stop fault) h = fails_after (WritesBytes (i.told input) sector h.bytes old) old new fault (bytes_wrote (i.told input) sector h.bytes old) h.refused
-    writes_as_many OutputFault h = stopped_after (WritesBytes (i.told input) sector h.bytes old) old new (bytes_wrote (i.told input) sector h.bytes old) h.done
+    writes_as_many (Stop fault) h = fails_after (WritesBytes known sector h.bytes old) old new fault (bytes_wrote known sector h.bytes old) h.refused
+    writes_as_many OutputFault h = stopped_after (WritesBytes known sector h.bytes old) old new (bytes_wrote known sector h.bytes old) h.done
     writes_as_many fault h = absurd h
 
 -- where the command is done
 pub done_resync : (old new : MirrorView) → StopsAfter (Resyncs old) new → AsMany old new
 done_resync old new = stopped_after (Resyncs old) old new (resynced old)
 
-pub done_write : {I S : Type 0} (i : SourceGhosts I) (s : SinkGhosts S) (sector : ℕ) (old new : MirrorView) (input rest : I) (before after : S)
-    → WritesArray i s sector old new input rest before after → AsMany old new
-done_write i s sector old new input rest before after h =
-    stopped_after (WritesBytes (i.told input) sector h.bytes old) old new (bytes_wrote (i.told input) sector h.bytes old) h.done
+pub done_write : {I S : Type 0} (i : SourceGhosts I) (s : SinkGhosts S) (sector : ℕ) (count : Option ℕ) (old new : MirrorView) (input rest : I) (before after : S)
+    → WritesArray i s sector count old new input rest before after → AsMany old new
+done_write i s sector count old new input rest before after h =
+    stopped_after (WritesBytes (known_length count (i.told input)) sector h.bytes old) old new (bytes_wrote (known_length count (i.told input)) sector h.bytes old) h.done
 
 -- ---- a member fails
 failed : (k : ℕ) (old new : MirrorView) → FailsMember k old new → AsMany old new

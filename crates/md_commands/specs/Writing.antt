@@ -15,8 +15,8 @@ use Rattle.md_commands.specs.Output.{PutsOut}
 use Rattle.md_commands.specs.ReadingInput.{IsInput, RefusesInput}
 use Rattle.md_commands.specs.Resyncing.{RefusesNeededResync, ResyncsIfNeeded}
 use Rattle.md_commands.specs.Stopping.{FailsToStop, StopsAfter}
-use Rattle.md_commands.specs.ToldLength.{MayBeRead, RefusesTold}
-use Rattle.md_commands.specs.WritingPieces.{RefusesPieces, WritesFront}
+use Rattle.md_commands.specs.ToldLength.{MayBeTaken, RefusesKnown, known_length}
+use Rattle.md_commands.specs.WritingPieces.{IsToldOfAll, RefusesPieces, WritesFront}
 
 -- the array is resynced where it has to be, and then the bytes are written
 pub record WritesReadied (sector : ℕ) (bytes : List ℕ) (old new : MirrorView) : Type 0 where
@@ -36,7 +36,7 @@ RefusesBytes sector bytes old new (Resync fault) = RefusesNeededResync old new f
 RefusesBytes sector bytes old new (Write fault) = FailsReadyWrite sector bytes old new fault
 RefusesBytes sector bytes old new fault = ⊥
 
--- The bytes of an input are written: by one write where its length was not told, and else piece by piece.
+-- The bytes of an input are written: by one write where its length was not known, and else piece by piece.
 abbrev pub WritesBytes : Option ℕ → ℕ → List ℕ → MirrorView → MirrorView → Type 0
 WritesBytes None sector bytes old new = WritesReadied sector bytes old new
 WritesBytes (Some len) sector bytes old new =
@@ -61,23 +61,28 @@ module _ {I : Type 0} (i : SourceGhosts I) (sector : ℕ) (old new : MirrorView)
   RefusesInMemory (Write fault) = FailsFromMemory (Write fault)
   RefusesInMemory fault = RefusesInput i old.array.chunks.size input rest fault × (new ≡ old)
 
-  -- Not all of it is written, but so many sectors: none where its length was not told.
+  -- Not all of it is written, but so many sectors: none where its length was not known.
   abbrev pub RefusesWriting : Option ℕ → ℕ → CommandFault → Type 0
   RefusesWriting None written fault = (written ≡ 0) × RefusesInMemory fault
   RefusesWriting (Some len) written fault = RefusesPieces i sector len written old new input rest fault
 
--- A watch is told how many sectors stand of an input that is not written to its end, where some do.
-abbrev pub IsToldOfFront : {W : Type 0} → (W → ℕ → Type 0) → W → ℕ → Type 0
-IsToldOfFront has_written watch written = 0 < written → has_written watch written
+-- Of an input whose length was known a watch was told how many sectors it has, and that all stand.
+abbrev pub IsToldOfLength : {W : Type 0} → (W → ℕ → Type 0) → (W → ℕ → Type 0) → W → Option ℕ → Type 0
+IsToldOfLength writes has_written watch None = Unit {0}
+IsToldOfLength writes has_written watch (Some len) = IsToldOfAll writes has_written watch (len / 512)
 
-module _ {I S : Type 0} (i : SourceGhosts I) (s : SinkGhosts S) (sector : ℕ) (old new : MirrorView)
-    (input rest : I) (before after : S) where
+module _ {I S : Type 0} (i : SourceGhosts I) (s : SinkGhosts S) (sector : ℕ) (count : Option ℕ)
+    (old new : MirrorView) (input rest : I) (before after : S) where
+  -- how many bytes the input has to have, where that is known
+  abbrev known : Option ℕ
+  known = known_length count (i.told input)
+
   -- all of the input is written, the array is stopped, and then shown
   pub record WritesArray : Type 0 where
-    pub may : MayBeRead old.array sector (i.told input)
+    pub may : MayBeTaken old.array sector count (i.told input)
     pub bytes : List ℕ
     pub is : IsInput i old.array.chunks.size input rest bytes
-    pub done : StopsAfter (WritesBytes (i.told input) sector bytes old) new
+    pub done : StopsAfter (WritesBytes known sector bytes old) new
     pub shown : PutsOut s before after (summary_text new.array)
 
   -- the mirror is halted, and nothing is done
@@ -87,10 +92,10 @@ module _ {I S : Type 0} (i : SourceGhosts I) (s : SinkGhosts S) (sector : ℕ) (
     pub unread : rest ≡ input
     pub unwritten : after ≡ before
 
-  -- the input is refused for the length that is told of it, and nothing is done: it is not read
+  -- the input is refused for the length that is known of it, and nothing is done: it is not read
   pub record RefusesToldInput (fault : CommandFault) : Type 0 where
     pub running : old.array.halted ≡ false
-    pub refused : RefusesTold old.array sector (i.told input) fault
+    pub refused : RefusesKnown old.array sector count (i.told input) fault
     pub unchanged : new ≡ old
     pub unread : rest ≡ input
     pub unwritten : after ≡ before
@@ -98,25 +103,25 @@ module _ {I S : Type 0} (i : SourceGhosts I) (s : SinkGhosts S) (sector : ℕ) (
   -- the input is read and refused, or not written to its end
   pub record FailsInput (written : ℕ) (fault : CommandFault) : Type 0 where
     pub running : old.array.halted ≡ false
-    pub may : MayBeRead old.array sector (i.told input)
-    pub refused : RefusesWriting i sector old new input rest (i.told input) written fault
+    pub may : MayBeTaken old.array sector count (i.told input)
+    pub refused : RefusesWriting i sector old new input rest known written fault
     pub unwritten : after ≡ before
 
   -- it is written, and the array is not stopped
   pub record FailsUnstopped (fault : StopFault) : Type 0 where
     pub running : old.array.halted ≡ false
-    pub may : MayBeRead old.array sector (i.told input)
+    pub may : MayBeTaken old.array sector count (i.told input)
     pub bytes : List ℕ
     pub is : IsInput i old.array.chunks.size input rest bytes
-    pub refused : FailsToStop (WritesBytes (i.told input) sector bytes old) new fault
+    pub refused : FailsToStop (WritesBytes known sector bytes old) new fault
     pub unwritten : after ≡ before
 
   -- all is done, and the output failed
   pub record WritesInVain : Type 0 where
-    pub may : MayBeRead old.array sector (i.told input)
+    pub may : MayBeTaken old.array sector count (i.told input)
     pub bytes : List ℕ
     pub is : IsInput i old.array.chunks.size input rest bytes
-    pub done : StopsAfter (WritesBytes (i.told input) sector bytes old) new
+    pub done : StopsAfter (WritesBytes known sector bytes old) new
     pub failed : s.failed after ≡ true
 
   -- of the input so many sectors are written before it is refused

@@ -1,4 +1,4 @@
--- An input that tells its length is written piece by piece.
+-- An input whose length is known is written piece by piece.
 use Rattle.std.specs.Prelude.{◌≡◌, ◌⊎◌, ℕ, ◌+◌, ◌*◌, ◌-◌, ◌/◌, ◌%◌, ◌<◌, ◌≤◌, Bool, true, min, List, [], ◌∷◌, ◌++◌, length, take}
 use Rattle.std.specs.Io.KnownBytes.{Consumes, IsAtEnd}
 use Rattle.std.specs.List.{concat}
@@ -59,6 +59,16 @@ pub record HasWritten (sector count written : ℕ) (bytes : List ℕ) (old new :
   pub many : length bytes ≡ 512 * written
   pub none : written ≡ 0 → new ≡ old
   pub some : 0 < written → WritesFront sector count bytes old new
+
+-- A watch was told how many sectors of the input stand, where some do.
+abbrev pub IsToldOfFront : {W : Type 0} → (W → ℕ → Type 0) → W → ℕ → Type 0
+IsToldOfFront has_written watch written = 0 < written → has_written watch written
+
+-- A watch was told how many sectors the input has, and that all stand.
+pub record IsToldOfAll {W : Type 0} (writes has_written : W → ℕ → Type 0) (watch : W) (count : ℕ)
+    : Type 0 where
+  pub all : writes watch count
+  pub done : has_written watch count
 
 -- only a call that failed refuses it
 abbrev pub IsInputFault : Type 0 → CommandFault → Type 0
@@ -157,7 +167,7 @@ module _ {I : Type 0} (i : Ghosts I) where
         pub taken : Consumes (i.remaining input) (i.remaining rest) (bytes ++ piece)
         pub has_failed : i.failed rest ≡ true
 
-      -- The input has another length than it told: it ended early, or went on. What comes in the last piece then is not written.
+      -- The input has another length than was known: it ended early, or went on. What comes in the last piece then is not written.
       pub record IsNotAsTold : Type 0 where
         pub bytes : List ℕ
         pub stands : HasWritten sector (len / 512) written bytes old new

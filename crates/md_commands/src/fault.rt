@@ -64,7 +64,7 @@ pub enum CommandFault {
     /// The input is longer than the array.
     #[error("OutOfRange")]
     OutOfRange,
-    /// The input ends within a sector.
+    /// The input ends within a sector, or has another length than is known.
     #[error("BadLength")]
     BadLength,
     /// No member has the index that the command names.

@@ -8,7 +8,7 @@
 //!
 //! ```
 //! show_detail(&mirror, &mut out)?;
-//! write_array(alloc, &mut mirror, 8, &mut input, &watch, &mut out)?;
+//! write_array(alloc, &mut mirror, 8, None, &mut input, &watch, &mut out)?;
 //! ```
 #![tactic(auto)]
 

@@ -3,8 +3,8 @@ ghost use Rattle.std.specs.Prelude.{ℕ, Option};
 
 use md_copy::Gate;
 
-/// Is told of a rebuild, or of a check, so that its progress can be shown: what it has to do, and as a gate of
-/// each read. And of a write that ends early, what stands.
+/// Is told of a rebuild, of a check, or of a write piece by piece, so that its progress can be shown: what it has to do, and as a
+/// gate of each read, or after each piece, what is done. So it is known too what stands of a write that ends early.
 pub trait Watch: Gate {
     /// It was told that the member which is rebuilt lacks so many chunks, of which this is the first. Only `begins` says
     /// it, so that a call of which a contract says it has told the watch.
@@ -13,7 +13,10 @@ pub trait Watch: Gate {
     /// It was told that the members which are compared have so many sectors in all. Only `begins_check` says it.
     ghost compares: { Self → ℕ → Type 0 };
 
-    /// It was told that so many sectors of an input stand, which is not written to its end. Only `wrote` says it.
+    /// It was told that an input of so many sectors is to be written. Only `begins_write` says it.
+    ghost writes: { Self → ℕ → Type 0 };
+
+    /// It was told that so many sectors of an input are written. Only `wrote` says it.
     ghost has_written: { Self → ℕ → Type 0 };
 
     /// The member that is rebuilt lacks so many chunks, of which this is the first. Not each of them need be
@@ -26,8 +29,12 @@ pub trait Watch: Gate {
     fn begins_check(&self, sectors: u64)
         ensures { compares self.now sectors };
 
-    /// So many sectors of an input are written and stand: the write of the next ones is refused. Of those some may be written too, on some
-    /// members.
+    /// An input of so many sectors is to be written piece by piece, from now on.
+    fn begins_write(&self, sectors: u64)
+        ensures { writes self.now sectors };
+
+    /// So many sectors of it are written and stand. Where the write of the next ones is refused, some of those may be written too, on
+    /// some members.
     fn wrote(&self, sectors: u64)
         ensures { has_written self.now sectors };
 }

@@ -1,18 +1,18 @@
 // The command that writes to an array.
-ghost use Rattle.std.specs.Prelude.{◌≡◌, ◌%◌, MatchResult, None, ℕ, length};
+ghost use Rattle.std.specs.Prelude.{◌≡◌, ◌%◌, IfOk, MatchResult, None, ℕ, length};
 ghost use Rattle.md_inflight.specs.Requests.Pending.{PendingView};
 ghost use Rattle.md_state.specs.Requests.{IsPending};
 ghost use Rattle.md_array.specs.Consistency.{IsConsistent};
-ghost use Rattle.md_commands.specs.ToldLength.{MayBeRead};
-ghost use Rattle.md_commands.specs.Writing.{IsToldOfFront, RefusesBytes, RefusesInMemory, RefusesToWrite, RefusesWriting, WritesArray, WritesInput, WritesReadied};
-ghost use Rattle.md_commands.specs.WritingPieces.{RefusesPieces, WritesInPieces};
+ghost use Rattle.md_commands.specs.ToldLength.{MayBeRead, known_length};
+ghost use Rattle.md_commands.specs.Writing.{IsToldOfLength, RefusesBytes, RefusesInMemory, RefusesToWrite, RefusesWriting, WritesArray, WritesInput, WritesReadied};
+ghost use Rattle.md_commands.specs.WritingPieces.{IsToldOfFront};
 
 use crate::fault::CommandFault;
 use crate::input::whole_input;
 use crate::output::put_summary;
 use crate::resyncing::resync_if_needed;
 use crate::source::Source;
-use crate::told_length::check_told;
+use crate::told_length::known_length;
 use crate::watch::Watch;
 use crate::writing_pieces::write_in_pieces;
 use md_array::{BeginFault, Mirror};
@@ -24,12 +24,14 @@ use std::alloc::Global;
 
 /// Writes all of an input to an array, from this sector on; then stops it, and puts out what it is in one
 /// line. A degraded array that is not resynced is resynced first. The input is not read of a halted mirror, which is `Write` with
-/// `Halted`, nor where it tells its length before (`Source::bytes_left`) and must be refused for that.
+/// `Halted`, nor where its length is known before and must be refused: with `count` it has to have so many sectors, and else it may
+/// tell how many bytes it has (`Source::bytes_left`). One that tells another length than `count` is `BadLength`.
 ///
-/// An input that tells its length is written piece by piece, each by a `write` of its own: a piece is the memory that it takes, 16 MiB
+/// An input whose length is known is written piece by piece, each by a `write` of its own: a piece is the memory that it takes, 16 MiB
 /// at most. Nothing is done before the first piece was read. At `InputFault`, and at `BadLength`, which then also says that the input
-/// ended before the length that it told or went on after it, the pieces before stand, and so they do where one is refused; at
-/// `NoPieceMemory` nothing was read. `watch` is told how many sectors stand of an input that is not written to its end.
+/// ended before that length or went on after it, the pieces before stand, and so they do where one is refused; at `NoPieceMemory`
+/// nothing was read. That it goes on is seen before the last piece is written. `watch` is told how many sectors there are, and after
+/// each piece how many of them stand.
 ///
 /// Any other input is read into memory before anything else is done, to its end or to one byte more than the array has, and
 /// written at once: at `InputFault`, `OutOfRange`, `BadLength` and `NoPieceMemory` nothing was written.
@@ -39,11 +41,12 @@ use std::alloc::Global;
 ///
 ///     let mut input = Input::new(&[7; 512][..]);
 ///     let mut out = Output::new(rt.stdout());
-///     write_array(rt.alloc(), &mut mirror, 8, &mut input, &watch, &mut out)?; // puts out `in sync 2 of 2, events 3, marked 0`
+///     write_array(rt.alloc(), &mut mirror, 8, None, &mut input, &watch, &mut out)?; // puts out `in sync 2 of 2, events 3, marked 0`
 pub fn write_array<D: Device + Drop, I: Source, W: Watch, S: Sink>(
     alloc: Global,
     mirror: &mut Mirror<D>,
     sector: u64,
+    count: Option<u64>,
     input: &mut I,
     watch: &W,
     out: &mut S,
@@ -51,80 +54,46 @@ pub fn write_array<D: Device + Drop, I: Source, W: Watch, S: Sink>(
     requires sound { IsConsistent mirror.old }
     ensures gives { (written : ℕ) × IsToldOfFront W.has_written watch.now written
         × MatchResult result
-        (λ _. WritesArray I.Source S.Sink sector mirror.old mirror.new input.old input.new out.old out.new)
-        (RefusesToWrite I.Source S.Sink sector mirror.old mirror.new input.old input.new out.old out.new
-        written) }
+        (λ _. WritesArray I.Source S.Sink sector count mirror.old mirror.new input.old input.new
+        out.old out.new)
+        (RefusesToWrite I.Source S.Sink sector count mirror.old mirror.new input.old input.new
+        out.old out.new written) }
+    ensures told { IfOk result (λ _. IsToldOfLength W.writes W.has_written watch.now
+        (known_length count (I.told input.old))) }
     ensures sound { IsConsistent mirror.new }
     ensures pending { (p : PendingView) → IsPending mirror.old.array p → IsPending mirror.new.array p }
 {
     if mirror.halted() {
         return Err(CommandFault::Write(BeginFault::Halted));
     }
-    let told = input.bytes_left();
-    check_told(mirror, sector, told)?;
-    write_input(alloc, mirror, sector, told, input, watch)?;
+    let len = known_length(mirror, sector, count, input.bytes_left())?;
+    write_input(alloc, mirror, sector, len, input, watch)?;
     stop(mirror).map_err(CommandFault::Stop)?;
     put_summary(mirror, out)
 }
 
-// Writes all of an input to the array: piece by piece where its length was told.
+// Writes all of an input to the array: piece by piece where its length is known.
 fn write_input<D: Device + Drop, I: Source, W: Watch>(
     alloc: Global,
     mirror: &mut Mirror<D>,
     sector: u64,
-    told: Option<u64>,
+    len: Option<u64>,
     input: &mut I,
     watch: &W,
 ) -> Result<(), CommandFault>
-    requires may { MayBeRead mirror.old.array sector told }
+    requires may { MayBeRead mirror.old.array sector len }
     requires sound { IsConsistent mirror.old }
     ensures gives { (written : ℕ) × IsToldOfFront W.has_written watch.now written
         × MatchResult result
-        (λ _. WritesInput I.Source sector mirror.old mirror.new input.old input.new told)
-        (RefusesWriting I.Source sector mirror.old mirror.new input.old input.new told written) }
+        (λ _. WritesInput I.Source sector mirror.old mirror.new input.old input.new len)
+        (RefusesWriting I.Source sector mirror.old mirror.new input.old input.new len written) }
+    ensures told { IfOk result (λ _. IsToldOfLength W.writes W.has_written watch.now len) }
     ensures sound { IsConsistent mirror.new }
     ensures pending { (p : PendingView) → IsPending mirror.old.array p → IsPending mirror.new.array p }
 {
-    match told {
-        Some(len) => write_watched(alloc, mirror, sector, len, input, watch),
+    match len {
+        Some(len) => write_in_pieces(alloc, mirror, sector, len, input, watch),
         None => write_at_once(alloc, mirror, sector, input),
-    }
-}
-
-// Writes an input of so many bytes piece by piece. `watch` is told how many sectors stand where that is refused.
-fn write_watched<D: Device + Drop, I: Source, W: Watch>(
-    alloc: Global,
-    mirror: &mut Mirror<D>,
-    sector: u64,
-    len: u64,
-    input: &mut I,
-    watch: &W,
-) -> Result<(), CommandFault>
-    requires whole { len % 512 ≡ 0 }
-    requires sound { IsConsistent mirror.old }
-    ensures gives { (written : ℕ) × IsToldOfFront W.has_written watch.now written
-        × MatchResult result
-        (λ _. WritesInPieces I.Source sector len mirror.old mirror.new input.old input.new)
-        (RefusesPieces I.Source sector len written mirror.old mirror.new input.old input.new) }
-    ensures sound { IsConsistent mirror.new }
-    ensures pending { (p : PendingView) → IsPending mirror.old.array p → IsPending mirror.new.array p }
-{
-    let mut written = 0;
-    match write_in_pieces(alloc, mirror, sector, len, input, &mut written) {
-        Ok(()) => Ok(()),
-        Err(fault) => {
-            tell_front(watch, written);
-            Err(fault)
-        }
-    }
-}
-
-// Tells a watch how many sectors stand, where some do.
-fn tell_front<W: Watch>(watch: &W, written: u64)
-    ensures { IsToldOfFront W.has_written watch.now written }
-{
-    if written > 0 {
-        watch.wrote(written);
     }
 }
 

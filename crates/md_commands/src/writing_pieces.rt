@@ -1,17 +1,18 @@
-// An input that tells its length is written piece by piece.
-ghost use Rattle.std.specs.Prelude.{◌≡◌, ◌+◌, ◌*◌, ◌/◌, ◌%◌, ◌^◌, ◌<◌, ◌≤◌, IfOk, MatchResult, false, length, min};
+// An input whose length is known is written piece by piece.
+ghost use Rattle.std.specs.Prelude.{◌≡◌, ◌+◌, ◌*◌, ◌/◌, ◌%◌, ◌^◌, ◌<◌, ◌≤◌, IfOk, MatchResult, false, length, min, ℕ};
 ghost use Rattle.md_inflight.specs.Requests.Pending.{PendingView};
 ghost use Rattle.md_state.specs.Requests.{IsPending};
 ghost use Rattle.md_state.specs.Steps.Begin.{IsInRange};
 ghost use Rattle.md_array.specs.Consistency.{IsConsistent};
 ghost use Rattle.md_commands.specs.ReadingInput.{FailsAfter};
 ghost use Rattle.md_commands.specs.Source.{Gives};
-ghost use Rattle.md_commands.specs.WritingPieces.{BeginsPieces, CopiesPiece, FailsToEnd, FailsToTakePiece, FillsPieceTo, HasEnded, IsInputFault, IsReadyForPieces, RefusesPieces, RefusesReadying, RefusesToCopyPiece, TakesPiece, WritesInPieces, most_at_once, sectors_at_once};
+ghost use Rattle.md_commands.specs.WritingPieces.{BeginsPieces, CopiesPiece, FailsToEnd, FailsToTakePiece, FillsPieceTo, HasEnded, IsInputFault, IsReadyForPieces, IsToldOfAll, IsToldOfFront, RefusesPieces, RefusesReadying, RefusesToCopyPiece, TakesPiece, WritesInPieces, most_at_once, sectors_at_once};
 
 use crate::fault::CommandFault;
 use crate::resyncing::resync_if_needed;
 use crate::source::Source;
 use crate::told_length::is_in_range;
+use crate::watch::Watch;
 use md_array::{BeginFault, Mirror};
 use md_device::Device;
 use md_write::write;
@@ -20,61 +21,64 @@ use std::alloc::{AllocError, Global};
 // The most sectors of a piece: 16 MiB.
 const MOST_AT_ONCE: u64 = 32_768;
 
-/// Writes an input of so many bytes from this sector of the array on, piece by piece, after a resync where it needs one. `written`
-/// becomes how many sectors are written, also where it is refused.
-pub(crate) fn write_in_pieces<D: Device + Drop, I: Source>(
+/// Writes an input of so many bytes from this sector of the array on, piece by piece, after a resync where it needs one. `watch` is
+/// told how many sectors there are, and after each piece how many of them stand.
+pub(crate) fn write_in_pieces<D: Device + Drop, I: Source, W: Watch>(
     alloc: Global,
     mirror: &mut Mirror<D>,
     sector: u64,
     len: u64,
     input: &mut I,
-    written: &mut u64,
+    watch: &W,
 ) -> Result<(), CommandFault>
     requires whole { len % 512 ≡ 0 }
-    requires none { written.old ≡ 0 }
     requires sound { IsConsistent mirror.old }
-    ensures gives { MatchResult result
+    ensures gives { (written : ℕ) × IsToldOfFront W.has_written watch.now written
+        × MatchResult result
         (λ _. WritesInPieces I.Source sector len mirror.old mirror.new input.old input.new)
-        (RefusesPieces I.Source sector len written.new mirror.old mirror.new input.old input.new) }
+        (RefusesPieces I.Source sector len written mirror.old mirror.new input.old input.new) }
+    ensures told { IfOk result (λ _. IsToldOfAll W.writes W.has_written watch.now (len / 512)) }
     ensures sound { IsConsistent mirror.new }
     ensures pending { (p : PendingView) → IsPending mirror.old.array p → IsPending mirror.new.array p }
 {
     let mut buffer = room_for_piece(alloc, len / 512)?;
-    write_pieces(alloc, mirror, sector, len, input, &mut buffer, written)
+    write_pieces(alloc, mirror, sector, len, input, watch, &mut buffer)
 }
 
 // Writes an input piece by piece, through a buffer that has room for any of them.
-fn write_pieces<D: Device + Drop, I: Source>(
+fn write_pieces<D: Device + Drop, I: Source, W: Watch>(
     alloc: Global,
     mirror: &mut Mirror<D>,
     sector: u64,
     len: u64,
     input: &mut I,
+    watch: &W,
     buffer: &mut [u8],
-    written: &mut u64,
 ) -> Result<(), CommandFault>
     requires whole { len % 512 ≡ 0 }
     requires room { length buffer.old ≡ 512 * min (len / 512) most_at_once }
-    requires none { written.old ≡ 0 }
     requires sound { IsConsistent mirror.old }
-    ensures gives { MatchResult result
+    ensures gives { (written : ℕ) × IsToldOfFront W.has_written watch.now written
+        × MatchResult result
         (λ _. WritesInPieces I.Source sector len mirror.old mirror.new input.old input.new)
-        (RefusesPieces I.Source sector len written.new mirror.old mirror.new input.old input.new) }
+        (RefusesPieces I.Source sector len written mirror.old mirror.new input.old input.new) }
+    ensures told { IfOk result (λ _. IsToldOfAll W.writes W.has_written watch.now (len / 512)) }
     ensures sound { IsConsistent mirror.new }
     ensures pending { (p : PendingView) → IsPending mirror.old.array p → IsPending mirror.new.array p }
 {
     let count = len / 512;
-    let first = sectors_at_once(sector, count);
-    let front = &mut buffer[..512 * first as usize];
-    begin_pieces(alloc, mirror, sector, len, input, front)?;
-    *written = first;
-    while *written < count {
-        let at = sector + *written;
-        let sectors = sectors_at_once(at, count - *written);
-        let is_last = *written + sectors == count;
+    let mut written = sectors_at_once(sector, count);
+    let front = &mut buffer[..512 * written as usize];
+    begin_pieces(alloc, mirror, sector, len, input, watch, front)?;
+    watch.wrote(written);
+    while written < count {
+        let at = sector + written;
+        let sectors = sectors_at_once(at, count - written);
+        let is_last = written + sectors == count;
         let piece = &mut buffer[..512 * sectors as usize];
         copy_piece(mirror, at, input, piece, is_last)?;
-        *written += sectors;
+        written += sectors;
+        watch.wrote(written);
     }
     Ok(())
 }
@@ -94,12 +98,13 @@ fn room_for_piece(alloc: Global, sectors: u64) -> Result<Vec<u8>, AllocError>
 }
 
 // Takes the first piece, makes the array ready for all of them, and writes it.
-fn begin_pieces<D: Device + Drop, I: Source>(
+fn begin_pieces<D: Device + Drop, I: Source, W: Watch>(
     alloc: Global,
     mirror: &mut Mirror<D>,
     sector: u64,
     len: u64,
     input: &mut I,
+    watch: &W,
     piece: &mut [u8],
 ) -> Result<(), CommandFault>
     requires whole { len % 512 ≡ 0 }
@@ -109,12 +114,14 @@ fn begin_pieces<D: Device + Drop, I: Source>(
         (λ _. BeginsPieces I.Source sector len mirror.old mirror.new input.old input.new piece.new)
         (RefusesPieces I.Source sector len 0 mirror.old mirror.new input.old input.new) }
     ensures fits { IfOk result (λ _. sector + len / 512 < 2 ^ 64) }
+    ensures told { IfOk result (λ _. W.writes watch.now (len / 512)) }
     ensures sound { IsConsistent mirror.new }
     ensures pending { (p : PendingView) → IsPending mirror.old.array p → IsPending mirror.new.array p }
 {
     let is_last = piece.len() as u64 == len;
     take_piece(input, piece, is_last)?;
     make_ready(alloc, mirror, sector, len / 512)?;
+    watch.begins_write(len / 512);
     write(mirror, sector, piece).map_err(CommandFault::Write)?;
     Ok(())
 }

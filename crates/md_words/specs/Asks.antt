@@ -48,7 +48,7 @@ pub data Ask : Type 0 where
   serves : Bool → Ask  -- reading only; whether zeros stand for sectors that are not given
   serves_writable : Ask
   checks : CheckForm → Bool → Bool → Ask  -- whether the status says that members differ
-  writes : ℕ → Ask  -- from a sector on
+  writes : ℕ → Option ℕ → Ask  -- from a sector on, an input of so many sectors, where that is said
   resyncs : Ask
   stops : Bool → Ask
   fails : ℕ → Ask  -- the member with this index
@@ -193,7 +193,7 @@ tells_by_status _ = false
 
 -- whether it reads the input
 abbrev pub takes_input : Ask → Bool
-takes_input (writes sector) = true
+takes_input (writes sector count) = true
 takes_input _ = false
 
 -- whether it makes a UUID of random bytes
@@ -208,6 +208,7 @@ long_task_of (checks form exit_code readonly) = Some long.Check
 long_task_of resyncs = Some long.Resync
 long_task_of (re_adds name full) = Some long.Rebuild
 long_task_of (rebuilds k form) = Some long.Rebuild
+long_task_of (writes sector count) = Some long.Write
 long_task_of _ = None
 
 -- The options of `create` as they were parsed.
@@ -239,7 +240,7 @@ ask_of (command.Read sector count fill readonly) = reads sector count fill reado
 ask_of (command.Serve fill) = serves fill
 ask_of command.ServeWritable = serves_writable
 ask_of (command.Check form exit_code readonly) = checks form exit_code readonly
-ask_of (command.Write sector) = writes sector
+ask_of (command.Write sector count) = writes sector count
 ask_of command.Resync = resyncs
 ask_of (command.Stop json) = stops json
 ask_of (command.Fail k) = fails k

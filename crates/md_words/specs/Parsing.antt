@@ -173,7 +173,7 @@ count_in rows = option_map sectors_or_zero (first_of (codes "count") rows)
 -- what the command of a name asks for, where it is one that changes an array; of any other name it is examine
 abbrev pub ask_to_change : Text → List Row → Ask
 ask_to_change name rows =
-    if bytes_eq name (codes "write") then writes (sector_in rows)
+    if bytes_eq name (codes "write") then writes (sector_in rows) (count_in rows)
     else if bytes_eq name (codes "resync") then resyncs
     else if bytes_eq name (codes "stop") then stops (json_in rows)
     else if bytes_eq name (codes "fail") then fails (member_in rows)

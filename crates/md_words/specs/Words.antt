@@ -142,7 +142,7 @@ abbrev pub serve_app : App
 serve_app = with_images (with_rule (new_app (codes "serve")) (flag_rule (codes "fill")))
 
 abbrev pub write_app : App
-write_app = completed (with_sector (new_app (codes "write")))
+write_app = completed (with_rule (with_sector (new_app (codes "write"))) (value_rule (codes "count")))
 
 -- `create`: what it must be given, and what it may
 abbrev pub with_required : App → App

@@ -72,9 +72,10 @@ pub enum Command<'a> {
         exit_code: bool,
         readonly: bool,
     },
-    /// Writes the input to it, from this sector on, and stops it.
+    /// Writes the input to it, from this sector on, which has so many sectors where that is said, and stops it.
     Write {
         sector: u64,
+        count: Option<u64>,
     },
     /// Makes its members in sync agree, and stops it.
     Resync,
@@ -471,7 +472,7 @@ impl<'a> Command<'a> {
         }
     }
 
-    /// Whether it reads the input, which it holds in memory.
+    /// Whether it reads the input, which it may hold in memory.
     pub fn takes_input(self) -> bool
         ensures { result ≡ takes_input (ask_of self.entry) }
     {
@@ -538,6 +539,7 @@ impl<'a> Command<'a> {
             Command::Check { .. } => Some(LongTask::Check),
             Command::Resync => Some(LongTask::Resync),
             Command::ReAdd { .. } | Command::Rebuild { .. } => Some(LongTask::Rebuild),
+            Command::Write { .. } => Some(LongTask::Write),
             Command::Examine { .. }
             | Command::ExamineBitmap { .. }
             | Command::ExamineBadblocks { .. }
@@ -549,7 +551,6 @@ impl<'a> Command<'a> {
             | Command::Plan { .. }
             | Command::Serve { .. }
             | Command::ServeWritable
-            | Command::Write { .. }
             | Command::Stop { .. }
             | Command::Fail { .. }
             | Command::Remove { .. }

@@ -140,6 +140,15 @@ const COUNT: OptionWords = OptionWords {
     default: None,
 };
 
+const INPUT_COUNT: OptionWords = OptionWords {
+    name: "count",
+    value: "N",
+    help: "The number of sectors that the input has, or a size as 64M: a pipe is then written in pieces, as a file is",
+    kind: Kind::Text,
+    required: false,
+    default: None,
+};
+
 const FILL: OptionWords = OptionWords {
     name: "fill",
     value: "",
@@ -385,7 +394,7 @@ pub(crate) const DATA_COMMANDS: [CommandWords; 6] = [
         name: "write",
         about: "Writes standard input to the array, and stops it",
         after_help: help::WRITE,
-        options: &[SECTOR],
+        options: &[SECTOR, INPUT_COUNT],
     },
     CommandWords {
         name: "check",

@@ -11,4 +11,6 @@ pub enum LongTask {
     Rebuild,
     /// Members are compared.
     Check,
+    /// The input is written to the array.
+    Write,
 }

@@ -378,6 +378,7 @@ fn command_that_changes<'a>(name: &str, found: &ArgMatches<'a>) -> Command<'a>
     if name == "write" {
         Command::Write {
             sector: sector_of(found),
+            count: count_of(found),
         }
     } else if name == "resync" {
         Command::Resync

@@ -26,6 +26,7 @@ mod prompt;
 mod random;
 mod read_length;
 mod standard_input;
+mod write_progress;
 
 use crate::all_devices::{scan_all, scan_of_all};
 use crate::arguments::arguments;

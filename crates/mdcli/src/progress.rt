@@ -4,6 +4,7 @@ ghost use Rattle.std.specs.Prelude.{⊤};
 use crate::comparing::Comparing;
 use crate::copying::Copying;
 use crate::read_length::ReadLength;
+use crate::write_progress::WriteProgress;
 use md_cli::ReadWatch;
 use md_commands::{Gate, Watch};
 use md_files::Line;
@@ -24,7 +25,7 @@ const MIB: u64 = 1 << 20;
 const CLEAR: &str = "\r\u{1b}[K";
 
 /// A line on a terminal that says how much a command has read of its images and written to them, or how far
-/// a rebuild or a check is. It is drawn on standard error, at most ten times a second.
+/// a rebuild, a check or a write is. It is drawn on standard error, at most ten times a second.
 #[derive(Drop)]
 pub struct Progress<'a> {
     rt: &'a HostRuntime,
@@ -36,8 +37,7 @@ pub struct Progress<'a> {
     copying: Copying,
     comparing: Comparing,
     read_length: ReadLength,
-    // How many sectors of an input stand that is not written to its end.
-    standing: AtomicU64,
+    write_progress: WriteProgress,
     // In milliseconds after the beginning, when the line may be drawn again.
     due: AtomicU64,
     is_shown: AtomicBool,
@@ -54,7 +54,7 @@ impl<'a> Progress<'a> {
             copying: Copying::new(),
             comparing: Comparing::new(),
             read_length: ReadLength::new(),
-            standing: AtomicU64::new(0),
+            write_progress: WriteProgress::new(),
             due: AtomicU64::new(0),
             is_shown: AtomicBool::new(false),
         }
@@ -65,9 +65,9 @@ impl<'a> Progress<'a> {
         self.read_length.sectors()
     }
 
-    /// How many sectors stand of an input that was not written to its end; 0 where none do.
+    /// How many sectors stand of an input that was not written to its end; 0 where none do, and where all do.
     pub fn sectors_standing(&self) -> u64 {
-        self.standing.load(Ordering::SeqCst)
+        self.write_progress.sectors_standing()
     }
 
     fn draw_if_due(&self) {
@@ -98,6 +98,11 @@ impl<'a> Progress<'a> {
                 !self.copying.has_begun() && self.read.load(Ordering::SeqCst) < MIB
             }
             LongTask::Check => !self.comparing.has_begun(),
+            // What is short is done before anyone reads of it.
+            LongTask::Write => {
+                let read = self.read.load(Ordering::SeqCst);
+                read.saturating_add(self.written.load(Ordering::SeqCst)) < MIB
+            }
             // How long an array is shows once it is opened.
             LongTask::Read(None) => !self.read_length.has_begun(),
             LongTask::Read(Some(_)) | LongTask::Resync => false,
@@ -138,6 +143,11 @@ impl<'a> Progress<'a> {
             LongTask::Rebuild => match self.copying.line(self.rt.alloc(), now, read) {
                 Some(far) => format!(in self.rt.alloc(); "{CLEAR}rebuild: {}", far?),
                 None => self.traffic("rebuild", read),
+            },
+            // An input whose length is not known is written at once, after it was read to its end.
+            LongTask::Write => match self.write_progress.line(self.rt.alloc(), now) {
+                Some(far) => format!(in self.rt.alloc(); "{CLEAR}write: {}", far?),
+                None => self.traffic("write", read),
             },
             LongTask::Check => {
                 let far = self.comparing.line(self.rt.alloc(), now, read)?;
@@ -199,6 +209,8 @@ impl<'a> Watch for Progress<'a> {
 
     ghost compares = { λ _ _. ⊤ };
 
+    ghost writes = { λ _ _. ⊤ };
+
     ghost has_written = { λ _ _. ⊤ };
 
     fn begins(&self, chunks: u32, first: Option<u32>) {
@@ -217,8 +229,15 @@ impl<'a> Watch for Progress<'a> {
         self.comparing.begin(sectors, now, read);
     }
 
+    fn begins_write(&self, sectors: u64) {
+        // How many they are is known also where the time is not.
+        self.write_progress
+            .begin(sectors, self.milliseconds().unwrap_or(0));
+    }
+
     fn wrote(&self, sectors: u64) {
-        self.standing.store(sectors, Ordering::SeqCst);
+        self.write_progress.go_on(sectors);
+        self.draw_if_due();
     }
 }
 

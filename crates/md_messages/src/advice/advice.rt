@@ -38,7 +38,9 @@ pub(crate) fn advice(fault: &CommandFault) -> &'static str {
         }
         CommandFault::InputFault =>
             "see why its file or program fails; where `write` has written some of it, it says how much: run `resync` then",
-        CommandFault::BadLength => "give it a multiple of 512 bytes, of a file that stays as it is",
+        CommandFault::BadLength => {
+            "give it a multiple of 512 bytes, as many as --count asks for, of a file that stays as it is"
+        }
         CommandFault::OutOfRange => WITHIN_ARRAY,
         CommandFault::BadMember => {
             "count the images from 0, in the order in which they are named, or give `--member` an image as it is listed"
@@ -65,7 +67,7 @@ const MORE_MEMORY: &str = "try again with more memory";
 
 /// Where `write` has no room for its input.
 pub(crate) const WRITE_A_FILE: &str =
-    "try again with more memory, or give it a regular file, which is written in pieces of 16 MiB: all of any other input is held in memory";
+    "try again with more memory, or say by --count how long the input is, or give it as a regular file: it is written in pieces of 16 MiB then, and else held in memory";
 
 const ANOTHER_OUTPUT: &str =
     "give it an output that takes all of it: what came so far is cut short";

@@ -136,7 +136,10 @@ fn rebuilt_member(command: Command<'_>, names: &[&str]) -> Option<usize> {
     match (command.long_task(), command.member()) {
         (Some(LongTask::Rebuild), Some(member)) => Some(member as usize),
         (Some(LongTask::Rebuild), None) => Some(names.len()),
-        (Some(LongTask::Read(_) | LongTask::Resync | LongTask::Check) | None, _) => None,
+        (
+            Some(LongTask::Read(_) | LongTask::Resync | LongTask::Check | LongTask::Write) | None,
+            _,
+        ) => None,
     }
 }
 

@@ -8,14 +8,14 @@ pub returns-in-Some-clause-gives : goal.returns-in-Some-clause-gives
 returns-in-Some-clause-gives g c =
     let s = g.I.Source in
     let old = c.args.mirror.now in
-    let new = c.write_watched.new.mirror in
-    let rest = c.write_watched.new.input in
-    let gives = c.write_watched.ensures.gives in
+    let new = c.write_in_pieces.new.mirror in
+    let rest = c.write_in_pieces.new.input in
+    let gives = c.write_in_pieces.ensures.gives in
     let may = subst (λ (t : Option ℕ). MayBeRead old.array c.args.sector t) c.in-Some.is c.requires.may in
-    let done = pieces_or_not s c.args.sector old new c.args.input.now rest c.in-Some.len gives.0 may c.write_watched.result gives.2 in (
+    let done = pieces_or_not s c.args.sector old new c.args.input.now rest c.in-Some.len gives.0 may c.write_in_pieces.result gives.2 in (
       gives.0,
       gives.1,
-      subst (λ (t : Option ℕ). MatchResult c.write_watched.result (λ _. WritesInput s c.args.sector old new c.args.input.now rest t) (RefusesWriting s c.args.sector old new c.args.input.now rest t gives.0))
+      subst (λ (t : Option ℕ). MatchResult c.write_in_pieces.result (λ _. WritesInput s c.args.sector old new c.args.input.now rest t) (RefusesWriting s c.args.sector old new c.args.input.now rest t gives.0))
           (sym c.in-Some.is) done,
     )
 

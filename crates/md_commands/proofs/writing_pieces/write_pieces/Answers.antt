@@ -2,14 +2,21 @@ use Rattle.std.proofs.Common.{rules, Err, ◌≡◌, ◌∙◌, ℕ, ◌+◌, �
 use Rattle.std.proofs.lemmas.Bool.{eq-eqb, eqb-true}
 use Rattle.md_commands.specs.WritingPieces.{RefusesToCopyPiece, most_at_once, sectors_at_once}
 use Rattle.md_commands.proofs.PiecesWritten.{WrittenSoFar, at_once_few, at_once_most, buffer_stays, front_long, refused_later, written_first, written_more}
+use Rattle.md_commands.proofs.Written.{told_of_none}
 use Rattle.md_commands.proofs.writing_pieces.write_pieces.Goals as goal
+
+pub returns-in_err-begin_pieces-clause-gives : goal.returns-in_err-begin_pieces-clause-gives
+returns-in_err-begin_pieces-clause-gives g c =
+    let fault = c.in_err-begin_pieces.field-0.0 in
+    let passed : c.from_residual.result ≡ Err fault = search rules in
+    (0, told_of_none g.W.Watch.has_written c.args.watch.now, rw passed c.in_err-begin_pieces.ensures.gives)
 
 pub loop-written-init : goal.loop-written-init
 loop-written-init g c =
     let count = c.args.len / 512 in
-    let n = c.sectors_at_once-first.result in
+    let n = c.sectors_at_once-written.result in
     let piece = c.begin_pieces.new.piece in
-    let is : n ≡ sectors_at_once c.args.sector count = c.sectors_at_once-first.ensures in
+    let is : n ≡ sectors_at_once c.args.sector count = c.sectors_at_once-written.ensures in
     let few : n ≤ count = subst (λ (m : ℕ). m ≤ count) (sym is) (at_once_few c.args.sector count) in
     let most : n ≤ most_at_once = subst (λ (m : ℕ). m ≤ most_at_once) (sym is) (at_once_most c.args.sector count) in
     let long : length piece ≡ 512 * n = front_long count n c.args.buffer.now piece c.requires.room few most c.begin_pieces.auto.piece in
@@ -22,6 +29,8 @@ loop-written-init g c =
       fits = c.in_ok-begin_pieces.ensures.fits;
       sound = c.begin_pieces.ensures.sound;
       pending = c.begin_pieces.ensures.pending;
+      told = c.in_ok-begin_pieces.ensures.told;
+      wrote = c.wrote.ensures;
     }
 
 pub returns-in_err-copy_piece-clause-pending : goal.returns-in_err-copy_piece-clause-pending
@@ -44,10 +53,13 @@ returns-in_err-copy_piece-clause-gives g c =
     let fault = c.in_err-copy_piece.field-0.0 in
     let passed : c.from_residual-in_err-copy_piece.result ≡ Err fault = search rules in
     let h = subst (λ (m : ℕ). RefusesToCopyPiece s (sector + done) (eqb (done + n) count) m c.loop-written.mirror c.copy_piece.new.mirror c.loop-written.input c.copy_piece.new.input fault)
-    (front_long count n c.loop-written.buffer _ room few most refl) c.in_err-copy_piece.ensures.gives in
-    rw passed
-    (refused_later s sector len c.requires.whole c.args.mirror.now c.loop-written.mirror c.args.input.now c.loop-written.input done n inv.so_far is _
-    (eq-eqb (done + n) count) (eqb-true (done + n) count) within c.copy_piece.new.mirror c.copy_piece.new.input fault h)
+    (front_long count n c.loop-written.buffer _ room few most refl) c.in_err-copy_piece.ensures.gives in (
+      done,
+      (λ _. inv.wrote),
+      rw passed
+          (refused_later s sector len c.requires.whole c.args.mirror.now c.loop-written.mirror c.args.input.now c.loop-written.input done n inv.so_far is _
+          (eq-eqb (done + n) count) (eqb-true (done + n) count) within c.copy_piece.new.mirror c.copy_piece.new.input fault h),
+    )
 
 pub loop-written-preserved : goal.loop-written-preserved
 loop-written-preserved g c =
@@ -73,4 +85,6 @@ loop-written-preserved g c =
       fits = inv.fits;
       sound = c.copy_piece.ensures.sound;
       pending = λ p before. c.copy_piece.ensures.pending p (inv.pending p before);
+      told = inv.told;
+      wrote = c.wrote-in-loop-written.ensures;
     }

@@ -13,6 +13,8 @@ invariant-loop-written g l = record {
   fits : l.sector + l.len / 512 < 2 ^ 64;
   sound : IsConsistent l.mirror;
   pending : (p : PendingView) → IsPending l.fn.mirror.array p → IsPending l.mirror.array p;
+  told : g.W.Watch.writes l.watch (l.len / 512);
+  wrote : g.W.Watch.has_written l.watch l.written;
 }
 
 abbrev pub decreases-loop-written : goal.decreases-loop-written
