@@ -15,10 +15,10 @@ use Rattle.md_rebuild_table.specs.declared.fault.RebuildFault.{RebuildFault}
 use Rattle.md_rebuild_table.specs.declared.fault.RebuildFault.TheVariants as rebuild
 use Rattle.md_rebuild_table.specs.Sources.{missing_chunks}
 use Rattle.md_copy.specs.declared.rebuilt.Rebuilt.{Rebuilt}
-use Rattle.md_copy.specs.Filling.{BreaksPass}
 use Rattle.md_copy.specs.Leaving.{RecordsAtEnd, LeavesAfter}
 use Rattle.md_copy.specs.Listing.{EndsListing}
-use Rattle.md_copy.specs.Passing.{AreListedPasses, BreaksOffPass, CopiesAll, EndsBetween, FailsListing, FailsRecording, RecordsPass}
+use Rattle.md_copy.specs.Passing.{AreListedPasses, BreaksOffPass, CopiesAll, EndsBetween, FailsListing, FailsRecording, LacksMemoryToPass, MakesPart, RecordsPass}
+use Rattle.md_copy.specs.Stretches.{AreRecorded, slots_after}
 use Rattle.md_copy.specs.Readying.{AdmitsAfter, AdmitsFirst, EndsAdmitted, LowersTarget}
 use Rattle.md_copy.specs.Rebuilding.{BeginsRebuild, EndsFilled, EndsReadied, FillsBy, LacksMemoryToRebuild, LacksRoom, LosesSource, LosesTarget, Rebuilds, RefusesRebuild}
 use Rattle.md_copy.specs.Storing.{HaltsUntilDone, StoresUntilDone, EndsAtOther}
@@ -68,8 +68,16 @@ stopped_admitted : (k j : ℕ) (old new : MirrorView) → EndsAdmitted k j old n
 stopped_admitted k j old new s = stopped_at k j s.admitted new s.ends ∙ admitted k old s.admitted s.after
 
 -- ---- passes
+stretched : (k : ℕ) (rounds : List ℕ) (slots left : List Slot) (before after : Bitmap) (old new : MirrorView) → AreRecorded k rounds slots left before after old new → AsMany old new
+stretched k [] slots left before after old new h = same old new h.2
+stretched k (round ∷ rounds) slots left before after old new h =
+    stretched k rounds (slots_after round slots) left h.0 after h.1 new h.3 ∙ (h.2.checkpoints.disks.tried.as_many ∙ h.2.makes.copies.filling.as_many)
+
+in_part : (k : ℕ) (chunks : List ℕ) (before after : Bitmap) (old new : MirrorView) → MakesPart k chunks before after old new → AsMany old new
+in_part k chunks before after old new p = stretched k p.rounds (slots_of_pass p.pass) p.left before after old new p.stretches
+
 recorded : (k : ℕ) (chunks : List ℕ) (p : PassView) (before after : Bitmap) (old new : MirrorView) → RecordsPass k chunks p before after old new → AsMany old new
-recorded k chunks p before after old new r = r.checkpoints.disks.tried.as_many ∙ r.makes.copies.filling.as_many
+recorded k chunks p before after old new r = stretched k r.stretches.rounds (slots_of_pass p) [] before after old new r.stretches.all
 
 listed : (k : ℕ) (passes : List PassView) (chunks left : List ℕ) (before after : Bitmap) (old new : MirrorView)
     → AreListedPasses k passes chunks left before after old new → AsMany old new
@@ -87,18 +95,14 @@ between : (k : ℕ) (m : MemberView) (before : Bitmap) (old new : MirrorView) (W
 between k m before old new Why after e =
     after e.left e.copied e.now e.why ∙ listed k e.passes (missing_chunks old.array m) e.left before e.copied old e.now e.passed
 
-broken_pass : (fault : RebuildFault) (k : ℕ) (m : MemberView) (slots : List Slot) (before after : Bitmap) (old new : MirrorView)
-    → BreaksPass k m slots before after old new fault → AsMany old new
-broken_pass rebuild.NoMemory k m slots before after old new h = same old new h.1
-broken_pass rebuild.TargetFault k m slots before after old new h = h.filling.as_many
-broken_pass fault k m slots before after old new h = absurd h
-
-broken_off : (fault : RebuildFault) (k : ℕ) (chunks : List ℕ) (before after : Bitmap) (old new : MirrorView)
-    → BreaksOffPass k fault chunks before after old new → AsMany old new
-broken_off fault k chunks before after old new b = broken_pass fault k b.member (slots_of_pass b.pass) before after old new b.breaks
+broken_off : (k : ℕ) (chunks : List ℕ) (before : Bitmap) (old new : MirrorView) → BreaksOffPass k chunks before old new → AsMany old new
+broken_off k chunks before old new b = b.why.breaks.filling.as_many ∙ in_part k chunks before b.copied old b.begun b.part
 
 unrecorded : (k : ℕ) (chunks : List ℕ) (before : Bitmap) (old new : MirrorView) → FailsRecording k chunks before old new → AsMany old new
-unrecorded k chunks before old new f = f.fails.disks.tried.as_many ∙ f.makes.copies.filling.as_many
+unrecorded k chunks before old new f = f.why.fails.disks.tried.as_many ∙ (f.why.makes.copies.filling.as_many ∙ in_part k chunks before f.copied old f.begun f.part)
+
+lacks_in_pass : (k : ℕ) (chunks : List ℕ) (before after : Bitmap) (old new : MirrorView) → LacksMemoryToPass k chunks before after old new → AsMany old new
+lacks_in_pass k chunks before after old new h = ⊎_elim (λ is. same old new is.1) (λ part. in_part k chunks before after old new part) h
 
 stopped_listing : (fault : RebuildFault) (failed : List Slot) (old new : MirrorView) → EndsListing failed old new fault → AsMany old new
 stopped_listing (rebuild.LogFull j) failed old new s = ap length s.notes.disks
@@ -131,7 +135,7 @@ when_filled k m none ready new Why after e =
 
 lacks_memory : (k : ℕ) (m : MemberView) (none after : Bitmap) (ready stopped : MirrorView) → LacksMemoryToRebuild k m none after ready stopped → AsMany ready stopped
 lacks_memory k m none after ready stopped h =
-    ⊎_elim (λ e. between k m none ready stopped _ (λ left copied now why. same now stopped why.1) e)
+    ⊎_elim (λ e. between k m none ready stopped _ (λ left copied now why. lacks_in_pass k left copied after now stopped why) e)
     (λ rest.
     ⊎_elim (λ e. between k m none ready stopped _ (λ left copied now why. not_listed rebuild.NoMemory k left copied after now stopped why) e)
     (λ e. when_filled k m none ready stopped _ (λ kept orphans now why. same now stopped why.unchanged) e)
@@ -150,7 +154,7 @@ loses_source j k m none ready stopped h =
 
 loses_target : (k : ℕ) (m : MemberView) (none : Bitmap) (ready new : MirrorView) → LosesTarget k m none ready new → AsMany ready new
 loses_target k m none ready new h =
-    ⊎_elim (λ e. between k m none ready new _ (λ left copied now why. broken_off rebuild.TargetFault k left copied why.0 now new why.1) e)
+    ⊎_elim (λ e. between k m none ready new _ (λ left copied now why. broken_off k left copied now new why) e)
     (λ rest.
     ⊎_elim (λ e. between k m none ready new _ (λ left copied now why. unrecorded k left copied now new why) e)
     (λ e. when_filled k m none ready new _ (λ kept orphans now why. why.disks.as_many) e)

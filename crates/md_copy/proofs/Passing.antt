@@ -1,5 +1,13 @@
 -- Passes, one after another.
 
+-- The slots of a stretch, and those that are left.
+pub mod StretchSlots
+-- A stretch of a pass that was made, and is recorded.
+pub mod StretchMade
+-- Stretches that are recorded, one after another: which chunks they copied, and which of their slots failed.
+pub mod StretchesTold
+-- Stretches are made one after another: what holds between two of them, and once no slot is left.
+pub mod StretchesGo
 -- A pass that was planned and made, and is recorded.
 pub mod PassMade
 -- What holds once a pass is recorded, and once what failed in it is listed.

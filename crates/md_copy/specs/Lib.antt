@@ -16,6 +16,8 @@ pub mod Preparing
 pub mod Filling
 -- Chunks that could not be read are listed as bad on their sources, and the lists are stored.
 pub mod Listing
+-- A pass over a mirror in stretches, each of which is recorded.
+pub mod Stretches
 -- A rebuild's passes over a mirror, step by step.
 pub mod Passing
 -- The target comes into sync after its passes, or it does not.

@@ -8,7 +8,6 @@ use Rattle.md_kept_members.specs.View.{MemberView}
 use Rattle.md_plan.specs.declared.planner.Planned.{Planned}
 use Rattle.md_state.specs.Members.{IsMember}
 use Rattle.md_state.specs.View.{MirrorView}
-use Rattle.md_array.specs.Steps.Checkpoint.{Checkpoints, FailsToCheckpoint}
 use Rattle.md_array.specs.Consistency.{IsConsistent}
 use Rattle.md_pass.specs.Copied.{AreUncopied}
 use Rattle.md_copy.specs.PassLaws.Listed.{IsArrayPass, IsFailedOf}
@@ -17,30 +16,21 @@ use Rattle.md_rebuild_table.specs.declared.fault.RebuildFault.{RebuildFault}
 use Rattle.md_rebuild_table.specs.declared.fault.RebuildFault.TheVariants.{LogFull, MetadataFault, NoMemory, TargetFault}
 use Rattle.md_rebuild_table.specs.Sources.{HasSources, IsTableIn, missing_chunks}
 use Rattle.md_copy.specs.declared.passes.Passed.{Passed}
-use Rattle.md_copy.specs.Filling.{BreaksPass, CopiesChunks, CountsFailed, HaveFailedOnlyThere, HaveFailedThere}
 use Rattle.md_copy.specs.Held.{AreHeld}
 use Rattle.md_copy.specs.Listing.{ListsAll, EndsListing}
 use Rattle.md_copy.specs.Preparing.{IsNoMemory}
 use Rattle.md_copy.specs.Ready.{IsReadyToCopy}
+use Rattle.md_copy.specs.Stretches.{AreRecorded, BreaksStretch, FailsToRecordStretch, RecordsStretches, slots_before}
 
--- A pass over these chunks: it is planned by what is kept in memory, and made. Its slots failed whose chunks were not copied.
-pub record MakesPass (target : ℕ) (chunks : List ℕ) (p : PassView) (before after : Bitmap) (old new : MirrorView) : Type 0 where
+-- A pass over these chunks: it is planned by what is kept in memory, and made in stretches, by each of which how far the target is rebuilt is
+-- recorded. Its slots failed whose chunks were not copied.
+pub record RecordsPass (target : ℕ) (chunks : List ℕ) (p : PassView) (before after : Bitmap) (old new : MirrorView) : Type 0 where
   pub is : IsArrayPass old.array chunks p
   pub member : MemberView
   pub at : IsMember old.array target member
   pub uncopied : AreUncopied (slots_of_pass p) before
-  pub copies : CopiesChunks target member (slots_of_pass p) before after old new
   pub failed : IsFailedOf p after
-  pub counted : CountsFailed p.failed old new
-  pub there : HaveFailedThere p.failed old new
-  pub only : HaveFailedOnlyThere (slots_of_pass p) after old new
-  pub sound : IsConsistent new
-
--- A pass is made, and how far the target is rebuilt by it is recorded on the target.
-pub record RecordsPass (target : ℕ) (chunks : List ℕ) (p : PassView) (before after : Bitmap) (old new : MirrorView) : Type 0 where
-  pub filled : MirrorView
-  pub makes : MakesPass target chunks p before after old filled
-  pub checkpoints : Checkpoints target after filled new
+  pub stretches : RecordsStretches target (slots_of_pass p) before after old new
   pub sound : IsConsistent new
 
 -- A pass is made of which slots failed. Their chunks are listed, and the lists stored.
@@ -82,23 +72,34 @@ pub record EndsBetween (target : ℕ) (m : MemberView) (before : Bitmap) (old : 
   pub passed : AreListedPasses target passes (missing_chunks old.array m) left before copied old now
   pub why : Why left copied now
 
--- A pass was planned, and broken off with this fault.
-pub record BreaksOffPass (target : ℕ) (fault : RebuildFault) (chunks : List ℕ) (before after : Bitmap) (old new : MirrorView) : Type 0 where
+-- A pass was planned, and these stretches of it are recorded, or none. These slots are left. What failed is not told.
+pub record MakesPart (target : ℕ) (chunks : List ℕ) (before after : Bitmap) (old new : MirrorView) : Type 0 where
   pub pass : PassView
   pub is : IsArrayPass old.array chunks pass
-  pub member : MemberView
-  pub at : IsMember old.array target member
-  pub breaks : BreaksPass target member (slots_of_pass pass) before after old new fault
-  pub sound : IsConsistent new
+  pub uncopied : AreUncopied (slots_of_pass pass) before
+  pub rounds : List ℕ
+  pub left : List Slot
+  pub stretches : AreRecorded target rounds (slots_of_pass pass) left before after old new
 
--- A pass was made, and how far the target is rebuilt could not be recorded.
-pub record FailsRecording (target : ℕ) (chunks : List ℕ) (before : Bitmap) (old new : MirrorView) : Type 0 where
-  pub pass : PassView
-  pub after : Bitmap
-  pub filled : MirrorView
-  pub makes : MakesPass target chunks pass before after old filled
-  pub fails : FailsToCheckpoint target after filled new
-  pub sound : IsConsistent new
+-- Memory was refused for a pass, or within it: before its next stretch read anything.
+abbrev pub LacksMemoryToPass : ℕ → List ℕ → Bitmap → Bitmap → MirrorView → MirrorView → Type 0
+LacksMemoryToPass target chunks before after old new = ((after ≡ before) × (new ≡ old)) ⊎ MakesPart target chunks before after old new
+
+-- A pass was made in part, and then ended in the stretch up to this round.
+pub record EndsInStretch (target : ℕ) (chunks : List ℕ) (before : Bitmap) (old : MirrorView) (Why : List Slot → Bitmap → MirrorView → Type 0) : Type 0 where
+  pub copied : Bitmap
+  pub begun : MirrorView
+  pub part : MakesPart target chunks before copied old begun
+  pub round : ℕ
+  pub why : Why (slots_before round part.left) copied begun
+
+-- The target could not be written in a pass.
+abbrev pub BreaksOffPass : ℕ → List ℕ → Bitmap → MirrorView → MirrorView → Type 0
+BreaksOffPass target chunks before old new = EndsInStretch target chunks before old (λ slots copied begun. BreaksStretch target slots copied begun new)
+
+-- A stretch of a pass was made, and how far the target is rebuilt could not be recorded.
+abbrev pub FailsRecording : ℕ → List ℕ → Bitmap → MirrorView → MirrorView → Type 0
+FailsRecording target chunks before old new = EndsInStretch target chunks before old (λ slots copied begun. FailsToRecordStretch target slots copied begun new)
 
 -- A pass was made and recorded, slots of it failed, and they are not all listed, with this fault.
 pub record FailsListing (target : ℕ) (fault : RebuildFault) (chunks : List ℕ) (before after : Bitmap) (old new : MirrorView) : Type 0 where
@@ -128,8 +129,8 @@ pub record MakesOne (target : ℕ) (rows : List Row) (before after : Bitmap) (ol
   pub records : RecordsPass target (chunks_of_rows rows) pass before after old new
 
 abbrev pub FailsOne : ℕ → List Row → Bitmap → Bitmap → MirrorView → MirrorView → RebuildFault → Type 0
-FailsOne target rows before after old new NoMemory = (after ≡ before) × (new ≡ old)
-FailsOne target rows before after old new TargetFault = BreaksOffPass target TargetFault (chunks_of_rows rows) before after old new ⊎ FailsRecording target (chunks_of_rows rows) before old new
+FailsOne target rows before after old new NoMemory = LacksMemoryToPass target (chunks_of_rows rows) before after old new
+FailsOne target rows before after old new TargetFault = BreaksOffPass target (chunks_of_rows rows) before old new ⊎ FailsRecording target (chunks_of_rows rows) before old new
 FailsOne target rows before after old new fault = ⊥
 
 pub record PassesAll (target : ℕ) (m : MemberView) (before after : Bitmap) (old new : MirrorView) (plans : List Planned) : Type 0 where
@@ -141,15 +142,15 @@ pub record PassesAll (target : ℕ) (m : MemberView) (before after : Bitmap) (ol
   pub ready : IsReadyToCopy target new
   pub held : AreHeld new target after
 
--- before a pass reads anything, as the target can't be written, or while failed chunks are listed
+-- before a stretch reads anything, as the target can't be written, or while failed chunks are listed
 abbrev pub PassesFail : ℕ → MemberView → Bitmap → Bitmap → MirrorView → MirrorView → RebuildFault → Type 0
 PassesFail target m before after old new NoMemory =
-    EndsBetween target m before old (λ left copied now. (after ≡ copied) × (new ≡ now))
+    EndsBetween target m before old (λ left copied now. LacksMemoryToPass target left copied after now new)
     ⊎ EndsBetween target m before old (λ left copied now. FailsListing target NoMemory left copied after now new)
 PassesFail target m before after old new (LogFull k) = EndsBetween target m before old (λ left copied now. FailsListing target (LogFull k) left copied after now new)
 PassesFail target m before after old new (MetadataFault k) = EndsBetween target m before old (λ left copied now. FailsListing target (MetadataFault k) left copied after now new)
 PassesFail target m before after old new TargetFault =
-    EndsBetween target m before old (λ left copied now. BreaksOffPass target TargetFault left copied after now new)
+    EndsBetween target m before old (λ left copied now. BreaksOffPass target left copied now new)
     ⊎ EndsBetween target m before old (λ left copied now. FailsRecording target left copied now new)
 PassesFail target m before after old new fault = ⊥
 

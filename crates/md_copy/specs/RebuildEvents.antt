@@ -75,16 +75,23 @@ pub record AreListsStored (events : List Event) : Type 0 where
   pub stores : AllOf IsStoringList events
   pub unfailing : AllOf IsNoFailure events
 
--- The target is filled, and how far that came is recorded. What failed is noted, and then all lists are
--- stored.
+-- The target is filled, and how far it is rebuilt by that is recorded. So it goes, stretch by stretch.
+abbrev pub AreOfStretches : ℕ → List (ℕ × (ℕ → Bool)) → List Event → Type 0
+AreOfStretches target [] events = events ≡ []
+AreOfStretches target (stretch ∷ stretches) events =
+    (rest : List Event) × AreOfStretches target stretches rest × (events ≡ Event.Fill target ∷ Event.Checkpoint target stretch.0 stretch.1 ∷ rest)
+
+-- The target is filled and that recorded, in one stretch at least. What failed is noted, and then all lists are stored.
 pub record AreOfPass (target : ℕ) (events : List Event) : Type 0 where
-  pub sure : ℕ
-  pub listed : ℕ → Bool
+  pub stretches : List (ℕ × (ℕ → Bool))
+  pub some : stretches ≢ []
+  pub filled : List Event
+  pub fills : AreOfStretches target stretches filled
   pub noted : List Event
   pub notes : AllOf IsNoting noted
   pub stored : List Event
   pub stores : AreListsStored stored
-  pub list : events ≡ Event.Fill target ∷ Event.Checkpoint target sure listed ∷ (noted ++ stored)
+  pub list : events ≡ filled ++ (noted ++ stored)
 
 -- These are the events of passes, one after another, and each part of the first list those of one pass.
 abbrev pub AreOfPasses : ℕ → List (List Event) → List Event → Type 0
@@ -101,14 +108,16 @@ pub record IsListOfRebuild (target : ℕ) (events : List Event) : Type 0 where
   pub parts : List (List Event)
   pub passes : List Event
   pub passes_are : AreOfPasses target parts passes
-  pub sure : ℕ
-  pub recorded : ℕ → Bool
+  pub stretches : List (ℕ × (ℕ → Bool))
+  pub some : stretches ≢ []
+  pub filled : List Event
+  pub fills : AreOfStretches target stretches filled
   pub role : ℕ
   pub listed : ℕ → Bool
   pub after : List Event
   pub last : AllOf IsStoring after
   pub list : events
-      ≡ lowering ++ (before ++ (passes ++ Event.Fill target ∷ Event.Checkpoint target sure recorded ∷ Event.Prepare target ∷ Event.Enrol target role listed ∷ after))
+      ≡ lowering ++ (before ++ (passes ++ (filled ++ Event.Prepare target ∷ Event.Enrol target role listed ∷ after)))
 
 -- ---- where they lead
 -- The write of an event of a kind failed on a member that can't be made faulty, and the mirror is halted.
@@ -171,7 +180,7 @@ abbrev pub TellsMember : {IsOf : Event → Type 0} {last new : MirrorView} → �
 TellsMember target k events (inl same) = FailsAtMember target k events
 TellsMember target k events (inr halts) = IsFailureOf k halts.failing
 
--- The write that failed was one to the target: of a pass, by which its offset was to be recorded, or one of
+-- The write that failed was one to the target: of a stretch, by which its offset was to be recorded, or one of
 -- `enrol`, before its last or the last.
 abbrev pub WritesTarget : {target : ℕ} {m : MemberView} {none : Bitmap} {ready new : MirrorView} → LosesTarget target m none ready new → List Event → Type 0
 WritesTarget {target} (inl pass) events = EventsEndWith (Event.Fill target) events
@@ -221,13 +230,13 @@ FailsLeaving (inl halted) = ⊥
 FailsLeaving (inr (inl recorded)) = ⊥
 FailsLeaving (inr (inr fails)) = Unit {0}
 
--- The checkpoint after a pass fails.
+-- The checkpoint after a stretch fails.
 abbrev pub FailsAfterPass : {target : ℕ} {m : MemberView} {none : Bitmap} {ready new : MirrorView} → LosesTarget target m none ready new → Type 0
 FailsAfterPass (inl pass) = ⊥
 FailsAfterPass (inr (inl recording)) = Unit {0}
 FailsAfterPass (inr (inr ends)) = ⊥
 
--- A checkpoint fails: the one after a pass, or the one before the fault is answered.
+-- A checkpoint fails: the one after a stretch, or the one before the fault is answered.
 abbrev pub FailsCheckpoint : (target : ℕ) (old new : MirrorView) (fault : RebuildFault) → RefusesRebuild target old new fault → Type 0
 FailsCheckpoint target old new Halted h = ⊥
 FailsCheckpoint target old new NotSpare h = ⊥

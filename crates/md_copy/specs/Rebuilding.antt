@@ -15,7 +15,7 @@ use Rattle.md_rebuild_table.specs.Orphans.{IsSetOf, uncopied_chunks}
 use Rattle.md_copy.specs.declared.rebuilt.Rebuilt.{Rebuilt}
 use Rattle.md_copy.specs.Enrolled.{HasSets, LacksMemoryToEnrol, LacksOwnRoom}
 use Rattle.md_copy.specs.Leaving.{HasNone, LeavesAfter}
-use Rattle.md_copy.specs.Passing.{BreaksOffPass, CopiesAll, EndsBetween, FailsListing, FailsRecording}
+use Rattle.md_copy.specs.Passing.{BreaksOffPass, CopiesAll, EndsBetween, FailsListing, FailsRecording, LacksMemoryToPass}
 use Rattle.md_copy.specs.Preparing.{TellsPasses}
 use Rattle.md_copy.specs.Readying.{FailsAdmission, LacksAdmission, LowersTarget, Readies, EndsAdmitted}
 use Rattle.md_copy.specs.Storing.{FailsToRecordTarget, StoresUntilDone, EndsAtOther}
@@ -74,10 +74,10 @@ pub record EndsFilled (target : ℕ) (m : MemberView) (none : Bitmap) (ready : M
   pub fills : FillsBy target m passes none copied kept orphans chunks ready filled
   pub why : Why kept orphans filled
 
--- Memory was refused, with these chunks copied: before a pass reads anything, while failed chunks are listed, or as the target was to come into sync.
+-- Memory was refused, with these chunks copied: before a stretch reads anything, while failed chunks are listed, or as the target was to come into sync.
 abbrev pub LacksMemoryToRebuild : ℕ → MemberView → Bitmap → Bitmap → MirrorView → MirrorView → Type 0
 LacksMemoryToRebuild target m none after ready stopped =
-    EndsBetween target m none ready (λ left copied now. (after ≡ copied) × (stopped ≡ now))
+    EndsBetween target m none ready (λ left copied now. LacksMemoryToPass target left copied after now stopped)
     ⊎ (EndsBetween target m none ready (λ left copied now. FailsListing target NoMemory left copied after now stopped)
     ⊎ EndsFilled target m none ready (λ kept orphans filled. LacksMemoryToEnrol target kept orphans after filled stopped))
 
@@ -92,10 +92,10 @@ abbrev pub LosesSource : ℕ → ℕ → MemberView → Bitmap → MirrorView �
 LosesSource k target m none ready stopped =
     EndsBetween target m none ready (λ left copied now. (after : Bitmap) × FailsListing target (MetadataFault k) left copied after now stopped)
 
--- The target could not be written: in a pass, after one, or as it was to come into sync.
+-- The target could not be written: in a stretch, after one, or as it was to come into sync.
 abbrev pub LosesTarget : ℕ → MemberView → Bitmap → MirrorView → MirrorView → Type 0
 LosesTarget target m none ready new =
-    EndsBetween target m none ready (λ left copied now. (after : Bitmap) × BreaksOffPass target TargetFault left copied after now new)
+    EndsBetween target m none ready (λ left copied now. BreaksOffPass target left copied now new)
     ⊎ (EndsBetween target m none ready (λ left copied now. FailsRecording target left copied now new)
     ⊎ EndsFilled target m none ready (λ kept orphans filled. FailsToEnrol target kept orphans filled new))
 

@@ -22,7 +22,7 @@ use Rattle.md_array.specs.Steps.Lend.{IsBesideMissing}
 use Rattle.md_array.specs.ReadAsKept.{IsSuperOn}
 use Rattle.md_array.specs.Worlds.{is_listed}
 use Rattle.md_copy.specs.PassLaws.Listed.{AreCopiedBy, IsArrayPass, IsOfFailed, ListsFailed, MayServe, ServesAs, most_failures}
-use Rattle.md_copy.specs.PassLaws.Passes.{PassView, failed_chunks}
+use Rattle.md_copy.specs.PassLaws.Passes.{IsCopiedIn, PassView, failed_chunks}
 use Rattle.md_rebuild_table.specs.declared.fault.RebuildFault.{RebuildFault}
 use Rattle.md_rebuild_table.specs.declared.fault.RebuildFault.TheVariants.{Halted, NotSpare, Dirty, InFlight, LogFull, NoMemory, TargetFault, MetadataFault, EventsFull}
 use Rattle.md_rebuild_table.specs.Orphans.{is_in, uncopied_chunks}
@@ -61,6 +61,11 @@ pub record HasMade (s : Ending) (old : ArrayView) : Type 0 where
   pub planned : All (IsArrayPass end left) s.last
   pub one : length s.last ≤ 1
   pub few : length (s.listed ++ s.last) ≤ most_failures old + 1
+
+-- What the listed passes copied, and of the last any part.
+pub record AreCopiedInPart (s : Ending) : Type 0 where
+  pub listed : (c : ℕ) → IsCopiedIn s.listed c → is_set s.copied.bytes c ≡ true
+  pub within : (c : ℕ) → is_set s.copied.bytes c ≡ true → IsCopiedIn (s.listed ++ s.last) c
 
 -- ---- the target
 -- These bytes lie in the member's data area, beside the chunks that it lacks.
@@ -179,6 +184,13 @@ pub record IsBetweenPasses (s : Ending) : Type 0 where
   pub last : s.last ≡ []
   pub noted : s.noted ≡ []
 
+-- A pass was planned, and stretches of it were made and recorded, or none. What failed in them is not listed.
+pub record IsWithinPass (s : Ending) : Type 0 where
+  pub pass : PassView
+  pub last : s.last ≡ pass ∷ []
+  pub noted : s.noted ≡ []
+  pub copied : AreCopiedInPart s
+
 -- All slots of the last pass that failed are listed in memory.
 pub record NotesAll (s : Ending) : Type 0 where
   pub pass : PassView
@@ -225,23 +237,24 @@ pub record IsNothingDone (halted : Bool) (old new : MirrorView) : Type 0 where
   pub unchanged : new ≡ old
   pub halted_is : old.array.halted ≡ halted
 
--- The mirror runs, and the target's device has failed. Before a pass the target is what it was. From there on it is recovering, rebuilt as far as the
--- passes had copied that were recorded: all, if they were all made, and else those that were listed. All that is listed in memory beyond what was before
--- stands on the devices.
+-- The mirror runs, and the target's device has failed. Before a pass the target is what it was. From there on it is recovering, rebuilt as far as what
+-- was recorded had copied: all passes, if they were all made, and else those that were listed and the stretches of the last. All that is listed in
+-- memory beyond what was before stands on the devices.
 pub record EndsWithTarget (target : ℕ) (s : Ending) (now : MemberView) (old new : MirrorView) : Type 0 where
   pub running : new.array.halted ≡ false
   pub failed : AtDevice target old.disks new.disks (CountsFailure of_disks)
-  pub target_is : IsAsBefore s now ⊎ (IsRebuiltSoFar old.array s now × (AreCopiedBy s.listed s.copied ⊎ (AreCopiedBy (s.listed ++ s.last) s.copied × (failed_of s.last ≡ []))))
+  pub target_is : IsAsBefore s now ⊎ (IsRebuiltSoFar old.array s now × (AreCopiedInPart s ⊎ (AreCopiedBy (s.listed ++ s.last) s.copied × (failed_of s.last ≡ []))))
   pub noted : s.noted ≡ []
   pub stand : ListsStand target (failed_of s.listed) old.array new
 
 -- The mirror runs. The target is what it was, or it is recovering, rebuilt as far as the passes have copied, the last among them. Memory was refused
--- before a pass has read anything; or while slots that failed in the last were listed; or once all passes are made, and then the target's log has room
--- for its list. What failed in the passes before the last is listed, and stands on the devices.
+-- before a pass has read anything; or within one, before its next stretch has; or while slots that failed in the last were listed; or once all passes
+-- are made, and then the target's log has room for its list. What failed in the passes before the last is listed, and stands on the devices.
 pub record EndsWithoutMemory (target : ℕ) (s : Ending) (now : MemberView) (old new : MirrorView) : Type 0 where
   pub running : new.array.halted ≡ false
-  pub target_is : IsAsBefore s now ⊎ (IsRebuiltSoFar old.array s now × AreCopiedBy (s.listed ++ s.last) s.copied)
-  pub when : IsBetweenPasses s ⊎ (NotesSome s (λ next. Unit {0}) ⊎ HasOwnRoomFor target s old.array new.array)
+  pub target_is : IsAsBefore s now ⊎ IsRebuiltSoFar old.array s now
+  pub when : (IsBetweenPasses s × (IsAsBefore s now ⊎ AreCopiedBy s.listed s.copied))
+      ⊎ (IsWithinPass s ⊎ ((NotesSome s (λ next. Unit {0}) ⊎ HasOwnRoomFor target s old.array new.array) × AreCopiedBy (s.listed ++ s.last) s.copied))
   pub stand : ListsStand target (failed_of s.listed) old.array new
 
 -- The mirror runs, and the target is recovering, rebuilt as far as the passes have copied, the last among them. A slot failed of member k, whose log has no

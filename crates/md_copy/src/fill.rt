@@ -22,7 +22,7 @@ use std::alloc::Global;
 use std::sync::Wait;
 use std::thread::Threads;
 
-/// Copies what is planned to the target, as far as its sources give it, and answers how many slots failed.
+/// Copies what is planned to the target, as far as its sources give it.
 /// Whatever becomes of it, the devices are back in their places. Where memory is refused, nothing was read.
 pub(crate) fn fill<D: Device + Drop + Send, G: Gate + Sync, R: Threads + Wait + Sync>(
     rt: &R,

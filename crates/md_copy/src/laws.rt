@@ -8,6 +8,7 @@ ghost use Rattle.md_copy.specs.Readying.{FailsAdmission};
 ghost use Rattle.md_copy.specs.RebuildEvents.{FailsCheckpoint, LeadsUnadmitted, LeadsUnfinished, LeadsUnrecorded, RebuildLeads};
 ghost use Rattle.md_copy.specs.Rebuilding.{Rebuilds, RefusesRebuild};
 ghost use Rattle.md_copy.specs.Rebuilt.{HasRebuilt, IsRebuiltInSync};
+ghost use Rattle.md_copy.specs.Stretches.{StretchesMadeAsOne};
 
 /// From the moment at which a pass may be planned to that at which the target is in sync: whatever the steps of a
 /// rebuild, its target is rebuilt.
@@ -38,4 +39,10 @@ pub fn rebuild_events()
     ensures unadmitted { (target : ℕ) (old new : MirrorView) → FailsAdmission target old new → LeadsUnadmitted target old new }
     ensures unrecorded { (target : ℕ) (old new : MirrorView) → (fault : RebuildFault) (h : RefusesRebuild target old new fault)
         → FailsCheckpoint target old new fault h → LeadsUnrecorded target old new }
+{}
+
+/// Stretches of a pass that leave no slot, each of which is recorded, come to what one pass does: the same chunks join
+/// those that were copied, no list grows, and the devices count the slots that failed.
+pub fn stretches_made_as_one()
+    ensures { StretchesMadeAsOne }
 {}

@@ -25,6 +25,7 @@ mod readying;
 mod rebuilt;
 mod sources;
 mod storing;
+mod stretches;
 mod until_done;
 mod whole_rebuild;
 

@@ -2,33 +2,26 @@
 ghost use Rattle.std.specs.Prelude.{◌≡◌, ◌^◌, ◌<◌, ◌≤◌, All, IfErr, IfOk, MatchResult, false, length};
 ghost use Rattle.std.specs.Int.{div_ceil};
 ghost use Rattle.md_array.specs.Consistency.{IsConsistent};
-ghost use Rattle.md_cert.specs.Assignments.{Least};
-ghost use Rattle.md_cert.specs.Plans.{IsCertified, SlotsRise};
-ghost use Rattle.md_cert.specs.Tables.{orphans_of};
+ghost use Rattle.md_cert.specs.Plans.{SlotsRise};
 ghost use Rattle.md_kept_members.specs.View.{MemberView};
 ghost use Rattle.md_pass.specs.Copied.{failed_slots};
 ghost use Rattle.md_copy.specs.PassLaws.Listed.{ServesAs};
 ghost use Rattle.md_state.specs.Members.{IsMember};
 ghost use Rattle.md_rebuild_table.specs.Orphans.{IsSetOf};
-ghost use Rattle.md_rebuild_table.specs.Sources.{IsTableIn};
-ghost use Rattle.md_rebuild_table.specs.Targets.{IsTarget};
 ghost use Rattle.md_copy.specs.Held.{AreHeld};
 ghost use Rattle.md_copy.specs.Leaving.{MayRecordAtEnd};
 ghost use Rattle.md_copy.specs.Passing.{FailsOne, GoesOnWith, IsTableFor, MakesOne, PassesAll, PassesFail, FailsBetween};
-ghost use Rattle.md_copy.specs.Preparing.{IsNoMemory};
 ghost use Rattle.md_copy.specs.Ready.{IsReadyToCopy};
-ghost use Rattle.md_copy.specs.RebuildSources.{AreSources};
 ghost use Rattle.md_copy.specs.Told.{IsToldOfPlans, IsToldOfSlots};
 
-use crate::fill::fill;
 use crate::list_failed::{list_failed, store_lists};
 use crate::next_table::table_of_failed;
-use crate::sources::sources_of;
-use md_array::{Mirror, TargetFault};
+use crate::stretches::{copy_stretches, stretch_rounds};
+use md_array::Mirror;
 use md_bitmap::Marks;
-use md_cert::{Plan, Table};
+use md_cert::{Plan, Slot, Table};
 use md_device::Device;
-use md_pass::{Gate, Source};
+use md_pass::Gate;
 use md_plan::{Planned, plan};
 use md_rebuild_table::{RebuildFault, table};
 use std::alloc::Global;
@@ -41,11 +34,11 @@ pub(crate) struct Passed {
     /// Its plan.
     pub(crate) planned: Planned,
     /// How many slots of it failed.
-    pub(crate) failed: u32,
+    pub(crate) failed: usize,
 }
 
 /// Makes passes over what the target lacks: each but the first over what failed in the one before, which is listed
-/// as bad on its sources meanwhile. After each pass it is recorded how far the target is rebuilt. The plans are
+/// as bad on its sources meanwhile. After each stretch of one it is recorded how far the target is rebuilt. The plans are
 /// answered, in their order, and `copied` gets a mark for each chunk that was copied.
 pub(crate) fn copy_passes<D: Device + Drop + Send, G: Gate + Sync, R: Threads + Wait + Sync>(
     rt: &R,
@@ -84,7 +77,7 @@ pub(crate) fn copy_passes<D: Device + Drop + Send, G: Gate + Sync, R: Threads + 
     unreachable!()
 }
 
-/// One pass over the chunks of a table: it is planned and made, and how far the target is rebuilt is recorded.
+// One pass over the chunks of a table: it is planned, and made in stretches.
 fn make_pass<D: Device + Drop + Send, G: Gate + Sync, R: Threads + Wait + Sync>(
     rt: &R,
     alloc: Global,
@@ -104,54 +97,22 @@ fn make_pass<D: Device + Drop + Send, G: Gate + Sync, R: Threads + Wait + Sync>(
     ensures told { IfOk result (λ passed. IsToldOfSlots G.Gate gate.now passed.planned.plan.slots) }
     ensures sound { IsConsistent mirror.new }
 {
-    let Prepared { planned, sources } = prepare(alloc, mirror, target, rows)?;
-    let failed = fill(
-        rt,
-        alloc,
-        mirror,
-        target,
-        gate,
-        &planned.plan,
-        sources.as_slice(),
-        copied,
-    )?;
-    match mirror.checkpoint(target, copied) {
-        Ok(()) => Ok(Passed { planned, failed }),
-        Err(TargetFault::TargetFault) => Err(RebuildFault::TargetFault),
-        // The mirror runs.
-        Err(TargetFault::Halted) => unreachable!(),
-    }
-}
-
-// A pass before it begins.
-#[derive(Drop)]
-struct Prepared {
-    planned: Planned,
-    // The members that it reads.
-    sources: Vec<Source>,
-}
-
-// Plans the chunks of a table, and takes all memory of the pass but what `copy_pass` takes.
-fn prepare<D: Device + Drop>(
-    alloc: Global,
-    mirror: &Mirror<D>,
-    target: usize,
-    rows: &Table,
-) -> Result<Prepared, RebuildFault>
-    requires within { target < length mirror.now.array.members }
-    requires sound { IsConsistent mirror.now }
-    requires target { (m : MemberView) → IsMember mirror.now.array target m → IsTarget mirror.now.array m }
-    requires table { (m : MemberView) → IsMember mirror.now.array target m → IsTableIn mirror.now.array m rows.now }
-    requires few { length rows.now ≤ 2 ^ 20 }
-    ensures certified { IfOk result (λ p. IsCertified rows.now p.planned.plan p.planned.certificate) }
-    ensures least { IfOk result (λ p. Least rows.now p.planned.plan.rounds) }
-    ensures orphans { IfOk result (λ p. p.planned.orphans ≡ orphans_of rows.now) }
-    ensures sources { IfOk result (λ p. AreSources mirror.now target p.planned.plan.slots p.sources.items) }
-    ensures refused { IfErr result IsNoMemory }
-{
     let planned = plan(alloc, rows)?;
-    let sources = sources_of(alloc, mirror, target, &planned.plan)?;
-    Ok(Prepared { planned, sources })
+    let step = stretch_rounds(mirror.chunks(), planned.plan.rounds);
+    copy_stretches(rt, alloc, mirror, target, gate, &planned.plan, step, copied)?;
+    let failed = failed_count(planned.plan.slots.as_slice(), copied);
+    Ok(Passed { planned, failed })
+}
+
+// How many of these slots failed: those whose chunks were not copied.
+fn failed_count(slots: &[Slot], copied: &Marks) -> usize
+    requires { All (λ slot. slot.chunk < copied.now.chunks) slots.now }
+    ensures { result ≡ length (failed_slots slots.now copied.now) }
+{
+    slots
+        .iter()
+        .filter(|slot| !copied.is_marked(slot.chunk))
+        .count()
 }
 
 /// Lists what failed in a pass, stores the lists, and answers the next table.

@@ -32,8 +32,8 @@ use std::thread::Threads;
 /// fewest rounds. Chunks that could not be read are listed as bad on the member that was to give them, and another
 /// pass takes them from the others. Then the target is in sync, and lists the chunks that nobody could give. A
 /// spare is admitted first, so that it is recovering from then on, whatever comes of the rebuild. How far it came
-/// is recorded after each pass, and before the fault is answered where passes end without memory, without room in
-/// a log, or as a list can't be stored on a member.
+/// is recorded after each stretch of a pass, and before the fault is answered where passes end without memory,
+/// without room in a log, or as a list can't be stored on a member.
 pub fn rebuild<D: Device + Drop + Send, G: Gate + Sync, R: Threads + Wait + Sync>(
     rt: &R,
     alloc: Global,

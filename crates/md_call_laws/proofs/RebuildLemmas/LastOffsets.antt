@@ -17,7 +17,7 @@ use Rattle.md_kept_members.specs.View.{MemberView}
 use Rattle.md_members.specs.Areas.{data_area, super_area}
 use Rattle.md_model.specs.Events.{Event}
 use Rattle.md_model.proofs.Cases.{is_below}
-use Rattle.md_copy.specs.PassLaws.Passes.{PassView, failed_chunks}
+use Rattle.md_copy.specs.PassLaws.Passes.{PassView, failed_chunks, slots_of_pass}
 use Rattle.md_super.specs.declared.superblock.Superblock.{Superblock}
 use Rattle.md_super.specs.Faults.{NoSuperFault}
 use Rattle.md_super.specs.Format.{IsSuper}
@@ -47,19 +47,20 @@ use Rattle.md_laws.proofs.Crashes.AtSteps.{new_has, none_new}
 use Rattle.md_metadata.specs.Storing.{IsNoFailure, IsStoring, Stores}
 use Rattle.md_rebuild_table.specs.Sources.{missing_chunks}
 use Rattle.md_copy.specs.Listing.{ListsAll, WritesMetadata}
-use Rattle.md_copy.specs.Passing.{AreListedPasses}
+use Rattle.md_copy.specs.Passing.{AreListedPasses, RecordsPass}
 use Rattle.md_copy.specs.Rebuilding.{BeginsRebuild}
 use Rattle.md_copy.specs.Storing.{StoresFirst}
+use Rattle.md_copy.specs.Stretches.{AreRecorded, slots_after}
 use Rattle.md_copy.proofs.Held.HeldRecorded.{low_start, out_of_sync, target_same}
 use Rattle.md_copy.proofs.Listings.ListsOn.{IsSuperOf}
 use Rattle.md_copy.proofs.Passing.PassRecorded.{recorded_ready}
-use Rattle.md_copy.proofs.Passing.PassesTold.{HoldsSoFar, chain_holds, listed_holds}
+use Rattle.md_copy.proofs.Passing.PassesTold.{HoldsSoFar, chain_holds, holds_alone, listed_holds, stretches_hold}
 use Rattle.md_copy.proofs.Ready.Lowered.{lowered_before, lowered_disks, lowered_sound}
 use Rattle.md_copy.proofs.Ready.Readied.{admitted_is, ready_of, recovering_admitted}
 use Rattle.md_copy.proofs.Ready.ReadyStill.{ready_noted}
 use Rattle.md_copy.proofs.Leads.RebuildLeads.{begin_holds, missing_beside}
 use Rattle.md_copy.proofs.Stored.StoringKeeps.{due_within}
-use Rattle.md_call_laws.specs.Rebuilds.LastOffsets.{FindsOffset, HasCome, HasOffset, HasOffsetBefore, OffsetStands, OpeningsFind, SaysOffset, CrashesCopyingFind, CrashesListingFind, CrashesStoringFind, CrashesUnlistedFind}
+use Rattle.md_call_laws.specs.Rebuilds.LastOffsets.{FindsOffset, HasCome, HasComeWithin, HasOffset, HasOffsetBefore, OffsetStands, OffsetStandsWithin, OpeningsFind, SaysOffset, CrashesCopyingFind, CrashesListingFind, CrashesStoringFind, CrashesUnlistedFind}
 
 -- ---- what a superblock says
 -- it is read of these bytes alone
@@ -233,13 +234,23 @@ module _ (target : ℕ) where
       (n.0, n.1, ap (λ (z : MemberView). z.stored_offset) same)) (beside v w recovers l.writes) has
 
   -- ---- passes
+  -- by each stretch it is stored anew
+  stretches_has : (rounds : List ℕ) (slots left : List Slot) (before after : Bitmap) (v w : MirrorView) → AreRecorded target rounds slots left before after v w → HasOffset target v → HasOffset target w
+  stretches_has [] slots left before after v w h has = subst (HasOffset target) (sym h.2) has
+  stretches_has (round ∷ rounds) slots left before after v w h has =
+      let one = h.2 in
+      stretches_has rounds (slots_after round slots) left h.0 after h.1 w h.3 (checkpointed_has h.0 one.filled h.1 one.makes.sound one.checkpoints)
+
+  recorded_has : (chunks : List ℕ) (p : PassView) (before after : Bitmap) (v w : MirrorView) → RecordsPass target chunks p before after v w → HasOffset target v → HasOffset target w
+  recorded_has chunks p before after v w h has = stretches_has h.stretches.rounds (slots_of_pass p) [] before after v w h.stretches.all has
+
   chain_has : (passes : List PassView) (chunks left : List ℕ) (before after : Bitmap) (v w : MirrorView) → AreListedPasses target passes chunks left before after v w → HoldsSoFar target v before chunks → HasOffset target v → HasOffset target w
   chain_has [] chunks left before after v w h so has = subst (HasOffset target) (sym h.2) has
   chain_has (p ∷ ps) chunks left before after v w h so has =
       let one = h.2 in
       let may = recorded_ready target chunks p before h.0 v one.recorded one.records so.ready so.held so.lacking in
       chain_has ps (failed_chunks p) left h.0 after h.1 w h.3 (listed_holds target chunks p before h.0 v h.1 one so)
-      (listed_has p.failed one.recorded h.1 may.recovering one.lists (checkpointed_has h.0 one.records.filled one.recorded one.records.makes.sound one.records.checkpoints))
+      (listed_has p.failed one.recorded h.1 may.recovering one.lists (recorded_has chunks p before h.0 v one.recorded one.records has))
 
   come_holds : (chunks : List ℕ) (copied : Bitmap) (old now : MirrorView) → HasCome target chunks copied old now → HoldsSoFar target now copied chunks
   come_holds chunks copied old now h =
@@ -248,6 +259,16 @@ module _ (target : ℕ) where
   come_has : (chunks : List ℕ) (copied : Bitmap) (old now : MirrorView) → HasCome target chunks copied old now → HasOffset target now
   come_has chunks copied old now h =
       chain_has h.passes (missing_chunks h.ready.array h.begins.now) chunks h.none copied h.ready now h.passed (begin_holds target old h.ready h.none h.begins) (begun_has old h.ready h.none h.begins h.had)
+
+  -- and of the next pass so much
+  within_holds : (copied : Bitmap) (old now : MirrorView) → HasComeWithin target copied old now → HoldsSoFar target now copied []
+  within_holds copied old now h =
+      stretches_hold target h.part.rounds (slots_of_pass h.part.pass) h.part.left h.before copied h.begun now h.part.stretches
+      (holds_alone target h.begun h.before h.chunks (come_holds h.chunks h.before old h.begun h.come))
+
+  within_has : (copied : Bitmap) (old now : MirrorView) → HasComeWithin target copied old now → HasOffset target now
+  within_has copied old now h =
+      stretches_has h.part.rounds (slots_of_pass h.part.pass) h.part.left h.before copied h.begun now h.part.stretches (come_has h.chunks h.before old h.begun h.come)
 
   -- ---- what a crash leaves of its device
   -- none of its bytes was written but data
@@ -284,29 +305,32 @@ module _ (target : ℕ) where
 pub offset_stands : OffsetStands
 offset_stands target chunks copied old now h = come_has target chunks copied old now h
 
+pub offset_stands_within : OffsetStandsWithin
+offset_stands_within target copied old now h = within_has target copied old now h
+
 pub crashes_copying_find : CrashesCopyingFind
-crashes_copying_find target chunks copied old now new h p is m at f left within n d e at_n at_d at_e honest stop at_crash =
-    let so = come_holds target chunks copied old now h in
-    let block : (c : List ℕ) → IsBesideKept now m d.content c → block_on c ≡ block_on d.content = block_filled target now so.ready.sound m at d at_d in
+crashes_copying_find target copied old now new h slots may f left within n d e at_n at_d at_e honest stop at_crash =
+    let so = within_holds target copied old now h in
+    let block : (c : List ℕ) → IsBesideKept now may.member d.content c → block_on c ≡ block_on d.content = block_filled target now so.ready.sound may.member may.at d at_d in
     let on = f.on_target d e at_d at_e in
-    let same = missing_beside target now copied chunks so p is m at d.content in
+    let same = missing_beside target now copied so slots may d.content in
     let block_left : block_on stop.content ≡ block_on d.content = elim (left_at target now new left within d e stop at_d at_e at_crash) [
       | inl as_was ↦ ap block_on as_was
       | inr later ↦ block stop.content (same stop.content (new_has d.crashes e.crashes _ (on.crashes honest) later.0 stop.content later.1))
     ] in
-    says_same d.content stop.content n.stored_offset block_left (come_has target chunks copied old now h n d at_n at_d honest)
+    says_same d.content stop.content n.stored_offset block_left (within_has target copied old now h n d at_n at_d honest)
 
 pub crashes_storing_find : CrashesStoringFind
-crashes_storing_find target chunks copied after old now filled new h p makes r left whole m n d e stop at_m at_n at_d at_e honest at_crash =
-    let so = come_holds target chunks copied old now h in
+crashes_storing_find target copied after old now filled new h slots makes r left whole m n d e stop at_m at_n at_d at_e honest at_crash =
+    let so = within_holds target copied old now h in
     let f = makes.copies.filling in
     let low = slice_get_within filled.disks target d at_d in
     let many = f.as_many in
     let b = got_within now.disks target (omega (arith, low, many)) in
     let on = f.on_target b.0 d b.1 at_d in
     let was = sym on.honest_kept ∙ honest in
-    let block = block_filled target now so.ready.sound makes.member makes.at b.0 b.1 d.content (missing_beside target now copied chunks so p makes.is makes.member makes.at b.0.content d.content on.same) in
-    let before = come_has target chunks copied old now h m b.0 (ap (λ (a : ArrayView). slice_get a.members target) (sym f.array) ∙ at_m) b.1 was in
+    let block = block_filled target now so.ready.sound makes.may.member makes.may.at b.0 b.1 d.content (missing_beside target now copied so slots makes.may b.0.content d.content on.same) in
+    let before = within_has target copied old now h m b.0 (ap (λ (a : ArrayView). slice_get a.members target) (sym f.array) ∙ at_m) b.1 was in
     let there = says_same b.0.content d.content m.stored_offset block before in
     let then = checkpointed_has target after filled new makes.sound r n e at_n at_e ((r.disks.tried.stays d e at_d at_e).honest ∙ honest) in
     elim whole [
@@ -318,7 +342,7 @@ pub crashes_listing_find : CrashesListingFind
 crashes_listing_find target chunks copied after old now recorded new h p records lists =
     let so = come_holds target chunks copied old now h in
     let may = recorded_ready target chunks p copied after now recorded records so.ready so.held so.lacking in
-    unused_left target recorded new (beside target recorded new may.recovering lists.writes) (checkpointed_has target after records.filled recorded records.makes.sound records.checkpoints)
+    unused_left target recorded new (beside target recorded new may.recovering lists.writes) (recorded_has target chunks p copied after now recorded records (come_has target chunks copied old now h))
 
 pub crashes_unlisted_find : CrashesUnlistedFind
 crashes_unlisted_find target k chunks copied after old now recorded noted new h p records notes stops =
@@ -329,7 +353,7 @@ crashes_unlisted_find target k chunks copied after old now recorded noted new h 
     let n = notes.lists.before target m at in
     let same = (notes.members target n.0 m n.1 at).out (out_of_sync n.0.state (may.recovering n.0 n.1)) in
     (n.0, n.1, ap (λ (z : MemberView). z.stored_offset) same)) (ap (λ (ds : List Disk). slice_get ds target) notes.disks)
-    (checkpointed_has target after records.filled recorded records.makes.sound records.checkpoints) in
+    (recorded_has target chunks p copied after now recorded records (come_has target chunks copied old now h)) in
     unused_left target noted new (beside target noted new may_noted.recovering stops.writes) has
 
 module _ (before : List Disk) (a : ArrayView) (o : IsArrayOf before a) (honest : AreHonest before) (k offset : ℕ) (d : Disk) (m : MemberView) (at_d : slice_get before k ≡ Some d) (at_m : IsMember a k m)

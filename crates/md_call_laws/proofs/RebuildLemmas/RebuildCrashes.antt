@@ -6,7 +6,8 @@ use Rattle.md_bitmap.specs.Marks.{Bitmap}
 use Rattle.md_kept_members.specs.View.{MemberView}
 use Rattle.md_model.specs.Events.{Event, MemberPart}
 use Rattle.md_model.proofs.Cases.{by_test}
-use Rattle.md_copy.specs.PassLaws.Passes.{PassView, failed_chunks}
+use Rattle.md_cert.specs.declared.slots.Slot.{Slot}
+use Rattle.md_copy.specs.PassLaws.Passes.{PassView, failed_chunks, slots_of_pass}
 use Rattle.md_state.specs.DiskWrites.{AtDevice}
 use Rattle.md_state.specs.Members.{IsInSync, IsMember}
 use Rattle.md_state.specs.Missing.{is_rebuilt}
@@ -33,24 +34,25 @@ use Rattle.md_metadata.specs.Storing.{IsStoring}
 use Rattle.md_rebuild_table.specs.Beginning.{MayBeginRebuild}
 use Rattle.md_rebuild_table.specs.Sources.{missing_chunks}
 use Rattle.md_copy.specs.Listing.{IsStoringList, NotesLists}
-use Rattle.md_copy.specs.Passing.{AreListedPasses, CopiesAll, ListsPass, MakesPass, RecordsPass}
+use Rattle.md_copy.specs.Passing.{AreListedPasses, CopiesAll, ListsPass, RecordsPass}
 use Rattle.md_copy.specs.Readying.{AdmitsAfter, AdmitsFirst, FailsAdmission, Readies}
 use Rattle.md_copy.specs.RebuildEvents.{FailsAtMarks}
 use Rattle.md_copy.specs.Rebuilding.{EndsStoring}
 use Rattle.md_copy.proofs.Ready.Lowered.{lowered_but}
 use Rattle.md_copy.specs.Rebuilt.{failed_of}
 use Rattle.md_copy.specs.Storing.{FailsToRecordTarget, StoresFirst}
+use Rattle.md_copy.specs.Stretches.{AreRecorded, MakesStretch, RecordsStretch, slots_after, slots_before}
 use Rattle.md_copy.proofs.Held.HeldRecorded.{out_of_sync, target_same}
 use Rattle.md_copy.proofs.Fills.LentBack.{rebuilt_out}
-use Rattle.md_copy.proofs.Passing.PassesTold.{HoldsSoFar, chain_holds, listed_holds}
-use Rattle.md_copy.proofs.Passing.PassRecorded.{filled_ready, recorded_ready}
+use Rattle.md_copy.proofs.Passing.PassesTold.{HoldsSoFar, chain_holds, holds_alone, listed_holds, one_holds, stretches_hold}
+use Rattle.md_copy.proofs.Passing.PassRecorded.{recorded_ready}
 use Rattle.md_copy.proofs.Ready.Readied.{may_then, recovering_admitted, spare_is, spare_rebuilt}
 use Rattle.md_copy.proofs.Ready.ReadyStill.{IsCalm, IsOnMembers, ready_filled, ready_noted, stays_all}
 use Rattle.md_copy.proofs.Leads.RebuildLeads.{begin_holds, filled, listing_before, storing_before}
 use Rattle.md_copy.proofs.Stored.TargetStates.{target_rebuilt}
 use Rattle.md_copy.proofs.Leads.UnfinishedEnrol.{prepares}
-use Rattle.md_call_laws.specs.Rebuilds.RebuildCrashes.{HasFilled, HasPassed, IsCrashAfter, IsCrashBefore, IsSuperWhole, CrashesAdmitting, CrashesAtCheckpoint, CrashesAtFailedCheckpoint, CrashesCopying, CrashesEnrolling, CrashesFilling, CrashesFirst, CrashesInListed, CrashesInPass, CrashesInPasses, CrashesListing, CrashesPassUnrecorded, CrashesReadying, CrashesRecording, CrashesStoring, CrashesUnadmitted, CrashesUnenrolled, CrashesUnrecorded}
-use Rattle.md_call_laws.proofs.RebuildLemmas.RebuildSteps.{Before, ComesUnspoiled, admission_comes, begun_comes, checkpoint_comes, checkpoint_unspoils, fill_comes, filled_comes, listed_comes, lowered_comes, noted_comes, noting_comes, passes_come, recorded_comes, so_last, stored_comes, stores_come, then_unspoiled, until_last, whole_stores}
+use Rattle.md_call_laws.specs.Rebuilds.RebuildCrashes.{HasFilled, HasPassed, HasStretched, IsCrashAfter, IsCrashBefore, IsSuperWhole, CrashesAdmitting, CrashesAtCheckpoint, CrashesAtFailedCheckpoint, CrashesCopying, CrashesEnrolling, CrashesFilling, CrashesFirst, CrashesInListed, CrashesInPass, CrashesInPasses, CrashesInStretch, CrashesInStretches, CrashesListing, CrashesPassUnrecorded, CrashesReadying, CrashesRecording, CrashesStoring, CrashesUnadmitted, CrashesUnenrolled, CrashesUnrecorded}
+use Rattle.md_call_laws.proofs.RebuildLemmas.RebuildSteps.{Before, ComesUnspoiled, admission_comes, begun_comes, checkpoint_comes, fill_comes, filled_comes, listed_comes, lowered_comes, noted_comes, noting_comes, passes_come, recorded_comes, recorded_unspoils, so_last, stored_comes, stores_come, stretch_comes, stretches_come, then_unspoiled, until_last, whole_stores}
 use Rattle.md_call_laws.proofs.RebuildLemmas.Steady.{Comes, IsSteadyAt, comes_then, end, end_steady, steady_at}
 use Rattle.md_call_laws.proofs.RebuildLemmas.Unshifted.{Unshifted, un_noted, unshifted_before_last, unshifted_begun, unshifted_first, unshifted_later, whole_stores_lists}
 
@@ -388,25 +390,37 @@ module _ (target : ℕ) (t : Moment) (at : IsSteadyAt t) where
           }))))
     ]
 
--- one that is recorded
+-- a stretch that is recorded
+module _ (target : ℕ) (slots : List Slot) (before after : Bitmap) (t : Moment) (at : IsSteadyAt t) (so : HoldsSoFar target t.mirror before []) (new : MirrorView) (h : RecordsStretch target slots before after t.mirror new) where
+  pub recovers_filled : (m : MemberView) → IsMember h.filled.array target m → is_recovering m.state ≡ true
+  recovers_filled = (ready_filled target t.mirror h.filled h.makes.copies.filling.array h.makes.sound so.ready).recovering
+
+  pub filling_crash : (left : List Disk) → MayAllBeLeft t.mirror.disks h.filled.disks (contents_of left) → IsCrashBefore target t left
+  filling_crash left within = fill_crash target t at h.filled (filled target t.mirror before so slots h.makes.may h.filled h.makes.copies.filling) left within
+
+  stretch_crash : (left : List Disk) → CrashesInStretch IsSuperWhole target slots before after t.mirror new h left → IsCrashBefore target t left
+  stretch_crash left stop = elim stop [
+    | inl within ↦ filling_crash left within
+    | inr within ↦
+        (let c = filled_comes target slots before after t at so new h in
+        later_crash target t c left (recording_crash target (end c) (end_steady c at) recovers_filled after new h.checkpoints left within.0 within.1))
+  ]
+
+stretches_crash : (target : ℕ) (rounds : List ℕ) (slots rest : List Slot) (before after : Bitmap) (t : Moment) → IsSteadyAt t → HoldsSoFar target t.mirror before []
+    → (new : MirrorView) (h : AreRecorded target rounds slots rest before after t.mirror new) (left : List Disk) → CrashesInStretches IsSuperWhole target rounds slots rest before after t.mirror new h left → IsCrashBefore target t left
+stretches_crash target [] slots rest before after t at so new h left stop = absurd stop
+stretches_crash target (round ∷ rounds) slots rest before after t at so new h left (inl here) = stretch_crash target (slots_before round slots) before h.0 t at so h.1 h.2 left here
+stretches_crash target (round ∷ rounds) slots rest before after t at so new h left (inr later) =
+    let c = stretch_comes target (slots_before round slots) before h.0 t at so h.1 h.2 in
+    later_crash target t c left
+    (stretches_crash target rounds (slots_after round slots) rest h.0 after (end c) (end_steady c at) (one_holds target round slots before h.0 t.mirror h.1 h.2 so) new h.3 left later)
+
+-- a pass that is recorded
 module _ (target : ℕ) (chunks : List ℕ) (p : PassView) (before after : Bitmap) (t : Moment) (at : IsSteadyAt t) (so : HoldsSoFar target t.mirror before chunks) (new : MirrorView)
     (h : RecordsPass target chunks p before after t.mirror new) where
-  pub until_filled : Comes (Before target) t h.filled
-  until_filled = filled_comes target chunks p before after t at so new h
-
-  pub recovers_filled : (m : MemberView) → IsMember h.filled.array target m → is_recovering m.state ≡ true
-  recovers_filled = (filled_ready target chunks p before after t.mirror new h so.ready so.held so.lacking).recovering
-
-  pub pass_filling_crash : (left : List Disk) → MayAllBeLeft t.mirror.disks h.filled.disks (contents_of left) → IsCrashBefore target t left
-  pass_filling_crash left within = fill_crash target t at h.filled (filled target t.mirror before chunks so p h.makes.is h.makes.member h.makes.at h.filled h.makes.copies.filling) left within
-
   pub pass_crash : (left : List Disk) → CrashesInPass IsSuperWhole target chunks p before after t.mirror new h left → IsCrashBefore target t left
-  pass_crash left stop = elim stop [
-    | inl within ↦ pass_filling_crash left within
-    | inr within ↦
-        later_crash target t until_filled left
-        (recording_crash target (end until_filled) (end_steady until_filled at) recovers_filled after new h.checkpoints left within.0 within.1)
-  ]
+  pass_crash left stop =
+      stretches_crash target h.stretches.rounds (slots_of_pass p) [] before after t at (holds_alone target t.mirror before chunks so) new h.stretches.all left stop
 
 -- and of which slots failed
 pub lists_stop : (target : ℕ) (t : Moment) → IsSteadyAt t → IsOut target t.mirror → (last : MirrorView) (g : GoesOn only_others only_others IsStoringList t.mirror last) (in_flight : AreInFlight t.mirror.array t.requests)
@@ -505,14 +519,12 @@ module _ (target : ℕ) (kept orphans : Bitmap) (t : Moment) (at : IsSteadyAt t)
       unshifted_begun target (failed_of c.listed) t.mirror h.ready h.none h.begins
       (unshifted_before_last target h.begins.now h.passes h.none h.copied h.ready filled_at c t.mirror.array h.unshifted)
 
-  -- until its last checkpoint, and by that
-  pub until_offset : Comes (Before target) t c.records.filled
-  until_offset =
-      let x = comes_then begun (until_last target h.begins.now h.passes h.none h.copied (end begun) (end_steady begun at) so_begun filled_at c un_begun) in
-      comes_then x (filled_comes target c.left c.last c.mid h.copied (end x) (end_steady x at) (so_last target h.begins.now h.passes h.none h.copied (end begun) (end_steady begun at) so_begun filled_at c un_begun) filled_at c.records)
-
+  -- by its last checkpoint
   pub filled_unspoiled : ComesUnspoiled target t filled_at
-  filled_unspoiled = then_unspoiled target t until_offset (checkpoint_unspoils target h.copied (end until_offset) (end_steady until_offset at) filled_at c.records.checkpoints)
+  filled_unspoiled =
+      let x = comes_then begun (until_last target h.begins.now h.passes h.none h.copied (end begun) (end_steady begun at) so_begun filled_at c un_begun) in
+      then_unspoiled target t x
+      (recorded_unspoils target c.left c.last c.mid h.copied (end x) (end_steady x at) (so_last target h.begins.now h.passes h.none h.copied (end begun) (end_steady begun at) so_begun filled_at c un_begun) filled_at c.records)
 
   abbrev pub all_filled : Comes (Before target) t filled_at
   all_filled = filled_unspoiled.comes
@@ -564,35 +576,46 @@ crashes_admitting before m start es rest final t life target admitted h left wit
 pub crashes_unadmitted : CrashesUnadmitted
 crashes_unadmitted before m start es rest final t life target new h left within super = unadmitted_crash target t (steady_at before m start es rest final t life) new h left within super
 
-pub crashes_filling : CrashesFilling
-crashes_filling before m start es rest final t life target chunks copied now new h p is n there f left within =
-    let at = steady_at before m start es rest final t life in
-    let c = passed target chunks copied t at now h in
-    later_crash target t c left
-    (fill_crash target (end c) (end_steady c at) new (filled target now copied chunks (passed_holds target chunks copied t at now h) p is n there new f) left within)
+-- so far, and stretches of the next pass
+module _ (target : ℕ) (copied : Bitmap) (t : Moment) (at : IsSteadyAt t) (now : MirrorView) (h : HasStretched target copied t.mirror now) where
+  so_before : HoldsSoFar target h.begun h.before []
+  so_before = holds_alone target h.begun h.before h.chunks (passed_holds target h.chunks h.before t at h.begun h.passed)
 
--- a pass that was made then
-module _ (target : ℕ) (chunks : List ℕ) (copied after : Bitmap) (t : Moment) (at : IsSteadyAt t) (now made : MirrorView) (h : HasPassed target chunks copied t.mirror now) (p : PassView)
-    (is : MakesPass target chunks p copied after now made) where
+  pub stretched : Comes (Before target) t now
+  stretched =
+      let c = passed target h.chunks h.before t at h.begun h.passed in
+      comes_then c (stretches_come target h.part.rounds (slots_of_pass h.part.pass) h.part.left h.before copied (end c) (end_steady c at) so_before now h.part.stretches)
+
+  pub stretched_holds : HoldsSoFar target now copied []
+  stretched_holds = stretches_hold target h.part.rounds (slots_of_pass h.part.pass) h.part.left h.before copied h.begun now h.part.stretches so_before
+
+pub crashes_filling : CrashesFilling
+crashes_filling before m start es rest final t life target copied now new h slots may f left within =
+    let at = steady_at before m start es rest final t life in
+    let c = stretched target copied t at now h in
+    later_crash target t c left (fill_crash target (end c) (end_steady c at) new (filled target now copied (stretched_holds target copied t at now h) slots may new f) left within)
+
+-- a stretch that was made then
+module _ (target : ℕ) (copied after : Bitmap) (t : Moment) (at : IsSteadyAt t) (now made : MirrorView) (h : HasStretched target copied t.mirror now) (slots : List Slot) (is : MakesStretch target slots copied after now made) where
   pub until_made : Comes (Before target) t made
   until_made =
-      let c = passed target chunks copied t at now h in
-      comes_then c (fill_comes target (end c) (end_steady c at) made (filled target now copied chunks (passed_holds target chunks copied t at now h) p is.is is.member is.at made is.copies.filling))
+      let c = stretched target copied t at now h in
+      comes_then c (fill_comes target (end c) (end_steady c at) made (filled target now copied (stretched_holds target copied t at now h) slots is.may made is.copies.filling))
 
   pub recovers_made : (m : MemberView) → IsMember made.array target m → is_recovering m.state ≡ true
-  recovers_made = (ready_filled target now made is.copies.filling.array is.sound (passed_holds target chunks copied t at now h).ready).recovering
+  recovers_made = (ready_filled target now made is.copies.filling.array is.sound (stretched_holds target copied t at now h).ready).recovering
 
 pub crashes_recording : CrashesRecording
-crashes_recording before m start es rest final t life target chunks copied after now made new h p is r left within super =
+crashes_recording before m start es rest final t life target copied after now made new h slots is r left within super =
     let at = steady_at before m start es rest final t life in
-    let c = until_made target chunks copied after t at now made h p is in
-    later_crash target t c left (recording_crash target (end c) (end_steady c at) (recovers_made target chunks copied after t at now made h p is) after new r left within super)
+    let c = until_made target copied after t at now made h slots is in
+    later_crash target t c left (recording_crash target (end c) (end_steady c at) (recovers_made target copied after t at now made h slots is) after new r left within super)
 
 pub crashes_pass_unrecorded : CrashesPassUnrecorded
-crashes_pass_unrecorded before m start es rest final t life target chunks copied after now made new h p is f left within same =
+crashes_pass_unrecorded before m start es rest final t life target copied after now made new h slots is f left within same =
     let at = steady_at before m start es rest final t life in
-    let c = until_made target chunks copied after t at now made h p is in
-    later_crash target t c left (unrecorded_offset_crash target (end c) (end_steady c at) (recovers_made target chunks copied after t at now made h p is) after new f left within same)
+    let c = until_made target copied after t at now made h slots is in
+    later_crash target t c left (unrecorded_offset_crash target (end c) (end_steady c at) (recovers_made target copied after t at now made h slots is) after new f left within same)
 
 pub crashes_at_checkpoint : CrashesAtCheckpoint
 crashes_at_checkpoint before m start es rest final t life target copied new r left within super =

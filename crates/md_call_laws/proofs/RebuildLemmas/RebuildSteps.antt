@@ -1,12 +1,12 @@
 -- The steps of a rebuild, each from a moment of a mirror's life: by its events a run leads to the mirror after it.
-use Rattle.std.proofs.Common.{◌≡◌, ◌∙◌, ◌++◌, ℕ, Bool, true, false, List, [], ◌∷◌, None, Option, Some, refl, ap, subst, inl, inr}
+use Rattle.std.proofs.Common.{◌≡◌, ◌≢◌, ◌∙◌, ◌++◌, ℕ, Bool, true, false, List, [], ◌∷◌, None, Option, Some, refl, sym, ap, subst, inl, inr}
 use Rattle.md_assembly.specs.States.{is_spare}
 use Rattle.md_bitmap.specs.Marks.{Bitmap}
 use Rattle.md_cert.specs.declared.slots.Slot.{Slot}
 use Rattle.md_kept_members.specs.View.{MemberView}
 use Rattle.md_model.specs.Events.{Event, MemberPart}
 use Rattle.md_model.proofs.Puts.{put-hit}
-use Rattle.md_copy.specs.PassLaws.Passes.{PassView, failed_chunks}
+use Rattle.md_copy.specs.PassLaws.Passes.{PassView, failed_chunks, slots_of_pass}
 use Rattle.md_state.specs.Requests.{AreInFlight}
 use Rattle.md_state.specs.View.{MirrorView}
 use Rattle.md_array.specs.Steps.Admit.{Admits, admit_event}
@@ -29,7 +29,8 @@ use Rattle.md_copy.specs.Rebuilding.{BeginsRebuild}
 use Rattle.md_copy.specs.RebuildEvents.{IsBeforeEnrol}
 use Rattle.md_copy.specs.Rebuilt.{failed_of}
 use Rattle.md_copy.specs.Storing.{StoresFirst}
-use Rattle.md_copy.proofs.Passing.PassesTold.{HoldsSoFar, chain_holds, listed_holds}
+use Rattle.md_copy.specs.Stretches.{AreRecorded, RecordsStretch, slots_after, slots_before}
+use Rattle.md_copy.proofs.Passing.PassesTold.{HoldsSoFar, chain_holds, holds_alone, listed_holds, one_holds}
 use Rattle.md_copy.proofs.Leads.RebuildLeads.{filled, listing_before, lowering_events, lowering_leads, noting_before, storing_before}
 use Rattle.md_call_laws.proofs.RebuildLemmas.Steady.{Comes, IsSteadyAt, comes_by, comes_same, comes_then, end, end_steady, holds_some}
 use Rattle.md_call_laws.proofs.RebuildLemmas.Unshifted.{Unshifted, un_noted, unshifted_first, unshifted_later, whole_stores_lists}
@@ -149,16 +150,44 @@ then_unspoiled target t {mid} {new} c d = record {
   unspoiled = d.unspoiled;
 }
 
-pub filled_comes : (target : ℕ) (chunks : List ℕ) (p : PassView) (before after : Bitmap) (t : Moment) → IsSteadyAt t → HoldsSoFar target t.mirror before chunks
-    → (new : MirrorView) (h : RecordsPass target chunks p before after t.mirror new) → Comes (Before target) t h.filled
-filled_comes target chunks p before after t at so new h =
-    fill_comes target t at h.filled (filled target t.mirror before chunks so p h.makes.is h.makes.member h.makes.at h.filled h.makes.copies.filling)
+pub filled_comes : (target : ℕ) (slots : List Slot) (before after : Bitmap) (t : Moment) → IsSteadyAt t → HoldsSoFar target t.mirror before []
+    → (new : MirrorView) (h : RecordsStretch target slots before after t.mirror new) → Comes (Before target) t h.filled
+filled_comes target slots before after t at so new h = fill_comes target t at h.filled (filled target t.mirror before so slots h.makes.may h.filled h.makes.copies.filling)
+
+pub stretch_comes : (target : ℕ) (slots : List Slot) (before after : Bitmap) (t : Moment) → IsSteadyAt t → HoldsSoFar target t.mirror before []
+    → (new : MirrorView) → RecordsStretch target slots before after t.mirror new → Comes (Before target) t new
+stretch_comes target slots before after t at so new h =
+    let c = filled_comes target slots before after t at so new h in
+    comes_then c (checkpoint_comes target after (end c) (end_steady c at) new h.checkpoints)
+
+pub stretches_come : (target : ℕ) (rounds : List ℕ) (slots left : List Slot) (before after : Bitmap) (t : Moment) → IsSteadyAt t → HoldsSoFar target t.mirror before []
+    → (new : MirrorView) → AreRecorded target rounds slots left before after t.mirror new → Comes (Before target) t new
+stretches_come target [] slots left before after t at so new h = comes_same (Before target) t new h.2
+stretches_come target (round ∷ rounds) slots left before after t at so new h =
+    let c = stretch_comes target (slots_before round slots) before h.0 t at so h.1 h.2 in
+    comes_then c (stretches_come target rounds (slots_after round slots) left h.0 after (end c) (end_steady c at) (one_holds target round slots before h.0 t.mirror h.1 h.2 so) new h.3)
+
+-- the last of them stores its superblock
+pub stretches_unspoil : (target : ℕ) (rounds : List ℕ) (slots left : List Slot) (before after : Bitmap) (t : Moment) → IsSteadyAt t → HoldsSoFar target t.mirror before [] → rounds ≢ []
+    → (new : MirrorView) → AreRecorded target rounds slots left before after t.mirror new → ComesUnspoiled target t new
+stretches_unspoil target [] slots left before after t at so some new h = absurd (some refl)
+stretches_unspoil target (round ∷ []) slots left before after t at so some new h =
+    let c = filled_comes target (slots_before round slots) before h.0 t at so h.1 h.2 in
+    subst (ComesUnspoiled target t) (sym h.3.2) (then_unspoiled target t c (checkpoint_unspoils target h.0 (end c) (end_steady c at) h.1 h.2.checkpoints))
+stretches_unspoil target (round ∷ next ∷ rounds) slots left before after t at so some new h =
+    let c = stretch_comes target (slots_before round slots) before h.0 t at so h.1 h.2 in
+    then_unspoiled target t c
+    (stretches_unspoil target (next ∷ rounds) (slots_after round slots) left h.0 after (end c) (end_steady c at) (one_holds target round slots before h.0 t.mirror h.1 h.2 so) (λ none. absurd (let no = none in cc)) new h.3)
 
 pub recorded_comes : (target : ℕ) (chunks : List ℕ) (p : PassView) (before after : Bitmap) (t : Moment) → IsSteadyAt t → HoldsSoFar target t.mirror before chunks
     → (new : MirrorView) → RecordsPass target chunks p before after t.mirror new → Comes (Before target) t new
 recorded_comes target chunks p before after t at so new h =
-    let c = filled_comes target chunks p before after t at so new h in
-    comes_then c (checkpoint_comes target after (end c) (end_steady c at) new h.checkpoints)
+    stretches_come target h.stretches.rounds (slots_of_pass p) [] before after t at (holds_alone target t.mirror before chunks so) new h.stretches.all
+
+pub recorded_unspoils : (target : ℕ) (chunks : List ℕ) (p : PassView) (before after : Bitmap) (t : Moment) → IsSteadyAt t → HoldsSoFar target t.mirror before chunks
+    → (new : MirrorView) → RecordsPass target chunks p before after t.mirror new → ComesUnspoiled target t new
+recorded_unspoils target chunks p before after t at so new h =
+    stretches_unspoil target h.stretches.rounds (slots_of_pass p) [] before after t at (holds_alone target t.mirror before chunks so) h.stretches.some new h.stretches.all
 
 pub noted_comes : (target : ℕ) (failed : List Slot) (t : Moment) → IsSteadyAt t → (new : MirrorView) → NotesLists failed t.mirror new → Comes (Before target) t new
 noted_comes target failed t at new h =

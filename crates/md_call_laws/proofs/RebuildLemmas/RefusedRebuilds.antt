@@ -4,17 +4,17 @@ use Rattle.md_assembly.specs.States.{is_recovering}
 use Rattle.md_bitmap.specs.Marks.{Bitmap}
 use Rattle.md_cert.specs.declared.slots.Slot.{Slot}
 use Rattle.md_kept_members.specs.View.{MemberView}
-use Rattle.md_copy.specs.PassLaws.Passes.{PassView}
+use Rattle.md_copy.specs.PassLaws.Passes.{PassView, slots_of_pass}
 use Rattle.md_state.specs.Members.{IsMember}
 use Rattle.md_state.specs.View.{MirrorView}
 use Rattle.md_array.proofs.StepLemmas.Turns.{all_such}
 use Rattle.md_laws.specs.Runs.{Moment}
 use Rattle.md_rebuild_table.specs.Sources.{missing_chunks}
 use Rattle.md_copy.specs.Listing.{IsStoringList, NotesLists}
-use Rattle.md_copy.specs.Passing.{AreListedPasses, CopiesAll, RecordsPass}
+use Rattle.md_copy.specs.Passing.{AreListedPasses, CopiesAll, MakesPart, RecordsPass}
 use Rattle.md_copy.specs.Rebuilding.{BeginsRebuild, LacksMemoryToRebuild, LacksRoom}
 use Rattle.md_copy.specs.Rebuilt.{failed_of}
-use Rattle.md_copy.proofs.Passing.PassesTold.{HoldsSoFar, chain_holds}
+use Rattle.md_copy.proofs.Passing.PassesTold.{HoldsSoFar, chain_holds, holds_alone, stretches_hold}
 use Rattle.md_copy.proofs.Passing.PassesTold as told
 use Rattle.md_copy.proofs.Passing.PassRecorded.{recorded_ready}
 use Rattle.md_copy.proofs.Ready.ReadyStill.{ready_noted}
@@ -22,7 +22,7 @@ use Rattle.md_copy.proofs.Leads.RebuildLeads.{begin_holds, listing_before}
 use Rattle.md_call_laws.specs.Rebuilds.RebuildRuns.{LogsUnshifted}
 use Rattle.md_call_laws.specs.Rebuilds.RefusedRebuilds.{HasLost, HasGivenUp, HasUnshifted, LostIsARun, RefusedIsARun, CrashesLeaving, CrashesLeavingAnyhow, CrashesLeavingLost, CrashesLeavingLostAnyhow, CrashesUnleft, CrashesUnleftLost, passes_then}
 use Rattle.md_call_laws.proofs.RebuildLemmas.RebuildRun.{stays_along}
-use Rattle.md_call_laws.proofs.RebuildLemmas.RebuildSteps.{Before, all_come, begun_comes, noted_comes, passes_come, recorded_comes}
+use Rattle.md_call_laws.proofs.RebuildLemmas.RebuildSteps.{Before, all_come, begun_comes, noted_comes, passes_come, recorded_comes, stretches_come}
 use Rattle.md_call_laws.proofs.RebuildLemmas.SpoiledRebuilds.{later_anyhow, offset_anyhow}
 use Rattle.md_call_laws.proofs.RebuildLemmas.Steady.{Comes, IsSteadyAt, comes_by, comes_then, end, end_steady, steady_at, steady_with}
 use Rattle.md_call_laws.proofs.RebuildLemmas.RebuildCrashes.{later_crash, passed, passed_holds, recording_crash, unrecorded_offset_crash}
@@ -48,6 +48,16 @@ module _ (target : ℕ) (t : Moment) (at : IsSteadyAt t) (m : MemberView) (none 
     -- between two passes
     ends_now : (stopped : MirrorView) → stopped ≡ now → ComesReady target t stopped
     ends_now stopped same = subst (ComesReady target t) (sym same) (record { comes = until_now; recovers = so_now.ready.recovering })
+
+    -- within one
+    ends_part : (after : Bitmap) (stopped : MirrorView) → MakesPart target chunks copied after now stopped → ComesReady target t stopped
+    ends_part after stopped part =
+        let slots = slots_of_pass part.pass in
+        let alone = holds_alone target now copied chunks so_now in
+        record {
+          comes = comes_then until_now (stretches_come target part.rounds slots part.left copied after (end until_now) (end_steady until_now at) alone stopped part.stretches);
+          recovers = (stretches_hold target part.rounds slots part.left copied after now stopped part.stretches alone).ready.recovering;
+        }
 
     -- after one, while failed chunks are listed
     ends_noting : (p : PassView) (after : Bitmap) (recorded stopped : MirrorView) → RecordsPass target chunks p copied after now recorded → (taken : List Slot) → NotesLists taken recorded stopped → ComesReady target t stopped
@@ -84,7 +94,12 @@ module _ (target : ℕ) (t : Moment) (at : IsSteadyAt t) (copied : Bitmap) (stop
   At = ComesReady target (end begun) stopped
 
   ends_so : (why : LacksMemoryToRebuild target b.now none copied ready stopped ⊎ ((k : ℕ) × LacksRoom k target b.now none copied ready stopped)) → LogsUnshifted (failed_of (passes_then why)) t.mirror → At
-  ends_so (inl (inl e)) un = ends_now target (end begun) (end_steady begun at) b.now none so e.passes e.left e.copied e.now e.passed (unshifted_begun target (failed_of e.passes) t.mirror ready none b un) stopped e.why.1
+  ends_so (inl (inl e)) un =
+      (let un_then = unshifted_begun target (failed_of e.passes) t.mirror ready none b un in
+      elim e.why [
+        | inl same ↦ ends_now target (end begun) (end_steady begun at) b.now none so e.passes e.left e.copied e.now e.passed un_then stopped same.1
+        | inr part ↦ ends_part target (end begun) (end_steady begun at) b.now none so e.passes e.left e.copied e.now e.passed un_then copied stopped part
+      ])
   ends_so (inl (inr (inl e))) un =
       ends_noting target (end begun) (end_steady begun at) b.now none so e.passes e.left e.copied e.now e.passed (unshifted_begun target (failed_of e.passes) t.mirror ready none b un) e.why.pass copied e.why.recorded stopped
       e.why.records e.why.fails.taken e.why.fails.notes

@@ -5,7 +5,8 @@ use Rattle.md_assembly.specs.States.{is_in_sync, is_recovering}
 use Rattle.md_bitmap.specs.Marks.{Bitmap}
 use Rattle.md_kept_members.specs.View.{MemberView}
 use Rattle.md_model.specs.Events.{Event}
-use Rattle.md_copy.specs.PassLaws.Passes.{PassView, failed_chunks}
+use Rattle.md_cert.specs.declared.slots.Slot.{Slot}
+use Rattle.md_copy.specs.PassLaws.Passes.{PassView, failed_chunks, slots_of_pass}
 use Rattle.md_state.specs.Members.{IsMember}
 use Rattle.md_state.specs.Missing.{is_rebuilt}
 use Rattle.md_state.specs.Requests.{AreInFlight}
@@ -33,16 +34,17 @@ use Rattle.md_copy.specs.Rebuilt.{failed_of}
 use Rattle.md_copy.specs.Rebuilding.{EndsStoring}
 use Rattle.md_copy.proofs.Ready.Lowered.{lowered_but}
 use Rattle.md_copy.specs.Storing.{FailsToRecordTarget}
+use Rattle.md_copy.specs.Stretches.{AreRecorded, RecordsStretch, slots_after, slots_before}
 use Rattle.md_copy.proofs.Fills.LentBack.{rebuilt_out}
-use Rattle.md_copy.proofs.Passing.PassesTold.{HoldsSoFar, listed_holds}
+use Rattle.md_copy.proofs.Passing.PassesTold.{HoldsSoFar, holds_alone, listed_holds, one_holds}
 use Rattle.md_copy.proofs.Ready.Readied.{may_then, spare_rebuilt}
 use Rattle.md_copy.proofs.Leads.RefusedLeads.{unfinished_of}
 use Rattle.md_copy.proofs.Stored.StoredFirst.{rebuilt_still}
 use Rattle.md_copy.proofs.Stored.TargetStates.{target_rebuilt}
-use Rattle.md_call_laws.specs.Rebuilds.RebuildCrashes.{AnySuper, HasFilled, IsCrashBefore, IsCrashUnfinished, CrashesAdmittingAnyhow, CrashesAtCheckpointAnyhow, CrashesCopying, CrashesEnrollingAnyhow, CrashesInListed, CrashesInPass, CrashesInPasses, CrashesReadying, CrashesRecordingAnyhow, CrashesTelling, CrashesUnadmittedAnyhow, CrashesUnenrolledAnyhow}
-use Rattle.md_call_laws.proofs.RebuildLemmas.RebuildSteps.{Before, listed_comes, so_last, until_last}
+use Rattle.md_call_laws.specs.Rebuilds.RebuildCrashes.{AnySuper, HasFilled, IsCrashBefore, IsCrashUnfinished, CrashesAdmittingAnyhow, CrashesAtCheckpointAnyhow, CrashesCopying, CrashesEnrollingAnyhow, CrashesInListed, CrashesInPass, CrashesInPasses, CrashesInStretch, CrashesInStretches, CrashesReadying, CrashesRecordingAnyhow, CrashesTelling, CrashesUnadmittedAnyhow, CrashesUnenrolledAnyhow}
+use Rattle.md_call_laws.proofs.RebuildLemmas.RebuildSteps.{Before, filled_comes, listed_comes, so_last, stretch_comes, until_last}
 use Rattle.md_call_laws.proofs.RebuildLemmas.Steady.{Comes, IsSteadyAt, end, end_steady, steady_at}
-use Rattle.md_call_laws.proofs.RebuildLemmas.RebuildCrashes.{after_crash, all_filled, before_admission, before_failure, before_crash, begun, first_done, listing_crash, lowered_done, pass_filling_crash, recovers_filled, recovers_made, so_begun, un_begun, until_filled, until_made}
+use Rattle.md_call_laws.proofs.RebuildLemmas.RebuildCrashes.{after_crash, all_filled, before_admission, before_failure, before_crash, begun, first_done, filling_crash, listing_crash, lowered_done, recovers_filled, recovers_made, so_begun, un_begun, until_made}
 use Rattle.md_call_laws.proofs.RebuildLemmas.Unshifted.{Unshifted, unshifted_first, unshifted_later}
 
 -- one in which the target is not spoiled is such a crash
@@ -147,17 +149,32 @@ module _ (target : ℕ) (t : Moment) (at : IsSteadyAt t) where
       (spoiled_crash target (end c) (end_steady c at) left
       (crashes_as_spoiled target m why.mid new (contents_of left) (end_steady c at).sound.honest why.fails.may.at rebuilt (inr (inr why.fails)) may))
 
+-- ---- in a stretch
+module _ (target : ℕ) (slots : List Slot) (before after : Bitmap) (t : Moment) (at : IsSteadyAt t) (so : HoldsSoFar target t.mirror before []) (new : MirrorView) (h : RecordsStretch target slots before after t.mirror new) where
+  stretch_anyhow : (left : List Disk) → CrashesInStretch AnySuper target slots before after t.mirror new h left → IsCrashUnfinished target t left
+  stretch_anyhow left stop = elim stop [
+    | inl within ↦ unfinished target t left (filling_crash target slots before after t at so new h left within)
+    | inr within ↦
+        (let c = filled_comes target slots before after t at so new h in
+        later_anyhow target t c left
+        (offset_anyhow target (end c) (end_steady c at) (recovers_filled target slots before after t at so new h) after new (inl h.checkpoints) left within.0))
+  ]
+
+stretches_anyhow : (target : ℕ) (rounds : List ℕ) (slots rest : List Slot) (before after : Bitmap) (t : Moment) → IsSteadyAt t → HoldsSoFar target t.mirror before []
+    → (new : MirrorView) (h : AreRecorded target rounds slots rest before after t.mirror new) (left : List Disk) → CrashesInStretches AnySuper target rounds slots rest before after t.mirror new h left → IsCrashUnfinished target t left
+stretches_anyhow target [] slots rest before after t at so new h left stop = absurd stop
+stretches_anyhow target (round ∷ rounds) slots rest before after t at so new h left (inl here) = stretch_anyhow target (slots_before round slots) before h.0 t at so h.1 h.2 left here
+stretches_anyhow target (round ∷ rounds) slots rest before after t at so new h left (inr later) =
+    let c = stretch_comes target (slots_before round slots) before h.0 t at so h.1 h.2 in
+    later_anyhow target t c left
+    (stretches_anyhow target rounds (slots_after round slots) rest h.0 after (end c) (end_steady c at) (one_holds target round slots before h.0 t.mirror h.1 h.2 so) new h.3 left later)
+
 -- ---- in a pass
 module _ (target : ℕ) (chunks : List ℕ) (p : PassView) (before after : Bitmap) (t : Moment) (at : IsSteadyAt t) (so : HoldsSoFar target t.mirror before chunks) (new : MirrorView)
     (h : RecordsPass target chunks p before after t.mirror new) where
   pub pass_anyhow : (left : List Disk) → CrashesInPass AnySuper target chunks p before after t.mirror new h left → IsCrashUnfinished target t left
-  pass_anyhow left stop = elim stop [
-    | inl within ↦ unfinished target t left (pass_filling_crash target chunks p before after t at so new h left within)
-    | inr within ↦
-        (let c = until_filled target chunks p before after t at so new h in
-        later_anyhow target t c left
-        (offset_anyhow target (end c) (end_steady c at) (recovers_filled target chunks p before after t at so new h) after new (inl h.checkpoints) left within.0))
-  ]
+  pass_anyhow left stop =
+      stretches_anyhow target h.stretches.rounds (slots_of_pass p) [] before after t at (holds_alone target t.mirror before chunks so) new h.stretches.all left stop
 
 module _ (target : ℕ) (chunks : List ℕ) (p : PassView) (before after : Bitmap) (t : Moment) (at : IsSteadyAt t) (so : HoldsSoFar target t.mirror before chunks) (new : MirrorView)
     (h : ListsPass target chunks p before after t.mirror new) (un : Unshifted p.failed t.mirror.array) where
@@ -264,10 +281,10 @@ pub crashes_unadmitted_anyhow : CrashesUnadmittedAnyhow
 crashes_unadmitted_anyhow before m start es rest final t life target new h left within = unadmitted_anyhow target t (steady_at before m start es rest final t life) new h left within
 
 pub crashes_recording_anyhow : CrashesRecordingAnyhow
-crashes_recording_anyhow before m start es rest final t life target chunks copied after now made new h p is call left within =
+crashes_recording_anyhow before m start es rest final t life target copied after now made new h slots is call left within =
     let at = steady_at before m start es rest final t life in
-    let c = until_made target chunks copied after t at now made h p is in
-    later_anyhow target t c left (offset_anyhow target (end c) (end_steady c at) (recovers_made target chunks copied after t at now made h p is) after new call left within)
+    let c = until_made target copied after t at now made h slots is in
+    later_anyhow target t c left (offset_anyhow target (end c) (end_steady c at) (recovers_made target copied after t at now made h slots is) after new call left within)
 
 pub crashes_at_checkpoint_anyhow : CrashesAtCheckpointAnyhow
 crashes_at_checkpoint_anyhow before m start es rest final t life target copied new call recovers left within =

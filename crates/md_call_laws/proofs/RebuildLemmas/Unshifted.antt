@@ -13,7 +13,7 @@ use Rattle.md_kept_members.specs.Members.{made_due, recorded_member}
 use Rattle.md_kept_members.specs.TakingBack.{admitted_member}
 use Rattle.md_kept_members.specs.View.{MemberView}
 use Rattle.md_model.specs.Events.{Event}
-use Rattle.md_copy.specs.PassLaws.Passes.{PassView}
+use Rattle.md_copy.specs.PassLaws.Passes.{PassView, slots_of_pass}
 use Rattle.md_state.specs.Members.{IsMember}
 use Rattle.md_state.specs.Requests.{AreInFlight}
 use Rattle.md_state.specs.Steps.Checkpoint.{checked}
@@ -34,6 +34,7 @@ use Rattle.md_copy.specs.Readying.{AdmitsFirst, LowersTarget, Readies}
 use Rattle.md_copy.specs.Rebuilding.{BeginsRebuild}
 use Rattle.md_copy.specs.Rebuilt.{failed_of}
 use Rattle.md_copy.specs.Storing.{StoresFirst}
+use Rattle.md_copy.specs.Stretches.{AreRecorded, slots_after}
 use Rattle.md_copy.proofs.Held.HeldRecorded.{out_of_sync}
 use Rattle.md_copy.proofs.Listings.ListsKept.{of_state}
 use Rattle.md_copy.proofs.Listings.ListsStored.{failed_in_sync}
@@ -119,6 +120,14 @@ unshifted_recorded : (target : ℕ) (failed : List Slot) (copied : Bitmap) (old 
 unshifted_recorded target failed copied old new r un =
     out_unshifted failed old.array new.array target (recorded_member (checked r.sure r.may.member)) (ap (λ (a : ArrayView). a.members) r.array) un (out_of_sync r.may.member.state r.may.recovering)
 
+unshifted_stretches : (target : ℕ) (failed : List Slot) (rounds : List ℕ) (slots left : List Slot) (before after : Bitmap) (old new : MirrorView) → AreRecorded target rounds slots left before after old new
+    → Unshifted failed old.array → Unshifted failed new.array
+unshifted_stretches target failed [] slots left before after old new h un = subst (λ (v : MirrorView). Unshifted failed v.array) (sym h.2) un
+unshifted_stretches target failed (round ∷ rounds) slots left before after old new h un =
+    let one = h.2 in
+    unshifted_stretches target failed rounds (slots_after round slots) left h.0 after h.1 new h.3
+    (unshifted_recorded target failed h.0 one.filled h.1 one.checkpoints (subst (Unshifted failed) (sym one.makes.copies.filling.array) un))
+
 unshifted_noted : (taken failed : List Slot) (old new : MirrorView) → NotesLists taken old new → Unshifted failed old.array → Unshifted failed new.array
 unshifted_noted taken failed old new h un i y at =
     let x = h.lists.before i y at in
@@ -137,7 +146,7 @@ unshifted_listed taken failed old new h un i y at has =
 -- of the slots that failed in it, or of those that fail later
 module _ (target : ℕ) (chunks : List ℕ) (p : PassView) (before after : Bitmap) (old new : MirrorView) (h : ListsPass target chunks p before after old new) (failed : List Slot) (un : Unshifted failed old.array) where
   un_recorded : Unshifted failed h.recorded.array
-  un_recorded = unshifted_recorded target failed after h.records.filled h.recorded h.records.checkpoints (subst (Unshifted failed) (sym h.records.makes.copies.filling.array) un)
+  un_recorded = unshifted_stretches target failed h.records.stretches.rounds (slots_of_pass p) [] before after old h.recorded h.records.stretches.all un
 
   pub un_noted : Unshifted failed h.lists.noted.array
   un_noted = unshifted_noted p.failed failed h.recorded h.lists.noted h.lists.notes un_recorded

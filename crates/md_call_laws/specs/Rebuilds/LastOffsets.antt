@@ -3,8 +3,8 @@ use Rattle.std.specs.Prelude.{◌≡◌, ◌⊎◌, ℕ, ◌<◌, true, false, L
 use Rattle.md_assembly.specs.States.{is_recovering}
 use Rattle.md_bitmap.specs.Marks.{Bitmap}
 use Rattle.md_kept_members.specs.View.{MemberView}
-use Rattle.md_copy.specs.PassLaws.Listed.{IsArrayPass}
-use Rattle.md_copy.specs.PassLaws.Passes.{PassView, slots_of_pass}
+use Rattle.md_cert.specs.declared.slots.Slot.{Slot}
+use Rattle.md_copy.specs.PassLaws.Passes.{PassView}
 use Rattle.md_super.specs.declared.superblock.Superblock.{Superblock}
 use Rattle.md_state.specs.Members.{IsMember}
 use Rattle.md_state.specs.View.{ArrayView, Disk, MirrorView}
@@ -17,7 +17,8 @@ use Rattle.md_laws.specs.CrashesWithin.{MayAllBeLeft}
 use Rattle.md_rebuild_table.specs.Sources.{missing_chunks}
 use Rattle.md_copy.specs.Filling.{IsFilling}
 use Rattle.md_copy.specs.Listing.{ListsAll, NotesLists, EndsAtList}
-use Rattle.md_copy.specs.Passing.{AreListedPasses, MakesPass, RecordsPass}
+use Rattle.md_copy.specs.Passing.{AreListedPasses, MakesPart, RecordsPass}
+use Rattle.md_copy.specs.Stretches.{MakesStretch, MayCopySlots}
 use Rattle.md_copy.specs.Rebuilding.{BeginsRebuild}
 use Rattle.md_call_laws.specs.Rebuilds.RebuildCrashes.{IsSuperWhole}
 
@@ -49,6 +50,14 @@ pub record HasCome (target : ℕ) (left : List ℕ) (copied : Bitmap) (old now :
   pub passed : AreListedPasses target passes (missing_chunks ready.array begins.now) left none copied ready now
   pub had : HasOffsetBefore target old
 
+-- A rebuild has made its passes up to one of which stretches are recorded, or none.
+pub record HasComeWithin (target : ℕ) (copied : Bitmap) (old now : MirrorView) : Type 0 where
+  pub chunks : List ℕ
+  pub before : Bitmap
+  pub begun : MirrorView
+  pub come : HasCome target chunks before old begun
+  pub part : MakesPart target chunks before copied begun now
+
 -- Whatever a crash leaves between two mirrors, the target's superblock says the offset that the first of them
 -- knows of.
 abbrev pub FindsOffset : ℕ → MirrorView → MirrorView → Type 0
@@ -63,19 +72,24 @@ FindsOffset target v w =
 abbrev pub OffsetStands : Type 0
 OffsetStands = (target : ℕ) (chunks : List ℕ) (copied : Bitmap) (old now : MirrorView) → HasCome target chunks copied old now → HasOffset target now
 
--- A crash while the target gets its chunks finds the offset that stood there as the pass began, whatever comes
+-- Where a stretch begins, the target's superblock says the offset that the mirror knows of. The stretch before stored it, or it stood there as
+-- the pass began.
+abbrev pub OffsetStandsWithin : Type 0
+OffsetStandsWithin = (target : ℕ) (copied : Bitmap) (old now : MirrorView) → HasComeWithin target copied old now → HasOffset target now
+
+-- A crash while the target gets chunks finds the offset that stood there as the stretch began, whatever comes
 -- of the copying.
 abbrev pub CrashesCopyingFind : Type 0
 CrashesCopyingFind =
-    (target : ℕ) (chunks : List ℕ) (copied : Bitmap) (old now new : MirrorView) → HasCome target chunks copied old now
-    → (p : PassView) → IsArrayPass now.array chunks p → (m : MemberView) → IsMember now.array target m → IsFilling target m (slots_of_pass p) now new → FindsOffset target now new
+    (target : ℕ) (copied : Bitmap) (old now new : MirrorView) → HasComeWithin target copied old now
+    → (slots : List Slot) (may : MayCopySlots target slots copied now) → IsFilling target may.member slots now new → FindsOffset target now new
 
--- A crash while it is stored how far a pass came finds the offset that stood there before, or the new one, if
+-- A crash while it is stored how far a stretch came finds the offset that stood there before, or the new one, if
 -- it left the superblock as it was or as it is written.
 abbrev pub CrashesStoringFind : Type 0
 CrashesStoringFind =
-    (target : ℕ) (chunks : List ℕ) (copied after : Bitmap) (old now filled new : MirrorView) → HasCome target chunks copied old now
-    → (p : PassView) → MakesPass target chunks p copied after now filled → Checkpoints target after filled new
+    (target : ℕ) (copied after : Bitmap) (old now filled new : MirrorView) → HasComeWithin target copied old now
+    → (slots : List Slot) → MakesStretch target slots copied after now filled → Checkpoints target after filled new
     → (left : List Disk) → IsSuperWhole target filled new left
     → (m n : MemberView) (d e stop : Disk) → IsMember filled.array target m → IsMember new.array target n → slice_get filled.disks target ≡ Some d → slice_get new.disks target ≡ Some e
     → d.honest ≡ true → slice_get left target ≡ Some stop → SaysOffset stop.content m.stored_offset ⊎ SaysOffset stop.content n.stored_offset

@@ -4,10 +4,10 @@ use Rattle.std.specs.Prelude.{◌≡◌, ◌⊎◌, ℕ, true, false, List, [], 
 use Rattle.std.proofs.Common.{inl, inr}
 use Rattle.md_assembly.specs.States.{is_in_sync, is_recovering}
 use Rattle.md_bitmap.specs.Marks.{Bitmap}
+use Rattle.md_cert.specs.declared.slots.Slot.{Slot}
 use Rattle.md_kept_members.specs.View.{MemberView}
 use Rattle.md_model.specs.Content.{Content}
 use Rattle.md_model.specs.Events.{Event}
-use Rattle.md_copy.specs.PassLaws.Listed.{IsArrayPass}
 use Rattle.md_copy.specs.PassLaws.Passes.{PassView, failed_chunks, slots_of_pass}
 use Rattle.md_state.specs.DiskWrites.{AtDevice}
 use Rattle.md_state.specs.Members.{IsMember}
@@ -29,9 +29,10 @@ use Rattle.md_rebuild_table.specs.Sources.{missing_chunks}
 use Rattle.md_copy.specs.declared.rebuilt.Rebuilt.{Rebuilt}
 use Rattle.md_copy.specs.Filling.{IsFilling}
 use Rattle.md_copy.specs.Listing.{IsStoringList, NotesLists}
-use Rattle.md_copy.specs.Passing.{AreListedPasses, CopiesAll, ListsPass, MakesPass, RecordsPass}
+use Rattle.md_copy.specs.Passing.{AreListedPasses, CopiesAll, ListsPass, MakesPart, RecordsPass}
 use Rattle.md_copy.specs.Readying.{AdmitsAfter, FailsAdmission, Readies}
 use Rattle.md_copy.specs.Storing.{FailsToRecordTarget, StoresFirst}
+use Rattle.md_copy.specs.Stretches.{AreRecorded, MakesStretch, MayCopySlots, RecordsStretch, slots_after, slots_before}
 use Rattle.md_copy.specs.RebuildEvents.{FailsAtMarks, IsBeforeEnrol, IsOfRebuild, IsOfUnfinished}
 use Rattle.md_copy.specs.Rebuilding.{BeginsRebuild, EndsStoring, FillsBy, Rebuilds}
 use Rattle.md_copy.specs.Rebuilt.{failed_of}
@@ -119,28 +120,36 @@ pub record HasPassed (target : ℕ) (left : List ℕ) (copied : Bitmap) (old now
   pub passed : AreListedPasses target passes (missing_chunks ready.array begins.now) left none copied ready now
   pub unshifted : LogsUnshifted (failed_of passes) old
 
--- A crash while the target gets its chunks, whatever comes of the copying.
+-- A rebuild has made its passes up to one of which stretches are recorded, or none.
+pub record HasStretched (target : ℕ) (copied : Bitmap) (old now : MirrorView) : Type 0 where
+  pub chunks : List ℕ
+  pub before : Bitmap
+  pub begun : MirrorView
+  pub passed : HasPassed target chunks before old begun
+  pub part : MakesPart target chunks before copied begun now
+
+-- A crash while the target gets chunks, whatever comes of the copying.
 abbrev pub CrashesFilling : Type 0
 CrashesFilling =
     AtMoments (λ t.
-    ((target : ℕ) (chunks : List ℕ) (copied : Bitmap) (now new : MirrorView) → HasPassed target chunks copied t.mirror now
-    → (p : PassView) → IsArrayPass now.array chunks p → (m : MemberView) → IsMember now.array target m → IsFilling target m (slots_of_pass p) now new
+    ((target : ℕ) (copied : Bitmap) (now new : MirrorView) → HasStretched target copied t.mirror now
+    → (slots : List Slot) (may : MayCopySlots target slots copied now) → IsFilling target may.member slots now new
     → (left : List Disk) → MayAllBeLeft now.disks new.disks (contents_of left) → IsCrashBefore target t left))
 
--- A crash while it is recorded how far the pass came.
+-- A crash while it is recorded how far a stretch came.
 abbrev pub CrashesRecording : Type 0
 CrashesRecording =
     AtMoments (λ t.
-    ((target : ℕ) (chunks : List ℕ) (copied after : Bitmap) (now filled new : MirrorView) → HasPassed target chunks copied t.mirror now
-    → (p : PassView) → MakesPass target chunks p copied after now filled → Checkpoints target after filled new
+    ((target : ℕ) (copied after : Bitmap) (now filled new : MirrorView) → HasStretched target copied t.mirror now
+    → (slots : List Slot) → MakesStretch target slots copied after now filled → Checkpoints target after filled new
     → (left : List Disk) → MayAllBeLeft filled.disks new.disks (contents_of left) → IsSuperWhole target filled new left → IsCrashBefore target t left))
 
--- A crash where it can't be recorded how far the pass came, and the target's superblock stays as it was.
+-- A crash where it can't be recorded how far a stretch came, and the target's superblock stays as it was.
 abbrev pub CrashesPassUnrecorded : Type 0
 CrashesPassUnrecorded =
     AtMoments (λ t.
-    ((target : ℕ) (chunks : List ℕ) (copied after : Bitmap) (now filled new : MirrorView) → HasPassed target chunks copied t.mirror now
-    → (p : PassView) → MakesPass target chunks p copied after now filled → FailsToCheckpoint target after filled new
+    ((target : ℕ) (copied after : Bitmap) (now filled new : MirrorView) → HasStretched target copied t.mirror now
+    → (slots : List Slot) → MakesStretch target slots copied after now filled → FailsToCheckpoint target after filled new
     → (left : List Disk) → MayAllBeLeft filled.disks new.disks (contents_of left) → AtDevice target filled.disks left (λ d e. block_on e.content ≡ block_on d.content)
     → IsCrashBefore target t left))
 
@@ -245,12 +254,12 @@ CrashesUnadmittedAnyhow =
     ((target : ℕ) (new : MirrorView) (h : FailsAdmission target t.mirror new)
     → (left : List Disk) → MayAllBeLeft h.stored.disks new.disks (contents_of left) → IsCrashUnfinished target t left))
 
--- A crash while it is recorded how far the pass came, done or failed, whatever the target's superblock.
+-- A crash while it is recorded how far a stretch came, done or failed, whatever the target's superblock.
 abbrev pub CrashesRecordingAnyhow : Type 0
 CrashesRecordingAnyhow =
     AtMoments (λ t.
-    ((target : ℕ) (chunks : List ℕ) (copied after : Bitmap) (now filled new : MirrorView) → HasPassed target chunks copied t.mirror now
-    → (p : PassView) → MakesPass target chunks p copied after now filled → Checkpoints target after filled new ⊎ FailsToCheckpoint target after filled new
+    ((target : ℕ) (copied after : Bitmap) (now filled new : MirrorView) → HasStretched target copied t.mirror now
+    → (slots : List Slot) → MakesStretch target slots copied after now filled → Checkpoints target after filled new ⊎ FailsToCheckpoint target after filled new
     → (left : List Disk) → MayAllBeLeft filled.disks new.disks (contents_of left) → IsCrashUnfinished target t left))
 
 -- A crash at any moment of a life, while it is recorded of a recovering member how far it is rebuilt, done or
@@ -299,10 +308,21 @@ CrashesReadying Super target m old ready (inr h) requests in_flight left =
     ⊎ ((MayAllBeLeft h.1.after.stored.disks h.1.admitted.disks (contents_of left) × Super target h.1.after.stored h.1.admitted left)
     ⊎ ((then : AreInFlight h.1.admitted.array requests) × CrashesFirst h.1.admitted ready h.1.then requests then left))
 
--- The crash came within a pass: while the target was filled, or while it was recorded how far that came.
-abbrev pub CrashesInPass : OfSuper → (target : ℕ) (chunks : List ℕ) (p : PassView) (before after : Bitmap) (old new : MirrorView) → RecordsPass target chunks p before after old new → List Disk → Type 0
-CrashesInPass Super target chunks p before after old new h left =
+-- The crash came within a stretch: while the target was filled, or while it was recorded how far that came.
+abbrev pub CrashesInStretch : OfSuper → (target : ℕ) (slots : List Slot) (before after : Bitmap) (old new : MirrorView) → RecordsStretch target slots before after old new → List Disk → Type 0
+CrashesInStretch Super target slots before after old new h left =
     MayAllBeLeft old.disks h.filled.disks (contents_of left) ⊎ (MayAllBeLeft h.filled.disks new.disks (contents_of left) × Super target h.filled new left)
+
+-- The crash came within one of several stretches.
+abbrev pub CrashesInStretches : OfSuper → (target : ℕ) (rounds : List ℕ) (slots rest : List Slot) (before after : Bitmap) (old new : MirrorView) → AreRecorded target rounds slots rest before after old new → List Disk
+    → Type 0
+CrashesInStretches Super target [] slots rest before after old new h left = ⊥
+CrashesInStretches Super target (round ∷ rounds) slots rest before after old new h left =
+    CrashesInStretch Super target (slots_before round slots) before h.0 old h.1 h.2 left ⊎ CrashesInStretches Super target rounds (slots_after round slots) rest h.0 after h.1 new h.3 left
+
+-- The crash came within a pass, which is within one of its stretches.
+abbrev pub CrashesInPass : OfSuper → (target : ℕ) (chunks : List ℕ) (p : PassView) (before after : Bitmap) (old new : MirrorView) → RecordsPass target chunks p before after old new → List Disk → Type 0
+CrashesInPass Super target chunks p before after old new h left = CrashesInStretches Super target h.stretches.rounds (slots_of_pass p) [] before after old new h.stretches.all left
 
 -- The crash came within a pass, or while the lists were stored of what failed in it.
 abbrev pub CrashesInListed : OfSuper → (target : ℕ) (chunks : List ℕ) (p : PassView) (before after : Bitmap) (old new : MirrorView) → ListsPass target chunks p before after old new → Requests → List Disk → Type 0

@@ -3,7 +3,7 @@
 ghost use Rattle.md_call_laws.specs.Rebuilds.RebuildRuns.{RebuildIsARun, RebuildRunsOn};
 ghost use Rattle.md_call_laws.specs.Rebuilds.RebuiltInLife.{CopiesContent, HeldInLives, NewHadNothing, RebuildsContent, RebuildsResumed, RecoveringHeldIt, TakenBackHeldIt};
 ghost use Rattle.md_call_laws.specs.Rebuilds.RefusedRebuilds.{LostIsARun, RefusedIsARun, CrashesLeaving, CrashesLeavingAnyhow, CrashesLeavingLost, CrashesLeavingLostAnyhow, CrashesUnleft, CrashesUnleftLost};
-ghost use Rattle.md_call_laws.specs.Rebuilds.LastOffsets.{OffsetStands, OpeningsFind, CrashesCopyingFind, CrashesListingFind, CrashesStoringFind, CrashesUnlistedFind};
+ghost use Rattle.md_call_laws.specs.Rebuilds.LastOffsets.{OffsetStands, OffsetStandsWithin, OpeningsFind, CrashesCopyingFind, CrashesListingFind, CrashesStoringFind, CrashesUnlistedFind};
 ghost use Rattle.md_call_laws.specs.Rebuilds.UnfinishedEnrols.{CrashesUnfinishedEnrol, UnfinishedEnrolsPrepare};
 ghost use Rattle.md_call_laws.specs.Rebuilds.RebuildCrashes.{CrashesAdmitting, CrashesAdmittingAnyhow, CrashesAnyhow, CrashesAtCheckpoint, CrashesAtCheckpointAnyhow, CrashesAtFailedCheckpoint, CrashesEnrolled, CrashesEnrolling, CrashesEnrollingAnyhow, CrashesFilling, CrashesInRebuild, CrashesListing, CrashesPassUnrecorded, CrashesRecording, CrashesRecordingAnyhow, CrashesStoringRecords, CrashesStoring, CrashesTelling, CrashesUnadmitted, CrashesUnadmittedAnyhow, CrashesUnenrolled, CrashesUnenrolledAnyhow, CrashesUnrecorded};
 
@@ -85,12 +85,13 @@ pub fn refused_rebuilds()
     ensures leaving_lost_anyhow { CrashesLeavingLostAnyhow }
 {}
 
-/// Within a pass a crash finds the offset that was stored last: from the admission or the pass before on, until that of
-/// this pass is stored, a superblock is read on the target's device that says just the offset that the mirror knows of. Of a
+/// Within a pass a crash finds the offset that was stored last: from the admission or the stretch before on, until that of
+/// this stretch is stored, a superblock is read on the target's device that says just the offset that the mirror knows of. Of a
 /// target that was recovering before the call, and is not due, it is asked that it did so before. And an opening goes on
 /// from the offset that is read, or from 0 where the superblock is from before marks were last cleared.
 pub fn last_offsets()
     ensures stands { OffsetStands }
+    ensures within { OffsetStandsWithin }
     ensures copying { CrashesCopyingFind }
     ensures storing { CrashesStoringFind }
     ensures listing { CrashesListingFind }

@@ -70,7 +70,7 @@ module _ {D : Type 0} (g : Ghosts D) (v : MirrorView) (sound : IsConsistent v) (
 
   pub are_planned : ArePlanned v.array.chunks plan.slots
   are_planned = record {
-    rising = is_plan.certified.rising;
+    rising = is_plan.rising;
     within = λ k d below. (slot_given v.array member plan is_plan k d below).lacks.low;
   }
 

@@ -1,9 +1,6 @@
 -- A rebuild is a list of events of the array's model, one part after another.
-use Rattle.std.proofs.Common.{◌≡◌, ◌∙◌, ◌⊎◌, ℕ, ◌<◌, ◌==◌, true, false, Option, List, [], ◌∷◌, ◌++◌, append_assoc, get_or, refl, sym, ap, subst, arith, inl, inr}
-use Rattle.std.proofs.lemmas.Bool.{eqb-true}
-use Rattle.std.proofs.lemmas.List.Elements.{All-contains, Contains-get_or}
-use Rattle.std.proofs.lemmas.List.Folds.{Any-from_list_any}
-use Rattle.md_bitmap.specs.Marks.{Bitmap, is_set}
+use Rattle.std.proofs.Common.{◌≡◌, ◌≢◌, ◌∙◌, ◌⊎◌, ℕ, Bool, ◌<◌, true, false, Option, List, [], ◌∷◌, ◌++◌, append_assoc, refl, sym, ap, subst, arith, inl, inr}
+use Rattle.md_bitmap.specs.Marks.{Bitmap}
 use Rattle.md_cert.specs.declared.slots.Slot.{Slot}
 use Rattle.md_device.specs.Splice.{part}
 use Rattle.md_device.proofs.Leaving.{leaves_less}
@@ -11,15 +8,12 @@ use Rattle.md_kept_members.specs.View.{MemberView}
 use Rattle.md_model.specs.Events.{Event, MemberPart}
 use Rattle.md_pass.specs.Beside.{SameBeside, has_chunk}
 use Rattle.md_pass.specs.Sources.{copy_of}
-use Rattle.md_copy.proofs.PassLemmas.OnePass.{slot_within}
-use Rattle.md_copy.specs.PassLaws.Listed.{IsArrayPass}
 use Rattle.md_copy.specs.PassLaws.Passes.{PassView, failed_chunks, slots_of_pass}
 use Rattle.md_inflight.specs.Inflight.{InflightList, lookup}
 use Rattle.md_inflight.specs.Requests.Pending.{PendingView}
 use Rattle.md_inflight.specs.declared.requests.extent.Extent.{Extent}
 use Rattle.md_state.proofs.Stays.{stays_grown}
 use Rattle.md_state.specs.Steps.MakeClean.{IsIdle}
-use Rattle.md_state.specs.Members.{IsMember}
 use Rattle.md_state.specs.Missing.{is_rebuilt}
 use Rattle.md_state.specs.Requests.{AreInFlight, IsPending}
 use Rattle.md_state.specs.View.{ArrayView, MirrorView}
@@ -48,13 +42,15 @@ use Rattle.md_copy.specs.declared.rebuilt.Rebuilt.{Rebuilt}
 use Rattle.md_copy.specs.Filling.{IsFilling}
 use Rattle.md_copy.specs.Listing.{IsNoting, IsStoringList}
 use Rattle.md_copy.specs.Passing.{AreListedPasses, CopiesAll, ListsPass, RecordsPass}
-use Rattle.md_copy.specs.RebuildEvents.{AreOfAdmission, AreOfLowering, AreOfPasses, AreStored, HaltsIn, IsBeforeEnrol, IsOfRebuild, RebuildLeads}
+use Rattle.md_copy.specs.RebuildEvents.{AreOfAdmission, AreOfLowering, AreOfPasses, AreOfStretches, AreStored, HaltsIn, IsBeforeEnrol, IsOfRebuild, RebuildLeads}
 use Rattle.md_copy.specs.Rebuilding.{BeginsRebuild, EnrolsBy, FillsBy, Rebuilds}
 use Rattle.md_copy.specs.Rebuilt.{HaltsFrom}
 use Rattle.md_copy.specs.Readying.{AdmitsAfter, AdmitsFirst, LowersTarget, Readies}
 use Rattle.md_copy.specs.Storing.{StoresFirst}
+use Rattle.md_copy.specs.Stretches.{AreRecorded, MayCopySlots, slots_after, slots_before}
 use Rattle.md_copy.proofs.Stored.CheckpointDone.{checkpoint_done}
-use Rattle.md_copy.proofs.Passing.PassesTold.{HoldsSoFar, begins_holding, chain_holds, listed_holds}
+use Rattle.md_copy.proofs.Passing.PassesTold.{HoldsSoFar, begins_holding, chain_holds, holds_alone, listed_holds, one_holds}
+use Rattle.md_copy.proofs.Passing.StretchSlots.{may_clear, may_lack}
 use Rattle.md_copy.proofs.Ready.Readied.{ready_of}
 use Rattle.md_copy.proofs.Ready.Unsaid.{unsaid_begun}
 use Rattle.md_copy.proofs.Done.RebuiltByCall.{IsLast, last_of}
@@ -215,19 +211,15 @@ module _ (target : ℕ) where
         list = refl;
       })
 
--- ---- a pass
+-- ---- a stretch
 -- Whatever became of it, data changed in chunks that the target lacks, and that were not copied before: its superblock does not say that it
 -- has them.
-module _ (target : ℕ) (v : MirrorView) (copied : Bitmap) (chunks : List ℕ) (so : HoldsSoFar target v copied chunks) (p : PassView) (is : IsArrayPass v.array chunks p) (m : MemberView) (at : IsMember v.array target m) where
-  lacks : (c : ℕ) → has_chunk (slots_of_pass p) c ≡ true → LacksChunk v.array m c
-  lacks c planned =
-      let hit = Any-from_list_any (λ (s : Slot). s.chunk == c) (slots_of_pass p) planned in
-      let s = get_or (slots_of_pass p) hit.0 hit.1 in
-      let chunk : s.chunk ≡ c = ap (λ (x : Slot). x.chunk) hit.3 ∙ eqb-true hit.1.chunk c hit.4 in
-      subst (LacksChunk v.array m) chunk (All-contains (LacksChunk v.array m) chunks s.chunk (so.lacking m at) (slot_within is s (Contains-get_or (slots_of_pass p) hit.0 hit.1 hit.2)))
+module _ (target : ℕ) (v : MirrorView) (copied : Bitmap) (so : HoldsSoFar target v copied []) (slots : List Slot) (may : MayCopySlots target slots copied v) where
+  lacks : (c : ℕ) → has_chunk slots c ≡ true → LacksChunk v.array may.member c
+  lacks c planned = may_lack target slots copied v may c planned
 
   -- beside what it lacks they are as they were
-  pub missing_beside : (was left : List ℕ) → SameBeside (copy_of (slots_of_pass p) v.array.chunks m.superblock.data_offset) was left → (at n : ℕ) → IsBesideMissing v.array m at n → part left at n ≡ part was at n
+  pub missing_beside : (was left : List ℕ) → SameBeside (copy_of slots v.array.chunks may.member.superblock.data_offset) was left → (at n : ℕ) → IsBesideMissing v.array may.member at n → part left at n ≡ part was at n
   missing_beside was left same at n h =
       same.beside at n
       (λ c planned.
@@ -236,14 +228,8 @@ module _ (target : ℕ) (v : MirrorView) (copied : Bitmap) (chunks : List ℕ) (
       let low = lacking.low in
       h c (omega (arith, low, count)) lacking.missing)
 
-  module _ (w : MirrorView) (f : IsFilling target m (slots_of_pass p) v w) where
-    fresh : (c : ℕ) → has_chunk (slots_of_pass p) c ≡ true → is_set copied.bytes c ≡ false
-    fresh c planned =
-        let hit = Any-from_list_any (λ (s : Slot). s.chunk == c) (slots_of_pass p) planned in
-        let chunk : (get_or (slots_of_pass p) hit.0 hit.1).chunk ≡ c = ap (λ (x : Slot). x.chunk) hit.3 ∙ eqb-true hit.1.chunk c hit.4 in
-        subst (λ n. is_set copied.bytes n ≡ false) chunk (All-contains (λ n. is_set copied.bytes n ≡ false) chunks (get_or (slots_of_pass p) hit.0 hit.1).chunk so.fresh (slot_within is (get_or (slots_of_pass p) hit.0 hit.1) (Contains-get_or (slots_of_pass p) hit.0 hit.1 hit.2)))
-
-    pub same_beside : (was left : List ℕ) → SameBeside (copy_of (slots_of_pass p) v.array.chunks m.superblock.data_offset) was left → IsSameBesideUnsaid v.array m was left
+  module _ (w : MirrorView) (f : IsFilling target may.member slots v w) where
+    pub same_beside : (was left : List ℕ) → SameBeside (copy_of slots v.array.chunks may.member.superblock.data_offset) was left → IsSameBesideUnsaid v.array may.member was left
     same_beside was left same = record {
       size = same.size;
       beside = λ i n h. same.beside i n
@@ -252,10 +238,10 @@ module _ (target : ℕ) (v : MirrorView) (copied : Bitmap) (chunks : List ℕ) (
           let count = so.ready.sound.chunks.count in
           let low = lacking.low in
           let within : c < v.array.marks.chunks = omega (arith, low, count) in
-          h c within lacking.missing (so.unsaid m at c within lacking.missing (fresh c planned))));
+          h c within lacking.missing (so.unsaid may.member may.at c within lacking.missing (may_clear target slots copied v may c planned))));
     }
 
-    changed_alone : IsChangedAlone target (IsSameBesideUnsaid v.array m) v.disks w.disks
+    changed_alone : IsChangedAlone target (IsSameBesideUnsaid v.array may.member) v.disks w.disks
     changed_alone = record {
       as_many = f.as_many;
       others = λ j other d e at_d at_e.
@@ -265,13 +251,13 @@ module _ (target : ℕ) (v : MirrorView) (copied : Bitmap) (chunks : List ℕ) (
       size = λ d e at_d at_e. (f.on_target d e at_d at_e).same.size;
       changed = λ d e at_d at_e honest. same_beside d.content e.content (f.on_target d e at_d at_e).same;
       within = λ d e at_d at_e honest.
-          leaves_less d.crashes e.crashes (SameBeside (copy_of (slots_of_pass p) v.array.chunks m.superblock.data_offset) d.content) (IsSameBesideUnsaid v.array m d.content) (λ left. same_beside d.content left)
+          leaves_less d.crashes e.crashes (SameBeside (copy_of slots v.array.chunks may.member.superblock.data_offset) d.content) (IsSameBesideUnsaid v.array may.member d.content) (λ left. same_beside d.content left)
           ((f.on_target d e at_d at_e).crashes honest);
     }
 
     pub filled : array.Fills target v w
     filled = record {
-      may = record { idle = so.ready.goes.idle; member = m; at = at; rebuilt = recovers_rebuilt m.state (so.ready.recovering m at) };
+      may = record { idle = so.ready.goes.idle; member = may.member; at = may.at; rebuilt = recovers_rebuilt may.member.state (so.ready.recovering may.member may.at) };
       noted = λ recovers. so.ready.noted;
       array = f.array;
       disks = changed_alone;
@@ -301,34 +287,62 @@ checkpoint_leads target copied v w sound r after = record {
 
 -- ---- passes that were made
 module _ (target : ℕ) where
+  -- stretch by stretch
+  abbrev pub stretches_events : (rounds : List ℕ) (slots left : List Slot) (before after : Bitmap) (v w : MirrorView) → AreRecorded target rounds slots left before after v w → List Event
+  stretches_events [] slots left before after v w h = []
+  stretches_events (round ∷ rounds) slots left before after v w h =
+      Event.Fill target ∷ checkpoint_event h.2.checkpoints ∷ stretches_events rounds (slots_after round slots) left h.0 after h.1 w h.3
+
+  -- how far each came
+  abbrev pub stretches_offsets : (rounds : List ℕ) (slots left : List Slot) (before after : Bitmap) (v w : MirrorView) → AreRecorded target rounds slots left before after v w → List (ℕ × (ℕ → Bool))
+  stretches_offsets [] slots left before after v w h = []
+  stretches_offsets (round ∷ rounds) slots left before after v w h =
+      (h.2.checkpoints.sure, listed_on h.1 target) ∷ stretches_offsets rounds (slots_after round slots) left h.0 after h.1 w h.3
+
+  -- each of these stretches came so far
+  pub some_offset : (rounds : List ℕ) (slots left : List Slot) (before after : Bitmap) (v w : MirrorView) (h : AreRecorded target rounds slots left before after v w)
+      → rounds ≢ [] → stretches_offsets rounds slots left before after v w h ≢ []
+  some_offset [] slots left before after v w h some none = absurd (some refl)
+  some_offset (round ∷ rounds) slots left before after v w h some none = absurd (let no = none in cc)
+
+  pub stretches_list : (rounds : List ℕ) (slots left : List Slot) (before after : Bitmap) (v w : MirrorView) (h : AreRecorded target rounds slots left before after v w)
+      → AreOfStretches target (stretches_offsets rounds slots left before after v w h) (stretches_events rounds slots left before after v w h)
+  stretches_list [] slots left before after v w h = refl
+  stretches_list (round ∷ rounds) slots left before after v w h = (
+    stretches_events rounds (slots_after round slots) left h.0 after h.1 w h.3,
+    stretches_list rounds (slots_after round slots) left h.0 after h.1 w h.3,
+    refl,
+  )
+
+  pub stretches_lead : (rounds : List ℕ) (slots left : List Slot) (before after : Bitmap) (v w : MirrorView) (h : AreRecorded target rounds slots left before after v w) → HoldsSoFar target v before []
+      → LeadsIn (Before target) (stretches_events rounds slots left before after v w h) v w
+  stretches_lead [] slots left before after v w h so = subst (λ (x : MirrorView). LeadsIn (Before target) [] v x) (sym h.2) (none_lead (Before target) v so.ready.sound)
+  stretches_lead (round ∷ rounds) slots left before after v w h so =
+      let one = h.2 in
+      let stretch = slots_before round slots in
+      let rest = stretches_events rounds (slots_after round slots) left h.0 after h.1 w h.3 in
+      both_lead (Before target) (Event.Fill target ∷ []) (checkpoint_event one.checkpoints ∷ rest) v one.filled w
+      (fill_leads target v before so stretch one.makes.may one.filled one.makes.copies.filling one.makes.sound)
+      (both_lead (Before target) (checkpoint_event one.checkpoints ∷ []) rest one.filled h.1 w (checkpoint_leads target h.0 one.filled h.1 one.makes.sound one.checkpoints one.sound)
+      (stretches_lead rounds (slots_after round slots) left h.0 after h.1 w h.3 (one_holds target round slots before h.0 v h.1 one so)))
+
   module _ (chunks : List ℕ) (p : PassView) (before after : Bitmap) (v w : MirrorView) where
     abbrev pub recorded_events : RecordsPass target chunks p before after v w → List Event
-    recorded_events h = Event.Fill target ∷ checkpoint_event h.checkpoints ∷ []
+    recorded_events h = stretches_events h.stretches.rounds (slots_of_pass p) [] before after v w h.stretches.all
 
     pub recorded_leads : HoldsSoFar target v before chunks → (h : RecordsPass target chunks p before after v w) → LeadsIn (Before target) (recorded_events h) v w
-    recorded_leads so h =
-        both_lead (Before target) (Event.Fill target ∷ []) (checkpoint_event h.checkpoints ∷ []) v h.filled w
-        (fill_leads target v before chunks so p h.makes.is h.makes.member h.makes.at h.filled h.makes.copies.filling h.makes.sound) (checkpoint_leads target after h.filled w h.makes.sound h.checkpoints h.sound)
+    recorded_leads so h = stretches_lead h.stretches.rounds (slots_of_pass p) [] before after v w h.stretches.all (holds_alone target v before chunks so)
 
+  module _ (chunks : List ℕ) (p : PassView) (before after : Bitmap) (v w : MirrorView) where
     abbrev pub pass_events : ListsPass target chunks p before after v w → List Event
-    pass_events h = Event.Fill target ∷ checkpoint_event h.records.checkpoints ∷ (h.lists.notes.goes.events ++ h.lists.stores.goes.events)
+    pass_events h = recorded_events chunks p before after v h.recorded h.records ++ (h.lists.notes.goes.events ++ h.lists.stores.goes.events)
 
     pub pass_leads : HoldsSoFar target v before chunks → (h : ListsPass target chunks p before after v w) → LeadsIn (Before target) (pass_events h) v w
-    pass_leads so h = more
-      where
-        record_part : LeadsIn (Before target) (Event.Fill target ∷ checkpoint_event h.records.checkpoints ∷ []) v h.recorded
-        record_part =
-            both_lead (Before target) (Event.Fill target ∷ []) (checkpoint_event h.records.checkpoints ∷ []) v h.records.filled h.recorded
-            (fill_leads target v before chunks so p h.records.makes.is h.records.makes.member h.records.makes.at h.records.filled h.records.makes.copies.filling h.records.makes.sound)
-            (checkpoint_leads target after h.records.filled h.recorded h.records.makes.sound h.records.checkpoints h.records.sound)
-
-        list_part : LeadsIn (Before target) (h.lists.notes.goes.events ++ h.lists.stores.goes.events) h.recorded w
-        list_part =
-            both_lead (Before target) h.lists.notes.goes.events h.lists.stores.goes.events h.recorded h.lists.noted w
-            (noting_leads target h.recorded h.lists.noted h.lists.notes.goes) (listing_leads target h.lists.noted w h.lists.stores.goes)
-
-        more : LeadsIn (Before target) (pass_events h) v w
-        more = both_lead (Before target) (Event.Fill target ∷ checkpoint_event h.records.checkpoints ∷ []) (h.lists.notes.goes.events ++ h.lists.stores.goes.events) v h.recorded w record_part list_part
+    pass_leads so h =
+        both_lead (Before target) (recorded_events chunks p before after v h.recorded h.records) (h.lists.notes.goes.events ++ h.lists.stores.goes.events) v h.recorded w
+        (recorded_leads chunks p before after v h.recorded so h.records)
+        (both_lead (Before target) h.lists.notes.goes.events h.lists.stores.goes.events h.recorded h.lists.noted w
+        (noting_leads target h.recorded h.lists.noted h.lists.notes.goes) (listing_leads target h.lists.noted w h.lists.stores.goes))
 
   -- the events of each of them, and of all
   abbrev pub chain_parts : (passes : List PassView) (chunks left : List ℕ) (before after : Bitmap) (v w : MirrorView) → AreListedPasses target passes chunks left before after v w → List (List Event)
@@ -351,8 +365,10 @@ module _ (target : ℕ) where
   chain_list [] chunks left before after v w h = refl
   chain_list (p ∷ ps) chunks left before after v w h = (
     record {
-      sure = h.2.records.checkpoints.sure;
-      listed = listed_on h.2.recorded target;
+      stretches = stretches_offsets h.2.records.stretches.rounds (slots_of_pass p) [] before h.0 v h.2.recorded h.2.records.stretches.all;
+      some = some_offset h.2.records.stretches.rounds (slots_of_pass p) [] before h.0 v h.2.recorded h.2.records.stretches.all h.2.records.stretches.some;
+      filled = recorded_events chunks p before h.0 v h.2.recorded h.2.records;
+      fills = stretches_list h.2.records.stretches.rounds (slots_of_pass p) [] before h.0 v h.2.recorded h.2.records.stretches.all;
       noted = h.2.lists.notes.goes.events;
       notes = h.2.lists.notes.goes.steps;
       stored = h.2.lists.stores.goes.events;
@@ -367,15 +383,19 @@ module _ (target : ℕ) where
     abbrev pub copying_chain : List Event
     copying_chain = chain_events h.listed (missing_chunks v.array m) h.left before h.mid v h.now h.passed
 
-    abbrev pub copying_events : List Event
-    copying_events = copying_chain ++ Event.Fill target ∷ checkpoint_event h.records.checkpoints ∷ []
+    -- of the last
+    abbrev pub last_made : List Event
+    last_made = recorded_events h.left h.last h.mid after h.now w h.records
 
-    pub last_leads : HoldsSoFar target v before (missing_chunks v.array m) → LeadsIn (Before target) (Event.Fill target ∷ checkpoint_event h.records.checkpoints ∷ []) h.now w
+    abbrev pub copying_events : List Event
+    copying_events = copying_chain ++ last_made
+
+    pub last_leads : HoldsSoFar target v before (missing_chunks v.array m) → LeadsIn (Before target) last_made h.now w
     last_leads so = recorded_leads h.left h.last h.mid after h.now w (chain_holds target h.listed (missing_chunks v.array m) h.left before h.mid v h.now h.passed so) h.records
 
     pub copying_leads : HoldsSoFar target v before (missing_chunks v.array m) → LeadsIn (Before target) copying_events v w
     copying_leads so =
-        both_lead (Before target) copying_chain (Event.Fill target ∷ checkpoint_event h.records.checkpoints ∷ []) v h.now w
+        both_lead (Before target) copying_chain last_made v h.now w
         (chain_leads h.listed (missing_chunks v.array m) h.left before h.mid v h.now h.passed so) (last_leads so)
 
 -- ---- it begins
@@ -478,7 +498,7 @@ module _ (target : ℕ) (told : Rebuilt) (old new : MirrorView) (h : Rebuilds ta
   made_events = copying_chain target m h.rebuilds.passes h.none h.rebuilds.copied h.ready by.filled c
 
   abbrev pub made_last : List Event
-  made_last = Event.Fill target ∷ checkpoint_event c.records.checkpoints ∷ []
+  made_last = recorded_events target c.left c.last c.mid h.rebuilds.copied c.now by.filled c.records
 
   abbrev pub enrolling : List Event
   enrolling = enrolling_events target m h.rebuilds.passes h.none h.rebuilds.copied h.rebuilds.kept h.rebuilds.orphans h.rebuilds.chunks h.ready by.filled by.fills by.enrolled by.sound by.enrols
@@ -528,8 +548,10 @@ module _ (target : ℕ) (told : Rebuilt) (old new : MirrorView) (h : Rebuilds ta
       parts = chain_parts target c.listed (missing_chunks h.ready.array m) c.left h.none c.mid h.ready c.now c.passed;
       passes = made_events;
       passes_are = chain_list target c.listed (missing_chunks h.ready.array m) c.left h.none c.mid h.ready c.now c.passed;
-      sure = c.records.checkpoints.sure;
-      recorded = listed_on by.filled target;
+      stretches = stretches_offsets target c.records.stretches.rounds (slots_of_pass c.last) [] c.mid h.rebuilds.copied c.now by.filled c.records.stretches.all;
+      some = some_offset target c.records.stretches.rounds (slots_of_pass c.last) [] c.mid h.rebuilds.copied c.now by.filled c.records.stretches.all c.records.stretches.some;
+      filled = made_last;
+      fills = stretches_list target c.records.stretches.rounds (slots_of_pass c.last) [] c.mid h.rebuilds.copied c.now by.filled c.records.stretches.all;
       role = by.enrols.role;
       listed = lists_of by.filled.array by.enrols.member;
       after = last.1.goes.events;

@@ -7,7 +7,7 @@ use Rattle.md_bitmap.specs.Marks.{Bitmap}
 use Rattle.md_kept_members.specs.TakingBack.{admitted_member}
 use Rattle.md_kept_members.specs.View.{MemberView}
 use Rattle.md_model.specs.Events.{Event}
-use Rattle.md_copy.specs.PassLaws.Listed.{IsArrayPass}
+use Rattle.md_cert.specs.declared.slots.Slot.{Slot}
 use Rattle.md_copy.specs.PassLaws.Passes.{PassView, slots_of_pass}
 use Rattle.md_state.specs.Steps.Admit.{admitted}
 use Rattle.md_state.specs.Members.{IsMember}
@@ -40,20 +40,21 @@ use Rattle.md_copy.specs.Filling.{IsFilling}
 use Rattle.md_state.specs.Steps.Checkpoint.{checked}
 use Rattle.md_copy.specs.Leaving.{RecordsAtEnd}
 use Rattle.md_copy.specs.Listing.{EndsNoting}
-use Rattle.md_copy.specs.Passing.{BreaksOffPass, CopiesAll, EndsBetween, FailsListing, FailsRecording}
+use Rattle.md_copy.specs.Passing.{BreaksOffPass, CopiesAll, EndsBetween, FailsListing, FailsRecording, LacksMemoryToPass, MakesPart}
 use Rattle.md_copy.specs.RebuildEvents.{FailsAfterPass, FailsAtMarks, FailsCheckpoint, AreOfLeaving, EventsEndWith, FailsAtMember, FailsLeaving, HaltsIn, IsBeforeEnrol, IsListOfUnfinished, IsOfUnfinished, LeadsOrHalts, LeadsUnadmitted, LeadsUnfinished, LeadsUnrecorded, TellsFault, TellsLeaving, TellsMember, WritesTarget}
 use Rattle.md_copy.specs.Rebuilding.{EndsFilled, EndsReadied, EndsStoring, LacksMemoryToRebuild, LacksRoom, LosesSource, LosesTarget, RefusesRebuild}
 use Rattle.md_copy.specs.Ready.{IsReadyToCopy}
 use Rattle.md_copy.specs.Readying.{FailsAdmission, EndsAdmitted}
 use Rattle.md_copy.specs.Storing.{FailsToRecordTarget, EndsAtOther}
+use Rattle.md_copy.specs.Stretches.{MayCopySlots, slots_before}
 use Rattle.md_copy.proofs.Steps.Answered.{with_set}
 use Rattle.md_copy.proofs.Held.HeldRecorded.{out_of_sync}
 use Rattle.md_copy.proofs.Passing.PassRecorded.{recorded_ready}
-use Rattle.md_copy.proofs.Passing.PassesTold.{HoldsSoFar, chain_holds, filled_ready}
+use Rattle.md_copy.proofs.Passing.PassesTold.{HoldsSoFar, chain_holds, filled_ready, holds_alone, stretches_hold}
 use Rattle.md_copy.proofs.Ready.Lowered.{lowered_but}
 use Rattle.md_copy.proofs.Ready.Readied.{recovering_admitted, spare_rebuilt}
 use Rattle.md_copy.proofs.Ready.ReadyStill.{list_recovers, ready_noted, storing_recovers}
-use Rattle.md_copy.proofs.Leads.RebuildLeads.{Before, LeadsIn, admission_events, admission_leads, as_such, begin_events, begin_holds, begin_leads, both_lead, chain_events, chain_leads, copying_events, copying_leads, fill_leads, leads_by, listing_before, listing_leads, lowering_events, lowering_leads, none_lead, noting_leads, one_leads, recorded_events, recorded_leads, checkpoint_leads, storing_before, storing_leads}
+use Rattle.md_copy.proofs.Leads.RebuildLeads.{Before, LeadsIn, admission_events, admission_leads, as_such, begin_events, begin_holds, begin_leads, both_lead, chain_events, chain_leads, copying_events, copying_leads, fill_leads, leads_by, listing_before, listing_leads, lowering_events, lowering_leads, none_lead, noting_leads, one_leads, recorded_events, recorded_leads, checkpoint_leads, storing_before, storing_leads, stretches_events, stretches_lead}
 use Rattle.md_copy.proofs.Stored.StoredFirst.{rebuilt_still}
 use Rattle.md_copy.proofs.Stored.TargetStates.{target_rebuilt}
 use Rattle.md_copy.proofs.Leads.UnfinishedEnrol.{fails_somewhere, prepares}
@@ -374,13 +375,29 @@ module _ (target : ℕ) where
         recovers = λ running n at. so_far.ready.recovering n (ap (λ (v : MirrorView). slice_get v.array.members target) (sym same) ∙ at);
       }
 
-      -- a pass is broken off
-      then_fills : (p : PassView) (n : MemberView) (at : IsMember e.now.array target n) (new : MirrorView) → IsArrayPass e.now.array e.left p → IsFilling target n (slots_of_pass p) e.now new → IsConsistent new → ComesTo old new
-      then_fills p n at new is f sound = record {
-        events = made ++ Event.Fill target ∷ [];
-        leads = both_lead (Before target) made (Event.Fill target ∷ []) old e.now new made_leads (fill_leads target e.now e.copied e.left so_far p is n at new f sound);
-        recovers = λ running x at_x. so_far.ready.recovering x (ap (λ (a : ArrayView). slice_get a.members target) (sym f.array) ∙ at_x);
-      }
+      module _ (copied : Bitmap) (begun_at : MirrorView) (part : MakesPart target e.left e.copied copied e.now begun_at) where
+        abbrev in_part : List Event
+        in_part = stretches_events target part.rounds (slots_of_pass part.pass) part.left e.copied copied e.now begun_at part.stretches
+
+        so_begun : HoldsSoFar target begun_at copied []
+        so_begun = stretches_hold target part.rounds (slots_of_pass part.pass) part.left e.copied copied e.now begun_at part.stretches (holds_alone target e.now e.copied e.left so_far)
+
+        -- a pass is made in part
+        part_comes : ComesTo old begun_at
+        part_comes = record {
+          events = made ++ in_part;
+          leads = both_lead (Before target) made in_part old e.now begun_at made_leads
+              (stretches_lead target part.rounds (slots_of_pass part.pass) part.left e.copied copied e.now begun_at part.stretches (holds_alone target e.now e.copied e.left so_far));
+          recovers = λ running n at. so_begun.ready.recovering n at;
+        }
+
+        -- and its next stretch
+        then_fills : (slots : List Slot) (may : MayCopySlots target slots copied begun_at) (new : MirrorView) → IsFilling target may.member slots begun_at new → IsConsistent new → ComesTo old new
+        then_fills slots may new f sound = record {
+          events = part_comes.events ++ Event.Fill target ∷ [];
+          leads = both_lead (Before target) part_comes.events (Event.Fill target ∷ []) old begun_at new part_comes.leads (fill_leads target begun_at copied so_begun slots may new f sound);
+          recovers = λ running x at_x. so_begun.ready.recovering x (ap (λ (a : ArrayView). slice_get a.members target) (sym f.array) ∙ at_x);
+        }
 
     -- a pass is recorded
     module _ (fault : RebuildFault) (new : MirrorView) (e : Between (λ left copied now. (after : Bitmap) × FailsListing target fault left copied after now new)) where
@@ -460,7 +477,10 @@ module _ (target : ℕ) where
 
     -- ---- memory was refused, a log had no room, or a member failed
     lacks_memory : (after : Bitmap) (new : MirrorView) → LacksMemoryToRebuild target m none after ready new → ComesTo old new
-    lacks_memory after new (inl e) = then_comes (λ left copied now. (after ≡ copied) × (new ≡ now)) e new e.why.1
+    lacks_memory after new (inl e) = elim e.why [
+      | inl same ↦ then_comes (λ left copied now. LacksMemoryToPass target left copied after now new) e new same.1
+      | inr part ↦ part_comes (λ left copied now. LacksMemoryToPass target left copied after now new) e after new part
+    ]
     lacks_memory after new (inr (inl e)) = noted_comes NoMemory new (with_set target m none ready (λ b left copied now. FailsListing target NoMemory left copied b now new) after e) e.why.fails
     lacks_memory after new (inr (inr e)) = copied_comes e.passes e.copied e.filled new e.fills.copies e.why.unchanged
 
@@ -471,16 +491,17 @@ module _ (target : ℕ) where
     -- ---- the target could not be written
     not_recorded : (new : MirrorView) → Between (λ left copied now. FailsRecording target left copied now new) → IsConsistent new → LeadsTo old new Spoils
     not_recorded new e after =
-        let f = e.why in
-        let n = f.makes.member in
-        let c = then_fills (λ left copied now. FailsRecording target left copied now new) e f.pass n f.makes.at f.filled f.makes.is f.makes.copies.filling f.makes.sound in
+        let s = e.why in
+        let f = s.why in
+        let c = then_fills (λ left copied now. FailsRecording target left copied now new) e s.copied s.begun s.part (slots_before s.round s.part.left) f.makes.may f.filled f.makes.copies.filling f.makes.sound in
         leads_spoiled old f.filled new Spoils (c.events, refl) c.leads (checkpoint_spoils target f.after f.filled new f.makes.sound f.fails (c.recovers f.fails.running f.fails.member f.fails.at)) after
 
     pass_unrecorded : (new : MirrorView) (h : LosesTarget target m none ready new) → FailsAfterPass h → LeadsUnrecorded target old new
     pass_unrecorded new (inl e) fails = absurd fails
     pass_unrecorded new (inr (inl e)) fails =
-        let f = e.why in
-        let c = then_fills (λ left copied now. FailsRecording target left copied now new) e f.pass f.makes.member f.makes.at f.filled f.makes.is f.makes.copies.filling f.makes.sound in
+        let s = e.why in
+        let f = s.why in
+        let c = then_fills (λ left copied now. FailsRecording target left copied now new) e s.copied s.begun s.part (slots_before s.round s.part.left) f.makes.may f.filled f.makes.copies.filling f.makes.sound in
         unrecorded_by f.after old f.filled new c.leads f.fails (c.recovers f.fails.running f.fails.member f.fails.at)
     pass_unrecorded new (inr (inr e)) fails = absurd fails
 
@@ -527,11 +548,12 @@ module _ (target : ℕ) where
 
     loses_target : (new : MirrorView) (h : LosesTarget target m none ready new) → IsConsistent new → LeadsTo old new (WritesTarget h)
     loses_target new (inl e) after =
-        let Why : List ℕ → Bitmap → MirrorView → Type 0 = λ left copied now. (after : Bitmap) × BreaksOffPass target TargetFault left copied after now new in
-        let f = e.why.1 in
-        leads_there old new (EventsEndWith (Event.Fill target)) (made Why e, refl)
-        (both_lead (Before target) (made Why e) (Event.Fill target ∷ []) old e.now new (made_leads Why e)
-        (fill_leads target e.now e.copied e.left (so_far Why e) f.pass f.is f.member f.at new f.breaks.filling f.sound))
+        let Why : List ℕ → Bitmap → MirrorView → Type 0 = λ left copied now. BreaksOffPass target left copied now new in
+        let s = e.why in
+        let c = part_comes Why e s.copied s.begun s.part in
+        leads_there old new (EventsEndWith (Event.Fill target)) (c.events, refl)
+        (both_lead (Before target) c.events (Event.Fill target ∷ []) old s.begun new c.leads
+        (fill_leads target s.begun s.copied (so_begun Why e s.copied s.begun s.part) (slots_before s.round s.part.left) s.why.may new s.why.breaks.filling s.why.sound))
     loses_target new (inr (inl e)) after = not_recorded new e after
     loses_target new (inr (inr e)) after = not_enrolled new e (fails_somewhere target e.kept e.orphans e.filled new e.fills.sound e.why) after
 

@@ -35,6 +35,7 @@ use Rattle.md_copy.specs.Listing.{HasFailedSlot, HasListOn, NotesLists}
 use Rattle.md_copy.specs.Passing.{AreListedPasses, CopiesAll, ListsPass, RecordsPass}
 use Rattle.md_copy.specs.Rebuilding.{RebuildsReadied}
 use Rattle.md_copy.specs.Rebuilt.{failed_of}
+use Rattle.md_copy.specs.Stretches.{AreRecorded, slots_after, slots_before}
 use Rattle.md_copy.proofs.Held.HeldRecorded.{other_is}
 use Rattle.md_copy.proofs.Listings.ListsOn.{AtInSync, IsCanonicalAt, IsRecordedOn, list_on, lists_stored, recorded_still, recorded_storing, same_bad}
 use Rattle.md_copy.proofs.Listings.ListsStored.{failed_fits}
@@ -103,9 +104,15 @@ module _ (target k : ℕ) (other : k ≢ target) where
         refl,
       ))
 
+  stretches_still : (rounds : List ℕ) (slots left : List Slot) (before after : Bitmap) (v x : MirrorView) → AreRecorded target rounds slots left before after v x → On v → On x
+  stretches_still [] slots left before after v x h has = subst On (sym h.2) has
+  stretches_still (round ∷ rounds) slots left before after v x h has =
+      let one = h.2 in
+      stretches_still rounds (slots_after round slots) left h.0 after h.1 x h.3
+      (checkpoint_still h.0 one.filled h.1 one.makes.sound one.checkpoints (filled_still one.makes.may.member (slots_before round slots) v one.filled one.makes.copies.filling has))
+
   recorded_pass : (chunks : List ℕ) (p : PassView) (before after : Bitmap) (v x : MirrorView) → RecordsPass target chunks p before after v x → On v → On x
-  recorded_pass chunks p before after v x h has =
-      checkpoint_still after h.filled x h.makes.sound h.checkpoints (filled_still h.makes.member (slots_of_pass p) v h.filled h.makes.copies.filling has)
+  recorded_pass chunks p before after v x h has = stretches_still h.stretches.rounds (slots_of_pass p) [] before after v x h.stretches.all has
 
   -- chunks are listed on others
   noted_still : (failed : List Slot) (x noted : MirrorView) → NotesLists failed x noted → ((m : MemberView) → IsMember x.array k m → HasFailedSlot failed m → ⊥) → On x → On noted

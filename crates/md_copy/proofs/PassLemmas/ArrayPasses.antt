@@ -184,6 +184,20 @@ more_copied passes p old new before joined failed fresh c = (to, from)
               ]
         ]
 
+-- in a part of a pass no more is copied than its slots have
+pub part_copied : (passes : List PassView) (p : PassView) (old new : Bitmap) → AreCopiedBy passes old → AreJoined (slots_of_pass p) old new → p.failed ≡ [] → (c : ℕ) → is_set new.bytes c ≡ true
+    → IsCopiedIn (passes ++ p ∷ []) c
+part_copied passes p old new before joined none_failed c set = elim (cases_Bool (is_set old.bytes c)) [
+  | inl was ↦ any_more (PassCopies c) passes (p ∷ []) ((before c).0 was)
+  | inr was_not ↦
+      elim (cases_Bool (has_chunk (slots_of_pass p) c)) [
+        | inl has ↦
+            let (k, s, below, at, is) = Any-from_list_any (λ (x : Slot). x.chunk == c) (slots_of_pass p) has in
+            any_last (PassCopies c) passes p (k, s, below, at, (eqb-true s.chunk c is, λ in_failed. (let low = subst (λ xs. Contains xs s) none_failed in_failed in absurd (omega (arith, low.1)))))
+        | inr none ↦ absurd (both_ways (is_set old.bytes c) was_not (sym (joined.planned c none) ∙ set))
+      ]
+]
+
 -- ---- the members in sync, each with each chunk
 abbrev pair : ℕ → ℕ → ℕ × ℕ
 pair role c = (c, role)

@@ -1,5 +1,5 @@
 -- A pass that was planned and made, and is recorded.
-use Rattle.std.proofs.Common.{◌≡◌, ◌∙◌, ◌↔◌, ℕ, ◌<◌, true, false, List, length, Contains, All, get_or, refl, sym, ap, subst, inl, inr}
+use Rattle.std.proofs.Common.{◌≡◌, ◌∙◌, ◌↔◌, ℕ, ◌<◌, false, List, [], length, Contains, All, get_or, refl, sym, ap, subst, arith, inl, inr}
 use Rattle.std.specs.Int.{bit_at, div_ceil}
 use Rattle.std.proofs.lemmas.Bool.{both_ways}
 use Rattle.std.proofs.lemmas.List.Elements.{All-contains_itself, All-filter}
@@ -17,31 +17,25 @@ use Rattle.md_cert.specs.Tables.{chunks_of_rows, mask_of_chunk, orphans_of}
 use Rattle.md_cert.proofs.Bits.{has_zero}
 use Rattle.md_cert.proofs.Masks.{row_of}
 use Rattle.md_kept_members.specs.View.{MemberView}
-use Rattle.md_pass.specs.Beside.{has_chunk}
 use Rattle.md_pass.specs.Copied.{AreUncopied, failed_slots, is_failed_slot}
 use Rattle.md_copy.specs.PassLaws.Listed.{IsArrayPass, MayServe}
 use Rattle.md_copy.specs.PassLaws.Passes.{PassView}
 use Rattle.md_plan.specs.declared.planner.Planned.{Planned}
 use Rattle.md_state.specs.Members.{IsMember}
-use Rattle.md_state.specs.Missing.{is_missing}
 use Rattle.md_state.specs.View.{ArrayView, MirrorView}
-use Rattle.md_array.specs.Steps.Checkpoint.{Checkpoints, FailsToCheckpoint, MayCheckpoint}
 use Rattle.md_array.specs.Consistency.{IsConsistent}
 use Rattle.md_rebuild_table.specs.declared.fault.RebuildFault.{RebuildFault}
 use Rattle.md_rebuild_table.specs.declared.fault.RebuildFault.TheVariants.{Halted, NotSpare, Dirty, InFlight, LogFull, NoMemory, TargetFault, MetadataFault, EventsFull}
 use Rattle.md_rebuild_table.specs.Sources.{IsTableIn}
 use Rattle.md_copy.specs.declared.passes.Passed.{Passed}
-use Rattle.md_copy.specs.Filling.{BreaksPass, FillsPass}
 use Rattle.md_copy.specs.Held.{AreHeld}
-use Rattle.md_copy.specs.Passing.{BreaksOffPass, FailsOne, IsTableFor, MakesOne, MakesPass}
+use Rattle.md_copy.specs.Passing.{FailsOne, IsTableFor, MakesOne, MakesPart}
 use Rattle.md_copy.specs.Preparing.{IsNoMemory}
 use Rattle.md_copy.specs.Ready.{IsReadyToCopy}
 use Rattle.md_copy.specs.RebuildSources.{IsPlanOf}
-use Rattle.md_copy.proofs.Held.HeldChunks.{may_record, recordable}
-use Rattle.md_copy.proofs.Held.HeldFilled.{held_filled}
-use Rattle.md_copy.proofs.Fills.LentBack.{planned_missing}
-use Rattle.md_copy.proofs.Ready.ReadyStill.{ready_filled}
-use Rattle.md_copy.proofs.Stored.TargetStates.{recovering_rebuilt}
+use Rattle.md_copy.specs.Stretches.{FailsWithin, RecordsStretches}
+use Rattle.md_copy.proofs.Passing.StretchesTold.{stretches_joined}
+use Rattle.md_copy.proofs.Plans.Planned.{plan_slots}
 
 -- each slot's chunk is a row's
 uncopied_slots : (rows : List Row) (plan : Plan) (certificate : Certificate) (copied : Bitmap) → IsCertified rows plan certificate → All (λ (row : Row). is_set copied.bytes row.chunk ≡ false) rows → AreUncopied plan.slots copied
@@ -57,13 +51,22 @@ module _ (target : ℕ) (v : MirrorView) (ready : IsReadyToCopy target v) (withi
   a = v.array
 
   pub plan_of : (m : MemberView) → IsMember a target m → IsPlanOf a m planned.plan
-  plan_of m at = record { rows = rows; table = table.table m at; certificate = planned.certificate; certified = certified }
+  plan_of m at = plan_slots a m rows planned.plan planned.certificate (table.table m at) certified
 
   pub uncopied : AreUncopied planned.plan.slots before
   uncopied = uncopied_slots rows planned.plan planned.certificate before certified table.fresh
 
   pub marks_count : before.chunks ≡ div_ceil a.chunks.size a.chunks.sectors
   marks_count = held.chunks ∙ ready.sound.chunks.count
+
+  -- once its stretches are made the marks are as many as before
+  pub slots_low : (after : Bitmap) (x : MirrorView) → RecordsStretches target planned.plan.slots before after v x → All (λ (s : Slot). s.chunk < after.chunks) planned.plan.slots
+  slots_low after x made k d below =
+      let at = got_within a.members target within in
+      let low = ((plan_of at.0 at.1).each k d below).lacks.low in
+      let count = marks_count in
+      let same = (stretches_joined target made.rounds planned.plan.slots [] before after v x made.all).chunks in
+      omega (arith, low, count, same)
 
   -- the pass with its failed slots
   module _ (least : Least rows planned.plan.rounds) (orphans : planned.orphans ≡ orphans_of rows) where
@@ -91,66 +94,43 @@ module _ (target : ℕ) (v : MirrorView) (ready : IsReadyToCopy target v) (withi
         }
 
     -- ---- it is made
-    module _ (after : Bitmap) (w : MirrorView) (sound : IsConsistent w) where
-      abbrev Fills : ℕ → Type 0
-      Fills failed = (m : MemberView) → IsMember a target m → FillsPass target m planned.plan.slots before after v w failed
-
-      lacks : (m : MemberView) → IsMember a target m → (c : ℕ) → has_chunk planned.plan.slots c ≡ true → (c < a.marks.chunks) × (is_missing a m c ≡ true)
-      lacks m at c = planned_missing v ready.sound m (recovering_rebuilt m.state (ready.recovering m at)) planned.plan (plan_of m at) c
-
-      pub held_then : (failed : ℕ) → Fills failed → AreHeld w target after
-      held_then failed fills =
-          let at = got_within a.members target within in
-          held_filled target at.0 planned.plan.slots before after v w at.1 (fills at.0 at.1).copies (λ c is. (lacks at.0 at.1 c is).1) held
-
-      pub ready_then : (failed : ℕ) → Fills failed → IsReadyToCopy target w
-      ready_then failed fills = (let at = got_within a.members target within in ready_filled target v w (fills at.0 at.1).copies.filling.array sound ready)
-
-      pub within_filled : (failed : ℕ) → Fills failed → target < length w.array.members
-      within_filled failed fills =
-          let at = got_within a.members target within in
-          subst (λ (b : ArrayView). target < length b.members) (sym (fills at.0 at.1).copies.filling.array) within
-
-      pub may_checkpoint : (failed : ℕ) → Fills failed → MayCheckpoint target after w
-      may_checkpoint failed fills =
-          let then = ready_then failed fills in
-          let has = held_then failed fills in
-          may_record target w sound then.goes.idle.running (recordable target w then) (within_filled failed fills) after has.chunks has.held
-
-      makes : (failed : ℕ) → Fills failed → MakesPass target (chunks_of_rows rows) (pass_of after) before after v w
-      makes failed fills =
-          let at = got_within a.members target within in
-          let f = fills at.0 at.1 in
-          record { is = is_pass after; member = at.0; at = at.1; uncopied = uncopied; copies = f.copies; failed = refl; counted = f.counted; there = f.there; only = f.only; sound = sound }
-
-      pub made_one : (failed : ℕ) → Fills failed → (x : MirrorView) → Checkpoints target after w x → IsConsistent x → (told : Passed) → told.planned ≡ planned → told.failed ≡ failed
+    module _ (after : Bitmap) (x : MirrorView) (sound : IsConsistent x) where
+      pub made_one : RecordsStretches target planned.plan.slots before after v x → (told : Passed) → told.planned ≡ planned → told.failed ≡ length (failed_slots planned.plan.slots after)
           → MakesOne target rows before after v x told
-      made_one failed fills x checkpoints sound_x told plan_is failed_is = record {
-        pass = pass_of after;
-        planned = plan_is;
-        failed = failed_is ∙ (let at = got_within a.members target within in (fills at.0 at.1).failed_are);
-        records = record { filled = w; makes = makes failed fills; checkpoints = checkpoints; sound = sound_x };
-      }
+      made_one stretches told plan_is failed_is =
+          let at = got_within a.members target within in
+          record {
+            pass = pass_of after;
+            planned = plan_is;
+            failed = failed_is;
+            records = record { is = is_pass after; member = at.0; at = at.1; uncopied = uncopied; failed = refl; stretches = stretches; sound = sound };
+          }
 
-      pub not_recorded : (failed : ℕ) → Fills failed → (x : MirrorView) → FailsToCheckpoint target after w x → IsConsistent x → FailsOne target rows before after v x TargetFault
-      not_recorded failed fills x fails sound_x = inr (record { pass = pass_of after; after = after; filled = w; makes = makes failed fills; fails = fails; sound = sound_x })
+      abbrev Within : RebuildFault → Type 0
+      Within fault = FailsWithin target planned.plan.slots before after v x fault
 
-      pub broken_off : (fault : RebuildFault) → ((m : MemberView) → IsMember a target m → BreaksPass target m planned.plan.slots before after v w fault) → FailsOne target rows before after v w fault
-      broken_off NoMemory breaks = (let at = got_within a.members target within in breaks at.0 at.1)
-      broken_off TargetFault breaks = inl (off breaks)
-        where
-          off : ((m : MemberView) → IsMember a target m → BreaksPass target m planned.plan.slots before after v w TargetFault) → BreaksOffPass target TargetFault (chunks_of_rows rows) before after v w
-          off breaks = (let at = got_within a.members target within in record { pass = pass_of after; is = is_pass after; member = at.0; at = at.1; breaks = breaks at.0 at.1; sound = sound })
-      broken_off Halted breaks = (let at = got_within a.members target within in absurd (breaks at.0 at.1))
-      broken_off NotSpare breaks = (let at = got_within a.members target within in absurd (breaks at.0 at.1))
-      broken_off Dirty breaks = (let at = got_within a.members target within in absurd (breaks at.0 at.1))
-      broken_off (InFlight n) breaks = (let at = got_within a.members target within in absurd (breaks at.0 at.1))
-      broken_off (LogFull k) breaks = (let at = got_within a.members target within in absurd (breaks at.0 at.1))
-      broken_off (MetadataFault k) breaks = (let at = got_within a.members target within in absurd (breaks at.0 at.1))
-      broken_off EventsFull breaks = (let at = got_within a.members target within in absurd (breaks at.0 at.1))
+      -- so far as it came
+      abbrev part : (fault : RebuildFault) (e : Within fault) → MakesPart target (chunks_of_rows rows) before e.copied v e.begun
+      part fault e = record { pass = pass_of after; is = is_pass after; uncopied = uncopied; rounds = e.rounds; left = e.left; stretches = e.stretches }
+
+      pub ends_in : (fault : RebuildFault) → Within fault → FailsOne target rows before after v x fault
+      ends_in NoMemory e =
+          inr (subst (λ (b : Bitmap). MakesPart target (chunks_of_rows rows) before b v x) (sym e.why.0)
+          (subst (λ (y : MirrorView). MakesPart target (chunks_of_rows rows) before e.copied v y) (sym e.why.1) (part NoMemory e)))
+      ends_in TargetFault e = elim e.why [
+        | inl breaks ↦ inl (record { copied = e.copied; begun = e.begun; part = part TargetFault e; round = e.round; why = breaks })
+        | inr fails ↦ inr (record { copied = e.copied; begun = e.begun; part = part TargetFault e; round = e.round; why = fails })
+      ]
+      ends_in Halted e = absurd e.why
+      ends_in NotSpare e = absurd e.why
+      ends_in Dirty e = absurd e.why
+      ends_in (InFlight n) e = absurd e.why
+      ends_in (LogFull k) e = absurd e.why
+      ends_in (MetadataFault k) e = absurd e.why
+      ends_in EventsFull e = absurd e.why
 
 pub unplanned : (target : ℕ) (v : MirrorView) (rows : List Row) (before : Bitmap) (fault : RebuildFault) → IsNoMemory fault → FailsOne target rows before before v v fault
-unplanned target v rows before NoMemory is = (refl, refl)
+unplanned target v rows before NoMemory is = inl (refl, refl)
 unplanned target v rows before Halted is = absurd is
 unplanned target v rows before NotSpare is = absurd is
 unplanned target v rows before Dirty is = absurd is

@@ -1,11 +1,9 @@
 -- What holds once a pass is recorded, and once what failed in it is listed.
-use Rattle.std.proofs.Common.{◌≡◌, ◌∙◌, ℕ, ◌<◌, ◌==◌, true, false, List, [], length, length-set, Contains, All, get_or, slice_get, refl, sym, ap, subst, arith, inl, inr}
+use Rattle.std.proofs.Common.{◌≡◌, ◌∙◌, ℕ, ◌<◌, true, false, List, [], ◌∷◌, length, length-set, Contains, All, slice_get, refl, sym, ap, subst, arith, inl, inr}
 use Rattle.std.specs.Int.{div_ceil}
-use Rattle.std.proofs.lemmas.Bool.{cases_eq, eqb-true, not-true}
-use Rattle.std.proofs.lemmas.List.Elements.{All-contains, Contains-get_or, filter_passes}
-use Rattle.std.proofs.lemmas.List.Folds.{Any-from_list_any}
-use Rattle.std.proofs.lemmas.Option.{same_Some, slice_get_within}
-use Rattle.md_assembly.proofs.Indices.{got_within}
+use Rattle.std.proofs.lemmas.Bool.{cases_eq, not-true}
+use Rattle.std.proofs.lemmas.List.Elements.{All-contains, filter_passes}
+use Rattle.std.proofs.lemmas.Option.{same_Some}
 use Rattle.md_assembly.specs.States.{is_recovering}
 use Rattle.md_badblocks.specs.Runs.{IsBad}
 use Rattle.md_bitmap.specs.declared.chunks.Chunks.{Chunks}
@@ -15,6 +13,7 @@ use Rattle.md_kept_members.specs.Members.{recorded_member}
 use Rattle.md_kept_members.specs.View.{MemberView}
 use Rattle.md_pass.specs.Beside.{has_chunk}
 use Rattle.md_pass.specs.Copied.{is_failed_slot}
+use Rattle.md_copy.proofs.PassLemmas.Listing.{lists_add}
 use Rattle.md_copy.proofs.PassLemmas.OnePass.{slot_within}
 use Rattle.md_copy.specs.PassLaws.Listed.{ListsFailed, ListsOwn}
 use Rattle.md_copy.specs.PassLaws.Passes.{PassView, slots_of_pass}
@@ -28,9 +27,12 @@ use Rattle.md_rebuild_table.specs.Sources.{LacksChunk}
 use Rattle.md_copy.specs.Held.{AreHeld}
 use Rattle.md_copy.specs.Passing.{RecordsPass}
 use Rattle.md_copy.specs.Ready.{IsReadyToCopy}
+use Rattle.md_copy.specs.Stretches.{AreRecorded, RecordsStretch, slots_after, slots_before}
 use Rattle.md_copy.proofs.Held.HeldFilled.{held_filled}
 use Rattle.md_copy.proofs.Held.HeldListed.{GrowsOnly, held_listed, missing_grown}
-use Rattle.md_copy.proofs.Held.HeldRecorded.{held_recorded, lacks_still, low_start, other_is, out_of_sync, recorded_is, target_same}
+use Rattle.md_copy.proofs.Held.HeldRecorded.{held_recorded, low_start, other_is, out_of_sync, recorded_is, target_same}
+use Rattle.md_copy.proofs.Passing.PassesLack.{LacksSame, pass_lacks}
+use Rattle.md_copy.proofs.Passing.StretchSlots.{may_lack}
 use Rattle.md_copy.proofs.Ready.ReadyStill.{ready_filled, ready_recorded}
 
 -- ---- lists, where how far the target is rebuilt is recorded
@@ -82,8 +84,53 @@ module _ (target : ℕ) (copied : Bitmap) (v w : MirrorView) (sound : IsConsiste
 pub clear_failed : (target : ℕ) (chunks : List ℕ) (p : PassView) (before after : Bitmap) (v x : MirrorView) → RecordsPass target chunks p before after v x → (s : Slot) → Contains p.failed s
     → is_set after.bytes s.chunk ≡ false
 clear_failed target chunks p before after v x h s there =
-    let all : All (λ (t : Slot). is_failed_slot after t ≡ true) p.failed = subst (All (λ (t : Slot). is_failed_slot after t ≡ true)) (sym h.makes.failed) (filter_passes (is_failed_slot after) (slots_of_pass p)) in
+    let all : All (λ (t : Slot). is_failed_slot after t ≡ true) p.failed = subst (All (λ (t : Slot). is_failed_slot after t ≡ true)) (sym h.failed) (filter_passes (is_failed_slot after) (slots_of_pass p)) in
     not-true (is_set after.bytes s.chunk) (All-contains (λ (t : Slot). is_failed_slot after t ≡ true) p.failed s all there)
+
+-- ---- a stretch
+module _ (target : ℕ) (slots : List Slot) (before after : Bitmap) (v x : MirrorView) (h : RecordsStretch target slots before after v x) where
+  abbrev m : MemberView
+  m = h.makes.may.member
+
+  same : h.filled.array ≡ v.array
+  same = h.makes.copies.filling.array
+
+  planned_lacks : (c : ℕ) → has_chunk slots c ≡ true → is_missing v.array m c ≡ true
+  planned_lacks c planned = (may_lack target slots before v h.makes.may c planned).missing
+
+  pub stretch_filled : IsReadyToCopy target v → IsReadyToCopy target h.filled
+  stretch_filled ready = ready_filled target v h.filled same h.makes.sound ready
+
+  stretch_ready : IsReadyToCopy target v → IsReadyToCopy target x
+  stretch_ready ready = ready_recorded target after h.filled x h.checkpoints h.makes.sound (stretch_filled ready) h.sound
+
+  stretch_held : AreHeld v target before → AreHeld x target after
+  stretch_held held =
+      held_recorded target after h.filled x h.makes.sound h.checkpoints
+      (held_filled target m slots before after v h.filled h.makes.may.at h.makes.copies planned_lacks held)
+
+  pub stretch_lists : ListsFailed [] v.array x.array
+  stretch_lists = subst (λ (b : ArrayView). ListsFailed [] b x.array) same (lists_recorded target after h.filled x h.makes.sound h.checkpoints)
+
+-- and all of them
+pub stretches_ready : (target : ℕ) (rounds : List ℕ) (slots left : List Slot) (before after : Bitmap) (v x : MirrorView) → AreRecorded target rounds slots left before after v x
+    → IsReadyToCopy target v → IsReadyToCopy target x
+stretches_ready target [] slots left before after v x h ready = subst (IsReadyToCopy target) (sym h.2) ready
+stretches_ready target (round ∷ rounds) slots left before after v x h ready =
+    stretches_ready target rounds (slots_after round slots) left h.0 after h.1 x h.3 (stretch_ready target (slots_before round slots) before h.0 v h.1 h.2 ready)
+
+pub stretches_held : (target : ℕ) (rounds : List ℕ) (slots left : List Slot) (before after : Bitmap) (v x : MirrorView) → AreRecorded target rounds slots left before after v x
+    → AreHeld v target before → AreHeld x target after
+stretches_held target [] slots left before after v x h held = subst (λ (y : MirrorView). AreHeld y target after) (sym h.2) (subst (AreHeld v target) (sym h.1) held)
+stretches_held target (round ∷ rounds) slots left before after v x h held =
+    stretches_held target rounds (slots_after round slots) left h.0 after h.1 x h.3 (stretch_held target (slots_before round slots) before h.0 v h.1 h.2 held)
+
+pub stretches_lists : (target : ℕ) (rounds : List ℕ) (slots left : List Slot) (before after : Bitmap) (v x : MirrorView) → AreRecorded target rounds slots left before after v x
+    → ListsFailed [] v.array x.array
+stretches_lists target [] slots left before after v x h = subst (λ (y : MirrorView). ListsFailed [] v.array y.array) (sym h.2) (lists_add.none v.array)
+stretches_lists target (round ∷ rounds) slots left before after v x h =
+    lists_add.more [] [] v.array h.1.array x.array (stretch_lists target (slots_before round slots) before h.0 v h.1 h.2)
+    (stretches_lists target rounds (slots_after round slots) left h.0 after h.1 x h.3)
 
 -- ---- a pass that is recorded
 module _ (target : ℕ) (chunks : List ℕ) (p : PassView) (before after : Bitmap) (v x : MirrorView) (h : RecordsPass target chunks p before after v x) (ready : IsReadyToCopy target v) (held : AreHeld v target before)
@@ -91,73 +138,44 @@ module _ (target : ℕ) (chunks : List ℕ) (p : PassView) (before after : Bitma
   abbrev a : ArrayView
   a = v.array
 
-  abbrev pub w : MirrorView
-  w = h.filled
-
-  abbrev m : MemberView
-  m = h.makes.member
-
-  same : w.array ≡ a
-  same = h.makes.copies.filling.array
-
-  at_w : IsMember w.array target m
-  at_w = ap (λ (b : ArrayView). slice_get b.members target) same ∙ h.makes.at
-
   -- each slot's chunk is of the table, and so one that the target lacks
-  pub slot_lacks : (s : Slot) → Contains (slots_of_pass p) s → LacksChunk a m s.chunk
-  slot_lacks s there =
-      All-contains (LacksChunk a m) chunks s.chunk (lacking m h.makes.at) (slot_within h.makes.is s there)
-
-  planned_lacks : (c : ℕ) → has_chunk (slots_of_pass p) c ≡ true → is_missing a m c ≡ true
-  planned_lacks c planned =
-      let hit = Any-from_list_any (λ (s : Slot). s.chunk == c) (slots_of_pass p) planned in
-      let chunk : (get_or (slots_of_pass p) hit.0 hit.1).chunk ≡ c = ap (λ (s : Slot). s.chunk) hit.3 ∙ eqb-true hit.1.chunk c hit.4 in
-      subst (λ n. is_missing a m n ≡ true) chunk (slot_lacks (get_or (slots_of_pass p) hit.0 hit.1) (Contains-get_or (slots_of_pass p) hit.0 hit.1 hit.2)).missing
-
-  pub filled_ready : IsReadyToCopy target w
-  filled_ready = ready_filled target v w same h.makes.sound ready
-
-  pub filled_held : AreHeld w target after
-  filled_held = held_filled target m (slots_of_pass p) before after v w h.makes.at h.makes.copies planned_lacks held
+  slot_lacks : (s : Slot) → Contains (slots_of_pass p) s → LacksChunk a h.member s.chunk
+  slot_lacks s there = All-contains (LacksChunk a h.member) chunks s.chunk (lacking h.member h.at) (slot_within h.is s there)
 
   pub recorded_ready : IsReadyToCopy target x
-  recorded_ready = ready_recorded target after w x h.checkpoints h.makes.sound filled_ready h.sound
+  recorded_ready = stretches_ready target h.stretches.rounds (slots_of_pass p) [] before after v x h.stretches.all ready
 
   pub recorded_held : AreHeld x target after
-  recorded_held = held_recorded target after w x h.makes.sound h.checkpoints filled_held
+  recorded_held = stretches_held target h.stretches.rounds (slots_of_pass p) [] before after v x h.stretches.all held
 
   pub recorded_lists : ListsFailed [] a x.array
-  recorded_lists = subst (λ (b : ArrayView). ListsFailed [] b x.array) same (lists_recorded target after w x h.makes.sound h.checkpoints)
+  recorded_lists = stretches_lists target h.stretches.rounds (slots_of_pass p) [] before after v x h.stretches.all
 
   pub failed_clear : (s : Slot) → Contains p.failed s → is_set after.bytes s.chunk ≡ false
   failed_clear = clear_failed target chunks p before after v x h
 
-  -- so the target lacks it still
-  pub failed_lacks : (y : MemberView) → IsMember x.array target y → (s : Slot) → Contains p.failed s → LacksChunk x.array y s.chunk
-  failed_lacks y at_y s there =
-      let was = slot_lacks s (All-contains (Contains (slots_of_pass p)) p.failed s h.makes.is.failed there) in
+  -- the target lacks the same but for what was copied
+  pub same_lacks : LacksSame target before after a x.array
+  same_lacks = pass_lacks target chunks p before after v x h
+
+  abbrev pub y : MemberView
+  y = (same_lacks.there h.member h.at).0
+
+  pub at_y : IsMember x.array target y
+  at_y = (same_lacks.there h.member h.at).1
+
+  -- so it lacks what failed still
+  pub failed_lacks : (u : MemberView) → IsMember x.array target u → (s : Slot) → Contains p.failed s → LacksChunk x.array u s.chunk
+  failed_lacks u at_u s there =
+      let was = slot_lacks s (All-contains (Contains (slots_of_pass p)) p.failed s h.is.failed there) in
       let count = ready.sound.chunks.count in
       let below = was.low in
-      let low : s.chunk < a.marks.chunks = omega (arith, below, count) in
-      let low_w : s.chunk < w.array.marks.chunks = subst (λ (b : ArrayView). s.chunk < b.marks.chunks) (sym same) low in
-      let geometry = recorded_lists.chunks in
       record {
-        low = subst (λ (q : Chunks). s.chunk < div_ceil q.size q.sectors) (sym geometry) was.low;
-        missing = lacks_still target after w x h.makes.sound h.checkpoints y at_y s.chunk low_w
-            (ap (λ (z : MemberView). is_missing w.array z s.chunk) (same_Some h.checkpoints.may.member m (sym h.checkpoints.may.at ∙ at_w)) ∙ ap (λ (b : ArrayView). is_missing b m s.chunk) same ∙ was.missing)
-            (failed_clear s there);
+        low = subst (λ (q : Chunks). s.chunk < div_ceil q.size q.sectors) (sym same_lacks.chunks) was.low;
+        missing = same_lacks.missing h.member u h.at at_u (ready.recovering h.member h.at) s.chunk (omega (arith, below, count)) (failed_clear s there) ∙ was.missing;
       }
 
   -- ---- what failed is listed
-  pub within_x : target < length x.array.members
-  within_x = slice_get_within x.array.members target _ (recorded_is target after w x h.makes.sound h.checkpoints)
-
-  abbrev pub y : MemberView
-  y = (got_within x.array.members target within_x).0
-
-  pub at_y : IsMember x.array target y
-  at_y = (got_within x.array.members target within_x).1
-
   recovers_y : is_recovering y.state ≡ true
   recovers_y = recorded_ready.recovering y at_y
 

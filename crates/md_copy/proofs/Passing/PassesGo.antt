@@ -38,14 +38,14 @@ use Rattle.md_copy.specs.declared.passes.Passed.{Passed}
 use Rattle.md_copy.specs.Held.{AreHeld}
 use Rattle.md_copy.specs.Leaving.{MayRecordAtEnd}
 use Rattle.md_copy.specs.Listing.{ListsAll, NotesLists, EndsListing, EndsNoting}
-use Rattle.md_copy.specs.Passing.{AreListedPasses, BreaksOffPass, EndsBetween, FailsListing, FailsOne, FailsRecording, GoesOnWith, IsTableFor, ListsPass, MakesOne, PassesAll, PassesFail, FailsBetween}
+use Rattle.md_copy.specs.Passing.{AreListedPasses, BreaksOffPass, EndsBetween, FailsListing, FailsOne, FailsRecording, GoesOnWith, IsTableFor, LacksMemoryToPass, ListsPass, MakesOne, PassesAll, PassesFail, FailsBetween}
 use Rattle.md_copy.specs.Preparing.{IsNoMemory}
 use Rattle.md_copy.specs.Ready.{IsReadyToCopy, IsRecordable}
 use Rattle.md_copy.proofs.Held.HeldChunks.{recordable}
 use Rattle.md_copy.proofs.Held.HeldListed.{GrowsOnly, none_written}
 use Rattle.md_copy.proofs.Held.HeldRecorded.{out_of_sync}
 use Rattle.md_copy.proofs.Plans.Lists.{got_of}
-use Rattle.md_copy.proofs.Passing.PassRecorded.{failed_clear, failed_lacks, grown_held, grown_missing, recorded_held, recorded_lists, recorded_ready}
+use Rattle.md_copy.proofs.Passing.PassRecorded.{failed_clear, failed_lacks, grown_held, grown_missing, recorded_held, recorded_lists, recorded_ready, stretches_held, stretches_ready}
 use Rattle.md_copy.proofs.Passing.PassRecorded as pass
 use Rattle.md_copy.proofs.Plans.PlanChunks.{table_in}
 use Rattle.md_copy.proofs.Ready.Readied.{recovering_target}
@@ -156,15 +156,15 @@ module _ (target : ℕ) (m : MemberView) (none : Bitmap) (first now : MirrorView
   between Why why = record { passes = so.passes; left = chunks_of_rows rows; copied = copied; now = now; passed = so.passed; why = why }
 
   pub lacks_room : PassesFail target m none copied first now NoMemory
-  lacks_room = inl (between (λ left done mid. (copied ≡ done) × (now ≡ mid)) (refl, refl))
+  lacks_room = inl (between (λ left done mid. LacksMemoryToPass target left done copied mid now) (inl (refl, refl)))
 
   pub leaves_now : MayRecordAtEnd target copied now NoMemory
   leaves_now = (recordable target now so.ready, so.held)
 
   pub fails_one : (after : Bitmap) (new : MirrorView) (fault : RebuildFault) → FailsOne target rows copied after now new fault → PassesFail target m none after first new fault
-  fails_one after new NoMemory h = inl (between (λ left done mid. (after ≡ done) × (new ≡ mid)) h)
+  fails_one after new NoMemory h = inl (between (λ left done mid. LacksMemoryToPass target left done after mid new) h)
   fails_one after new TargetFault h = elim h [
-    | inl off ↦ inl (between (λ left done mid. BreaksOffPass target TargetFault left done after mid new) off)
+    | inl off ↦ inl (between (λ left done mid. BreaksOffPass target left done mid new) off)
     | inr fails ↦ inr (between (λ left done mid. FailsRecording target left done mid new) fails)
   ]
   fails_one after new Halted h = absurd h
@@ -176,7 +176,13 @@ module _ (target : ℕ) (m : MemberView) (none : Bitmap) (first now : MirrorView
   fails_one after new EventsFull h = absurd h
 
   pub leaves_one : (after : Bitmap) (new : MirrorView) (fault : RebuildFault) → FailsOne target rows copied after now new fault → MayRecordAtEnd target after new fault
-  leaves_one after new NoMemory h = subst (λ (v : MirrorView). MayRecordAtEnd target after v NoMemory) (sym h.1) (subst (λ (b : Bitmap). MayRecordAtEnd target b now NoMemory) (sym h.0) leaves_now)
+  leaves_one after new NoMemory h = elim h [
+    | inl same ↦ subst (λ (v : MirrorView). MayRecordAtEnd target after v NoMemory) (sym same.1) (subst (λ (b : Bitmap). MayRecordAtEnd target b now NoMemory) (sym same.0) leaves_now)
+    | inr part ↦ (
+      recordable target new (stretches_ready target part.rounds (slots_of_pass part.pass) part.left copied after now new part.stretches so.ready),
+      stretches_held target part.rounds (slots_of_pass part.pass) part.left copied after now new part.stretches so.held,
+    )
+  ]
   leaves_one after new TargetFault h = tt
   leaves_one after new Halted h = absurd h
   leaves_one after new NotSpare h = absurd h
@@ -199,7 +205,7 @@ module _ (target : ℕ) (m : MemberView) (none : Bitmap) (first now : MirrorView
 
     -- its failed slots, by the plan that is told
     pub failed_same : failed_slots slots after ≡ p.failed
-    failed_same = ap (λ xs. failed_slots xs after) slots_same ∙ sym one.records.makes.failed
+    failed_same = ap (λ xs. failed_slots xs after) slots_same ∙ sym one.records.failed
 
     pub mid_ready : IsReadyToCopy target mid
     mid_ready = recorded_ready target (chunks_of_rows rows) p copied after now mid one.records so.ready so.held rows_lacking
@@ -247,10 +253,10 @@ module _ (target : ℕ) (m : MemberView) (none : Bitmap) (first now : MirrorView
     served_mid k d below =
         let s = get_or slots k d in
         let there = subst (λ xs. Contains xs s) slots_same (Contains-get_or slots k d below) in
-        others [] now.array mid.array s.chunk s.source mid_lists (permits.served now.array s.chunk s.source (slot_permitted one.records.makes.is s there)) (λ t none chunk source. (let low = none.1 in omega (arith, low)))
+        others [] now.array mid.array s.chunk s.source mid_lists (permits.served now.array s.chunk s.source (slot_permitted one.records.is s there)) (λ t none chunk source. (let low = none.1 in omega (arith, low)))
 
     pub rising : SlotsRise slots
-    rising = subst SlotsRise (sym slots_same) one.records.makes.is.certified.rising
+    rising = subst SlotsRise (sym slots_same) one.records.is.certified.rising
 
     pub marks_mid : after.chunks ≡ div_ceil mid.array.chunks.size mid.array.chunks.sectors
     marks_mid = mid_held.chunks ∙ mid_ready.sound.chunks.count
@@ -278,7 +284,7 @@ module _ (target : ℕ) (m : MemberView) (none : Bitmap) (first now : MirrorView
 
     fewer : (new : MirrorView) → (told.failed ≡ 0 → ⊥) → ListsAll (failed_slots slots after) mid new → (n : ℕ) × (n + 1 ≤ so.left) × ServesAtMost ServesAs MayServe ListsFailed new.array n
     fewer new some h =
-        (passes_go_on.step [] now.array now.array new.array (chunks_of_rows rows) (chunks_of_rows rows) p (passes_go_on.begin now.array (chunks_of_rows rows)) one.records.makes.is (some_failed some) (next_lists new h)).fewer so.left so.served
+        (passes_go_on.step [] now.array now.array new.array (chunks_of_rows rows) (chunks_of_rows rows) p (passes_go_on.begin now.array (chunks_of_rows rows)) one.records.is (some_failed some) (next_lists new h)).fewer so.left so.served
 
     next_lacks : (new : MirrorView) → ListsAll (failed_slots slots after) mid new → (u : MemberView) → IsMember new.array target u → (s : Slot) → Contains p.failed s → LacksChunk new.array u s.chunk
     next_lacks new h u at_u s there =
@@ -333,7 +339,7 @@ module _ (target : ℕ) (m : MemberView) (none : Bitmap) (first now : MirrorView
 
         next_few : length next ≤ 2 ^ 20
         next_few =
-            let few = few_chunks now so.ready.sound target one.records.makes.member one.records.makes.at in
+            let few = few_chunks now so.ready.sound target one.records.member one.records.at in
             let low : All (λ (s : Slot). s.chunk < div_ceil now.array.chunks.size now.array.chunks.sectors) slots =
             subst (λ (q : Chunks). All (λ (s : Slot). s.chunk < div_ceil q.size q.sectors) slots) mid_lists.chunks slots_low in
             let all = slots_few (div_ceil now.array.chunks.size now.array.chunks.sectors) slots rising low in
@@ -411,7 +417,7 @@ module _ (target : ℕ) (m : MemberView) (none : Bitmap) (first now : MirrorView
           copied = after;
           now = new;
           passed = chain_more target so.passes (missing_chunks first.array m) (chunks_of_rows rows) none copied after first now new p so.passed (listed_one new some lists);
-          why = (refl, refl);
+          why = inl (refl, refl);
         })
         more Halted is lists = absurd is
         more NotSpare is lists = absurd is
@@ -470,7 +476,7 @@ module _ (target : ℕ) (m : MemberView) (none : Bitmap) (first now : MirrorView
 -- ---- there is no table
 module _ (target : ℕ) (m : MemberView) (none : Bitmap) (first : MirrorView) (ready : IsReadyToCopy target first) (is_none : IsSetOf first.array (λ c. false) none) (at : IsMember first.array target m) where
   pub table_stops : (fault : RebuildFault) → RefusesTable first.array m fault → PassesFail target m none none first first fault
-  table_stops NoMemory h = inl (record { passes = []; left = missing_chunks first.array m; copied = none; now = first; passed = (refl, refl, refl); why = (refl, refl) })
+  table_stops NoMemory h = inl (record { passes = []; left = missing_chunks first.array m; copied = none; now = first; passed = (refl, refl, refl); why = inl (refl, refl) })
   table_stops NotSpare h = absurd (h (recovering_target first.array m.superblock.dev_number m.state (ready.recovering m at)))
   table_stops Halted h = absurd h
   table_stops Dirty h = absurd h

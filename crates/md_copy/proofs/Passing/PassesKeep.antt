@@ -1,9 +1,10 @@
 -- What passes leave as it was: the data of all members but the target, the target's beside the chunks that are copied, and all lists but those of the
 -- sources that failed.
-use Rattle.std.proofs.Common.{◌≡◌, ◌≢◌, ◌∙◌, ℕ, ◌+◌, ◌*◌, ◌≤◌, Bool, true, false, List, [], ◌∷◌, ◌++◌, append-nil, length, filter, count_by, get_or, slice_get, Some, refl, sym, ap, subst, arith, inl, inr}
+use Rattle.std.proofs.Common.{◌≡◌, ◌≢◌, ◌∙◌, ℕ, ◌+◌, ◌*◌, ◌<◌, ◌≤◌, Bool, Contains, not, true, false, List, [], ◌∷◌, ◌++◌, append-nil, length, filter, count_by, get_or, slice_get, Some, refl, sym, ap, subst, arith, inl, inr}
 use Rattle.std.proofs.lemmas.Bool.{both_ways, cases_Bool, cases_eq}
 use Rattle.std.proofs.lemmas.List.{length-append}
-use Rattle.std.proofs.lemmas.List.Elements.{Contains-append_cases, filter-append}
+use Rattle.std.proofs.lemmas.List.Elements.{Contains-append_cases, Contains-append_left, Contains-append_right, filter-append}
+use Rattle.std.proofs.lemmas.List.Kept.{AllPairs-filter}
 use Rattle.std.proofs.lemmas.List.Sums.{length-filter}
 use Rattle.std.proofs.lemmas.Option.{same_Some, slice_get-get_or, slice_get_within}
 use Rattle.md_assembly.specs.States.{is_in_sync_as}
@@ -12,11 +13,13 @@ use Rattle.md_bitmap.specs.Marks.{Bitmap, is_set}
 use Rattle.md_cert.specs.declared.slots.Slot.{Slot}
 use Rattle.md_device.specs.Splice.{part}
 use Rattle.md_kept_members.specs.View.{MemberView}
+use Rattle.md_cert.specs.Plans.{SlotsRise}
 use Rattle.md_collect.specs.Reading.{FailsInChunk}
+use Rattle.md_pass.specs.Copied.{failed_slots}
 use Rattle.md_pass.specs.Readings.{is_of}
 use Rattle.md_copy.proofs.PassLemmas.Listing.{lists_add}
 use Rattle.md_copy.specs.PassLaws.Listed.{ListsFailed}
-use Rattle.md_copy.specs.PassLaws.Passes.{PassView, failed_chunks}
+use Rattle.md_copy.specs.PassLaws.Passes.{PassView, failed_chunks, slots_of_pass}
 use Rattle.md_state.specs.DiskWrites.{AtDevice}
 use Rattle.md_state.specs.Members.{IsMember}
 use Rattle.md_state.specs.View.{ArrayView, Disk, MirrorView, of_disks}
@@ -27,8 +30,11 @@ use Rattle.md_copy.specs.Filling.{HaveFailedThere}
 use Rattle.md_copy.proofs.Failing.{HasGrown, grown_by, grown_same, grown_then, none_there, there_since, there_still}
 use Rattle.md_copy.specs.Passing.{AreListedPasses, CopiesAll, ListsPass, RecordsPass}
 use Rattle.md_copy.specs.Rebuilt.{failed_of}
+use Rattle.md_copy.specs.Stretches.{AreRecorded, RecordsStretch, StretchesMadeAsOne, is_after, is_before, slots_after, slots_before}
 use Rattle.md_copy.proofs.Held.HeldRecorded.{data_kept, other_is, target_same}
 use Rattle.md_copy.proofs.Passing.PassRecorded.{lists_recorded}
+use Rattle.md_copy.proofs.Passing.StretchSlots.{filter_there}
+use Rattle.md_copy.proofs.Passing.StretchesTold.{count_parts, early_failed, late_failed, stretches_joined}
 
 -- these bytes lie in the member's data area, beside the chunks that were copied in between
 pub record IsBesideSince (a : ArrayView) (m : MemberView) (before after : Bitmap) (at n : ℕ) : Type 0 where
@@ -135,15 +141,18 @@ keeps_on target l1 l2 f1 f2 x y z u v w one two = record {
           (subst (λ p. IsBesideChunk u.array.chunks p i n c) (sym offset) (h.beside c set (clear_first c clear)));
     }
 
--- ---- one pass
-module _ (target : ℕ) (chunks : List ℕ) (p : PassView) (before after : Bitmap) (v x : MirrorView) (h : RecordsPass target chunks p before after v x) where
+-- ---- one stretch
+module _ (target : ℕ) (slots : List Slot) (before after : Bitmap) (v x : MirrorView) (h : RecordsStretch target slots before after v x) where
+  abbrev failed : List Slot
+  failed = failed_slots slots after
+
   abbrev w : MirrorView
   w = h.filled
 
   same : w.array ≡ v.array
   same = h.makes.copies.filling.array
 
-  made_keeps : PassesKeep target [] p.failed before after v w
+  made_keeps : PassesKeep target [] failed before after v w
   made_keeps =
       let f = h.makes.copies.filling in
       record {
@@ -156,7 +165,7 @@ module _ (target : ℕ) (chunks : List ℕ) (p : PassView) (before after : Bitma
         ];
         others = λ k d e m other at_d at_e at_m i n from to. ap (λ xs. part xs i n) (f.others k d e other at_d at_e).content_kept;
         beside = λ d e m at_d at_e at_m i n b.
-            (let is = same_Some m h.makes.member (sym at_m ∙ h.makes.at) in
+            (let is = same_Some m h.makes.may.member (sym at_m ∙ h.makes.may.at) in
             (h.makes.copies.beside d e at_d at_e).beside i n (λ c set clear. subst (λ (z : MemberView). IsBesideChunk v.array.chunks z.superblock.data_offset i n c) is (b.beside c set clear)));
         kept = h.makes.copies.joined.kept;
         counted = λ k d e at_d at_e. elim (cases_eq k target) [
@@ -212,8 +221,83 @@ module _ (target : ℕ) (chunks : List ℕ) (p : PassView) (before after : Bitma
         ];
       }
 
-  pub pass_keeps : PassesKeep target [] p.failed before after v x
-  pass_keeps = subst (λ fs. PassesKeep target [] fs before after v x) (append-nil p.failed) (keeps_on target [] [] p.failed [] before after after v w x made_keeps stored_keeps)
+  pub stretch_keeps : PassesKeep target [] failed before after v x
+  stretch_keeps = subst (λ fs. PassesKeep target [] fs before after v x) (append-nil failed) (keeps_on target [] [] failed [] before after after v w x made_keeps stored_keeps)
+
+-- ---- of other slots
+keeps_as : (target : ℕ) (fs gs : List Slot) (before after : Bitmap) (v x : MirrorView) → ((role : ℕ) → count_by (is_of role) gs ≡ count_by (is_of role) fs) → ((s : Slot) → Contains gs s → Contains fs s)
+    → PassesKeep target [] fs before after v x → PassesKeep target [] gs before after v x
+keeps_as target fs gs before after v x many within h = record {
+  lists = h.lists;
+  sizes = h.sizes;
+  as_many = h.as_many;
+  honest = h.honest;
+  others = h.others;
+  beside = h.beside;
+  kept = h.kept;
+  counted = h.counted;
+  grown = h.grown;
+  fails = λ k role m at in_role d e at_d at_e is_honest. (let up = h.fails k role m at in_role d e at_d at_e is_honest in let same = many role in omega (arith, up, same));
+  there = λ slot has. h.there slot (within slot has);
+}
+
+pub keeps_untold : (target : ℕ) (fs : List Slot) (before after : Bitmap) (v x : MirrorView) → PassesKeep target [] fs before after v x → PassesKeep target [] [] before after v x
+keeps_untold target fs before after v x h = record {
+  lists = h.lists;
+  sizes = h.sizes;
+  as_many = h.as_many;
+  honest = h.honest;
+  others = h.others;
+  beside = h.beside;
+  kept = h.kept;
+  counted = h.counted;
+  grown = h.grown;
+  fails = λ k role m at in_role d e at_d at_e is_honest. (let up = h.counted k d e at_d at_e in omega (arith, up));
+  there = none_there v x;
+}
+
+-- ---- stretches
+-- of which the slots that failed are left aside
+pub part_keeps : (target : ℕ) (rounds : List ℕ) (slots left : List Slot) (before after : Bitmap) (v x : MirrorView) → AreRecorded target rounds slots left before after v x → PassesKeep target [] [] before after v x
+part_keeps target [] slots left before after v x h =
+    subst (λ (y : MirrorView). PassesKeep target [] [] before after v y) (sym h.2) (subst (λ (b : Bitmap). PassesKeep target [] [] before b v v) (sym h.1) (keeps_none target before v))
+part_keeps target (round ∷ rounds) slots left before after v x h =
+    let stretch = slots_before round slots in
+    keeps_on target [] [] [] [] before h.0 after v h.1 x (keeps_untold target (failed_slots stretch h.0) before h.0 v h.1 (stretch_keeps target stretch before h.0 v h.1 h.2))
+    (part_keeps target rounds (slots_after round slots) left h.0 after h.1 x h.3)
+
+-- a slot is in one part or in the other
+in_part : (round : ℕ) (slots : List Slot) (s : Slot) → Contains slots s → Contains (slots_before round slots ++ slots_after round slots) s
+in_part round slots s there = elim (cases_Bool (is_before round s)) [
+  | inl early ↦ Contains-append_left (slots_before round slots) (slots_after round slots) s (filter_there (is_before round) slots s there early)
+  | inr late ↦ Contains-append_right (slots_before round slots) (slots_after round slots) s (filter_there (is_after round) slots s there (ap not late))
+]
+
+pub stretches_keep : (target : ℕ) (rounds : List ℕ) (slots : List Slot) (before after : Bitmap) (v x : MirrorView) → SlotsRise slots → AreRecorded target rounds slots [] before after v x
+    → PassesKeep target [] (failed_slots slots after) before after v x
+stretches_keep target [] slots before after v x rise h =
+    subst (λ xs. PassesKeep target [] (failed_slots xs after) before after v x) h.0
+    (part_keeps target [] [] [] before after v x (refl, h.1, h.2))
+stretches_keep target (round ∷ rounds) slots before after v x rise h =
+    let stretch = slots_before round slots in
+    let rest = slots_after round slots in
+    let all = failed_slots slots after in
+    let one = subst (λ fs. PassesKeep target [] fs before h.0 v h.1) (early_failed target round rounds slots before after v x h rise) (stretch_keeps target stretch before h.0 v h.1 h.2) in
+    let more = subst (λ fs. PassesKeep target [] fs h.0 after h.1 x) (late_failed target round rounds slots before after v x h rise)
+    (stretches_keep target rounds rest h.0 after h.1 x (AllPairs-filter (λ (a b : Slot). a.chunk < b.chunk) (is_after round) slots rise) h.3) in
+    keeps_as target (slots_before round all ++ slots_after round all) all before after v x
+    (λ role. sym (count_append (is_of role) (slots_before round all) (slots_after round all) ∙ count_parts (is_of role) round all)) (in_part round all)
+    (keeps_on target [] [] (slots_before round all) (slots_after round all) before h.0 after v h.1 x one more)
+
+pub stretches_made_as_one : StretchesMadeAsOne
+stretches_made_as_one target rounds slots before after old new rise h =
+    let keep = stretches_keep target rounds slots before after old new rise h in
+    record { joined = stretches_joined target rounds slots [] before after old new h; lists = keep.lists; counted = keep.fails; there = keep.there }
+
+-- ---- one pass
+pub pass_keeps : (target : ℕ) (chunks : List ℕ) (p : PassView) (before after : Bitmap) (v x : MirrorView) → RecordsPass target chunks p before after v x → PassesKeep target [] p.failed before after v x
+pass_keeps target chunks p before after v x h =
+    subst (λ fs. PassesKeep target [] fs before after v x) (sym h.failed) (stretches_keep target h.stretches.rounds (slots_of_pass p) before after v x h.is.certified.rising h.stretches.all)
 
 -- ---- with its lists
 lists_keep : (target : ℕ) (chunks : List ℕ) (p : PassView) (before after : Bitmap) (v w : MirrorView) → ListsPass target chunks p before after v w → PassesKeep target p.failed p.failed before after v w

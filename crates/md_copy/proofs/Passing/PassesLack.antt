@@ -8,9 +8,10 @@ use Rattle.md_assembly.specs.States.{is_recovering}
 use Rattle.std.proofs.lemmas.Option.{same_Some}
 use Rattle.md_bitmap.specs.declared.chunks.Chunks.{Chunks}
 use Rattle.md_bitmap.specs.Marks.{Bitmap, is_set}
+use Rattle.md_cert.specs.declared.slots.Slot.{Slot}
 use Rattle.md_kept_members.specs.Members.{recorded_member}
 use Rattle.md_kept_members.specs.View.{MemberView}
-use Rattle.md_copy.specs.PassLaws.Passes.{PassView, failed_chunks}
+use Rattle.md_copy.specs.PassLaws.Passes.{PassView, failed_chunks, slots_of_pass}
 use Rattle.md_state.specs.Members.{IsMember}
 use Rattle.md_state.specs.Missing.{is_missing}
 use Rattle.md_state.specs.Steps.Checkpoint.{checked}
@@ -18,6 +19,7 @@ use Rattle.md_state.specs.View.{ArrayView, MirrorView}
 use Rattle.md_rebuild_table.specs.Orphans.{uncopied_chunks}
 use Rattle.md_rebuild_table.specs.Sources.{missing_chunks}
 use Rattle.md_copy.specs.Passing.{AreListedPasses, CopiesAll, ListsPass, RecordsPass}
+use Rattle.md_copy.specs.Stretches.{AreRecorded, RecordsStretch, slots_after, slots_before}
 use Rattle.md_copy.proofs.Held.HeldListed.{GrowsOnly, missing_grown}
 use Rattle.md_copy.proofs.Held.HeldRecorded.{lacked, lacks_still, out_of_sync, recorded_is, target_same}
 
@@ -62,8 +64,8 @@ same_bool true c f g = sym (f refl)
 same_bool false true f g = g refl
 same_bool false false f g = refl
 
--- ---- one pass
-module _ (target : ℕ) (chunks : List ℕ) (p : PassView) (before after : Bitmap) (v x : MirrorView) (h : RecordsPass target chunks p before after v x) where
+-- ---- one stretch
+module _ (target : ℕ) (slots : List Slot) (before after : Bitmap) (v x : MirrorView) (h : RecordsStretch target slots before after v x) where
   same : h.filled.array ≡ v.array
   same = h.makes.copies.filling.array
 
@@ -76,8 +78,8 @@ module _ (target : ℕ) (chunks : List ℕ) (p : PassView) (before after : Bitma
   was_missing : (m : MemberView) → IsMember v.array target m → (c : ℕ) → is_missing h.filled.array h.checkpoints.may.member c ≡ is_missing v.array m c
   was_missing m at c = ap (λ (z : MemberView). is_missing h.filled.array z c) (is_it m at) ∙ ap (λ (b : ArrayView). is_missing b m c) same
 
-  pub pass_lacks : LacksSame target before after v.array x.array
-  pass_lacks = record {
+  pub stretch_lacks : LacksSame target before after v.array x.array
+  stretch_lacks = record {
     chunks = ap (λ (a : ArrayView). a.chunks) h.checkpoints.array ∙ ap (λ (a : ArrayView). a.chunks) same;
     marks = ap (λ (a : ArrayView). a.marks) h.checkpoints.array ∙ ap (λ (a : ArrayView). a.marks) same;
     kept = h.makes.copies.joined.kept;
@@ -89,6 +91,18 @@ module _ (target : ℕ) (chunks : List ℕ) (p : PassView) (before after : Bitma
         (λ is. sym (was_missing m at_m c) ∙ lacked target after h.filled x h.makes.sound h.checkpoints n at_n c is)
         (λ is. lacks_still target after h.filled x h.makes.sound h.checkpoints n at_n c low_w (was_missing m at_m c ∙ is) clear));
   }
+
+pub stretches_lack : (target : ℕ) (rounds : List ℕ) (slots left : List Slot) (before after : Bitmap) (v x : MirrorView) → AreRecorded target rounds slots left before after v x
+    → LacksSame target before after v.array x.array
+stretches_lack target [] slots left before after v x h =
+    subst (λ (y : MirrorView). LacksSame target before after v.array y.array) (sym h.2) (subst (λ (b : Bitmap). LacksSame target before b v.array v.array) (sym h.1) (lacks_none target before v.array))
+stretches_lack target (round ∷ rounds) slots left before after v x h =
+    lacks_on target before h.0 after v.array h.1.array x.array (stretch_lacks target (slots_before round slots) before h.0 v h.1 h.2)
+    (stretches_lack target rounds (slots_after round slots) left h.0 after h.1 x h.3)
+
+-- ---- one pass
+pub pass_lacks : (target : ℕ) (chunks : List ℕ) (p : PassView) (before after : Bitmap) (v x : MirrorView) → RecordsPass target chunks p before after v x → LacksSame target before after v.array x.array
+pass_lacks target chunks p before after v x h = stretches_lack target h.stretches.rounds (slots_of_pass p) [] before after v x h.stretches.all
 
 lists_lacks : (target : ℕ) (chunks : List ℕ) (p : PassView) (before after : Bitmap) (v w : MirrorView) → ListsPass target chunks p before after v w → LacksSame target before after v.array w.array
 lists_lacks target chunks p before after v w h =

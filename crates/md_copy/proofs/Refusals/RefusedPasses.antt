@@ -21,7 +21,7 @@ use Rattle.md_kept_members.specs.TakingBack.{admitted_member}
 use Rattle.md_kept_members.specs.Members.{recorded_member}
 use Rattle.md_kept_members.specs.View.{MemberView}
 use Rattle.md_model.specs.Rebuilding.{lacks}
-use Rattle.md_copy.proofs.PassLemmas.ArrayPasses.{copies_add, passes_go_on}
+use Rattle.md_copy.proofs.PassLemmas.ArrayPasses.{copies_add, part_copied, passes_go_on}
 use Rattle.md_copy.proofs.PassLemmas.Listing.{lists_add}
 use Rattle.md_copy.specs.PassLaws.Listed.{AreCopiedBy, IsArrayPass, ListsFailed, MayServe, ServesAs, most_failures}
 use Rattle.md_copy.specs.PassLaws.Passes.{PassView, ServesAtMost, failed_chunks, slots_of_pass}
@@ -40,11 +40,12 @@ use Rattle.md_rebuild_table.specs.Sources.{missing_chunks}
 use Rattle.md_copy.specs.Filling.{IsFilling}
 use Rattle.md_copy.specs.Leaving.{HasNone, RecordsAtEnd}
 use Rattle.md_copy.specs.Listing.{HasFailedSlot, ListsAll, NotesLists, EndsAtList}
-use Rattle.md_copy.specs.Passing.{AreListedPasses, CopiesAll, EndsBetween, FailsListing, RecordsPass}
+use Rattle.md_copy.specs.Passing.{AreListedPasses, CopiesAll, EndsBetween, FailsListing, LacksMemoryToPass, MakesPart, RecordsPass}
+use Rattle.md_copy.specs.Stretches.{AreRecorded, MayCopySlots, RecordsStretch, slots_after, slots_before}
 use Rattle.md_copy.specs.Enrolled.{LacksMemoryToEnrol, LacksOwnRoom}
 use Rattle.md_copy.specs.Rebuilding.{BeginsRebuild, EndsFilled, EndsStoring, LacksMemoryToRebuild, LacksRoom, LosesTarget, RefusesAtOnce, RefusesRebuild}
 use Rattle.md_copy.specs.Rebuilt.{failed_of}
-use Rattle.md_copy.specs.Refused.{AreListed, Ending, EndsSo, HasEnded, HasHalted, HasMade, IsAdmitted, IsAsBefore, IsLost, IsRebuiltSoFar, IsListedOrFailed, IsRebuiltTo, KeepsDataBut, LacksOwnRoomFor, MakesAllPasses, IsBetweenPasses, HasOwnRoomFor, LacksRoomFor, ListsStand, ListsStandWithin, NotesSome, rebuilt_offset}
+use Rattle.md_copy.specs.Refused.{AreCopiedInPart, AreListed, Ending, EndsSo, HasEnded, HasHalted, HasMade, IsAdmitted, IsAsBefore, IsLost, IsRebuiltSoFar, IsListedOrFailed, IsRebuiltTo, KeepsDataBut, LacksOwnRoomFor, MakesAllPasses, IsBetweenPasses, IsWithinPass, HasOwnRoomFor, LacksRoomFor, ListsStand, ListsStandWithin, NotesSome, rebuilt_offset}
 use Rattle.md_state.specs.DeviceChanges.{StaysHonest}
 use Rattle.md_state.proofs.Stays.{stays_grown}
 use Rattle.md_copy.proofs.Failing.{grown_same, none_there}
@@ -54,9 +55,10 @@ use Rattle.md_copy.proofs.Held.HeldRecorded.{other_is, out_of_sync}
 use Rattle.md_copy.proofs.Listings.ListsKept.{lists_all, lists_chain, of_state}
 use Rattle.md_copy.proofs.Listings.ListsOn.{AtInSync, IsRecordedOn, list_on}
 use Rattle.md_copy.proofs.Passing.PassRecorded.{recorded_lists, recorded_ready}
-use Rattle.md_copy.proofs.Passing.PassesKeep.{PassesKeep, all_keep, chain_keeps, disk_then, failed_last, keeps_none, keeps_on, pass_keeps}
+use Rattle.md_copy.proofs.Passing.PassesKeep.{PassesKeep, all_keep, chain_keeps, disk_then, failed_last, keeps_none, keeps_on, part_keeps, pass_keeps}
 use Rattle.md_copy.proofs.Passing.PassesLack.{all_lacks, orphans_same}
-use Rattle.md_copy.proofs.Passing.PassesTold.{HoldsSoFar, all_copied, begins_holding, chain_copied, chain_holds, filled_ready, listed_holds}
+use Rattle.md_copy.proofs.Passing.PassesTold.{HoldsSoFar, all_copied, begins_holding, chain_copied, chain_holds, filled_ready, holds_alone, listed_holds, one_holds, pass_copied, stretches_hold}
+use Rattle.md_copy.proofs.Passing.StretchesTold.{stretches_joined}
 use Rattle.md_copy.proofs.Ready.Readied.{admitted_is, after_so, may_lowered, ready_of, spare_is, then_but}
 use Rattle.md_copy.proofs.Ready.ReadyStill.{ready_noted}
 use Rattle.md_copy.proofs.Leads.RebuildLeads.{missing_beside}
@@ -77,15 +79,15 @@ role_in_sync (Stale r) role is = absurd cc
 role_in_sync Spare role is = absurd cc
 role_in_sync Faulty role is = absurd cc
 
--- ---- one pass
-pub preserves_filled : (target : ℕ) (v : MirrorView) (copied : Bitmap) (chunks : List ℕ) → HoldsSoFar target v copied chunks → (p : PassView) → IsArrayPass v.array chunks p → (m : MemberView) → IsMember v.array target m
-    → (w : MirrorView) → IsFilling target m (slots_of_pass p) v w → Preserves target v w
-preserves_filled target v copied chunks so p is m at w f =
+-- ---- stretches
+pub preserves_filled : (target : ℕ) (v : MirrorView) (copied : Bitmap) → HoldsSoFar target v copied [] → (slots : List Slot) (may : MayCopySlots target slots copied v) (w : MirrorView) → IsFilling target may.member slots v w
+    → Preserves target v w
+preserves_filled target v copied so slots may w f =
     preserves_same target v w f.array f.as_many
     (λ j d e l other at_d at_e at_l i n from to. ap (λ xs. part xs i n) (f.others j d e other at_d at_e).content_kept)
     (λ d e l at_d at_e at_l i n h.
-    missing_beside target v copied chunks so p is m at d.content e.content (f.on_target d e at_d at_e).same i n
-    (subst (λ (z : MemberView). IsBesideMissing v.array z i n) (same_Some l m (sym at_l ∙ at)) h.beside))
+    missing_beside target v copied so slots may d.content e.content (f.on_target d e at_d at_e).same i n
+    (subst (λ (z : MemberView). IsBesideMissing v.array z i n) (same_Some l may.member (sym at_l ∙ may.at)) h.beside))
 
 filled_stays : (target : ℕ) (m : MemberView) (slots : List Slot) (v w : MirrorView) → IsFilling target m slots v w → (k : ℕ) (d e : Disk) → slice_get v.disks k ≡ Some d → slice_get w.disks k ≡ Some e
     → StaysHonest d e
@@ -96,11 +98,31 @@ filled_stays target m slots v w f k d e at_d at_e = elim (cases_eq k target) [
   | inr other ↦ let kept = f.others k d e other at_d at_e in stays_grown d e (λ f. f.writes ≡ false) kept.honest_kept kept.counted kept.reads_alone
 ]
 
+one_preserves : (target : ℕ) (slots : List Slot) (before after : Bitmap) (v x : MirrorView) → RecordsStretch target slots before after v x → HoldsSoFar target v before [] → Preserves target v x
+one_preserves target slots before after v x h so =
+    preserves_on target v h.filled x (preserves_filled target v before so slots h.makes.may h.filled h.makes.copies.filling)
+    (preserves_recorded target after h.filled x h.makes.sound h.checkpoints)
+
+stretches_preserve : (target : ℕ) (rounds : List ℕ) (slots left : List Slot) (before after : Bitmap) (v x : MirrorView) → AreRecorded target rounds slots left before after v x → HoldsSoFar target v before []
+    → Preserves target v x
+stretches_preserve target [] slots left before after v x h so = subst (Preserves target v) (sym h.2) (preserves_none target v)
+stretches_preserve target (round ∷ rounds) slots left before after v x h so =
+    preserves_on target v h.1 x (one_preserves target (slots_before round slots) before h.0 v h.1 h.2 so)
+    (stretches_preserve target rounds (slots_after round slots) left h.0 after h.1 x h.3 (one_holds target round slots before h.0 v h.1 h.2 so))
+
+stretches_stand : (target : ℕ) (stored : List Slot) (old : ArrayView) (rounds : List ℕ) (slots left : List Slot) (before after : Bitmap) (v x : MirrorView) → AreRecorded target rounds slots left before after v x
+    → ListsStand target stored old v → ListsStand target stored old x
+stretches_stand target stored old [] slots left before after v x h stand = subst (ListsStand target stored old) (sym h.2) stand
+stretches_stand target stored old (round ∷ rounds) slots left before after v x h stand =
+    let one = h.2 in
+    stretches_stand target stored old rounds (slots_after round slots) left h.0 after h.1 x h.3
+    (stand_recorded target stored old h.0 one.filled h.1 one.makes.sound one.checkpoints
+    (stand_filled target stored old one.makes.may.member (slots_before round slots) v one.filled one.makes.copies.filling stand))
+
+-- ---- one pass
 module _ (target : ℕ) (chunks : List ℕ) (p : PassView) (before after : Bitmap) (v x : MirrorView) (h : RecordsPass target chunks p before after v x) (so : HoldsSoFar target v before chunks) where
   pub pass_preserves : Preserves target v x
-  pass_preserves =
-      preserves_on target v h.filled x (preserves_filled target v before chunks so p h.makes.is h.makes.member h.makes.at h.filled h.makes.copies.filling)
-      (preserves_recorded target after h.filled x h.makes.sound h.checkpoints)
+  pass_preserves = stretches_preserve target h.stretches.rounds (slots_of_pass p) [] before after v x h.stretches.all (holds_alone target v before chunks so)
 
   recovers : (m : MemberView) → IsMember x.array target m → is_recovering m.state ≡ true
   recovers = (recorded_ready target chunks p before after v x h so.ready so.held so.lacking).recovering
@@ -204,12 +226,21 @@ module _ (target : ℕ) (old : MirrorView) (sound : IsConsistent old) (m : Membe
       let same = lists.out target l.0 n l.1 there (out_of_sync l.0.state (recovering l.0 l.1)) in
       (l.0, l.1, so_far_same l.0 n same))
 
+  stretches_to : (rounds : List ℕ) (slots left : List Slot) (before after : Bitmap) (v x : MirrorView) → AreRecorded target rounds slots left before after v x → HoldsSoFar target v before [] → Preserves target old v
+      → To v before → To x after
+  stretches_to [] slots left before after v x h so pre to = subst (λ (b : Bitmap). To x b) (sym h.1) (subst (λ (u : MirrorView). To u before) (sym h.2) to)
+  stretches_to (round ∷ rounds) slots left before after v x h so pre to =
+      let one = h.2 in
+      let stretch = slots_before round slots in
+      let f = one.makes.copies.filling in
+      let filled = preserves_on target old v one.filled pre (preserves_filled target v before so stretch one.makes.may one.filled f) in
+      stretches_to rounds (slots_after round slots) left h.0 after h.1 x h.3 (one_holds target round slots before h.0 v h.1 one so)
+      (preserves_on target old v h.1 pre (one_preserves target stretch before h.0 v h.1 one so))
+      (grown_to target old sound m at one.filled h.1 one.makes.sound filled before h.0 one.checkpoints (array_to v one.filled before f.array to) (so.held.chunks ∙ ap (λ (b : Bitmap). b.chunks) pre.marks)
+      (λ c low set. one.makes.copies.joined.kept c set))
+
   pass_to : (chunks : List ℕ) (p : PassView) (before after : Bitmap) (v x : MirrorView) (h : RecordsPass target chunks p before after v x) → HoldsSoFar target v before chunks → Preserves target old v → To v before → To x after
-  pass_to chunks p before after v x h so pre to =
-      let f = h.makes.copies.filling in
-      let filled = preserves_on target old v h.filled pre (preserves_filled target v before chunks so p h.makes.is h.makes.member h.makes.at h.filled f) in
-      grown_to target old sound m at h.filled x h.makes.sound filled before after h.checkpoints (array_to v h.filled before f.array to) (so.held.chunks ∙ ap (λ (b : Bitmap). b.chunks) pre.marks)
-      (λ c low set. h.makes.copies.joined.kept c set)
+  pass_to chunks p before after v x h so pre to = stretches_to h.stretches.rounds (slots_of_pass p) [] before after v x h.stretches.all (holds_alone target v before chunks so) pre to
 
   chain_to : (passes : List PassView) (chunks left : List ℕ) (before after : Bitmap) (v w : MirrorView) → AreListedPasses target passes chunks left before after v w → HoldsSoFar target v before chunks → Preserves target old v
       → To v before → To w after
@@ -269,7 +300,7 @@ chain_listed target [] chunks left before after v w h so = (ap (λ (u : MirrorVi
 chain_listed target (p ∷ ps) chunks left before after v w h so =
     let one = h.2 in
     let between = recorded_lists target chunks p before h.0 v one.recorded one.records so.ready so.held so.lacking in (
-      one.records.makes.is,
+      one.records.is,
       one.some,
       (
         h.1.array,
@@ -436,7 +467,7 @@ module _ (target : ℕ) (old ready : MirrorView) (none : Bitmap) (b : BeginsRebu
         at = b.at;
         pre = preserves_on target old ready filled begun
             (preserves_on target ready h.now filled (chain_preserves target h.listed chunks h.left none h.mid ready h.now h.passed so) (pass_preserves target h.left h.last h.mid copied h.now filled h.records then));
-        made = made_so h.listed (h.last ∷ []) [] copied h.left h.mid h.now h.passed (one_planned h.now.array h.left h.last h.records.makes.is) (omega arith);
+        made = made_so h.listed (h.last ∷ []) [] copied h.left h.mid h.now h.passed (one_planned h.now.array h.left h.last h.records.is) (omega arith);
         grows = grows_as target fs (failed_of h.listed ++ []) fs (failed_of (h.listed ++ h.last ∷ [])) old filled (append-nil (failed_of h.listed) ∙ sym is) (ap failed_of (sym h.passes_are)) grown;
         sound = h.records.sound;
         running = may.goes.idle.running;
@@ -497,24 +528,54 @@ module _ (target : ℕ) (old ready : MirrorView) (none : Bitmap) (b : BeginsRebu
     }
 
     -- one more was begun
-    ends_filled : (p : PassView) → IsArrayPass e.now.array e.left p → (m : MemberView) → IsMember e.now.array target m → (w : MirrorView) → IsFilling target m (slots_of_pass p) e.now w → IsConsistent w
-        → EndsAt target (ended e.passes (bare p ∷ []) [] e.copied) old w
-    ends_filled p is m at w f sound = record {
-      at = b.at;
-      pre = preserves_on target old e.now w there (preserves_filled target e.now e.copied e.left so_far p is m at w f);
-      made = made_so e.passes (bare p ∷ []) [] e.copied e.left e.copied e.now e.passed (one_planned e.now.array e.left (bare p) (bare_is e.now.array e.left p is)) (omega arith);
-      grows = grows_as target fs (fs ++ []) fs (failed_of (e.passes ++ bare p ∷ [])) old w (append-nil fs) (failed_append e.passes (bare p ∷ []) ∙ append-nil fs)
-          (grows_rest target fs fs old e.now w there.then there.disk_then grown
-          (λ k x y at_x at_y. ap (λ (z : MemberView). z.bad) (same_Some y x (sym at_y ∙ ap (λ (a : ArrayView). slice_get a.members k) f.array ∙ at_x)))
-          (λ k x y at_x at_y. ap (λ (z : MemberView). z.state) (same_Some y x (sym at_y ∙ ap (λ (a : ArrayView). slice_get a.members k) f.array ∙ at_x)))
-          (filled_stays target m (slots_of_pass p) e.now w f));
-      sound = sound;
-      running = ap (λ (a : ArrayView). a.halted) f.array ∙ so_far.ready.goes.idle.running;
-      resynced = ap (λ (a : ArrayView). a.resynced) f.array ∙ so_far.ready.goes.resynced ∙ sym b.may.resynced_target.resynced;
-      recovers = λ n at_n. so_far.ready.recovering n (ap (λ (a : ArrayView). slice_get a.members target) (sym f.array) ∙ at_n);
-      stand = stand_filled target fs old.array m (slots_of_pass p) e.now w f stand_now;
-      to = array_to target old b.sound b.member b.at e.now w e.copied f.array to_now;
-    }
+    module _ (copied : Bitmap) (begun_at : MirrorView) (some : MakesPart target e.left e.copied copied e.now begun_at) where
+      so_begun : HoldsSoFar target begun_at copied []
+      so_begun = stretches_hold target some.rounds (slots_of_pass some.pass) some.left e.copied copied e.now begun_at some.stretches (holds_alone target e.now e.copied e.left so_far)
+
+      kept_part : PassesKeep target (fs ++ []) (fs ++ []) none copied ready begun_at
+      kept_part = keeps_on target fs [] fs [] none e.copied copied ready e.now begun_at kept (part_keeps target some.rounds (slots_of_pass some.pass) some.left e.copied copied e.now begun_at some.stretches)
+
+      ends_part : EndsAt target (ended e.passes (bare some.pass ∷ []) [] copied) old begun_at
+      ends_part = record {
+        at = b.at;
+        pre = preserves_on target old e.now begun_at there
+            (stretches_preserve target some.rounds (slots_of_pass some.pass) some.left e.copied copied e.now begun_at some.stretches (holds_alone target e.now e.copied e.left so_far));
+        made = made_so e.passes (bare some.pass ∷ []) [] copied e.left e.copied e.now e.passed (one_planned e.now.array e.left (bare some.pass) (bare_is e.now.array e.left some.pass some.is)) (omega arith);
+        grows = grows_as target (fs ++ []) (fs ++ []) (fs ++ []) (failed_of (e.passes ++ bare some.pass ∷ [])) old begun_at refl (failed_append e.passes (bare some.pass ∷ []))
+            (grows_from target old ready starts (states_begun target old ready none b) (fs ++ []) (fs ++ []) none copied begun_at kept_part);
+        sound = so_begun.ready.sound;
+        running = so_begun.ready.goes.idle.running;
+        resynced = so_begun.ready.goes.resynced ∙ sym b.may.resynced_target.resynced;
+        recovers = so_begun.ready.recovering;
+        stand = stretches_stand target fs old.array some.rounds (slots_of_pass some.pass) some.left e.copied copied e.now begun_at some.stretches stand_now;
+        to = stretches_to target old b.sound b.member b.at some.rounds (slots_of_pass some.pass) some.left e.copied copied e.now begun_at some.stretches (holds_alone target e.now e.copied e.left so_far) there to_now;
+      }
+
+      copied_part : AreCopiedInPart (ended e.passes (bare some.pass ∷ []) [] copied)
+      copied_part =
+          let joined = stretches_joined target some.rounds (slots_of_pass some.pass) some.left e.copied copied e.now begun_at some.stretches in
+          record { listed = λ c is. joined.kept c ((by_now c).1 is); within = part_copied e.passes (bare some.pass) e.copied copied by_now joined refl }
+
+      -- and its next stretch
+      ends_filled : (slots : List Slot) (may : MayCopySlots target slots copied begun_at) (w : MirrorView) → IsFilling target may.member slots begun_at w → IsConsistent w
+          → EndsAt target (ended e.passes (bare some.pass ∷ []) [] copied) old w
+      ends_filled slots may w f sound =
+          let z = ends_part in
+          record {
+            at = b.at;
+            pre = preserves_on target old begun_at w z.pre (preserves_filled target begun_at copied so_begun slots may w f);
+            made = z.made;
+            grows = grows_rest target (fs ++ []) (failed_of (e.passes ++ bare some.pass ∷ [])) old begun_at w z.pre.then z.pre.disk_then z.grows
+                (λ k x y at_x at_y. ap (λ (l : MemberView). l.bad) (same_Some y x (sym at_y ∙ ap (λ (a : ArrayView). slice_get a.members k) f.array ∙ at_x)))
+                (λ k x y at_x at_y. ap (λ (l : MemberView). l.state) (same_Some y x (sym at_y ∙ ap (λ (a : ArrayView). slice_get a.members k) f.array ∙ at_x)))
+                (filled_stays target may.member slots begun_at w f);
+            sound = sound;
+            running = ap (λ (a : ArrayView). a.halted) f.array ∙ z.running;
+            resynced = ap (λ (a : ArrayView). a.resynced) f.array ∙ z.resynced;
+            recovers = λ n at_n. z.recovers n (ap (λ (a : ArrayView). slice_get a.members target) (sym f.array) ∙ at_n);
+            stand = stand_filled target fs old.array may.member slots begun_at w f z.stand;
+            to = array_to target old b.sound b.member b.at begun_at w copied f.array z.to;
+          }
 
     -- it is recorded, and what failed in it is listed in memory, or the first of it
     ends_noted : (after : Bitmap) (p : PassView) (x : MirrorView) → RecordsPass target e.left p e.copied after e.now x → (taken rest : List Slot) → p.failed ≡ taken ++ rest → (z : MirrorView) → NotesLists taken x z
@@ -529,7 +590,7 @@ module _ (target : ℕ) (old ready : MirrorView) (none : Bitmap) (b : BeginsRebu
         record {
           at = b.at;
           pre = preserves_on target old e.now z there (preserves_on target e.now x z pass listing);
-          made = made_so e.passes (p ∷ []) taken after e.left e.copied e.now e.passed (one_planned e.now.array e.left p records.makes.is) (omega arith);
+          made = made_so e.passes (p ∷ []) taken after e.left e.copied e.now e.passed (one_planned e.now.array e.left p records.is) (omega arith);
           grows = grows_as target ((fs ++ []) ++ taken) (fs ++ taken) ((fs ++ p.failed) ++ []) (failed_of (e.passes ++ p ∷ [])) old z (ap (λ xs. xs ++ taken) (sym (append-nil fs)))
               (failed_append e.passes (p ∷ []) ∙ ap (λ xs. fs ++ xs) (append-nil p.failed) ∙ sym (append-nil (fs ++ p.failed)))
               (grows_from target old ready starts (states_begun target old ready none b) ((fs ++ []) ++ taken) ((fs ++ p.failed) ++ []) none after z all);
@@ -538,26 +599,24 @@ module _ (target : ℕ) (old ready : MirrorView) (none : Bitmap) (b : BeginsRebu
           resynced = may.goes.resynced ∙ sym b.may.resynced_target.resynced;
           recovers = may.recovering;
           stand = stand_noted target fs old.array taken x z notes
-              (stand_recorded target fs old.array after records.filled x records.makes.sound records.checkpoints
-              (stand_filled target fs old.array records.makes.member (slots_of_pass p) e.now records.filled records.makes.copies.filling stand_now));
+              (stretches_stand target fs old.array records.stretches.rounds (slots_of_pass p) [] e.copied after e.now x records.stretches.all stand_now);
           to = noted_to target old b.sound b.member b.at x z after taken may_x.recovering notes
               (pass_to target old b.sound b.member b.at e.left p e.copied after e.now x records so_far there to_now);
         }
 
     -- what was copied then
     by_more : (after : Bitmap) (p : PassView) (x : MirrorView) → RecordsPass target e.left p e.copied after e.now x → AreCopiedBy (e.passes ++ p ∷ []) after
-    by_more after p x records = copies_add.more e.passes p e.copied after by_now records.makes.copies.joined records.makes.failed records.makes.uncopied
+    by_more after p x records = pass_copied target e.passes e.left p e.copied after e.now x records by_now
 
   -- ---- why it ended
   -- memory was refused
   abbrev Refused : ArrayView → Ending → Type 0
-  Refused a s = IsBetweenPasses s ⊎ (NotesSome s (λ next. Unit {0}) ⊎ HasOwnRoomFor target s old.array a)
+  Refused a s = (IsBetweenPasses s × AreCopiedBy s.listed s.copied) ⊎ (IsWithinPass s ⊎ ((NotesSome s (λ next. Unit {0}) ⊎ HasOwnRoomFor target s old.array a) × AreCopiedBy (s.listed ++ s.last) s.copied))
 
   record LacksSo (after : Bitmap) (stopped : MirrorView) : Type 0 where
     s : Ending
     ends : EndsAt target s old stopped
     when : Refused stopped.array s
-    by : AreCopiedBy (s.listed ++ s.last) s.copied
     left : after.chunks ≡ stopped.array.marks.chunks → IsSubset after s.copied
 
   -- all passes are made
@@ -592,22 +651,28 @@ module _ (target : ℕ) (old ready : MirrorView) (none : Bitmap) (b : BeginsRebu
 
   lacks_memory : (after : Bitmap) (stopped : MirrorView) → LacksMemoryToRebuild target b.now none after ready stopped → LacksSo after stopped
   lacks_memory after stopped (inl e) =
-      let Why : List ℕ → Bitmap → MirrorView → Type 0 = λ left copied now. (after ≡ copied) × (stopped ≡ now) in
-      record {
-        s = ended e.passes [] [] e.copied;
-        ends = subst (EndsAt target (ended e.passes [] [] e.copied) old) (sym e.why.1) (ends_now Why e);
-        when = inl (record { last = refl; noted = refl });
-        by = subst (λ ps. AreCopiedBy ps e.copied) (sym (append-nil e.passes)) (by_now Why e);
-        left = λ many c low set. subst (λ (b : Bitmap). is_set b.bytes c ≡ true) e.why.0 set;
-      }
+      let Why : List ℕ → Bitmap → MirrorView → Type 0 = λ left copied now. LacksMemoryToPass target left copied after now stopped in
+      elim e.why [
+        | inl same ↦ record {
+          s = ended e.passes [] [] e.copied;
+          ends = subst (EndsAt target (ended e.passes [] [] e.copied) old) (sym same.1) (ends_now Why e);
+          when = inl (record { last = refl; noted = refl }, by_now Why e);
+          left = λ many c low set. subst (λ (b : Bitmap). is_set b.bytes c ≡ true) same.0 set;
+        }
+        | inr some ↦ record {
+          s = ended e.passes (bare some.pass ∷ []) [] after;
+          ends = ends_part Why e after stopped some;
+          when = inr (inl (record { pass = bare some.pass; last = refl; noted = refl; copied = copied_part Why e after stopped some }));
+          left = λ many c low set. set;
+        }
+      ]
   lacks_memory after stopped (inr (inl e)) =
       let Why : List ℕ → Bitmap → MirrorView → Type 0 = λ left copied now. FailsListing target NoMemory left copied after now stopped in
       let f = e.why in
       record {
         s = ended e.passes (f.pass ∷ []) f.fails.taken after;
         ends = ends_noted Why e after f.pass f.recorded f.records f.fails.taken (f.fails.next ∷ f.fails.rest) f.fails.slots stopped f.fails.notes;
-        when = inr (inl (record { pass = f.pass; last = refl; next = f.fails.next; rest = f.fails.rest; slots = f.fails.slots; why = tt }));
-        by = by_more Why e after f.pass f.recorded f.records;
+        when = inr (inr (inl (record { pass = f.pass; last = refl; next = f.fails.next; rest = f.fails.rest; slots = f.fails.slots; why = tt }), by_more Why e after f.pass f.recorded f.records));
         left = λ many c low set. set;
       }
   lacks_memory after stopped (inr (inr e)) =
@@ -616,8 +681,7 @@ module _ (target : ℕ) (old ready : MirrorView) (none : Bitmap) (b : BeginsRebu
       record {
         s = ended c.listed (c.last ∷ []) [] e.copied;
         ends = subst (EndsAt target (ended c.listed (c.last ∷ []) [] e.copied) old) (sym e.why.unchanged) (ends_copied e.passes e.copied e.filled c);
-        when = inr (inr (record { all = all_made Why e; room = subst (λ (v : MirrorView). HasRoomInLog target e.kept e.orphans v.array) (sym e.why.unchanged) e.why.room }));
-        by = by_all e.passes e.copied e.filled c;
+        when = inr (inr (inr (record { all = all_made Why e; room = subst (λ (v : MirrorView). HasRoomInLog target e.kept e.orphans v.array) (sym e.why.unchanged) e.why.room }), by_all e.passes e.copied e.filled c));
         left = left_of Why e after stopped e.why.unchanged e.why.left;
       }
 
@@ -779,9 +843,11 @@ module _ (target : ℕ) (old ready : MirrorView) (none : Bitmap) (b : BeginsRebu
             }
 
     refused_then : Refused stopped.array s → Refused new.array (with_copied s.copied s)
-    refused_then (inl between) = inl (record { last = between.last; noted = between.noted })
-    refused_then (inr (inl some)) = inr (inl (some_with s.copied s (λ next. Unit {0}) some))
-    refused_then (inr (inr own)) = inr (inr (record { all = all_with s old.array own.all; room = has_room_then own.all.kept own.all.orphans own.room }))
+    refused_then (inl (between, by)) = inl (record { last = between.last; noted = between.noted }, by)
+    refused_then (inr (inl h)) =
+        inr (inl (record { pass = h.pass; last = h.last; noted = h.noted; copied = record { listed = h.copied.listed; within = h.copied.within } }))
+    refused_then (inr (inr (inl some, by))) = inr (inr (inl (some_with s.copied s (λ next. Unit {0}) some), by))
+    refused_then (inr (inr (inr own, by))) = inr (inr (inr (record { all = all_with s old.array own.all; room = has_room_then own.all.kept own.all.orphans own.room }), by))
 
     room_then : (k : ℕ) → NoRoom k stopped.array s → NoRoom k new.array s
     room_then k (inl own) =
@@ -951,28 +1017,30 @@ module _ (target : ℕ) (old ready : MirrorView) (none : Bitmap) (b : BeginsRebu
 
   ended_target : (new : MirrorView) → LosesTarget target b.now none ready new → HasEnded target TargetFault old new
   ended_target new (inl e) =
-      let f = e.why.1 in
-      let z = ends_filled _ e f.pass f.is f.member f.at new f.breaks.filling f.sound in
-      has_ended target TargetFault (ended e.passes (bare f.pass ∷ []) [] e.copied) old new new new b.at z.pre z.grows (rest_none target new) (lasts_none target TargetFault new)
-      (stays_same target TargetFault new.array new.array refl) z.resynced z.made
+      let t = e.why in
+      let z = ends_part _ e t.copied t.begun t.part in
+      let w = ends_filled _ e t.copied t.begun t.part (slots_before t.round t.part.left) t.why.may new t.why.breaks.filling t.why.sound in
+      has_ended target TargetFault (ended e.passes (bare t.part.pass ∷ []) [] t.copied) old new new new b.at w.pre w.grows (rest_none target new) (lasts_none target TargetFault new)
+      (stays_same target TargetFault new.array new.array refl) w.resynced w.made
       (λ now at_now. record {
-        running = z.running;
-        failed = fails_after target target (failed_of e.passes) (failed_of e.passes) old e.now new (there _ e) (grown _ e) f.breaks.failed;
-        target_is = inr (record { recovering = z.recovers now at_now; to = z.to now at_now }, inl (by_now _ e));
+        running = w.running;
+        failed = fails_after target target (failed_of e.passes ++ []) (failed_of (e.passes ++ bare t.part.pass ∷ [])) old t.begun new z.pre z.grows t.why.breaks.failed;
+        target_is = inr (record { recovering = w.recovers now at_now; to = w.to now at_now }, inl (copied_part _ e t.copied t.begun t.part));
         noted = refl;
-        stand = z.stand;
+        stand = w.stand;
       })
   ended_target new (inr (inl e)) =
-      let f = e.why in
-      let z = ends_filled _ e f.pass f.makes.is f.makes.member f.makes.at f.filled f.makes.copies.filling f.makes.sound in
-      has_ended target TargetFault (ended e.passes (bare f.pass ∷ []) [] e.copied) old f.filled new new b.at z.pre z.grows (rest_unrecordable target f.after f.filled new f.makes.sound f.fails) (lasts_none target TargetFault new)
+      let t = e.why in
+      let f = t.why in
+      let z = ends_filled _ e t.copied t.begun t.part (slots_before t.round t.part.left) f.makes.may f.filled f.makes.copies.filling f.makes.sound in
+      has_ended target TargetFault (ended e.passes (bare t.part.pass ∷ []) [] t.copied) old f.filled new new b.at z.pre z.grows (rest_unrecordable target f.after f.filled new f.makes.sound f.fails) (lasts_none target TargetFault new)
       (stays_same target TargetFault f.filled.array new.array f.fails.array) z.resynced z.made
       (λ now at_now. record {
         running = ap (λ (a : ArrayView). a.halted) f.fails.array ∙ z.running;
-        failed = fails_after target target (failed_of e.passes ++ []) (failed_of (e.passes ++ bare f.pass ∷ [])) old f.filled new z.pre z.grows f.fails.disks.failed;
+        failed = fails_after target target (failed_of e.passes ++ []) (failed_of (e.passes ++ bare t.part.pass ∷ [])) old f.filled new z.pre z.grows f.fails.disks.failed;
         target_is =
             (let was = ap (λ (a : ArrayView). slice_get a.members target) (sym f.fails.array) ∙ at_now in
-            inr (record { recovering = z.recovers now was; to = z.to now was }, inl (by_now _ e)));
+            inr (record { recovering = z.recovers now was; to = z.to now was }, inl (copied_part _ e t.copied t.begun t.part)));
         noted = refl;
         stand = stand_unrecorded target (failed_of e.passes) old.array f.after f.filled new f.fails z.stand;
       })
@@ -1198,7 +1266,7 @@ module _ (target : ℕ) where
       (λ now there. record {
         running = ap (λ (v : MirrorView). v.array.halted) same ∙ h.may.resynced_target.has_target.running;
         target_is = inl (as_before old new h.member now h.at there (still_same target old new (ap (λ (v : MirrorView). v.array) same)));
-        when = inl (record { last = refl; noted = refl });
+        when = inl (record { last = refl; noted = refl }, inl (as_before old new h.member now h.at there (still_same target old new (ap (λ (v : MirrorView). v.array) same))));
         stand = stand_none target old.array new;
       })
   refused_ended old new sound NoMemory (inr (inl h)) =
@@ -1209,7 +1277,7 @@ module _ (target : ℕ) where
       (λ now there. record {
         running = lacks.first.stores.ready.halted ∙ l.may.idle.running;
         target_is = inl (as_before old new h.member now h.at there (l.still new (still_stored target mid new lacks.first.stores)));
-        when = inl (record { last = refl; noted = refl });
+        when = inl (record { last = refl; noted = refl }, inl (as_before old new h.member now h.at there (l.still new (still_stored target mid new lacks.first.stores))));
         stand = stand_none target old.array new;
       })
   refused_ended old new sound NoMemory (inr (inr h)) =
@@ -1219,8 +1287,8 @@ module _ (target : ℕ) where
       ended_leaving target old e.ready e.none e.begins NoMemory x.s h.copied h.stopped new x.ends h.leaves x.s.copied
       (λ now there. record {
         running = runs_then target old e.ready e.none e.begins NoMemory x.s h.copied h.stopped new x.ends h.leaves;
-        target_is = inr (so_far_then target old e.ready e.none e.begins NoMemory x.s h.copied h.stopped new x.ends h.leaves x.s.copied to now there, x.by);
-        when = refused_then target old e.ready e.none e.begins NoMemory x.s h.copied h.stopped new x.ends h.leaves x.when;
+        target_is = inr (so_far_then target old e.ready e.none e.begins NoMemory x.s h.copied h.stopped new x.ends h.leaves x.s.copied to now there);
+        when = elim (refused_then target old e.ready e.none e.begins NoMemory x.s h.copied h.stopped new x.ends h.leaves x.when) [ inl between ↦ inl (between.0, inr between.1) | inr later ↦ inr later ];
         stand = stand_then target old e.ready e.none e.begins NoMemory x.s h.copied h.stopped new x.ends h.leaves;
       })
   refused_ended old new sound (LogFull k) h =

@@ -15,7 +15,7 @@ use Rattle.md_rebuild_table.specs.Beginning.{CannotRebuild, MayBeginRebuild}
 use Rattle.md_copy.specs.declared.rebuilt.Rebuilt.{Rebuilt}
 use Rattle.md_copy.specs.Enrolled.{EnrolsCopied, FailsCopied, HasSets}
 use Rattle.md_copy.specs.Leaving.{LeavesSo}
-use Rattle.md_copy.specs.Passing.{BreaksOffPass, EndsBetween, FailsListing, PassesAll, PassesFail}
+use Rattle.md_copy.specs.Passing.{EndsBetween, FailsListing, PassesAll, PassesFail}
 use Rattle.md_copy.specs.Ready.{IsReadyToCopy}
 use Rattle.md_copy.specs.Readying.{EndsAdmitted, FailsAdmission, LacksAdmission, LowersTarget, RefusesToReady}
 use Rattle.md_copy.specs.Rebuilding.{BeginsRebuild, EndsReadied, EndsStoring, FillsBy, LacksMemoryToRebuild, LacksRoom, LosesSource, LosesTarget, Rebuilds, RebuildsReadied, RefusesRebuild, EndsAfterReady}
@@ -75,7 +75,7 @@ module _ (target : ℕ) (m : MemberView) (none : Bitmap) (ready : MirrorView) wh
   passes_stop after new (LogFull k) h = inl h
   passes_stop after new (MetadataFault k) h = with_set (λ b left copied now. FailsListing target (MetadataFault k) left copied b now new) after h
   passes_stop after new TargetFault h = elim h [
-    | inl off ↦ inl (with_set (λ b left copied now. BreaksOffPass target TargetFault left copied b now new) after off)
+    | inl off ↦ inl off
     | inr fails ↦ inr (inl fails)
   ]
   passes_stop after new Halted h = absurd h

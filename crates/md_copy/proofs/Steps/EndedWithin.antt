@@ -3,7 +3,7 @@ use Rattle.std.proofs.Common.{◌≡◌, ◌∙◌, ℕ, ◌<◌, List, length, 
 use Rattle.std.proofs.lemmas.Option.{slice_get_within}
 use Rattle.md_bitmap.specs.Marks.{Bitmap}
 use Rattle.md_kept_members.specs.View.{MemberView}
-use Rattle.md_copy.specs.PassLaws.Passes.{PassView}
+use Rattle.md_copy.specs.PassLaws.Passes.{PassView, slots_of_pass}
 use Rattle.md_state.specs.Members.{IsMember}
 use Rattle.md_state.specs.View.{ArrayView, MirrorView}
 use Rattle.md_array.specs.Consistency.{IsConsistent}
@@ -11,9 +11,9 @@ use Rattle.md_rebuild_table.specs.declared.fault.RebuildFault.{RebuildFault}
 use Rattle.md_rebuild_table.specs.declared.fault.RebuildFault.TheVariants.{Halted, NotSpare, Dirty, InFlight, LogFull, NoMemory, TargetFault, MetadataFault, EventsFull}
 use Rattle.md_rebuild_table.specs.Sources.{missing_chunks}
 use Rattle.md_copy.specs.Listing.{EndsNoting}
-use Rattle.md_copy.specs.Passing.{CopiesAll, EndsBetween, FailsListing}
+use Rattle.md_copy.specs.Passing.{CopiesAll, EndsBetween, FailsListing, LacksMemoryToPass, MakesPart}
 use Rattle.md_copy.specs.Rebuilding.{LacksMemoryToRebuild, LacksRoom, LosesTarget, EndsAfterReady}
-use Rattle.md_copy.proofs.Passing.PassesLack.{all_lacks, chain_lacks, pass_lacks}
+use Rattle.md_copy.proofs.Passing.PassesLack.{all_lacks, chain_lacks, pass_lacks, stretches_lack}
 
 -- the mirror has the target
 abbrev HasIt : ℕ → MirrorView → Type 0
@@ -57,8 +57,15 @@ module _ (target : ℕ) (m : MemberView) (none : Bitmap) (ready : MirrorView) (a
   within : (v : MirrorView) → HasIt target v → target < length v.array.members
   within v n = slice_get_within v.array.members target n.0 n.1
 
+  -- within a pass
+  in_part : (left : List ℕ) (copied after : Bitmap) (now begun : MirrorView) → HasIt target now → MakesPart target left copied after now begun → HasIt target begun
+  in_part left copied after now begun n part = (stretches_lack target part.rounds (slots_of_pass part.pass) part.left copied after now begun part.stretches).there n.0 n.1
+
   memory : (after : Bitmap) (new : MirrorView) → LacksMemoryToRebuild target m none after ready new → HasIt target new
-  memory after new (inl e) = same_has target e.now new (ap (λ (v : MirrorView). v.array) e.why.1) (between (λ left copied now. (after ≡ copied) × (new ≡ now)) e)
+  memory after new (inl e) = elim e.why [
+    | inl same ↦ same_has target e.now new (ap (λ (v : MirrorView). v.array) same.1) (between (λ left copied now. LacksMemoryToPass target left copied after now new) e)
+    | inr part ↦ in_part e.left e.copied after e.now new (between (λ left copied now. LacksMemoryToPass target left copied after now new) e) part
+  ]
   memory after new (inr (inl e)) = noting NoMemory e.left e.copied after e.now new (between _ e) e.why e.why.fails
   memory after new (inr (inr e)) = same_has target e.filled new (ap (λ (v : MirrorView). v.array) e.why.unchanged) (copied_has e.passes e.copied e.filled e.fills.copies)
 
@@ -68,8 +75,10 @@ module _ (target : ℕ) (m : MemberView) (none : Bitmap) (ready : MirrorView) (a
       same_has target e.1.filled new (ap (λ (v : MirrorView). v.array) e.1.why.unchanged) (copied_has e.1.passes e.1.copied e.1.filled e.1.fills.copies)
 
   unwritten : (new : MirrorView) → LosesTarget target m none ready new → HasIt target new
-  unwritten new (inl e) = same_has target e.now new e.why.1.breaks.filling.array (between _ e)
-  unwritten new (inr (inl e)) = same_has target e.now new (e.why.fails.array ∙ e.why.makes.copies.filling.array) (between _ e)
+  unwritten new (inl e) =
+      (let s = e.why in same_has target s.begun new s.why.breaks.filling.array (in_part e.left e.copied s.copied e.now s.begun (between _ e) s.part))
+  unwritten new (inr (inl e)) =
+      (let s = e.why in same_has target s.begun new (s.why.fails.array ∙ s.why.makes.copies.filling.array) (in_part e.left e.copied s.copied e.now s.begun (between _ e) s.part))
   unwritten new (inr (inr e)) = same_has target e.filled new e.why.array (copied_has e.passes e.copied e.filled e.fills.copies)
 
   pub stopped_within : (after : Bitmap) (stopped : MirrorView) (fault : RebuildFault) → EndsAfterReady target m none after ready stopped fault → IsConsistent stopped → target < length stopped.array.members

@@ -6,7 +6,7 @@ use Rattle.md_assembly.proofs.Indices.{got_within}
 use Rattle.md_array.proofs.General.Answered.{ok_gives}
 use Rattle.md_plan.specs.declared.planner.Planned.{Planned}
 use Rattle.md_copy.specs.Passing.{PassesAll}
-use Rattle.md_copy.proofs.Passing.PassesGo.{GoesSoFar, begins_so, ends_before, fails_one, goes_on, lacks_room, leaves_now, leaves_one, listing_fails, listing_leaves, listing_sound, mid_ready, mid_within, passes_all, rising, served_mid, table_stops}
+use Rattle.md_copy.proofs.Passing.PassesGo.{GoesSoFar, begins_so, ends_before, fails_one, goes_on, lacks_room, leaves_now, leaves_one, listing_fails, listing_leaves, listing_sound, marks_mid, mid_ready, mid_within, passes_all, rising, served_mid, table_stops}
 use Rattle.md_copy.specs.Told.{IsToldOfPlans, IsToldOfSlots}
 use Rattle.md_copy.proofs.passes.copy_passes.Goals as goal
 
@@ -113,6 +113,12 @@ pub list_and_go_on-requires-clause-rising : goal.list_and_go_on-requires-clause-
 list_and_go_on-requires-clause-rising g c =
     let it = got_within c.args.mirror.now.array.members c.args.target c.requires.within in
     rising c.args.target it.0 c.args.copied.now c.args.mirror.now c.loop-pass.mirror c.loop-pass.copied c.loop-pass.rows c.loop-pass.plans.items c.loop-pass._pass (c.loop-pass.invariant.goes it.0 it.1)
+    c.make_pass.new.copied c.make_pass.new.mirror c.in_ok-passed.passed c.in_ok-passed.ensures.gives
+
+pub list_and_go_on-requires-clause-marks : goal.list_and_go_on-requires-clause-marks
+list_and_go_on-requires-clause-marks g c =
+    let it = got_within c.args.mirror.now.array.members c.args.target c.requires.within in
+    marks_mid c.args.target it.0 c.args.copied.now c.args.mirror.now c.loop-pass.mirror c.loop-pass.copied c.loop-pass.rows c.loop-pass.plans.items c.loop-pass._pass (c.loop-pass.invariant.goes it.0 it.1)
     c.make_pass.new.copied c.make_pass.new.mirror c.in_ok-passed.passed c.in_ok-passed.ensures.gives
 
 pub returns-in_err-rows-2-clause-gives : goal.returns-in_err-rows-2-clause-gives

@@ -1,56 +1,31 @@
-use Rattle.std.proofs.Common.{refl, subst}
+use Rattle.std.proofs.Common.{◌∙◌, ◌<◌, List, length, All, refl, sym, ap, subst}
 use Rattle.std.proofs.lemmas.Result.{err_from_is_err_and}
-use Rattle.std.proofs.lemmas.Bool.{both_ways}
-use Rattle.md_array.specs.Steps.Checkpoint.{RefusesCheckpoint}
-use Rattle.md_copy.proofs.Passing.PassMade.{broken_off, made_one, may_checkpoint, not_recorded, ready_then, uncopied, within_filled}
-use Rattle.md_copy.proofs.Ready.Readied.{recovering_target}
-use Rattle.md_copy.proofs.Stored.TargetStates.{recovering_rebuilt}
+use Rattle.md_cert.specs.declared.slots.Slot.{Slot}
+use Rattle.md_pass.specs.Copied.{failed_slots}
+use Rattle.md_copy.proofs.Passing.PassMade.{ends_in, made_one, plan_of, slots_low, uncopied}
 use Rattle.md_copy.proofs.passes.make_pass.Goals as goal
 
-pub prepare-requires-clause-target : goal.prepare-requires-clause-target
-prepare-requires-clause-target g c m at = recovering_target c.args.mirror.now.array m.superblock.dev_number m.state (c.requires.ready.recovering m at)
+pub copy_stretches-requires-clause-left : goal.copy_stretches-requires-clause-left
+copy_stretches-requires-clause-left g c κs within = record {
+  rising = c.in_ok-planned.ensures.certified.rising;
+  each = λ m at. (plan_of c.args.target c.args.mirror.now c.requires.ready c.requires.within c.args.rows.now c.args.copied.now c.requires.held c.requires.table c.in_ok-planned.planned c.in_ok-planned.ensures.certified m at).each;
+  uncopied = uncopied c.args.target c.args.mirror.now c.requires.ready c.requires.within c.args.rows.now c.args.copied.now c.requires.held c.requires.table c.in_ok-planned.planned c.in_ok-planned.ensures.certified;
+}
 
-pub fill-requires-clause-target : goal.fill-requires-clause-target
-fill-requires-clause-target g c κs within m at = recovering_rebuilt m.state (c.requires.ready.recovering m at)
+pub returns-in_err-copy_stretches-clause-gives : goal.returns-in_err-copy_stretches-clause-gives
+returns-in_err-copy_stretches-clause-gives g c =
+    let p = err_from_is_err_and c.from_residual-in_err-copy_stretches.result c.from_residual-in_err-copy_stretches.ensures.1 in
+    rw (p.1, p.2) (ends_in c.args.target c.args.mirror.now c.requires.ready c.requires.within c.args.rows.now c.args.copied.now c.requires.held c.requires.table c.in_ok-planned.planned c.in_ok-planned.ensures.certified
+    c.in_ok-planned.ensures.least c.in_ok-planned.ensures.orphans c.copy_stretches.new.copied c.copy_stretches.new.mirror c.copy_stretches.ensures.sound c.in_err-copy_stretches.field-0.0 c.in_err-copy_stretches.ensures.gives)
 
-pub fill-requires-clause-uncopied : goal.fill-requires-clause-uncopied
-fill-requires-clause-uncopied g c κs within =
-    uncopied c.args.target c.args.mirror.now c.requires.ready c.requires.within c.args.rows.now c.args.copied.now c.requires.held c.requires.table c.in_ok-planned.field-0.planned c.in_ok-planned.ensures.certified
+pub failed_count-failed-requires : goal.failed_count-failed-requires
+failed_count-failed-requires g c =
+    subst (All (λ (s : Slot). s.chunk < c.copy_stretches.new.copied.chunks)) (sym c.as_slice.ensures)
+    (slots_low c.args.target c.args.mirror.now c.requires.ready c.requires.within c.args.rows.now c.args.copied.now c.requires.held c.requires.table c.in_ok-planned.planned c.in_ok-planned.ensures.certified
+    c.copy_stretches.new.copied c.copy_stretches.new.mirror c.in_ok-copy_stretches.ensures.gives)
 
-pub returns-in_err-failed-clause-gives : goal.returns-in_err-failed-clause-gives
-returns-in_err-failed-clause-gives g c =
-    let p = err_from_is_err_and c.from_residual-in_err-failed.result c.from_residual-in_err-failed.ensures.1 in
-    rw (p.1, p.2) (broken_off c.args.target c.args.mirror.now c.requires.ready c.requires.within c.args.rows.now c.args.copied.now c.requires.held c.requires.table c.in_ok-planned.field-0.planned c.in_ok-planned.ensures.certified
-    c.in_ok-planned.ensures.least c.in_ok-planned.ensures.orphans c.fill.new.copied c.fill.new.mirror c.fill.ensures.sound c.in_err-failed.field-0.0 c.in_err-failed.ensures.gives)
-
-pub checkpoint-requires-clause-within : goal.checkpoint-requires-clause-within
-checkpoint-requires-clause-within g c =
-    within_filled c.args.target c.args.mirror.now c.requires.ready c.requires.within c.args.rows.now c.args.copied.now c.requires.held c.requires.table c.in_ok-planned.field-0.planned c.in_ok-planned.ensures.certified
-    c.in_ok-planned.ensures.least c.in_ok-planned.ensures.orphans c.fill.new.copied c.fill.new.mirror c.fill.ensures.sound c.in_ok-failed.failed c.in_ok-failed.ensures.gives
-
-pub checkpoint-requires-clause-may : goal.checkpoint-requires-clause-may
-checkpoint-requires-clause-may g c =
-    may_checkpoint c.args.target c.args.mirror.now c.requires.ready c.requires.within c.args.rows.now c.args.copied.now c.requires.held c.requires.table c.in_ok-planned.field-0.planned c.in_ok-planned.ensures.certified
-    c.in_ok-planned.ensures.least c.in_ok-planned.ensures.orphans c.fill.new.copied c.fill.new.mirror c.fill.ensures.sound c.in_ok-failed.failed c.in_ok-failed.ensures.gives
-
-pub unreachable-requires : goal.unreachable-requires
-unreachable-requires g c =
-    let ready_w = ready_then c.args.target c.args.mirror.now c.requires.ready c.requires.within c.args.rows.now c.args.copied.now c.requires.held c.requires.table c.in_ok-planned.field-0.planned c.in_ok-planned.ensures.certified
-    c.in_ok-planned.ensures.least c.in_ok-planned.ensures.orphans c.fill.new.copied c.fill.new.mirror c.fill.ensures.sound c.in_ok-failed.failed c.in_ok-failed.ensures.gives in
-    let refused = subst (RefusesCheckpoint c.args.target c.fill.new.copied c.fill.new.mirror c.checkpoint.new.self) c.in-Err-Halted.field-0-is c.in-Err-Halted.ensures.gives in
-    both_ways c.fill.new.mirror.array.halted ready_w.goes.idle.running refused.reason
-
-pub returns-in-Ok-clause-gives : goal.returns-in-Ok-clause-gives
-returns-in-Ok-clause-gives g c =
-    made_one c.args.target c.args.mirror.now c.requires.ready c.requires.within c.args.rows.now c.args.copied.now c.requires.held c.requires.table c.in_ok-planned.field-0.planned c.in_ok-planned.ensures.certified
-    c.in_ok-planned.ensures.least c.in_ok-planned.ensures.orphans c.fill.new.copied c.fill.new.mirror c.fill.ensures.sound c.in_ok-failed.failed c.in_ok-failed.ensures.gives
-    c.checkpoint.new.self c.in-Ok.ensures.gives c.checkpoint.ensures.sound (record { planned = c.in_ok-planned.field-0.planned; failed = c.in_ok-failed.failed }) refl refl
-
-pub returns-in-Err-TargetFault-clause-gives : goal.returns-in-Err-TargetFault-clause-gives
-returns-in-Err-TargetFault-clause-gives g c =
-    not_recorded c.args.target c.args.mirror.now c.requires.ready c.requires.within c.args.rows.now c.args.copied.now c.requires.held c.requires.table c.in_ok-planned.field-0.planned c.in_ok-planned.ensures.certified
-    c.in_ok-planned.ensures.least c.in_ok-planned.ensures.orphans c.fill.new.copied c.fill.new.mirror c.fill.ensures.sound c.in_ok-failed.failed c.in_ok-failed.ensures.gives
-    c.checkpoint.new.self (subst (RefusesCheckpoint c.args.target c.fill.new.copied c.fill.new.mirror c.checkpoint.new.self) c.in-Err-TargetFault.field-0-is c.in-Err-TargetFault.ensures.gives) c.checkpoint.ensures.sound
-
-pub returns-in-Ok-clause-told : goal.returns-in-Ok-clause-told
-returns-in-Ok-clause-told g c = c.in_ok-failed.ensures.told
+pub returns-clause-gives : goal.returns-clause-gives
+returns-clause-gives g c =
+    made_one c.args.target c.args.mirror.now c.requires.ready c.requires.within c.args.rows.now c.args.copied.now c.requires.held c.requires.table c.in_ok-planned.planned c.in_ok-planned.ensures.certified
+    c.in_ok-planned.ensures.least c.in_ok-planned.ensures.orphans c.copy_stretches.new.copied c.copy_stretches.new.mirror c.copy_stretches.ensures.sound c.in_ok-copy_stretches.ensures.gives
+    (record { planned = c.in_ok-planned.planned; failed = c.failed_count-failed.result }) refl (c.failed_count-failed.ensures ∙ ap (λ (xs : List Slot). length (failed_slots xs c.copy_stretches.new.copied)) c.as_slice.ensures)

@@ -1,0 +1,119 @@
+"""A rebuild of three stretches, of 16 rounds of 16 MiB each but the last, that is killed in each of them, and where it records how
+far each came. What stands on the member then is read by md_p.h alone: its offset is that of the last stretch that was recorded. Run
+again, the rebuild copies what comes after that, and no chunk before it, and the member equals the array."""
+
+import struct
+
+import members
+from scratch import KILLED, Scratch
+
+CHUNK = 16 * 2**20
+CHUNKS = 40
+STRETCH = 16
+DATA = 2048 * members.SECTOR
+# Of superblock 1.2 in md_p.h: recovery_offset, 8 bytes.
+SUPER_AT = members.SECTOR * members.SUPER_SECTOR
+OFFSET_AT = SUPER_AT + 152
+
+
+def marked(chunk, salt):
+    """What the first sector of a chunk holds."""
+    return struct.pack("<QQ", chunk, salt) * (members.SECTOR // 16)
+
+
+def made(path, salt):
+    """An image of which each chunk has a sector that is not zero."""
+    with open(path, "wb") as image:
+        image.truncate(DATA + CHUNKS * CHUNK)
+        for chunk in range(CHUNKS):
+            image.seek(DATA + chunk * CHUNK)
+            image.write(marked(chunk, salt))
+
+
+class Life:
+    """A member with all of the data, and a spare."""
+
+    def __init__(self, folder, library):
+        self.scratch = Scratch(folder, library)
+
+    def begin(self):
+        made(self.scratch.path(0), 1)
+        made(self.scratch.path(1), 2)
+        self.make("create", "--level", "raid1", "--raid-devices", 2, "--bitmap-chunk", CHUNK // 1024, "--assume-clean", images=[0, "missing"])
+        self.make("add", "--device", self.scratch.path(1), images=[0])
+
+    def make(self, *words, images):
+        answer = self.scratch.run(words, images)
+        if answer.status != 0:
+            raise ValueError("%s: %s" % (words[0], answer.errors))
+
+    def rebuild(self, **settings):
+        return self.scratch.run(["rebuild", "--member", 1], [0, 1], **settings)
+
+    def chunks_passed(self):
+        """How many chunks lie before the offset that the new member says."""
+        with open(self.scratch.path(1), "rb") as image:
+            image.seek(OFFSET_AT)
+            return struct.unpack("<Q", image.read(8))[0] * members.SECTOR // CHUNK
+
+    def against_data(self):
+        with open(self.scratch.path(1), "rb") as image:
+            for chunk in range(CHUNKS):
+                image.seek(DATA + chunk * CHUNK)
+                if image.read(members.SECTOR) != marked(chunk, 1):
+                    return ["the new member lacks chunk %d" % chunk]
+        return []
+
+
+def data_chunks(answer):
+    """The chunks of the new member that it wrote to, in order."""
+    return [(call.place - DATA) // CHUNK for call in answer.writes if call.kind == "write" and call.image.endswith("/1.img") and call.place >= DATA]
+
+
+def checkpoints(answer):
+    """The numbers of the writes of the new member's superblock that come after a write of its data and before its bitmap."""
+    numbers, filled = [], False
+    for number, call in enumerate(answer.writes, 1):
+        if call.kind == "write" and call.image.endswith("/1.img"):
+            if call.place >= DATA:
+                filled = True
+            elif call.place == SUPER_AT and filled:
+                numbers.append(number)
+                filled = False
+    return numbers
+
+
+def killed_at(life, number):
+    """The reasons against a rebuild that is killed at this call."""
+    life.begin()
+    before = life.rebuild(STOPPED_CALL=str(number), STOPPED_HOW="before")
+    if before.status != KILLED:
+        return ["the process ended with status %d" % before.status]
+    copied = len(set(data_chunks(before)))
+    recorded = STRETCH * len(checkpoints(before))
+    passed = life.chunks_passed()
+    reasons = [] if passed == recorded else ["the member says that it has %d chunks, and %d were recorded" % (passed, recorded)]
+    again = life.rebuild()
+    if again.status != 0 or not again.output.endswith(b"rebuilt member 1, passes 1, orphans 0\n"):
+        reasons.append("run again it answers %r, %r" % (again.output[-80:], again.errors))
+    if set(data_chunks(again)) != set(range(recorded, CHUNKS)):
+        reasons.append("run again it copies %d chunks, and %d are left" % (len(set(data_chunks(again))), CHUNKS - recorded))
+    if copied - recorded > STRETCH:
+        reasons.append("%d chunks were copied after the last stretch that was recorded" % (copied - recorded))
+    return reasons + life.against_data()
+
+
+def judge(tally, folder, library):
+    life = Life(folder, library)
+    life.begin()
+    whole = life.rebuild()
+    ends = checkpoints(whole)
+    reasons = life.against_data() if whole.status == 0 else ["it answers %r" % whole.errors]
+    if len(ends) != 3:
+        reasons.append("it records %d times how far it came" % len(ends))
+    tally.judge("rebuild, three stretches", reasons)
+    if reasons:
+        return
+    stops = [("the first", 6), ("its record", ends[0]), ("the second", ends[0] + 9), ("its record", ends[1]), ("the last", ends[1] + 5), ("its record", ends[2])]
+    for name, number in stops:
+        tally.judge("rebuild, killed in %s, call %d" % (name, number), killed_at(life, number))
