@@ -375,6 +375,7 @@ DIFFERS = 3
 UNCOMPARED = "mdcli: %s: no other member is in sync, so nothing was compared\n"
 # What a read says that was to go on past sectors which no member gives.
 FILLED = "mdcli: sector %d of the array is missing: zeros stand in its place\n"
+TAKEN = "mdcli: sector %d of the array may be older or newer: it is another member's\n"
 # Of a device of the array that no image is, and of a member that was used alone.
 UNNAMED = "mdcli: device %d in role %d is not among the images\n"
 # Of what an image that is added holds.
@@ -444,9 +445,11 @@ def lacks(*runs):
     return ("0 + 1\n" + "".join("0x%x 0x%x %s\n" % block for block in blocks)).encode()
 
 
-def map_out(first, count, lost):
-    """The map that a read with --fill makes of these sectors, of which one is not given."""
-    blocks = [(0, first, "?"), (first, lost, "+"), (lost, lost + 1, "-"), (lost + 1, first + count, "+")]
+def map_out(first, count, lost=None):
+    """The map that a read with --fill makes of these sectors, of which one is missing, or none."""
+    end = first + count
+    read = [(first, end, "+")] if lost is None else [(first, lost, "+"), (lost, lost + 1, "-"), (lost + 1, end, "+")]
+    blocks = [(0, first, "?"), *read]
     lines = ["0x%08X  0x%08X  %s\n" % (SECTOR * start, SECTOR * (end - start), status) for start, end, status in blocks if start < end]
     head = "# Mapfile. Created by mdcli\n# current_pos  current_status  current_pass\n0x00000000     +               1\n"
     return (head + "#      pos        size  status\n" + "".join(lines)).encode()
@@ -905,6 +908,36 @@ CASES = [
             Step("detail --map a=late --map c=late a b", fault="BadMap 1 NotListed"),
             Step("detail --map a=late --map a=late a b", fault="BadMap 1 Repeated"),
             Step("detail --map a=none a b", fault="BadMap 0 Unread"),
+        ],
+    ),
+    (
+        "what another member has, where the array is degraded and not resynced",
+        TWO_MAPPED,
+        [
+            create("raid1", 3, 4, "a b missing", output="in sync 2 of 3, events 1, marked 8\n", changes="a b"),
+            Made("a", "a", lambda image: members.with_data(image, 8, DATA)),
+            Step("read --readonly --sector 8 --count 2 --map a=late a b", fault="ReadFault 0 1"),
+            Step(
+                "read --fill --readonly --sector 8 --count 2 --map a=late a b",
+                DATA[:SECTOR].decode() + BLANK[SECTOR:],
+                fault="Unreadable 9",
+                told=TAKEN % 9,
+            ),
+            Step(
+                "read --fill --map-out new --readonly --sector 8 --count 2 --map a=late a b",
+                DATA[:SECTOR].decode() + BLANK[SECTOR:],
+                fault="Unreadable 9",
+                told=TAKEN % 9,
+                made={"new": map_out(8, 2)},
+            ),
+            # The first of them that is in sync is the one that a resync copies, whichever image is named first.
+            Step("read --fill --readonly --sector 8 --count 2 --map b=late b a", DATA.decode()),
+            Step(
+                "read --fill --readonly --sector 8 --count 2 --map a=late --map b=late a b",
+                DATA[:SECTOR].decode() + "\0" * SECTOR,
+                fault="Unreadable 9",
+                told=FILLED % 9,
+            ),
         ],
     ),
     (

@@ -75,7 +75,7 @@ pub(crate) fn give<R: Abort + Threads + Wait + Sync>(
         watch: &Silent,
         asker: Nobody,
         random_bytes: None,
-        missing: None,
+        gaps: None,
         is_all_out: false,
         mismatched: None,
     };

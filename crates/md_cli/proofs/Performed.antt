@@ -75,7 +75,7 @@ module _ {R S A : Type 0} (r : SourceGhosts R) (s : SinkGhosts S) (names : List 
   all_kept (details form readonly) result brings h = kept _ before after brings (ap (λ (o : OpenedView). o.beside) h.0) (ap (λ (o : OpenedView). length o.mirror.disks) h.0)
   all_kept (plans k json readonly) result brings h = kept _ before after brings (ap (λ (o : OpenedView). o.beside) h.0) (ap (λ (o : OpenedView). length o.mirror.disks) h.0)
   all_kept (reads sector count true readonly) result brings h =
-      kept _ before after brings h.0 (fills_as_many s readonly sector (sectors_asked before.mirror.array sector count) before.mirror after.mirror old.output new.output new.missing result h.2.0)
+      kept _ before after brings h.0 (fills_as_many s readonly sector (sectors_asked before.mirror.array sector count) before.mirror after.mirror old.output new.output new.gaps result h.2.0)
   all_kept (reads sector count false false) (Ok v) brings h =
       kept _ before after brings h.0 (done_read s before.mirror after.mirror old.output new.output sector (sectors_asked before.mirror.array sector count) h.2)
   all_kept (reads sector count false false) (Err f) brings h =
@@ -142,7 +142,7 @@ module _ {R S A : Type 0} (r : SourceGhosts R) (s : SinkGhosts S) (names : List 
   performs_asked (plans k json readonly) h = h
   performs_asked (reads sector count true readonly) h = h
   performs_asked (reads sector count false readonly) h = h
-  performs_asked (serves fill) h = (h.0, record { missing = h.1.missing; serves = h.1.serves; rests = h.1.rests; noted = h.1.noted })
+  performs_asked (serves fill) h = (h.0, record { gaps = h.1.gaps; serves = h.1.serves; rests = h.1.rests; noted = h.1.noted })
   performs_asked serves_writable h = h
   performs_asked (checks form exit_code readonly) h = h
   performs_asked (writes sector count) h = h

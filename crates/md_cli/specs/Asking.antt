@@ -28,7 +28,7 @@ module _ {R S A : Type 0} (r : SourceGhosts R) (s : SinkGhosts S) (q : Question 
     pub agreed : q n old.asker new.asker (Ok tt)
     pub performs : Performs r s names ask before after old new result
     -- no other command notes for which sectors zeros were put out
-    pub noted : fills ask ≡ false → new.missing ≡ old.missing
+    pub noted : fills ask ≡ false → new.gaps ≡ old.gaps
     -- nor in how many chunks members differ
     pub counted : compares ask ≡ false → new.mismatched ≡ old.mismatched
 

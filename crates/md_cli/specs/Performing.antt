@@ -26,7 +26,7 @@ use Rattle.md_report.specs.CheckReport.{list_text}
 use Rattle.md_report.specs.DetailReport.{detail_text}
 use Rattle.md_report.specs.SummaryReport.{summary_text}
 use Rattle.md_report.specs.VerboseReport.{verbose_text}
-use Rattle.md_badblocks.specs.declared.run.Run.{Run}
+use Rattle.md_read_commands.specs.declared.gaps.Gaps.{Gaps}
 use Rattle.md_state.specs.Rests.{Rests}
 use Rattle.md_state.specs.Steps.Fail.{FailsMember}
 use Rattle.md_state.specs.View.{ArrayView, Disk}
@@ -74,14 +74,13 @@ module _ {S : Type 0} (s : SinkGhosts S) where
       (λ _. ReadsReadonly s sector count before.mirror after.mirror old new)
       (RefusesReadonly s sector count before.mirror after.mirror old new)
 
-  -- the same, or with zeros in the place of sectors that are not given; then it is noted which these are, and whether all sectors are
-  -- put out
+  -- the same, or sectors that are not given are filled; then it is noted which these are, and whether all sectors are put out
   abbrev pub PerformsRead : {R A : Type 0} → ℕ → ℕ → Bool → Bool → OpenedView → OpenedView → Streams R S A
       → Streams R S A → Result (Unit {0}) CommandFault → Type 0
   PerformsRead sector count false readonly before after old new result =
       ShowsSectors sector count readonly before after old.output new.output result
   PerformsRead sector count true readonly before after old new result =
-      ReadsFilled s readonly sector count before.mirror after.mirror old.output new.output new.missing result
+      ReadsFilled s readonly sector count before.mirror after.mirror old.output new.output new.gaps result
       × (new.all_out ≡ has_put_all result)
 
   -- The members in sync are compared, and in how many chunks two differ is put out, or which these are. The answer is how many.
@@ -153,14 +152,14 @@ module _ {S : Type 0} (s : SinkGhosts S) where
         (RefusesToReAdd s extent device after.beside before.mirror after.mirror old new)
 
 module _ {R S A : Type 0} (r : SourceGhosts R) (s : SinkGhosts S) where
-  -- A client is served from the array, of which nothing is written. Which sectors it got zeros for is noted, where it was to get them.
+  -- A client is served from the array, of which nothing is written. Which sectors were filled for it is noted, where they were to be.
   pub record PerformsServe (fill : Bool) (before after : OpenedView) (old new : Streams R S A)
       (result : Result (Unit {0}) CommandFault) : Type 0 where
-    pub missing : List Run
-    pub serves : ServesArray r s fill before.mirror after.mirror missing old.input new.input old.output
+    pub gaps : Gaps
+    pub serves : ServesArray r s fill before.mirror after.mirror gaps old.input new.input old.output
         new.output result
     pub rests : Rests before.mirror after.mirror
-    pub noted : fill ≡ true → new.missing ≡ Some missing
+    pub noted : fill ≡ true → new.gaps ≡ Some gaps
 
 module _ {R S : Type 0} (r : SourceGhosts R) (s : SinkGhosts S) where
   -- The input is written, and then the array is stopped and shown; or not all of it is, but perhaps so many sectors.

@@ -1,16 +1,16 @@
 -- The input and the output of a run, who is asked, and what it noticed.
-use Rattle.std.specs.Prelude.{◌≡◌, ℕ, Bool, List, Option}
-use Rattle.md_badblocks.specs.declared.run.Run.{Run}
+use Rattle.std.specs.Prelude.{◌≡◌, ℕ, Bool, Option}
 use Rattle.md_messages.specs.declared.asker.Asker.{Ghosts as AskerGhosts}
 use Rattle.md_messages.specs.declared.messages.Audience.{Audience}
 use Rattle.md_messages.specs.declared.messages.Messages.{Messages}
 use Rattle.md_messages.specs.declared.notices.Notices.{Notices}
+use Rattle.md_read_commands.specs.declared.gaps.Gaps.{Gaps}
 use Rattle.md_cli.specs.declared.session.Session.{Session}
 
 pub record Streams (R S A : Type 0) : Type 0 where
   pub input : R
   pub output : S
-  pub missing : Option (List Run)  -- the sectors for which zeros were put out
+  pub gaps : Option Gaps  -- the sectors for which zeros were put out, or what another member has
   pub mismatched : Option ℕ  -- in how many chunks a check found members to differ
   pub asker : A  -- who is asked, and was
   pub all_out : Bool  -- whether all sectors of a read that was to put out zeros are put out
@@ -19,7 +19,7 @@ abbrev pub streams_of : {T R S W A : Type 0} → Session T R S W A → Streams R
 streams_of session = record {
   input = session.input;
   output = session.out;
-  missing = session.missing;
+  gaps = session.gaps;
   mismatched = session.mismatched;
   asker = session.asker;
   all_out = session.is_all_out;

@@ -58,7 +58,7 @@ pub(crate) fn perform<
     ensures performs { Performs R.Source S.Sink (texts names.now) (ask_of command.entry)
         (opened_view D.Device opened.old) (opened_view D.Device opened.new)
         (streams_of session.old) (streams_of session.new) result }
-    ensures noted { fills (ask_of command.entry) ≡ false → session.new.missing ≡ session.old.missing }
+    ensures noted { fills (ask_of command.entry) ≡ false → session.new.gaps ≡ session.old.gaps }
     ensures counted { compares (ask_of command.entry) ≡ false
         → session.new.mismatched ≡ session.old.mismatched }
     ensures unasked { session.new.asker ≡ session.old.asker }
@@ -181,7 +181,7 @@ fn sectors_asked<D: Device + Drop>(mirror: &Mirror<D>, sector: u64, count: Optio
     }
 }
 
-// Puts out sectors of the array, perhaps with zeros in the place of those that are not given.
+// Puts out sectors of the array, and perhaps fills those that are not given.
 fn read_sectors<D: Device + Drop, T, R: Source + Drop, S: Sink + Drop, W: ReadWatch, A: Drop>(
     session: &mut Session<'_, T, R, S, W, A>,
     opened: &mut Opened<D>,
@@ -199,7 +199,7 @@ fn read_sectors<D: Device + Drop, T, R: Source + Drop, S: Sink + Drop, W: ReadWa
         (streams_of session.old) (streams_of session.new) result }
     ensures told { W.reads session.old.watch.now
         (sectors_asked (opened_view D.Device opened.old).mirror.array sector count) }
-    ensures noted { fill ≡ false → session.new.missing ≡ session.old.missing }
+    ensures noted { fill ≡ false → session.new.gaps ≡ session.old.gaps }
     ensures counted { session.new.mismatched ≡ session.old.mismatched }
     ensures unasked { session.new.asker ≡ session.old.asker }
     ensures flushed { IfOk result (λ _. S.is_flushed session.new.out) }
@@ -235,8 +235,7 @@ fn read<D: Device + Drop, S: Sink>(
     Ok(read_array(alloc, mirror, sector, count, out)?)
 }
 
-// Puts out sectors with zeros in the place of those that are not given. Which these are is noted, and whether all sectors were
-// put out.
+// Puts out sectors, and fills those that are not given. Which these are is noted, and whether all sectors were put out.
 fn read_filled<D: Device + Drop, T, R: Source + Drop, S: Sink + Drop, W, A: Drop>(
     session: &mut Session<'_, T, R, S, W, A>,
     opened: &mut Opened<D>,
@@ -248,7 +247,7 @@ fn read_filled<D: Device + Drop, T, R: Source + Drop, S: Sink + Drop, W, A: Drop
     ensures kept { (opened_view D.Device opened.new).beside ≡ (opened_view D.Device opened.old).beside }
     ensures input { session.new.input ≡ session.old.input }
     ensures reads { ReadsFilled S.Sink readonly sector count opened.old.mirror opened.new.mirror
-        session.old.out session.new.out session.new.missing result }
+        session.old.out session.new.out session.new.gaps result }
     ensures all_out { session.new.is_all_out ≡ has_put_all result }
     ensures counted { session.new.mismatched ≡ session.old.mismatched }
     ensures unasked { session.new.asker ≡ session.old.asker }
@@ -256,13 +255,13 @@ fn read_filled<D: Device + Drop, T, R: Source + Drop, S: Sink + Drop, W, A: Drop
 {
     let (alloc, mirror) = (session.alloc, &mut opened.mirror);
     let out = &mut session.out;
-    let (missing, done) = read_array_filled(alloc, mirror, sector, count, readonly, out);
-    session.missing = missing;
+    let (gaps, done) = read_array_filled(alloc, mirror, sector, count, readonly, out);
+    session.gaps = gaps;
     session.is_all_out = has_put_all(&done);
     Ok(done?)
 }
 
-// Serves the array to a client. For which sectors it got zeros is noted, where it was to get them.
+// Serves the array to a client. Which sectors were filled for it is noted, where they were to be.
 fn serve<D: Device + Drop, T, R: Source + Drop, S: Sink + Drop, W, A: Drop>(
     session: &mut Session<'_, T, R, S, W, A>,
     opened: &mut Opened<D>,
@@ -273,16 +272,16 @@ fn serve<D: Device + Drop, T, R: Source + Drop, S: Sink + Drop, W, A: Drop>(
     ensures serves { PerformsServe R.Source S.Sink fill
         (opened_view D.Device opened.old) (opened_view D.Device opened.new)
         (streams_of session.old) (streams_of session.new) result }
-    ensures noted { fill ≡ false → session.new.missing ≡ session.old.missing }
+    ensures noted { fill ≡ false → session.new.gaps ≡ session.old.gaps }
     ensures counted { session.new.mismatched ≡ session.old.mismatched }
     ensures unasked { session.new.asker ≡ session.old.asker }
     ensures flushed { IfOk result (λ _. S.is_flushed session.new.out) }
 {
     let (alloc, mirror) = (session.alloc, &mut opened.mirror);
     let (input, out) = (&mut session.input, &mut session.out);
-    let (missing, served) = serve_array(alloc, mirror, fill, input, out);
+    let (gaps, served) = serve_array(alloc, mirror, fill, input, out);
     if fill {
-        session.missing = Some(missing);
+        session.gaps = Some(gaps);
     }
     Ok(served?)
 }
@@ -328,7 +327,7 @@ fn check<
     ensures checks { PerformsCheck S.Sink form (texts names.now)
         (opened_view D.Device opened.old) (opened_view D.Device opened.new)
         session.old.out session.new.out session.new.mismatched result }
-    ensures noted { session.new.missing ≡ session.old.missing }
+    ensures noted { session.new.gaps ≡ session.old.gaps }
     ensures unasked { session.new.asker ≡ session.old.asker }
     ensures flushed { IfOk result (λ _. S.is_flushed session.new.out) }
 {

@@ -16,15 +16,15 @@ use crate::refusing::show_if_refused;
 use crate::scanning::{ScanOptions, scan};
 use crate::session::Session;
 use clap::Error;
-use md_badblocks::BadSet;
 use md_commands::{CommandFault, Source};
 use md_examine::Sink;
 use md_examine_commands::examine_images;
 use md_images::Images;
 use md_messages::{
-    Asker, Audience, Messages, Notices, advise, put_fault_line, put_missing_lines, put_refused,
+    Asker, Audience, Messages, Notices, advise, put_fault_line, put_gap_lines, put_refused,
     put_told,
 };
+use md_read_commands::Gaps;
 use md_words::{Command, CreateOptions, Request};
 use std::alloc::Global;
 use std::io::Write;
@@ -89,7 +89,7 @@ pub fn run<
         × DoesNothing images.old images.new (streams_of session.old) (streams_of session.new))
         ⊎ DoesCommand I.Images I.Dev.Device R.Source S.Sink A.Asker session.old.random_bytes
         (TellsNoticed E.Sink (audience_of A.Asker session.old messages) (asked (texts words.entry.now))
-        (image_words (texts words.entry.now)) (streams_of session.new).missing err.old err.new)
+        (image_words (texts words.entry.now)) (streams_of session.new).gaps err.old err.new)
         (asked (texts words.entry.now)) (image_words (texts words.entry.now))
         images.old images.new (streams_of session.old) (streams_of session.new) result }
     ensures scans { words_fault (texts words.entry.now) ≡ [] → (json : Bool)
@@ -128,13 +128,13 @@ pub fn run<
     let outcome = act(session, request.command, images, names, &mut notices);
     let out = &mut session.out;
     show_if_refused(session.alloc, &outcome, request.command, names, out);
-    let missing = &session.missing;
+    let gaps = &session.gaps;
     tell_outcome(
         &outcome,
         request.command,
         names,
         &notices,
-        missing,
+        gaps,
         audience,
         err,
     );
@@ -215,18 +215,18 @@ fn tell_outcome<E: Write + Sink>(
     command: Command<'_>,
     names: &[&str],
     notices: &Notices,
-    missing: &Option<BadSet>,
+    gaps: &Option<Gaps>,
     audience: Audience,
     err: &mut E,
 )
-    ensures { TellsNoticed E.Sink audience (ask_of command.entry) (texts names.now) missing.now
+    ensures { TellsNoticed E.Sink audience (ask_of command.entry) (texts names.now) gaps.now
         err.old err.new outcome.now notices.now }
 {
     match outcome {
         Ok(()) => {
             let _ = put_told(err, notices, command, names, audience);
         }
-        Err(fault) => tell_refusal(fault, command, names, notices, missing, audience, err),
+        Err(fault) => tell_refusal(fault, command, names, notices, gaps, audience, err),
     }
 }
 
@@ -257,22 +257,22 @@ fn differs(mismatched: Option<u32>) -> bool
     }
 }
 
-// A refusal is said on `err`, and for which sectors zeros were put out; and no more where no advice is asked for. Else so is
+// A refusal is said on `err`, and which sectors were put out otherwise; and no more where no advice is asked for. Else so is
 // what was noticed.
 fn tell_refusal<E: Write + Sink>(
     fault: &CommandFault,
     command: Command<'_>,
     names: &[&str],
     notices: &Notices,
-    missing: &Option<BadSet>,
+    gaps: &Option<Gaps>,
     audience: Audience,
     err: &mut E,
 )
-    ensures { TellsRefusal E.Sink audience (ask_of command.entry) (texts names.now) missing.now
+    ensures { TellsRefusal E.Sink audience (ask_of command.entry) (texts names.now) gaps.now
         err.old err.new fault.now notices.now }
 {
     let _ = put_fault_line(err, fault);
-    let _ = put_missing_lines(err, command, missing);
+    let _ = put_gap_lines(err, command, gaps);
     tell_more(fault, command, names, notices, audience, err);
 }
 

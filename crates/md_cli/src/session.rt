@@ -1,11 +1,11 @@
 // What a run has of the machine.
-use md_badblocks::BadSet;
+use md_read_commands::Gaps;
 use std::alloc::Global;
 
 /// What each command is given of the machine that it runs on: what starts threads, the memory, the input, the output,
 /// who is told of a rebuild or a check, who is asked, and random bytes for a UUID, where there are any. And, of a read that was to
-/// put out zeros for sectors that are not given, which sectors these are, also where it ended before all were put out, and
-/// whether all were. And, of a check, in how many chunks it found members to differ.
+/// fill sectors that are not given, which sectors these are, also where it ended before all were put out, and whether all
+/// were. And, of a check, in how many chunks it found members to differ.
 #[derive(Drop)]
 pub struct Session<'a, T, R: Drop, S: Drop, W, A: Drop> {
     pub rt: &'a T,
@@ -15,7 +15,7 @@ pub struct Session<'a, T, R: Drop, S: Drop, W, A: Drop> {
     pub watch: &'a W,
     pub asker: A,
     pub random_bytes: Option<[u8; 16]>,
-    pub missing: Option<BadSet>,
+    pub gaps: Option<Gaps>,
     pub is_all_out: bool,
     pub mismatched: Option<u32>,
 }

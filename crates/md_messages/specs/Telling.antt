@@ -4,7 +4,6 @@ use Rattle.std.specs.Prelude.{◌≡◌, ◌⊎◌, ℕ, ◌==◌, not, Bool, tr
 use Rattle.std.specs.List.{flat_map, range_with_len}
 use Rattle.std.specs.Borrow.{Bor}
 use Rattle.clap.specs.Words.{Text}
-use Rattle.md_badblocks.specs.declared.run.Run.{Run}
 use Rattle.md_assembly.specs.declared.state.MemberState.{MemberState}
 use Rattle.md_commands.specs.declared.fault.CommandFault.{CommandFault}
 use Rattle.md_commands.specs.declared.fault.CommandFault.TheVariants as fault
@@ -25,7 +24,8 @@ use Rattle.md_messages.specs.declared.messages.Messages.{Messages}
 use Rattle.md_messages.specs.declared.messages.Messages.TheVariants.{Plain, WithAdvice}
 use Rattle.md_messages.specs.declared.notices.Notices.{Notices}
 use Rattle.md_messages.specs.Holding.{held_each}
-use Rattle.md_messages.specs.Missing.{missing_lines}
+use Rattle.md_read_commands.specs.declared.gaps.Gaps.{Gaps}
+use Rattle.md_messages.specs.Missing.{gap_lines}
 use Rattle.md_messages.specs.Noticed.{asks_first}
 
 -- the texts of words
@@ -209,22 +209,22 @@ refused_text audience ask names n why =
 abbrev pub PutsTold : {E : Type 0} → Ghosts E → E → E → List ℕ → Type 0
 PutsTold e old new text = Puts e.contents e.failed old new text ⊎ (e.failed new ≡ true)
 
--- What standard error is told of a command that is refused: the fault's line, for which sectors zeros were put out, and last what was
+-- What standard error is told of a command that is refused: the fault's line, which sectors were put out otherwise, and last what was
 -- noticed, where more is told of a fault than its line. Before that it is told what to do, of which nothing is said here.
 pub record TellsRefusal {E : Type 0} (e : Ghosts E) (audience : Audience) (ask : Ask) (names : List Text)
-    (missing : Option (List Run)) (old new : E) (why : CommandFault) (n : Notices) : Type 0 where
+    (gaps : Option Gaps) (old new : E) (why : CommandFault) (n : Notices) : Type 0 where
   pub told : E
   pub next : E
   pub line : PutsTold e old told (refusal_line why)
-  pub lines : PutsTold e told next (missing_lines ask missing)
+  pub lines : PutsTold e told next (gap_lines ask gaps)
   pub plain : has_advice audience.messages ≡ false → new ≡ next
   pub last : has_advice audience.messages ≡ true
       → (mid : E) × PutsTold e mid new (refused_text audience ask names n why)
 
 -- What it is told of what a command answers, and of what was noticed.
-abbrev pub TellsNoticed : {E : Type 0} → Ghosts E → Audience → Ask → List Text → Option (List Run) → E → E
+abbrev pub TellsNoticed : {E : Type 0} → Ghosts E → Audience → Ask → List Text → Option Gaps → E → E
     → Result (Unit {0}) CommandFault → Notices → Type 0
-TellsNoticed e audience ask names missing old new (Ok _) n =
+TellsNoticed e audience ask names gaps old new (Ok _) n =
     PutsTold e old new (told_text audience ask names n)
-TellsNoticed e audience ask names missing old new (Err why) n =
-    TellsRefusal e audience ask names missing old new why n
+TellsNoticed e audience ask names gaps old new (Err why) n =
+    TellsRefusal e audience ask names gaps old new why n

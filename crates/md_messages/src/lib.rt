@@ -31,7 +31,7 @@ pub use advice::{advice_words, advise};
 pub use asker::Asker;
 pub use fault_text::{fault_words, put_fault_line, put_member, refusal_words};
 pub use messages::{Audience, Messages};
-pub use missing::put_missing_lines;
+pub use missing::put_gap_lines;
 pub use notices::Notices;
 pub use question::ask_first;
 pub use telling::{put_refused, put_told};

@@ -1,91 +1,146 @@
-// What is said of sectors for which zeros were put out. No line takes memory.
+// What is said of sectors that were not given, and for which zeros or what another member has was put out. No line takes memory.
 ghost use Rattle.std.specs.Prelude.{◌≡◌, ◌+◌, ◌-◌, ◌^◌, ◌<◌, ◌≤◌, ◌++◌, length};
 ghost use Rattle.std.specs.List.{flat_map};
 ghost use Rattle.md_badblocks.specs.Runs.{IsCanonical};
 ghost use Rattle.md_examine.specs.Sink.{PutsOrFails};
 ghost use Rattle.md_words.specs.Asks.{ask_of};
-ghost use Rattle.md_messages.specs.Missing.{between_text, count_if_several, count_text, missing_lines, missing_of, missing_text, missing_run_text, single_text, missing_count, several_text};
+ghost use Rattle.md_messages.specs.Missing.{after_count, after_one, after_several, between_text, count_if_several, count_text, gap_lines, gaps_told, gaps_text, gap_text, runs_text, gap_count, several_text, single_text};
 
 use md_badblocks::{BadSet, Run};
 use md_examine::{Sink, SinkFault, number_after};
+use md_read_commands::Gaps;
 use md_words::Command;
 
-/// Says for which sectors of the array a command put out zeros, where it was to, in a line for each run of them, and how many they
-/// are. It fails only where the output has failed, as all here does.
-pub fn put_missing_lines<S: Sink>(
+/// What stands in the place of sectors that were not given.
+#[derive(Clone, Copy)]
+pub(crate) enum Stands {
+    /// Zeros.
+    Zeros,
+    /// What another member has.
+    Others,
+}
+
+impl Stands {
+    // What is said after one sector, after several, and after how many there are.
+    fn after_one(self) -> &'static [u8]
+        ensures { result.now ≡ after_one self }
+    {
+        match self {
+            Stands::Zeros => b" of the array is missing: zeros stand in its place\n",
+            Stands::Others => { b" of the array may be older or newer: it is another member's\n" }
+        }
+    }
+
+    fn after_several(self) -> &'static [u8]
+        ensures { result.now ≡ after_several self }
+    {
+        match self {
+            Stands::Zeros => b" of the array are missing: zeros stand in their place\n",
+            Stands::Others => {
+                b" of the array may be older or newer: they are another member's\n"
+            }
+        }
+    }
+
+    fn after_count(self) -> &'static [u8]
+        ensures { result.now ≡ after_count self }
+    {
+        match self {
+            Stands::Zeros => b" runs are missing\n",
+            Stands::Others => b" runs may be older or newer\n",
+        }
+    }
+}
+
+/// Says which sectors of the array a command put out otherwise than they were asked for, where it was to fill them, in a line for each
+/// run of them, and how many they are: first those for which it put out zeros, then those that are another member's. It fails only
+/// where the output has failed, as all here does.
+pub fn put_gap_lines<S: Sink>(
     out: &mut S,
     command: Command<'_>,
-    missing: &Option<BadSet>,
+    gaps: &Option<Gaps>,
 ) -> Result<(), SinkFault>
     ensures { PutsOrFails S.contents S.failed out.old out.new
-        (missing_lines (ask_of command.entry) missing.now) result }
+        (gap_lines (ask_of command.entry) gaps.now) result }
 {
     if !command.fills() {
         return out.put(b"");
     }
-    put_missing_of(out, missing)
+    put_gaps_of(out, gaps)
 }
 
-fn put_missing_of<S: Sink>(out: &mut S, missing: &Option<BadSet>) -> Result<(), SinkFault>
-    ensures { PutsOrFails S.contents S.failed out.old out.new (missing_of missing.now) result }
+fn put_gaps_of<S: Sink>(out: &mut S, gaps: &Option<Gaps>) -> Result<(), SinkFault>
+    ensures { PutsOrFails S.contents S.failed out.old out.new (gaps_told gaps.now) result }
 {
-    match missing {
-        Some(missing) => put_missing(out, missing),
+    match gaps {
+        Some(gaps) => put_gaps(out, gaps),
         None => out.put(b""),
     }
 }
 
-fn put_missing<S: Sink>(out: &mut S, missing: &BadSet) -> Result<(), SinkFault>
-    ensures { PutsOrFails S.contents S.failed out.old out.new (missing_text missing.now) result }
+fn put_gaps<S: Sink>(out: &mut S, gaps: &Gaps) -> Result<(), SinkFault>
+    ensures { PutsOrFails S.contents S.failed out.old out.new (gaps_text gaps.now) result }
 {
-    put_runs(out, missing.runs())
-}
-
-fn put_runs<S: Sink>(out: &mut S, runs: &[Run]) -> Result<(), SinkFault>
-    requires { IsCanonical runs.now }
-    ensures { PutsOrFails S.contents S.failed out.old out.new (missing_text runs.now) result }
-{
-    run_lines(out, runs)?;
-    count_line(out, runs)?;
+    put_set(out, Stands::Zeros, &gaps.missing)?;
+    put_set(out, Stands::Others, &gaps.others)?;
     Ok(())
 }
 
-fn run_lines<S: Sink>(out: &mut S, runs: &[Run]) -> Result<(), SinkFault>
+fn put_set<S: Sink>(out: &mut S, stands: Stands, set: &BadSet) -> Result<(), SinkFault>
+    ensures { PutsOrFails S.contents S.failed out.old out.new (runs_text stands set.now) result }
+{
+    put_runs(out, stands, set.runs())
+}
+
+fn put_runs<S: Sink>(out: &mut S, stands: Stands, runs: &[Run]) -> Result<(), SinkFault>
     requires { IsCanonical runs.now }
-    ensures { PutsOrFails S.contents S.failed out.old out.new (flat_map missing_run_text runs.now) result }
+    ensures { PutsOrFails S.contents S.failed out.old out.new (runs_text stands runs.now) result }
+{
+    run_lines(out, stands, runs)?;
+    count_line(out, stands, runs)?;
+    Ok(())
+}
+
+fn run_lines<S: Sink>(out: &mut S, stands: Stands, runs: &[Run]) -> Result<(), SinkFault>
+    requires { IsCanonical runs.now }
+    ensures { PutsOrFails S.contents S.failed out.old out.new (flat_map (gap_text stands) runs.now) result }
 {
     for run in runs {
-        run_line(out, run)?;
+        run_line(out, stands, run)?;
     }
     Ok(())
 }
 
-fn run_line<S: Sink>(out: &mut S, run: &Run) -> Result<(), SinkFault>
+fn run_line<S: Sink>(out: &mut S, stands: Stands, run: &Run) -> Result<(), SinkFault>
     requires some { 0 < run.now.len }
     requires fits { run.now.start + run.now.len ≤ 2 ^ 54 }
-    ensures { PutsOrFails S.contents S.failed out.old out.new (missing_run_text run.now) result }
+    ensures { PutsOrFails S.contents S.failed out.old out.new (gap_text stands run.now) result }
 {
     if run.len == 1 {
-        sector_line(out, run.start)
+        sector_line(out, stands, run.start)
     } else {
-        sectors_line(out, run.start, run.start + run.len - 1)
+        sectors_line(out, stands, run.start, run.start + run.len - 1)
     }
 }
 
-fn sector_line<S: Sink>(out: &mut S, sector: u64) -> Result<(), SinkFault>
-    ensures { PutsOrFails S.contents S.failed out.old out.new (single_text sector) result }
+fn sector_line<S: Sink>(out: &mut S, stands: Stands, sector: u64) -> Result<(), SinkFault>
+    ensures { PutsOrFails S.contents S.failed out.old out.new (single_text stands sector) result }
 {
     number_after(out, b"mdcli: sector ", sector)?;
-    out.put(b" of the array is missing: zeros stand in its place\n")?;
+    out.put(stands.after_one())?;
     Ok(())
 }
 
-#[tactic(auto, using(md_examine::proofs::Puts::puts_then))]
-fn sectors_line<S: Sink>(out: &mut S, first: u64, last: u64) -> Result<(), SinkFault>
-    ensures { PutsOrFails S.contents S.failed out.old out.new (several_text first last) result }
+fn sectors_line<S: Sink>(
+    out: &mut S,
+    stands: Stands,
+    first: u64,
+    last: u64,
+) -> Result<(), SinkFault>
+    ensures { PutsOrFails S.contents S.failed out.old out.new (several_text stands first last) result }
 {
     first_to_last(out, first, last)?;
-    out.put(b" of the array are missing: zeros stand in their place\n")?;
+    out.put(stands.after_several())?;
     Ok(())
 }
 
@@ -98,21 +153,21 @@ fn first_to_last<S: Sink>(out: &mut S, first: u64, last: u64) -> Result<(), Sink
 }
 
 // How many sectors there are, where there are several runs.
-fn count_line<S: Sink>(out: &mut S, runs: &[Run]) -> Result<(), SinkFault>
+fn count_line<S: Sink>(out: &mut S, stands: Stands, runs: &[Run]) -> Result<(), SinkFault>
     requires { IsCanonical runs.now }
     ensures { PutsOrFails S.contents S.failed out.old out.new
-        (count_if_several runs.now) result }
+        (count_if_several stands runs.now) result }
 {
     if runs.len() > 1 {
-        put_count(out, missing_count(runs), runs.len())
+        put_count(out, stands, gap_count(runs), runs.len())
     } else {
         out.put(b"")
     }
 }
 
-fn missing_count(runs: &[Run]) -> u64
+fn gap_count(runs: &[Run]) -> u64
     requires { IsCanonical runs.now }
-    ensures { result ≡ missing_count runs.now }
+    ensures { result ≡ gap_count runs.now }
 {
     let mut sectors = 0;
     for run in runs {
@@ -121,11 +176,16 @@ fn missing_count(runs: &[Run]) -> u64
     sectors
 }
 
-fn put_count<S: Sink>(out: &mut S, sectors: u64, runs: usize) -> Result<(), SinkFault>
-    ensures { PutsOrFails S.contents S.failed out.old out.new (count_text sectors runs) result }
+fn put_count<S: Sink>(
+    out: &mut S,
+    stands: Stands,
+    sectors: u64,
+    runs: usize,
+) -> Result<(), SinkFault>
+    ensures { PutsOrFails S.contents S.failed out.old out.new (count_text stands sectors runs) result }
 {
     number_after(out, b"mdcli: ", sectors)?;
     number_after(out, b" sectors in ", runs)?;
-    out.put(b" runs are missing\n")?;
+    out.put(stands.after_count())?;
     Ok(())
 }

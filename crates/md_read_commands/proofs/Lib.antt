@@ -3,10 +3,12 @@ pub mod Filled
 pub mod FilledPut
 pub mod Missing
 pub mod Noted
+pub mod OtherMembers
 pub mod PiecesPut
 pub mod PiecesRead
 pub mod ReadCounts
 pub mod ReadReadied
 pub mod ResyncedData
+pub mod Rooms
 pub mod Served
 pub mod Ways

@@ -1,10 +1,10 @@
 -- The sectors of two sets in one.
-use Rattle.std.proofs.Common.{◌≡◌, ◌⊎◌, ◌↔◌, inl, inr, ℕ, ◌+◌, ◌<◌, ◌≤◌, ◌^◌, List, [], ◌∷◌, ◌++◌, refl, sym, subst, arith}
+use Rattle.std.proofs.Common.{ap, ◌∙◌, ◌≡◌, ◌⊎◌, ◌↔◌, inl, inr, ℕ, ◌+◌, ◌<◌, ◌≤◌, ◌^◌, List, [], ◌∷◌, ◌++◌, refl, sym, subst, arith}
 use Rattle.std.proofs.lemmas.List.Elements.{All-append, All-cons, All-nil}
 use Rattle.md_badblocks.specs.declared.run.Run.{Run}
 use Rattle.md_badblocks.specs.Runs.{IsBad, IsCanonical, RisesFrom}
-use Rattle.md_read_commands.specs.Filling.{AreFit, HasSomeOf}
-use Rattle.md_read_commands.specs.Serving.{HasBoth}
+use Rattle.md_read_commands.specs.declared.gaps.Gaps.{Gaps}
+use Rattle.md_read_commands.specs.Gaps.{AreFit, HasBoth, HasBothGaps, HasNoGaps, HasSomeOf, IsGap, no_gaps}
 
 -- a set to which runs were added, of which the rest is to come
 abbrev pub IsJoinedTo : List Run → List Run → List Run → List Run → Type 0
@@ -74,6 +74,10 @@ pub some_bad : (runs : List Run) → AreFit runs → (runs ≡ [] → ⊥) → (
 some_bad [] fit some = absurd (some refl)
 some_bad (run ∷ runs) fit some = let long = (fit 0 run (omega arith)).0 in (run.start, inl (omega arith, omega arith))
 
+pub some_gap : (missing others : List Run) → AreFit missing → AreFit others → ((missing ≡ []) × (others ≡ []) → ⊥) → (s : ℕ) × (IsBad missing s ⊎ IsBad others s)
+some_gap [] others fit_missing fit_others some = let bad = some_bad others fit_others (λ none. some (refl, none)) in (bad.0, inr bad.1)
+some_gap (run ∷ runs) others fit_missing fit_others some = let long = (fit_missing 0 run (omega arith)).0 in (run.start, inl (inl (omega arith, omega arith)))
+
 -- a set's runs are fit
 fit_from : (low : ℕ) (runs : List Run) → RisesFrom low runs → AreFit runs
 fit_from low [] rises = All-nil (λ run. (0 < run.len) × (run.start + run.len ≤ 2 ^ 54))
@@ -103,9 +107,33 @@ bad_both (run ∷ one) other s = (
   ],
 )
 
--- of an empty list
-pub none_clear : (runs : List Run) → runs ≡ [] → (sector s : ℕ) → IsBad runs s → s < sector
-none_clear runs none sector s bad = absurd (subst (λ (xs : List Run). IsBad xs s) none bad)
+-- nothing was added
+pub none_added : (was more : List Run) → HasSomeOf was more was
+none_added was more = (λ s bad. bad, λ s bad. inl bad)
 
+-- all were
+pub all_added : (was more now : List Run) → HasBoth was more now → HasSomeOf was more now
+all_added was more now both = (λ s bad. (both s).1 (inl bad), λ s bad. (both s).0 bad)
+
+-- of an empty list
 pub none_fit : (runs : List Run) → runs ≡ [] → AreFit runs
 none_fit runs none = subst AreFit (sym none) (All-nil (λ run. (0 < run.len) × (run.start + run.len ≤ 2 ^ 54)))
+
+-- where there are none
+pub none_gap : (gaps : Gaps) → HasNoGaps gaps → (s : ℕ) → IsGap gaps s → ⊥
+none_gap gaps none s gap = elim gap [
+  | inl bad ↦ absurd (subst (λ (l : List Run). IsBad l s) none.0 bad)
+  | inr bad ↦ absurd (subst (λ (l : List Run). IsBad l s) none.1 bad)
+]
+
+pub none_clear : (gaps : Gaps) → HasNoGaps gaps → (sector s : ℕ) → IsGap gaps s → s < sector
+none_clear gaps none sector s gap = absurd (none_gap gaps none s gap)
+
+-- there is one record of none
+pub no_gaps_is : (gaps : Gaps) → HasNoGaps gaps → gaps ≡ no_gaps
+no_gaps_is gaps none =
+    ap (λ (l : List Run). record { missing = l; others = gaps.others }) none.0
+    ∙ ap (λ (l : List Run). record { missing = []; others = l }) none.1
+
+pub nothing_noted : (one other : Gaps) → HasNoGaps other → HasBothGaps one other one
+nothing_noted one other none = (nothing_more one.missing other.missing none.0, nothing_more one.others other.others none.1)

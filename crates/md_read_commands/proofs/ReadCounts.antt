@@ -1,6 +1,5 @@
 -- No read wins or loses a device.
 use Rattle.std.proofs.Common.{◌∙◌, ⊎_elim, ℕ, ◌+◌, ◌/◌, Bool, true, false, List, [], ◌∷◌, length, Option, Result, Ok, Err}
-use Rattle.md_badblocks.specs.declared.run.Run.{Run}
 use Rattle.md_state.specs.View.{MirrorView}
 use Rattle.md_read.specs.declared.fault.UnreadFault.TheVariants as unread
 use Rattle.md_resync.specs.declared.fault.ResyncFault.TheVariants as resync
@@ -8,6 +7,7 @@ use Rattle.md_examine.specs.declared.sink.Sink.{Ghosts as SinkGhosts}
 use Rattle.md_commands.specs.declared.fault.CommandFault.{CommandFault}
 use Rattle.md_commands.specs.declared.fault.CommandFault.TheVariants.{NoPieceMemory, OutputFault, Read, Resync}
 use Rattle.md_commands.proofs.DeviceCounts.{AsMany, not_readied, readied, refused, same}
+use Rattle.md_read_commands.specs.declared.gaps.Gaps.{Gaps}
 use Rattle.md_read_commands.specs.declared.way.Way.{Way}
 use Rattle.md_read_commands.specs.declared.way.Way.TheVariants.{Resynced}
 use Rattle.md_read_commands.specs.Filling.{FillsSome, PutsAll, ReadsFilled, RefusesToFill}
@@ -69,9 +69,9 @@ module _ {S : Type 0} (s : SinkGhosts S) (old new : MirrorView) (before after : 
   reads_readonly_as_many OutputFault h = fails_readonly OutputFault h
   reads_readonly_as_many fault h = absurd h
 
--- ---- sectors are read with zeros in the place of those that nobody gave
-some_filled : (way : Way) (sector count : ℕ) (missing : List Run) (old new : MirrorView) → FillsSome way sector count missing old new → AsMany old new
-some_filled way sector count missing old new h = h.filled.fills.rests.disks.same.as_many
+-- ---- sectors are read, and those that are not given are filled
+some_filled : (way : Way) (sector count : ℕ) (gaps : Gaps) (old new : MirrorView) → FillsSome way sector count gaps old new → AsMany old new
+some_filled way sector count gaps old new h = h.filled.fills.rests.disks.same.as_many
 
 made_ready : (readonly : Bool) (sector count : ℕ) (old ready : MirrorView) (way : Way) → IsReadyTo readonly sector count old way ready → AsMany old ready
 made_ready false sector count old ready way h = readied old ready h.0.readied
@@ -85,17 +85,17 @@ not_made_ready false sector count old new (Resync fault) h = not_readied fault o
 not_made_ready readonly sector count old new fault h = absurd h
 
 module _ {S : Type 0} (s : SinkGhosts S) (readonly : Bool) (sector count : ℕ) (old new : MirrorView) (before after : S) where
-  module _ (missing : List Run) where
-    all_put : PutsAll s readonly sector count missing old new before after → AsMany old new
+  module _ (gaps : Gaps) where
+    all_put : PutsAll s readonly sector count gaps old new before after → AsMany old new
     all_put h = h.puts.filled.fills.rests.disks.same.as_many ∙ made_ready readonly sector count old h.ready h.way h.readied
 
-    not_filled : (fault : CommandFault) → RefusesToFill s readonly sector count missing old new before after fault → AsMany old new
+    not_filled : (fault : CommandFault) → RefusesToFill s readonly sector count gaps old new before after fault → AsMany old new
     not_filled NoPieceMemory h = ⊎_elim
         (λ nothing. same h.ready new nothing.unread)
-        (λ until. some_filled h.way sector count until.missing h.ready new until.put.some)
+        (λ until. some_filled h.way sector count until.gaps h.ready new until.put.some)
         h.refused
         ∙ made_ready readonly sector count old h.ready h.way h.readied
-    not_filled OutputFault h = some_filled h.way sector count missing h.ready new h.refused.0 ∙ made_ready readonly sector count old h.ready h.way h.readied
+    not_filled OutputFault h = some_filled h.way sector count gaps h.ready new h.refused.0 ∙ made_ready readonly sector count old h.ready h.way h.readied
     not_filled (Read (unread.Unreadable x)) h = all_put h.0
     not_filled (Read unread.Halted) h = not_made_ready readonly sector count old new (Read unread.Halted) h.refused
     not_filled (Read unread.OutOfRange) h = not_made_ready readonly sector count old new (Read unread.OutOfRange) h.refused
@@ -103,6 +103,6 @@ module _ {S : Type 0} (s : SinkGhosts S) (readonly : Bool) (sector count : ℕ) 
     not_filled (Resync fault) h = not_made_ready readonly sector count old new (Resync fault) h.refused
     not_filled fault h = absurd h
 
-  pub fills_as_many : (told : Option (List Run)) (result : Result (Unit {0}) CommandFault) → ReadsFilled s readonly sector count old new before after told result → AsMany old new
-  fills_as_many told (Ok x) h = all_put h.missing h.gives.puts
-  fills_as_many told (Err fault) h = not_filled h.missing fault h.gives
+  pub fills_as_many : (told : Option Gaps) (result : Result (Unit {0}) CommandFault) → ReadsFilled s readonly sector count old new before after told result → AsMany old new
+  fills_as_many told (Ok x) h = all_put h.gaps h.gives.puts
+  fills_as_many told (Err fault) h = not_filled h.gaps fault h.gives

@@ -1,8 +1,7 @@
 -- Sectors are read after a resync, where one was needed.
-use Rattle.std.proofs.Common.{◌≡◌, ◌∙◌, ◌&&◌, ℕ, Bool, true, false, not, List, [], refl, sym, ap, subst}
+use Rattle.std.proofs.Common.{◌≡◌, ◌∙◌, ◌&&◌, ℕ, Bool, true, false, not, refl, sym, ap, subst}
 use Rattle.std.specs.Prelude.{MatchResult, Result, Ok, Err}
 use Rattle.md_examine.specs.declared.sink.Sink.{Ghosts}
-use Rattle.md_badblocks.specs.declared.run.Run.{Run}
 use Rattle.md_read.specs.declared.fault.UnreadFault.{UnreadFault}
 use Rattle.md_read.specs.declared.fault.UnreadFault.TheVariants.{Halted, NotResynced, OutOfRange, Unreadable}
 use Rattle.md_resync.specs.declared.fault.ResyncFault.TheVariants.{ReadFault}
@@ -12,10 +11,12 @@ use Rattle.md_state.specs.Trying.{Refuses}
 use Rattle.md_state.specs.View.{ArrayView, MirrorView}
 use Rattle.md_commands.specs.declared.fault.CommandFault.{CommandFault}
 use Rattle.md_commands.specs.declared.fault.CommandFault.TheVariants.{NoPieceMemory, OutputFault, Read, Resync}
-use Rattle.md_read_commands.specs.Filling.{FillsArray, IsFirstMissing, PutsAll, PutsFilled, RefusesFilled, RefusesToFill}
+use Rattle.md_read_commands.specs.Filling.{FillsArray, IsFirstGap, PutsAll, PutsFilled, RefusesFilled, RefusesToFill}
 use Rattle.md_read_commands.specs.Pieces.{PutsSectors, RefusesSectors}
 use Rattle.md_read_commands.specs.Reading.{IsReadied, IsReadyTo, IsWayFor, MayReadArray, MustBeResynced, ReadsArray, ReadsReadonly, RefusesReadonly, RefusesReady, RefusesToRead}
 use Rattle.md_commands.specs.Resyncing.{ResyncsIfNeeded, needs_resync}
+use Rattle.md_read_commands.specs.declared.gaps.Gaps.{Gaps}
+use Rattle.md_read_commands.specs.Gaps.{HasNoGaps}
 use Rattle.md_read_commands.specs.declared.way.Way.{Way}
 use Rattle.md_read_commands.specs.declared.way.Way.TheVariants.{Resynced, Unresynced}
 use Rattle.md_read_commands.specs.Ways.{MayReadBy}
@@ -119,9 +120,9 @@ module _ {S : Type 0} (o : Ghosts S) (sector count : ℕ) (old new : MirrorView)
     read_as_it_is way chosen (Ok x) puts = record { may = may; way = way; chosen = chosen; puts = puts }
     read_as_it_is way chosen (Err fault) h = refuses_as_it_is way chosen fault h
 
--- ---- with zeros in the place of missing sectors
-module _ {S : Type 0} (o : Ghosts S) (readonly : Bool) (sector count : ℕ) (missing : List Run) (old ready new : MirrorView) (before after : S) where
-  pub not_ready_to_fill : missing ≡ [] → (fault : CommandFault) → RefusesReady readonly sector count old new fault → RefusesToFill o readonly sector count missing old new before before fault
+-- ---- where sectors that are not given are filled
+module _ {S : Type 0} (o : Ghosts S) (readonly : Bool) (sector count : ℕ) (gaps : Gaps) (old ready new : MirrorView) (before after : S) where
+  pub not_ready_to_fill : HasNoGaps gaps → (fault : CommandFault) → RefusesReady readonly sector count old new fault → RefusesToFill o readonly sector count gaps old new before before fault
   not_ready_to_fill none (Read Halted) h = record { refused = h; unwritten = refl; none = none }
   not_ready_to_fill none (Read OutOfRange) h = record { refused = h; unwritten = refl; none = none }
   not_ready_to_fill none (Read NotResynced) h = record { refused = h; unwritten = refl; none = none }
@@ -129,18 +130,18 @@ module _ {S : Type 0} (o : Ghosts S) (readonly : Bool) (sector count : ℕ) (mis
   not_ready_to_fill none fault h = absurd h
 
   module _ (way : Way) (is : IsReadyTo readonly sector count old way ready) where
-    pub refuses_to_fill : (fault : CommandFault) → RefusesFilled o way sector count missing ready new before after fault → RefusesToFill o readonly sector count missing old new before after fault
+    pub refuses_to_fill : (fault : CommandFault) → RefusesFilled o way sector count gaps ready new before after fault → RefusesToFill o readonly sector count gaps old new before after fault
     refuses_to_fill NoPieceMemory h = record { way = way; ready = ready; readied = is; refused = h }
     refuses_to_fill OutputFault h = record { way = way; ready = ready; readied = is; refused = h }
     refuses_to_fill fault h = absurd h
 
-    module _ (puts : PutsFilled o way sector count missing ready new before after) where
-      pub puts_all : PutsAll o readonly sector count missing old new before after
+    module _ (puts : PutsFilled o way sector count gaps ready new before after) where
+      pub puts_all : PutsAll o readonly sector count gaps old new before after
       puts_all = record { way = way; ready = ready; readied = is; puts = puts }
 
-      pub fills_but : (fault : UnreadFault) → IsFirstMissing missing fault → RefusesToFill o readonly sector count missing old new before after (Read fault)
+      pub fills_but : (fault : UnreadFault) → IsFirstGap gaps fault → RefusesToFill o readonly sector count gaps old new before after (Read fault)
       fills_but (Unreadable s) first = (puts_all, first)
       fills_but fault first = absurd first
 
-      pub fills_all : missing ≡ [] → FillsArray o readonly sector count missing old new before after
+      pub fills_all : HasNoGaps gaps → FillsArray o readonly sector count gaps old new before after
       fills_all none = record { puts = puts_all; none = none }

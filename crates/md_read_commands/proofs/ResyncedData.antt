@@ -3,7 +3,7 @@ use Rattle.std.proofs.Common.{◌≡◌, ◌≢◌, ◌∙◌, ℕ, ◌+◌, ◌
 use Rattle.std.proofs.lemmas.Bool.{and_parts}
 use Rattle.md_device.specs.Splice.{part}
 use Rattle.md_model.specs.Devices.{Stored}
-use Rattle.md_model.specs.Events.{Event, MemberPart, Step}
+use Rattle.md_model.specs.Events.{Event, Step}
 use Rattle.md_model.specs.Resyncing.{copied, copied_device}
 use Rattle.md_model.specs.Sectors.{Geometry, chunk_of}
 use Rattle.md_model.specs.Steps.{recorded, recorded_device}

@@ -1,10 +1,8 @@
 -- An array that is served is only read.
 use Rattle.std.proofs.Common.{◌≡◌, ◌∙◌, ◌⊎◌, inl, inr, ℕ, ◌+◌, ◌*◌, ◌-◌, ◌/◌, ◌%◌, ◌<◌, Bool, true, false, true≢false, List, [], ◌∷◌, length, Result, Ok, Err, refl, sym, ap, subst, arith}
-use Rattle.std.specs.Prelude.{MatchResult, vec_capacity}
-use Rattle.md_badblocks.specs.declared.run.Run.{Run}
-use Rattle.md_badblocks.specs.Runs.{IsBad}
+use Rattle.std.specs.Prelude.{MatchResult}
 use Rattle.md_bitmap.specs.declared.chunks.Chunks.{Chunks}
-use Rattle.md_array.specs.Consistency.{IsConsistent}
+use Rattle.md_device.specs.Device.{held}
 use Rattle.md_laws.proofs.Runs.Rests.{rests_same, rests_then}
 use Rattle.md_state.specs.Rests.{Rests}
 use Rattle.md_state.specs.View.{MirrorView}
@@ -12,7 +10,6 @@ use Rattle.md_read.specs.declared.fault.UnreadFault.{UnreadFault}
 use Rattle.md_read.specs.declared.fault.UnreadFault.TheVariants.{Unreadable}
 use Rattle.md_examine.specs.declared.sink.Sink.{Ghosts as Sinks}
 use Rattle.md_examine.specs.Sink.{Flushes}
-use Rattle.md_commands.specs.declared.fault.CommandFault.{CommandFault}
 use Rattle.md_commands.specs.declared.fault.CommandFault.TheVariants.{Read}
 use Rattle.md_commands.specs.declared.source.Source.{Ghosts as Sources}
 use Rattle.md_nbd.specs.declared.export.Export.{Export}
@@ -28,13 +25,17 @@ use Rattle.md_nbd.specs.NbdTasks.{task_of}
 use Rattle.md_nbd.specs.Server.Exchanges.{AnswersInTurn, DoesTask, Exchange}
 use Rattle.md_nbd.specs.Server.Sessions.{BreaksSession, EndsSession, is_orderly}
 use Rattle.md_nbd.specs.Server.Transmission.{HasFailed}
+use Rattle.md_read_commands.specs.declared.gaps.Gaps.{Gaps}
 use Rattle.md_read_commands.specs.declared.reader.ArrayReader.{ArrayReader}
 use Rattle.md_read_commands.specs.declared.way.Way.{Way}
-use Rattle.md_read_commands.specs.Filling.{IsFilled, IsFirstMissing}
+use Rattle.md_read_commands.specs.declared.way.Way.TheVariants.{Resynced, Unresynced}
+use Rattle.md_read_commands.specs.Filling.{IsFilled, IsFirstGap, IsNotGiven}
+use Rattle.md_read_commands.specs.Gaps.{IsGap, capacity_of, no_gaps}
+use Rattle.md_read_commands.specs.Others.{IsTakenFromOther}
 use Rattle.md_read_commands.specs.Ways.{ReadsBy}
 use Rattle.md_nbd.specs.declared.server.store.StoreFault.{StoreFault}
 use Rattle.md_read_commands.proofs.Filled.{filled, read_fills}
-use Rattle.md_read_commands.proofs.Noted.{nothing_more}
+use Rattle.md_read_commands.proofs.Noted.{nothing_noted}
 use Rattle.md_read_commands.specs.Serving.{GivesRequest, LacksSector, ReadsRequest, RefusesRequest, ServesClient, StopsServing, export_of, reader_store}
 use Rattle.md_read_commands.proofs.Ways.{reads_rests}
 
@@ -43,11 +44,16 @@ pub lacks_rests : (way : Way) (sector sectors : ℕ) (old new : MirrorView) → 
 lacks_rests way sector sectors old new h =
     rests_then old h.asked new h.before (rests_then h.asked h.over new h.within h.after)
 
--- zeros stand in its place, and it was not noted beside those before
-pub lacks_missing : (way : Way) (sector : ℕ) (bytes : List ℕ) (missing : List Run) (old new : MirrorView) → IsFilled way sector bytes missing old new → (s : ℕ) → IsBad missing s
+-- another member gave it
+taken_not_given : (way : Way) (s : ℕ) (block : List ℕ) (old new : MirrorView) → IsTakenFromOther way s block old new → IsNotGiven way s old new
+taken_not_given Resynced s block old new taken = absurd taken
+taken_not_given Unresynced s block old new taken = inr (taken.0, taken.1)
+
+-- it was filled, and not noted beside those before
+pub lacks_gap : (way : Way) (sector : ℕ) (bytes : List ℕ) (gaps : Gaps) (old new : MirrorView) → IsFilled way sector bytes gaps old new → (s : ℕ) → IsGap gaps s
     → (sectors : ℕ) → length bytes / 512 ≡ sectors → LacksSector way sector sectors old new
-lacks_missing way sector bytes missing old new h s bad sectors many =
-    let inside = h.within s bad in
+lacks_gap way sector bytes gaps old new h s gap sectors many =
+    let inside = h.within s gap in
     let low = inside.0 in
     let high = inside.1 in
     let i : ℕ = s - sector in
@@ -62,35 +68,38 @@ lacks_missing way sector bytes missing old new h s bad sectors many =
       before = h.fills.begins i among;
       within = h.fills.within i among;
       after = h.fills.ends i among;
-      lost = (h.fills.lost i among (subst (λ (t : ℕ). IsBad missing t) (sym is) bad)).1;
+      lost = elim (subst (λ (t : ℕ). IsGap gaps t) (sym is) gap) [
+        | inl bad ↦ (h.fills.lost i among bad).1
+        | inr bad ↦ taken_not_given way (sector + i) (held bytes i 512) (h.fills.asked i) (h.fills.over i) (h.fills.taken i among bad)
+      ];
     }
 
 -- ---- one request
 -- each sector of it was given
-reads_request : (fill : Bool) (way : Way) (sector : ℕ) (bytes : List ℕ) (was : List Run) (old new : MirrorView) → length bytes % 512 ≡ 0 → Rests old new → ReadsBy way sector bytes old new
+reads_request : (fill : Bool) (way : Way) (sector : ℕ) (bytes : List ℕ) (was : Gaps) (old new : MirrorView) → length bytes % 512 ≡ 0 → Rests old new → ReadsBy way sector bytes old new
     → ReadsRequest way fill sector bytes was was old new
 reads_request true way sector bytes was old new whole rests reads = record {
-  missing = [];
-  filled = filled way sector bytes [] old new (read_fills way sector bytes [] old new whole rests (λ some. reads) (λ s bad. absurd bad));
-  noted = nothing_more was [] refl;
+  gaps = no_gaps;
+  filled = filled way sector bytes no_gaps old new (read_fills way sector bytes no_gaps old new whole rests (λ some. reads) (λ s gap. elim gap [ inl bad ↦ absurd bad | inr bad ↦ absurd bad ]));
+  noted = nothing_noted was no_gaps (refl, refl);
 }
 reads_request false way sector bytes was old new whole rests reads = (reads, refl)
 
 -- it is not filled, or longer than what there is room for
 pub served_given : (r : Result (Unit {0}) StoreFault) (p : ArrayReader) (old new : MirrorView) (sector : ℕ) (bytes : List ℕ) (sectors : ℕ) → length bytes % 512 ≡ 0
-    → (p.fill ≡ false) ⊎ (vec_capacity p.holes < sectors) → Rests old new
+    → (p.fill ≡ false) ⊎ (capacity_of p.holes < sectors) → Rests old new
     → MatchResult r (λ _. ReadsBy p.way sector bytes old new) (λ _. LacksSector p.way sector sectors old new)
     → MatchResult r (λ _. GivesRequest (p, old) (p, new) sector bytes) (λ _. RefusesRequest (p, old) (p, new) sector sectors)
 served_given (Ok x) p old new sector bytes sectors whole why rests reads =
-    (record { way = refl; fill = refl; room = refl }, reads_request p.fill p.way sector bytes p.missing old new whole rests reads)
+    (record { way = refl; fill = refl; room = (refl, refl) }, reads_request p.fill p.way sector bytes p.gaps old new whole rests reads)
 served_given (Err e) p old new sector bytes sectors whole why rests lacks = (
-  record { way = refl; fill = refl; room = refl },
+  record { way = refl; fill = refl; room = (refl, refl) },
   refl,
   lacks,
   λ fills within. elim why [ inl off ↦ absurd (true≢false (sym fills ∙ off)) | inr more ↦ absurd (omega arith) ],
 )
 
-given_rests : (fill : Bool) (way : Way) (sector : ℕ) (bytes : List ℕ) (was now : List Run) (old new : MirrorView) → ReadsRequest way fill sector bytes was now old new → Rests old new
+given_rests : (fill : Bool) (way : Way) (sector : ℕ) (bytes : List ℕ) (was now : Gaps) (old new : MirrorView) → ReadsRequest way fill sector bytes was now old new → Rests old new
 given_rests true way sector bytes was now old new h = h.filled.fills.rests
 given_rests false way sector bytes was now old new h = reads_rests way sector bytes old new h.0
 
@@ -98,7 +107,7 @@ same_rests : (old new : ArrayReader × MirrorView) → new ≡ old → Rests old
 same_rests old new same = subst (λ (p : ArrayReader × MirrorView). Rests old.1 p.1) (sym same) (rests_same old.1)
 
 task_rests : (t : Task) (cookie : ℕ) (payload : List ℕ) (old new : ArrayReader × MirrorView) (reply : List ℕ) → DoesTask reader_store t cookie payload old new reply → Rests old.1 new.1
-task_rests (task.Read sector sectors) cookie payload old new reply (inl h) = given_rests old.0.fill old.0.way sector h.bytes old.0.missing new.0.missing old.1 new.1 h.read.1
+task_rests (task.Read sector sectors) cookie payload old new reply (inl h) = given_rests old.0.fill old.0.way sector h.bytes old.0.gaps new.0.gaps old.1 new.1 h.read.1
 task_rests (task.Read sector sectors) cookie payload old new reply (inr h) = lacks_rests old.0.way sector sectors old.1 new.1 h.0.2
 task_rests (task.Write sector sectors through) cookie payload old new reply (inl h) = absurd h.0
 task_rests (task.Write sector sectors through) cookie payload old new reply (inr h) = same_rests old new h.0
@@ -162,6 +171,6 @@ module _ {I S : Type 0} (i : Sources I) (o : Sinks S) (first last : ArrayReader)
     flushed = record { puts = flushes.puts; flushed = flushes.flushed };
   }
 
-  pub gave_zeros : ServesClient i o first last old new from to was now → (fault : UnreadFault) → IsFirstMissing last.missing fault → StopsServing i o first last old new from to was now (Read fault)
+  pub gave_zeros : ServesClient i o first last old new from to was now → (fault : UnreadFault) → IsFirstGap last.gaps fault → StopsServing i o first last old new from to was now (Read fault)
   gave_zeros served (Unreadable s) h = (served, h)
   gave_zeros served fault h = absurd h

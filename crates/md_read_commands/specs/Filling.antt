@@ -1,7 +1,6 @@
--- Sectors of the array are read and put out with zeros in the place of those that are not given: that nobody gives or, of an array that is
--- not resynced, that the member from which a resync would copy them does not give.
-use Rattle.std.specs.List.{All}
-use Rattle.std.specs.Prelude.{◌^◌, ◌≡◌, ◌⊎◌, ◌↔◌, ℕ, ◌+◌, ◌*◌, ◌-◌, ◌/◌, ◌%◌, ◌<◌, ◌≤◌, Bool, true, false, List, [], length, replicate, take, Option, Some, None, Result, Ok, Err, MatchResult}
+-- Sectors of the array are read and put out with zeros in the place of those that nobody gives. Of an array that is not resynced, what
+-- another member has is put out in the place of those that the member does not give from which a resync would copy them.
+use Rattle.std.specs.Prelude.{◌^◌, ◌≡◌, ◌⊎◌, ◌↔◌, ℕ, ◌+◌, ◌*◌, ◌-◌, ◌/◌, ◌%◌, ◌<◌, ◌≤◌, Bool, true, false, List, length, replicate, take, Option, Some, None, Result, Ok, Err, MatchResult}
 use Rattle.md_badblocks.specs.declared.run.Run.{Run}
 use Rattle.md_badblocks.specs.Runs.{IsBad}
 use Rattle.md_device.specs.Device.{held}
@@ -22,9 +21,12 @@ use Rattle.md_state.specs.View.{MirrorView, geometry_of}
 use Rattle.md_array.specs.Worlds.{AreHonest, world_of}
 use Rattle.md_commands.specs.declared.fault.CommandFault.{CommandFault}
 use Rattle.md_commands.specs.declared.fault.CommandFault.TheVariants.{NoPieceMemory, OutputFault, Read, Resync}
+use Rattle.md_read_commands.specs.declared.gaps.Gaps.{Gaps}
 use Rattle.md_read_commands.specs.declared.way.Way.{Way}
 use Rattle.md_read_commands.specs.declared.way.Way.TheVariants.{Resynced, Unresynced}
 use Rattle.md_commands.specs.Output.{PutsOut}
+use Rattle.md_read_commands.specs.Gaps.{AreFit, HasNoGaps, HasSomeGapsOf, IsGap, IsKeptAt, IsSameAt, no_gaps}
+use Rattle.md_read_commands.specs.Others.{IsGivenByNoOther, IsGivenByOther, IsTakenFromOther}
 use Rattle.md_read_commands.specs.Reading.{IsReadyTo, RefusesReady}
 use Rattle.md_read_commands.specs.Ways.{ReadsBy}
 
@@ -33,8 +35,7 @@ unfoldable pub zeros : List ℕ
 zeros = replicate 512 0
 
 -- ---- what is read
--- No member in sync gave the sector. Of an array that is not resynced: or the member from which a resync would copy it could not be read,
--- and no other was asked, since it may hold something else there.
+-- No member in sync gave the sector. Of an array that is not resynced: or the member from which a resync would copy it could not be read.
 abbrev pub IsNotGiven : Way → ℕ → MirrorView → MirrorView → Type 0
 IsNotGiven Resynced s old new = NoneGives s old new
 IsNotGiven Unresynced s old new = NoneGivesPart s old new ⊎ ((k : ℕ) × SourceFails k s old new)
@@ -53,14 +54,16 @@ module _ (way : Way) where
     pub high : s < from + length bytes / 512
     pub is : block ≡ held bytes (s - from) 512
 
-  -- These bytes stand for sectors from this one on: what a read gave and, of each that is missing, zeros. It is just those missing that
-  -- were not given.
-  pub record FillsSectors (sector : ℕ) (bytes : List ℕ) (missing : List Run)
+  -- These bytes stand for sectors from this one on: what a read gave; of each that is another's, what that member has; and of each that is
+  -- missing, zeros. It is just those another's that the way did not give and another member did, and just those missing that nobody gave.
+  pub record FillsSectors (sector : ℕ) (bytes : List ℕ) (gaps : Gaps)
       (old new : MirrorView) : Type 0 where
     pub whole : length bytes % 512 ≡ 0
     pub rests : Rests old new
-    pub given : (i : ℕ) → i < length bytes / 512 → (IsBad missing (sector + i) → ⊥)
+    pub given : (i : ℕ) → i < length bytes / 512 → (IsGap gaps (sector + i) → ⊥)
         → IsGivenByRead (sector + i) (held bytes i 512) old new
+    pub apart : (i : ℕ) → i < length bytes / 512 → IsBad gaps.missing (sector + i)
+        → IsBad gaps.others (sector + i) → ⊥
     -- The mirror as each sector was asked for, and when that was over. One comes after another, so that a read which failed for one is none
     -- that failed for another.
     pub asked : ℕ → MirrorView
@@ -69,202 +72,214 @@ module _ (way : Way) where
     pub within : (i : ℕ) → i < length bytes / 512 → Rests (asked i) (over i)
     pub ends : (i : ℕ) → i < length bytes / 512 → Rests (over i) new
     pub in_turn : (i j : ℕ) → i < j → j < length bytes / 512 → Rests (over i) (asked j)
-    pub lost : (i : ℕ) → i < length bytes / 512 → IsBad missing (sector + i)
+    pub lost : (i : ℕ) → i < length bytes / 512 → IsBad gaps.missing (sector + i)
         → (held bytes i 512 ≡ zeros) × IsNotGiven way (sector + i) (asked i) (over i)
+        × NoneGives (sector + i) (asked i) (over i)
+    pub taken : (i : ℕ) → i < length bytes / 512 → IsBad gaps.others (sector + i)
+        → IsTakenFromOther way (sector + i) (held bytes i 512) (asked i) (over i)
 
-  -- no other sector is missing
-  pub record IsFilled (sector : ℕ) (bytes : List ℕ) (missing : List Run) (old new : MirrorView) : Type 0 where
-    pub fills : FillsSectors sector bytes missing old new
-    pub within : (s : ℕ) → IsBad missing s → (sector ≤ s) × (s < sector + length bytes / 512)
+  -- no other sector is missing, or another's
+  pub record IsFilled (sector : ℕ) (bytes : List ℕ) (gaps : Gaps) (old new : MirrorView) : Type 0 where
+    pub fills : FillsSectors sector bytes gaps old new
+    pub within : (s : ℕ) → IsGap gaps s → (sector ≤ s) × (s < sector + length bytes / 512)
 
   -- so it is of some sectors from the first of a range on: not of all, perhaps
-  pub record FillsSome (sector count : ℕ) (missing : List Run) (old new : MirrorView) : Type 0 where
+  pub record FillsSome (sector count : ℕ) (gaps : Gaps) (old new : MirrorView) : Type 0 where
     pub bytes : List ℕ
     pub few : length bytes ≤ 512 * count
-    pub filled : IsFilled sector bytes missing old new
+    pub filled : IsFilled sector bytes gaps old new
 
 -- What is read of a resynced array so is its content: where devices do what they answer, and the members in sync hold a content at rest,
--- these are its bytes in each sector that is not missing and that no request in flight touches.
+-- these are its bytes in each sector that is not missing and that no request in flight touches. No sector of it is another's.
 abbrev pub FillsContent : Type 0
 FillsContent =
-    (sector : ℕ) (bytes : List ℕ) (missing : List Run) (old new : MirrorView)
-    → FillsSectors Resynced sector bytes missing old new
+    (sector : ℕ) (bytes : List ℕ) (gaps : Gaps) (old new : MirrorView)
+    → FillsSectors Resynced sector bytes gaps old new
     → AreHonest old.disks → (requests : ℕ → Option Request) → AreInFlight old.array requests
     → (a : Content) → HoldsAtRest (geometry_of old.array) a (world_of old requests)
-    → (i : ℕ) → i < length bytes / 512 → (IsBad missing (sector + i) → ⊥)
+    → (i : ℕ) → i < length bytes / 512 → (IsBad gaps.missing (sector + i) → ⊥)
     → IsQuiet (world_of old requests) (sector + i)
     → held bytes i 512 ≡ a (sector + i)
 
--- Which sectors are missing: each member in sync lists them, or a read of that very sector failed on its device as it was asked
--- for. This is so of any devices, also of those that don't do what they answer.
+-- Which sectors are missing, in whichever way they are read: each member in sync lists them, or a read of that very sector failed on its
+-- device as it was asked for. This is so of any devices, also of those that don't do what they answer.
 abbrev pub MissesUnserved : Type 0
 MissesUnserved =
-    (sector : ℕ) (bytes : List ℕ) (missing : List Run) (old new : MirrorView)
-    → (fills : FillsSectors Resynced sector bytes missing old new)
-    → (i : ℕ) → i < length bytes / 512 → IsBad missing (sector + i)
+    (way : Way) (sector : ℕ) (bytes : List ℕ) (gaps : Gaps) (old new : MirrorView)
+    → (fills : FillsSectors way sector bytes gaps old new)
+    → (i : ℕ) → i < length bytes / 512 → IsBad gaps.missing (sector + i)
     → (k : ℕ) (m : MemberView) → IsInSync old.array k m
     → Lists m (sector + i) ⊎ HasReadFailed k (sector + i) 1 (fills.asked i) (fills.over i)
 
--- ---- what is noted
--- each of these runs has a sector, and all of them are sectors that a set may have
-abbrev pub AreFit : List Run → Type 0
-AreFit runs = All (λ run. (0 < run.len) × (run.start + run.len ≤ 2 ^ 54)) runs
-
--- a set to which sectors of another were added, all of them or not
-abbrev pub HasSomeOf : List Run → List Run → List Run → Type 0
-HasSomeOf was more now =
-    ((s : ℕ) → IsBad was s → IsBad now s) × ((s : ℕ) → IsBad now s → IsBad was s ⊎ IsBad more s)
-
 -- ---- a part of a longer range
--- no sector from this one on is missing yet
-abbrev pub IsClear : List Run → ℕ → Type 0
-IsClear missing sector = (s : ℕ) → IsBad missing s → s < sector
+-- no sector from this one on is one of them yet
+abbrev pub IsClear : Gaps → ℕ → Type 0
+IsClear gaps sector = (s : ℕ) → IsGap gaps s → s < sector
 
 module _ (way : Way) where
-  -- of other sectors it stays known which are missing
-  pub record FillsMore (sector : ℕ) (bytes : List ℕ) (was missing : List Run)
+  -- of other sectors it stays known which are
+  pub record FillsMore (sector : ℕ) (bytes : List ℕ) (was gaps : Gaps)
       (old new : MirrorView) : Type 0 where
-    pub fills : FillsSectors way sector bytes missing old new
-    pub others : (s : ℕ) → (s < sector) ⊎ (sector + length bytes / 512 ≤ s) → IsBad missing s ↔ IsBad was s
+    pub fills : FillsSectors way sector bytes gaps old new
+    pub outside : (s : ℕ) → (s < sector) ⊎ (sector + length bytes / 512 ≤ s) → IsSameAt gaps was s
 
   -- so many sectors at the front of these bytes
-  pub record FillsFront (sector sectors : ℕ) (bytes : List ℕ) (was missing : List Run)
+  pub record FillsFront (sector sectors : ℕ) (bytes : List ℕ) (was gaps : Gaps)
       (old new : MirrorView) : Type 0 where
     pub some : 0 < sectors
     pub few : sectors ≤ length bytes / 512
-    pub more : FillsMore sector (take (512 * sectors) bytes) was missing old new
+    pub more : FillsMore sector (take (512 * sectors) bytes) was gaps old new
 
   -- no more sectors than a piece has
-  pub record FillsSomeMore (sector count : ℕ) (was missing : List Run) (old new : MirrorView) : Type 0 where
+  pub record FillsSomeMore (sector count : ℕ) (was gaps : Gaps) (old new : MirrorView) : Type 0 where
     pub bytes : List ℕ
     pub few : length bytes ≤ 512 * count
-    pub more : FillsMore sector bytes was missing old new
+    pub more : FillsMore sector bytes was gaps old new
 
-  -- Sectors were filled, all that were asked for, and which of them are missing was not noted with those before, since there was no memory
+  -- Sectors were filled, all that were asked for, and which of them were not given was not noted with those before, since there was no memory
   -- for that: some of them are noted perhaps, and nothing else.
-  pub record FillsUnnoted (sector count : ℕ) (was noted : List Run) (old new : MirrorView) : Type 0 where
+  pub record FillsUnnoted (sector count : ℕ) (was noted : Gaps) (old new : MirrorView) : Type 0 where
     pub bytes : List ℕ
     pub few : length bytes ≤ 512 * count
-    pub missing : List Run
-    pub more : FillsMore sector bytes [] missing old new
-    pub part : HasSomeOf was missing noted
+    pub gaps : Gaps
+    pub more : FillsMore sector bytes no_gaps gaps old new
+    pub part : HasSomeGapsOf was gaps noted
     pub s : ℕ
-    pub lacks : IsBad missing s
+    pub lacks : IsGap gaps s
+
+-- a sector that was not given is noted, and no other
+pub record NotesOne (s : ℕ) (was now : List Run) : Type 0 where
+  pub noted : (t : ℕ) → IsBad now t ↔ (IsBad was t ⊎ (t ≡ s))
+  pub fit : s < 2 ^ 54 → AreFit was → AreFit now
+
+-- A sector that was not given, for this reason, is another member's and noted as such, or zeros stand in its place, and it is noted as
+-- missing.
+abbrev pub FillsBlock : CommandFault → ℕ → List ℕ → Gaps → Gaps → MirrorView → MirrorView → Type 0
+FillsBlock fault s block was now old new =
+    (IsGivenByOther fault s block old new × NotesOne s was.others now.others × (now.missing ≡ was.missing))
+    ⊎ (IsGivenByNoOther fault s old new × (block ≡ zeros) × NotesOne s was.missing now.missing
+    × (now.others ≡ was.others))
 
 -- ---- what is put out
 module _ {S : Type 0} (o : Ghosts S) (way : Way) where
-  pub record PutsFilled (sector count : ℕ) (missing : List Run) (old new : MirrorView)
+  pub record PutsFilled (sector count : ℕ) (gaps : Gaps) (old new : MirrorView)
       (before after : S) : Type 0 where
     pub bytes : List ℕ
     pub many : length bytes ≡ 512 * count
-    pub filled : IsFilled way sector bytes missing old new
+    pub filled : IsFilled way sector bytes gaps old new
     pub shown : PutsOut o before after bytes
 
   -- the output took some of those that were read, from the first on
-  pub record PutsSome (sector count : ℕ) (missing : List Run) (old new : MirrorView)
+  pub record PutsSome (sector count : ℕ) (gaps : Gaps) (old new : MirrorView)
       (before after : S) : Type 0 where
-    pub some : FillsSome way sector count missing old new
+    pub some : FillsSome way sector count gaps old new
     pub taken : ℕ
     pub puts : Puts o.contents o.failed before after (take taken some.bytes)
 
   -- there is no memory for a piece
-  pub record ReadsNothing (missing : List Run) (old new : MirrorView) (before after : S) : Type 0 where
-    pub none : missing ≡ []
+  pub record ReadsNothing (gaps : Gaps) (old new : MirrorView) (before after : S) : Type 0 where
+    pub none : HasNoGaps gaps
     pub unread : new ≡ old
     pub unwritten : after ≡ before
 
-  -- The pieces before one were put out. That one was filled whole too, and there is no memory to note all that is missing of it. Noted is
-  -- what is missing of what was put out, and perhaps more of what is missing.
-  pub record PutsUntilUnnoted (sector count : ℕ) (noted : List Run) (old new : MirrorView)
+  -- The pieces before one were put out. That one was filled whole too, and there is no memory to note all that was not given of it. Noted is
+  -- what was not given of what was put out, and perhaps more of it.
+  pub record PutsUntilUnnoted (sector count : ℕ) (noted : Gaps) (old new : MirrorView)
       (before after : S) : Type 0 where
-    pub missing : List Run
-    pub put : PutsSome sector count missing old new before after
-    pub told : (s : ℕ) → IsBad missing s → s < sector + put.taken / 512 → IsBad noted s
-    pub only : (s : ℕ) → IsBad noted s → IsBad missing s
+    pub gaps : Gaps
+    pub put : PutsSome sector count gaps old new before after
+    pub told : (s : ℕ) → s < sector + put.taken / 512 → IsKeptAt gaps noted s
+    pub only : (s : ℕ) → IsKeptAt noted gaps s
     pub s : ℕ
-    pub lacks : IsBad missing s
+    pub lacks : IsGap gaps s
     pub from : sector + put.taken / 512 ≤ s
 
-  -- There is no memory, which is taken for a piece and for what is missing alone, or the output failed. No sector that is not given
+  -- There is no memory, which is taken for a piece and for what is not given alone, or the output failed. No sector that is not given
   -- ends it.
-  abbrev pub RefusesFilled : ℕ → ℕ → List Run → MirrorView → MirrorView → S → S → CommandFault → Type 0
-  RefusesFilled sector count missing old new before after NoPieceMemory =
-      ReadsNothing missing old new before after
-      ⊎ PutsUntilUnnoted sector count missing old new before after
-  RefusesFilled sector count missing old new before after OutputFault =
-      FillsSome way sector count missing old new × (o.failed after ≡ true)
-  RefusesFilled sector count missing old new before after reason = ⊥
+  abbrev pub RefusesFilled : ℕ → ℕ → Gaps → MirrorView → MirrorView → S → S → CommandFault → Type 0
+  RefusesFilled sector count gaps old new before after NoPieceMemory =
+      ReadsNothing gaps old new before after
+      ⊎ PutsUntilUnnoted sector count gaps old new before after
+  RefusesFilled sector count gaps old new before after OutputFault =
+      FillsSome way sector count gaps old new × (o.failed after ≡ true)
+  RefusesFilled sector count gaps old new before after reason = ⊥
 
   -- a piece of a longer range
-  pub record PutsFilledPiece (sector : ℕ) (piece : List ℕ) (was missing : List Run) (old new : MirrorView)
+  pub record PutsFilledPiece (sector : ℕ) (piece : List ℕ) (was gaps : Gaps) (old new : MirrorView)
       (before after : S) : Type 0 where
-    pub more : FillsMore way sector piece was missing old new
+    pub more : FillsMore way sector piece was gaps old new
     pub puts : Puts o.contents o.failed before after piece
 
-  abbrev pub RefusesFilledPiece : ℕ → ℕ → List Run → List Run → MirrorView → MirrorView → S → S → CommandFault
+  abbrev pub RefusesFilledPiece : ℕ → ℕ → Gaps → Gaps → MirrorView → MirrorView → S → S → CommandFault
       → Type 0
-  RefusesFilledPiece sector count was missing old new before after NoPieceMemory =
-      FillsUnnoted way sector count was missing old new × (after ≡ before)
-  RefusesFilledPiece sector count was missing old new before after OutputFault =
-      FillsSomeMore way sector count was missing old new × (o.failed after ≡ true)
-  RefusesFilledPiece sector count was missing old new before after reason = ⊥
+  RefusesFilledPiece sector count was gaps old new before after NoPieceMemory =
+      FillsUnnoted way sector count was gaps old new × (after ≡ before)
+  RefusesFilledPiece sector count was gaps old new before after OutputFault =
+      FillsSomeMore way sector count was gaps old new × (o.failed after ≡ true)
+  RefusesFilledPiece sector count was gaps old new before after reason = ⊥
 
 -- ---- the command
--- The sector is the first of those that are missing.
-pub record IsLeastMissing (missing : List Run) (s : ℕ) : Type 0 where
-  pub is : IsBad missing s
-  pub least : (t : ℕ) → IsBad missing t → s ≤ t
+-- the first sector of a set
+pub record IsLeastOf (set : List Run) (s : ℕ) : Type 0 where
+  pub is : IsBad set s
+  pub least : (t : ℕ) → IsBad set t → s ≤ t
+
+-- The sector is the first of those that were not given: it is missing, or another's.
+pub record IsLeastGap (gaps : Gaps) (s : ℕ) : Type 0 where
+  pub is : IsGap gaps s
+  pub least : (t : ℕ) → IsGap gaps t → s ≤ t
 
 -- as the answer of a read says it
-abbrev pub IsFirstMissing : List Run → UnreadFault → Type 0
-IsFirstMissing missing (Unreadable s) = IsLeastMissing missing s
-IsFirstMissing missing fault = ⊥
+abbrev pub IsFirstGap : Gaps → UnreadFault → Type 0
+IsFirstGap gaps (Unreadable s) = IsLeastGap gaps s
+IsFirstGap gaps fault = ⊥
 
-module _ {S : Type 0} (o : Ghosts S) (readonly : Bool) (sector count : ℕ) (missing : List Run)
+module _ {S : Type 0} (o : Ghosts S) (readonly : Bool) (sector count : ℕ) (gaps : Gaps)
     (old new : MirrorView) (before after : S) where
   -- all of them are put out
   pub record PutsAll : Type 0 where
     pub way : Way
     pub ready : MirrorView
     pub readied : IsReadyTo readonly sector count old way ready
-    pub puts : PutsFilled o way sector count missing ready new before after
+    pub puts : PutsFilled o way sector count gaps ready new before after
 
   -- it is ready, and not all of them are
   pub record FailsToPutAll (fault : CommandFault) : Type 0 where
     pub way : Way
     pub ready : MirrorView
     pub readied : IsReadyTo readonly sector count old way ready
-    pub refused : RefusesFilled o way sector count missing ready new before after fault
+    pub refused : RefusesFilled o way sector count gaps ready new before after fault
 
   pub record FillsArray : Type 0 where
     pub puts : PutsAll
-    pub none : missing ≡ []
+    pub none : HasNoGaps gaps
 
   -- it is not made ready to be read
   pub record IsNotReady (fault : CommandFault) : Type 0 where
     pub refused : RefusesReady readonly sector count old new fault
     pub unwritten : after ≡ before
-    pub none : missing ≡ []
+    pub none : HasNoGaps gaps
 
   abbrev pub RefusesToFill : CommandFault → Type 0
   RefusesToFill NoPieceMemory = FailsToPutAll NoPieceMemory
   RefusesToFill OutputFault = FailsToPutAll OutputFault
-  RefusesToFill (Read (Unreadable s)) = PutsAll × IsLeastMissing missing s
+  RefusesToFill (Read (Unreadable s)) = PutsAll × IsLeastGap gaps s
   RefusesToFill (Read Halted) = IsNotReady (Read Halted)
   RefusesToFill (Read OutOfRange) = IsNotReady (Read OutOfRange)
   RefusesToFill (Read NotResynced) = IsNotReady (Read NotResynced)
   RefusesToFill (Resync fault) = IsNotReady (Resync fault)
   RefusesToFill fault = ⊥
 
--- Which are missing, where sectors were put out: all of them, or those before the end came. So for no sector zeros are put out untold.
-abbrev pub told_missing : List Run → Result (Unit {0}) CommandFault → Option (List Run)
-told_missing missing (Ok _) = Some missing
-told_missing missing (Err (Read (Unreadable s))) = Some missing
-told_missing missing (Err NoPieceMemory) = Some missing
-told_missing missing (Err OutputFault) = Some missing
-told_missing missing (Err fault) = None
+-- Which were not given, where sectors were put out: all of them, or those before the end came. So for no sector zeros are put out untold,
+-- nor what another member has.
+abbrev pub told_gaps : Gaps → Result (Unit {0}) CommandFault → Option Gaps
+told_gaps gaps (Ok _) = Some gaps
+told_gaps gaps (Err (Read (Unreadable s))) = Some gaps
+told_gaps gaps (Err NoPieceMemory) = Some gaps
+told_gaps gaps (Err OutputFault) = Some gaps
+told_gaps gaps (Err fault) = None
 
--- all sectors are put out, with zeros for those that are missing
+-- all sectors are put out, with something in the place of those that were not given
 abbrev pub has_put_all : Result (Unit {0}) CommandFault → Bool
 has_put_all (Ok _) = true
 has_put_all (Err (Read (Unreadable s))) = true
@@ -272,9 +287,9 @@ has_put_all (Err fault) = false
 
 module _ {S : Type 0} (o : Ghosts S) (readonly : Bool) (sector count : ℕ) (old new : MirrorView)
     (before after : S) where
-  pub record ReadsFilled (told : Option (List Run)) (result : Result (Unit {0}) CommandFault) : Type 0 where
-    pub missing : List Run
-    pub told_is : told ≡ told_missing missing result
+  pub record ReadsFilled (told : Option Gaps) (result : Result (Unit {0}) CommandFault) : Type 0 where
+    pub gaps : Gaps
+    pub told_is : told ≡ told_gaps gaps result
     pub gives : MatchResult result
-        (λ _. FillsArray o readonly sector count missing old new before after)
-        (RefusesToFill o readonly sector count missing old new before after)
+        (λ _. FillsArray o readonly sector count gaps old new before after)
+        (RefusesToFill o readonly sector count gaps old new before after)

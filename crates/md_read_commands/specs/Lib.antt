@@ -2,6 +2,10 @@
 pub mod AsResynced
 -- Sectors of the array are read and put out with zeros in the place of those that nobody gave.
 pub mod Filling
+-- Which sectors were not given in the way in which they were read.
+pub mod Gaps
+-- A sector is read from another member than the one from which a resync would copy it.
+pub mod Others
 -- Sectors of the array are read and put out piece by piece.
 pub mod Pieces
 -- The command that reads an array.

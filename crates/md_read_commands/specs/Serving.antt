@@ -1,7 +1,5 @@
 -- An array is served to a client of the NBD protocol, and only read.
-use Rattle.std.specs.Prelude.{◌≡◌, ◌⊎◌, ◌↔◌, ℕ, ◌+◌, ◌*◌, ◌/◌, ◌<◌, ◌≤◌, Bool, true, false, List, [], length, vec_capacity, Result, MatchResult}
-use Rattle.md_badblocks.specs.declared.run.Run.{Run}
-use Rattle.md_badblocks.specs.Runs.{IsBad}
+use Rattle.std.specs.Prelude.{◌≡◌, ◌⊎◌, ℕ, ◌+◌, ◌*◌, ◌/◌, ◌<◌, ◌≤◌, Bool, true, false, List, [], length, Result, MatchResult}
 use Rattle.md_array.specs.Consistency.{IsConsistent}
 use Rattle.md_state.specs.Rests.{Rests}
 use Rattle.md_state.specs.View.{ArrayView, MirrorView}
@@ -18,17 +16,15 @@ use Rattle.md_nbd.specs.declared.server.session.SessionFault.TheVariants as sess
 use Rattle.md_nbd.specs.declared.server.store.Store.{Ghosts as Stores}
 use Rattle.md_nbd.specs.Export.{most_bytes, sector_bytes}
 use Rattle.md_nbd.specs.Server.Sessions.{BreaksSession, EndsSession, is_orderly}
+use Rattle.md_read_commands.specs.declared.gaps.Gaps.{Gaps}
 use Rattle.md_read_commands.specs.declared.reader.ArrayReader.{ArrayReader}
 use Rattle.md_read_commands.specs.declared.way.Way.{Way}
-use Rattle.md_read_commands.specs.Filling.{IsFilled, IsLeastMissing, IsNotGiven}
+use Rattle.md_read_commands.specs.Filling.{IsFilled, IsLeastGap, IsNotGiven}
+use Rattle.md_read_commands.specs.Gaps.{HasBothGaps, HasNoGaps, HasSameRoom, IsGap, capacity_of}
 use Rattle.md_read_commands.specs.Reading.{IsReadyTo, RefusesReady}
 use Rattle.md_read_commands.specs.Ways.{IsFor, ReadsBy}
 
 -- ---- a request
--- a set has the sectors of two
-abbrev pub HasBoth : List Run → List Run → List Run → Type 0
-HasBoth one other both = (s : ℕ) → IsBad both s ↔ (IsBad one s ⊎ IsBad other s)
-
 module _ (way : Way) where
   -- Of so many sectors from this one on, one is not given. It was asked for between the two.
   pub record LacksSector (sector sectors : ℕ) (old new : MirrorView) : Type 0 where
@@ -42,25 +38,24 @@ module _ (way : Way) where
     pub after : Rests over new
     pub lost : IsNotGiven way s asked over
 
-  -- These bytes were read, with zeros in the place of sectors that are not given, and these were noted beside those before.
-  pub record FillsRequest (sector : ℕ) (bytes : List ℕ) (was now : List Run)
+  -- These bytes were read, with zeros in the place of sectors that nobody gives, and those that were not given were noted beside those before.
+  pub record FillsRequest (sector : ℕ) (bytes : List ℕ) (was now : Gaps)
       (old new : MirrorView) : Type 0 where
-    pub missing : List Run
-    pub filled : IsFilled way sector bytes missing old new
-    pub noted : HasBoth was missing now
+    pub gaps : Gaps
+    pub filled : IsFilled way sector bytes gaps old new
+    pub noted : HasBothGaps was gaps now
 
-  -- All of so many sectors were filled, with zeros in the place of those that are not given. There are some, and there was no memory to
-  -- note them.
+  -- All of so many sectors were filled so. Some were not given, and there was no memory to note them.
   pub record FillsUnnotedRequest (sector sectors : ℕ) (old new : MirrorView) : Type 0 where
     pub bytes : List ℕ
     pub many : length bytes / 512 ≡ sectors
-    pub missing : List Run
-    pub filled : IsFilled way sector bytes missing old new
+    pub gaps : Gaps
+    pub filled : IsFilled way sector bytes gaps old new
     pub s : ℕ
-    pub lacks : IsBad missing s
+    pub lacks : IsGap gaps s
 
   -- they were read so, or each sector of them was given
-  abbrev pub ReadsRequest : Bool → ℕ → List ℕ → List Run → List Run → MirrorView → MirrorView
+  abbrev pub ReadsRequest : Bool → ℕ → List ℕ → Gaps → Gaps → MirrorView → MirrorView
       → Type 0
   ReadsRequest true sector bytes was now old new = FillsRequest sector bytes was now old new
   ReadsRequest false sector bytes was now old new = ReadsBy way sector bytes old new × (now ≡ was)
@@ -76,20 +71,20 @@ pub record MayBeServed (way : Way) (v : MirrorView) : Type 0 where
 pub record KeepsWay (old new : ArrayReader) : Type 0 where
   pub way : new.way ≡ old.way
   pub fill : new.fill ≡ old.fill
-  pub room : vec_capacity new.holes ≡ vec_capacity old.holes
+  pub room : HasSameRoom old.holes new.holes
 
 abbrev pub GivesRequest : ArrayReader × MirrorView → ArrayReader × MirrorView → ℕ → List ℕ → Type 0
 GivesRequest old new sector bytes =
     KeepsWay old.0 new.0
-    × ReadsRequest old.0.way old.0.fill sector bytes old.0.missing new.0.missing old.1 new.1
+    × ReadsRequest old.0.way old.0.fill sector bytes old.0.gaps new.0.gaps old.1 new.1
 
 -- One of the sectors is not given. Where they are to be filled, and there is room for as many, each was: no read that failed ends it, but
 -- that there is no memory to note them.
 abbrev pub RefusesRequest : ArrayReader × MirrorView → ArrayReader × MirrorView → ℕ → ℕ → Type 0
 RefusesRequest old new sector sectors =
-    KeepsWay old.0 new.0 × (new.0.missing ≡ old.0.missing)
+    KeepsWay old.0 new.0 × (new.0.gaps ≡ old.0.gaps)
     × LacksSector old.0.way sector sectors old.1 new.1
-    × (old.0.fill ≡ true → sectors ≤ vec_capacity old.0.holes
+    × (old.0.fill ≡ true → sectors ≤ capacity_of old.0.holes
     → FillsUnnotedRequest old.0.way sector sectors old.1 new.1)
 
 -- No write is done, and none is waited for.
@@ -146,19 +141,19 @@ module _ {I S : Type 0} (i : Sources I) (o : Sinks S) (first last : ArrayReader)
   StopsServing InputFault = EndsOtherwise ⊎ BreaksSo session.Source
   StopsServing OutputFault = BreaksSo session.Sink ⊎ FailsToFlush
   StopsServing NoPieceMemory = BreaksSo session.NoMemory
-  StopsServing (Read (Unreadable s)) = ServesClient × IsLeastMissing last.missing s
+  StopsServing (Read (Unreadable s)) = ServesClient × IsLeastGap last.gaps s
   StopsServing fault = ⊥
 
   abbrev pub HasServed : Result (Unit {0}) CommandFault → Type 0
-  HasServed result = MatchResult result (λ _. ServesClient × (last.missing ≡ [])) StopsServing
+  HasServed result = MatchResult result (λ _. ServesClient × HasNoGaps last.gaps) StopsServing
 
 -- ---- the command
 -- The array may be read, all of it and as it is, by a reader that has noted nothing yet.
 pub record IsFreshReader (fill : Bool) (v : MirrorView) (first : ArrayReader) : Type 0 where
   pub ready : IsReadyTo true 0 v.array.chunks.size v first.way v
   pub fills : first.fill ≡ fill
-  pub room : fill ≡ true → most_bytes / 512 ≤ vec_capacity first.holes
-  pub none : first.missing ≡ []
+  pub room : fill ≡ true → most_bytes / 512 ≤ capacity_of first.holes
+  pub none : HasNoGaps first.gaps
 
 -- The array may not be read so, or there is no memory for its sectors.
 abbrev pub RefusesToBegin : MirrorView → CommandFault → Type 0
@@ -166,18 +161,18 @@ RefusesToBegin v NoPieceMemory = (way : Way) × IsReadyTo true 0 v.array.chunks.
 RefusesToBegin v fault = RefusesReady true 0 v.array.chunks.size v v fault
 
 module _ {I S : Type 0} (i : Sources I) (o : Sinks S) (fill : Bool) (old new : MirrorView)
-    (missing : List Run) (from to : I) (was now : S) where
+    (gaps : Gaps) (from to : I) (was now : S) where
   pub record ServesBy (result : Result (Unit {0}) CommandFault) : Type 0 where
     pub first : ArrayReader
     pub last : ArrayReader
     pub is : IsFreshReader fill old first
-    pub noted : missing ≡ last.missing
+    pub noted : gaps ≡ last.gaps
     pub served : HasServed i o first last old new from to was now result
 
   -- Nobody was greeted.
   pub record IsUnserved (fault : CommandFault) : Type 0 where
     pub refused : RefusesToBegin old fault
-    pub none : missing ≡ []
+    pub none : HasNoGaps gaps
     pub mirror : new ≡ old
     pub input : to ≡ from
     pub output : now ≡ was

@@ -1,48 +1,53 @@
-// Sectors of the array are read and put out piece by piece, with zeros in the place of those that are not given.
-ghost use Rattle.std.specs.Prelude.{◌≡◌, ◌+◌, ◌*◌, ◌/◌, ◌%◌, ◌^◌, ◌<◌, ◌≤◌, [], MatchResult, length, min, vec_capacity, vec_len};
+// Sectors of the array are read and put out piece by piece, with what another member has, or zeros, in the place of those that are
+// not given.
+ghost use Rattle.std.specs.Prelude.{◌≡◌, ◌+◌, ◌*◌, ◌/◌, ◌%◌, ◌^◌, ◌<◌, ◌≤◌, MatchResult, length, min, vec_capacity, vec_len};
 ghost use Rattle.md_inflight.specs.Requests.Pending.{PendingView};
 ghost use Rattle.md_state.specs.Requests.{IsPending};
 ghost use Rattle.md_array.specs.Consistency.{IsConsistent};
-ghost use Rattle.md_read_commands.specs.Filling.{AreFit, FillsFront, FillsMore, IsClear, PutsFilled, PutsFilledPiece, RefusesFilled, RefusesFilledPiece};
+ghost use Rattle.md_read_commands.specs.Filling.{FillsBlock, FillsFront, FillsMore, IsClear, NotesOne, PutsFilled, PutsFilledPiece, RefusesFilled, RefusesFilledPiece};
+ghost use Rattle.md_read_commands.specs.Gaps.{AreFitGaps, HasFewMore, HasNoGaps, HasRoomForMore, HasSameRoom, capacity_of, gaps_of};
 ghost use Rattle.md_read_commands.specs.Pieces.{piece_sectors};
 ghost use Rattle.md_read_commands.specs.Ways.{MayReadBy};
 
 use crate::buffer::buffer;
-use crate::noting::add_all;
+use crate::gaps::{Gaps, Holes};
+use crate::noting::add_holes;
+use crate::others::read_other;
 use crate::pieces::PIECE_SECTORS;
-use crate::way::{Way, read_by};
+use crate::way::{Unread, Way, read_by};
 use md_array::Mirror;
-use md_badblocks::{BadSet, Run};
+use md_badblocks::Run;
 use md_commands::CommandFault;
 use md_device::Device;
 use md_examine::Sink;
 use std::alloc::Global;
 
 /// Puts out `count` sectors of an array, from this one on, read in this way, through one buffer. Each that is not given is added
-/// to `missing`, and zeros are put out in its place. To read a piece takes no memory, to add what is missing of it may.
+/// to `gaps`, and what another member has, or else zeros, is put out in its place. To read a piece takes no memory, to add what is
+/// not given of it may.
 pub(crate) fn put_filled<D: Device + Drop, S: Sink>(
     alloc: Global,
     mirror: &mut Mirror<D>,
     way: Way,
     sector: u64,
     count: u64,
-    missing: &mut BadSet,
+    gaps: &mut Gaps,
     out: &mut S,
 ) -> Result<(), CommandFault>
     requires may { MayReadBy way mirror.old.array sector count }
     requires fits { sector + count < 2 ^ 64 }
     requires sound { IsConsistent mirror.old }
-    requires none { missing.old ≡ [] }
+    requires none { HasNoGaps gaps.old }
     ensures gives { MatchResult result
-        (λ _. PutsFilled S.Sink way sector count missing.new mirror.old mirror.new out.old out.new)
-        (RefusesFilled S.Sink way sector count missing.new mirror.old mirror.new out.old out.new) }
+        (λ _. PutsFilled S.Sink way sector count gaps.new mirror.old mirror.new out.old out.new)
+        (RefusesFilled S.Sink way sector count gaps.new mirror.old mirror.new out.old out.new) }
     ensures sound { IsConsistent mirror.new }
     ensures pending { (p : PendingView) → IsPending mirror.old.array p → IsPending mirror.new.array p }
 {
     let mut piece = buffer(alloc, count.min(PIECE_SECTORS))?;
-    let mut holes = Vec::with_capacity(alloc, PIECE_SECTORS as usize)?;
+    let mut holes = Holes::with_capacity(alloc, PIECE_SECTORS as usize)?;
     let asked = Sectors { sector, count };
-    put_filled_pieces(mirror, way, asked, &mut piece, &mut holes, missing, out)
+    put_filled_pieces(mirror, way, asked, &mut piece, &mut holes, gaps, out)
 }
 
 // So many sectors of the array, from this one on.
@@ -59,20 +64,20 @@ fn put_filled_pieces<D: Device + Drop, S: Sink>(
     way: Way,
     asked: Sectors,
     buffer: &mut [u8],
-    holes: &mut Vec<Run>,
-    missing: &mut BadSet,
+    holes: &mut Holes,
+    gaps: &mut Gaps,
     out: &mut S,
 ) -> Result<(), CommandFault>
     requires room { length buffer.old ≡ 512 * min asked.count piece_sectors }
-    requires holes { piece_sectors ≤ vec_capacity holes.old }
+    requires holes { piece_sectors ≤ capacity_of holes.old }
     requires may { MayReadBy way mirror.old.array asked.sector asked.count }
     requires fits { asked.sector + asked.count < 2 ^ 64 }
     requires sound { IsConsistent mirror.old }
-    requires none { missing.old ≡ [] }
+    requires none { HasNoGaps gaps.old }
     ensures gives { MatchResult result
-        (λ _. PutsFilled S.Sink way asked.sector asked.count missing.new mirror.old mirror.new
+        (λ _. PutsFilled S.Sink way asked.sector asked.count gaps.new mirror.old mirror.new
         out.old out.new)
-        (RefusesFilled S.Sink way asked.sector asked.count missing.new mirror.old mirror.new
+        (RefusesFilled S.Sink way asked.sector asked.count gaps.new mirror.old mirror.new
         out.old out.new) }
     ensures sound { IsConsistent mirror.new }
     ensures pending { (p : PendingView) → IsPending mirror.old.array p → IsPending mirror.new.array p }
@@ -86,7 +91,7 @@ fn put_filled_pieces<D: Device + Drop, S: Sink>(
             asked.sector + done,
             &mut buffer[..512 * sectors as usize],
             holes,
-            missing,
+            gaps,
             out,
         )?;
         done += sectors;
@@ -95,57 +100,57 @@ fn put_filled_pieces<D: Device + Drop, S: Sink>(
     Ok(())
 }
 
-// Fills a piece, adds what is missing of it, and puts it out.
+// Fills a piece, adds what is not given of it, and puts it out.
 fn put_filled_piece<D: Device + Drop, S: Sink>(
     mirror: &mut Mirror<D>,
     way: Way,
     sector: u64,
     piece: &mut [u8],
-    holes: &mut Vec<Run>,
-    missing: &mut BadSet,
+    holes: &mut Holes,
+    gaps: &mut Gaps,
     out: &mut S,
 ) -> Result<(), CommandFault>
     requires whole { length piece.old % 512 ≡ 0 }
-    requires holes { length piece.old / 512 ≤ vec_capacity holes.old }
+    requires holes { length piece.old / 512 ≤ capacity_of holes.old }
     requires may { MayReadBy way mirror.old.array sector (length piece.old / 512) }
     requires sound { IsConsistent mirror.old }
-    requires clear { IsClear missing.old sector }
+    requires clear { IsClear gaps.old sector }
     ensures gives { MatchResult result
-        (λ _. PutsFilledPiece S.Sink way sector piece.new missing.old missing.new mirror.old mirror.new
+        (λ _. PutsFilledPiece S.Sink way sector piece.new gaps.old gaps.new mirror.old mirror.new
         out.old out.new)
-        (RefusesFilledPiece S.Sink way sector (length piece.old / 512) missing.old missing.new
+        (RefusesFilledPiece S.Sink way sector (length piece.old / 512) gaps.old gaps.new
         mirror.old mirror.new out.old out.new) }
-    ensures holes { vec_capacity holes.new ≡ vec_capacity holes.old }
+    ensures holes { HasSameRoom holes.old holes.new }
     ensures sound { IsConsistent mirror.new }
     ensures pending { (p : PendingView) → IsPending mirror.old.array p → IsPending mirror.new.array p }
 {
     holes.clear();
     fill_piece(mirror, way, sector, piece, holes);
-    add_all(missing, holes)?;
+    add_holes(gaps, holes)?;
     out.put(piece)?;
     Ok(())
 }
 
-/// Fills a piece with what is read, and zeros in the place of each sector that is not given, which is added to `holes`. The next read
-/// after such a sector asks for one alone, and each that is given doubles it: so in a long bad area each sector is tried once on
-/// each member.
+/// Fills a piece with what is read. In the place of each sector that is not given, which is added to `holes`, comes what another member
+/// has, or zeros. The next read after such a sector asks for one alone, and each that is given doubles it: so in a long bad area each
+/// sector is tried once on each member.
 pub(crate) fn fill_piece<D: Device + Drop>(
     mirror: &mut Mirror<D>,
     way: Way,
     sector: u64,
     piece: &mut [u8],
-    holes: &mut Vec<Run>,
+    holes: &mut Holes,
 )
     requires whole { length piece.old % 512 ≡ 0 }
-    requires room { vec_len holes.old + length piece.old / 512 ≤ vec_capacity holes.old }
+    requires room { HasRoomForMore (length piece.old / 512) holes.old }
     requires may { MayReadBy way mirror.old.array sector (length piece.old / 512) }
     requires sound { IsConsistent mirror.old }
-    requires clear { IsClear holes.old.items sector }
-    requires fit { AreFit holes.old.items }
-    ensures gives { FillsMore way sector piece.new holes.old.items holes.new.items
+    requires clear { IsClear (gaps_of holes.old) sector }
+    requires fit { AreFitGaps (gaps_of holes.old) }
+    ensures gives { FillsMore way sector piece.new (gaps_of holes.old) (gaps_of holes.new)
         mirror.old mirror.new }
-    ensures room { vec_capacity holes.new ≡ vec_capacity holes.old }
-    ensures fit { AreFit holes.new.items }
+    ensures room { HasSameRoom holes.old holes.new }
+    ensures fit { AreFitGaps (gaps_of holes.new) }
     ensures sound { IsConsistent mirror.new }
     ensures pending { (p : PendingView) → IsPending mirror.old.array p → IsPending mirror.new.array p }
 {
@@ -174,20 +179,20 @@ fn fill_front<D: Device + Drop>(
     way: Way,
     sector: u64,
     bytes: &mut [u8],
-    holes: &mut Vec<Run>,
+    holes: &mut Holes,
 ) -> Filled
     requires whole { length bytes.old % 512 ≡ 0 }
-    requires room { vec_len holes.old < vec_capacity holes.old }
+    requires room { HasRoomForMore 1 holes.old }
     requires may { MayReadBy way mirror.old.array sector (length bytes.old / 512) }
     requires sound { IsConsistent mirror.old }
-    requires clear { IsClear holes.old.items sector }
-    requires fit { AreFit holes.old.items }
-    ensures gives { FillsFront way sector result.sectors bytes.new holes.old.items holes.new.items
+    requires clear { IsClear (gaps_of holes.old) sector }
+    requires fit { AreFitGaps (gaps_of holes.old) }
+    ensures gives { FillsFront way sector result.sectors bytes.new (gaps_of holes.old) (gaps_of holes.new)
         mirror.old mirror.new }
     ensures next { 0 < result.most }
-    ensures more { vec_len holes.new ≤ vec_len holes.old + 1 }
-    ensures room { vec_capacity holes.new ≡ vec_capacity holes.old }
-    ensures fit { AreFit holes.new.items }
+    ensures more { HasFewMore 1 holes.old holes.new }
+    ensures room { HasSameRoom holes.old holes.new }
+    ensures fit { AreFitGaps (gaps_of holes.new) }
     ensures sound { IsConsistent mirror.new }
     ensures pending { (p : PendingView) → IsPending mirror.old.array p → IsPending mirror.new.array p }
 {
@@ -200,16 +205,52 @@ fn fill_front<D: Device + Drop>(
             }
         }
         Err(unread) => {
-            holes.push_reserved(Run {
-                start: unread.sector,
-                len: 1,
-            });
             let given = (unread.sector - sector) as usize;
-            bytes[512 * given..512 * given + 512].fill(0);
+            let block = &mut bytes[512 * given..512 * given + 512];
+            fill_block(mirror, &unread, block, holes);
             Filled {
                 sectors: given + 1,
                 most: 1,
             }
         }
     }
+}
+
+// Fills a sector that was not given with what another member has, or else with zeros, and adds it to `holes`.
+fn fill_block<D: Device + Drop>(
+    mirror: &mut Mirror<D>,
+    unread: &Unread,
+    block: &mut [u8],
+    holes: &mut Holes,
+)
+    requires one { length block.old ≡ 512 }
+    requires room { HasRoomForMore 1 holes.old }
+    requires inside { unread.now.sector < mirror.old.array.chunks.size }
+    requires sound { IsConsistent mirror.old }
+    ensures gives { FillsBlock unread.now.fault unread.now.sector block.new (gaps_of holes.old)
+        (gaps_of holes.new) mirror.old mirror.new }
+    ensures more { HasFewMore 1 holes.old holes.new }
+    ensures room { HasSameRoom holes.old holes.new }
+    ensures sound { IsConsistent mirror.new }
+    ensures pending { (p : PendingView) → IsPending mirror.old.array p → IsPending mirror.new.array p }
+{
+    if read_other(mirror, unread, block) {
+        push_one(&mut holes.others, unread.sector);
+        return;
+    }
+    block.fill(0);
+    push_one(&mut holes.missing, unread.sector);
+}
+
+// Adds a sector, for which there is room.
+fn push_one(runs: &mut Vec<Run>, sector: u64)
+    requires room { vec_len runs.old < vec_capacity runs.old }
+    ensures notes { NotesOne sector runs.old.items runs.new.items }
+    ensures more { vec_len runs.new ≡ vec_len runs.old + 1 }
+    ensures room { vec_capacity runs.new ≡ vec_capacity runs.old }
+{
+    runs.push_reserved(Run {
+        start: sector,
+        len: 1,
+    });
 }

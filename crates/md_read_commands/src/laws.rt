@@ -16,8 +16,8 @@ pub fn filled_content()
     ensures { FillsContent }
 {}
 
-/// A sector is missing in what is read of a resynced array so only where each member in sync lists it as bad, or a read of that
-/// very sector failed on it as it was asked for. Of an array that is not resynced nothing is said.
+/// A sector is missing in what is read so, in whichever way, only where each member in sync lists it as bad, or a read of that very
+/// sector failed on it as it was asked for.
 pub fn missing_sectors()
     ensures { MissesUnserved }
 {}

@@ -1,29 +1,30 @@
 // An array as a store of sectors that are only read.
-ghost use Rattle.std.specs.Prelude.{◌≡◌, ◌/◌, ◌%◌, ◌≤◌, IfErr, MatchResult, length, vec_capacity};
+ghost use Rattle.std.specs.Prelude.{◌≡◌, ◌/◌, ◌%◌, ◌≤◌, IfErr, MatchResult, length};
 ghost use Rattle.md_array.specs.Consistency.{IsConsistent};
 ghost use Rattle.md_state.specs.Rests.{Rests};
+ghost use Rattle.md_read_commands.specs.Gaps.{HasSameRoom, capacity_of};
 ghost use Rattle.md_read_commands.specs.Serving.{FillsRequest, FillsUnnotedRequest, LacksSector};
 ghost use Rattle.md_read_commands.specs.Ways.{MayReadBy, ReadsBy};
 
 use crate::filling::fill_piece;
+use crate::gaps::{Gaps, Holes};
 use crate::noting::note_all;
 use crate::way::{Way, read_by};
 use md_array::Mirror;
-use md_badblocks::{BadSet, Run};
 use md_device::Device;
 use md_nbd::{Store, StoreFault};
 use std::alloc::{AllocError, Global};
 
-/// How an array is served that is only read, and for which of its sectors zeros were given.
+/// How an array is served that is only read, and which of its sectors were not given in this way.
 #[derive(Drop)]
 pub(crate) struct ArrayReader {
     pub(crate) alloc: Global,
     pub(crate) way: Way,
-    /// Whether zeros are given in the place of sectors that are not.
+    /// Whether such sectors are filled with what another member has, or zeros.
     pub(crate) fill: bool,
-    pub(crate) missing: BadSet,
-    /// Room for those sectors of a request that are not given.
-    pub(crate) holes: Vec<Run>,
+    pub(crate) gaps: Gaps,
+    /// Room for those of a request.
+    pub(crate) holes: Holes,
 }
 
 // Reads the sectors of a request, if each of them is given.
@@ -48,19 +49,19 @@ fn read_given<D: Device + Drop>(
     }
 }
 
-// Reads them with zeros in the place of those that are not given, which are noted: all of them, or none where there is no memory
-// for that. Only that ends it with a fault, once all are read.
+// Reads them, and fills those that are not given, which are noted: all of them, or none where there is no memory for that. Only that
+// ends it with a fault, once all are read.
 fn read_filled<D: Device + Drop>(
     alloc: Global,
     mirror: &mut Mirror<D>,
     way: Way,
     sector: u64,
     buf: &mut [u8],
-    holes: &mut Vec<Run>,
-    noted: &mut BadSet,
+    holes: &mut Holes,
+    noted: &mut Gaps,
 ) -> Result<(), StoreFault>
     requires whole { length buf.old % 512 ≡ 0 }
-    requires room { length buf.old / 512 ≤ vec_capacity holes.old }
+    requires room { length buf.old / 512 ≤ capacity_of holes.old }
     requires may { MayReadBy way mirror.old.array sector (length buf.old / 512) }
     requires sound { IsConsistent mirror.old }
     ensures gives { MatchResult result
@@ -68,7 +69,7 @@ fn read_filled<D: Device + Drop>(
         (λ _. FillsUnnotedRequest way sector (length buf.old / 512) mirror.old mirror.new
         × (noted.new ≡ noted.old)) }
     ensures lacks { IfErr result (λ _. LacksSector way sector (length buf.old / 512) mirror.old mirror.new) }
-    ensures room { vec_capacity holes.new ≡ vec_capacity holes.old }
+    ensures room { HasSameRoom holes.old holes.new }
     ensures rests { Rests mirror.old mirror.new }
     ensures sound { IsConsistent mirror.new }
 {
@@ -108,8 +109,8 @@ impl<D: Device + Drop> Store<Mirror<D>> for ArrayReader {
     ) -> Result<(), StoreFault> {
         let (alloc, way) = (self.alloc, self.way);
         if self.fill && buf.len() / 512 <= self.holes.capacity() {
-            let (holes, missing) = (&mut self.holes, &mut self.missing);
-            return read_filled(alloc, lent, way, sector, buf, holes, missing);
+            let (holes, gaps) = (&mut self.holes, &mut self.gaps);
+            return read_filled(alloc, lent, way, sector, buf, holes, gaps);
         }
         read_given(lent, way, sector, buf)
     }

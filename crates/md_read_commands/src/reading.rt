@@ -1,13 +1,15 @@
 // The command that reads an array.
-ghost use Rattle.std.specs.Prelude.{◌≡◌, ◌+◌, ◌^◌, ◌<◌, IfOk, MatchResult, [], false, true};
+ghost use Rattle.std.specs.Prelude.{◌≡◌, ◌+◌, ◌^◌, ◌<◌, IfOk, MatchOption, MatchResult, [], false, true};
 ghost use Rattle.md_inflight.specs.Requests.Pending.{PendingView};
 ghost use Rattle.md_state.specs.Requests.{IsPending};
 ghost use Rattle.md_array.specs.Consistency.{IsConsistent};
-ghost use Rattle.md_read_commands.specs.Filling.{FillsArray, IsFirstMissing, ReadsFilled, RefusesToFill, has_put_all};
+ghost use Rattle.md_read_commands.specs.Filling.{FillsArray, IsFirstGap, IsLeastOf, ReadsFilled, RefusesToFill, has_put_all};
+ghost use Rattle.md_read_commands.specs.Gaps.{HasNoGaps};
 ghost use Rattle.md_read_commands.specs.Reading.{IsReadyTo, MayReadArray, ReadsArray, ReadsReadonly, RefusesRange, RefusesReadonly, RefusesReady, RefusesToRead};
 ghost use Rattle.md_read_commands.specs.Ways.{MayReadBy};
 
 use crate::filling::put_filled;
+use crate::gaps::Gaps;
 use crate::pieces::put_sectors;
 use crate::way::Way;
 use md_array::Mirror;
@@ -77,16 +79,17 @@ pub fn read_array_readonly<D: Device + Drop, S: Sink>(
 }
 
 /// Puts out `count` sectors of an array, from this one on, as `read_array` does or, where no image may be changed, as
-/// `read_array_readonly`. But a sector at which these would end, for whichever reason, does not end it: zeros are put out in its
-/// place. Those that are missing so come back, whatever ends it once sectors may be put out.
+/// `read_array_readonly`. But a sector at which these would end, for whichever reason, does not end it. Where the member that a resync
+/// copies it from can't be read, what the first other member in sync has that gives it is put out: it may be older or newer. Where
+/// none gives it zeros are put out. Both kinds come back, apart, whatever ends it once sectors may be put out.
 ///
-/// `Read` with `Unreadable` says that there are some, and which is the first. All sectors are put out then.
+/// `Read` with `Unreadable` says that there are some, of either kind, and which is the first. All sectors are put out then.
 ///
-/// `NoPieceMemory` may also come after some were put out: each run of missing sectors takes memory. There and at `OutputFault`
+/// `NoPieceMemory` may also come after some were put out: each run of such sectors takes memory. There and at `OutputFault`
 /// those of the last piece come back too, though not all of it was put out.
 ///
 ///     let mut out = Output::new(rt.stdout());
-///     let (missing, done) = read_array_filled(rt.alloc(), &mut mirror, 8, 2, true, &mut out); // puts out 1024 bytes
+///     let (gaps, done) = read_array_filled(rt.alloc(), &mut mirror, 8, 2, true, &mut out); // puts out 1024 bytes
 pub fn read_array_filled<D: Device + Drop, S: Sink>(
     alloc: Global,
     mirror: &mut Mirror<D>,
@@ -94,22 +97,22 @@ pub fn read_array_filled<D: Device + Drop, S: Sink>(
     count: u64,
     readonly: bool,
     out: &mut S,
-) -> (Option<BadSet>, Result<(), CommandFault>)
+) -> (Option<Gaps>, Result<(), CommandFault>)
     requires sound { IsConsistent mirror.old }
     ensures gives { ReadsFilled S.Sink readonly sector count mirror.old mirror.new
         out.old out.new result.0 result.1 }
     ensures sound { IsConsistent mirror.new }
     ensures pending { (p : PendingView) → IsPending mirror.old.array p → IsPending mirror.new.array p }
 {
-    let mut missing = BadSet::new(alloc);
-    match fill_array(alloc, mirror, sector, count, readonly, &mut missing, out) {
-        Ok(()) => (Some(missing), Ok(())),
+    let mut gaps = Gaps::none(alloc);
+    match fill_array(alloc, mirror, sector, count, readonly, &mut gaps, out) {
+        Ok(()) => (Some(gaps), Ok(())),
         Err(CommandFault::Read(UnreadFault::Unreadable(s))) => {
             let fault = CommandFault::Read(UnreadFault::Unreadable(s));
-            (Some(missing), Err(fault))
+            (Some(gaps), Err(fault))
         }
-        Err(CommandFault::NoPieceMemory) => (Some(missing), Err(CommandFault::NoPieceMemory)),
-        Err(CommandFault::OutputFault) => (Some(missing), Err(CommandFault::OutputFault)),
+        Err(CommandFault::NoPieceMemory) => (Some(gaps), Err(CommandFault::NoPieceMemory)),
+        Err(CommandFault::OutputFault) => (Some(gaps), Err(CommandFault::OutputFault)),
         Err(fault) => (None, Err(fault)),
     }
 }
@@ -124,38 +127,49 @@ pub fn has_put_all(answer: &Result<(), CommandFault>) -> bool
     }
 }
 
-// Puts out sectors with zeros in the place of those that are not given. Which these are is noted, also where
-// not all sectors are put out.
+// Puts out sectors, and fills those that are not given. Which these are is noted, also where not all sectors are put out.
 fn fill_array<D: Device + Drop, S: Sink>(
     alloc: Global,
     mirror: &mut Mirror<D>,
     sector: u64,
     count: u64,
     readonly: bool,
-    missing: &mut BadSet,
+    gaps: &mut Gaps,
     out: &mut S,
 ) -> Result<(), CommandFault>
-    requires none { missing.old ≡ [] }
+    requires none { HasNoGaps gaps.old }
     requires sound { IsConsistent mirror.old }
     ensures gives { MatchResult result
-        (λ _. FillsArray S.Sink readonly sector count missing.new mirror.old mirror.new out.old out.new)
-        (RefusesToFill S.Sink readonly sector count missing.new mirror.old mirror.new out.old out.new) }
+        (λ _. FillsArray S.Sink readonly sector count gaps.new mirror.old mirror.new out.old out.new)
+        (RefusesToFill S.Sink readonly sector count gaps.new mirror.old mirror.new out.old out.new) }
     ensures sound { IsConsistent mirror.new }
     ensures pending { (p : PendingView) → IsPending mirror.old.array p → IsPending mirror.new.array p }
 {
     let way = ready(alloc, mirror, sector, count, readonly)?;
-    put_filled(alloc, mirror, way, sector, count, missing, out)?;
-    first_missing(missing).map_err(CommandFault::Read)?;
+    put_filled(alloc, mirror, way, sector, count, gaps, out)?;
+    first_gap(gaps).map_err(CommandFault::Read)?;
     Ok(())
 }
 
-/// Says which sector is the first that is missing, if one is.
-pub(crate) fn first_missing(missing: &BadSet) -> Result<(), UnreadFault>
-    ensures { MatchResult result (λ _. missing.now ≡ []) (IsFirstMissing missing.now) }
+/// Says which sector is the first that was not given, if one was not.
+pub(crate) fn first_gap(gaps: &Gaps) -> Result<(), UnreadFault>
+    ensures { MatchResult result (λ _. HasNoGaps gaps.now) (IsFirstGap gaps.now) }
 {
-    match missing.runs().first() {
-        Some(run) => Err(UnreadFault::Unreadable(run.start)),
-        None => Ok(()),
+    match (first_of(&gaps.missing), first_of(&gaps.others)) {
+        (None, None) => Ok(()),
+        (Some(s), None) => Err(UnreadFault::Unreadable(s)),
+        (None, Some(s)) => Err(UnreadFault::Unreadable(s)),
+        (Some(s), Some(t)) => Err(UnreadFault::Unreadable(s.min(t))),
+    }
+}
+
+// The first sector of a set.
+fn first_of(set: &BadSet) -> Option<u64>
+    ensures { MatchOption result (set.now ≡ []) (IsLeastOf set.now) }
+{
+    match set.runs().first() {
+        Some(run) => Some(run.start),
+        None => None,
     }
 }
 

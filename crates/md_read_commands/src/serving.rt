@@ -7,10 +7,10 @@ ghost use Rattle.md_array.specs.Consistency.{IsConsistent};
 ghost use Rattle.md_read_commands.specs.Serving.{HasServed, IsFreshReader, MayBeServed, RefusesToBegin, ServesArray};
 
 use crate::buffer::buffer;
+use crate::gaps::{Gaps, Holes};
 use crate::reader::ArrayReader;
-use crate::reading::{first_missing, way_as_it_is};
+use crate::reading::{first_gap, way_as_it_is};
 use md_array::Mirror;
-use md_badblocks::BadSet;
 use md_commands::{CommandFault, Source};
 use md_device::Device;
 use md_examine::Sink;
@@ -25,21 +25,22 @@ const MOST_SECTORS: usize = MOST_BYTES as usize / 512;
 
 /// Serves an array to a client of the NBD protocol until it goes, and writes nothing. Its sectors are those that
 /// `read_array_readonly` puts out. A request of which a sector is not given is answered with EIO, and no other is; or, with
-/// `fill`, with zeros in the place of such sectors, which come back. They take memory, and where there is none the answer is EIO.
+/// `fill`, with what another member has, or zeros, in the place of such sectors, as `read_array_filled` has them: they come back. They
+/// take memory, and where there is none the answer is EIO.
 ///
 /// That the mirror is halted, or members in sync may differ, is looked for before memory for requests is taken, which is 1 MiB, with
-/// `fill` 1 MiB more, and that before the client is greeted. It grows with a client's requests, to 32 MiB at most.
+/// `fill` 2 MiB more, and that before the client is greeted. It grows with a client's requests, to 32 MiB at most.
 ///
 /// `InputFault` says that the input failed, or that the client did not go between two messages, `OutputFault` that the output
-/// failed. `Read` with `Unreadable` says that zeros were given, and the first sector for which they were: the client has gone in
-/// order then.
+/// failed. `Read` with `Unreadable` says that sectors were filled so, and which was the first of them: the client has gone in order
+/// then.
 pub fn serve_array<D: Device + Drop, I: Source, S: Sink>(
     alloc: Global,
     mirror: &mut Mirror<D>,
     fill: bool,
     input: &mut I,
     out: &mut S,
-) -> (BadSet, Result<(), CommandFault>)
+) -> (Gaps, Result<(), CommandFault>)
     requires sound { IsConsistent mirror.old }
     ensures gives { ServesArray I.Source S.Sink fill mirror.old mirror.new result.0
         input.old input.new out.old out.new result.1 }
@@ -51,9 +52,9 @@ pub fn serve_array<D: Device + Drop, I: Source, S: Sink>(
     match begin(alloc, mirror, fill) {
         Ok((mut reader, mut room)) => {
             let served = serve(alloc, mirror, &mut reader, &mut room, input, out);
-            (reader.missing, served)
+            (reader.gaps, served)
         }
-        Err(fault) => (BadSet::new(alloc), Err(fault)),
+        Err(fault) => (Gaps::none(alloc), Err(fault)),
     }
 }
 
@@ -73,12 +74,12 @@ fn begin<D: Device + Drop>(
     let way = way_as_it_is(mirror, 0, mirror.chunks().size)?;
     let room = buffer(alloc, LEAST_SECTORS)?;
     let most = if fill { MOST_SECTORS } else { 0 };
-    let holes = Vec::with_capacity(alloc, most)?;
+    let holes = Holes::with_capacity(alloc, most)?;
     let reader = ArrayReader {
         alloc,
         way,
         fill,
-        missing: BadSet::new(alloc),
+        gaps: Gaps::none(alloc),
         holes,
     };
     Ok((reader, room))
@@ -113,6 +114,6 @@ fn serve<D: Device + Drop, I: Source, S: Sink>(
         Err(SessionFault::NoMemory) => return Err(CommandFault::NoPieceMemory),
     }
     out.flush()?;
-    first_missing(&reader.missing).map_err(CommandFault::Read)?;
+    first_gap(&reader.gaps).map_err(CommandFault::Read)?;
     Ok(())
 }

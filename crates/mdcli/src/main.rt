@@ -126,7 +126,7 @@ fn main(rt: HostRuntime) -> ExitCode {
         watch: &progress,
         asker: Prompt::new(&rt, &progress, person),
         random_bytes: bytes_if_needed(&rt, &parsed),
-        missing: None,
+        gaps: None,
         is_all_out: false,
         mismatched: None,
     };
@@ -148,12 +148,12 @@ fn main(rt: HostRuntime) -> ExitCode {
     tell_standing(progress.sectors_standing(), &mut err);
     let Session {
         out,
-        missing,
+        gaps,
         is_all_out,
         ..
     } = session;
     let is_ended = is_file_ended(out.into_inner().into_inner(), output, messages, &mut err);
-    let of_all = if is_all_out { missing } else { None };
+    let of_all = if is_all_out { gaps } else { None };
     let count = progress.sectors_to_read();
     let is_map_made = is_map_made(&rt, map, count, of_all, messages, &mut err);
     if !is_ended || !is_map_made {

@@ -4,6 +4,7 @@ use md_badblocks::BadSet;
 use md_examine::{Sink, put_name};
 use md_masks::{MapOutFault, map_out_advice, write_map_of_read};
 use md_messages::Messages;
+use md_read_commands::Gaps;
 use md_words::{Command, Request};
 use std::io::{ErrorKind, Write};
 
@@ -99,19 +100,20 @@ pub fn begun_map<'a, E: Write + Sink>(
     }
 }
 
-/// Writes the map, where one was begun and all sectors, so many, are put out; else there is none. Says on `err` why it can't.
+/// Writes the map, where one was begun and all sectors, so many, are put out; else there is none. In it those count as read that are
+/// another member's. Says on `err` why it can't.
 pub fn is_map_made<E: Write + Sink>(
     rt: &HostRuntime,
     map: BegunMap<'_>,
     count: u64,
-    missing: Option<BadSet>,
+    gaps: Option<Gaps>,
     messages: Messages,
     err: &mut E,
 ) -> bool {
     let Some((map, file)) = map.begun else {
         return true;
     };
-    let Some(missing) = missing else {
+    let Some(Gaps { missing, .. }) = gaps else {
         file.take_away(rt, map.path);
         return true;
     };

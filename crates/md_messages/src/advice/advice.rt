@@ -202,7 +202,7 @@ fn read_advice(fault: UnreadFault) -> &'static str {
         UnreadFault::OutOfRange => WITHIN_ARRAY,
         UnreadFault::NotResynced => RESYNC_OR_LOOK,
         UnreadFault::Unreadable(_) => {
-            "with `--fill` zeros are written in the place of such sectors, and all others as they are"
+            "with `--fill` what another member has is written in the place of such sectors, or zeros, and all others as they are"
         }
         UnreadFault::Halted => SEE_DEVICE,
     }

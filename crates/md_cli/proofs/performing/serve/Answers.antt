@@ -6,15 +6,15 @@ pub returns-clause-serves : goal.returns-clause-serves
 returns-clause-serves g c =
     elim c.if-fill.branch [
       | then-fill w ↦ rw (w.session-is) (record {
-        missing = c.serve_array-missing.result.0;
+        gaps = c.serve_array-gaps.result.0;
         serves = search rules;
-        rests = c.serve_array-missing.ensures.rests;
+        rests = c.serve_array-gaps.ensures.rests;
         noted = λ yes. refl;
       })
       | else-fill w ↦ rw (w.session-is) (record {
-        missing = c.serve_array-missing.result.0;
+        gaps = c.serve_array-gaps.result.0;
         serves = search rules;
-        rests = c.serve_array-missing.ensures.rests;
+        rests = c.serve_array-gaps.ensures.rests;
         noted = λ yes. cc (yes, w.if-fill.false);
       })
     ]

@@ -74,7 +74,7 @@ returns-clause-taken g c taken other =
     λ noticed ask names. Obeys g.I.Images g.I.Dev.Device g.R.Source g.S.Sink g.A.Asker c.args.session.now.random_bytes ask names c.args.images.now c.act-outcome.new.images (told_of c.args.session.now noticed) (told_of c.act-outcome.new.session c.act-outcome.new.notices) c.act-outcome.result in
     let none : c.none-notices.result ≡ nothing = c.none-notices.ensures in
     let Telling : Bool → Ask → List Text → Type 0 =
-    λ shown ask names. TellsNoticed g.E.Sink (record { messages = c.args.messages; was_shown = shown }) ask names (streams_of c.act-outcome.new.session).missing c.args.err.now c.tell_outcome.new.err c.act-outcome.result c.act-outcome.new.notices in
+    λ shown ask names. TellsNoticed g.E.Sink (record { messages = c.args.messages; was_shown = shown }) ask names (streams_of c.act-outcome.new.session).gaps c.args.err.now c.tell_outcome.new.err c.act-outcome.result c.act-outcome.new.notices in
     let told = subst (λ shown. Telling shown (ask_of c.in-Ok.request.command) (texts c.as_slice-names.result.now)) c.is_told_first.ensures c.tell_outcome.ensures in
     let first = g.A.Asker.told_first c.args.session.now.asker in
     inr (record {

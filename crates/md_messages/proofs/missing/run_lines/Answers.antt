@@ -3,7 +3,7 @@ use Rattle.std.specs.List.{flat_map}
 use Rattle.std.proofs.lemmas.List.{take_all}
 use Rattle.md_examine.specs.Sink.{Puts}
 use Rattle.md_examine.proofs.Puts.{puts_then, puts_nothing, flat_map_at}
-use Rattle.md_messages.specs.Missing.{missing_run_text}
+use Rattle.md_messages.specs.Missing.{gap_text}
 use Rattle.md_messages.proofs.Runs.{run_fits}
 use Rattle.md_messages.proofs.missing.run_lines.Goals as goal
 
@@ -19,10 +19,10 @@ run_line-requires-clause-fits g c = (run_fits c.args.runs.now c.loop-run.run-ind
 pub loop-run-preserved : goal.loop-run-preserved
 loop-run-preserved g c =
     let P : List ℕ → Type 0 = λ t. Puts g.S.Sink.contents g.S.Sink.failed c.args.out.now c.run_line.new.out t in
-    subst P (flat_map_at missing_run_text c.args.runs.now c.loop-run.run-index _ c.loop-run-test.true)
+    subst P (flat_map_at (gap_text c.args.stands) c.args.runs.now c.loop-run.run-index _ c.loop-run-test.true)
     (puts_then g.S.Sink.contents g.S.Sink.failed c.loop-run.invariant c.in_ok-run_line.ensures)
 
 pub returns : goal.returns
 returns g c =
     let P : List ℕ → Type 0 = λ t. Puts g.S.Sink.contents g.S.Sink.failed c.args.out.now c.loop-run.out t in
-    subst P (ap (flat_map missing_run_text) (take_all c.loop-run.run-index c.args.runs.now (search (rules, arith)))) c.loop-run.invariant
+    subst P (ap (flat_map (gap_text c.args.stands)) (take_all c.loop-run.run-index c.args.runs.now (search (rules, arith)))) c.loop-run.invariant

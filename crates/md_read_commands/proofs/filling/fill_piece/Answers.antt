@@ -4,6 +4,8 @@ use Rattle.md_laws.proofs.Runs.Rests.{rests_same}
 use Rattle.md_read.proofs.SectorsGiven.{length-replaced}
 use Rattle.md_read_commands.specs.Ways.{MayReadBy}
 use Rattle.md_read_commands.proofs.Filled.{clear_there, fills_nothing, front_more, piece_filled, size_fits}
+use Rattle.md_read_commands.specs.Gaps.{gaps_of}
+use Rattle.md_read_commands.proofs.Rooms.{few_more, room_left, same_room_then}
 use Rattle.md_read_commands.proofs.Ways.{may_read_part}
 use Rattle.md_read_commands.proofs.filling.fill_piece.Goals as goal
 
@@ -18,14 +20,14 @@ as_asked piece done end before within =
 
 pub loop-done-init : goal.loop-done-init
 loop-done-init g c = record {
-  more = fills_nothing c.args.way c.args.sector c.args.holes.now.items c.args.mirror.now c.args.mirror.now (rests_same c.args.mirror.now);
+  more = fills_nothing c.args.way c.args.sector (gaps_of c.args.holes.now) c.args.mirror.now c.args.mirror.now (rests_same c.args.mirror.now);
   sound = c.requires.sound;
   array = refl;
   long = refl;
   few = omega arith;
   some = λ some. omega arith;
-  most = omega arith;
-  room = refl;
+  most = (omega arith, omega arith);
+  room = (refl, refl);
   fit = c.requires.fit;
 }
 
@@ -50,10 +52,7 @@ pub fill_front-filled-requires-clause-room : goal.fill_front-filled-requires-cla
 fill_front-filled-requires-clause-room g c =
     let so_far = c.loop-done.invariant in
     let before = c.loop-done-test.true in
-    let so_many = so_far.most in
-    let as_much = so_far.room in
-    let room = c.requires.room in
-    omega arith
+    room_left c.args.holes.now c.loop-done.holes c.loop-done.done _ (omega arith) so_far.most so_far.room c.requires.room
 
 pub fill_front-filled-requires-clause-may : goal.fill_front-filled-requires-clause-may
 fill_front-filled-requires-clause-may g c =
@@ -76,7 +75,7 @@ fill_front-filled-requires-clause-clear g c =
     let so_far = c.loop-done.invariant in
     let same = so_far.long in
     let few = so_far.few in
-    clear_there c.args.way c.args.sector c.loop-done.piece c.loop-done.done (omega arith) c.args.holes.now.items c.loop-done.holes.items c.args.mirror.now c.loop-done.mirror so_far.more c.requires.clear
+    clear_there c.args.way c.args.sector c.loop-done.piece c.loop-done.done (omega arith) (gaps_of c.args.holes.now) (gaps_of c.loop-done.holes) c.args.mirror.now c.loop-done.mirror so_far.more c.requires.clear
 
 pub loop-done-preserved : goal.loop-done-preserved
 loop-done-preserved g c =
@@ -98,18 +97,16 @@ loop-done-preserved g c =
     let some = is.0 in
     let within = is.1 in
     record {
-      more = front_more c.args.way c.args.sector piece done (omega arith) c.args.holes.now.items c.loop-done.holes.items old mid so_far.more c.fill_front-filled.new.holes.items new (512 * done) (512 * end - 512 * done) c.fill_front-filled.result.sectors part refl front;
+      more = front_more c.args.way c.args.sector piece done (omega arith) (gaps_of c.args.holes.now) (gaps_of c.loop-done.holes) old mid so_far.more (gaps_of c.fill_front-filled.new.holes) new (512 * done) (512 * end - 512 * done) c.fill_front-filled.result.sectors part refl front;
       sound = c.fill_front-filled.ensures.sound;
       array = front.more.fills.rests.array ∙ so_far.array;
       long = length-replaced (512 * done) (512 * end - 512 * done) piece part (omega arith) (omega arith) (omega arith) ∙ same;
       few = omega arith;
       some = λ more. c.fill_front-filled.ensures.next;
       most =
-          let so_many = so_far.most in
-          let one = c.fill_front-filled.ensures.more in
           let at_least = front.some in
-          omega arith;
-      room = c.fill_front-filled.ensures.room ∙ so_far.room;
+          few_more c.args.holes.now c.loop-done.holes c.fill_front-filled.new.holes done (done + c.fill_front-filled.result.sectors) (omega arith) so_far.most c.fill_front-filled.ensures.more;
+      room = same_room_then c.args.holes.now c.loop-done.holes c.fill_front-filled.new.holes so_far.room c.fill_front-filled.ensures.room;
       fit = c.fill_front-filled.ensures.fit;
     }
 
@@ -120,4 +117,4 @@ returns-clause-gives g c =
     let few = so_far.few in
     let past = c.loop-done-test.false in
     let all = c.requires.whole in
-    piece_filled c.args.way c.args.sector c.loop-done.piece c.loop-done.done (omega arith) c.args.holes.now.items c.loop-done.holes.items c.args.mirror.now c.loop-done.mirror so_far.more (omega arith)
+    piece_filled c.args.way c.args.sector c.loop-done.piece c.loop-done.done (omega arith) (gaps_of c.args.holes.now) (gaps_of c.loop-done.holes) c.args.mirror.now c.loop-done.mirror so_far.more (omega arith)

@@ -1,7 +1,7 @@
-use Rattle.std.proofs.Common.{◌≡◌, ◌+◌, ◌*◌, ◌-◌, ◌/◌, ◌<◌, ◌≤◌, length, take}
-use Rattle.std.specs.Prelude.{vec_capacity, vec_len}
+use Rattle.std.proofs.Common.{◌≡◌, ◌*◌, ◌-◌, ◌/◌, ◌<◌, ◌≤◌, length, take}
 use Rattle.md_array.specs.Consistency.{IsConsistent}
-use Rattle.md_read_commands.specs.Filling.{AreFit, FillsMore}
+use Rattle.md_read_commands.specs.Filling.{FillsMore}
+use Rattle.md_read_commands.specs.Gaps.{AreFitGaps, HasFewMore, HasSameRoom, gaps_of}
 use Rattle.md_read_commands.proofs.filling.fill_piece.Given as goal
 
 abbrev pub decreases-loop-done : goal.decreases-loop-done
@@ -9,13 +9,13 @@ decreases-loop-done g l = length l.fn.piece / 512 - l.done
 
 abbrev pub invariant-loop-done : goal.invariant-loop-done
 invariant-loop-done g l = record {
-  more : FillsMore l.way l.sector (take (512 * l.done) l.piece) l.fn.holes.items l.holes.items l.fn.mirror l.mirror;
+  more : FillsMore l.way l.sector (take (512 * l.done) l.piece) (gaps_of l.fn.holes) (gaps_of l.holes) l.fn.mirror l.mirror;
   sound : IsConsistent l.mirror;
   array : l.mirror.array ≡ l.fn.mirror.array;
   long : length l.piece ≡ length l.fn.piece;
   few : l.done ≤ length l.fn.piece / 512;
   some : l.done < length l.fn.piece / 512 → 0 < l.most;
-  most : vec_len l.holes ≤ vec_len l.fn.holes + l.done;
-  room : vec_capacity l.holes ≡ vec_capacity l.fn.holes;
-  fit : AreFit l.holes.items;
+  most : HasFewMore l.done l.fn.holes l.holes;
+  room : HasSameRoom l.fn.holes l.holes;
+  fit : AreFitGaps (gaps_of l.holes);
 }

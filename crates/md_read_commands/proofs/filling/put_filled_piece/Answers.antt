@@ -1,40 +1,37 @@
-use Rattle.std.proofs.Common.{rules, Err, ◌≡◌, List, [], refl, subst, sym, arith}
-use Rattle.md_badblocks.specs.declared.run.Run.{Run}
+use Rattle.std.proofs.Common.{rules, Err, ◌≡◌, ◌/◌, length, refl, subst, arith}
 use Rattle.md_commands.specs.declared.fault.CommandFault.TheVariants.{NoPieceMemory, OutputFault}
+use Rattle.md_read_commands.specs.declared.gaps.Gaps.{Gaps}
 use Rattle.md_read_commands.specs.Filling.{FillsMore}
+use Rattle.md_read_commands.specs.Gaps.{gaps_of}
 use Rattle.md_read_commands.proofs.Filled.{fills_noted}
-use Rattle.md_read_commands.proofs.Noted.{none_clear, none_fit}
+use Rattle.md_read_commands.proofs.Noted.{no_gaps_is, none_clear, none_fit}
+use Rattle.md_read_commands.proofs.Rooms.{all_room}
 use Rattle.md_read_commands.proofs.filling.put_filled_piece.Goals as goal
 
 pub fill_piece-requires-clause-room : goal.fill_piece-requires-clause-room
 fill_piece-requires-clause-room g c =
-    let none = c.clear.ensures.len in
-    let same = c.clear.ensures.capacity in
-    let room = c.requires.holes in
-    omega arith
+    all_room c.args.holes.now c.clear.new.self (length c.args.piece.now / 512) c.clear.ensures.empty c.requires.holes
 
 pub fill_piece-requires-clause-clear : goal.fill_piece-requires-clause-clear
-fill_piece-requires-clause-clear g c = none_clear c.clear.new.self.items c.clear.ensures.items c.args.sector
+fill_piece-requires-clause-clear g c = none_clear (gaps_of c.clear.new.self) (c.clear.ensures.missing, c.clear.ensures.others) c.args.sector
 
 pub fill_piece-requires-clause-fit : goal.fill_piece-requires-clause-fit
-fill_piece-requires-clause-fit g c = none_fit c.clear.new.self.items c.clear.ensures.items
+fill_piece-requires-clause-fit g c = (none_fit c.clear.new.self.missing.items c.clear.ensures.missing, none_fit c.clear.new.self.others.items c.clear.ensures.others)
 
-pub returns-in_err-add_all-clause-gives : goal.returns-in_err-add_all-clause-gives
-returns-in_err-add_all-clause-gives g c =
+pub returns-in_err-add_holes-clause-gives : goal.returns-in_err-add_holes-clause-gives
+returns-in_err-add_holes-clause-gives g c =
     let passed : c.from_residual.result ≡ Err NoPieceMemory = search rules in
     let same = c.fill_piece.auto.piece in
-    let holes = c.deref.result.now in
-    let more = subst (λ (m : List Run). FillsMore c.args.way c.args.sector c.fill_piece.new.piece [] m c.args.mirror.now c.fill_piece.new.mirror) (sym c.deref.ensures.value)
-    (subst (λ (m : List Run). FillsMore c.args.way c.args.sector c.fill_piece.new.piece m c.fill_piece.new.holes.items c.args.mirror.now c.fill_piece.new.mirror) c.clear.ensures.items c.fill_piece.ensures.gives) in
+    let more = subst (λ (m : Gaps). FillsMore c.args.way c.args.sector c.fill_piece.new.piece m (gaps_of c.fill_piece.new.holes) c.args.mirror.now c.fill_piece.new.mirror) (no_gaps_is (gaps_of c.clear.new.self) (c.clear.ensures.missing, c.clear.ensures.others)) c.fill_piece.ensures.gives in
     rw passed (
       record {
         bytes = c.fill_piece.new.piece;
         few = let whole = c.requires.whole in omega arith;
-        missing = holes;
+        gaps = gaps_of c.fill_piece.new.holes;
         more = more;
-        part = c.in_err-add_all.ensures.0;
-        s = c.in_err-add_all.ensures.1.0;
-        lacks = c.in_err-add_all.ensures.1.1;
+        part = c.in_err-add_holes.ensures.0;
+        s = c.in_err-add_holes.ensures.1.0;
+        lacks = c.in_err-add_holes.ensures.1.1;
       },
       refl,
     )
@@ -43,26 +40,22 @@ pub returns-in_err-put-clause-gives : goal.returns-in_err-put-clause-gives
 returns-in_err-put-clause-gives g c =
     let passed : c.from_residual-in_err-put.result ≡ Err OutputFault = search rules in
     let same = c.fill_piece.auto.piece in
-    let holes = c.deref.result.now in
-    let more = subst (λ (m : List Run). FillsMore c.args.way c.args.sector c.fill_piece.new.piece [] m c.args.mirror.now c.fill_piece.new.mirror) (sym c.deref.ensures.value)
-    (subst (λ (m : List Run). FillsMore c.args.way c.args.sector c.fill_piece.new.piece m c.fill_piece.new.holes.items c.args.mirror.now c.fill_piece.new.mirror) c.clear.ensures.items c.fill_piece.ensures.gives) in
+    let more = subst (λ (m : Gaps). FillsMore c.args.way c.args.sector c.fill_piece.new.piece m (gaps_of c.fill_piece.new.holes) c.args.mirror.now c.fill_piece.new.mirror) (no_gaps_is (gaps_of c.clear.new.self) (c.clear.ensures.missing, c.clear.ensures.others)) c.fill_piece.ensures.gives in
     rw passed (
       record {
         bytes = c.fill_piece.new.piece;
         few = let whole = c.requires.whole in omega arith;
-        more = fills_noted c.args.way c.args.sector c.fill_piece.new.piece c.args.missing.now holes c.add_all.new.set c.args.mirror.now c.fill_piece.new.mirror
-            more c.requires.clear c.in_ok-add_all.ensures;
+        more = fills_noted c.args.way c.args.sector c.fill_piece.new.piece c.args.gaps.now (gaps_of c.fill_piece.new.holes) c.add_holes.new.noted c.args.mirror.now c.fill_piece.new.mirror
+            more c.requires.clear c.in_ok-add_holes.ensures;
       },
       c.in_err-put.ensures,
     )
 
 pub returns-clause-gives : goal.returns-clause-gives
 returns-clause-gives g c =
-    let holes = c.deref.result.now in
-    let more = subst (λ (m : List Run). FillsMore c.args.way c.args.sector c.fill_piece.new.piece [] m c.args.mirror.now c.fill_piece.new.mirror) (sym c.deref.ensures.value)
-    (subst (λ (m : List Run). FillsMore c.args.way c.args.sector c.fill_piece.new.piece m c.fill_piece.new.holes.items c.args.mirror.now c.fill_piece.new.mirror) c.clear.ensures.items c.fill_piece.ensures.gives) in
+    let more = subst (λ (m : Gaps). FillsMore c.args.way c.args.sector c.fill_piece.new.piece m (gaps_of c.fill_piece.new.holes) c.args.mirror.now c.fill_piece.new.mirror) (no_gaps_is (gaps_of c.clear.new.self) (c.clear.ensures.missing, c.clear.ensures.others)) c.fill_piece.ensures.gives in
     record {
-      more = fills_noted c.args.way c.args.sector c.fill_piece.new.piece c.args.missing.now holes c.add_all.new.set c.args.mirror.now c.fill_piece.new.mirror
-          more c.requires.clear c.in_ok-add_all.ensures;
+      more = fills_noted c.args.way c.args.sector c.fill_piece.new.piece c.args.gaps.now (gaps_of c.fill_piece.new.holes) c.add_holes.new.noted c.args.mirror.now c.fill_piece.new.mirror
+          more c.requires.clear c.in_ok-add_holes.ensures;
       puts = c.in_ok-put.ensures;
     }

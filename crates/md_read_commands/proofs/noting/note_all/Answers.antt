@@ -1,7 +1,10 @@
-use Rattle.std.proofs.Common.{rules, Err, ◌≡◌, ◌∙◌, ◌==◌, List, length, ap, refl, sym, true≢false}
-use Rattle.md_badblocks.specs.declared.run.Run.{Run}
-use Rattle.md_read_commands.proofs.Noted.{some_bad}
+use Rattle.std.proofs.Common.{rules, Err, ◌≡◌, refl}
+use Rattle.md_read_commands.proofs.Noted.{nothing_noted, some_gap}
+use Rattle.md_read_commands.specs.Gaps.{gaps_of}
 use Rattle.md_read_commands.proofs.noting.note_all.Goals as goal
+
+pub returns-then-is_empty : goal.returns-then-is_empty
+returns-then-is_empty c = nothing_noted c.args.noted.now (gaps_of c.args.holes.now) (c.is_empty.ensures.0 c.if-is_empty.true)
 
 pub returns-in_err-both : goal.returns-in_err-both
 returns-in_err-both c =
@@ -9,6 +12,6 @@ returns-in_err-both c =
     let passed : c.from_residual.result ≡ Err fault = search rules in
     rw passed (
       refl,
-      some_bad c.args.missing.now c.requires.fit
-          (λ none. true≢false (sym (c.is_empty.ensures ∙ ap (λ (l : List Run). length l == 0) none) ∙ c.if-is_empty.false)),
+      some_gap c.args.holes.now.missing.items c.args.holes.now.others.items c.requires.fit.0 c.requires.fit.1
+          (λ none. let yes = c.is_empty.ensures.1 none in let no = c.if-is_empty.false in cc),
     )

@@ -49,7 +49,7 @@ returns-in_err-flush-clause-rests g c = session_rests g.I.Source g.S.Sink (expor
 
 pub returns-in_err-map_err-clause-gives : goal.returns-in_err-map_err-clause-gives
 returns-in_err-map_err-clause-gives g c =
-    let own = own_err _ _ _ c.first_missing.result _ _ c.first_missing.ensures c.in_err-map_err.ensures.cases refl in
+    let own = own_err _ _ _ c.first_gap.result _ _ c.first_gap.ensures c.in_err-map_err.ensures.cases refl in
     let passed : c.from_residual-in_err-map_err.result ≡ Err (Read own.0) = let post = own.2 in search rules in
     rw passed
     (gave_zeros g.I.Source g.S.Sink c.args.reader.now c.serve_client.new.store c.args.mirror.now c.serve_client.new.lent c.args.input.now c.serve_client.new.input c.args.out.now c.serve_client.new.out c.flush.new.self
@@ -66,7 +66,7 @@ returns-clause-gives g c = (
   served_client g.I.Source g.S.Sink c.args.reader.now c.serve_client.new.store c.args.mirror.now c.serve_client.new.lent c.args.input.now c.serve_client.new.input c.args.out.now c.serve_client.new.out c.flush.new.self c.in-Ok.end (sym c.is_orderly.ensures ∙ c.if-is_orderly.true)
       (session_told g.I.Source g.S.Sink c.chunks.result c.args.reader.now c.serve_client.new.store c.args.mirror.now c.serve_client.new.lent c.args.input.now c.serve_client.new.input c.args.out.now c.serve_client.new.out c.chunks.ensures c.in-Ok.end c.in-Ok.ensures.serves)
       c.in_ok-flush.ensures,
-  own_ok _ _ _ c.first_missing.result _ _ c.first_missing.ensures c.in_ok-map_err.ensures.cases c.in_ok-map_err.ensures.variant refl,
+  own_ok _ _ _ c.first_gap.result _ _ c.first_gap.ensures c.in_ok-map_err.ensures.cases c.in_ok-map_err.ensures.variant refl,
 )
 
 pub returns-clause-rests : goal.returns-clause-rests

@@ -2,13 +2,13 @@ use Rattle.std.proofs.Common.{◌≡◌, ◌∙◌, ◌+◌, ℕ, List, ◌<◌,
 use Rattle.std.proofs.lemmas.List.{take_all, take_more}
 use Rattle.std.proofs.lemmas.List.Sums.{sum_by_push}
 use Rattle.md_badblocks.specs.declared.run.Run.{Run}
-use Rattle.md_messages.specs.Missing.{missing_count}
+use Rattle.md_messages.specs.Missing.{gap_count}
 use Rattle.md_messages.proofs.Runs.{sectors_few}
-use Rattle.md_messages.proofs.missing.missing_count.Goals as goal
+use Rattle.md_messages.proofs.missing.gap_count.Goals as goal
 
 -- with one run more
-more : (runs : List Run) (i : ℕ) (d : Run) → i < length runs → missing_count (take (i + 1) runs) ≡ missing_count (take i runs) + (get_or runs i d).len
-more runs i d lt = ap missing_count (take_more runs i d lt) ∙ sum_by_push (λ (run : Run). run.len) (take i runs) (get_or runs i d)
+more : (runs : List Run) (i : ℕ) (d : Run) → i < length runs → gap_count (take (i + 1) runs) ≡ gap_count (take i runs) + (get_or runs i d).len
+more runs i d lt = ap gap_count (take_more runs i d lt) ∙ sum_by_push (λ (run : Run). run.len) (take i runs) (get_or runs i d)
 
 pub overflow_add-sectors : goal.overflow_add-sectors
 overflow_add-sectors c =
@@ -22,4 +22,4 @@ loop-run-preserved c =
     omega (arith, next, c.loop-run.invariant)
 
 pub returns : goal.returns
-returns c = c.loop-run.invariant ∙ ap missing_count (take_all c.loop-run.run-index c.args.runs.now (search (rules, arith)))
+returns c = c.loop-run.invariant ∙ ap gap_count (take_all c.loop-run.run-index c.args.runs.now (search (rules, arith)))

@@ -1,0 +1,131 @@
+-- A sector is asked of one member after another.
+use Rattle.std.proofs.Common.{◌≡◌, ◌∙◌, inr, ℕ, ◌+◌, ◌<◌, ◌≤◌, ◌↔◌, Bool, true, List, length, Result, Ok, Err, sym, subst, arith}
+use Rattle.std.specs.Prelude.{◌≢◌, ⊤, MatchResult, is_ok}
+use Rattle.std.proofs.lemmas.Option.{slice_get_within}
+use Rattle.md_device.proofs.Failing.{fails_still}
+use Rattle.md_model.proofs.Puts.{by_same}
+use Rattle.md_assembly.proofs.Indices.{got_within}
+use Rattle.md_kept_members.specs.View.{MemberView}
+use Rattle.md_laws.proofs.Runs.Rests.{rests_same, rests_then}
+use Rattle.md_state.specs.Members.{IsInSync}
+use Rattle.md_state.specs.Rests.{Rests}
+use Rattle.md_state.specs.Steps.CopyData.{Lists}
+use Rattle.md_state.specs.Steps.ReadData.{FailsToRead, ReadsData}
+use Rattle.md_state.specs.View.{ArrayView, MirrorView}
+use Rattle.md_read.specs.Reading.{HasNotGiven, HasReadFailed, IsReadOfMember, NoneGives}
+use Rattle.md_read.specs.Unresynced.{SourceFails}
+use Rattle.md_read.proofs.InRoles.{ListsSome, failed_of}
+use Rattle.md_read.proofs.RunsRead.{has_not_given_earlier, has_not_given_later, held_earlier}
+use Rattle.md_read_commands.specs.Others.{AsksMember, GivesAlone, GivesOther, NoOtherGives}
+
+-- the members before this one did not give the sector, but for one that was not asked
+pub record NoneGaveBelow (source s n : ℕ) (old new : MirrorView) : Type 0 where
+  pub rests : Rests old new
+  pub none : (j : ℕ) (m : MemberView) → j < n → j ≢ source → IsInSync old.array j m → HasNotGiven j m s s 1 old new
+
+module _ (old mid : MirrorView) (first : Rests old mid) where
+  -- a member in sync is so after reads
+  in_sync_after : (k : ℕ) (m : MemberView) → IsInSync old.array k m → IsInSync mid.array k m
+  in_sync_after k m on = subst (λ (a : ArrayView). IsInSync a k m) (sym first.array) on
+
+  in_sync_before : (k : ℕ) (m : MemberView) → IsInSync mid.array k m → IsInSync old.array k m
+  in_sync_before k m on = subst (λ (a : ArrayView). IsInSync a k m) first.array on
+
+  gives_alone_earlier : (new : MirrorView) (k s : ℕ) (block : List ℕ) → GivesAlone k s block mid new → GivesAlone k s block old new
+  gives_alone_earlier new k s block g = record {
+    rests = rests_then old mid new first g.rests;
+    member = g.member;
+    in_sync = in_sync_before k g.member g.in_sync;
+    unlisted = g.unlisted;
+    holds = held_earlier old mid first k s block g.holds;
+  }
+
+  pub gives_other_earlier : (new : MirrorView) (k s : ℕ) (block : List ℕ) → GivesOther k s block mid new → GivesOther k s block old new
+  gives_other_earlier new k s block g = record {
+    from = g.from;
+    apart = g.apart;
+    gives = gives_alone_earlier new g.from s block g.gives;
+    earlier = λ j m low apart on. has_not_given_earlier old mid new first g.gives.rests j m s s 1 (g.earlier j m low apart (in_sync_after j m on));
+  }
+
+  pub no_other_earlier : (new : MirrorView) (k s : ℕ) → NoOtherGives k s mid new → NoOtherGives k s old new
+  no_other_earlier new k s g = record {
+    rests = rests_then old mid new first g.rests;
+    none = λ j m apart on. has_not_given_earlier old mid new first g.rests j m s s 1 (g.none j m apart (in_sync_after j m on));
+  }
+
+  -- the member that a resync copies from failed before others were asked
+  pub source_fails_later : (new : MirrorView) → Rests mid new → (k s : ℕ) → SourceFails k s old mid → SourceFails k s old new
+  source_fails_later new second k s fails = record {
+    marked = fails.marked;
+    source = fails.source;
+    failed = λ d f was is.
+        let low = slice_get_within old.disks k d was in
+        let many = first.disks.same.as_many in
+        let e = got_within mid.disks k (omega arith) in
+        let told = fails.failed d e.0 was e.1 in
+        let stays = second.disks.same.honest k e.0 f e.1 is in (
+          λ honest. (let rose = told.0 honest in let counted = stays.counted in omega arith),
+          λ m at. fails_still d.faults e.0.faults f.faults (IsReadOfMember m s 1) (λ _. ⊤) (told.1 m at) stays.grown,
+        );
+  }
+
+-- ---- one after another
+module _ (source s : ℕ) where
+  pub none_first : (v : MirrorView) → NoneGaveBelow source s 0 v v
+  none_first v = record { rests = rests_same v; none = λ j m low apart on. absurd (omega arith) }
+
+  module _ (n : ℕ) (old mid : MirrorView) (so_far : NoneGaveBelow source s n old mid) where
+    pub none_more : (new : MirrorView) → Rests mid new → ((m : MemberView) → n ≢ source → IsInSync mid.array n m → HasNotGiven n m s s 1 mid new) → NoneGaveBelow source s (n + 1) old new
+    none_more new second none = record {
+      rests = rests_then old mid new so_far.rests second;
+      none = λ j m low apart on.
+          by_same j n
+          (λ same. has_not_given_earlier old mid new so_far.rests second j m s s 1
+          (subst (λ (i : ℕ). HasNotGiven i m s s 1 mid new) (sym same)
+          (none m (λ is. apart (same ∙ is)) (in_sync_after old mid so_far.rests n m (subst (λ (i : ℕ). IsInSync old.array i m) same on)))))
+          (λ other. has_not_given_later old mid new so_far.rests second j m s s 1 (so_far.none j m (omega arith) apart on));
+    }
+
+    pub gives_at_last : (new : MirrorView) (block : List ℕ) → n ≢ source → GivesAlone n s block mid new → GivesOther source s block old new
+    gives_at_last new block apart g = record {
+      from = n;
+      apart = apart;
+      gives = gives_alone_earlier old mid so_far.rests new n s block g;
+      earlier = λ j m low other on. has_not_given_later old mid new so_far.rests g.rests j m s s 1 (so_far.none j m low other on);
+    }
+
+    pub none_at_all : length old.array.members ≤ n → NoOtherGives source s old mid
+    none_at_all all = record {
+      rests = so_far.rests;
+      none = λ j m apart on. let low = slice_get_within old.array.members j m on.member in so_far.none j m (omega arith) apart on;
+    }
+
+-- ---- one member
+-- whether it lists the sector
+pub lists_one : (m : MemberView) (s : ℕ) (said : Bool) → ((said ≡ true) ↔ ListsSome m s 1) → (said ≡ true) ↔ Lists m s
+lists_one m s said iff = (
+  λ e.
+      let l = iff.0 e in
+      let from = l.2 in
+      let below = l.3 in
+      let same : l.0 ≡ s = omega arith in
+      subst (λ (t : ℕ). Lists m t) same l.1,
+  λ lists. iff.1 (s, lists, omega arith, omega arith),
+)
+
+-- it was asked
+module _ (old new : MirrorView) (source k s : ℕ) (apart : k ≢ source) (member : MemberView) (on : IsInSync old.array k member) (free : Lists member s → ⊥) (block : List ℕ) (n : ℕ) (long : n ≡ 512) where
+  pub asked : {E : Type 0} (r : Result (Unit {0}) E) → MatchResult r (λ _. ReadsData k s block old new) (λ _. FailsToRead k s n old new) → AsksMember source k s block old new (is_ok r)
+  asked (Ok x) reads = (
+    apart,
+    record { rests = reads.rests; member = member; in_sync = on; unlisted = free; holds = held_earlier old new reads.rests k s block reads.holds },
+  )
+  asked (Err e) fails = (fails.rests, λ m other in_sync. inr (failed_of k s n 1 old new fails (omega arith)))
+
+-- nor did the member that a resync copies from
+pub nobody_gives : (k s : ℕ) (old new : MirrorView) → SourceFails k s old new → NoOtherGives k s old new → NoneGives s old new
+nobody_gives k s old new fails none j m on =
+    by_same j k
+    (λ same. inr (subst (λ (i : ℕ). HasReadFailed i s 1 old new) (sym same) fails.failed))
+    (λ apart. none.none j m apart on)
