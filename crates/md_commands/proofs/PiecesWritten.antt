@@ -228,6 +228,7 @@ module _ {I : Type 0} (i : Ghosts I) (sector len : ℕ) (whole : len % 512 ≡ 0
     refused_later new rest InputFault h = record {
       bytes = b;
       stands = stands new h.1;
+      unfinished = λ _. within;
       piece = h.0.bytes;
       few = subst (λ (m : ℕ). length h.0.bytes ≤ 512 * m) is h.0.few;
       taken = Consumes-trans (i.remaining input) (i.remaining between) (i.remaining rest) b h.0.bytes so_far.takes.gives.consumes h.0.taken;
@@ -240,6 +241,7 @@ module _ {I : Type 0} (i : Ghosts I) (sector len : ℕ) (whole : len % 512 ≡ 0
         record {
           bytes = b;
           stands = stands new h.1;
+          unfinished = λ _. within;
           piece = h.0.bytes;
           few = ⊎_elim
               (λ (early : (length h.0.bytes < 512 * n) × IsAtEnd (i.remaining rest)). let short = early.0 in few_of (length h.0.bytes) (omega arith))
@@ -268,6 +270,7 @@ module _ {I : Type 0} (i : Ghosts I) (sector len : ℕ) (whole : len % 512 ≡ 0
     not_taken rest InputFault h = record {
       bytes = [];
       stands = nothing_written;
+      unfinished = λ (some : 0 < 0). absurd (omega arith);
       piece = h.bytes;
       few = subst (λ (n : ℕ). length h.bytes ≤ n) long_first h.few;
       taken = h.taken;
@@ -276,6 +279,7 @@ module _ {I : Type 0} (i : Ghosts I) (sector len : ℕ) (whole : len % 512 ≡ 0
     not_taken rest BadLength h = record {
       bytes = [];
       stands = nothing_written;
+      unfinished = λ (some : 0 < 0). absurd (omega arith);
       piece = h.bytes;
       few = subst (λ (n : ℕ). length h.bytes ≤ n + 1) long_first
           (⊎_elim

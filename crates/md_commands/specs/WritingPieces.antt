@@ -162,6 +162,8 @@ module _ {I : Type 0} (i : Ghosts I) where
       pub record BreaksOffWriting : Type 0 where
         pub bytes : List ℕ
         pub stands : HasWritten sector (len / 512) written bytes old new
+        -- where any piece is written, the last one is not
+        pub unfinished : 0 < written → written < len / 512
         pub piece : List ℕ
         pub few : length piece ≤ 512 * sectors_at_once (sector + written) (len / 512 - written)
         pub taken : Consumes (i.remaining input) (i.remaining rest) (bytes ++ piece)
@@ -171,6 +173,8 @@ module _ {I : Type 0} (i : Ghosts I) where
       pub record IsNotAsTold : Type 0 where
         pub bytes : List ℕ
         pub stands : HasWritten sector (len / 512) written bytes old new
+        -- where any piece is written, the last one is not
+        pub unfinished : 0 < written → written < len / 512
         pub piece : List ℕ
         pub few : length piece ≤ 512 * sectors_at_once (sector + written) (len / 512 - written) + 1
         pub gives : Gives i.remaining i.failed input rest (bytes ++ piece)
