@@ -90,7 +90,8 @@ def killed_at(life, number):
     if before.status != KILLED:
         return ["the process ended with status %d" % before.status]
     copied = len(set(data_chunks(before)))
-    recorded = STRETCH * len(checkpoints(before))
+    # The call at which it is killed is seen, and not made.
+    recorded = STRETCH * sum(made_at < number for made_at in checkpoints(before))
     passed = life.chunks_passed()
     reasons = [] if passed == recorded else ["the member says that it has %d chunks, and %d were recorded" % (passed, recorded)]
     again = life.rebuild()
