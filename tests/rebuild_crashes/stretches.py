@@ -10,6 +10,8 @@ from scratch import KILLED, Scratch
 CHUNK = 16 * 2**20
 CHUNKS = 40
 STRETCH = 16
+# The chunk of which the source lacks a sector.
+GAP = 3
 DATA = 2048 * members.SECTOR
 # Of superblock 1.2 in md_p.h: recovery_offset, 8 bytes.
 SUPER_AT = members.SECTOR * members.SUPER_SECTOR
@@ -56,9 +58,9 @@ class Life:
             image.seek(OFFSET_AT)
             return struct.unpack("<Q", image.read(8))[0] * members.SECTOR // CHUNK
 
-    def against_data(self):
+    def against_data(self, chunks=range(CHUNKS)):
         with open(self.scratch.path(1), "rb") as image:
-            for chunk in range(CHUNKS):
+            for chunk in chunks:
                 image.seek(DATA + chunk * CHUNK)
                 if image.read(members.SECTOR) != marked(chunk, 1):
                     return ["the new member lacks chunk %d" % chunk]
@@ -104,6 +106,30 @@ def killed_at(life, number):
     return reasons + life.against_data()
 
 
+def killed_past_gap(life, number):
+    """The reasons against a rebuild of which the source lacks a sector of an early chunk, and that is killed at this call, long
+    after that: all before the gap counts, and no more."""
+    life.begin()
+    gap = DATA + GAP * CHUNK
+    size = life.scratch.path(0).stat().st_size
+    blocks = [(0, gap, "+"), (gap, members.SECTOR, "-"), (gap + members.SECTOR, size - gap - members.SECTOR, "+")]
+    lost = life.scratch.path(0).with_name("lost.map")
+    lost.write_text("0 + 1\n" + "".join("%d %d %s\n" % block for block in blocks))
+    masked = ["rebuild", "--member", 1, "--map", "%s=%s" % (life.scratch.path(0), lost)]
+    before = life.scratch.run(masked, [0, 1], STOPPED_CALL=str(number), STOPPED_HOW="before")
+    reasons = [] if before.status == KILLED else ["the process ended with status %d" % before.status]
+    if len(set(data_chunks(before))) <= STRETCH:
+        reasons.append("it was killed before a second stretch")
+    if life.chunks_passed() != GAP:
+        reasons.append("the member says that it has %d chunks" % life.chunks_passed())
+    again = life.scratch.run(masked, [0, 1])
+    if again.status != 0 or not again.output.endswith(b"rebuilt member 1, passes 2, orphans 1\n"):
+        reasons.append("run again it answers %r, %r" % (again.output[-80:], again.errors))
+    if set(data_chunks(again)) != set(range(GAP + 1, CHUNKS)):
+        reasons.append("run again it copies %d chunks" % len(set(data_chunks(again))))
+    return reasons + life.against_data([chunk for chunk in range(CHUNKS) if chunk != GAP])
+
+
 def judge(tally, folder, library):
     life = Life(folder, library)
     life.begin()
@@ -118,3 +144,5 @@ def judge(tally, folder, library):
     stops = [("the first", 6), ("its record", ends[0]), ("the second", ends[0] + 9), ("its record", ends[1]), ("the last", ends[1] + 5), ("its record", ends[2])]
     for name, number in stops:
         tally.judge("rebuild, killed in %s, call %d" % (name, number), killed_at(life, number))
+    number = ends[1] + 5
+    tally.judge("rebuild past a gap, killed in the last, call %d" % number, killed_past_gap(life, number))
