@@ -14,7 +14,7 @@ _mdcli_options() {
     grow) printf '%s\n' --bitmap= --bitmap-chunk= ;;
     assemble | detail) printf '%s\n' --json --readonly --map= ;;
     plan) printf '%s\n' --member= --json --readonly --map= ;;
-    read) printf '%s\n' --sector= --count= --fill --map-out= --output= --readonly --map= ;;
+    read) printf '%s\n' --sector= --count= --fill --map-out= --output= --resume --readonly --map= ;;
     serve) printf '%s\n' --fill --readonly --map= ;;
     write) printf '%s\n' --sector= --count= ;;
     check) printf '%s\n' --list --exit-code --json --readonly --map= ;;

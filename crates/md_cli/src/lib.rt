@@ -23,6 +23,7 @@ mod lay_out_each;
 mod opened;
 mod performing;
 mod read_watch;
+mod reading_on;
 mod refusing;
 mod running;
 mod scanning;
@@ -33,6 +34,7 @@ mod show_short;
 mod shown_names;
 mod sizing;
 
+pub use md_read_commands::FillWatch;
 pub use read_watch::ReadWatch;
 pub use refusing::show_why;
 pub use running::run;

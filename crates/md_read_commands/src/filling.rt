@@ -5,11 +5,12 @@ ghost use Rattle.md_inflight.specs.Requests.Pending.{PendingView};
 ghost use Rattle.md_state.specs.Requests.{IsPending};
 ghost use Rattle.md_array.specs.Consistency.{IsConsistent};
 ghost use Rattle.md_read_commands.specs.Filling.{FillsBlock, FillsFront, FillsMore, IsClear, NotesOne, PutsFilled, PutsFilledPiece, RefusesFilled, RefusesFilledPiece};
-ghost use Rattle.md_read_commands.specs.Gaps.{AreFitGaps, HasFewMore, HasNoGaps, HasRoomForMore, HasSameRoom, capacity_of, gaps_of};
+ghost use Rattle.md_read_commands.specs.Gaps.{AreFitGaps, AreTold, HasFewMore, HasNoGaps, HasRoomForMore, HasSameRoom, capacity_of, gaps_of};
 ghost use Rattle.md_read_commands.specs.Pieces.{piece_sectors};
 ghost use Rattle.md_read_commands.specs.Ways.{MayReadBy};
 
 use crate::buffer::buffer;
+use crate::fill_watch::FillWatch;
 use crate::gaps::{Gaps, Holes};
 use crate::noting::add_holes;
 use crate::others::read_other;
@@ -25,13 +26,14 @@ use std::alloc::Global;
 /// Puts out `count` sectors of an array, from this one on, read in this way, through one buffer. Each that is not given is added
 /// to `gaps`, and what another member has, or else zeros, is put out in its place. To read a piece takes no memory, to add what is
 /// not given of it may.
-pub(crate) fn put_filled<D: Device + Drop, S: Sink>(
+pub(crate) fn put_filled<D: Device + Drop, W: FillWatch, S: Sink>(
     alloc: Global,
     mirror: &mut Mirror<D>,
     way: Way,
     sector: u64,
     count: u64,
     gaps: &mut Gaps,
+    watch: &W,
     out: &mut S,
 ) -> Result<(), CommandFault>
     requires may { MayReadBy way mirror.old.array sector count }
@@ -41,13 +43,14 @@ pub(crate) fn put_filled<D: Device + Drop, S: Sink>(
     ensures gives { MatchResult result
         (λ _. PutsFilled S.Sink way sector count gaps.new mirror.old mirror.new out.old out.new)
         (RefusesFilled S.Sink way sector count gaps.new mirror.old mirror.new out.old out.new) }
+    ensures told { AreTold (W.misses watch.now) (W.takes watch.now) gaps.new }
     ensures sound { IsConsistent mirror.new }
     ensures pending { (p : PendingView) → IsPending mirror.old.array p → IsPending mirror.new.array p }
 {
     let mut piece = buffer(alloc, count.min(PIECE_SECTORS))?;
     let mut holes = Holes::with_capacity(alloc, PIECE_SECTORS as usize)?;
     let asked = Sectors { sector, count };
-    put_filled_pieces(mirror, way, asked, &mut piece, &mut holes, gaps, out)
+    put_filled_pieces(mirror, way, asked, &mut piece, &mut holes, gaps, watch, out)
 }
 
 // So many sectors of the array, from this one on.
@@ -59,13 +62,14 @@ struct Sectors {
 
 // Puts them out through this buffer, of a piece, or of all of them where these are fewer. `holes` is room for those of a piece that are
 // not given.
-fn put_filled_pieces<D: Device + Drop, S: Sink>(
+fn put_filled_pieces<D: Device + Drop, W: FillWatch, S: Sink>(
     mirror: &mut Mirror<D>,
     way: Way,
     asked: Sectors,
     buffer: &mut [u8],
     holes: &mut Holes,
     gaps: &mut Gaps,
+    watch: &W,
     out: &mut S,
 ) -> Result<(), CommandFault>
     requires room { length buffer.old ≡ 512 * min asked.count piece_sectors }
@@ -79,6 +83,7 @@ fn put_filled_pieces<D: Device + Drop, S: Sink>(
         out.old out.new)
         (RefusesFilled S.Sink way asked.sector asked.count gaps.new mirror.old mirror.new
         out.old out.new) }
+    ensures told { AreTold (W.misses watch.now) (W.takes watch.now) gaps.new }
     ensures sound { IsConsistent mirror.new }
     ensures pending { (p : PendingView) → IsPending mirror.old.array p → IsPending mirror.new.array p }
 {
@@ -92,6 +97,7 @@ fn put_filled_pieces<D: Device + Drop, S: Sink>(
             &mut buffer[..512 * sectors as usize],
             holes,
             gaps,
+            watch,
             out,
         )?;
         done += sectors;
@@ -100,14 +106,15 @@ fn put_filled_pieces<D: Device + Drop, S: Sink>(
     Ok(())
 }
 
-// Fills a piece, adds what is not given of it, and puts it out.
-fn put_filled_piece<D: Device + Drop, S: Sink>(
+// Fills a piece, tells what is not given of it and adds that, and puts the piece out.
+fn put_filled_piece<D: Device + Drop, W: FillWatch, S: Sink>(
     mirror: &mut Mirror<D>,
     way: Way,
     sector: u64,
     piece: &mut [u8],
     holes: &mut Holes,
     gaps: &mut Gaps,
+    watch: &W,
     out: &mut S,
 ) -> Result<(), CommandFault>
     requires whole { length piece.old % 512 ≡ 0 }
@@ -115,17 +122,20 @@ fn put_filled_piece<D: Device + Drop, S: Sink>(
     requires may { MayReadBy way mirror.old.array sector (length piece.old / 512) }
     requires sound { IsConsistent mirror.old }
     requires clear { IsClear gaps.old sector }
+    requires told { AreTold (W.misses watch.now) (W.takes watch.now) gaps.old }
     ensures gives { MatchResult result
         (λ _. PutsFilledPiece S.Sink way sector piece.new gaps.old gaps.new mirror.old mirror.new
         out.old out.new)
         (RefusesFilledPiece S.Sink way sector (length piece.old / 512) gaps.old gaps.new
         mirror.old mirror.new out.old out.new) }
+    ensures told { AreTold (W.misses watch.now) (W.takes watch.now) gaps.new }
     ensures holes { HasSameRoom holes.old holes.new }
     ensures sound { IsConsistent mirror.new }
     ensures pending { (p : PendingView) → IsPending mirror.old.array p → IsPending mirror.new.array p }
 {
     holes.clear();
     fill_piece(mirror, way, sector, piece, holes);
+    watch.lacks(&holes.missing, &holes.others);
     add_holes(gaps, holes)?;
     out.put(piece)?;
     Ok(())

@@ -127,11 +127,13 @@ rebuild_app =
 abbrev pub with_sector : App → App
 with_sector a = with_rule a (required (value_rule (codes "sector")))
 
--- options for sectors that nobody gives, and for where the others go
+-- options for sectors that nobody gives, and for where the others go, also after an interruption
 abbrev pub with_fill : App → App
 with_fill a =
-    with_rule (with_rule (with_rule a (flag_rule (codes "fill"))) (value_rule (codes "map-out")))
-    (value_rule (codes "output"))
+    with_rule
+    (with_rule (with_rule (with_rule a (flag_rule (codes "fill"))) (value_rule (codes "map-out")))
+    (value_rule (codes "output")))
+    (flag_rule (codes "resume"))
 
 abbrev pub read_app : App
 read_app =

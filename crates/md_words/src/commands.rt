@@ -170,7 +170,7 @@ const FILL_SERVED: OptionWords = OptionWords {
 const MAP_OUT: OptionWords = OptionWords {
     name: "map-out",
     value: "FILE",
-    help: "With --fill: makes a new file, ddrescue's map of the array as far as it is read",
+    help: "With --fill or --resume: makes a new file, ddrescue's map of the array as far as it is read",
     kind: Kind::Text,
     required: false,
     default: None,
@@ -181,6 +181,15 @@ const OUTPUT: OptionWords = OptionWords {
     value: "FILE",
     help: "Makes a new file of the sectors, and writes nothing to standard output; blocks of zeros are holes in it",
     kind: Kind::Text,
+    required: false,
+    default: None,
+};
+
+const RESUME: OptionWords = OptionWords {
+    name: "resume",
+    value: "",
+    help: "With --readonly, --output and --map-out: goes on with the files of a read that was interrupted, or begins one",
+    kind: Kind::Flag,
     required: false,
     default: None,
 };
@@ -382,7 +391,7 @@ pub(crate) const DATA_COMMANDS: [CommandWords; 6] = [
         name: "read",
         about: "Writes sectors of the array to standard output; may change images",
         after_help: help::READ,
-        options: &[SECTOR, COUNT, FILL, MAP_OUT, OUTPUT, READONLY, MAP],
+        options: &[SECTOR, COUNT, FILL, MAP_OUT, OUTPUT, RESUME, READONLY, MAP],
     },
     CommandWords {
         name: "serve",

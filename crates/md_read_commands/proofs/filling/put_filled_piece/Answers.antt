@@ -6,6 +6,7 @@ use Rattle.md_read_commands.specs.Gaps.{gaps_of}
 use Rattle.md_read_commands.proofs.Filled.{fills_noted}
 use Rattle.md_read_commands.proofs.Noted.{no_gaps_is, none_clear, none_fit}
 use Rattle.md_read_commands.proofs.Rooms.{all_room}
+use Rattle.md_read_commands.proofs.Told.{all_told, few_told}
 use Rattle.md_read_commands.proofs.filling.put_filled_piece.Goals as goal
 
 pub fill_piece-requires-clause-room : goal.fill_piece-requires-clause-room

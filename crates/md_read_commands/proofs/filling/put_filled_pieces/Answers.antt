@@ -5,6 +5,7 @@ use Rattle.md_read_commands.specs.Pieces.{piece_sectors}
 use Rattle.md_read_commands.specs.Ways.{MayReadBy}
 use Rattle.md_read_commands.proofs.FilledPut.{FilledSoFar, clear_next, not_flushed, puts_all, puts_first, puts_more, refuses_more}
 use Rattle.md_read_commands.proofs.Rooms.{same_capacity, same_room_then}
+use Rattle.md_read_commands.proofs.Told.{no_gaps_told}
 use Rattle.md_read_commands.proofs.Ways.{may_read_part}
 use Rattle.md_read_commands.proofs.filling.put_filled_pieces.Goals as goal
 
@@ -21,6 +22,7 @@ loop-done-init g c = record {
   long = refl;
   few = omega arith;
   holes = (refl, refl);
+  told = no_gaps_told (g.W.FillWatch.misses c.args.watch.now) (g.W.FillWatch.takes c.args.watch.now) c.args.gaps.now c.requires.none;
 }
 
 pub overflow_add-asked : goal.overflow_add-asked
@@ -82,6 +84,7 @@ loop-done-preserved g c =
       long = length-append piece (drop (512 * sectors) buffer) ∙ (omega arith);
       few = omega arith;
       holes = same_room_then c.args.holes.now c.loop-done.holes c.put_filled_piece.new.holes so_far.holes c.in_ok-put_filled_piece.ensures.holes;
+      told = c.in_ok-put_filled_piece.ensures.told;
     }
 
 pub returns-in_err-put_filled_piece-clause-gives : goal.returns-in_err-put_filled_piece-clause-gives

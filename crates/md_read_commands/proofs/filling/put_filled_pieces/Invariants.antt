@@ -1,6 +1,6 @@
 use Rattle.std.proofs.Common.{◌≡◌, ◌-◌, ◌≤◌, length}
 use Rattle.md_array.specs.Consistency.{IsConsistent}
-use Rattle.md_read_commands.specs.Gaps.{HasSameRoom}
+use Rattle.md_read_commands.specs.Gaps.{AreTold, HasSameRoom}
 use Rattle.md_read_commands.proofs.FilledPut.{FilledSoFar}
 use Rattle.md_read_commands.proofs.filling.put_filled_pieces.Given as goal
 
@@ -15,4 +15,5 @@ invariant-loop-done g l = record {
   long : length l.buffer ≡ length l.fn.buffer;
   few : l.done ≤ l.asked.count;
   holes : HasSameRoom l.fn.holes l.holes;
+  told : AreTold (g.W.FillWatch.misses l.watch) (g.W.FillWatch.takes l.watch) l.gaps;
 }
