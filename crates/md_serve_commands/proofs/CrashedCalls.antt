@@ -1,5 +1,5 @@
 -- A crash within the calls of a session is one in the life of the mirror, and leaves the content in each sector that no write touches.
-use Rattle.std.proofs.Common.{◌≡◌, ◌≢◌, ◌∙◌, ◌⊎◌, inl, inr, ℕ, zero, suc, ◌%◌, Bool, true, false, cond, List, [], ◌∷◌, ◌++◌, length, take, Some, None, refl, sym, ap, subst, append_assoc}
+use Rattle.std.proofs.Common.{◌≡◌, ◌≢◌, ◌∙◌, inl, inr, ℕ, zero, suc, ◌%◌, Bool, true, false, cond, List, [], ◌∷◌, ◌++◌, length, take, Some, None, refl, sym, ap, subst}
 use Rattle.std.proofs.lemmas.List.{append-nil, take_at}
 use Rattle.std.proofs.lemmas.Option.{none-some}
 use Rattle.md_bitmap.specs.declared.chunks.Chunks.{Chunks}
@@ -36,7 +36,7 @@ use Rattle.md_call_laws.specs.Crashes.HaltedCalls.{IsCrashAtHalt, IsInstead}
 use Rattle.md_call_laws.proofs.CrashLemmas.HaltedCalls.{crashes_at_halted_stop, crashes_at_halted_write}
 use Rattle.md_call_laws.proofs.RebuildLemmas.RebuildRun.{life_on, run_with_then}
 use Rattle.md_serve_commands.specs.Told.{ArrayWrite}
-use Rattle.md_serve_commands.specs.Calls.{AreFirstOf, AreNone, AreWithInstead, CallLeftWhole, CallsLeftWhole, CrashesAlong, CrashesAtHalt, CrashesInCall, CrashesInCalls, DoesCall, DoesCalls, GoesAlong, HaltsInCall, IsClearOf, IsClearOfHalt, SessionCall, WentBehind, call_events, calls_events, content_after, contents_after, halting_events, halting_write, none_there, request_with}
+use Rattle.md_serve_commands.specs.Calls.{AreFirstOf, AreFirstOrInstead, AreNone, CallLeftWhole, CallsLeftWhole, CrashesAlong, CrashesAtHalt, CrashesInCall, CrashesInCalls, DoesCall, DoesCalls, GoesAlong, HaltsInCall, IsClearOf, IsClearOfHalt, SessionCall, WentAtHalt, WentBehind, WentInCalls, call_events, content_after, contents_after, none_there, request_with}
 use Rattle.md_serve_commands.proofs.CallContents.{becomes_same, call_along, comes_there, distinct, finish_becomes, receives_next, sound_along, stop_becomes}
 use Rattle.md_serve_commands.proofs.JoinedWrites.{write_off}
 use Rattle.md_serve_commands.proofs.Settling.{IsSettling, resynced_along, settles}
@@ -291,16 +291,6 @@ crash_later es WentSo IsAside t a b mid left x settled same c = record {
   quiet = c.quiet;
 }
 
--- ---- the first of some events
-pub first_more : (es fs events : List Event) → AreFirstOf es events → AreFirstOf (es ++ fs) events
-first_more es fs events x = record { rest = x.rest ++ fs; order = ap (λ (l : List Event). l ++ fs) x.order ∙ append_assoc events x.rest fs }
-
-pub first_later : (es fs events : List Event) → WentBehind es (AreFirstOf fs) events → AreFirstOf (es ++ fs) events
-first_later es fs events x = record {
-  rest = x.went.rest;
-  order = ap (λ (l : List Event). es ++ l) x.went.order ∙ sym (append_assoc es x.later x.went.rest) ∙ ap (λ (l : List Event). l ++ x.went.rest) (sym x.order);
-}
-
 -- ---- what calls leave
 pub call_same : (c : SessionCall) (cs : List SessionCall) (a : Content) (s : ℕ) → IsClearOf (c ∷ cs) s → content_after c a s ≡ a s
 call_same SessionCall.Reading cs a s off = refl
@@ -383,22 +373,6 @@ instead_of_stop : (clears : Bool) (failing : Event) (instead : List Event) → I
 instead_of_stop true failing instead of is = instead_of_storing failing instead of is
 instead_of_stop false failing instead of is = instead_of_recording failing instead of is
 
--- the events at a crash within a call that halted the mirror, or after it
-abbrev pub WentHalting : (old new : MirrorView) → HaltsInCall old new → List Event → Type 0
-WentHalting old new h events = AreFirstOf (halting_events old new h) events ⊎ AreWithInstead (halting_events old new h) (halting_write old new h) events
-
-pub went_halting : (es fs : List Event) (failing : Event) (events : List Event) → WentBehind es (λ later. AreFirstOf fs later ⊎ AreWithInstead fs failing later) events
-    → AreFirstOf (es ++ fs) events ⊎ AreWithInstead (es ++ fs) failing events
-went_halting es fs failing events x = elim x.went [
-  | inl y ↦ inl (first_later es fs events (record { later = x.later; order = x.order; went = y }))
-  | inr y ↦
-      inr (record {
-        instead = y.instead;
-        is_instead = y.is_instead;
-        order = x.order ∙ ap (λ (l : List Event). es ++ l) y.order ∙ sym (append_assoc es fs y.instead);
-      })
-]
-
 module _ (before : List Disk) (m : MirrorView) (first : Content) (start : IsStart before m) (holds : Holds (geometry_of m.array) first (world_of m none_in_flight)) (final : MirrorView) (left : List Disk) where
   crash_in_call : (c : SessionCall) (es : List Event) (rest : List (List Event)) (t : Moment) (a : Content) → MirrorLifeWith m first es rest final t a
       → (none : AreNone t.requests) (new : MirrorView) (d : DoesCall c t.mirror new) → AreWhole (c ∷ []) → CrashesInCall t.requests none left c t.mirror new d
@@ -432,27 +406,23 @@ module _ (before : List Disk) (m : MirrorView) (first : Content) (start : IsStar
   clear_first SessionCall.Clearing cs s off = tt
 
   pub crash_in_calls : (cs : List SessionCall) (es : List Event) (rest : List (List Event)) (t : Moment) (a : Content) → MirrorLifeWith m first es rest final t a
-      → (none : AreNone t.requests) (new : MirrorView) (d : DoesCalls t.mirror cs new) → AreWhole cs → CrashesInCalls t.requests none left cs t.mirror new d
-      → CrashesAlong (AreFirstOf (calls_events cs t.mirror new d)) t a left (IsClearOf cs)
+      → (none : AreNone t.requests) (new : MirrorView) (d : DoesCalls t.mirror cs new) → AreWhole cs → (stop : CrashesInCalls t.requests none left cs t.mirror new d)
+      → CrashesAlong (WentInCalls t.requests none left cs t.mirror new d stop) t a left (IsClearOf cs)
   crash_in_calls [] es rest t a life none new d whole stop = absurd stop
   crash_in_calls (c ∷ cs) es rest t a life none new d whole (inl here) =
-      let here_events : List Event = call_events c t.mirror d.0 d.1 in
-      let later_events : List Event = calls_events cs d.0 new d.2 in
-      went_too (AreFirstOf here_events) (AreFirstOf (here_events ++ later_events)) (IsClearOf (c ∷ cs)) t a left (first_more here_events later_events)
-      (fewer_aside (AreFirstOf here_events) (IsClearOf (c ∷ [])) (IsClearOf (c ∷ cs)) t a left (clear_first c cs)
-      (crash_in_call c es rest t a life none d.0 d.1 (whole_first c cs whole) here))
+      fewer_aside (AreFirstOf (call_events c t.mirror d.0 d.1)) (IsClearOf (c ∷ [])) (IsClearOf (c ∷ cs)) t a left (clear_first c cs)
+      (crash_in_call c es rest t a life none d.0 d.1 (whole_first c cs whole) here)
   crash_in_calls (c ∷ cs) es rest t a life none new d whole (inr later) =
       let at = (life_held_at before m first start holds es rest final t a life).sound in
       let x = call_along c t at none d.0 d.1 later.0 a in
       let b : Content = content_after c a in
       let mid : Moment = record x.past { mirror = d.0; requests = t.requests } in
       let here_events : List Event = call_events c t.mirror d.0 d.1 in
-      let later_events : List Event = calls_events cs d.0 new d.2 in
+      let Went : List Event → Type 0 = WentInCalls t.requests none left cs d.0 new d.2 later.1 in
       let on = life_on m first es rest final t a life here_events mid b x.run in
-      went_too (WentBehind here_events (AreFirstOf later_events)) (AreFirstOf (here_events ++ later_events)) (IsClearOf (c ∷ cs)) t a left (first_later here_events later_events)
-      (crash_later here_events (AreFirstOf later_events) (IsClearOf (c ∷ cs)) t a b d.0 left x (call_settles c t at none d.0 d.1 later.0) (call_same c cs a)
-      (fewer_aside (AreFirstOf later_events) (IsClearOf cs) (IsClearOf (c ∷ cs)) mid b left (clear_later c cs)
-      (crash_in_calls cs on.0 on.1 mid b on.2 none new d.2 (whole_later c cs whole) later.1)))
+      crash_later here_events Went (IsClearOf (c ∷ cs)) t a b d.0 left x (call_settles c t at none d.0 d.1 later.0) (call_same c cs a)
+      (fewer_aside Went (IsClearOf cs) (IsClearOf (c ∷ cs)) mid b left (clear_later c cs)
+      (crash_in_calls cs on.0 on.1 mid b on.2 none new d.2 (whole_later c cs whole) later.1))
 
   -- ---- within a call that halted the mirror, or after it
   module _ (es : List Event) (rest : List (List Event)) (t : Moment) (a : Content) (life : MirrorLifeWith m first es rest final t a) (none : AreNone t.requests) (new : MirrorView) where
@@ -473,37 +443,44 @@ module _ (before : List Disk) (m : MirrorView) (first : Content) (start : IsStar
           subst (λ (l : List Event). IsCut (WriteIsAside w) t a (take k l) u) same
           (request_cut t none w h.begun h.request h.begins more of false k u a (subst (λ (l : List Event). MirrorRun t (take k l) u) (sym same) r))
 
-      write_halted : IsCrashAtHalt (begun_events h) h.failing t left → CrashesAlong (WentHalting t.mirror new (inl (w, h))) t a left (WriteIsAside w)
-      write_halted (inl x) =
-          crash_along (WentHalting t.mirror new (inl (w, h))) (WriteIsAside w) t a left (begun_events h) x (write_cut h.events h.steps) (inl (first_of (begun_events h) t left x))
-      write_halted (inr x) =
+      cut_before : IsCrashOf (begun_events h) t left → CrashesAlong (AreFirstOf (begun_events h)) t a left (WriteIsAside w)
+      cut_before x = crash_along (AreFirstOf (begun_events h)) (WriteIsAside w) t a left (begun_events h) x (write_cut h.events h.steps) (first_of (begun_events h) t left x)
+
+      cut_since : IsCrashAtHalt (begun_events h) h.failing t left → CrashesAlong (AreFirstOrInstead (begun_events h) h.failing) t a left (WriteIsAside w)
+      cut_since (inl x) =
+          went_too (AreFirstOf (begun_events h)) (AreFirstOrInstead (begun_events h) h.failing) (WriteIsAside w) t a left (λ events y. inl y) (cut_before x)
+      cut_since (inr x) =
           let of = all_on (IsOfRequest t.mirror.array.chunks h.request) h.events x.instead h.steps
           (instead_of_request t.mirror.array.chunks h.request h.failing x.instead h.of x.is_instead) in
-          crash_along (WentHalting t.mirror new (inl (w, h))) (WriteIsAside w) t a left (begun_events h ++ x.instead) (all_of (begun_events h) x.instead t left x.at x.run x.is_left)
+          crash_along (AreFirstOrInstead (begun_events h) h.failing) (WriteIsAside w) t a left (begun_events h ++ x.instead) (all_of (begun_events h) x.instead t left x.at x.run x.is_left)
           (write_cut (h.events ++ x.instead) of) (inr (record { instead = x.instead; is_instead = x.is_instead; order = refl }))
 
-      write_stops : length w.1 % 512 ≡ 0 → CrashesAtHalt t.requests none left t.mirror new (inl (w, h)) → IsCrashAtHalt (begun_events h) h.failing t left
-      write_stops whole (inl among_events) = inl (crashes_in_halted_write before m start es rest final t plain w.0 w.1 new whole h flight left among_events.0 among_events.1)
-      write_stops whole (inr since) = crashes_at_halted_write before m start es rest final t plain w.0 w.1 new whole h flight since.0 left since.1.0 since.1.1
+      write_stops : length w.1 % 512 ≡ 0 → (stop : CrashesAtHalt t.requests none left t.mirror new (inl (w, h)))
+          → CrashesAlong (WentAtHalt t.requests none left t.mirror new (inl (w, h)) stop) t a left (WriteIsAside w)
+      write_stops whole (inl among_events) =
+          cut_before (crashes_in_halted_write before m start es rest final t plain w.0 w.1 new whole h flight left among_events.0 among_events.1)
+      write_stops whole (inr since) = cut_since (crashes_at_halted_write before m start es rest final t plain w.0 w.1 new whole h flight since.0 left since.1.0 since.1.1)
 
     module _ (h : HaltsStop t.mirror new) where
       abbrev stop_events : List Event
       stop_events = h.goes.events
 
-      stop_halted : IsCrashAtHalt stop_events h.halts.failing t left → CrashesAlong (WentHalting t.mirror new (inr h)) t a left AllAside
-      stop_halted (inl x) =
-          crash_along (WentHalting t.mirror new (inr h)) AllAside t a left stop_events x (λ k u r. stop_cut k stop_events h.goes.steps t u a none r) (inl (first_of stop_events t left x))
-      stop_halted (inr x) =
+      stop_before : IsCrashOf stop_events t left → CrashesAlong (AreFirstOf stop_events) t a left AllAside
+      stop_before x = crash_along (AreFirstOf stop_events) AllAside t a left stop_events x (λ k u r. stop_cut k stop_events h.goes.steps t u a none r) (first_of stop_events t left x)
+
+      stop_since : IsCrashAtHalt stop_events h.halts.failing t left → CrashesAlong (AreFirstOrInstead stop_events h.halts.failing) t a left AllAside
+      stop_since (inl x) = went_too (AreFirstOf stop_events) (AreFirstOrInstead stop_events h.halts.failing) AllAside t a left (λ events y. inl y) (stop_before x)
+      stop_since (inr x) =
           let of = all_on IsStopping stop_events x.instead h.goes.steps (instead_of_stop (clears_marks t.mirror.array) h.halts.failing x.instead h.halts.of x.is_instead) in
-          crash_along (WentHalting t.mirror new (inr h)) AllAside t a left (stop_events ++ x.instead) (all_of stop_events x.instead t left x.at x.run x.is_left)
+          crash_along (AreFirstOrInstead stop_events h.halts.failing) AllAside t a left (stop_events ++ x.instead) (all_of stop_events x.instead t left x.at x.run x.is_left)
           (λ k u r. stop_cut k (stop_events ++ x.instead) of t u a none r) (inr (record { instead = x.instead; is_instead = x.is_instead; order = refl }))
 
-      stop_stops : CrashesAtHalt t.requests none left t.mirror new (inr h) → IsCrashAtHalt stop_events h.halts.failing t left
-      stop_stops (inl among_events) = inl (crashes_in_stop before m start es rest final t plain h.halts.mid h.goes flight left among_events.0 among_events.1)
-      stop_stops (inr since) = crashes_at_halted_stop before m start es rest final t plain new h flight since.0 left since.1.0 since.1.1
+      stop_stops : (stop : CrashesAtHalt t.requests none left t.mirror new (inr h)) → CrashesAlong (WentAtHalt t.requests none left t.mirror new (inr h) stop) t a left AllAside
+      stop_stops (inl among_events) = stop_before (crashes_in_stop before m start es rest final t plain h.halts.mid h.goes flight left among_events.0 among_events.1)
+      stop_stops (inr since) = stop_since (crashes_at_halted_stop before m start es rest final t plain new h flight since.0 left since.1.0 since.1.1)
 
-    pub crash_at_halt : (h : HaltsInCall t.mirror new) → IsWholeHalt t.mirror new h → CrashesAtHalt t.requests none left t.mirror new h
-        → CrashesAlong (WentHalting t.mirror new h) t a left (IsClearOfHalt t.mirror new h)
-    crash_at_halt (inl h) whole stop = write_halted h.0 h.1 (write_stops h.0 h.1 whole stop)
+    pub crash_at_halt : (h : HaltsInCall t.mirror new) → IsWholeHalt t.mirror new h → (stop : CrashesAtHalt t.requests none left t.mirror new h)
+        → CrashesAlong (WentAtHalt t.requests none left t.mirror new h stop) t a left (IsClearOfHalt t.mirror new h)
+    crash_at_halt (inl h) whole stop = write_stops h.0 h.1 whole stop
     crash_at_halt (inr h) whole stop =
-        fewer_aside (WentHalting t.mirror new (inr h)) AllAside (IsClearOfHalt t.mirror new (inr h)) t a left (λ s off. tt) (stop_halted h (stop_stops h stop))
+        fewer_aside (WentAtHalt t.requests none left t.mirror new (inr h) stop) AllAside (IsClearOfHalt t.mirror new (inr h)) t a left (λ s off. tt) (stop_stops h stop)

@@ -1,25 +1,17 @@
 -- A new array that is resynced has a life in which sessions are told of.
-use Rattle.std.proofs.Common.{◌≡◌, ◌∙◌, inl, false, List, [], ◌∷◌, ◌++◌, None, refl, sym, ap, subst}
-use Rattle.md_model.specs.Content.{Content, TellsAtEnrolment}
+use Rattle.std.proofs.Common.{◌≡◌, ◌∙◌, inl, false, List, [], ◌∷◌, ◌++◌, refl, sym, ap, subst}
+use Rattle.md_model.specs.Content.{Content}
 use Rattle.md_model.specs.Events.{Event}
-use Rattle.md_model.specs.Sectors.{Geometry}
-use Rattle.md_model.specs.Worlds.{World}
 use Rattle.md_state.specs.View.{ArrayView, Disk, MirrorView, geometry_of}
 use Rattle.md_array.specs.InTurn.{AllOf}
 use Rattle.md_array.specs.Open.Opened.{IsOpenedFrom}
 use Rattle.md_array.specs.Worlds.{AreHonest, none_in_flight, world_of}
-use Rattle.md_array.proofs.StepLemmas.Turns.{all_on}
 use Rattle.md_laws.specs.Fresh.{AreFresh}
 use Rattle.md_laws.specs.Runs.{IsStart, MirrorRun, MirrorRunTellsEnrolments, Moment, opened_as, then_as}
 use Rattle.md_laws.proofs.Openings.Fresh.{starts_fresh}
 use Rattle.md_laws.proofs.Runs.MirrorContents.{content_at_first, content_told}
-use Rattle.md_laws.proofs.Runs.Moments.{IsSoundAt, run_then, sound_when_opened}
-use Rattle.md_laws.proofs.Runs.ReadTurns.{reading_call_is_run}
-use Rattle.md_metadata.specs.Storing.{IsNoFailure}
-use Rattle.md_resync.specs.Resyncing.{IsOfResync, Resyncs}
-use Rattle.md_resync.specs.Telling.{IsTelling}
-use Rattle.md_resync.proofs.ToldRuns.{all_both, at_told, told_run, told_sound}
-use Rattle.md_call_laws.proofs.CrashLemmas.Agreement.{no_records}
+use Rattle.md_laws.proofs.Runs.Moments.{IsSoundAt, sound_when_opened}
+use Rattle.md_resync.specs.Resyncing.{Resyncs}
 use Rattle.md_nbd.specs.declared.export.Export.{Export}
 use Rattle.md_nbd.specs.declared.task.Task.{Task}
 use Rattle.md_nbd.specs.declared.task.Task.TheVariants as task
@@ -31,17 +23,8 @@ use Rattle.md_serve_commands.specs.Calls.{AreNone}
 use Rattle.md_serve_commands.specs.Serving.{task_by}
 use Rattle.md_serve_commands.specs.Sessions.{IsToStand, ServedLeftWhole}
 use Rattle.md_serve_commands.specs.FirstSessions.{HasComeTo, IsFlushDone, MayBeFlushed, SessionsMayBegin}
-use Rattle.md_serve_commands.proofs.GivenAfter.{IsGiving, resync_gives, telling_gives}
-
--- by a resync no member comes into sync
-none_here : (e : Event) → IsGiving e → (g : Geometry) (w : World) (a : Content) → TellsAtEnrolment g e w a
-none_here (Event.LowerOffset k s) of g w a = tt
-none_here (Event.Record k) of g w a = tt
-none_here (Event.StoreMarks k b) of g w a = tt
-none_here (Event.Copy from k s) of g w a = tt
-none_here Event.Resynced of g w a = tt
-none_here (Event.ClearIdle c) of g w a = tt
-none_here e of g w a = absurd of
+use Rattle.md_serve_commands.proofs.GivenAfter.{IsGiving}
+use Rattle.md_serve_commands.proofs.Readied.{none_here, resync_giving, resync_reaches, resync_run}
 
 none_told : (es : List Event) → AllOf IsGiving es → (t : Moment) (a : Content) (last : Moment) (r : MirrorRun t es last) → MirrorRunTellsEnrolments t a es last r
 none_told [] of t a last r = tt
@@ -58,34 +41,14 @@ module _ (before : List Disk) (m new : MirrorView) (honest : AreHonest before) (
   at : IsSoundAt (opened_as m)
   at = sound_when_opened before m honest opened
 
-  abbrev there : Moment
-  there = at_told t at r.told r.tells
-
-  at_there : IsSoundAt (at_told t at r.told r.tells)
-  at_there = told_sound t at r.told r.tells
-
-  reaches : (last : Moment) × MirrorRun (at_told t at r.told r.tells) r.then.goes.events last × ((last.mirror ≡ new) × (last.requests ≡ none_in_flight))
-  unfolding at_told
-  reaches =
-      reading_call_is_run r.then.goes.events None (at_told t at r.told r.tells) new none_in_flight (r.then.goes.leads None none_in_flight at_there.in_flight)
-      (no_records r.then.goes.events r.then.goes.steps) at_there.honest
-
-  abbrev last : Moment
-  last = record reaches.0 { mirror = new; requests = none_in_flight }
-
   abbrev events : List Event
   events = r.tells.goes.events ++ r.then.goes.events
 
-  whole_run : MirrorRun t events last
-  whole_run =
-      run_then r.tells.goes.events r.then.goes.events t there last (told_run t at r.told r.tells)
-      (subst (MirrorRun there r.then.goes.events) (λ i. record reaches.0 { mirror = reaches.2.0 i; requests = reaches.2.1 i }) reaches.1)
+  abbrev last : Moment
+  last = record (resync_reaches (opened_as m) at new r).0 { mirror = new; requests = none_in_flight }
 
-  all_giving : AllOf IsGiving events
-  all_giving =
-      all_on IsGiving r.tells.goes.events r.then.goes.events
-      (all_both IsTelling IsNoFailure IsGiving telling_gives r.tells.goes.events r.tells.goes.steps r.tells.unfailing)
-      (all_both IsOfResync IsNoFailure IsGiving resync_gives r.then.goes.events r.then.goes.steps r.then.unfailing)
+  whole_run : MirrorRun (opened_as m) events last
+  whole_run = resync_run (opened_as m) at new r
 
   start : IsStart before m
   start = starts_fresh before m honest opened fresh
@@ -93,13 +56,13 @@ module _ (before : List Disk) (m new : MirrorView) (honest : AreHonest before) (
   comes_to : HasComeTo before m new
   comes_to =
       let c = content_at_first before m start in
-      let b = content_told before m c.0 start c.1 events [] m last (refl, whole_run) (none_told events all_giving t c.0 last whole_run) in
+      let b = content_told before m c.0 start c.1 events [] m last (refl, whole_run) (none_told events (resync_giving (opened_as m) at new r) t c.0 last whole_run) in
       record {
         start = start;
         first = c.0;
         holds = c.1;
         events = events;
-        past = reaches.0;
+        past = (resync_reaches (opened_as m) at new r).0;
         content = b.0;
         life = b.1;
         none = none_now;

@@ -57,7 +57,7 @@ module _ (a : Content) (s : ℕ) where
   abbrev IsGivenOn : Stored → Type 0
   IsGivenOn d = d.listed s ≡ false → d.content s ≡ a s
 
-  given_step : (g : Geometry) (w : World) (e : Event) (u : World) → IsGiving e → Step g w e u → IsGiven w a s → IsGiven u a s
+  pub given_step : (g : Geometry) (w : World) (e : Event) (u : World) → IsGiving e → Step g w e u → IsGiven w a s → IsGiven u a s
   given_step g w (Event.LowerOffset k at) u of step given = subst (λ (x : World). IsGiven x a s) (sym step.1.1) given
   given_step g w (Event.Record k) u of step given =
       subst (λ (x : World). IsGiven x a s) (sym step.1.3) (given_fewer w (recorded w k step.1.0) (fewer_recorded w k step.1.0 step.1.1) given)

@@ -129,12 +129,12 @@ module _ (old new : MirrorView) (halted : old.array.halted ≡ true) where
   abbrev stopped_for : StopFault → Result (Unit {0}) CommandFault
   stopped_for fault = Err (Stop fault)
 
-  stops_halted : (told result : Result (Unit {0}) CommandFault) → StopsThen told old new result → (new ≡ old) × (result ≡ Err (Stop stop.Halted))
+  pub stops_halted : (told result : Result (Unit {0}) CommandFault) → StopsThen told old new result → (new ≡ old) × (result ≡ Err (Stop stop.Halted))
   stops_halted told result (inl h) = runs_not old new halted h.0.may.idle.running
   stops_halted told result (inr h) =
       let x = stop_halted h.0 h.1 in (x.0, h.2 ∙ ap stopped_for x.1)
 
-late_halted : (w : ArrayWriter) (old new : MirrorView) → old.array.halted ≡ true → (kept : Result (Unit {0}) BeginFault) → MatchResult kept (λ _. WritesWaiting w old new) (RefusesWaiting w old new)
+pub late_halted : (w : ArrayWriter) (old new : MirrorView) → old.array.halted ≡ true → (kept : Result (Unit {0}) BeginFault) → MatchResult kept (λ _. WritesWaiting w old new) (RefusesWaiting w old new)
     → new ≡ old
 late_halted w old new halted (Ok x) (inl h) = h.1
 late_halted w old new halted (Ok x) (inr h) = runs_not old new halted h.0.begins.may.running

@@ -4,9 +4,11 @@ pub mod Exchanged
 pub mod FirstSessions
 pub mod GivenAfter
 pub mod Halted
+pub mod HaltingRequests
 pub mod JoinedWrites
 pub mod Kept
 pub mod NextOpening
+pub mod Readied
 pub mod Running
 pub mod ServeCounts
 pub mod SessionContents
@@ -15,6 +17,8 @@ pub mod SessionEnds
 pub mod SessionEvents
 pub mod SessionExchanges
 pub mod Settling
+pub mod Stopped
 pub mod Taken
+pub mod WholeSessions
 pub mod WholeTasks
 pub mod Written

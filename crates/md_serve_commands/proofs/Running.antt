@@ -44,7 +44,7 @@ stays_running (stop.MemberFailed k) old new running h = h.running
 cleared_runs : (old new : MirrorView) → ClearsMarks old new → new.array.halted ≡ false
 cleared_runs old new h = ⊎_elim (λ s. stopped_runs old new s) (λ r. stays_running r.0 old new h.running r.1) h.stops
 
-waiting_runs : (w : ArrayWriter) (old new : MirrorView) → old.array.halted ≡ false → WritesWaiting w old new → new.array.halted ≡ false
+pub waiting_runs : (w : ArrayWriter) (old new : MirrorView) → old.array.halted ≡ false → WritesWaiting w old new → new.array.halted ≡ false
 waiting_runs w old new running (inl h) = same_runs old new h.1 running
 waiting_runs w old new running (inr h) = written_runs w.start w.run.items old new h.0
 

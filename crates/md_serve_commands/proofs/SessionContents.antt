@@ -39,10 +39,11 @@ use Rattle.md_serve_commands.specs.Waiting.{ClearsMarks, FailsToClear, FailsToFl
 use Rattle.md_serve_commands.specs.Told.{IsForArray}
 use Rattle.md_serve_commands.specs.Calls.{AreNone, GoesAlong, HaltsInCall, IsClearOf, IsClearOfHalt, SessionCall, calls_events, contents_after, none_there, request_with, with_write}
 use Rattle.md_serve_commands.specs.Serving.{EndsCalls, IsDoneByCalls, MakesCalls, all_events, calls_of, clearing_call, done_at_once, done_behind, done_events, end_events, flushed_by, flushing_call, no_call, one_call, read_by, refused_by, running_call, task_by, through_by, uncleared_end, unflushed_by, ungiven_call, unread_by, unwritten_by, unwritten_end, waiting_call, written_by}
-use Rattle.md_serve_commands.specs.Sessions.{AllServedWhole, AnswersAllAs, AnswersAs, HoldsTold, IsCoveredBetween, LeavesSector, ServedLeftWhole, TellsContent, WaitsBeside, WaitsWhole, session_events, with_waiting}
+use Rattle.md_serve_commands.specs.Sessions.{AllServedWhole, AnswersAllAs, AnswersAs, HaltsInSession, HoldsTold, IsCoveredBetween, LeavesSector, ServedLeftWhole, TellsContent, WaitsBeside, WaitsWhole, session_events, with_waiting}
 use Rattle.md_serve_commands.proofs.CallContents.{along_then, calls_along, same_along}
 use Rattle.md_serve_commands.proofs.CrashedCalls.{AreWhole, IsWholeHalt, calls_settle}
 use Rattle.md_serve_commands.proofs.Halted.{request_halted, session_halted}
+use Rattle.md_serve_commands.proofs.HaltingRequests.{all_refused, halting_refused, refused_same}
 use Rattle.md_serve_commands.proofs.JoinedWrites.{joined, joined_clear, none_clear, write_none}
 
 abbrev pub Served : Type 0
@@ -52,7 +53,7 @@ Served = ArrayWriter × MirrorView
 waits_same : (old new : ArrayWriter) (a : Content) → StillWaits old new → with_waiting new a ≡ with_waiting old a
 waits_same old new a h = ap (λ (l : List ℕ). with_write (new.start, l) a) h.run ∙ ap (λ (s : ℕ). with_write (s, old.run.items) a) h.start
 
-waits_none : (w : ArrayWriter) (a : Content) → w.run.items ≡ [] → with_waiting w a ≡ a
+pub waits_none : (w : ArrayWriter) (a : Content) → w.run.items ≡ [] → with_waiting w a ≡ a
 waits_none w a none = ap (λ (l : List ℕ). with_write (w.start, l) a) none ∙ write_none w.start a
 
 -- what waits then is this
@@ -462,31 +463,86 @@ module _ (g : Geometry) (small : IsWithinLimits g) (opened : Super) (e : Export)
     comes : GoesOn ⊎ (mid.1.array.halted ≡ true)
     comes = elim (went_on (done_events t.mirror mid.1 by) t a after by.mid mid.1 by.ends goes settles) [ inl on ↦ inl on | inr halted ↦ inr halted ]
 
-    tells_then : (xs : List Exchange) (q : Served) (more : AnswersInTurn writer_store e mid xs q) (on : GoesOn)
-        → TellsContent (record (on.0).past { mirror = mid.1; requests = t.requests }) after e mid.0 xs q more
-        → TellsContent t a e w (x ∷ xs) q (mid, answers, more)
-    tells_then xs q more on rest = record {
-      told = rest.told;
-      answered = (with_waiting mid.0 after, tells, rest.answered);
-      holds = λ running.
-          let h = rest.holds running in
-          record {
-            content = h.content;
-            goes = along_then (all_events t.mirror mid.1 by) (session_events e mid xs q more) t a after h.content mid.1 q.1 on.0 h.goes;
-            held = h.held;
-            covered = h.covered;
-            resynced = λ was. h.resynced (on.1 was);
-            waits = h.waits;
-            flushed = h.flushed;
-          };
+    -- and what those after it hold
+    held_later : (xs : List Exchange) (q : Served) (more : AnswersInTurn writer_store e mid xs q) (on : GoesOn) (b : Content)
+        → HoldsTold (session_events e mid xs q more) (record (on.0).past { mirror = mid.1; requests = t.requests }) after q b
+        → HoldsTold (session_events e (w, t.mirror) (x ∷ xs) q (mid, answers, more)) t a q b
+    held_later xs q more on b h = record {
+      content = h.content;
+      goes = along_then (all_events t.mirror mid.1 by) (session_events e mid xs q more) t a after h.content mid.1 q.1 on.0 h.goes;
+      held = h.held;
+      covered = h.covered;
+      resynced = λ was. h.resynced (on.1 was);
+      waits = h.waits;
+      flushed = h.flushed;
     }
 
-    tells_halted : (xs : List Exchange) (q : Served) → mid.1.array.halted ≡ true → (more : AnswersInTurn writer_store e mid xs q) → TellsContent t a e w (x ∷ xs) q (mid, answers, more)
-    tells_halted xs q halted more = record {
-      told = with_waiting mid.0 after;
-      answered = (with_waiting mid.0 after, tells, halted_all e mid q xs (with_waiting mid.0 after) halted more);
-      holds = λ running. absurd (true≢false (sym (ap (λ (v : MirrorView). v.array.halted) (session_halted e mid q xs halted more) ∙ halted) ∙ running));
+    halts_later : (xs : List Exchange) (q : Served) (on : GoesOn) (b : Content) → HaltsInSession (record (on.0).past { mirror = mid.1; requests = t.requests }) after e mid.0 xs q b
+        → HaltsInSession t a e w (x ∷ xs) q b
+    halts_later xs q on b h = record {
+      before = x ∷ h.before;
+      failing = h.failing;
+      after = h.after;
+      order = ap (λ (l : List Exchange). x ∷ l) h.order;
+      at = h.at;
+      ran = (mid, answers, h.ran);
+      running = h.running;
+      holds = held_later h.before h.at h.ran on b h.holds;
+      waits = h.waits;
+      halts = h.halts;
+      refused = h.refused;
     }
+
+    tells_then : (xs : List Exchange) (q : Served) (more : AnswersInTurn writer_store e mid xs q) (on : GoesOn) → mid.1.array.halted ≡ false
+        → TellsContent (record (on.0).past { mirror = mid.1; requests = t.requests }) after e mid.0 xs q more
+        → TellsContent t a e w (x ∷ xs) q (mid, answers, more)
+    tells_then xs q more on there rest = record {
+      told = rest.told;
+      answered = (with_waiting mid.0 after, tells, rest.answered);
+      holds = λ running. held_later xs q more on rest.told (rest.holds running);
+      halts = λ ran halted. halts_later xs q on rest.told (rest.halts there halted);
+    }
+
+    -- it halted the mirror
+    module _ (halted : mid.1.array.halted ≡ true) (xs : List Exchange) (q : Served) (more : AnswersInTurn writer_store e mid xs q) where
+      failing_refused : IsForArray (task_of e x.request) → x.reply ≡ error_reply Io x.request.cookie
+      failing_refused = halting_refused (w, t.mirror) mid halted (task_of e x.request) x.request.cookie x.payload x.reply answers.does
+
+      halts_here : t.mirror.array.halted ≡ false → HaltsInSession t a e w (x ∷ xs) q (with_waiting mid.0 after)
+      halts_here ran = record {
+        before = [];
+        failing = x;
+        after = xs;
+        order = refl;
+        at = (w, t.mirror);
+        ran = refl;
+        running = ran;
+        holds = subst (λ (b : Content). HoldsTold [] t a (w, t.mirror) b) (sym (refused_same (task_of e x.request) x (with_waiting w a) (with_waiting mid.0 after) failing_refused tells))
+            (told_here t w a is);
+        waits = mid.0;
+        halts = subst (λ (v : MirrorView). AnswersRequest writer_store e (w, t.mirror) (mid.0, v) x) (sym (session_halted e mid q xs halted more)) answers;
+        refused = (failing_refused, all_refused e mid xs q halted more);
+      }
+
+      tells_halted : TellsContent t a e w (x ∷ xs) q (mid, answers, more)
+      tells_halted = record {
+        told = with_waiting mid.0 after;
+        answered = (with_waiting mid.0 after, tells, halted_all e mid q xs (with_waiting mid.0 after) halted more);
+        holds = λ running. absurd (true≢false (sym (ap (λ (v : MirrorView). v.array.halted) (session_halted e mid q xs halted more) ∙ halted) ∙ running));
+        halts = λ ran _. halts_here ran;
+      }
+
+    went_on_there : mid.1.array.halted ≡ false → GoesOn
+    went_on_there running = elim comes [ inl on ↦ on | inr halted ↦ absurd (true≢false (sym halted ∙ running)) ]
+
+    tells_on : (xs : List Exchange) (q : Served) (more : AnswersInTurn writer_store e mid xs q)
+        → ((running : mid.1.array.halted ≡ false) → TellsContent (record ((went_on_there running).0).past { mirror = mid.1; requests = t.requests }) after e mid.0 xs q more)
+        → TellsContent t a e w (x ∷ xs) q (mid, answers, more)
+    tells_on xs q more rest = by (mid.1.array.halted) refl
+      where
+        by : (b : Bool) → mid.1.array.halted ≡ b → TellsContent t a e w (x ∷ xs) q (mid, answers, more)
+        by true halted = tells_halted halted xs q more
+        by false running = tells_then xs q more (went_on_there running) running (rest running)
 
   pub tells_all : (xs : List Exchange) (t : Moment) (w : ArrayWriter) (a : Content) → IsHeldAt g opened t a → (none : AreNone t.requests) → (q : Served)
       → (answers : AnswersInTurn writer_store e (w, t.mirror) xs q) → AllServedWhole t.requests none e (w, t.mirror) xs q answers
@@ -495,12 +551,13 @@ module _ (g : Geometry) (small : IsWithinLimits g) (opened : Super) (e : Export)
     told = with_waiting q.0 a;
     answered = ap (λ (p : Served). with_waiting p.0 a) answers;
     holds = λ _. subst (λ (p : Served). HoldsTold [] t a p (with_waiting p.0 a)) (sym answers) (told_here t w a is);
+    halts = λ ran halted. absurd (true≢false (sym halted ∙ ap (λ (p : Served). p.1.array.halted) answers ∙ ran));
   }
-  tells_all (x ∷ xs) t w a is none q answers whole = elim (comes x t w a is none answers.0 answers.1 whole.0) [
-    | inl on ↦
-        tells_then x t w a is none answers.0 answers.1 whole.0 xs q answers.2 on
-        (tells_all xs (record (on.0).past { mirror = answers.0.1; requests = t.requests }) answers.0.0 (after x t w a is none answers.0 answers.1 whole.0)
-        (held_there (all_events t.mirror answers.0.1 (calls_of (w, t.mirror) answers.0 e x answers.1)) t a (after x t w a is none answers.0 answers.1 whole.0) answers.0.1 on.0 is)
-        none q answers.2 whole.1)
-    | inr halted ↦ tells_halted x t w a is none answers.0 answers.1 whole.0 xs q halted answers.2
-  ]
+  tells_all (x ∷ xs) t w a is none q answers whole =
+      tells_on x t w a is none answers.0 answers.1 whole.0 xs q answers.2
+      (λ running.
+      let on = went_on_there x t w a is none answers.0 answers.1 whole.0 running in
+      let c : Content = after x t w a is none answers.0 answers.1 whole.0 in
+      tells_all xs (record (on.0).past { mirror = answers.0.1; requests = t.requests }) answers.0.0 c
+      (held_there (all_events t.mirror answers.0.1 (calls_of (w, t.mirror) answers.0 e x answers.1)) t a c answers.0.1 on.0 is)
+      none q answers.2 whole.1)

@@ -6,8 +6,9 @@ use Rattle.md_faults.specs.declared.step_fault.BeginFault.{BeginFault}
 use Rattle.md_state.specs.View.{MirrorView}
 use Rattle.md_metadata.specs.declared.stop_fault.StopFault.{StopFault}
 use Rattle.md_metadata.specs.declared.stop_fault.StopFault.TheVariants as stop
-use Rattle.md_metadata.specs.Stopping.{RefusesStop}
+use Rattle.md_metadata.specs.Stopping.{RefusesStop, StopsMirror}
 use Rattle.md_commands.specs.declared.fault.CommandFault.{CommandFault}
+use Rattle.md_commands.specs.declared.fault.CommandFault.TheVariants.{Stop}
 use Rattle.md_nbd.specs.declared.export.Export.{Export}
 use Rattle.md_nbd.specs.declared.task.Task.{Task}
 use Rattle.md_nbd.specs.declared.task.Task.TheVariants as task
@@ -19,9 +20,10 @@ use Rattle.md_serve_commands.specs.Waiting.{RefusesWaiting, TakesWrite, WritesWa
 use Rattle.md_serve_commands.specs.Writable.{StopsThen}
 use Rattle.md_serve_commands.specs.Calls.{contents_after}
 use Rattle.md_serve_commands.specs.Serving.{late_by, refused_stop_by, stop_by}
-use Rattle.md_serve_commands.specs.Sessions.{EndsStanding, IsToStand, WaitsBeside, WaitsWhole, content_at_end}
-use Rattle.md_serve_commands.proofs.Halted.{not_both}
-use Rattle.md_serve_commands.proofs.Running.{flushed_runs, through_runs}
+use Rattle.md_serve_commands.specs.Sessions.{EndsStanding, IsToStand, WaitsBeside, WaitsWhole, with_waiting}
+use Rattle.md_serve_commands.specs.WholeSessions.{KeepsTold, SaysStopped}
+use Rattle.md_serve_commands.proofs.Halted.{late_halted, not_both, stops_halted}
+use Rattle.md_serve_commands.proofs.Running.{flushed_runs, stopped_runs, through_runs}
 use Rattle.md_serve_commands.proofs.SessionContents.{IsClearBy, IsWholeBy, Served, not_written, run_clear, run_content, run_whole}
 
 -- ---- after a flush
@@ -60,10 +62,19 @@ module _ (w : ArrayWriter) (served written : MirrorView) where
   late_clear (Ok x) h s off = (run_clear w served written h s off, tt, tt)
   late_clear (Err fault) h s off = (tt, tt, (not_written fault w.start w.run.items served written h.refused).clear s off)
 
-  pub late_content : (kept : Result (Unit {0}) BeginFault) (h : Late kept) (a : Content)
-      → contents_after (late_by w served kept written h).asked (contents_after (late_by w served kept written h).first a) ≡ content_at_end w kept a
-  late_content (Ok x) h a = run_content w served written h a
-  late_content (Err fault) h a = refl
+  -- the content then, and what was told of
+  pub late_keeps : (kept : Result (Unit {0}) BeginFault) (h : Late kept) (a told : Content) → told ≡ with_waiting w a
+      → KeepsTold w kept told (contents_after (late_by w served kept written h).asked (contents_after (late_by w served kept written h).first a))
+  late_keeps (Ok x) h a told is = run_content w served written h a ∙ sym is
+  late_keeps (Err fault) h a told is = is
+
+  -- where the mirror runs after it, it ran before
+  pub late_ran : (kept : Result (Unit {0}) BeginFault) → Late kept → written.array.halted ≡ false → served.array.halted ≡ false
+  late_ran kept h running = by (served.array.halted) refl
+    where
+      by : (b : Bool) → served.array.halted ≡ b → served.array.halted ≡ false
+      by false is = is
+      by true is = absurd (true≢false (sym (ap (λ (v : MirrorView). v.array.halted) (late_halted w served written is kept h) ∙ is) ∙ running))
 
 -- ---- the stop
 module _ (written new : MirrorView) (result : Result (Unit {0}) CommandFault) (told : Result (Unit {0}) CommandFault) where
@@ -116,3 +127,26 @@ module _ (written new : MirrorView) (result : Result (Unit {0}) CommandFault) (t
       by (stop.InFlight n) r = stayed r.unchanged
       by stop.EventsFull r = stayed r.unchanged
       by (stop.MemberFailed k) r = r.may.idle.running
+
+  -- where it is halted after it, that is answered
+  module _ (halted : new.array.halted ≡ true) where
+    is_running : {X : Type 0} → new.array.halted ≡ false → X
+    is_running running = absurd (true≢false (sym halted ∙ running))
+
+    stop_refused : written.array.halted ≡ false → (fault : StopFault) → RefusesStop written new fault → result ≡ Err (Stop fault) → result ≡ Err (Stop stop.Halted)
+    stop_refused running stop.Halted r is = is
+    stop_refused running (stop.InFlight n) r is = is_running (ap (λ (v : MirrorView). v.array.halted) r.unchanged ∙ running)
+    stop_refused running stop.EventsFull r is = is_running (ap (λ (v : MirrorView). v.array.halted) r.unchanged ∙ running)
+    stop_refused running (stop.MemberFailed k) r is = is_running r.running
+
+    pub stop_says_halted : StopsThen told written new result → result ≡ Err (Stop stop.Halted)
+    stop_says_halted h = by (written.array.halted) refl
+      where
+        by : (b : Bool) → written.array.halted ≡ b → result ≡ Err (Stop stop.Halted)
+        by true is = (stops_halted written new is told result h).1
+        by false is = elim h [ inl x ↦ is_running (stopped_runs written new x.0) | inr x ↦ stop_refused is x.0 x.1 x.2 ]
+
+  -- where it is stopped
+  pub stop_done : SaysStopped result → StopsThen told written new result → StopsMirror written new
+  stop_done says (inl h) = h.0
+  stop_done says (inr h) = absurd (subst SaysStopped h.2 says)

@@ -78,14 +78,32 @@ abbrev pub calls_events : (cs : List SessionCall) (old new : MirrorView) → Doe
 calls_events [] old new d = []
 calls_events (c ∷ cs) old new d = call_events c old d.0 d.1 ++ calls_events cs d.0 new d.2
 
--- The events of a call that halted the mirror, before the write that failed then; and that write.
+-- The events of a call that halted the mirror, before the write that failed then.
 abbrev pub halting_events : (old new : MirrorView) → HaltsInCall old new → List Event
 halting_events old new (inl h) = begun_events h.1
 halting_events old new (inr h) = h.goes.events
 
-abbrev pub halting_write : (old new : MirrorView) → HaltsInCall old new → Event
-halting_write old new (inl h) = h.1.failing
-halting_write old new (inr h) = h.halts.failing
+-- ---- the events up to a crash
+-- These are the first of the events.
+pub record AreFirstOf (es events : List Event) : Type 0 where
+  pub rest : List Event
+  pub order : es ≡ events ++ rest
+
+-- All of these events went, and then such as these.
+pub record WentBehind (es : List Event) (Later : List Event → Type 0) (events : List Event) : Type 0 where
+  pub later : List Event
+  pub order : events ≡ es ++ later
+  pub went : Later later
+
+-- Behind these events stand such as stand in place of the write that failed (`IsInstead`): the same sector of marks, stored.
+pub record AreWithInstead (es : List Event) (failing : Event) (events : List Event) : Type 0 where
+  pub instead : List Event
+  pub is_instead : IsInstead failing instead
+  pub order : events ≡ es ++ instead
+
+-- These are the first of the events, or all of them with such as stand in place of the write that failed.
+abbrev pub AreFirstOrInstead : List Event → Event → List Event → Type 0
+AreFirstOrInstead es failing events = AreFirstOf es events ⊎ AreWithInstead es failing events
 
 -- ---- what is asked of the devices
 -- Events lead to this mirror, with these requests in flight.
@@ -154,6 +172,14 @@ module _ (requests : Requests) (none : AreNone requests) (left : List Disk) wher
       CrashesInCall c old d.0 d.1
       ⊎ (CallLeftWhole requests none c old d.0 d.1 × CrashesInCalls cs d.0 new d.2)
 
+  -- All events of the calls before it, and the first of those of the call within which the crash came.
+  abbrev pub WentInCalls : (cs : List SessionCall) (old new : MirrorView) (d : DoesCalls old cs new)
+      → CrashesInCalls cs old new d → List Event → Type 0
+  WentInCalls [] old new d stop = λ events. ⊥
+  WentInCalls (c ∷ cs) old new d (inl here) = AreFirstOf (call_events c old d.0 d.1)
+  WentInCalls (c ∷ cs) old new d (inr later) =
+      WentBehind (call_events c old d.0 d.1) (WentInCalls cs d.0 new d.2 later.1)
+
   -- The crash came within the call that halted the mirror, or after it.
   abbrev pub CrashesAtHalt : (old new : MirrorView) → HaltsInCall old new → Type 0
   CrashesAtHalt old new (inl h) =
@@ -164,6 +190,15 @@ module _ (requests : Requests) (none : AreNone requests) (left : List Disk) wher
       CrashesHalting h.goes.events old requests h.halts.mid requests
       (h.goes.leads None requests (none_there requests none old.array)) left
       (IsLeftAtHalt h.halts.failing h.halts.mid new requests (h.halts.halts requests) left)
+
+  -- The first of its events; and where the crash came within the write that failed then, or after it, all of them and what stands in place of
+  -- that write too.
+  abbrev pub WentAtHalt : (old new : MirrorView) (h : HaltsInCall old new) → CrashesAtHalt old new h
+      → List Event → Type 0
+  WentAtHalt old new (inl h) (inl among_events) = AreFirstOf (begun_events h.1)
+  WentAtHalt old new (inl h) (inr since) = AreFirstOrInstead (begun_events h.1) h.1.failing
+  WentAtHalt old new (inr h) (inl among_events) = AreFirstOf h.goes.events
+  WentAtHalt old new (inr h) (inr since) = AreFirstOrInstead h.goes.events h.halts.failing
 
 -- No write of these calls touches the sector.
 abbrev pub IsClearOf : List SessionCall → ℕ → Type 0
@@ -191,23 +226,6 @@ pub record GoesAlong (es : List Event) (t : Moment) (a : Content) (new : MirrorV
     : Type 0 where
   pub past : Moment
   pub run : MirrorRunWith t a es (record past { mirror = new; requests = t.requests }) b
-
--- These are the first of the events.
-pub record AreFirstOf (es events : List Event) : Type 0 where
-  pub rest : List Event
-  pub order : es ≡ events ++ rest
-
--- All of these events went, and then such as these.
-pub record WentBehind (es : List Event) (Later : List Event → Type 0) (events : List Event) : Type 0 where
-  pub later : List Event
-  pub order : events ≡ es ++ later
-  pub went : Later later
-
--- Behind these events stand such as stand in place of the write that failed (`IsInstead`): the same sector of marks, stored.
-pub record AreWithInstead (es : List Event) (failing : Event) (events : List Event) : Type 0 where
-  pub instead : List Event
-  pub is_instead : IsInstead failing instead
-  pub order : events ≡ es ++ instead
 
 -- By events that went so far the life goes on to a moment at which a crash leaves these devices. Its content there is the same in each
 -- of these sectors, and no request in flight touches them.

@@ -12,3 +12,5 @@ pub mod Serving
 pub mod Sessions
 -- That what is asked of a session can be met.
 pub mod FirstSessions
+-- What of it the array holds at the end of a session, and after that.
+pub mod WholeSessions

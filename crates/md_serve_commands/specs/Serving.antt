@@ -21,7 +21,7 @@ use Rattle.md_nbd.specs.Server.Exchanges.{AnswersRequest, DoesTask, Exchange}
 use Rattle.md_serve_commands.specs.declared.writer.ArrayWriter.{ArrayWriter}
 use Rattle.md_serve_commands.specs.Waiting.{ClearsMarks, FailsToClear, FailsToFlush, FailsToRead, FailsToTake, FailsWaiting, FlushesAll, ReadsBehind, RefusesWaiting, RunsOn, TakesWrite, WritesThrough, WritesWaiting, writer_store}
 use Rattle.md_serve_commands.specs.Writable.{EndsServing, StopsThen, told_after}
-use Rattle.md_serve_commands.specs.Calls.{AreFirstOf, AreWithInstead, DoesCall, DoesCalls, HaltsInCall, SessionCall, calls_events, halting_events, halting_write}
+use Rattle.md_serve_commands.specs.Calls.{DoesCall, DoesCalls, HaltsInCall, SessionCall, calls_events, halting_events}
 
 -- At the end nothing more was done, or a call halted the mirror.
 abbrev pub EndsCalls : MirrorView → MirrorView → Type 0
@@ -50,17 +50,6 @@ end_events mid new (inr h) = halting_events mid new h
 
 abbrev pub all_events : (old new : MirrorView) → IsDoneByCalls old new → List Event
 all_events old new by = done_events old new by ++ end_events by.mid new by.ends
-
--- The write that failed was of marks, and the same sector of marks, stored, stands in its place.
-abbrev pub AreInsteadOf : (mid new : MirrorView) → EndsCalls mid new → List Event → List Event → Type 0
-AreInsteadOf mid new (inl same) es events = ⊥
-AreInsteadOf mid new (inr h) es events = AreWithInstead es (halting_write mid new h) events
-
--- What went up to a crash: a first part of the events; or all of them, and what stands in place of the write that halted the mirror.
-abbrev pub WentServing : (old new : MirrorView) → IsDoneByCalls old new → List Event → Type 0
-WentServing old new by events =
-    AreFirstOf (all_events old new by) events
-    ⊎ AreInsteadOf by.mid new by.ends (all_events old new by) events
 
 -- ---- calls that were made, from the one mirror to the other
 pub record MakesCalls (old new : MirrorView) : Type 0 where

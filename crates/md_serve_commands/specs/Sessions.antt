@@ -1,12 +1,11 @@
 -- Whole sessions: what a client is told of without an error is what one array of sectors would tell, and it stands.
-use Rattle.std.specs.Prelude.{◌≡◌, ◌⊎◌, ℕ, ◌+◌, ◌*◌, ◌%◌, ◌<◌, true, false, List, [], ◌∷◌, ◌++◌, length, Result, Ok, Err}
+use Rattle.std.specs.Prelude.{◌≡◌, ◌⊎◌, ℕ, ◌+◌, ◌*◌, ◌%◌, ◌<◌, true, false, List, [], ◌∷◌, ◌++◌, length, Result}
 use Rattle.std.proofs.Common.{inl, inr}
 use Rattle.md_device.specs.Device.{held}
 use Rattle.md_model.specs.Content.{BecomesAtOpening, Content, HoldsAtRest, IsGiven}
 use Rattle.md_model.specs.Devices.{Covered}
 use Rattle.md_model.specs.Events.{Event}
 use Rattle.md_model.specs.Worlds.{IsInSync, touches}
-use Rattle.md_faults.specs.declared.step_fault.BeginFault.{BeginFault}
 use Rattle.md_state.specs.View.{Disk, MirrorView, geometry_of}
 use Rattle.md_array.specs.InTurn.{Requests}
 use Rattle.md_array.specs.Worlds.{none_in_flight, world_of}
@@ -28,14 +27,15 @@ use Rattle.md_nbd.specs.declared.task.Task.TheVariants.{Disconnect, Flush, Read,
 use Rattle.md_nbd.specs.Export.{sector_bytes}
 use Rattle.md_nbd.specs.NbdTasks.{task_of}
 use Rattle.md_nbd.specs.SimpleReplies.{error_reply, success_reply}
-use Rattle.md_nbd.specs.Server.Exchanges.{AnswersInTurn, Exchange}
+use Rattle.md_nbd.specs.Server.Exchanges.{AnswersInTurn, AnswersRequest, Exchange}
 use Rattle.md_nbd.specs.Server.Sessions.{BreaksAtGreeting, BreaksAtOptions, EndsSession, GetsExport}
 use Rattle.md_nbd.specs.Server.Transmission.{HasAnswered, IsUntold}
 use Rattle.md_serve_commands.specs.declared.writer.ArrayWriter.{ArrayWriter}
 use Rattle.md_serve_commands.specs.Waiting.{writer_store}
+use Rattle.md_serve_commands.specs.Told.{IsForArray}
 use Rattle.md_serve_commands.specs.Writable.{EndsServing, HasServed, writable_export}
-use Rattle.md_serve_commands.specs.Calls.{AreNone, AtOpenedMoments, CallsLeftWhole, CrashesAlong, CrashesAtHalt, CrashesInCalls, GoesAlong, WentBehind, request_with, with_write}
-use Rattle.md_serve_commands.specs.Serving.{EndsCalls, IsDoneByCalls, WentServing, all_events, calls_of, late_calls, stop_calls}
+use Rattle.md_serve_commands.specs.Calls.{AreNone, AtOpenedMoments, CallsLeftWhole, CrashesAlong, CrashesAtHalt, CrashesInCalls, GoesAlong, WentAtHalt, WentBehind, WentInCalls, calls_events, request_with, with_write}
+use Rattle.md_serve_commands.specs.Serving.{EndsCalls, IsDoneByCalls, all_events, calls_of, done_events, late_calls, stop_calls}
 
 -- ---- an array as its client sees it
 -- The reply has no error, and shows this content in each of the sectors.
@@ -108,13 +108,35 @@ pub record HoldsTold (es : List Event) (t : Moment) (a : Content) (last : ArrayW
   pub waits : told ≡ with_waiting last.0 content
   pub flushed : last.0.run.items ≡ [] → told ≡ content
 
+-- Each of these requests that asks for something that the array would have to do was answered with an error.
+abbrev pub AreRefused : Export → List Exchange → Type 0
+AreRefused e [] = Unit {0}
+AreRefused e (x ∷ xs) =
+    (IsForArray (task_of e x.request) → x.reply ≡ error_reply Io x.request.cookie) × AreRefused e xs
+
 module _ (t : Moment) (a : Content) (e : Export) (first : ArrayWriter) (xs : List Exchange)
     (last : ArrayWriter × MirrorView) where
+  -- One of the requests halted the mirror, and nothing was done after it. It and all after it were refused. Up to it the mirror ran, and held
+  -- what the client was told of, which no later answer changes.
+  pub record HaltsInSession (told : Content) : Type 0 where
+    pub before : List Exchange
+    pub failing : Exchange
+    pub after : List Exchange
+    pub order : xs ≡ before ++ failing ∷ after
+    pub at : ArrayWriter × MirrorView
+    pub ran : AnswersInTurn writer_store e (first, t.mirror) before at
+    pub running : at.1.array.halted ≡ false
+    pub holds : HoldsTold (session_events e (first, t.mirror) before at ran) t a at told
+    pub waits : ArrayWriter
+    pub halts : AnswersRequest writer_store e at (waits, last.1) failing
+    pub refused : AreRefused e (failing ∷ after)
+
   pub record TellsContent (answers : AnswersInTurn writer_store e (first, t.mirror) xs last) : Type 0 where
     pub told : Content
     pub answered : AnswersAllAs e (with_waiting first a) xs told
     pub holds : last.1.array.halted ≡ false
         → HoldsTold (session_events e (first, t.mirror) xs last answers) t a last told
+    pub halts : t.mirror.array.halted ≡ false → last.1.array.halted ≡ true → HaltsInSession told
 
 -- ---- a crash within a session
 -- What is at the end of these requests: the session goes on, or it ends.
@@ -154,13 +176,16 @@ module _ (requests : Requests) (none : AreNone requests) (left : List Disk) wher
       CrashesServing old new by
       ⊎ (ServedLeftWhole requests none old new by × (new.array.halted ≡ false) × Later)
 
+  -- It came while nothing was done.
+  abbrev pub IsLeftBy : MirrorView → Type 0
+  IsLeftBy v = contents_of left ≡ contents_of v.disks
+
   -- It came after the last of the requests and before any other; or as the session ended, or after that.
   abbrev pub CrashesThen : (last : ArrayWriter × MirrorView) → MayEnd last → Type 0
-  CrashesThen last (inl goes_on) = contents_of left ≡ contents_of last.1.disks
+  CrashesThen last (inl goes_on) = IsLeftBy last.1
   CrashesThen last (inr end) =
       CrashesHereOrLater last.1 end.ends.written (late_of last end)
-      (CrashesHereOrLater end.ends.written end.new (stop_of last end)
-      (contents_of left ≡ contents_of end.new.disks))
+      (CrashesHereOrLater end.ends.written end.new (stop_of last end) (IsLeftBy end.new))
 
   -- It came while one of these requests was done, or since one halted the mirror, or then.
   abbrev pub CrashesInSession : (e : Export) (old : ArrayWriter × MirrorView) (xs : List Exchange)
@@ -170,26 +195,55 @@ module _ (requests : Requests) (none : AreNone requests) (left : List Disk) wher
       CrashesHereOrLater old.1 answers.0.1 (calls_of old answers.0 e x answers.1)
       (CrashesInSession e answers.0 xs new answers.2 Then)
 
--- ---- the events up to a crash
-abbrev pub WentHereOrLater : (old new : MirrorView) → IsDoneByCalls old new → (List Event → Type 0)
-    → List Event → Type 0
-WentHereOrLater old new by Later events =
-    WentServing old new by events ⊎ WentBehind (all_events old new by) Later events
+  -- ---- the events up to that crash
+  abbrev pub WentAtEnd : (mid new : MirrorView) (ends : EndsCalls mid new) → CrashesAtEnd mid new ends
+      → List Event → Type 0
+  WentAtEnd mid new (inl same) stop = λ events. ⊥
+  WentAtEnd mid new (inr h) stop = WentAtHalt requests none left mid new h stop
 
-abbrev pub WentThen : (last : ArrayWriter × MirrorView) → MayEnd last → List Event → Type 0
-WentThen last (inl goes_on) events = events ≡ []
-WentThen last (inr end) events =
-    WentHereOrLater last.1 end.ends.written (late_of last end)
-    (WentHereOrLater end.ends.written end.new (stop_of last end) (λ es. es ≡ [])) events
+  -- All that was done for the request before the call within which the crash came, and the first events of that call.
+  abbrev pub WentServing : (old new : MirrorView) (by : IsDoneByCalls old new) → CrashesServing old new by
+      → List Event → Type 0
+  WentServing old new by (inl stop) = WentInCalls requests none left by.first old by.between by.waited stop
+  WentServing old new by (inr (whole, inl stop)) =
+      WentBehind (calls_events by.first old by.between by.waited)
+      (WentInCalls requests none left by.asked by.between by.mid by.done stop)
+  WentServing old new by (inr (whole, inr stop)) =
+      WentBehind (done_events old new by) (WentAtEnd by.mid new by.ends stop.1)
 
--- The first events of what was done for these requests, and then at the end.
-abbrev pub WentInSession : (e : Export) (old : ArrayWriter × MirrorView) (xs : List Exchange)
-    (new : ArrayWriter × MirrorView) → AnswersInTurn writer_store e old xs new → (List Event → Type 0)
-    → List Event → Type 0
-WentInSession e old [] new answers Then events = Then events
-WentInSession e old (x ∷ xs) new answers Then events =
-    WentHereOrLater old.1 answers.0.1 (calls_of old answers.0 e x answers.1)
-    (WentInSession e answers.0 xs new answers.2 Then) events
+  -- Such events; or all that was done, and then such as go up to the later crash.
+  abbrev pub WentHereOrLater : (old new : MirrorView) (by : IsDoneByCalls old new) (Later : Type 0)
+      → (Later → List Event → Type 0) → CrashesHereOrLater old new by Later → List Event → Type 0
+  WentHereOrLater old new by Later Went (inl stop) = WentServing old new by stop
+  WentHereOrLater old new by Later Went (inr later) = WentBehind (all_events old new by) (Went later.2)
+
+  abbrev pub WentNoFurther : (v : MirrorView) → IsLeftBy v → List Event → Type 0
+  WentNoFurther v same events = events ≡ []
+
+  abbrev pub WentThen : (last : ArrayWriter × MirrorView) (end : MayEnd last) → CrashesThen last end
+      → List Event → Type 0
+  WentThen last (inl goes_on) = WentNoFurther last.1
+  WentThen last (inr end) =
+      WentHereOrLater last.1 end.ends.written (late_of last end)
+      (CrashesHereOrLater end.ends.written end.new (stop_of last end) (IsLeftBy end.new))
+      (WentHereOrLater end.ends.written end.new (stop_of last end) (IsLeftBy end.new) (WentNoFurther end.new))
+
+  -- All events of the requests before that one, or of all requests, and such events then.
+  abbrev pub WentInSession : (e : Export) (old : ArrayWriter × MirrorView) (xs : List Exchange)
+      (new : ArrayWriter × MirrorView) (answers : AnswersInTurn writer_store e old xs new) (Then : Type 0)
+      → (Then → List Event → Type 0) → CrashesInSession e old xs new answers Then → List Event → Type 0
+  WentInSession e old [] new answers Then Went = Went
+  WentInSession e old (x ∷ xs) new answers Then Went =
+      WentHereOrLater old.1 answers.0.1 (calls_of old answers.0 e x answers.1)
+      (CrashesInSession e answers.0 xs new answers.2 Then)
+      (WentInSession e answers.0 xs new answers.2 Then Went)
+
+  -- The events of these requests, and of the end, up to that very crash.
+  abbrev pub WentUpTo : (e : Export) (old : ArrayWriter × MirrorView) (xs : List Exchange)
+      (new : ArrayWriter × MirrorView) (answers : AnswersInTurn writer_store e old xs new) (end : MayEnd new)
+      → CrashesInSession e old xs new answers (CrashesThen new end) → List Event → Type 0
+  WentUpTo e old xs new answers end =
+      WentInSession e old xs new answers (CrashesThen new end) (WentThen new end)
 
 -- ---- sectors beside what is written
 -- The request writes nothing in the sector.
@@ -215,9 +269,9 @@ WaitsWhole w = length w.run.items % 512 ≡ 0
 abbrev pub IsUnwritten : Export → ArrayWriter → List Exchange → ℕ → Type 0
 IsUnwritten e first xs s = WaitsBeside first s × AllLeaveSector e xs s
 
--- The crash is one in the life of the mirror, which came to it by events of the session alone, and of a write of marks that halted it;
--- and at that moment write intent holds. Of whatever devices the next opening is made (`IsReopened`), each of its members in sync holds the content from before in these
--- sectors, unless it lists the sector; and so does each after a resync. It is the content still.
+-- The crash is one in the life of the mirror, which came to it by the events of the session up to it, and of a write of marks that halted
+-- it; and at that moment write intent holds. Of whatever devices the next opening is made (`IsReopened`), each of its members in sync holds
+-- the content from before in these sectors, unless it lists the sector; and so does each after a resync. It is the content still.
 pub record StandsAtCrash (final : MirrorView) (WentSo : List Event → Type 0) (t : Moment) (a : Content)
     (left : List Disk) (IsAside : ℕ → Type 0) : Type 0 where
   pub crash : CrashesAlong WentSo t a left IsAside
@@ -240,10 +294,10 @@ module _ (final : MirrorView) (t : Moment) (a : Content) (e : Export) (first : A
     pub tells : AllServedWhole t.requests none e (first, t.mirror) xs last answers
         → TellsContent t a e first xs last answers
     pub stands : t.mirror.array.resynced ≡ true → WaitsWhole first → (end : MayEnd last) (left : List Disk)
-        → CrashesInSession t.requests none left e (first, t.mirror) xs last answers
-        (CrashesThen t.requests none left last end)
-        → StandsAtCrash final (WentInSession e (first, t.mirror) xs last answers (WentThen last end)) t a left
-        (IsUnwritten e first xs)
+        (stop : CrashesInSession t.requests none left e (first, t.mirror) xs last answers
+        (CrashesThen t.requests none left last end))
+        → StandsAtCrash final (WentUpTo t.requests none left e (first, t.mirror) xs last answers end stop) t a
+        left (IsUnwritten e first xs)
 
 -- At any moment of a life at which nothing is in flight, a session goes on with the life, whatever comes of it, and however far it
 -- has come: the client is told what an array with this content would tell, and what it was told of before stands at a crash.
@@ -291,38 +345,10 @@ FlushedStands =
     → AllServedWhole t.requests none e (first, t.mirror) xs mid answers
     → (ys : List Exchange) (last : ArrayWriter × MirrorView) (more : AnswersInTurn writer_store e mid ys last)
     (end : MayEnd last) (left : List Disk)
-    → CrashesInSession t.requests none left e mid ys last more (CrashesThen t.requests none left last end)
+    (stop : CrashesInSession t.requests none left e mid ys last more
+    (CrashesThen t.requests none left last end))
     → StandsAfterFlush final t a e first xs mid answers
-    (WentInSession e mid ys last more (WentThen last end)) left (AllLeaveSector e ys)))
-
--- ---- the end of a session
--- The content at the end: with what waited, where that was written.
-abbrev pub content_at_end : (last : ArrayWriter) → Result (Unit {0}) BeginFault → Content → Content
-content_at_end last (Ok done) a = with_waiting last a
-content_at_end last (Err fault) a = a
-
--- The members in sync hold it, and no event came but those of the end.
-pub record HoldsAtEnd (es : List Event) (t : Moment) (a : Content) (new : MirrorView) (b : Content)
-    : Type 0 where
-  pub goes : GoesAlong es t a new b
-  pub held : HoldsAtRest (geometry_of new.array) b (world_of new t.requests)
-  pub covered : IsCoveredBetween new t.requests
-
-abbrev pub end_serving_events : (last : ArrayWriter × MirrorView) → SomeEnd last → List Event
-end_serving_events last end =
-    all_events last.1 end.ends.written (late_of last end)
-    ++ all_events end.ends.written end.new (stop_of last end)
-
--- However a session ends by which the mirror is not halted, the members in sync hold what was told of, but for what waited where that was
--- not written.
-abbrev pub SessionsEndWithContent : Type 0
-SessionsEndWithContent =
-    AtOpenedMoments (λ final t a.
-    ((none : AreNone t.requests) (last : ArrayWriter) (end : SomeEnd (last, t.mirror))
-    → ServedLeftWhole t.requests none t.mirror end.ends.written (late_of (last, t.mirror) end)
-    → ServedLeftWhole t.requests none end.ends.written end.new (stop_of (last, t.mirror) end)
-    → end.new.array.halted ≡ false
-    → HoldsAtEnd (end_serving_events (last, t.mirror) end) t a end.new (content_at_end last end.ends.kept a)))
+    (WentUpTo t.requests none left e mid ys last more end stop) left (AllLeaveSector e ys)))
 
 -- ---- whatever comes of a session
 module _ {I S : Type 0} (i : Sources I) (o : Sinks S) (first last : ArrayWriter) (old new : MirrorView)

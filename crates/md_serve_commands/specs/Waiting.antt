@@ -103,6 +103,12 @@ module _ (p q : ArrayWriter × MirrorView) where
     pub mirror : q.1 ≡ p.1
     pub still : StillWaits p.0 q.0
 
+  -- Nothing was done, as the mirror is halted.
+  pub record LeavesHalted : Type 0 where
+    pub halted : p.1.array.halted ≡ true
+    pub mirror : q.1 ≡ p.1
+    pub still : StillWaits p.0 q.0
+
   -- What waited was written, and no more.
   pub record WritesNoMore : Type 0 where
     pub waited : WritesWaiting p.0 p.1 q.1
@@ -180,7 +186,7 @@ module _ (p q : ArrayWriter × MirrorView) where
     pub refused : FailsToClear mid q.1
 
   abbrev pub FailsToFlush : Type 0
-  FailsToFlush = LeavesAll ⊎ FailsWaiting ⊎ HaltsAtMarks
+  FailsToFlush = LeavesHalted ⊎ FailsWaiting ⊎ HaltsAtMarks
 
 -- ---- the array as a store
 abbrev pub writer_store : Stores ArrayWriter MirrorView
