@@ -25,6 +25,7 @@ mod progress;
 mod prompt;
 mod random;
 mod read_length;
+mod refused_requests;
 mod standard_input;
 
 use crate::all_devices::{scan_all, scan_of_all};
@@ -84,7 +85,7 @@ fn main(rt: HostRuntime) -> ExitCode {
     } else {
         Messages::Plain
     };
-    let progress = Progress::new(&rt, task);
+    let progress = Progress::new(&rt, task, is_verbose);
     // Output that goes elsewhere leaves the line as it is.
     let is_beside = rt.stdout().is_terminal();
     let standard = Cleared::new(io::writer(&rt), &progress, is_beside);
