@@ -31,7 +31,7 @@ use Rattle.md_array.specs.Steps.Admit.{DidAdmit}
 use Rattle.md_array.specs.Steps.Checkpoint.{DidCheckpoint}
 use Rattle.md_array.specs.Steps.StoreLog.{FailsToStoreLog, HaltsStoringLog, HasNoShift, StoresLog}
 use Rattle.md_array.specs.Steps.LowerOffset.{LowersOffset}
-use Rattle.md_array.specs.Steps.NoteBad.{NotesChunk}
+use Rattle.md_array.specs.Steps.NoteBad.{NotesSectors, within}
 use Rattle.md_array.specs.Steps.ReAdd.{ReAdds, re_add_event}
 use Rattle.md_array.specs.Spoiling.{SpoilsTarget}
 use Rattle.md_array.specs.Events.{Does, IsOldNewOrNone}
@@ -129,7 +129,7 @@ Did old before (Event.WriteFails k (MemberPart.BitmapSector b)) new after = (aft
 Did old before (Event.WriteFails k (MemberPart.RequestData n)) new after =
     (p q : PendingView) × IsUnder n p before × IsUnder n q after × IsPut n (Some (request_of q)) before after × FailsToWrite k old new p q
 Did old before (Event.Copy from k s) new after = (after ≡ before) × CopiesSector from k s old new
-Did old before (Event.WriteFails k (MemberPart.CopiedChunk c)) new after = (after ≡ before) × FailsToCopy k c old new
+Did old before (Event.WriteFails k (MemberPart.CopiedSectors s n)) new after = (after ≡ before) × FailsToCopy k s n old new
 Did old before Event.Resynced new after = (after ≡ before) × BecomesResynced old new
 Did old before Event.Unresynced new after = (after ≡ before) × NotesResynced false old new
 Did old before (Event.Fill k) new after = (after ≡ before) × Fills k old new
@@ -139,7 +139,7 @@ Did old before (Event.SpoilTarget k) new after = (after ≡ before) × SpoilsTar
 Did old before (Event.Enrol k role listed) new after = (after ≡ before) × DidEnrol (Event.Enrol k role listed) old new
 Did old before (Event.Admit k role listed) new after = (after ≡ before) × DidAdmit (Event.Admit k role listed) old new
 Did old before (Event.Checkpoint k sure listed) new after = (after ≡ before) × DidCheckpoint (Event.Checkpoint k sure listed) old new
-Did old before (Event.NoteBad k c) new after = (after ≡ before) × NotesChunk k c old new
+Did old before (Event.NoteBad k more) new after = (after ≡ before) × NotesSectors k (within old more) old new
 Did old before (Event.StoreLog k listed) new after = (after ≡ before) × StoresLog k old new
 Did old before (Event.WriteFails k MemberPart.Log) new after = (after ≡ before) × FailsToStoreLog k old new
 
@@ -172,6 +172,6 @@ abbrev pub HaltsAt : MirrorView → Requests → Event → MirrorView → Type 0
 HaltsAt old before (Event.WriteFails k MemberPart.Superblock) new = HaltsRecording k old new
 HaltsAt old before (Event.WriteFails k (MemberPart.BitmapSector b)) new = HaltsStoringMarks k b old new
 HaltsAt old before (Event.WriteFails k (MemberPart.RequestData n)) new = (p q : PendingView) × IsUnder n p before × HaltsWritingTo k old new p q
-HaltsAt old before (Event.WriteFails k (MemberPart.CopiedChunk c)) new = HaltsCopying k c old new
+HaltsAt old before (Event.WriteFails k (MemberPart.CopiedSectors s n)) new = HaltsCopying k s n old new
 HaltsAt old before (Event.WriteFails k MemberPart.Log) new = HaltsStoringLog k old new
 HaltsAt old before e new = ⊥

@@ -1,7 +1,7 @@
 // What is delivered of planned chunks goes to the target, each chunk once.
-ghost use Rattle.std.specs.Prelude.{◌≡◌, ◌≤◌, Err, IfNone, IfOk, None, OnOk};
+ghost use Rattle.std.specs.Prelude.{◌≡◌, ◌+◌, ◌^◌, ◌<◌, ◌≤◌, Err, IfNone, IfOk, None, OnOk};
 ghost use Rattle.md_device.specs.Failing.{OnlyWritesFailed};
-ghost use Rattle.md_collect.specs.Places.{HasRoom, IsChunk};
+ghost use Rattle.md_collect.specs.Places.{HasRoom, IsChunk, start_of};
 ghost use Rattle.md_collect.specs.Reports.{has_length};
 ghost use Rattle.md_collect.specs.Reading.{CountsFailure};
 ghost use Rattle.md_collect.specs.Collecting.{ArePlanned, CollectorView, IsCounted, IsUnreported, report_refusal, reports_of};
@@ -127,6 +127,25 @@ impl Collector {
         }
         self.reported.mark(report.chunk);
         Ok(())
+    }
+
+    /// Counts a report whose bytes the caller writes, as one of several that lie together. It takes no memory.
+    pub fn count(&mut self, report: &Report)
+        requires counts { report_refusal self.old report.now ≡ None }
+        requires chunk { IsChunk self.old.chunks report.now.chunk }
+        ensures { IsCounted report.now.chunk self.old self.new }
+    {
+        self.reported.mark(report.chunk);
+    }
+
+    /// The sector of the target at which a chunk's bytes belong.
+    pub fn sector_of(&self, chunk: u32) -> u64
+        requires chunk { IsChunk self.now.chunks chunk }
+        requires room { self.now.offset + self.now.chunks.size < 2 ^ 64 }
+        ensures { result ≡ self.now.offset + start_of self.now.chunks chunk }
+    {
+        let (start, _) = self.chunks.range(chunk);
+        self.offset + start
     }
 
     // Why a report does not count.

@@ -76,6 +76,16 @@ impl Report {
         self.bytes.is_none()
     }
 
+    /// The bytes, where the source could be read.
+    pub fn bytes(&self) -> Option<&[u8]>
+        ensures { option_map (λ bytes. bytes.now) result ≡ self.now.bytes }
+    {
+        match &self.bytes {
+            Some(bytes) => Some(bytes.as_slice()),
+            None => None,
+        }
+    }
+
     /// The bytes; or, where the read failed, the list that it was to fill, if there was one, whatever is in it.
     /// Its memory can be used again. It takes no memory.
     pub fn into_memory(self) -> Option<Vec<u8>>

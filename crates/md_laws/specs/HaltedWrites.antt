@@ -50,5 +50,5 @@ IsLeftInSectors k sector bytes before left = (d : Disk) (c : List ℕ) → slice
 -- Sectors of a copy that are left as they were or as written stand as after a copy of some of them.
 abbrev pub CrashesAtHaltedCopies : Type 0
 CrashesAtHaltedCopies =
-    (k chunk : ℕ) (old new : MirrorView) (left : List (List ℕ)) → IsConsistent old → AreHonest old.disks → (h : HaltsCopying k chunk old new)
-    → MayAllBeLeft old.disks new.disks left → IsLeftInSectors k (h.copy.may.target.superblock.data_offset + h.sector) h.bytes old.disks left → IsCopiedInPart k old left
+    (k sector n : ℕ) (old new : MirrorView) (left : List (List ℕ)) → IsConsistent old → AreHonest old.disks → (h : HaltsCopying k sector n old new)
+    → MayAllBeLeft old.disks new.disks left → IsLeftInSectors k (h.copy.may.target.superblock.data_offset + sector) h.bytes old.disks left → IsCopiedInPart k old left

@@ -50,7 +50,7 @@ held v old new r bytes e is = is ∙ by r.bytes e
     by o e' = rw e' refl
 
 -- a set in which this chunk may be new
-still_set : (b e o : Bool) → o ≡ true → ((b && e) || o) ≡ true
+pub still_set : (b e o : Bool) → o ≡ true → ((b && e) || o) ≡ true
 still_set b e true is = or_right (b && e) true refl
 still_set b e false is = cc
 
@@ -76,10 +76,10 @@ module _ {th : Bool} {old new : Books} {r : ReportView} where
   same_copy : IsReportTaken th old new r → copying new.collector ≡ copying old.collector
   same_copy is = ap copying is.counted.kept
 
-  same_chunks : IsReportTaken th old new r → new.collector.chunks ≡ old.collector.chunks
+  pub same_chunks : IsReportTaken th old new r → new.collector.chunks ≡ old.collector.chunks
   same_chunks is = ap (λ (c : Copying). c.chunks) (same_copy is)
 
-  same_offset : IsReportTaken th old new r → new.collector.offset ≡ old.collector.offset
+  pub same_offset : IsReportTaken th old new r → new.collector.offset ≡ old.collector.offset
   same_offset is = ap (λ (c : Copying). c.offset) (same_copy is)
 
   -- the marks of other chunks
@@ -208,6 +208,7 @@ module _ {D L M : Type 0} {g : Ghosts D} {th : Bool} where
             let whole : (bytes : List ℕ) → r.bytes ≡ Some bytes → length bytes ≡ bytes_of_chunk now.collector.chunks r.chunk = λ bytes b. is.whole bytes b ∙ ap (bytes_of_chunk now.collector.chunks) (sym is.chunk_is) in
             rw (has.whole, slots, planned_by r rest begins way e, new, whole_length now.collector.chunks r whole) refl;
         planned = λ r rest e. rw slots (planned_has start.collector.slots r.chunk r.source (planned_by r rest begins way e));
+        within = λ r rest e. let (some, is) = first_waits r rest way e in let chunks : now.collector.chunks ≡ start.collector.chunks = ap (λ (c : Copying). c.chunks) has.same_copy in rw (is.chunk_is, chunks) (begins.chunk queue.done some);
         chunk = λ r rest e. let (some, is) = first_waits r rest way e in rw (has.count, is.chunk_is) (covers (slice_index first.chunks.items queue.done) (begins.chunk queue.done some));
       }
 

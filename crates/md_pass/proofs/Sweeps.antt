@@ -1,18 +1,19 @@
 -- The collector takes the reports of all queues.
 use Rattle.std.specs.Prelude.{IsErr, OnErr, OnOk}
-use Rattle.std.proofs.Common.{Err, Ok, Result, ◌≡◌, ◌≢◌, ℕ, suc, ◌+◌, ◌-◌, ◌<◌, ◌≤◌, ◌∷◌, [], Bool, ◌⊎◌, inl, inr, List, length, set, slice_index, get_or, refl, ap, sym, ◌∙◌, arith, subst, length-set}
+use Rattle.std.proofs.Common.{Err, Ok, Result, ◌≡◌, ◌≢◌, ℕ, suc, ◌+◌, ◌-◌, ◌<◌, ◌≤◌, ◌∷◌, [], Bool, false, ◌⊎◌, inl, inr, List, length, set, slice_index, get_or, refl, ap, sym, ◌∙◌, arith, subst, length-set}
 use Rattle.std.proofs.lemmas.List.{get_or_default, get_or-set_same, get_or-set_other}
 use Rattle.std.proofs.lemmas.Bool.{cases_lt}
 use Rattle.md_device.specs.declared.device.Device.{Ghosts}
+use Rattle.md_bitmap.specs.Marks.{is_set}
 use Rattle.md_collect.specs.Places.{IsChunk, HasRoom}
 use Rattle.md_collect.specs.Reports.{ReportView, Copying}
 use Rattle.md_collect.specs.declared.workers.queue.Queue.{Queue}
 use Rattle.md_collect.specs.Workers.Waiting.{WaitingView}
 use Rattle.md_pass.specs.TakingReports.{Books, IsAllowed, IsReportTaken, AreReportsTaken}
-use Rattle.md_pass.specs.Handing.{AreHanded, HaveTakenReports, all_with_reports, with_reports}
+use Rattle.md_pass.specs.Handing.{AreHanded, all_with_reports, with_reports}
 use Rattle.md_pass.specs.Passes.{IsUnderWay, IsPassing}
 use Rattle.md_pass.proofs.Besides.{planned_has}
-use Rattle.md_pass.proofs.Handings.{get_with, length_with, set_same, set_with, some_queue, still_handed}
+use Rattle.md_pass.proofs.Handings.{get_with, length_with, set_same, set_with, some_queue}
 use Rattle.md_pass.proofs.ReportsTaken.{Advances, Changes, allowed, books_more, first_uncopied, first_waits, now_uncopied, other_stays, planned_by, same_stays}
 
 pub same_or_other : (j k : ℕ) → (j ≡ k) ⊎ (j ≢ k)
@@ -47,6 +48,13 @@ module _ {D L M : Type 0} {g : Ghosts D} {th : Bool} {firsts queues : List (Queu
 
   pub allowed_of : IsPassing g th firsts queues start old → (k : ℕ) (queue : Queue D L M) → k < length queues → queue ≡ get_or queues k queue → IsAllowed old.collector old.copied queue.reports.waiting
   allowed_of p k queue within is = allowed (p.begins k queue (omega (arith, p.as_many, within))) p.books p.covers (way_of p k queue queue within is)
+
+  uncopied_of : IsPassing g th firsts queues start old → (k : ℕ) (queue : Queue D L M) → k < length queues → queue ≡ get_or queues k queue → (r : ReportView) (rest : List ReportView) → queue.reports.waiting ≡ r ∷ rest
+      → (is_set start.copied.bytes r.chunk ≡ false) × (is_set old.copied.bytes r.chunk ≡ false)
+  uncopied_of p k queue within is r rest e =
+      let begins = p.begins k queue (omega (arith, p.as_many, within)) in
+      let way = way_of p k queue queue within is in
+      (first_uncopied r rest begins way e, now_uncopied r rest begins p.books way e)
 
   -- a report was taken, of queue k
   taken_one : {new : Books} (k : ℕ) (queue queue' : Queue D L M) (r : ReportView) (rest : List ReportView) → IsPassing g th firsts queues start old → k < length queues → queue ≡ get_or queues k queue
@@ -94,6 +102,14 @@ module _ {D L M : Type 0} {g : Ghosts D} {th : Bool} {firsts queues : List (Queu
       let q = some_queue queues k (omega (arith, many, within)) in
       allowed_of p k (with_reports (get_or queues k q) reports) (let n = length_with queues waits many in omega (arith, many, n, within)) (stands k q reports has within is)
 
+  -- the chunk that is reported next was copied neither before the pass nor in it
+  pub uncopied_at : IsPassing g th firsts (all_with_reports queues waits) start old → AreHanded queues waits → (k : ℕ) (reports : WaitingView) → k < length waits → reports ≡ get_or waits k reports
+      → (r : ReportView) (rest : List ReportView) → reports.waiting ≡ r ∷ rest → (is_set start.copied.bytes r.chunk ≡ false) × (is_set old.copied.bytes r.chunk ≡ false)
+  uncopied_at p has k reports within is =
+      let many = has.as_many in
+      let q = some_queue queues k (omega (arith, many, within)) in
+      uncopied_of p k (with_reports (get_or queues k q) reports) (let n = length_with queues waits many in omega (arith, many, n, within)) (stands k q reports has within is)
+
   pub one_taken : {new : Books} (k : ℕ) (reports reports' : WaitingView) → IsPassing g th firsts (all_with_reports queues waits) start old → AreHanded queues waits → k < length waits → reports ≡ get_or waits k reports
       → AreReportsTaken th old new reports reports' reports.waiting
       → IsPassing g th firsts (all_with_reports queues (set waits k reports')) start new
@@ -133,17 +149,6 @@ one_fewer th old new reports reports' is = by reports.waiting refl is
       let n : length reports.waiting ≡ suc (length rest) = ap length e in ap (λ (w : WaitingView). length w.waiting) s.1 ∙ omega (arith, n),
     )
 
-pub taken_then : {D L M : Type 0} {g : Ghosts D} (th : Bool) (a b c : Books) (xs ys zs : List WaitingView) → HaveTakenReports g L M th a b xs ys → HaveTakenReports g L M th b c ys zs → HaveTakenReports g L M th a c xs zs
-taken_then th a b c xs ys zs first second = record {
-  as_many = second.as_many ∙ first.as_many;
-  kept = λ k d below. second.kept k d (between k below) ∙ ap (λ (w : WaitingView). record w { waiting = (get_or zs k d).waiting }) (first.kept k d below);
-  fewer = λ k d below. let one = first.fewer k d below in let two = second.fewer k d (between k below) in omega (arith, one, two);
-  passing = λ firsts queues start has p. second.passing firsts queues start (still_handed queues xs ys has first.as_many first.fewer) (first.passing firsts queues start has p);
-}
-  where
-    between : (k : ℕ) → k < length xs → k < length ys
-    between k below = let many = first.as_many in omega (arith, many, below)
-
 pub none_left : {X : Type 0} (xs : List X) → length xs ≡ 0 → xs ≡ []
 none_left [] none = refl
 none_left (x ∷ xs) none = absurd (omega (arith, none))
@@ -151,6 +156,10 @@ none_left (x ∷ xs) none = absurd (omega (arith, none))
 pub on_err : {A E P : Type 0} (r : Result A E) → IsErr r → P → OnErr r P
 on_err (Ok x) is p = cc
 on_err (Err e) is p = p
+
+pub on_ok : {A E P : Type 0} (r : Result A E) → P → OnOk r P
+on_ok (Ok x) p = p
+on_ok (Err e) p = tt
 
 -- what holds at an answer holds there for a reason
 pub on_one : {A E P Q : Type 0} (r : Result A E) → OnOk r P → (P → Q) → OnOk r Q

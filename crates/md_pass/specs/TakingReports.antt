@@ -1,7 +1,7 @@
 -- What stands between two steps of a pass, and what becomes of it when a report is taken.
 use Rattle.std.specs.Prelude.{◌≡◌, ℕ, ◌<◌, ◌==◌, ◌||◌, ◌&&◌, ◌∷◌, [], Bool, true, List, Some, None, not}
 use Rattle.md_bitmap.specs.Marks.{Bitmap, is_set}
-use Rattle.md_collect.specs.Places.{with_chunk}
+use Rattle.md_collect.specs.Places.{IsChunk, with_chunk}
 use Rattle.md_collect.specs.Reports.{ReportView}
 use Rattle.md_collect.specs.Collecting.{CollectorView, report_refusal, IsCounted}
 use Rattle.md_collect.specs.Targets.{ChangesChunk}
@@ -27,6 +27,7 @@ pub record IsMarkedIfDelivered (delivered : Bool) (chunk : ℕ) (old new : Bitma
 pub record IsAllowed (collector : CollectorView) (copied : Bitmap) (waiting : List ReportView) : Type 0 where
   pub counts : (r : ReportView) (rest : List ReportView) → waiting ≡ r ∷ rest → report_refusal collector r ≡ None
   pub planned : (r : ReportView) (rest : List ReportView) → waiting ≡ r ∷ rest → has_chunk collector.slots r.chunk ≡ true
+  pub within : (r : ReportView) (rest : List ReportView) → waiting ≡ r ∷ rest → IsChunk collector.chunks r.chunk
   pub chunk : (r : ReportView) (rest : List ReportView) → waiting ≡ r ∷ rest → r.chunk < copied.chunks
 
 -- A report was taken. The bytes of one that was delivered stand on the target, and its chunk is marked.

@@ -10,6 +10,7 @@ ghost use Rattle.md_pass.specs.TakingReports.{Books, books};
 ghost use Rattle.md_pass.specs.Handing.{AreHanded, HaveRead, HaveTakenReports, all_with_reports};
 ghost use Rattle.md_pass.specs.Passes.{IsPassing};
 
+use crate::joined::Joined;
 use crate::take_report::take_reports;
 use md_bitmap::{Chunks, Marks};
 use md_collect::{Board, Collector, Gate, Queue, Reports, turn};
@@ -37,6 +38,7 @@ pub(crate) fn take_and_read<
     collector: &'a mut Collector,
     target: &'a mut D,
     copied: &'a mut Marks,
+    joined: &'a mut Joined,
     waiting: &'a mut Vec<Reports>,
     queues: &'a mut Vec<Queue<D, L, M>>,
 ) -> Result<(), WriteFault>
@@ -61,11 +63,11 @@ pub(crate) fn take_and_read<
     { turn(rt, gate, board, chunks, most, queues) };
     if is_beside {
         let (_, taken) = take_beside::<_, _, D, L, M, R>(
-            rt, &mut read, collector, target, copied, waiting,
+            rt, &mut read, collector, target, copied, joined, waiting,
         );
         return taken;
     }
-    let taken = take_reports::<D, L, M>(collector, target, copied, waiting);
+    let taken = take_reports::<D, L, M>(collector, target, copied, joined, waiting);
     read();
     taken
 }
@@ -86,6 +88,7 @@ fn take_beside<F: FnMut() -> A + Send, A: Send, D: Device, L: Ledger, M: Ledger,
     collector: &mut Collector,
     target: &mut D,
     copied: &mut Marks,
+    joined: &mut Joined,
     waiting: &mut Vec<Reports>,
 ) -> (A, Result<(), WriteFault>)
     requires work { F.pre work.old }
@@ -104,6 +107,6 @@ fn take_beside<F: FnMut() -> A + Send, A: Send, D: Device, L: Ledger, M: Ledger,
     thread::join_mut(
         rt,
         work,
-        &mut || take_reports::<D, L, M>(collector, target, copied, waiting),
+        &mut || take_reports::<D, L, M>(collector, target, copied, joined, waiting),
     )
 }

@@ -37,12 +37,12 @@ pub struct BoardCounts {
 /// Copies the chunks of a plan to the target, whose data start at sector `offset` of its device.
 ///
 /// `devices` are all but the target's. Each source reads the chunks of its slots in the order of rounds, in
-/// a worker of its own: in a turn those of 1 MiB, those of 64 KiB where it is the only source, or one where
-/// a chunk is longer. While they read those of the next turn, the collector takes what they report, first that
-/// of each source's first chunk in the turn, the lowest role first, then that of the second. A lone source of
-/// chunks below 1 MiB starts no thread: it reads and is copied by turns. All memory is taken before a device
-/// leaves the list, for each source that of two turns, or of one where it has no more chunks. The devices are
-/// back in their order whatever the answer is.
+/// a worker of its own: in a turn those of 1 MiB, those of 256 KiB where it is the only source, or one where
+/// a chunk is longer. While they read those of the next turn, the collector takes what they report, that of the
+/// lowest chunk next. Chunks below 64 KiB that lie together are written together, 256 KiB by one write at most,
+/// and none waits longer than its turn. A lone source of chunks below 1 MiB starts no thread: it reads and is
+/// copied by turns. All memory is taken before a device leaves the list, for each source that of two turns, or
+/// of one where it has no more chunks. The devices are back in their order whatever the answer is.
 ///
 /// `copied` gets a mark for each chunk that was copied. After `Ok` a slot whose chunk has no mark failed: its
 /// source could not be read there, and the target has in that chunk what it had. The board counts them.
@@ -125,6 +125,7 @@ fn copy_prepared<
         slots,
         mut readings,
         most,
+        mut joined,
         mut waiting,
         places,
     } = prepared;
@@ -144,6 +145,7 @@ fn copy_prepared<
         &mut collector,
         target,
         copied,
+        &mut joined,
         &mut waiting,
         &mut queues,
     );

@@ -3,6 +3,7 @@ ghost use Rattle.std.specs.Prelude.{◌≡◌, ◌≤◌, IfOk, length};
 ghost use Rattle.md_collect.specs.Collecting.{ArePlanned};
 ghost use Rattle.md_pass.specs.Preparing.{IsPreparedFor};
 
+use crate::joined::Joined;
 use crate::places::places_in_turn;
 use crate::readings::{count_readers, first_memory, readings_of};
 use crate::source::Source;
@@ -23,6 +24,8 @@ pub(crate) struct Preparation {
     pub(crate) readings: Vec<Reading>,
     /// How many chunks each reads in a turn at most.
     pub(crate) most: usize,
+    /// Memory for chunks that are written together.
+    pub(crate) joined: Joined,
     /// Memory for the reports of each one's first turn.
     pub(crate) waiting: Vec<Reports>,
     /// The places at which their devices leave the list, one after another.
@@ -45,6 +48,7 @@ pub(crate) fn prepare(
     let collector = Collector::new(alloc, plan, chunks, offset)?;
     let most = batch_of(chunks, count_readers(slots, sources));
     let readings = readings_of(alloc, slots, sources, chunks, most)?;
+    let joined = Joined::none(alloc)?;
     let waiting = first_memory(alloc, readings.as_slice(), chunks, most)?;
     let places = places_in_turn(alloc, readings.as_slice())?;
     Ok(Preparation {
@@ -53,6 +57,7 @@ pub(crate) fn prepare(
         slots: many,
         readings,
         most,
+        joined,
         waiting,
         places,
     })

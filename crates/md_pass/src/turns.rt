@@ -11,6 +11,7 @@ ghost use Rattle.md_pass.specs.Passes.{IsPassing, QueuesOnlyRead};
 
 use crate::beside::take_and_read;
 use crate::hand_over::hand_over;
+use crate::joined::Joined;
 use crate::take_report::take_reports;
 use md_bitmap::{Chunks, Marks};
 use md_collect::{Board, Collector, Gate, Queue, Reports};
@@ -39,6 +40,7 @@ pub(crate) fn run_turns<
     collector: &mut Collector,
     target: &mut D,
     copied: &mut Marks,
+    joined: &mut Joined,
     waiting: &mut Vec<Reports>,
     queues: &mut Vec<Queue<D, L, M>>,
 ) -> Result<(), WriteFault>
@@ -62,9 +64,9 @@ pub(crate) fn run_turns<
     for _turn in 0..turns {
         hand_over(queues, waiting);
         take_and_read(
-            rt, gate, board, chunks, most, collector, target, copied, waiting, queues,
+            rt, gate, board, chunks, most, collector, target, copied, joined, waiting, queues,
         )?;
     }
     hand_over(queues, waiting);
-    take_reports::<D, L, M>(collector, target, copied, waiting)
+    take_reports::<D, L, M>(collector, target, copied, joined, waiting)
 }

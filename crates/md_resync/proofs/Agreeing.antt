@@ -69,7 +69,7 @@ pub record IsCalm (e : Event) : Type 0 where
   pub leaves : LeavesContent e
 
 pub copying_is_calm : (e : Event) → IsCopying e → IsCalm e
-copying_is_calm (Event.WriteFails k (MemberPart.CopiedChunk c)) is = record { of = tt; leaves = record { becomes = λ g w a. refl; whole = λ old new. tt } }
+copying_is_calm (Event.WriteFails k (MemberPart.CopiedSectors s n)) is = record { of = tt; leaves = record { becomes = λ g w a. refl; whole = λ old new. tt } }
 copying_is_calm (Event.Copy from k s) is = record { of = tt; leaves = record { becomes = λ g w a. refl; whole = λ old new. tt } }
 copying_is_calm e is = absurd is
 

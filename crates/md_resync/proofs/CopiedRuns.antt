@@ -328,15 +328,15 @@ pub given_unlike : (k sector : ℕ) (bytes : List ℕ) (old mid new : MirrorView
 given_unlike k sector bytes old mid new sound rests unlike g = record { gives = gives_after_read k sector bytes old mid new sound rests g; why = inr (mid, rests, unlike, g) }
 
 -- ---- a write that failed
-module _ (k chunk : ℕ) (old new : MirrorView) where
-  pub loses_copying : (j : ℕ) → RefusesCopy k chunk old new (copy_fault.MemberFailed j) → Happens old (Event.WriteFails k (MemberPart.CopiedChunk chunk)) new → IsConsistent new → LosesCopying j old new
+module _ (k sector n : ℕ) (old new : MirrorView) where
+  pub loses_copying : (j : ℕ) → RefusesCopy k sector n old new (copy_fault.MemberFailed j) → Happens old (Event.WriteFails k (MemberPart.CopiedSectors sector n)) new → IsConsistent new → LosesCopying j old new
   loses_copying j r happens sound =
       let f = r.1 in
-      let idle = f.copy.may.may.idle in
+      let idle = f.copy.may.idle in
       let on = f.copy.may.in_sync in
       let same = got_same old.array.members k f.copy.may.target f.fails.array.member on.member f.fails.array.at in
       let in_use = in_sync_recorded f.fails.array.member.state (subst (λ (m : MemberView). is_in_sync m.state ≡ true) same on.in_sync) in
-      let failing : List Event = Event.WriteFails k (MemberPart.CopiedChunk chunk) ∷ [] in
+      let failing : List Event = Event.WriteFails k (MemberPart.CopiedSectors sector n) ∷ [] in
       let leads : (previous : Option Event) (requests : Requests) → AreInFlight old.array requests → Leads previous old requests failing new requests =
       λ previous requests in_flight. (new, requests, tt, (refl, f), (λ honest whole. happens honest requests in_flight), (refl, refl)) in
       record {
@@ -345,21 +345,21 @@ module _ (k chunk : ℕ) (old new : MirrorView) where
           steps = (tt, tt);
           leads = λ previous requests in_flight. unread failing previous old requests (λ m r. (m ≡ new) × (r ≡ requests)) (leads previous requests in_flight);
           by_steps = by_singles failing old new (tt, tt) leads;
-          same = tried_same k (run_write f.copy.may.target f.sector f.bytes) old.disks new.disks f.fails.disks.tried;
+          same = tried_same k (run_write f.copy.may.target sector f.bytes) old.disks new.disks f.fails.disks.tried;
           sound = sound;
         };
-        last = record { before = []; unfailing = tt; failing = Event.WriteFails k (MemberPart.CopiedChunk chunk); of = sym r.0; list = refl };
+        last = record { before = []; unfailing = tt; failing = Event.WriteFails k (MemberPart.CopiedSectors sector n); of = sym r.0; list = refl };
         marks = ap (λ (a : ArrayView). a.marks) f.fails.array.array;
         was = subst (λ (i : ℕ). IsUpToDate old.array i) (sym r.0) (record { member = f.fails.array.member; at = f.fails.array.at; recorded = in_use });
         idle = subst IsIdle (sym f.fails.array.array) (record { running = idle.running; none = idle.none });
         faulty = subst (λ (i : ℕ). IsFaulty i new.array) (sym r.0) (faulty_after old.array new.array k f.fails.array in_use);
       }
 
-  pub halts_copying : IsConsistent old → RefusesCopy k chunk old new copy_fault.Halted → IsConsistent new → CopyingHalts old new
+  pub halts_copying : IsConsistent old → RefusesCopy k sector n old new copy_fault.Halted → IsConsistent new → CopyingHalts old new
   halts_copying before h sound = record {
     mid = old;
     goes = goes_nowhere old before;
-    failing = Event.WriteFails k (MemberPart.CopiedChunk chunk);
+    failing = Event.WriteFails k (MemberPart.CopiedSectors sector n);
     of = tt;
     halts = λ requests. h;
     sound = sound;
@@ -374,9 +374,8 @@ run_is_copy from k sector bytes v run m is apart = record {
   some = run.some;
   long = run.long;
   may = record {
-    chunk = run.chunk;
+    idle = run.idle;
     may = run.may;
-    in_chunk = run.in_chunk;
     inside = run.inside;
     source = run.source;
     target = m;

@@ -32,7 +32,7 @@ whole_event : (e : Event) (old new : MirrorView) → IsResyncing e → LeftWhole
 whole_event (Event.StoreMarks k b) old new of = tt
 whole_event (Event.WriteFails k (MemberPart.BitmapSector b)) old new of = tt
 whole_event (Event.Copy from k s) old new of = tt
-whole_event (Event.WriteFails k (MemberPart.CopiedChunk c)) old new of = tt
+whole_event (Event.WriteFails k (MemberPart.CopiedSectors s n)) old new of = tt
 whole_event Event.Resynced old new of = tt
 whole_event Event.Unresynced old new of = tt
 whole_event (Event.ClearIdle c) old new of = tt
@@ -42,7 +42,7 @@ left_any : (e : Event) (old new : MirrorView) (left : List Disk) → IsResyncing
 left_any (Event.StoreMarks k b) old new left of single = tt
 left_any (Event.WriteFails k (MemberPart.BitmapSector b)) old new left of single = tt
 left_any (Event.Copy from k s) old new left of single = absurd single
-left_any (Event.WriteFails k (MemberPart.CopiedChunk c)) old new left of single = tt
+left_any (Event.WriteFails k (MemberPart.CopiedSectors s n)) old new left of single = tt
 left_any Event.Resynced old new left of single = tt
 left_any Event.Unresynced old new left of single = tt
 left_any (Event.ClearIdle c) old new left of single = tt

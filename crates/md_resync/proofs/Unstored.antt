@@ -54,7 +54,7 @@ left_whole : (e : Event) → IsOfResync e → (old new : MirrorView) → LeftWho
 left_whole (Event.StoreMarks k b) of old new = tt
 left_whole (Event.WriteFails k (MemberPart.BitmapSector b)) of old new = tt
 left_whole (Event.Copy from k s) of old new = tt
-left_whole (Event.WriteFails k (MemberPart.CopiedChunk c)) of old new = tt
+left_whole (Event.WriteFails k (MemberPart.CopiedSectors s n)) of old new = tt
 left_whole Event.Resynced of old new = tt
 left_whole (Event.ClearIdle c) of old new = tt
 left_whole e of old new = absurd of

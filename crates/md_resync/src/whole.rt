@@ -7,7 +7,7 @@ ghost use Rattle.md_array.specs.Consistency.{IsConsistent};
 ghost use Rattle.md_resync.specs.Resyncing.{IdleFails, RefusesResync, Resyncs, ResyncsTold, ToldFails};
 ghost use Rattle.md_resync.specs.Telling.{AllSayNoneMarked};
 
-use crate::buffer::buffer_for;
+use crate::buffer::buffer;
 use crate::fault::ResyncFault;
 use crate::giving_up::give_up;
 use crate::making_agree::make_agree;
@@ -19,8 +19,8 @@ use std::alloc::Global;
 
 /// Makes the members in sync agree, so that the array can be read and written. Where a recovering member's superblock says that it
 /// has a marked chunk, that is taken back first, and what is due is stored. Then the marks of memory are stored on
-/// each member in sync, also where the array is degraded; then each marked chunk is copied, through two buffers of at
-/// most 1 MiB, where members are not known to agree; and where the array is not degraded, the marks are cleared and that is stored.
+/// each member in sync, also where the array is degraded; then marked chunks are copied, through two buffers of 1 MiB,
+/// where members are not known to agree; and where the array is not degraded, the marks are cleared and that is stored.
 ///
 /// `Halted`, `InFlight` and `NoMemory` are looked for in this order, before a device is used. Then the first failure
 /// ends the call, and the next one begins anew. Where no member fails, no superblock becomes due.
@@ -52,13 +52,11 @@ fn resync_idle<D: Device + Drop>(alloc: Global, mirror: &mut Mirror<D>) -> Resul
     ensures gives { MatchResult result (λ _. Resyncs mirror.old mirror.new) (IdleFails mirror.old mirror.new) }
     ensures sound { IsConsistent mirror.new }
 {
-    let sectors = mirror.chunks().sectors;
-    let (Ok(mut buffer), Ok(mut held)) = (buffer_for(alloc, sectors), buffer_for(alloc, sectors))
-    else {
+    let (Ok(mut bytes), Ok(mut held)) = (buffer(alloc), buffer(alloc)) else {
         return Err(ResyncFault::NoMemory);
     };
     tell_recovering(mirror)?;
-    resync_told(mirror, &mut buffer, &mut held)
+    resync_told(mirror, &mut bytes, &mut held)
 }
 
 // Resynchronises once recovering members are told of, through buffers of one length.

@@ -354,19 +354,19 @@ plain_life m a es (more ∷ rest) final last b life =
 instead_of_request : (chunks : Chunks) (p : PendingView) (failing : Event) (instead : List Event) → IsOfRequest chunks p failing → IsInstead failing instead → AllOf (IsOfRequest chunks p) instead
 instead_of_request chunks p (Event.WriteFails k (MemberPart.BitmapSector b)) instead of is = subst (AllOf (IsOfRequest chunks p)) (sym is) (of, tt)
 instead_of_request chunks p (Event.WriteFails k MemberPart.Log) instead of is = absurd of
-instead_of_request chunks p (Event.WriteFails k (MemberPart.CopiedChunk c)) instead of is = absurd of
+instead_of_request chunks p (Event.WriteFails k (MemberPart.CopiedSectors s n)) instead of is = absurd of
 instead_of_request chunks p e instead of is = absurd is
 
 instead_of_storing : (failing : Event) (instead : List Event) → IsStoring failing → IsInstead failing instead → AllOf IsStopping instead
 instead_of_storing (Event.WriteFails k (MemberPart.BitmapSector b)) instead of is = subst (AllOf IsStopping) (sym is) (tt, tt)
 instead_of_storing (Event.WriteFails k MemberPart.Log) instead of is = absurd of
-instead_of_storing (Event.WriteFails k (MemberPart.CopiedChunk c)) instead of is = absurd of
+instead_of_storing (Event.WriteFails k (MemberPart.CopiedSectors s n)) instead of is = absurd of
 instead_of_storing e instead of is = absurd is
 
 instead_of_recording : (failing : Event) (instead : List Event) → IsRecording failing → IsInstead failing instead → AllOf IsStopping instead
 instead_of_recording (Event.WriteFails k (MemberPart.BitmapSector b)) instead of is = subst (AllOf IsStopping) (sym is) (tt, tt)
 instead_of_recording (Event.WriteFails k MemberPart.Log) instead of is = absurd of
-instead_of_recording (Event.WriteFails k (MemberPart.CopiedChunk c)) instead of is = absurd of
+instead_of_recording (Event.WriteFails k (MemberPart.CopiedSectors s n)) instead of is = absurd of
 instead_of_recording e instead of is = absurd is
 
 instead_of_stop : (clears : Bool) (failing : Event) (instead : List Event) → IsStoringIf clears failing → IsInstead failing instead → AllOf IsStopping instead

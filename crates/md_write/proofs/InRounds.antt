@@ -75,7 +75,7 @@ after_failing part k (Event.WriteFails j MemberPart.Superblock) is r after rest 
 after_failing part k (Event.WriteFails j (MemberPart.BitmapSector b)) is r after rest = (r.0, rest)
 after_failing part k (Event.WriteFails j (MemberPart.RequestData n)) is r after rest = rest
 after_failing part k (Event.WriteFails j MemberPart.Log) is r after rest = absurd r
-after_failing part k (Event.WriteFails j (MemberPart.CopiedChunk c)) is r after rest = absurd r
+after_failing part k (Event.WriteFails j (MemberPart.CopiedSectors s n)) is r after rest = absurd r
 after_failing part k e is r after rest = absurd is
 
 after_last : (part : Part) (k : ℕ) (es : List Event) (e : Event) → IsFailureOf k e → InRounds part (es ++ e ∷ []) → LeavesRoundsAt part Part.Marks (es ++ e ∷ [])

@@ -83,7 +83,7 @@ module _ (x v : MirrorView) (same : x ≡ v) (k sector : ℕ) (bytes : List ℕ)
   }
 
   pub refuses_copy : (b : ArrayView) (fault : CopyFault) → IsFailed k (record { sector = own.data_offset + sector; bytes = bytes }) x.disks disks → AnswersCopy k x.array b fault
-      → RefusesCopy k (sector / v.array.chunks.sectors) v (record { disks = disks; array = b }) fault
+      → RefusesCopy k sector (length bytes / 512) v (record { disks = disks; array = b }) fault
   refuses_copy b fault failed answers =
       fails_to_copy k sector bytes v (record { disks = disks; array = b }) copy fault
       (subst (λ (y : MirrorView). IsFailed k (run_write copy.may.target sector bytes) y.disks disks) same

@@ -16,14 +16,14 @@ module _ (k : ℕ) (old new : MirrorView) (before : Requests) where
   failed_write MemberPart.Superblock after did = (super_write old.array did.1.member, did.1.fails)
   failed_write (MemberPart.BitmapSector b) after did = (did.1.write, did.1.fails)
   failed_write (MemberPart.RequestData n) after did = (data_write did.5.member did.0, did.5.fails)
-  failed_write (MemberPart.CopiedChunk c) after did = (run_write did.1.copy.may.target did.1.sector did.1.bytes, did.1.fails)
+  failed_write (MemberPart.CopiedSectors s n) after did = (run_write did.1.copy.may.target s did.1.bytes, did.1.fails)
   failed_write MemberPart.Log after did = (did.1.write, did.1.fails)
 
   pub halting_write : (part : MemberPart) → HaltsAt old before (Event.WriteFails k part) new → (w : Write) × (m : MemberView) × IsMember old.array k m × HaltsWriting k w old new
   halting_write MemberPart.Superblock h = (super_write old.array h.member, h.member, h.may.at, h.halts)
   halting_write (MemberPart.BitmapSector b) h = (h.write, h.member, h.may.in_sync.member, h.halts)
   halting_write (MemberPart.RequestData n) h = (data_write h.3.member h.0, h.3.member, h.3.may.intent.in_sync.member, h.3.halts)
-  halting_write (MemberPart.CopiedChunk c) h = (run_write h.copy.may.target h.sector h.bytes, h.copy.may.target, h.copy.may.in_sync.member, h.halts)
+  halting_write (MemberPart.CopiedSectors s n) h = (run_write h.copy.may.target s h.bytes, h.copy.may.target, h.copy.may.in_sync.member, h.halts)
   halting_write MemberPart.Log h = (h.write, h.member, h.in_sync.member, h.halts)
 
 -- a mirror that such a write halted is as it was, but for that

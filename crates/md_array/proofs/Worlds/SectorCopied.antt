@@ -1,5 +1,5 @@
 -- A sector is copied from a member in sync to another: no more than that sector of its data changes, and that is the model's event.
-use Rattle.std.proofs.Common.{◌≡◌, ◌≢◌, ℕ, ◌+◌, ◌*◌, ◌<◌, ◌≤◌, ◌⊎◌, inl, inr, true, false, cond, Bool, ◌&&◌, nat_lt, true≢false, List, [], slice_get, Option, Some, None, refl, sym, ap, ◌∙◌, subst, arith, eq-eqb}
+use Rattle.std.proofs.Common.{◌/◌, ◌≡◌, ◌≢◌, ℕ, ◌+◌, ◌*◌, ◌<◌, ◌≤◌, ◌⊎◌, inl, inr, true, false, cond, Bool, ◌&&◌, nat_lt, true≢false, List, [], slice_get, Option, Some, None, refl, sym, ap, ◌∙◌, subst, arith, eq-eqb}
 use Rattle.std.proofs.lemmas.Bool.{cases_lt, and_from, and_parts}
 use Rattle.std.proofs.lemmas.Option.{slice_get_within}
 use Rattle.md_array.proofs.Worlds.Bad.{test_from_bad}
@@ -110,11 +110,11 @@ module _ (v : MirrorView) (c : IsConsistent v) (honest : AreHonest v.disks) (req
   may_copy from k s may =
       let source = may.source s (omega arith) (omega arith) in
       let low : s < a.chunks.size = let inside = may.inside in omega arith in
-      let running = may.may.idle.running in
+      let running = may.idle.running in
       let is = in_sync_as source.role source.member.state source.in_sync in
       let on : IsInSync a from source.member = record { member = source.at; in_sync = is.0 } in
       record {
-        chunk = subst (model.MayCopyChunk world) (sym (may.in_chunk s (omega arith) (omega arith))) (may_copy_chunk may.chunk may.may);
+        chunk = may_copy_chunk (s / a.chunks.sectors) (may.may s (omega arith) (omega arith));
         source = in_sync_there v.disks a requests from source.member on;
         target = in_sync_there v.disks a requests k may.target may.in_sync;
         unlisted = unlisted_there running from s source.member on low source.unlisted;
@@ -229,7 +229,7 @@ module _ (from k s : ℕ) (old new : MirrorView) (c : IsConsistent old) (t : Cop
         ∙ (λ i. record w { stored = put k (stored_copied i) w.stored; due = due i; known = known i; stored_offset = told i })
 
     step : Step (geometry_of array) w (Event.Copy from k s) (world_of new requests)
-    step = (t.may.may.idle.running, (may_copy old c honest requests in_flight from k s t.may, world_copied))
+    step = (t.may.idle.running, (may_copy old c honest requests in_flight from k s t.may, world_copied))
 
   pub copy_happens : Happens old (Event.Copy from k s) new
   copy_happens honest requests in_flight =

@@ -24,4 +24,4 @@ IfCopyingFailed P Halted = ⊤
 abbrev pub CopyHappens : ℕ → ℕ → List ℕ → MirrorView → MirrorView → {T : Type 0} → Result T CopyFault → Type 0
 CopyHappens k sector bytes old new result =
     MatchResult result (λ _. CopiesInTurn k sector bytes old new)
-    (IfCopyingFailed (Happens old (Event.WriteFails k (MemberPart.CopiedChunk (sector / old.array.chunks.sectors))) new))
+    (IfCopyingFailed (Happens old (Event.WriteFails k (MemberPart.CopiedSectors sector (length bytes / 512))) new))

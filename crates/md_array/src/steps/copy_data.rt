@@ -13,14 +13,14 @@ use md_faults::CopyFault;
 
 impl<D: Device + Drop> Mirror<D> {
     /// Writes to member k what another member in sync holds from this sector of the array on, in one
-    /// write of its device. All sectors are of one chunk, which is marked in memory and on each member in
-    /// sync, and the other member is the first by role that lists none of them; `read_data` gives its
-    /// bytes. It takes no memory.
+    /// write of its device. The chunk of each sector is marked in memory and on each member in sync, and
+    /// the other member is the first by role that lists none of them; `read_data` gives its bytes. It
+    /// takes no memory.
     pub fn copy_data(&mut self, k: usize, sector: u64, bytes: &[u8]) -> Result<(), CopyFault>
         requires within { k < length self.old.array.members }
         requires sound { IsConsistent self.old }
         requires copy { IsCopy k sector bytes.now self.old }
-        ensures gives { MatchResult result (λ _. CopiesTo k sector bytes.now self.old self.new) (RefusesCopy k (sector / self.old.array.chunks.sectors) self.old self.new) }
+        ensures gives { MatchResult result (λ _. CopiesTo k sector bytes.now self.old self.new) (RefusesCopy k sector (length bytes.now / 512) self.old self.new) }
         ensures event { CopyHappens k sector bytes.now self.old self.new result }
         ensures sound { IsConsistent self.new }
         ensures pending { (p : PendingView) → IsPending self.old.array p → IsPending self.new.array p }

@@ -44,7 +44,7 @@ pub no_record : (e : Event) → IsOfResync e → IsNoFailedRecord e
 no_record (Event.StoreMarks k b) of = tt
 no_record (Event.WriteFails k (MemberPart.BitmapSector b)) of = tt
 no_record (Event.Copy from k s) of = tt
-no_record (Event.WriteFails k (MemberPart.CopiedChunk c)) of = tt
+no_record (Event.WriteFails k (MemberPart.CopiedSectors s n)) of = tt
 no_record Event.Resynced of = tt
 no_record (Event.ClearIdle c) of = tt
 no_record e of = absurd of

@@ -73,8 +73,8 @@ module _ (t : Moment) (at : IsSoundAt t) (new : MirrorView) (left : List Disk) (
     | inl same ↦ inr (inl (inl same))
     | inr after ↦ inr (inr (one_step (Event.WriteFails k MemberPart.Log) (Event.StoreLog k (listed_on after.0 k)) (listed_on after.0 k, refl) after.0 (after.1.1 asked.0) after.2))
   ]
-  by_halt (Event.WriteFails k (MemberPart.CopiedChunk c)) h asked =
-      let part = crashes_at_halted_copies k c t.mirror new (contents_of left) at.sound at.honest h within asked in
+  by_halt (Event.WriteFails k (MemberPart.CopiedSectors s n)) h asked =
+      let part = crashes_at_halted_copies k s n t.mirror new (contents_of left) at.sound at.honest h within asked in
       let es = copies_at part.from k part.sectors in
       let leads = part.leads None t.requests at.in_flight in
       let run = call_is_run es None t part.mid t.requests leads at.honest (copies_whole part.from k part.sectors None t.mirror t.requests (λ m q. (m ≡ part.mid) × (q ≡ t.requests)) leads) in

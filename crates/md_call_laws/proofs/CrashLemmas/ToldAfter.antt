@@ -128,8 +128,8 @@ module _ (old new : MirrorView) where
   told_at (Event.WriteFails k (MemberPart.BitmapSector b)) p requests h = record { member = h.member; write = h.write; may = h.may; halts = told_halts k h.write old new p h.halts }
   told_at (Event.WriteFails k (MemberPart.RequestData n)) p requests h =
       (h.0, h.1, h.2, record { member = h.3.member; may = h.3.may; halts = told_halts k (data_write h.3.member h.0) old new p h.3.halts; pending = h.3.pending })
-  told_at (Event.WriteFails k (MemberPart.CopiedChunk chunk)) p requests h =
-      record { sector = h.sector; bytes = h.bytes; copy = h.copy; in_chunk = h.in_chunk; halts = told_halts k (run_write h.copy.may.target h.sector h.bytes) old new p h.halts }
+  told_at (Event.WriteFails k (MemberPart.CopiedSectors s n)) p requests h =
+      record { bytes = h.bytes; copy = h.copy; many = h.many; halts = told_halts k (run_write h.copy.may.target s h.bytes) old new p h.halts }
   told_at (Event.WriteFails k MemberPart.Log) p requests h =
       record { running = h.running; member = h.member; in_sync = h.in_sync; canonical = h.canonical; room = h.room; write = h.write; among = h.among; halts = told_halts k h.write old new p h.halts }
   told_at e p requests h = absurd h
@@ -140,7 +140,7 @@ module _ (old new : MirrorView) where
   told_asked (Event.WriteFails k MemberPart.Superblock) p requests h left asked = asked
   told_asked (Event.WriteFails k (MemberPart.BitmapSector b)) p requests h left asked = asked
   told_asked (Event.WriteFails k (MemberPart.RequestData n)) p requests h left asked = asked
-  told_asked (Event.WriteFails k (MemberPart.CopiedChunk chunk)) p requests h left asked = asked
+  told_asked (Event.WriteFails k (MemberPart.CopiedSectors s n)) p requests h left asked = asked
   told_asked (Event.WriteFails k MemberPart.Log) p requests h left asked = asked
   told_asked e p requests h left asked = absurd h
 

@@ -1,6 +1,5 @@
--- A copy that halted the mirror, with any bytes in its range: the chunk is marked on each member in sync, so the marks cover what differs.
+-- A copy that halted the mirror, with any bytes in its range: its chunks are marked on each member in sync, so the marks cover what differs.
 use Rattle.std.proofs.Common.{◌≡◌, ◌≢◌, ◌∙◌, ◌⊎◌, inl, inr, ℕ, ◌+◌, ◌*◌, ◌<◌, ◌≤◌, Bool, false, true≢false, List, map, slice_get, Some, sym, ap, subst, arith}
-use Rattle.std.proofs.lemmas.Bool.{cases_lt}
 use Rattle.std.proofs.lemmas.Option.{none-some, slice_get_within}
 use Rattle.md_device.specs.Splice.{SameOutside}
 use Rattle.md_kept_members.specs.View.{MemberView}
@@ -12,7 +11,7 @@ use Rattle.md_model.specs.Sectors.{Geometry, chunk_of}
 use Rattle.md_model.specs.Crashes as crashes
 use Rattle.md_model.specs.Worlds as worlds
 use Rattle.md_model.specs.Worlds.{World}
-use Rattle.md_model.proofs.Cases.{by_option}
+use Rattle.md_model.proofs.Cases.{by_option, by_range}
 use Rattle.md_model.proofs.Lives.Safe.{unmarked-bits}
 use Rattle.md_model.proofs.Puts.{by_same}
 use Rattle.md_model.proofs.Steps.Keeps.{IsKept}
@@ -56,13 +55,14 @@ module _ (t : Moment) (at : IsSoundAt t) (left : List Disk) (l : IsLeftByCopy t 
   m = l.call.copy.may.target
 
   abbrev sector : ℕ
-  sector = l.call.sector
+  sector = l.sector
 
   abbrev many : ℕ
   many = l.call.copy.sectors
 
-  abbrev chunk : ℕ
-  chunk = l.call.copy.may.chunk
+  -- it is none of the sectors
+  abbrev IsBeside : ℕ → Type 0
+  IsBeside s = (s < sector) ⊎ (sector + many ≤ s)
 
   abbrev w : Write
   w = run_write m sector l.call.bytes
@@ -128,18 +128,11 @@ module _ (t : Moment) (at : IsSoundAt t) (left : List Disk) (l : IsLeftByCopy t 
       ∙ data_alone a m there.old.content there.new.content (parts_of t.mirror at.sound k there.old m there.was is_member) sector many l.call.copy.may.inside (outside there.old there.new there.was there.is)
       ∙ (λ i. record (sym before_there i) { content = sym content_is i })
 
-  -- a sector of another chunk is none of them
-  apart : (s : ℕ) → chunk_of g s ≢ chunk → (s < sector) ⊎ (sector + many ≤ s)
-  apart s other = elim (cases_lt s sector) [
-    | inl before ↦ inl before
-    | inr from ↦ elim (cases_lt s (sector + many)) [ inl within ↦ absurd (other (l.call.copy.may.in_chunk s from within)) | inr behind ↦ inr behind ]
-  ]
-
-  elsewhere : (s : ℕ) → chunk_of g s ≢ chunk → (torn k).content s ≡ (stored k).content s
-  elsewhere s other =
+  elsewhere : (s : ℕ) → IsBeside s → (torn k).content s ≡ (stored k).content s
+  elsewhere s beside =
       ap (λ (x : Stored). x.content s) now_there
       ∙ data_elsewhere a m there.old.content there.new.content (parts_of t.mirror at.sound k there.old m there.was is_member) sector many l.call.copy.may.inside
-      (outside there.old there.new there.was there.is) s (apart s other)
+      (outside there.old there.new there.was there.is) s beside
       ∙ sym (ap (λ (x : Stored). x.content s) before_there)
 
   others : (j : ℕ) → j ≢ k → torn j ≡ stored j
@@ -160,8 +153,8 @@ module _ (t : Moment) (at : IsSoundAt t) (left : List Disk) (l : IsLeftByCopy t 
   pub marks : (j c : ℕ) → is_marked (torn j) c ≡ is_marked (stored j) c
   marks j c = of_each (λ (x : Stored). is_marked x c) (ap (λ (x : Stored). is_marked x c) alone) j
 
-  pub contents : (j s : ℕ) → chunk_of g s ≢ chunk → (torn j).content s ≡ (stored j).content s
-  contents j s other = of_each (λ (x : Stored). x.content s) (elsewhere s other) j
+  pub contents : (j s : ℕ) → IsBeside s → (torn j).content s ≡ (stored j).content s
+  contents j s beside = of_each (λ (x : Stored). x.content s) (elsewhere s beside) j
 
   -- ---- an opening of them
   module _ (opened : MirrorView) (small : IsWithinLimits g) (kept : IsKept g (super_of opened.array.shared) (history_of t)) (next : MirrorView) (again : IsOpenedAfter opened t left next) where
@@ -197,14 +190,16 @@ module _ (t : Moment) (at : IsSoundAt t) (left : List Disk) (l : IsLeftByCopy t 
         let p = place i f in
         unmarked-bits (now.stored i) (chunk_of g s) (sym (marks i (chunk_of g s)) ∙ (halves i p.0 p.1).marks s low off)
 
-    -- so it is another chunk
-    other_chunk : (i s : ℕ) → worlds.IsInSync now i → (now.stored i).bits (chunk_of g s) ≡ false → chunk_of g s ≢ chunk
-    other_chunk i s on off same = true≢false
-        (sym ((may_copy_chunk t.mirror at.sound at.honest t.requests at.in_flight chunk l.call.copy.may.may).stored i on)
-        ∙ kept.tracked.known i chunk on ∙ ap (now.stored i).bits (sym same) ∙ off)
+    -- so it is none of the sectors
+    other_sector : (i s : ℕ) → worlds.IsInSync now i → (now.stored i).bits (chunk_of g s) ≡ false → IsBeside s
+    other_sector i s on off = by_range sector many s
+        (λ from to. absurd (true≢false
+        (sym ((may_copy_chunk t.mirror at.sound at.honest t.requests at.in_flight (chunk_of g s) (l.call.copy.may.may s from to)).stored i on)
+        ∙ kept.tracked.known i (chunk_of g s) on ∙ off)))
+        (λ beside. beside)
 
-    content_then : (i s : ℕ) → Found i → chunk_of g s ≢ chunk → (made i).content s ≡ (now.stored i).content s
-    content_then i s f other = let p = place i f in ap (λ (x : ℕ → List ℕ). x s) (halves i p.0 p.1).content ∙ contents i s other
+    content_then : (i s : ℕ) → Found i → IsBeside s → (made i).content s ≡ (now.stored i).content s
+    content_then i s f beside = let p = place i f in ap (λ (x : ℕ → List ℕ). x s) (halves i p.0 p.1).content ∙ contents i s beside
 
     listed_then : (i s : ℕ) → Found i → (made i).listed s ≡ (now.stored i).listed s
     listed_then i s f = let p = place i f in ap (λ (x : ℕ → Bool). x s) (halves i p.0 p.1).listed ∙ lists i s
@@ -212,7 +207,7 @@ module _ (t : Moment) (at : IsSoundAt t) (left : List Disk) (l : IsLeftByCopy t 
     covered : Covered g made Found
     covered i j n s low f_i f_j f_n off =
         let bit = bit_then i s low f_i off in
-        let other = other_chunk i s (in_then i f_i) bit in
+        let other = other_sector i s (in_then i f_i) bit in
         agree_as (now.stored j) (now.stored n) (made j) (made n) s
         (content_then j s f_j other) (content_then n s f_n other) (listed_then j s f_j) (listed_then n s f_n)
         (kept.tracked.on_members i j n s (in_then i f_i) (in_then j f_j) (in_then n f_n) bit)
@@ -238,7 +233,7 @@ module _ (t : Moment) (at : IsSoundAt t) (left : List Disk) (l : IsLeftByCopy t 
           let f = after.found_there t disks sound_torn opened small kept supers next of_torn i x.0 x.1 on in
           let clear = sym (after.bit_at t disks sound_torn opened small kept supers next of_torn i x.0 s low on x.1) ∙ off in
           let bit = bit_then x.0 s low f clear in
-          let other = other_chunk x.0 s (in_then x.0 f) bit in
+          let other = other_sector x.0 s (in_then x.0 f) bit in
           after.stays t disks sound_torn opened small kept supers next of_torn covered b s
           (λ n p in_n is unlisted.
           let f_n = after.found_there t disks sound_torn opened small kept supers next of_torn n p is in_n in

@@ -32,8 +32,8 @@ IsLeftByHalt (Event.WriteFails k MemberPart.Superblock) old new requests h left 
 IsLeftByHalt (Event.WriteFails k (MemberPart.RequestData n)) old new requests h left = Unit {0}
 IsLeftByHalt (Event.WriteFails k (MemberPart.BitmapSector b)) old new requests h left = IsDoneOrNot k h.write old.disks (contents_of left)
 IsLeftByHalt (Event.WriteFails k MemberPart.Log) old new requests h left = HasNoShift k old × IsDoneOrNot k h.write old.disks (contents_of left)
-IsLeftByHalt (Event.WriteFails k (MemberPart.CopiedChunk c)) old new requests h left =
-    IsLeftInSectors k (h.copy.may.target.superblock.data_offset + h.sector) h.bytes old.disks (contents_of left)
+IsLeftByHalt (Event.WriteFails k (MemberPart.CopiedSectors s n)) old new requests h left =
+    IsLeftInSectors k (h.copy.may.target.superblock.data_offset + s) h.bytes old.disks (contents_of left)
 IsLeftByHalt e old new requests h left = ⊥
 
 -- ---- what is said
@@ -42,7 +42,7 @@ IsLeftByHalt e old new requests h left = ⊥
 abbrev pub IsInstead : Event → List Event → Type 0
 IsInstead (Event.WriteFails k (MemberPart.BitmapSector b)) es = es ≡ Event.StoreMarks k b ∷ []
 IsInstead (Event.WriteFails k MemberPart.Log) es = (listed : ℕ → Bool) × (es ≡ Event.StoreLog k listed ∷ [])
-IsInstead (Event.WriteFails k (MemberPart.CopiedChunk c)) es = (from : ℕ) × (sectors : List ℕ) × (es ≡ copies_at from k sectors)
+IsInstead (Event.WriteFails k (MemberPart.CopiedSectors s n)) es = (from : ℕ) × (sectors : List ℕ) × (es ≡ copies_at from k sectors)
 IsInstead e es = ⊥
 
 -- These events lead on, and then such as stand in place of the write. A crash after them leaves this.

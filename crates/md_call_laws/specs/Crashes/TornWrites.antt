@@ -63,12 +63,13 @@ OfOpeningsWith Leaves Finds =
 -- A copy to member k halted the mirror, and the crash came within that, or after it: any bytes may stand in the write's range.
 pub record IsLeftByCopy (t : Moment) (left : List Disk) : Type 0 where
   pub on : ℕ
-  pub chunk : ℕ
+  pub sector : ℕ
+  pub sectors : ℕ
   pub new : MirrorView
-  pub call : HaltsCopying on chunk t.mirror new
+  pub call : HaltsCopying on sector sectors t.mirror new
   pub since : IsLeftSince t.mirror.disks new.disks left
 
--- The chunk is marked on each member in sync, so the marks cover what differs there; and the content becomes what it may become at any opening:
+-- Each sector's chunk is marked on each member in sync, so the marks cover what differs there; and the content becomes what it may become at any opening:
 -- it is the same in each chunk of which one of the members in sync has no mark.
 abbrev pub StartsAfterCopy : Type 0
 StartsAfterCopy = OfOpenings IsLeftByCopy BeginsAfter

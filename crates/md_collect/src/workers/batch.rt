@@ -7,11 +7,11 @@ use md_bitmap::Chunks;
 // The sectors of 1 MiB.
 const BATCH_SECTORS: u32 = 2048;
 
-// The sectors of 64 KiB.
-const LONE_BATCH_SECTORS: u32 = 128;
+// The sectors of 256 KiB.
+const LONE_BATCH_SECTORS: u32 = 512;
 
 /// How many chunks each of so many workers reads in a turn at most: those of 1 MiB, or one where a chunk is
-/// longer. A lone worker reads those of 64 KiB.
+/// longer. A lone worker reads those of 256 KiB.
 ///
 /// A thread is started for each of several queues and turn, which takes longer than to read a short chunk. The
 /// queue has memory for that many, so more would cost more of it, and gain little. What a lone worker has just

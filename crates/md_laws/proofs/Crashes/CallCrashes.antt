@@ -91,15 +91,15 @@ module _ (previous : Option Event) (t : Moment) (at : IsSoundAt t) (mid : Mirror
         contents = sym other.2;
       })
 
-  copy_fails : (k chunk : ℕ) → FailsToCopy k chunk t.mirror mid → Ends (Event.WriteFails k (MemberPart.CopiedChunk chunk))
-  copy_fails k chunk f =
-      let other = crashes_as_failed k (run_write f.copy.may.target f.sector f.bytes) t.mirror mid (contents_of left) at.honest f.fails within in
-      let g : FailsToCopy k chunk t.mirror other.0 = record { sector = f.sector; bytes = f.bytes; copy = f.copy; in_chunk = f.in_chunk; fails = other.1 } in
+  copy_fails : (k sector n : ℕ) → FailsToCopy k sector n t.mirror mid → Ends (Event.WriteFails k (MemberPart.CopiedSectors sector n))
+  copy_fails k sector n f =
+      let other = crashes_as_failed k (run_write f.copy.may.target sector f.bytes) t.mirror mid (contents_of left) at.honest f.fails within in
+      let g : FailsToCopy k sector n t.mirror other.0 = record { bytes = f.bytes; copy = f.copy; many = f.many; fails = other.1 } in
       inr (record {
         mid = other.0;
         between = t.requests;
         did = (refl, g);
-        does = copy_fails_happens k chunk t.mirror other.0 at.sound g at.honest t.requests at.in_flight;
+        does = copy_fails_happens k sector n t.mirror other.0 at.sound g at.honest t.requests at.in_flight;
         contents = sym other.2;
       })
 
@@ -153,7 +153,7 @@ module _ (previous : Option Event) (t : Moment) (at : IsSoundAt t) (mid : Mirror
         call = inr (inl did.5);
         within = within;
       }))))
-  within_event (Event.WriteFails k (MemberPart.CopiedChunk c)) order did happens whole unshifted asked = copy_fails k c did.1
+  within_event (Event.WriteFails k (MemberPart.CopiedSectors s n)) order did happens whole unshifted asked = copy_fails k s n did.1
   within_event (Event.Fill k) order did happens whole unshifted asked =
       inl (inr (inr (inr (inr (inr (inr (inl (record { on = k; next = mid; call = did.1; within = within }))))))))
   within_event (Event.Prepare k) order did happens whole unshifted asked =
@@ -173,7 +173,7 @@ module _ (previous : Option Event) (t : Moment) (at : IsSoundAt t) (mid : Mirror
   within_event (Event.LowerOffset k s) order did happens whole unshifted asked = in_memory (Event.LowerOffset k s) (happens at.honest tt).writes
   within_event Event.Resynced order did happens whole unshifted asked = in_memory Event.Resynced (happens at.honest tt).writes
   within_event Event.Unresynced order did happens whole unshifted asked = in_memory Event.Unresynced (happens at.honest tt).writes
-  within_event (Event.NoteBad k c) order did happens whole unshifted asked = in_memory (Event.NoteBad k c) (happens at.honest tt).writes
+  within_event (Event.NoteBad k more) order did happens whole unshifted asked = in_memory (Event.NoteBad k more) (happens at.honest tt).writes
   within_event (Event.Copy from k s) order did happens whole unshifted asked = beside (Event.Copy from k s) did happens asked
   within_event (Event.Remove k) order did happens whole unshifted asked = beside (Event.Remove k) did happens asked
   within_event (Event.Add number device) order did happens whole unshifted asked = beside (Event.Add number device) did happens asked

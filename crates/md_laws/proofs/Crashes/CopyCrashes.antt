@@ -276,6 +276,6 @@ crashes_at_copies k sector bytes old new left c honest t may =
 
 -- where the write fails and halts the mirror
 pub crashes_at_halted_copies : CrashesAtHaltedCopies
-crashes_at_halted_copies k chunk old new left c honest h may mixed =
-    let but = crashes_at_failure k (run_write h.copy.may.target h.sector h.bytes) old.disks new.disks left honest h.halts.disks may in
-    left_in_part k h.sector h.bytes old left c h.copy (record { as_many = but.as_many; others = but.others; this = mixed })
+crashes_at_halted_copies k sector n old new left c honest h may mixed =
+    let but = crashes_at_failure k (run_write h.copy.may.target sector h.bytes) old.disks new.disks left honest h.halts.disks may in
+    left_in_part k sector h.bytes old left c h.copy (record { as_many = but.as_many; others = but.others; this = mixed })

@@ -8,8 +8,8 @@ use Rattle.md_model.specs.Failures.{failed, LeftByLog}
 use Rattle.md_model.specs.Events.{Event, MemberPart, Fails, Happens}
 use Rattle.md_model.specs.Content.{Content, with_request, Becomes, Holds}
 use Rattle.md_model.specs.Behind.{IsBehind, Leaves, IsDegraded}
-use Rattle.md_model.proofs.Cases.{by_test, never}
-use Rattle.md_model.proofs.Puts.{by_same, put-at}
+use Rattle.md_model.proofs.Cases.{by_range, by_test, never}
+use Rattle.md_model.proofs.Puts.{put-at}
 use Rattle.md_model.proofs.Steps.Tracked.{IsTracked, IsFewer}
 use Rattle.md_model.proofs.Steps.TrackedSteps.{fewer_recorded, fewer_failed, left_off, off_marked, bits_written}
 use Rattle.md_model.proofs.Steps.TrackedCalls.{bits_copied}
@@ -107,7 +107,7 @@ module _ (g : Geometry) (d : Stored) where
       (behind_fewer a w (admitted g w k role listed s.0) (fewer_admitted g w k role listed s.0 (spare_target (w.state k) s.1.spare)) t))
   behind_step a b w (Event.Checkpoint k offset listed) w' _ _ t s c = behind_as a b w' c (subst (IsBehind g a d) (sym s.1)
       (behind_fewer a w (checkpointed w k offset listed) (fewer_checkpointed w k offset listed (recovering_target (w.state k) s.0.recovering)) t))
-  behind_step a b w (Event.NoteBad k x) w' _ _ t s c = behind_as a b w' c (subst (IsBehind g a d) (sym s.1) (behind_fewer a w (noted_bad g w k x) (fewer_noted_bad g w k x) t))
+  behind_step a b w (Event.NoteBad k more) w' _ _ t s c = behind_as a b w' c (subst (IsBehind g a d) (sym s.1) (behind_fewer a w (noted_bad g w k more) (fewer_noted_bad g w k more) t))
   behind_step a b w (Event.StoreLog k listed) w' _ _ t s c = behind_as a b w' c (subst (IsBehind g a d) (sym s.2) (behind_fewer a w (log_stored w k listed) (fewer_log_stored w k listed s.1) t))
 
 -- A member that fails is behind by what is marked.
@@ -163,8 +163,8 @@ module _ (g : Geometry) (a : Content) (w : World) (tracked : IsTracked g w) (t :
       (λ x clear. by_test (touches s.1.0 x)
       (λ at. not_clear (chunk_of g x) (tracked.marked n s.1.0 x s.1.1.in_flight at) (λ i in_. s.1.1.marked i x in_ at) clear)
       (λ away. s.1.2.outside x away))
-  behind_leaving (Event.WriteFails j (MemberPart.CopiedChunk y)) same w' s = late j s.0 w' same s.2 (λ x off. sym (ap (λ (d : Stored). d.listed x) s.1.2.rest) ∙ off)
-      (λ x clear. by_same (chunk_of g x) y
-      (λ here. not_clear y s.1.1.marked s.1.1.stored (subst IsClear here clear))
+  behind_leaving (Event.WriteFails j (MemberPart.CopiedSectors y n)) same w' s = late j s.0 w' same s.2 (λ x off. sym (ap (λ (d : Stored). d.listed x) s.1.2.rest) ∙ off)
+      (λ x clear. by_range y n x
+      (λ from to. not_clear (chunk_of g x) (s.1.1 x from to).marked (s.1.1 x from to).stored clear)
       (λ away. s.1.2.outside x away))
   behind_leaving e same w' s = absurd same

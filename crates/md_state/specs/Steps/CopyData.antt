@@ -41,11 +41,10 @@ pub record IsSource (from s : ℕ) (a : ArrayView) : Type 0 where
   pub unlisted : Lists member s → ⊥
   pub lowest : (j other : ℕ) (m : MemberView) → IsMember a j m → is_in_sync_as other m.state ≡ true → (Lists m s → ⊥) → role ≤ other
 
--- so many sectors, all of one chunk, may be copied from the one member to the other
+-- so many sectors may be copied from the one member to the other: the chunk of each may be copied
 pub record MayCopy (from k sector sectors : ℕ) (a : ArrayView) : Type 0 where
-  pub chunk : ℕ
-  pub may : MayCopyChunk chunk a
-  pub in_chunk : (s : ℕ) → sector ≤ s → s < sector + sectors → s / a.chunks.sectors ≡ chunk
+  pub idle : IsIdle a
+  pub may : (s : ℕ) → sector ≤ s → s < sector + sectors → MayCopyChunk (s / a.chunks.sectors) a
   pub inside : sector + sectors ≤ a.chunks.size
   pub source : (s : ℕ) → sector ≤ s → s < sector + sectors → IsSource from s a
   pub target : MemberView
@@ -67,18 +66,17 @@ pub record CopiesTo (k sector : ℕ) (bytes : List ℕ) (old new : MirrorView) :
   pub disks : IsWritten k (run_write copy.may.target sector bytes) old.disks new.disks
   pub array : new.array ≡ old.array
 
-pub record FailsToCopy (k chunk : ℕ) (old new : MirrorView) : Type 0 where
-  pub sector : ℕ
+-- so many sectors from this one on
+pub record FailsToCopy (k sector sectors : ℕ) (old new : MirrorView) : Type 0 where
   pub bytes : List ℕ
   pub copy : IsCopy k sector bytes old
-  pub in_chunk : copy.may.chunk ≡ chunk
+  pub many : copy.sectors ≡ sectors
   pub fails : FailsWriting k (run_write copy.may.target sector bytes) old new
 
-pub record HaltsCopying (k chunk : ℕ) (old new : MirrorView) : Type 0 where
-  pub sector : ℕ
+pub record HaltsCopying (k sector sectors : ℕ) (old new : MirrorView) : Type 0 where
   pub bytes : List ℕ
   pub copy : IsCopy k sector bytes old
-  pub in_chunk : copy.may.chunk ≡ chunk
+  pub many : copy.sectors ≡ sectors
   pub halts : HaltsWriting k (run_write copy.may.target sector bytes) old new
 
 -- the member is faulty, or the mirror is halted
@@ -86,9 +84,9 @@ abbrev pub AnswersCopy : ℕ → ArrayView → ArrayView → CopyFault → Type 
 AnswersCopy k old new (MemberFailed j) = (j ≡ k) × Fails k old new
 AnswersCopy k old new Halted = Halts k old new
 
-abbrev pub RefusesCopy : ℕ → ℕ → MirrorView → MirrorView → CopyFault → Type 0
-RefusesCopy k chunk old new Halted = HaltsCopying k chunk old new
-RefusesCopy k chunk old new (MemberFailed j) = (j ≡ k) × FailsToCopy k chunk old new
+abbrev pub RefusesCopy : ℕ → ℕ → ℕ → MirrorView → MirrorView → CopyFault → Type 0
+RefusesCopy k sector sectors old new Halted = HaltsCopying k sector sectors old new
+RefusesCopy k sector sectors old new (MemberFailed j) = (j ≡ k) × FailsToCopy k sector sectors old new
 
 -- ---- a run of sectors is its sectors, one after another
 -- The write was done. What a crash within it leaves is said of the run's write, which is one.

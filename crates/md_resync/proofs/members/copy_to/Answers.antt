@@ -1,4 +1,4 @@
-use Rattle.std.proofs.Common.{◌≡◌, ◌/◌, true, arith, subst, sym}
+use Rattle.std.proofs.Common.{◌≡◌, ◌/◌, true, length, arith, subst, sym}
 use Rattle.md_array.specs.Steps.CopyData.{IfCopyingFailed}
 use Rattle.md_array.specs.Events.{Happens}
 use Rattle.md_assembly.specs.States.{is_in_sync}
@@ -71,11 +71,11 @@ returns-in-Err-MemberFailed g c =
     let read = c.is_known_to_hold.ensures in
     let mid = c.is_known_to_hold.new.mirror in
     let new = c.copy_data.new.self in
-    let chunk = c.args.sector / mid.array.chunks.sectors in
+    let n = length c.args.bytes.now / 512 in
     let Among = IsAmong c.args.sector c.args.bytes.now in
     loses_then Among at.j old mid new (copies_read Among old mid read.rests c.requires.sound)
-    (loses_copying c.args.k chunk mid new at.j (subst (RefusesCopy c.args.k chunk mid new) at.field-0-is at.ensures.gives)
-    (subst (IfCopyingFailed (Happens mid (Event.WriteFails c.args.k (MemberPart.CopiedChunk chunk)) new)) at.field-0-is at.ensures.event) at.ensures.sound)
+    (loses_copying c.args.k c.args.sector n mid new at.j (subst (RefusesCopy c.args.k c.args.sector n mid new) at.field-0-is at.ensures.gives)
+    (subst (IfCopyingFailed (Happens mid (Event.WriteFails c.args.k (MemberPart.CopiedSectors c.args.sector n)) new)) at.field-0-is at.ensures.event) at.ensures.sound)
 
 pub returns-in-Err-Halted : goal.returns-in-Err-Halted
 returns-in-Err-Halted g c =
@@ -84,7 +84,7 @@ returns-in-Err-Halted g c =
     let read = c.is_known_to_hold.ensures in
     let mid = c.is_known_to_hold.new.mirror in
     let new = c.copy_data.new.self in
-    let chunk = c.args.sector / mid.array.chunks.sectors in
+    let n = length c.args.bytes.now / 512 in
     let Among = IsAmong c.args.sector c.args.bytes.now in
     halts_then Among old mid new (copies_read Among old mid read.rests c.requires.sound)
-    (halts_copying c.args.k chunk mid new read.sound (subst (RefusesCopy c.args.k chunk mid new) at.field-0-is at.ensures.gives) at.ensures.sound)
+    (halts_copying c.args.k c.args.sector n mid new read.sound (subst (RefusesCopy c.args.k c.args.sector n mid new) at.field-0-is at.ensures.gives) at.ensures.sound)

@@ -1,4 +1,4 @@
-use Rattle.std.proofs.Common.{◌≡◌, ◌/◌, ◌∙◌, List, map, subst}
+use Rattle.std.proofs.Common.{◌≡◌, ◌/◌, ◌∙◌, List, length, map, subst}
 use Rattle.std.specs.Prelude.{Some, slice_get}
 use Rattle.std.proofs.lemmas.List.{with_items_is}
 use Rattle.md_state.specs.View.{Disk, MirrorView, disk_of}
@@ -25,12 +25,12 @@ returns-then-is_err g c =
     let same = with_items_is c.self.inside.devices c.put_on.new.devices (c.put_on.auto.devices ∙ c.deref_mut.ensures.len) in
     let refused = refuses_copy _ v c.self.view_is c.args.k c.args.sector c.args.bytes.now copy c.own.result.now own after c.copy_failed.new.self c.copy_failed.result
     (rw c.deref_mut.ensures.value at failed) c.copy_failed.ensures in
-    let chunk = c.args.sector / v.array.chunks.sectors in
+    let many = length c.args.bytes.now / 512 in
     rw same (record {
       gives = refused;
-      event = refused_copy_event c.args.k chunk v _ c.requires.sound c.copy_failed.result refused;
-      sound = refused_copy_sound c.args.k chunk v _ c.requires.sound c.copy_failed.result refused;
-      pending = refused_copy_pending c.args.k chunk v _ c.requires.sound c.copy_failed.result refused;
+      event = refused_copy_event c.args.k c.args.sector many v _ c.requires.sound c.copy_failed.result refused;
+      sound = refused_copy_sound c.args.k c.args.sector many v _ c.requires.sound c.copy_failed.result refused;
+      pending = refused_copy_pending c.args.k c.args.sector many v _ c.requires.sound c.copy_failed.result refused;
     })
 
 pub returns : goal.returns
