@@ -640,6 +640,17 @@ CASES = [
         ],
     ),
     (
+        "looked at as grown",
+        {"a": WITHOUT_BITMAP},
+        [
+            Step("assemble --readonly a", fault="Assemble NoBitmap 0"),
+            Step("assemble --readonly --bitmap external a", fault="BadBitmap"),
+            Step("assemble --readonly --bitmap internal a", "in sync 1 of 2, events 11, marked 0\n", told=UNNAMED % (1, 1)),
+            Step("grow --bitmap internal a", "in sync 1 of 2, events 11, marked 0\n", changes="a"),
+            Step("assemble --readonly --bitmap internal a", "in sync 1 of 2, events 11, marked 0\n", told=UNNAMED % (1, 1)),
+        ],
+    ),
+    (
         "grow, an array that was not stopped",
         {"a": members.with_superblock(WITHOUT_BITMAP, resync_offset=0), "b": members.with_superblock(OTHER, feature_map=0, resync_offset=0, events=8)},
         [

@@ -63,6 +63,7 @@ AGAIN = {
     "md_array::Mirror::begin": ("step_tests", "steps::writes::writes_by_steps", "begin"),
     "md_array::Mirror::missing": ("step_tests", "members::leaving::members_leave", "missing"),
     "md_array::Mirror::note_bad": ("step_tests", "members::listing::lists_grow", "note_bad"),
+    "md_array::Mirror::note_bad_sectors": ("step_tests", "members::listing::lists_grow", "note_bad_sectors"),
     "md_array::Mirror::re_add": ("step_tests", "members::leaving::members_leave", "re_add"),
     "md_resync::resync": ("step_tests", "steps::writes::writes_by_steps", "resync"),
     "md_write::write": ("step_tests", "members::leaving::members_leave", "write"),
@@ -155,8 +156,8 @@ TAKES_NONE = {
     "md_rebuild_table::check_rebuild",
 }
 
-# No whole call makes these yet, and no test: what is asked of their callers is not shown of one.
-UNPLAYED = {"md_array::Mirror::enrol_but_for", "md_array::Mirror::note_bad_sectors"}
+# No whole call makes these yet, and no test can show what is asked of their callers.
+UNPLAYED = {"md_array::Mirror::enrol_but_for"}
 
 NOT_SHIPPED = re.compile(r"(.*_tests|example_members|bench_parts|mdcli)$")
 TYPE = re.compile(r"^pub (?:enum|struct) (\w+)[^;{]*\{(.*?)^\}", re.M | re.S)

@@ -53,9 +53,6 @@ class Case:
     def chunk_of(self, call):
         return self.in_sync[0].chunk_of((call.place - self.data_at) // SECTOR)
 
-    def chunk_of_end(self, call):
-        return self.in_sync[0].chunk_of((call.place + call.size - 1 - self.data_at) // SECTOR)
-
     def first_of_write(self, calls):
         """The number of the first call that is of the write, and not of a resync before it."""
         if not self.resyncs_first:

@@ -1,7 +1,8 @@
 // A rebuild, a check, a read or a write that nobody watches, and a question that nobody sees.
 ghost use Rattle.std.specs.Prelude.{⊤, false};
 
-use md_cli::ReadWatch;
+use md_badblocks::Run;
+use md_cli::{FillWatch, ReadWatch};
 use md_commands::{Gate, Watch};
 use md_messages::Asker;
 
@@ -34,6 +35,14 @@ impl Watch for Silent {
     fn begins_write(&self, _sectors: u64) {}
 
     fn wrote(&self, _sectors: u64) {}
+}
+
+impl FillWatch for Silent {
+    ghost misses = { λ _ _. ⊤ };
+
+    ghost takes = { λ _ _. ⊤ };
+
+    fn lacks(&self, _missing: &[Run], _others: &[Run]) {}
 }
 
 impl ReadWatch for Silent {

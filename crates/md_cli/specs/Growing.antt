@@ -28,6 +28,15 @@ chunk_asked bitmap kib =
     if bytes_eq bitmap (codes "internal") then chunk_or_fault (bytes_of_kib kib)
     else Err (fault.Options BadBitmap)
 
+abbrev pub some_chunk : Result ℕ CommandFault → Result (Option ℕ) CommandFault
+some_chunk (Ok chunk_bytes) = Ok (Some chunk_bytes)
+some_chunk (Err why) = Err why
+
+-- what the option of a command asks for that only looks at images: nothing, or a bitmap with chunks of 64 MiB
+abbrev pub chunk_in_memory : Option Text → Result (Option ℕ) CommandFault
+chunk_in_memory None = Ok None
+chunk_in_memory (Some bitmap) = some_chunk (chunk_asked bitmap 65536)
+
 module _ {S : Type 0} (s : SinkGhosts S) (chunk_bytes : ℕ) where
   -- The members get their bitmaps, and the devices are opened and shown in a line.
   pub record ShowsGrown (before after : List Disk) (old new : S)

@@ -2,9 +2,10 @@
 ghost use Rattle.std.specs.Prelude.{ℕ};
 
 use md_commands::Watch;
+use md_read_commands::FillWatch;
 
-/// Is told of a read too, so that its progress can be shown.
-pub trait ReadWatch: Watch {
+/// Is told of a read too, so that its progress can be shown, and what it does not get.
+pub trait ReadWatch: Watch + FillWatch {
     /// It was told that so many sectors of the array are to be read. Only `begins_read` says it, so that a call of which a
     /// contract says it has told the watch.
     ghost reads: { Self → ℕ → Type 0 };

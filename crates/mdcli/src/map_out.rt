@@ -16,7 +16,7 @@ pub struct MapOut<'a> {
 }
 
 impl<'a> MapOut<'a> {
-    /// That of the words that were parsed, if they ask for one.
+    /// That of the words that were parsed, if they ask for one that is made at the end.
     pub fn of_parsed<E>(parsed: &Result<Request<'a>, E>) -> Option<MapOut<'a>> {
         let Ok(request) = parsed else {
             return None;
@@ -28,6 +28,9 @@ impl<'a> MapOut<'a> {
         let Command::Read { sector, .. } = request.command else {
             return None;
         };
+        if request.resume {
+            return None;
+        }
         let path = request.map_out?;
         Some(MapOut { path, sector })
     }
@@ -57,20 +60,36 @@ impl<'a> MapOut<'a> {
             Err(error) => Err(MapOutFault::Unwritten(error)),
         }
     }
+}
 
-    // Says why it is not made, as `run` says why a command is refused.
-    fn tell<E: Write + Sink>(&self, fault: MapOutFault, messages: Messages, err: &mut E) {
-        let _ = writeln!(err, "mdcli: {fault}");
-        if !messages.has_advice() {
-            return;
-        }
-        let _ = put_name(err, self.path);
-        let what_to_do = map_out_advice(&fault);
-        let _ = match fault {
-            MapOutFault::Unwritten(error) => writeln!(err, ": {error}; {what_to_do}"),
-            _ => writeln!(err, ": {what_to_do}"),
-        };
+/// Says why a map under this name is not made, as `run` says why a command is refused.
+pub fn tell_map_out<E: Write + Sink>(
+    fault: MapOutFault,
+    path: &str,
+    messages: Messages,
+    err: &mut E,
+) {
+    let what_to_do = map_out_advice(&fault);
+    tell_map_with_advice(fault, what_to_do, path, messages, err);
+}
+
+/// Says why this map is not made, and what to do about it.
+pub fn tell_map_with_advice<E: Write + Sink>(
+    fault: MapOutFault,
+    what_to_do: &str,
+    path: &str,
+    messages: Messages,
+    err: &mut E,
+) {
+    let _ = writeln!(err, "mdcli: {fault}");
+    if !messages.has_advice() {
+        return;
     }
+    let _ = put_name(err, path);
+    let _ = match fault {
+        MapOutFault::Unwritten(error) => writeln!(err, ": {error}; {what_to_do}"),
+        _ => writeln!(err, ": {what_to_do}"),
+    };
 }
 
 /// A map that was begun, if one is asked for. Its file stays open until it is made.
@@ -94,7 +113,7 @@ pub fn begun_map<'a, E: Write + Sink>(
             begun: Some((map, file)),
         }),
         Err(fault) => {
-            map.tell(fault, messages, err);
+            tell_map_out(fault, map.path, messages, err);
             None
         }
     }
@@ -120,7 +139,7 @@ pub fn is_map_made<E: Write + Sink>(
     match map.write(rt, &file, count, missing) {
         Ok(()) => true,
         Err(fault) => {
-            map.tell(fault, messages, err);
+            tell_map_out(fault, map.path, messages, err);
             file.take_away(rt, map.path);
             false
         }

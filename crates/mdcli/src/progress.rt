@@ -3,9 +3,11 @@ ghost use Rattle.std.specs.Prelude.{⊤};
 
 use crate::comparing::Comparing;
 use crate::copying::Copying;
+use crate::lacking::Lacking;
 use crate::read_length::ReadLength;
 use crate::write_progress::WriteProgress;
-use md_cli::ReadWatch;
+use md_badblocks::Run;
+use md_cli::{FillWatch, ReadWatch};
 use md_commands::{Gate, Watch};
 use md_files::Line;
 use md_images::Traffic;
@@ -38,13 +40,14 @@ pub struct Progress<'a> {
     comparing: Comparing,
     read_length: ReadLength,
     write_progress: WriteProgress,
+    lacking: &'a Lacking,
     // In milliseconds after the beginning, when the line may be drawn again.
     due: AtomicU64,
     is_shown: AtomicBool,
 }
 
 impl<'a> Progress<'a> {
-    pub fn new(rt: &'a HostRuntime, task: Option<LongTask>) -> Progress<'a> {
+    pub fn new(rt: &'a HostRuntime, task: Option<LongTask>, lacking: &'a Lacking) -> Progress<'a> {
         Progress {
             rt,
             task,
@@ -55,6 +58,7 @@ impl<'a> Progress<'a> {
             comparing: Comparing::new(),
             read_length: ReadLength::new(),
             write_progress: WriteProgress::new(),
+            lacking,
             due: AtomicU64::new(0),
             is_shown: AtomicBool::new(false),
         }
@@ -238,6 +242,16 @@ impl<'a> Watch for Progress<'a> {
     fn wrote(&self, sectors: u64) {
         self.write_progress.go_on(sectors);
         self.draw_if_due();
+    }
+}
+
+impl<'a> FillWatch for Progress<'a> {
+    ghost misses = { λ _ _. ⊤ };
+
+    ghost takes = { λ _ _. ⊤ };
+
+    fn lacks(&self, missing: &[Run], others: &[Run]) {
+        self.lacking.add(missing, others);
     }
 }
 
