@@ -1,9 +1,10 @@
-// A rebuild, a check, a read or a write that nobody watches, and a question that nobody sees.
+// A rebuild, a check, a read, a write or a refused request that nobody watches, and a question that nobody sees.
 ghost use Rattle.std.specs.Prelude.{⊤, false};
 
 use md_cli::ReadWatch;
 use md_commands::{Gate, Watch};
 use md_messages::Asker;
+use md_nbd::{RefusalWatch, RefusedRequest};
 
 /// Is told of a rebuild, a check, a read or a write, and says nothing of it.
 pub(crate) struct Silent;
@@ -34,6 +35,12 @@ impl Watch for Silent {
     fn begins_write(&self, _sectors: u64) {}
 
     fn wrote(&self, _sectors: u64) {}
+}
+
+impl RefusalWatch for Silent {
+    ghost has_refused = { λ _ _. ⊤ };
+
+    fn refused(&self, _refused: RefusedRequest) {}
 }
 
 impl ReadWatch for Silent {

@@ -28,6 +28,7 @@ use md_commands::{
 };
 use md_device::Device;
 use md_examine::Sink;
+use md_nbd::RefusalWatch;
 use md_read_commands::{
     has_put_all, read_array, read_array_filled, read_array_readonly, serve_array,
 };
@@ -38,7 +39,8 @@ use std::sync::Wait;
 use std::thread::Threads;
 
 /// Does a command with an opened array; the names are those of its images. The input is read by `Write`, `Serve` and
-/// `ServeWritable` alone. `Check`, `Rebuild` and `ReAdd` alone start threads, and tell the session's `watch` of their reads.
+/// `ServeWritable` alone, and these two tell the session's `watch` of each request that they refuse. `Check`, `Rebuild` and `ReAdd` alone
+/// start threads, and tell it of their reads.
 pub(crate) fn perform<
     D: Device + Drop + Send,
     T: Threads + Wait + Sync,
@@ -87,8 +89,8 @@ pub(crate) fn perform<
         } => { read_sectors(session, opened, sector, count, fill, readonly) }
         Command::Serve { fill } => serve(session, opened, fill),
         Command::ServeWritable => {
-            let input = &mut session.input;
-            serve_writable(alloc, &mut opened.mirror, input, &mut session.out)
+            let (mirror, input) = (&mut opened.mirror, &mut session.input);
+            serve_writable(alloc, mirror, watch, input, &mut session.out)
         }
         Command::Check { form, .. } => check(session, opened, form, names),
         Command::Write { sector, count } => {
@@ -262,7 +264,7 @@ fn read_filled<D: Device + Drop, T, R: Source + Drop, S: Sink + Drop, W, A: Drop
 }
 
 // Serves the array to a client. Which sectors were filled for it is noted, where they were to be.
-fn serve<D: Device + Drop, T, R: Source + Drop, S: Sink + Drop, W, A: Drop>(
+fn serve<D: Device + Drop, T, R: Source + Drop, S: Sink + Drop, W: RefusalWatch, A: Drop>(
     session: &mut Session<'_, T, R, S, W, A>,
     opened: &mut Opened<D>,
     fill: bool,
@@ -277,9 +279,9 @@ fn serve<D: Device + Drop, T, R: Source + Drop, S: Sink + Drop, W, A: Drop>(
     ensures unasked { session.new.asker ≡ session.old.asker }
     ensures flushed { IfOk result (λ _. S.is_flushed session.new.out) }
 {
-    let (alloc, mirror) = (session.alloc, &mut opened.mirror);
+    let (alloc, watch, mirror) = (session.alloc, session.watch, &mut opened.mirror);
     let (input, out) = (&mut session.input, &mut session.out);
-    let (gaps, served) = serve_array(alloc, mirror, fill, input, out);
+    let (gaps, served) = serve_array(alloc, mirror, fill, watch, input, out);
     if fill {
         session.gaps = Some(gaps);
     }

@@ -1,10 +1,11 @@
-// What is told of a read.
+// What is told of a read, and of refused requests.
 ghost use Rattle.std.specs.Prelude.{ℕ};
 
 use md_commands::Watch;
+use md_nbd::RefusalWatch;
 
-/// Is told of a read too, so that its progress can be shown.
-pub trait ReadWatch: Watch {
+/// Is told of a read too, so that its progress can be shown, and of requests that `serve` refuses.
+pub trait ReadWatch: Watch + RefusalWatch {
     /// It was told that so many sectors of the array are to be read. Only `begins_read` says it, so that a call of which a
     /// contract says it has told the watch.
     ghost reads: { Self → ℕ → Type 0 };

@@ -59,8 +59,9 @@ pub(crate) const REFUSED: u8 = 1;
 /// By `scan` the images are looked at one after another, and `err` gets a line for each that shows no member: what it shows is
 /// `ScansImages` (`specs/Scanning.antt`).
 ///
-/// The session's watch is told of a rebuild, by `rebuild` and `re-add`, and of a check, whose workers its `rt` starts. It is
-/// asked before a command overwrites what perhaps should stay; where the answer is not yes the command is refused.
+/// The session's watch is told of a rebuild, by `rebuild` and `re-add`, of a check, whose workers its `rt` starts, and of each
+/// request that `serve` answers with an error. The asker is asked before a command overwrites what perhaps should stay; where the answer
+/// is not yes the command is refused.
 pub fn run<
     'a,
     I: Images,

@@ -45,7 +45,7 @@ fn read_given<D: Device + Drop>(
 {
     match read_by(mirror, way, sector, buf) {
         Ok(()) => Ok(()),
-        Err(_) => Err(StoreFault),
+        Err(unread) => Err(StoreFault::Lacks(unread.sector)),
     }
 }
 
@@ -77,7 +77,7 @@ fn read_filled<D: Device + Drop>(
     fill_piece(mirror, way, sector, buf, holes);
     match note_all(alloc, noted, holes) {
         Ok(()) => Ok(()),
-        Err(AllocError) => Err(StoreFault),
+        Err(AllocError) => Err(StoreFault::NoMemory),
     }
 }
 
@@ -117,7 +117,7 @@ impl<D: Device + Drop> Store<Mirror<D>> for ArrayReader {
 
     // The export says that it is only read, so that none comes here.
     fn write(&mut self, _: &mut Mirror<D>, _: u64, _: &[u8], _: bool) -> Result<(), StoreFault> {
-        Err(StoreFault)
+        Err(StoreFault::NotWritten)
     }
 
     fn flush(&mut self, _: &mut Mirror<D>) -> Result<(), StoreFault> {

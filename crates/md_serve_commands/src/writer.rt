@@ -10,7 +10,7 @@ use md_array::{BeginFault, Mirror};
 use md_device::Device;
 use md_metadata::{StopFault, stop};
 use md_nbd::{Store, StoreFault};
-use md_read::read;
+use md_read::{UnreadFault, read};
 use md_write::write;
 use std::alloc::{AllocError, Global};
 
@@ -79,7 +79,7 @@ impl ArrayWriter {
         self.wrote = true;
         match self.run.extend_from_slice(bytes) {
             Ok(()) => Ok(()),
-            Err(AllocError) => Err(StoreFault),
+            Err(AllocError) => Err(StoreFault::NoMemory),
         }
     }
 
@@ -120,6 +120,23 @@ impl ArrayWriter {
     }
 }
 
+// Why what was to be written is not, or not surely.
+fn unwritten(fault: BeginFault) -> StoreFault {
+    match fault {
+        BeginFault::Halted => StoreFault::Halted,
+        BeginFault::NoMemory => StoreFault::NoMemory,
+        _ => StoreFault::NotWritten,
+    }
+}
+
+// Why sectors are not read.
+fn unread(fault: UnreadFault) -> StoreFault {
+    match fault {
+        UnreadFault::Unreadable(sector) => StoreFault::Lacks(sector),
+        _ => StoreFault::Halted,
+    }
+}
+
 // Clears the marks of what was written, which stands. Where they aren't cleared it stands all the same, unless the mirror is halted.
 fn clear_marks<D: Device + Drop>(mirror: &mut Mirror<D>) -> Result<(), StoreFault>
     requires sound { IsConsistent mirror.old }
@@ -129,11 +146,11 @@ fn clear_marks<D: Device + Drop>(mirror: &mut Mirror<D>) -> Result<(), StoreFaul
     ensures sound { IsConsistent mirror.new }
 {
     if mirror.halted() {
-        return Err(StoreFault);
+        return Err(StoreFault::Halted);
     }
     match stop(mirror) {
         Ok(()) => Ok(()),
-        Err(StopFault::Halted) => Err(StoreFault),
+        Err(StopFault::Halted) => Err(StoreFault::Halted),
         Err(_) => Ok(()),
     }
 }
@@ -167,11 +184,11 @@ impl<D: Device + Drop> Store<Mirror<D>> for ArrayWriter {
     ) -> Result<(), StoreFault> {
         match self.write_waiting(lent) {
             Ok(()) => {}
-            Err(_) => return Err(StoreFault),
+            Err(fault) => return Err(unwritten(fault)),
         }
         match read(lent, sector, buf) {
             Ok(()) => Ok(()),
-            Err(_) => Err(StoreFault),
+            Err(fault) => Err(unread(fault)),
         }
     }
 
@@ -184,20 +201,20 @@ impl<D: Device + Drop> Store<Mirror<D>> for ArrayWriter {
         through: bool,
     ) -> Result<(), StoreFault> {
         if lent.halted() {
-            return Err(StoreFault);
+            return Err(StoreFault::Halted);
         }
         if !through && self.is_followed(sector, bytes.len()) {
             return self.join(bytes);
         }
         match self.write_waiting(lent) {
             Ok(()) => {}
-            Err(_) => return Err(StoreFault),
+            Err(fault) => return Err(unwritten(fault)),
         }
         if through || bytes.len() > MOST_WAITING {
             self.wrote = true;
             return match write(lent, sector, bytes) {
                 Ok(()) => Ok(()),
-                Err(_) => Err(StoreFault),
+                Err(fault) => Err(unwritten(fault)),
             };
         }
         self.start = sector;
@@ -208,11 +225,11 @@ impl<D: Device + Drop> Store<Mirror<D>> for ArrayWriter {
     // each 64 that came after writes.
     fn flush(&mut self, lent: &mut Mirror<D>) -> Result<(), StoreFault> {
         if lent.halted() {
-            return Err(StoreFault);
+            return Err(StoreFault::Halted);
         }
         match self.write_waiting(lent) {
             Ok(()) => {}
-            Err(_) => return Err(StoreFault),
+            Err(fault) => return Err(unwritten(fault)),
         }
         if self.keeps_marks() {
             return Ok(());

@@ -25,6 +25,7 @@ mod progress;
 mod prompt;
 mod random;
 mod read_length;
+mod refused_requests;
 mod standard_input;
 mod write_progress;
 
@@ -85,7 +86,7 @@ fn main(rt: HostRuntime) -> ExitCode {
     } else {
         Messages::Plain
     };
-    let progress = Progress::new(&rt, task);
+    let progress = Progress::new(&rt, task, is_verbose);
     // Output that goes elsewhere leaves the line as it is.
     let is_beside = rt.stdout().is_terminal();
     let standard = Cleared::new(io::writer(&rt), &progress, is_beside);

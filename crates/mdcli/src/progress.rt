@@ -4,11 +4,13 @@ ghost use Rattle.std.specs.Prelude.{⊤};
 use crate::comparing::Comparing;
 use crate::copying::Copying;
 use crate::read_length::ReadLength;
+use crate::refused_requests::RefusedRequests;
 use crate::write_progress::WriteProgress;
 use md_cli::ReadWatch;
 use md_commands::{Gate, Watch};
-use md_files::Line;
+use md_files::{Cleared, Line};
 use md_images::Traffic;
+use md_nbd::{RefusalWatch, RefusedRequest};
 use md_words::LongTask;
 use std::alloc::AllocError;
 use std::io::Write;
@@ -38,13 +40,15 @@ pub struct Progress<'a> {
     comparing: Comparing,
     read_length: ReadLength,
     write_progress: WriteProgress,
+    refused: RefusedRequests,
     // In milliseconds after the beginning, when the line may be drawn again.
     due: AtomicU64,
     is_shown: AtomicBool,
 }
 
 impl<'a> Progress<'a> {
-    pub fn new(rt: &'a HostRuntime, task: Option<LongTask>) -> Progress<'a> {
+    /// Refused requests are shown where `shows_refused` says so.
+    pub fn new(rt: &'a HostRuntime, task: Option<LongTask>, shows_refused: bool) -> Progress<'a> {
         Progress {
             rt,
             task,
@@ -55,6 +59,7 @@ impl<'a> Progress<'a> {
             comparing: Comparing::new(),
             read_length: ReadLength::new(),
             write_progress: WriteProgress::new(),
+            refused: RefusedRequests::new(shows_refused),
             due: AtomicU64::new(0),
             is_shown: AtomicBool::new(false),
         }
@@ -238,6 +243,15 @@ impl<'a> Watch for Progress<'a> {
     fn wrote(&self, sectors: u64) {
         self.write_progress.go_on(sectors);
         self.draw_if_due();
+    }
+}
+
+impl<'a> RefusalWatch for Progress<'a> {
+    ghost has_refused = { λ _ _. ⊤ };
+
+    fn refused(&self, refused: RefusedRequest) {
+        let mut err = Cleared::new(self.rt.stderr(), self, true);
+        let _ = self.refused.tell(&mut err, &refused);
     }
 }
 

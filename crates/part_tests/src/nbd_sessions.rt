@@ -4,7 +4,10 @@ ghost use Rattle.std.specs.Prelude.{◌/◌, None, false, length, ⊤};
 use crate::checks::{holds, same};
 use md_commands::{Source, SourceFault};
 use md_examine::{Sink, SinkFault};
-use md_nbd::{Export, Gone, Haggled, SessionEnd, Store, StoreFault, haggle, serve_client};
+use md_nbd::{
+    Export, Gone, Haggled, RefusalWatch, RefusedRequest, SessionEnd, Store, StoreFault, haggle,
+    serve_client,
+};
 use std::test::Fail;
 
 // Gives these bytes, at most seven at a time.
@@ -132,6 +135,15 @@ impl Store<Vec<u8>> for Plain {
     }
 }
 
+// Is told of refused requests, and says nothing of them.
+pub(crate) struct Silent;
+
+impl RefusalWatch for Silent {
+    ghost has_refused = { λ _ _. ⊤ };
+
+    fn refused(&self, _refused: RefusedRequest) {}
+}
+
 // The flags and GO of libnbd, a WRITE of the sector 1, a READ of the sectors 0 and 1, and DISC.
 const OPENING: [u8; 28] = [
     0, 0, 0, 3, 0x49, 0x48, 0x41, 0x56, 0x45, 0x4f, 0x50, 0x54, 0, 0, 0, 7, 0, 0, 0, 8, 0, 0, 0, 0,
@@ -176,6 +188,7 @@ fn serves_a_client(rt: HostRuntime) -> Result<(), Fail> {
         &export,
         &mut Plain,
         &mut store,
+        &Silent,
         &mut buf,
         &mut input,
         &mut out,

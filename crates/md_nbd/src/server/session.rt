@@ -9,6 +9,7 @@ use crate::number_fields::u32_of;
 use crate::server::agreement::{HaggleFault, Haggled, haggle};
 use crate::server::filling_front::fill_front;
 use crate::server::putting::put;
+use crate::server::refusal::RefusalWatch;
 use crate::server::store::Store;
 use crate::server::transmission::{Gone, StreamFault, answer_requests};
 use md_commands::Source;
@@ -109,11 +110,12 @@ fn greet<I: Source, O: Sink>(
 
 /// Serves one client, from the greeting on until it goes, and says how the session ended. What is read and written stands in
 /// `buf`, which gets room for it, and so do the options; an answer to an option takes memory while it is put out.
-pub fn serve_client<M, S: Store<M>, I: Source, O: Sink>(
+pub fn serve_client<M, S: Store<M>, W: RefusalWatch, I: Source, O: Sink>(
     alloc: Global,
     export: &Export,
     store: &mut S,
     lent: &mut M,
+    watch: &W,
     buf: &mut Vec<u8>,
     input: &mut I,
     out: &mut O,
@@ -137,6 +139,6 @@ pub fn serve_client<M, S: Store<M>, I: Source, O: Sink>(
         Haggled::Agreed => {}
         why => return Ok(SessionEnd::Unagreed(why)),
     }
-    let gone = answer_requests(alloc, export, store, lent, buf, input, out)?;
+    let gone = answer_requests(alloc, export, store, lent, watch, buf, input, out)?;
     Ok(SessionEnd::Gone(gone))
 }

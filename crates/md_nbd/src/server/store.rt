@@ -1,9 +1,17 @@
 // What is served.
 ghost use Rattle.std.specs.Prelude.{◌≡◌, ◌+◌, ◌/◌, ◌%◌, ◌<◌, ◌≤◌, Bool, List, ℕ, MatchResult, length};
 
-/// A sector can't be read, or a write or a flush was not done, or not surely.
+/// Why sectors are not read, or a write or a flush was not done, or not surely.
 #[derive(Clone, Copy, Debug, PartialEq, Eq)]
-pub struct StoreFault;
+pub enum StoreFault {
+    /// Nothing is done any more.
+    Halted,
+    /// This sector is not given. It is the first of them.
+    Lacks(u64),
+    NoMemory,
+    /// It can't be written, nor what was written before and waits.
+    NotWritten,
+}
 
 /// Sectors of 512 bytes that are read and written, as those of a mirror: it is lent to each call, and the store keeps only how it is
 /// used and what is noted of that. What a call has done is said by relations, from both of them before to both after.

@@ -8,6 +8,7 @@ ghost use Rattle.md_nbd.specs.Server.Transmission.{BreaksOff, Transmits};
 
 use crate::export::Export;
 use crate::request::Request;
+use crate::server::refusal::{RefusalWatch, task_fault};
 use crate::server::request_taken::take_request;
 use crate::server::store::Store;
 use crate::server::tasks_done::{do_flush, do_read, do_refuse, do_write};
@@ -45,10 +46,11 @@ pub enum StreamFault {
 }
 
 // Does what a request asks for, and answers: false where it asks the server to go.
-fn answer<M, S: Store<M>, O: Sink>(
+fn answer<M, S: Store<M>, W: RefusalWatch, O: Sink>(
     export: &Export,
     store: &mut S,
     lent: &mut M,
+    watch: &W,
     request: &Request,
     buf: &mut [u8],
     out: &mut O,
@@ -65,18 +67,20 @@ fn answer<M, S: Store<M>, O: Sink>(
     ensures sound { S.is_sound (store.new, lent.new) }
     ensures size { S.sectors (store.new, lent.new) ≡ S.sectors (store.old, lent.old) }
 {
-    let cookie = request.cookie;
     match task_of(export, request) {
         Task::Read(sector, sectors) => {
             let room = &mut buf[..512 * sectors as usize];
-            do_read(store, lent, out, cookie, sector, room)?;
+            do_read(store, lent, watch, out, request, sector, room)?;
         }
         Task::Write(sector, sectors, through) => {
             let bytes = &buf[..512 * sectors as usize];
-            do_write(store, lent, out, cookie, sector, bytes, through)?;
+            do_write(store, lent, watch, out, request, sector, bytes, through)?;
         }
-        Task::Flush => do_flush(store, lent, out, cookie)?,
-        Task::Refuse(error) => do_refuse(store, lent, out, cookie, error)?,
+        Task::Flush => do_flush(store, lent, watch, out, request)?,
+        Task::Refuse(error) => {
+            let fault = task_fault(export, request);
+            do_refuse(store, lent, watch, out, request, fault, error)?;
+        }
         Task::Disconnect => return Ok(false),
     }
     Ok(true)
@@ -85,12 +89,15 @@ fn answer<M, S: Store<M>, O: Sink>(
 /// Takes requests and answers them, one after another, until the client goes, and says why no more come. What is read and written
 /// stands in `buf`, which gets room for that, 32 MiB at most: the server takes no other memory.
 ///
+/// The watch is told of each request that is answered with an error, before the answer.
+///
 /// The export may be smaller than the store, and none of its requests goes past it. Where a stream fails no reply is made up for what was not told.
-pub fn answer_requests<M, S: Store<M>, I: Source, O: Sink>(
+pub fn answer_requests<M, S: Store<M>, W: RefusalWatch, I: Source, O: Sink>(
     alloc: Global,
     export: &Export,
     store: &mut S,
     lent: &mut M,
+    watch: &W,
     buf: &mut Vec<u8>,
     input: &mut I,
     out: &mut O,
@@ -108,7 +115,7 @@ pub fn answer_requests<M, S: Store<M>, I: Source, O: Sink>(
             Ok(request) => request,
             Err(gone) => return Ok(gone),
         };
-        match answer(export, store, lent, &request, buf, out) {
+        match answer(export, store, lent, watch, &request, buf, out) {
             Ok(true) => {}
             Ok(false) => return Ok(Gone::Disconnected),
             Err(SinkFault) => return Err(StreamFault::Sink),

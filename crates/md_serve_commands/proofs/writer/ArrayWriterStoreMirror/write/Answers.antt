@@ -17,5 +17,5 @@ returns-in-Err-write-clause-gives g c = inr (inr (inr (record {
   mid = c.write_waiting.new.mirror;
   waited = c.in-Ok.ensures.gives;
   none = c.in-Ok.ensures.none;
-  refused = record { fault = c.in-Err-write.field-0; refused = c.in-Err-write.ensures.gives; pending = c.in-Err-write.ensures.pending };
+  refused = record { fault = c.in-Err-write.fault; refused = c.in-Err-write.ensures.gives; pending = c.in-Err-write.ensures.pending };
 })))

@@ -1,0 +1,11 @@
+use Rattle.std.proofs.Common.{[], refl, inr}
+use Rattle.md_nbd.specs.declared.reply.ErrorCode.TheVariants.{Io}
+use Rattle.md_nbd.specs.declared.task.Task.TheVariants.{Flush as FlushTask}
+use Rattle.md_nbd.specs.SimpleReplies.{error_reply}
+use Rattle.md_nbd.proofs.ServerLemmas.ToldReplies.{tells_as}
+use Rattle.md_nbd.proofs.server.tasks_done.do_flush.Goals as goal
+
+pub returns-in-Err-clause-tells : goal.returns-in-Err-clause-tells
+returns-in-Err-clause-tells g c =
+    tells_as g.S.Store g.O.Sink FlushTask c.args.request.now.cookie [] (error_reply Io c.args.request.now.cookie) (error_reply Io c.args.request.now.cookie)
+    (c.args.store.now, c.args.lent.now) (c.flush.new.self, c.flush.new.lent) c.args.out.now c.refuse.new.out c.refuse.result refl (inr (c.in-Err.ensures.gives, refl)) c.refuse.ensures.puts
