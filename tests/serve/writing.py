@@ -34,6 +34,8 @@ from scene import (
 )
 
 KILLED = -9
+# In seconds, and some more than after which the marks are cleared.
+REST = 6
 # A chunk of these arrays has 128 sectors.
 FLUSH = nbd.request(nbd.FLUSH, 0, 0, 5)
 
@@ -87,6 +89,7 @@ def check_all(tally, scratch):
     check_session(tally, pair)
     check_cuts(tally, pair, folder)
     check_streams(tally, pair)
+    check_rest(tally, pair)
     check_beside(tally, pair)
     check_other_arrays(tally, folder)
     check_memory(tally, folder)
@@ -219,6 +222,28 @@ def check_streams(tally, pair):
     got = (done.returncode, done.stdout, done.stderr)
     reasons = [] if got == (1, nbd.GREETING, b"mdcli: InputFault\n") else [repr(got)]
     tally.judge("writing: an input that can't be read", reasons + pair.against(pair.data))
+
+
+def check_rest(tally, pair):
+    """The first request after a rest clears the marks of what was written before, and not those of a client that is not silent."""
+    reasons = []
+    for seconds, flushed, wanted in ((0, FLUSH, {0}), (REST, FLUSH, set()), (REST, b"", set())):
+        served = Served(["serve", *pair.fresh().paths])
+        stream = OPENING + write_of(7, new(1)) + flushed
+        got = served.tell(stream, len(answers(pair, stream)[1]))
+        time.sleep(seconds)
+        last = read_of(7)
+        got += served.tell(last, len(answers(pair, stream + last)[1]) - len(got))
+        served.process.kill()
+        served.leave()
+        if got != answers(pair, stream + last)[1]:
+            reasons.append("other bytes after %d seconds" % seconds)
+        found = pair.found()
+        if found.marks != wanted:
+            reasons.append("%r are marked after %d seconds" % (sorted(found.marks), seconds))
+        data = pair.data[: 7 * SECTOR] + new(1) + pair.data[8 * SECTOR :]
+        reasons += ["member %d has other bytes" % member.number for member in found.in_sync if member.data() != data]
+    tally.judge("writing: a client that is silent", reasons)
 
 
 def check_beside(tally, pair):

@@ -4,7 +4,7 @@ ghost use Rattle.std.specs.Prelude.{⊤, false};
 use md_cli::ReadWatch;
 use md_commands::{Gate, Watch};
 use md_messages::Asker;
-use md_nbd::{RefusalWatch, RefusedRequest};
+use md_nbd::{ClientWatch, RefusedRequest};
 
 /// Is told of a rebuild, a check, a read or a write, and says nothing of it.
 pub(crate) struct Silent;
@@ -37,10 +37,14 @@ impl Watch for Silent {
     fn wrote(&self, _sectors: u64) {}
 }
 
-impl RefusalWatch for Silent {
+impl ClientWatch for Silent {
     ghost has_refused = { λ _ _. ⊤ };
 
     fn refused(&self, _refused: RefusedRequest) {}
+
+    fn has_rested(&self) -> bool {
+        false
+    }
 }
 
 impl ReadWatch for Silent {

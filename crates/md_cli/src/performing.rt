@@ -28,7 +28,7 @@ use md_commands::{
 };
 use md_device::Device;
 use md_examine::Sink;
-use md_nbd::RefusalWatch;
+use md_nbd::ClientWatch;
 use md_read_commands::{
     has_put_all, read_array, read_array_filled, read_array_readonly, serve_array,
 };
@@ -264,7 +264,7 @@ fn read_filled<D: Device + Drop, T, R: Source + Drop, S: Sink + Drop, W, A: Drop
 }
 
 // Serves the array to a client. Which sectors were filled for it is noted, where they were to be.
-fn serve<D: Device + Drop, T, R: Source + Drop, S: Sink + Drop, W: RefusalWatch, A: Drop>(
+fn serve<D: Device + Drop, T, R: Source + Drop, S: Sink + Drop, W: ClientWatch, A: Drop>(
     session: &mut Session<'_, T, R, S, W, A>,
     opened: &mut Opened<D>,
     fill: bool,

@@ -2,10 +2,10 @@
 ghost use Rattle.std.specs.Prelude.{ℕ};
 
 use md_commands::Watch;
-use md_nbd::RefusalWatch;
+use md_nbd::ClientWatch;
 
 /// Is told of a read too, so that its progress can be shown, and of requests that `serve` refuses.
-pub trait ReadWatch: Watch + RefusalWatch {
+pub trait ReadWatch: Watch + ClientWatch {
     /// It was told that so many sectors of the array are to be read. Only `begins_read` says it, so that a call of which a
     /// contract says it has told the watch.
     ghost reads: { Self → ℕ → Type 0 };

@@ -98,6 +98,7 @@ reader_store = record {
   unwritten = λ p q sector bytes. q ≡ p;
   flushes = λ p q. q ≡ p;
   unflushed = λ p q. ⊥;
+  rests = λ p q. q ≡ p;
 }
 
 -- what clients are told of it: all of it, only to be read

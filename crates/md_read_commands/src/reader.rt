@@ -101,6 +101,8 @@ impl<D: Device + Drop> Store<Mirror<D>> for ArrayReader {
 
     ghost unflushed = { λ _ _. ⊥ };
 
+    ghost rests = { λ p q. q ≡ p };
+
     fn read(
         &mut self,
         lent: &mut Mirror<D>,
@@ -121,6 +123,10 @@ impl<D: Device + Drop> Store<Mirror<D>> for ArrayReader {
     }
 
     fn flush(&mut self, _: &mut Mirror<D>) -> Result<(), StoreFault> {
+        Ok(())
+    }
+
+    fn rest(&mut self, _: &mut Mirror<D>) -> Result<(), StoreFault> {
         Ok(())
     }
 }

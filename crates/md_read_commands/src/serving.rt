@@ -14,7 +14,7 @@ use md_array::Mirror;
 use md_commands::{CommandFault, Source};
 use md_device::Device;
 use md_examine::Sink;
-use md_nbd::{Export, MOST_BYTES, RefusalWatch, SessionFault, serve_client};
+use md_nbd::{ClientWatch, Export, MOST_BYTES, SessionFault, serve_client};
 use std::alloc::Global;
 
 // The room for requests at first, in sectors: what a client's options need, and the requests of most clients.
@@ -35,7 +35,7 @@ const MOST_SECTORS: usize = MOST_BYTES as usize / 512;
 /// `InputFault` says that the input failed, or that the client did not go between two messages, `OutputFault` that the output
 /// failed. `Read` with `Unreadable` says that sectors were filled so, and which was the first of them: the client has gone in order
 /// then.
-pub fn serve_array<D: Device + Drop, W: RefusalWatch, I: Source, S: Sink>(
+pub fn serve_array<D: Device + Drop, W: ClientWatch, I: Source, S: Sink>(
     alloc: Global,
     mirror: &mut Mirror<D>,
     fill: bool,
@@ -88,7 +88,7 @@ fn begin<D: Device + Drop>(
 }
 
 // Serves a client.
-fn serve<D: Device + Drop, W: RefusalWatch, I: Source, S: Sink>(
+fn serve<D: Device + Drop, W: ClientWatch, I: Source, S: Sink>(
     alloc: Global,
     mirror: &mut Mirror<D>,
     reader: &mut ArrayReader,

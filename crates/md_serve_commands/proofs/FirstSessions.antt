@@ -1,5 +1,5 @@
 -- A new array that is resynced has a life in which sessions are told of.
-use Rattle.std.proofs.Common.{◌≡◌, ◌∙◌, inl, false, List, [], ◌∷◌, ◌++◌, refl, sym, ap, subst}
+use Rattle.std.proofs.Common.{◌≡◌, ◌∙◌, inl, true≢false, false, List, [], ◌∷◌, ◌++◌, refl, sym, ap, subst}
 use Rattle.md_model.specs.Content.{Content}
 use Rattle.md_model.specs.Events.{Event}
 use Rattle.md_state.specs.View.{ArrayView, Disk, MirrorView, geometry_of}
@@ -88,7 +88,7 @@ module _ (new : MirrorView) (running : new.array.halted ≡ false) (none : AreNo
 
   flushed_alone : MayBeFlushed new none e w x
   flushed_alone = record {
-    answers = ((w, new), record { payload = flush.whole; does = done_so.0 }, refl);
+    answers = ((w, new), record { payload = flush.whole; does = done_so.0; rested = λ is. absurd (true≢false (sym is ∙ flush.asked)) }, refl);
     stands = (subst IsToStand (sym flush.flush) tt, flush.told);
     whole = (done_so.1, tt);
   }

@@ -35,6 +35,7 @@ pub record HasComeTo (before : List Disk) (m new : MirrorView) : Type 0 where
 
 -- The request is a flush, which came whole and was answered without an error.
 pub record IsFlushDone (e : Export) (x : Exchange) : Type 0 where
+  pub asked : x.at_rest ≡ false
   pub flush : task_of e x.request ≡ Flush
   pub whole : length x.payload ≡ payload_of x.request
   pub told : x.reply ≡ success_reply x.request.cookie

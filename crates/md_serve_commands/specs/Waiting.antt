@@ -179,6 +179,13 @@ module _ (p q : ArrayWriter × MirrorView) where
     pub none : q.0.run.items ≡ []
     pub marks : (q.1 ≡ mid) ⊎ ClearsMarks mid q.1
 
+  -- What waited was written, and all stands, as by a flush, but the marks of it are not kept.
+  pub record RestsAll : Type 0 where
+    pub mid : MirrorView
+    pub waited : WritesWaiting p.0 p.1 mid
+    pub none : q.0.run.items ≡ []
+    pub marks : ClearsMarks mid q.1
+
   pub record HaltsAtMarks : Type 0 where
     pub mid : MirrorView
     pub waited : WritesWaiting p.0 p.1 mid
@@ -199,4 +206,5 @@ writer_store = record {
   unwritten = λ p q sector bytes. FailsToTake p q sector bytes;
   flushes = λ p q. FlushesAll p q;
   unflushed = λ p q. FailsToFlush p q;
+  rests = λ p q. RestsAll p q;
 }

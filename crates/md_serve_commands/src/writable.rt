@@ -12,7 +12,7 @@ use md_commands::{CommandFault, Source, resync_if_needed};
 use md_device::Device;
 use md_examine::Sink;
 use md_metadata::stop;
-use md_nbd::{Export, RefusalWatch, SessionFault, serve_client};
+use md_nbd::{ClientWatch, Export, SessionFault, serve_client};
 use md_read::UnreadFault;
 use std::alloc::{AllocError, Global};
 
@@ -24,7 +24,8 @@ const LEAST_ROOM: usize = 0x100000;
 ///
 /// Writes that lie together wait in memory, 16 MiB at most, and are written at once: on a flush, before a read and before any other
 /// write, where one asks for it (FUA), and at the end. Bytes that were written are on stable storage of each member in sync. A flush
-/// clears the marks now and then, as far as `stop` does. A request that is not done is answered with EIO, and the session goes on;
+/// clears the marks now and then, as far as `stop` does, and so does a rest: where the watch says that the client was silent before a
+/// request, what waits is written and the marks are cleared first. A request that is not done is answered with EIO, and the session goes on;
 /// what waits then waits still. Once the mirror is halted no request is done any more. The watch is told of each request that is answered
 /// with an error.
 ///
@@ -39,7 +40,7 @@ const LEAST_ROOM: usize = 0x100000;
 ///     let mut input = Input::new(rt.stdin());
 ///     let mut out = Output::new(rt.stdout());
 ///     serve_writable(rt.alloc(), &mut mirror, &watch, &mut input, &mut out)?;
-pub fn serve_writable<D: Device + Drop, W: RefusalWatch, I: Source, S: Sink>(
+pub fn serve_writable<D: Device + Drop, W: ClientWatch, I: Source, S: Sink>(
     alloc: Global,
     mirror: &mut Mirror<D>,
     watch: &W,
@@ -122,7 +123,7 @@ fn check_may_serve<D: Device + Drop>(mirror: &Mirror<D>) -> Result<(), UnreadFau
 }
 
 // Serves a client.
-fn serve<D: Device + Drop, W: RefusalWatch, I: Source, S: Sink>(
+fn serve<D: Device + Drop, W: ClientWatch, I: Source, S: Sink>(
     alloc: Global,
     mirror: &mut Mirror<D>,
     writer: &mut ArrayWriter,

@@ -157,7 +157,7 @@ fn clear_marks<D: Device + Drop>(mirror: &mut Mirror<D>) -> Result<(), StoreFaul
 
 impl<D: Device + Drop> Store<Mirror<D>> for ArrayWriter {
     ghost use Rattle.md_array.specs.Consistency.{IsConsistent};
-    ghost use Rattle.md_serve_commands.specs.Waiting.{FailsToFlush, FailsToRead, FailsToTake, FlushesAll, ReadsBehind, TakesWrite, WaitsWithin};
+    ghost use Rattle.md_serve_commands.specs.Waiting.{FailsToFlush, FailsToRead, FailsToTake, FlushesAll, ReadsBehind, RestsAll, TakesWrite, WaitsWithin};
 
     ghost is_sound = { λ p. IsConsistent p.1 × WaitsWithin p.0 };
 
@@ -174,6 +174,8 @@ impl<D: Device + Drop> Store<Mirror<D>> for ArrayWriter {
     ghost flushes = { λ p q. FlushesAll p q };
 
     ghost unflushed = { λ p q. FailsToFlush p q };
+
+    ghost rests = { λ p q. RestsAll p q };
 
     // What waits is written first.
     fn read(
@@ -234,6 +236,20 @@ impl<D: Device + Drop> Store<Mirror<D>> for ArrayWriter {
         if self.keeps_marks() {
             return Ok(());
         }
+        clear_marks(lent)
+    }
+
+    // As a flush that clears the marks.
+    fn rest(&mut self, lent: &mut Mirror<D>) -> Result<(), StoreFault> {
+        if lent.halted() {
+            return Err(StoreFault::Halted);
+        }
+        match self.write_waiting(lent) {
+            Ok(()) => {}
+            Err(fault) => return Err(unwritten(fault)),
+        }
+        self.wrote = false;
+        self.kept = 0;
         clear_marks(lent)
     }
 }

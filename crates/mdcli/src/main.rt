@@ -26,6 +26,7 @@ mod prompt;
 mod random;
 mod read_length;
 mod refused_requests;
+mod silence;
 mod standard_input;
 mod write_progress;
 

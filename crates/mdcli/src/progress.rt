@@ -5,12 +5,13 @@ use crate::comparing::Comparing;
 use crate::copying::Copying;
 use crate::read_length::ReadLength;
 use crate::refused_requests::RefusedRequests;
+use crate::silence::Silence;
 use crate::write_progress::WriteProgress;
 use md_cli::ReadWatch;
 use md_commands::{Gate, Watch};
 use md_files::{Cleared, Line};
 use md_images::Traffic;
-use md_nbd::{RefusalWatch, RefusedRequest};
+use md_nbd::{ClientWatch, RefusedRequest};
 use md_words::LongTask;
 use std::alloc::AllocError;
 use std::io::Write;
@@ -41,6 +42,7 @@ pub struct Progress<'a> {
     read_length: ReadLength,
     write_progress: WriteProgress,
     refused: RefusedRequests,
+    silence: Silence,
     // In milliseconds after the beginning, when the line may be drawn again.
     due: AtomicU64,
     is_shown: AtomicBool,
@@ -60,6 +62,7 @@ impl<'a> Progress<'a> {
             read_length: ReadLength::new(),
             write_progress: WriteProgress::new(),
             refused: RefusedRequests::new(shows_refused),
+            silence: Silence::new(),
             due: AtomicU64::new(0),
             is_shown: AtomicBool::new(false),
         }
@@ -246,12 +249,19 @@ impl<'a> Watch for Progress<'a> {
     }
 }
 
-impl<'a> RefusalWatch for Progress<'a> {
+impl<'a> ClientWatch for Progress<'a> {
     ghost has_refused = { λ _ _. ⊤ };
 
     fn refused(&self, refused: RefusedRequest) {
         let mut err = Cleared::new(self.rt.stderr(), self, true);
         let _ = self.refused.tell(&mut err, &refused);
+    }
+
+    fn has_rested(&self) -> bool {
+        match self.milliseconds() {
+            Some(now) => self.silence.ends(now),
+            None => false,
+        }
     }
 }
 

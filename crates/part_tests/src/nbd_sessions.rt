@@ -5,7 +5,7 @@ use crate::checks::{holds, same};
 use md_commands::{Source, SourceFault};
 use md_examine::{Sink, SinkFault};
 use md_nbd::{
-    Export, Gone, Haggled, RefusalWatch, RefusedRequest, SessionEnd, Store, StoreFault, haggle,
+    ClientWatch, Export, Gone, Haggled, RefusedRequest, SessionEnd, Store, StoreFault, haggle,
     serve_client,
 };
 use std::test::Fail;
@@ -112,6 +112,8 @@ impl Store<Vec<u8>> for Plain {
 
     ghost unflushed = { λ _ _. ⊤ };
 
+    ghost rests = { λ _ _. ⊤ };
+
     fn read(&mut self, lent: &mut Vec<u8>, sector: u64, buf: &mut [u8]) -> Result<(), StoreFault> {
         let at = 512 * sector as usize;
         buf.copy_from_slice(&lent[at..at + buf.len()]);
@@ -133,15 +135,23 @@ impl Store<Vec<u8>> for Plain {
     fn flush(&mut self, _: &mut Vec<u8>) -> Result<(), StoreFault> {
         Ok(())
     }
+
+    fn rest(&mut self, _: &mut Vec<u8>) -> Result<(), StoreFault> {
+        Ok(())
+    }
 }
 
 // Is told of refused requests, and says nothing of them.
 pub(crate) struct Silent;
 
-impl RefusalWatch for Silent {
+impl ClientWatch for Silent {
     ghost has_refused = { λ _ _. ⊤ };
 
     fn refused(&self, _refused: RefusedRequest) {}
+
+    fn has_rested(&self) -> bool {
+        true
+    }
 }
 
 // The flags and GO of libnbd, a WRITE of the sector 1, a READ of the sectors 0 and 1, and DISC.

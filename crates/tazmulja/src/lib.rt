@@ -82,7 +82,7 @@ pub use md_cli::{ReadWatch, Session, run};
 pub use md_commands::{Input, Source, Watch};
 pub use md_images::{Images, MemImages};
 pub use md_messages::{Asker, Messages};
-pub use md_nbd::{RefusalWatch, RefusedRequest};
+pub use md_nbd::{ClientWatch, RefusedRequest};
 pub use md_read_commands::Gaps;
 pub use md_words::{Request, parse};
 

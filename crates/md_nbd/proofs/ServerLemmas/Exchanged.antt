@@ -1,12 +1,16 @@
 -- Requests, as they are taken and answered one after another.
-use Rattle.std.proofs.Common.{◌≡◌, ℕ, ◌+◌, ◌-◌, ◌^◌, List, [], ◌∷◌, ◌++◌, length, length-append, take, refl, sym, ap, ◌∙◌, append_assoc, arith, true}
+use Rattle.std.proofs.Common.{◌≡◌, ℕ, ◌+◌, ◌-◌, ◌^◌, List, [], ◌∷◌, ◌++◌, length, take, refl, sym, ap, ◌∙◌, append_assoc, arith, inl, inr, true, false, true≢false, subst}
+use Rattle.std.specs.Prelude.{if◌then◌else◌}
 use Rattle.std.specs.List.{flat_map}
 use Rattle.std.proofs.lemmas.List.{append-nil, length-take-le}
 use Rattle.md_nbd.specs.declared.export.Export.{Export}
 use Rattle.md_nbd.specs.declared.request.Request.{Request}
-use Rattle.md_nbd.specs.declared.task.Task.TheVariants.{Disconnect}
-use Rattle.md_nbd.specs.NbdRequests.{payload_of, request_bytes}
+use Rattle.md_nbd.specs.declared.reply.ErrorCode.TheVariants.{Io}
+use Rattle.md_nbd.specs.declared.task.Task.{Task}
+use Rattle.md_nbd.specs.declared.task.Task.TheVariants.{Disconnect, Flush}
+use Rattle.md_nbd.specs.NbdRequests.{CMD_FLUSH, payload_of, request_bytes}
 use Rattle.md_nbd.specs.NbdTasks.{task_of}
+use Rattle.md_nbd.specs.SimpleReplies.{error_reply, success_reply}
 use Rattle.md_nbd.specs.declared.server.store.Store.{Ghosts as Stores}
 use Rattle.md_commands.specs.declared.source.Source.{Ghosts as Sources}
 use Rattle.md_examine.specs.declared.sink.Sink.{Ghosts as Sinks}
@@ -14,9 +18,9 @@ use Rattle.md_nbd.specs.declared.server.transmission.Gone.{Gone}
 use Rattle.md_nbd.specs.declared.server.transmission.Gone.TheVariants as gone
 use Rattle.md_nbd.specs.declared.server.transmission.StreamFault.{StreamFault}
 use Rattle.md_nbd.specs.declared.server.transmission.StreamFault.TheVariants as fault
-use Rattle.md_nbd.specs.Server.Exchanges.{AnswersInTurn, AnswersRequest, DoesTask, Exchange, exchange_bytes, reply_of}
+use Rattle.md_nbd.specs.Server.Exchanges.{AnswersInTurn, AnswersRequest, DoesTask, Exchange, HasRested, asked_count, exchange_bytes, reply_of}
 use Rattle.md_nbd.specs.Server.RequestsTaken.{FailsToTake, GivesNone, TakesRequest}
-use Rattle.md_nbd.specs.Server.Told.{FailsToTell, IsAskedToGo, TellsTask}
+use Rattle.md_nbd.specs.Server.Told.{FailsToTell, IsAskedToGo, MayHaveRested, TellsTask}
 use Rattle.md_nbd.specs.Server.Transmission.{BreaksOff, GivesDisconnect, HasAnswered, HasFailed, HasGone, Transmits}
 use Rattle.md_nbd.proofs.ServerLemmas.Pieces.{gives_both, gives_nothing}
 use Rattle.md_nbd.proofs.ServerLemmas.ToldReplies.{puts_both, puts_nothing}
@@ -25,13 +29,17 @@ one_more : (f : Exchange → List ℕ) (xs : List Exchange) (x : Exchange) → f
 one_more f [] x = append-nil (f x)
 one_more f (y ∷ xs) x = ap (λ (t : List ℕ). f y ++ t) (one_more f xs x) ∙ sym (append_assoc (f y) (flat_map f xs) (f x))
 
+one_more_counted : (xs : List Exchange) (x : Exchange) → asked_count (xs ++ x ∷ []) ≡ asked_count xs + (if x.at_rest then 0 else 1)
+one_more_counted [] x = omega arith
+one_more_counted (y ∷ xs) x = omega (arith, one_more_counted xs x)
+
 runs_on : {S M : Type 0} (s : Stores S M) (e : Export) (a b c : S × M) (xs : List Exchange) (x : Exchange) → AnswersInTurn s e a xs b → AnswersRequest s e b c x → AnswersInTurn s e a (xs ++ x ∷ []) c
 runs_on s e a b c [] x h k = (c, rw (← h) k, refl)
 runs_on s e a b c (y ∷ xs) x h k = (h.0, h.1, runs_on s e h.0 b c xs x h.2 k)
 
 pub record SoManyAnswered {S M I O : Type 0} (s : Stores S M) (i : Sources I) (o : Sinks O) (e : Export) (count : ℕ) (old new : S × M) (from to : I) (was now : O) : Type 0 where
   pub exchanges : List Exchange
-  pub count_is : length exchanges ≡ count
+  pub count_is : asked_count exchanges ≡ count
   pub answered : HasAnswered s i o e exchanges old new from to was now
 
 pub none_answered : {S M I O : Type 0} (s : Stores S M) (i : Sources I) (o : Sinks O) (e : Export) (old : S × M) (from : I) (was : O) → SoManyAnswered s i o e 0 old old from from was was
@@ -42,11 +50,11 @@ none_answered s i o e old from was = record {
 }
 
 abbrev pub exchange_of : Request → List ℕ → List ℕ → Exchange
-exchange_of r buf reply = record { request = r; payload = take (payload_of r) buf; reply = reply }
+exchange_of r buf reply = record { request = r; payload = take (payload_of r) buf; reply = reply; at_rest = false }
 
 request_answered : {S M I : Type 0} (s : Stores S M) (i : Sources I) (e : Export) (mid new : S × M) (at to : I) (r : Request) (buf reply : List ℕ) → TakesRequest i at to buf r
     → DoesTask s (task_of e r) r.cookie (take (payload_of r) buf) mid new reply → AnswersRequest s e mid new (exchange_of r buf reply)
-request_answered s i e mid new at to r buf reply t d = record { payload = length-take-le (payload_of r) buf t.room; does = d }
+request_answered s i e mid new at to r buf reply t d = record { payload = length-take-le (payload_of r) buf t.room; does = d; rested = λ is. absurd (true≢false (sym is)) }
 
 pub one_more_answered : {S M I O : Type 0} (s : Stores S M) (i : Sources I) (o : Sinks O) (e : Export) (count : ℕ) (old mid new : S × M) (from at to : I) (was then now : O) (r : Request) (buf : List ℕ)
     → SoManyAnswered s i o e count old mid from at was then → TakesRequest i at to buf r → TellsTask s o (task_of e r) r.cookie (take (payload_of r) buf) mid new then now
@@ -55,7 +63,7 @@ one_more_answered s i o e count old mid new from at to was then now r buf h t to
     let x = exchange_of r buf told.reply in
     record {
       exchanges = h.exchanges ++ x ∷ [];
-      count_is = omega (arith, h.count_is, length-append h.exchanges (x ∷ []));
+      count_is = omega (arith, h.count_is, one_more_counted h.exchanges x);
       answered = record {
         gives = rw (one_more exchange_bytes h.exchanges x) (gives_both i.remaining i.failed from at to (flat_map exchange_bytes h.exchanges) (exchange_bytes x) h.answered.gives t.gives);
         puts = rw (one_more reply_of h.exchanges x) (puts_both o.contents o.failed was then now (flat_map reply_of h.exchanges) told.reply h.answered.puts told.puts.puts);
@@ -63,6 +71,43 @@ one_more_answered s i o e count old mid new from at to was then now r buf h t to
         runs = runs_on s e old mid new h.exchanges x h.answered.runs (request_answered s i e mid new at to r buf told.reply t told.does);
       };
     }
+
+-- ---- a rest
+rest_of : List ℕ → Exchange
+rest_of reply = record { request = record { flags = 0; kind = CMD_FLUSH; cookie = 0; offset = 0; length = 0 }; payload = []; reply = reply; at_rest = true }
+
+is_flush : (e : Export) (reply : List ℕ) → task_of e (rest_of reply).request ≡ Flush
+is_flush e reply = elim e.readonly [ true ↦ refl | false ↦ refl ]
+
+module _ {S M I O : Type 0} (s : Stores S M) (i : Sources I) (o : Sinks O) (e : Export) (count : ℕ) (old mid new : S × M) (from at : I) (was then : O) where
+  one_more_rest : SoManyAnswered s i o e count old mid from at was then → (reply : List ℕ) → DoesTask s Flush 0 [] mid new reply → HasRested s mid new
+      → SoManyAnswered s i o e count old new from at was then
+  one_more_rest h reply does rested =
+      let x = rest_of reply in
+      let none : (f : Exchange → List ℕ) → f x ≡ [] → flat_map f (h.exchanges ++ x ∷ []) ≡ flat_map f h.exchanges =
+      λ f is. one_more f h.exchanges x ∙ ap (λ (t : List ℕ). flat_map f h.exchanges ++ t) is ∙ append-nil (flat_map f h.exchanges) in
+      let counted = one_more_counted h.exchanges x in
+      record {
+        exchanges = h.exchanges ++ x ∷ [];
+        count_is = omega (arith, h.count_is, counted);
+        answered = record {
+          gives = rw (none exchange_bytes refl) h.answered.gives;
+          puts = rw (none reply_of refl) h.answered.puts;
+          flushed = λ some. h.answered.flushed (omega (arith, counted, some));
+          runs = runs_on s e old mid new h.exchanges x h.answered.runs
+              (record {
+                payload = refl;
+                does = subst (λ (t : Task). DoesTask s t 0 [] mid new reply) (sym (is_flush e reply)) does;
+                rested = λ is. (is_flush e reply, rested);
+              });
+        };
+      }
+
+  -- The store rested, or the client was not silent for long.
+  pub after_rest : SoManyAnswered s i o e count old mid from at was then → MayHaveRested s mid new → SoManyAnswered s i o e count old new from at was then
+  after_rest h (inl same) = rw same h
+  after_rest h (inr (inl rests)) = one_more_rest h (success_reply 0) (inl (rests.0, refl)) (inl rests)
+  after_rest h (inr (inr unflushed)) = one_more_rest h (error_reply Io 0) (inr (unflushed, refl)) (inr unflushed)
 
 gone_for : {I : Type 0} (i : Sources I) (e : Export) (count : ℕ) (at to : I) (why : Gone) → GivesNone i at to why → HasGone i e count at to why
 gone_for i e count at to gone.Disconnected h = absurd h
@@ -75,7 +120,7 @@ gone_for i e count at to gone.Exhausted h = absurd h
 pub none_comes : {S M I O : Type 0} (s : Stores S M) (i : Sources I) (o : Sinks O) (e : Export) (count : ℕ) (old mid : S × M) (from at to : I) (was then : O) (why : Gone)
     → SoManyAnswered s i o e count old mid from at was then → GivesNone i at to why → Transmits s i o e old mid from to was then why
 none_comes s i o e count old mid from at to was then why h t =
-    record { exchanges = h.exchanges; at = at; answered = h.answered; gone = gone_for i e (length h.exchanges) at to why t }
+    record { exchanges = h.exchanges; at = at; answered = h.answered; gone = gone_for i e (asked_count h.exchanges) at to why t }
 
 asked_to_go : {I : Type 0} (i : Sources I) (e : Export) (at to : I) (r : Request) (buf : List ℕ) → TakesRequest i at to buf r → task_of e r ≡ Disconnect → payload_of r ≡ 0 → GivesDisconnect i e at to
 asked_to_go i e at to r buf t asked none =
@@ -112,5 +157,5 @@ sink_failed s i o e count old mid new from at to was then now r buf h t told =
       at = at;
       before = then;
       answered = h.answered;
-      failed = record { last = exchange_of r buf told.reply; gives = t.gives; answers = request_answered s i e mid new at to r buf told.reply t told.does; failed = told.failed };
+      failed = record { last = exchange_of r buf told.reply; asked = refl; gives = t.gives; answers = request_answered s i e mid new at to r buf told.reply t told.does; failed = told.failed };
     }

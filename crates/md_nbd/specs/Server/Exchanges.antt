@@ -1,5 +1,5 @@
 -- Requests that are answered, one after another.
-use Rattle.std.specs.Prelude.{◌≡◌, ◌⊎◌, ℕ, ◌*◌, List, [], ◌∷◌, ◌++◌, length}
+use Rattle.std.specs.Prelude.{◌≡◌, ◌⊎◌, ℕ, ◌+◌, ◌*◌, Bool, true, List, [], ◌∷◌, ◌++◌, length, if◌then◌else◌}
 use Rattle.md_nbd.specs.declared.export.Export.{Export}
 use Rattle.md_nbd.specs.declared.reply.ErrorCode.TheVariants.{Io}
 use Rattle.md_nbd.specs.declared.request.Request.{Request}
@@ -11,17 +11,24 @@ use Rattle.md_nbd.specs.NbdTasks.{task_of}
 use Rattle.md_nbd.specs.SimpleReplies.{error_reply, success_reply}
 use Rattle.md_nbd.specs.declared.server.store.Store.{Ghosts as Stores}
 
--- A request, the bytes that came with it, and what it was answered.
+-- A request, the bytes that came with it, and what it was answered. Or a rest of the store, before a request that came late: a flush
+-- for which no client asked, so that no byte came and nobody was told of it.
 pub record Exchange : Type 0 where
   pub request : Request
   pub payload : List ℕ
   pub reply : List ℕ
+  pub at_rest : Bool
 
 abbrev pub exchange_bytes : Exchange → List ℕ
-exchange_bytes x = request_bytes x.request ++ x.payload
+exchange_bytes x = if x.at_rest then [] else request_bytes x.request ++ x.payload
 
 abbrev pub reply_of : Exchange → List ℕ
-reply_of x = x.reply
+reply_of x = if x.at_rest then [] else x.reply
+
+-- how many of them a client asked for
+abbrev pub asked_count : List Exchange → ℕ
+asked_count [] = 0
+asked_count (x ∷ xs) = (if x.at_rest then 0 else 1) + asked_count xs
 
 module _ {S M : Type 0} (s : Stores S M) where
   -- The bytes were read, as many as were asked for, and stand after the head of the reply.
@@ -40,10 +47,15 @@ module _ {S M : Type 0} (s : Stores S M) where
   DoesTask Disconnect cookie payload old new reply = ⊥
   DoesTask (Refuse error) cookie payload old new reply = (new ≡ old) × (reply ≡ error_reply error cookie)
 
-  -- A request came whole, and is answered as it asks.
+  -- The store rested, or what was written does not surely stand.
+  abbrev pub HasRested : S × M → S × M → Type 0
+  HasRested old new = (s.flushes old new × s.rests old new) ⊎ s.unflushed old new
+
+  -- A request came whole, and is answered as it asks; or it is a flush, by which the store rested.
   pub record AnswersRequest (e : Export) (old new : S × M) (x : Exchange) : Type 0 where
     pub payload : length x.payload ≡ payload_of x.request
     pub does : DoesTask (task_of e x.request) x.request.cookie x.payload old new x.reply
+    pub rested : x.at_rest ≡ true → (task_of e x.request ≡ Flush) × HasRested old new
 
   -- All of them, one after another.
   abbrev pub AnswersInTurn : Export → S × M → List Exchange → S × M → Type 0

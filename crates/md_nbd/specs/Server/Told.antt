@@ -1,5 +1,5 @@
 -- What a task asks for is done, and its reply put out.
-use Rattle.std.specs.Prelude.{◌≡◌, ℕ, Bool, true, false, List, Result, MatchResult}
+use Rattle.std.specs.Prelude.{◌≡◌, ◌⊎◌, ℕ, Bool, true, false, List, Result, MatchResult}
 use Rattle.md_nbd.specs.declared.export.Export.{Export}
 use Rattle.md_nbd.specs.declared.request.Request.{Request}
 use Rattle.md_nbd.specs.declared.task.Task.{Task}
@@ -9,7 +9,7 @@ use Rattle.md_nbd.specs.NbdTasks.{task_of}
 use Rattle.md_nbd.specs.declared.server.store.Store.{Ghosts as Stores}
 use Rattle.md_examine.specs.declared.sink.Sink.{Ghosts as Sinks}
 use Rattle.md_commands.specs.Output.{PutsOut}
-use Rattle.md_nbd.specs.Server.Exchanges.{DoesTask}
+use Rattle.md_nbd.specs.Server.Exchanges.{DoesTask, HasRested}
 
 module _ {S M O : Type 0} (s : Stores S M) (o : Sinks O) where
   pub record TellsTask (task : Task) (cookie : ℕ) (payload : List ℕ) (old new : S × M) (was now : O) : Type 0 where
@@ -33,6 +33,10 @@ module _ {S M O : Type 0} (s : Stores S M) (o : Sinks O) where
     pub empty : payload_of r ≡ 0
     pub store : new ≡ old
     pub sink : now ≡ was
+
+  -- The client was not silent for long, or the store rested, whatever came of it.
+  abbrev pub MayHaveRested : S × M → S × M → Type 0
+  MayHaveRested old new = (new ≡ old) ⊎ HasRested s old new
 
   -- A request is answered, or it asks the server to go.
   abbrev pub AnswersOrGoes : Export → Request → List ℕ → S × M → S × M → O → O → Bool → Type 0

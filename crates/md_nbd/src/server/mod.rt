@@ -9,6 +9,7 @@
 //! ```
 
 mod agreement;
+mod client_watch;
 mod filling_front;
 mod option_taken;
 mod putting;
@@ -21,9 +22,10 @@ mod tasks_done;
 mod transmission;
 
 pub use agreement::{HaggleFault, Haggled, haggle};
+pub use client_watch::ClientWatch;
 pub use filling_front::fill_front;
 pub use putting::put;
-pub use refusal::{RefusalWatch, RefusedRequest, RequestFault};
+pub use refusal::{RefusedRequest, RequestFault};
 pub use refusal_line::refused_line;
 pub use session::{SessionEnd, SessionFault, serve_client};
 pub use store::{Store, StoreFault};

@@ -1,7 +1,6 @@
-// Why a request is refused, and who is told of it.
+// Why a request is refused.
 ghost use Rattle.std.specs.Prelude.{◌≡◌};
 ghost use Rattle.md_nbd.specs.Server.Refusals.{range_fault, task_fault};
-ghost use Rattle.md_nbd.specs.declared.server.refusal.RefusedRequest.{RefusedRequest as Told};
 
 use crate::export::{Export, MOST_BYTES};
 use crate::request::{CMD_READ, CMD_WRITE, Request};
@@ -32,16 +31,6 @@ pub enum RequestFault {
 pub struct RefusedRequest {
     pub request: Request,
     pub fault: RequestFault,
-}
-
-/// Is told of each request that is answered with an error, before the answer.
-pub trait RefusalWatch {
-    /// It was told of this one. Only `refused` says it, so that a call of which a contract says it has told the watch.
-    ghost has_refused: { Self → Told → Type 0 };
-
-    /// This request is answered with an error.
-    fn refused(&self, refused: RefusedRequest)
-        ensures { has_refused self.now refused };
 }
 
 // Why the range of a request is refused, of those that are.

@@ -7,9 +7,9 @@ use crate::export::Export;
 use crate::handshake_head::{greeting, no_zeroes_of};
 use crate::number_fields::u32_of;
 use crate::server::agreement::{HaggleFault, Haggled, haggle};
+use crate::server::client_watch::ClientWatch;
 use crate::server::filling_front::fill_front;
 use crate::server::putting::put;
-use crate::server::refusal::RefusalWatch;
 use crate::server::store::Store;
 use crate::server::transmission::{Gone, StreamFault, answer_requests};
 use md_commands::Source;
@@ -110,7 +110,7 @@ fn greet<I: Source, O: Sink>(
 
 /// Serves one client, from the greeting on until it goes, and says how the session ended. What is read and written stands in
 /// `buf`, which gets room for it, and so do the options; an answer to an option takes memory while it is put out.
-pub fn serve_client<M, S: Store<M>, W: RefusalWatch, I: Source, O: Sink>(
+pub fn serve_client<M, S: Store<M>, W: ClientWatch, I: Source, O: Sink>(
     alloc: Global,
     export: &Export,
     store: &mut S,

@@ -1,5 +1,5 @@
 // What is served.
-ghost use Rattle.std.specs.Prelude.{◌≡◌, ◌+◌, ◌/◌, ◌%◌, ◌<◌, ◌≤◌, Bool, List, ℕ, MatchResult, length};
+ghost use Rattle.std.specs.Prelude.{◌≡◌, ◌+◌, ◌/◌, ◌%◌, ◌<◌, ◌≤◌, Bool, List, ℕ, MatchResult, OnOk, length};
 
 /// Why sectors are not read, or a write or a flush was not done, or not surely.
 #[derive(Clone, Copy, Debug, PartialEq, Eq)]
@@ -41,6 +41,9 @@ pub trait Store<M> {
     /// That all that was written stands is not sure.
     ghost unflushed: { Self × M → Self × M → Type 0 };
 
+    /// All that was written stands, and nothing is kept any more only because more may be written soon.
+    ghost rests: { Self × M → Self × M → Type 0 };
+
     /// Fills `buf` with the sectors from this one on, or with any bytes where one of them is not given.
     fn read(&mut self, lent: &mut M, sector: u64, buf: &mut [u8]) -> Result<(), StoreFault>
         requires whole { length buf.old % 512 ≡ 0 }
@@ -77,6 +80,16 @@ pub trait Store<M> {
         ensures gives { MatchResult result
             (λ _. flushes (self.old, lent.old) (self.new, lent.new))
             (λ _. unflushed (self.old, lent.old) (self.new, lent.new)) }
+        ensures sound { is_sound (self.new, lent.new) }
+        ensures size { sectors (self.new, lent.new) ≡ sectors (self.old, lent.old) };
+
+    /// Makes what was written stand, as the client was silent, and gives up what is kept only because more may be written soon.
+    fn rest(&mut self, lent: &mut M) -> Result<(), StoreFault>
+        requires sound { is_sound (self.old, lent.old) }
+        ensures gives { MatchResult result
+            (λ _. flushes (self.old, lent.old) (self.new, lent.new))
+            (λ _. unflushed (self.old, lent.old) (self.new, lent.new)) }
+        ensures rests { OnOk result (rests (self.old, lent.old) (self.new, lent.new)) }
         ensures sound { is_sound (self.new, lent.new) }
         ensures size { sectors (self.new, lent.new) ≡ sectors (self.old, lent.old) };
 }

@@ -8,8 +8,9 @@ ghost use Rattle.md_nbd.specs.Server.Told.{TellsTaskOrFails};
 
 use crate::reply::{ErrorCode, error_reply, success_reply};
 use crate::request::Request;
+use crate::server::client_watch::ClientWatch;
 use crate::server::putting::put;
-use crate::server::refusal::{RefusalWatch, RefusedRequest, RequestFault};
+use crate::server::refusal::{RefusedRequest, RequestFault};
 use crate::server::store::Store;
 use md_examine::{Sink, SinkFault};
 
@@ -25,7 +26,7 @@ fn put_with_bytes<O: Sink>(out: &mut O, head: &[u8], bytes: &[u8]) -> Result<(),
 }
 
 // Tells the watch of a request, and answers it with an error.
-fn refuse<O: Sink, W: RefusalWatch>(
+fn refuse<O: Sink, W: ClientWatch>(
     watch: &W,
     out: &mut O,
     request: &Request,
@@ -45,7 +46,7 @@ fn refuse<O: Sink, W: RefusalWatch>(
 }
 
 /// Reads sectors, as many as `buf` has room for, and answers with them.
-pub(crate) fn do_read<M, S: Store<M>, W: RefusalWatch, O: Sink>(
+pub(crate) fn do_read<M, S: Store<M>, W: ClientWatch, O: Sink>(
     store: &mut S,
     lent: &mut M,
     watch: &W,
@@ -76,7 +77,7 @@ pub(crate) fn do_read<M, S: Store<M>, W: RefusalWatch, O: Sink>(
 }
 
 /// Writes sectors, which with `through` have to stand before the answer.
-pub(crate) fn do_write<M, S: Store<M>, W: RefusalWatch, O: Sink>(
+pub(crate) fn do_write<M, S: Store<M>, W: ClientWatch, O: Sink>(
     store: &mut S,
     lent: &mut M,
     watch: &W,
@@ -108,7 +109,7 @@ pub(crate) fn do_write<M, S: Store<M>, W: RefusalWatch, O: Sink>(
 }
 
 /// Makes what was written stand.
-pub(crate) fn do_flush<M, S: Store<M>, W: RefusalWatch, O: Sink>(
+pub(crate) fn do_flush<M, S: Store<M>, W: ClientWatch, O: Sink>(
     store: &mut S,
     lent: &mut M,
     watch: &W,
@@ -133,7 +134,7 @@ pub(crate) fn do_flush<M, S: Store<M>, W: RefusalWatch, O: Sink>(
 }
 
 /// Answers with an error, and does nothing.
-pub(crate) fn do_refuse<M, S: Store<M>, W: RefusalWatch, O: Sink>(
+pub(crate) fn do_refuse<M, S: Store<M>, W: ClientWatch, O: Sink>(
     _store: &S,
     _lent: &M,
     watch: &W,

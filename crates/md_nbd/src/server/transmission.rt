@@ -3,12 +3,13 @@ ghost use Rattle.std.specs.Prelude.{◌≡◌, ◌*◌, ◌≤◌, MatchResult, 
 ghost use Rattle.md_nbd.specs.Export.{most_bytes, sector_bytes};
 ghost use Rattle.md_nbd.specs.NbdRequests.{payload_of};
 ghost use Rattle.md_nbd.specs.NbdTasks.{task_of};
-ghost use Rattle.md_nbd.specs.Server.Told.{AnswersOrGoes, FailsToTell};
+ghost use Rattle.md_nbd.specs.Server.Told.{AnswersOrGoes, FailsToTell, MayHaveRested};
 ghost use Rattle.md_nbd.specs.Server.Transmission.{BreaksOff, Transmits};
 
 use crate::export::Export;
 use crate::request::Request;
-use crate::server::refusal::{RefusalWatch, task_fault};
+use crate::server::client_watch::ClientWatch;
+use crate::server::refusal::task_fault;
 use crate::server::request_taken::take_request;
 use crate::server::store::Store;
 use crate::server::tasks_done::{do_flush, do_read, do_refuse, do_write};
@@ -45,8 +46,24 @@ pub enum StreamFault {
     NoMemory,
 }
 
+// Lets the store rest, where the client was silent for long. Nobody is told what comes of it: a later answer says whether the store
+// does anything still.
+fn rest_if_silent<M, S: Store<M>, W: ClientWatch>(store: &mut S, lent: &mut M, watch: &W)
+    requires sound { S.is_sound (store.old, lent.old) }
+    ensures rests { MayHaveRested S.Store (store.old, lent.old) (store.new, lent.new) }
+    ensures sound { S.is_sound (store.new, lent.new) }
+    ensures size { S.sectors (store.new, lent.new) ≡ S.sectors (store.old, lent.old) }
+{
+    if watch.has_rested() {
+        match store.rest(lent) {
+            Ok(()) => {}
+            Err(_) => {}
+        }
+    }
+}
+
 // Does what a request asks for, and answers: false where it asks the server to go.
-fn answer<M, S: Store<M>, W: RefusalWatch, O: Sink>(
+fn answer<M, S: Store<M>, W: ClientWatch, O: Sink>(
     export: &Export,
     store: &mut S,
     lent: &mut M,
@@ -89,10 +106,11 @@ fn answer<M, S: Store<M>, W: RefusalWatch, O: Sink>(
 /// Takes requests and answers them, one after another, until the client goes, and says why no more come. What is read and written
 /// stands in `buf`, which gets room for that, 32 MiB at most: the server takes no other memory.
 ///
-/// The watch is told of each request that is answered with an error, before the answer.
+/// The watch is told of each request that is answered with an error, before the answer. Where it says that the client was silent for
+/// long before a request, the store rests first.
 ///
 /// The export may be smaller than the store, and none of its requests goes past it. Where a stream fails no reply is made up for what was not told.
-pub fn answer_requests<M, S: Store<M>, W: RefusalWatch, I: Source, O: Sink>(
+pub fn answer_requests<M, S: Store<M>, W: ClientWatch, I: Source, O: Sink>(
     alloc: Global,
     export: &Export,
     store: &mut S,
@@ -115,6 +133,7 @@ pub fn answer_requests<M, S: Store<M>, W: RefusalWatch, I: Source, O: Sink>(
             Ok(request) => request,
             Err(gone) => return Ok(gone),
         };
+        rest_if_silent(store, lent, watch);
         match answer(export, store, lent, watch, &request, buf, out) {
             Ok(true) => {}
             Ok(false) => return Ok(Gone::Disconnected),
