@@ -21,6 +21,8 @@ impl Gate for Silent {
 impl Watch for Silent {
     ghost lacks = { λ _ _ _. ⊤ };
 
+    ghost taken_up = { λ _ _ _ _ _. ⊤ };
+
     ghost compares = { λ _ _. ⊤ };
 
     ghost writes = { λ _ _. ⊤ };
@@ -28,6 +30,8 @@ impl Watch for Silent {
     ghost has_written = { λ _ _. ⊤ };
 
     fn begins(&self, _chunks: u32, _first: Option<u32>) {}
+
+    fn takes_up(&self, _member: usize, _missing: u32, _first: Option<u32>, _chunks: u32) {}
 
     fn begins_check(&self, _sectors: u64) {}
 

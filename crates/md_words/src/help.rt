@@ -14,7 +14,7 @@ pub(crate) const ARRAY: &str =
 
 /// Of `detail`.
 pub(crate) const DETAIL: &str =
-    "Name all images of the array, in any order (of those with the most events the first decides which members are in sync). Where the bitmap of a member in sync does not fit the array, all chunks are marked in it: the image is changed. Nothing else is written. --readonly prevents that: the images are only read, and the report is the same.\n\n--verbose shows a line over those of the members, which says what their columns are, and the image of each.\n\nThe status is 0 where the report is written, 1 where it is refused (standard error names the fault), and 2 where the words are not accepted.\n\nExample:\n  mdcli detail --readonly a.img b.img";
+    "Name all images of the array, in any order (of those with the most events the first decides which members are in sync). Where the bitmap of a member in sync does not fit the array, all chunks are marked in it: the image is changed. Nothing else is written. --readonly prevents that: the images are only read, and the report is the same.\n\n--verbose shows how far each recovering member is, a line over those of the members, which says what their columns are, and the image of each.\n\nThe status is 0 where the report is written, 1 where it is refused (standard error names the fault), and 2 where the words are not accepted.\n\nExample:\n  mdcli detail --readonly a.img b.img";
 
 /// Of `plan`.
 pub(crate) const PLAN: &str =

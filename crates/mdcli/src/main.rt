@@ -85,7 +85,7 @@ fn main(rt: HostRuntime) -> ExitCode {
     } else {
         Messages::Plain
     };
-    let progress = Progress::new(&rt, task);
+    let progress = Progress::new(&rt, task, messages);
     // Output that goes elsewhere leaves the line as it is.
     let is_beside = rt.stdout().is_terminal();
     let standard = Cleared::new(io::writer(&rt), &progress, is_beside);

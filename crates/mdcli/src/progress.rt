@@ -7,8 +7,10 @@ use crate::read_length::ReadLength;
 use crate::write_progress::WriteProgress;
 use md_cli::ReadWatch;
 use md_commands::{Gate, Watch};
+use md_examine::Output;
 use md_files::Line;
 use md_images::Traffic;
+use md_messages::{Messages, put_going_on};
 use md_words::LongTask;
 use std::alloc::AllocError;
 use std::io::Write;
@@ -25,12 +27,14 @@ const MIB: u64 = 1 << 20;
 const CLEAR: &str = "\r\u{1b}[K";
 
 /// A line on a terminal that says how much a command has read of its images and written to them, or how far
-/// a rebuild, a check or a write is. It is drawn on standard error, at most ten times a second.
+/// a rebuild, a check or a write is. It is drawn on standard error, at most ten times a second. Where a person reads that, or more is
+/// to be told, a rebuild that is taken up says so first.
 #[derive(Drop)]
 pub struct Progress<'a> {
     rt: &'a HostRuntime,
     // Nothing is drawn where there is none.
     task: Option<LongTask>,
+    messages: Messages,
     began: Option<Instant>,
     read: AtomicU64,
     written: AtomicU64,
@@ -44,10 +48,11 @@ pub struct Progress<'a> {
 }
 
 impl<'a> Progress<'a> {
-    pub fn new(rt: &'a HostRuntime, task: Option<LongTask>) -> Progress<'a> {
+    pub fn new(rt: &'a HostRuntime, task: Option<LongTask>, messages: Messages) -> Progress<'a> {
         Progress {
             rt,
             task,
+            messages,
             began: Instant::now(rt).ok(),
             read: AtomicU64::new(0),
             written: AtomicU64::new(0),
@@ -207,6 +212,8 @@ impl<'a> Gate for Progress<'a> {
 impl<'a> Watch for Progress<'a> {
     ghost lacks = { λ _ _ _. ⊤ };
 
+    ghost taken_up = { λ _ _ _ _ _. ⊤ };
+
     ghost compares = { λ _ _. ⊤ };
 
     ghost writes = { λ _ _. ⊤ };
@@ -219,6 +226,14 @@ impl<'a> Watch for Progress<'a> {
         };
         let read = self.read.load(Ordering::SeqCst);
         self.copying.begin(chunks, first.unwrap_or(0), now, read);
+    }
+
+    fn takes_up(&self, member: usize, missing: u32, first: Option<u32>, chunks: u32) {
+        if self.messages.has_advice() {
+            self.clear();
+            let mut err = Output::new(self.rt.stderr());
+            let _ = put_going_on(&mut err, member, missing, first, chunks);
+        }
     }
 
     fn begins_check(&self, sectors: u64) {
