@@ -37,6 +37,8 @@ pub mod InBetween
 pub mod CopiedContent
 -- A member that comes into sync holds what the members in sync hold, in each sector that it does not list then.
 pub mod HeldContent
+-- What an enrolment asks of chunks, said of their sectors.
+pub mod ByChunks
 -- A member comes into sync by the write of its superblock: its device and the array's world then.
 pub mod EnrolledWorld
 -- A member is prepared, and comes into sync by the write of its superblock: those are the model's events.

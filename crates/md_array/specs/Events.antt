@@ -116,7 +116,7 @@ WritesOnce (Event.SpoilTarget k) before after = (w : Write) × HasWriteFailed k 
 WritesOnce (Event.Enrol k role listed) before after = (w : Write) × IsDone k w before after
 WritesOnce (Event.Admit k role listed) before after = (w : Write) × IsWritten k w before after
 WritesOnce (Event.Checkpoint k sure listed) before after = (w : Write) × IsWritten k w before after
-WritesOnce (Event.NoteBad k c) before after = after ≡ before
+WritesOnce (Event.NoteBad k more) before after = after ≡ before
 WritesOnce (Event.StoreLog k listed) before after = (after ≡ before) ⊎ ((w : Write) × IsWritten k w before after)
 
 -- what device k lists then

@@ -31,7 +31,7 @@ use Rattle.md_array.specs.Steps.Admit.{DidAdmit}
 use Rattle.md_array.specs.Steps.Checkpoint.{DidCheckpoint}
 use Rattle.md_array.specs.Steps.StoreLog.{FailsToStoreLog, HaltsStoringLog, HasNoShift, StoresLog}
 use Rattle.md_array.specs.Steps.LowerOffset.{LowersOffset}
-use Rattle.md_array.specs.Steps.NoteBad.{NotesChunk}
+use Rattle.md_array.specs.Steps.NoteBad.{NotesSectors, within}
 use Rattle.md_array.specs.Steps.ReAdd.{ReAdds, re_add_event}
 use Rattle.md_array.specs.Spoiling.{SpoilsTarget}
 use Rattle.md_array.specs.Events.{Does, IsOldNewOrNone}
@@ -139,7 +139,7 @@ Did old before (Event.SpoilTarget k) new after = (after ≡ before) × SpoilsTar
 Did old before (Event.Enrol k role listed) new after = (after ≡ before) × DidEnrol (Event.Enrol k role listed) old new
 Did old before (Event.Admit k role listed) new after = (after ≡ before) × DidAdmit (Event.Admit k role listed) old new
 Did old before (Event.Checkpoint k sure listed) new after = (after ≡ before) × DidCheckpoint (Event.Checkpoint k sure listed) old new
-Did old before (Event.NoteBad k c) new after = (after ≡ before) × NotesChunk k c old new
+Did old before (Event.NoteBad k more) new after = (after ≡ before) × NotesSectors k (within old more) old new
 Did old before (Event.StoreLog k listed) new after = (after ≡ before) × StoresLog k old new
 Did old before (Event.WriteFails k MemberPart.Log) new after = (after ≡ before) × FailsToStoreLog k old new
 

@@ -104,7 +104,7 @@ did IsOf keeps (Event.SpoilTarget k) old new before after of h = h.1.disks.tried
 did IsOf keeps (Event.Enrol k role listed) old new before after of h = absurd (keeps.enrols k role listed of)
 did IsOf keeps (Event.Admit k role listed) old new before after of h = h.1.admits.disks.tried.as_many
 did IsOf keeps (Event.Checkpoint k sure listed) old new before after of h = h.1.checkpoints.disks.tried.as_many
-did IsOf keeps (Event.NoteBad k c) old new before after of h = ap length h.1.disks
+did IsOf keeps (Event.NoteBad k more) old new before after of h = ap length h.1.disks
 did IsOf keeps (Event.StoreLog k listed) old new before after of h = log_written k (log_writes h.1.member.superblock h.1.member.bad) old.disks new.disks h.1.disks
 
 pub halts : (e : Event) (old new : MirrorView) (before : Requests) → HaltsAt old before e new → AsMany old new

@@ -3,10 +3,10 @@ use Rattle.std.specs.Prelude.{◌≡◌, ℕ, ◌<◌, ◌≤◌, ◌&&◌, fals
 use Rattle.md_bitmap.specs.Marks.{Bitmap, is_set}
 use Rattle.md_kept_members.specs.View.{MemberView}
 use Rattle.md_plan.specs.declared.planner.Planned.{Planned}
-use Rattle.md_state.specs.Steps.Enrol.{HasFullLog, HasRoomInLog}
+use Rattle.md_state.specs.Steps.Enrol.{HasFullLogChunks, HasRoomInLogChunks}
 use Rattle.md_state.specs.Missing.{is_missing}
 use Rattle.md_state.specs.View.{MirrorView}
-use Rattle.md_array.specs.Steps.Enrol.{Enrols, FailsToEnrol, MayEnrol}
+use Rattle.md_array.specs.Steps.Enrol.{EnrolsChunks, FailsToEnrolChunks, MayEnrol}
 use Rattle.md_rebuild_table.specs.declared.fault.RebuildFault.{RebuildFault}
 use Rattle.md_rebuild_table.specs.declared.fault.RebuildFault.TheVariants.{LogFull, NoMemory, TargetFault}
 use Rattle.md_rebuild_table.specs.Orphans.{IsSetOf, IsSubset, is_in, uncopied_chunks}
@@ -23,27 +23,27 @@ pub record AreNoOrphans (count : ℕ) (orphans : Orphans) : Type 0 where
 -- The target's list needs more room than its log has, and nothing was written for it.
 pub record HasNoRoom (target : ℕ) (copied orphans : Bitmap) (old new : MirrorView) : Type 0 where
   pub unchanged : new ≡ old
-  pub full : HasFullLog target copied orphans old.array
+  pub full : HasFullLogChunks target copied orphans old.array
 
 -- The target's list needs more room than its log has, and nothing was written for it. Of the chunks that were
 -- copied these are left to be recorded.
 pub record LacksOwnRoom (target : ℕ) (copied orphans after : Bitmap) (old new : MirrorView) : Type 0 where
   pub unchanged : new ≡ old
-  pub full : HasFullLog target copied orphans old.array
+  pub full : HasFullLogChunks target copied orphans old.array
   pub left : IsSubset after copied
 
 -- Memory was refused as the target was to come into sync, and nothing was written for it: its log has room for its list. Of the chunks that were
 -- copied these are left to be recorded.
 pub record LacksMemoryToEnrol (target : ℕ) (copied orphans after : Bitmap) (old new : MirrorView) : Type 0 where
   pub unchanged : new ≡ old
-  pub room : HasRoomInLog target copied orphans old.array
+  pub room : HasRoomInLogChunks target copied orphans old.array
   pub left : IsSubset after copied
 
 -- why it does not
 abbrev pub RefusesFilledTarget : ℕ → Bitmap → Bitmap → MirrorView → MirrorView → RebuildFault → Type 0
 RefusesFilledTarget target copied orphans old new (LogFull k) = (k ≡ target) × HasNoRoom target copied orphans old new
-RefusesFilledTarget target copied orphans old new NoMemory = (new ≡ old) × HasRoomInLog target copied orphans old.array
-RefusesFilledTarget target copied orphans old new TargetFault = FailsToEnrol target copied orphans old new
+RefusesFilledTarget target copied orphans old new NoMemory = (new ≡ old) × HasRoomInLogChunks target copied orphans old.array
+RefusesFilledTarget target copied orphans old new TargetFault = FailsToEnrolChunks target copied orphans old new
 RefusesFilledTarget target copied orphans old new fault = ⊥
 
 -- The chunks with which it comes into sync: of those that it lacks still, the ones that were copied, and the others, the orphans. Of those that
@@ -63,7 +63,7 @@ pub record EnrolsCopied (target : ℕ) (plans : List Planned) (copied : Bitmap) 
   pub kept : Bitmap
   pub orphans : Bitmap
   pub has : HasSets target copied kept orphans told.orphans.items old
-  pub enrols : Enrols target kept orphans old new
+  pub enrols : EnrolsChunks target kept orphans old new
   pub passes_are : told.passes ≡ length plans
   pub plans_are : told.plans.items ≡ plans
 
@@ -79,5 +79,5 @@ pub record EndsWithSets (target : ℕ) (copied : Bitmap) (old : MirrorView) (Why
 abbrev pub FailsCopied : ℕ → Bitmap → Bitmap → MirrorView → MirrorView → RebuildFault → Type 0
 FailsCopied target copied after old new (LogFull k) = (k ≡ target) × EndsWithSets target copied old (λ kept orphans. LacksOwnRoom target kept orphans after old new)
 FailsCopied target copied after old new NoMemory = EndsWithSets target copied old (λ kept orphans. LacksMemoryToEnrol target kept orphans after old new)
-FailsCopied target copied after old new TargetFault = EndsWithSets target copied old (λ kept orphans. FailsToEnrol target kept orphans old new)
+FailsCopied target copied after old new TargetFault = EndsWithSets target copied old (λ kept orphans. FailsToEnrolChunks target kept orphans old new)
 FailsCopied target copied after old new fault = ⊥

@@ -32,7 +32,7 @@ use Rattle.md_rebuild_table.specs.declared.fault.RebuildFault.TheVariants.{LogFu
 
 -- ---- in memory
 abbrev pub IsNoting : Event → Type 0
-IsNoting (Event.NoteBad k c) = Unit {0}
+IsNoting (Event.NoteBad k more) = Unit {0}
 IsNoting e = ⊥
 
 -- the log has room for the list, which is that of the maximal runs of its sectors

@@ -25,7 +25,7 @@ use Rattle.md_copy.specs.Rebuilding.{LosesTarget, RefusesRebuild}
 abbrev pub IsBeforeEnrol : ℕ → Event → Type 0
 IsBeforeEnrol target (Event.Record k) = Unit {0}
 IsBeforeEnrol target (Event.StoreMarks k b) = Unit {0}
-IsBeforeEnrol target (Event.NoteBad k c) = Unit {0}
+IsBeforeEnrol target (Event.NoteBad k more) = Unit {0}
 IsBeforeEnrol target (Event.StoreLog k listed) = Unit {0}
 IsBeforeEnrol target (Event.WriteFails k MemberPart.Superblock) = Unit {0}
 IsBeforeEnrol target (Event.WriteFails k (MemberPart.BitmapSector b)) = Unit {0}
@@ -148,7 +148,7 @@ pub record IsListOfUnfinished (target : ℕ) (events : List Event) : Type 0 wher
 
 -- The write of `enrol` that failed was not that of the superblock, as others were to come after it: it was of the bitmap or of the log. What it
 -- left in its range is not asked. (`FailsAtSuper` of md_array is the other case.)
-pub record FailsAtMarks {target : ℕ} {copied orphans : Bitmap} {old new : MirrorView} (f : FailsToEnrol target copied orphans old new) : Type 0 where
+pub record FailsAtMarks {target : ℕ} {copied lost : ℕ → Bool} {old new : MirrorView} (f : FailsToEnrol target copied lost old new) : Type 0 where
   pub disk : Disk
   pub is : slice_get old.disks target ≡ Some disk
   pub left : Disk

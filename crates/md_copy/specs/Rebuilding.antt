@@ -7,7 +7,7 @@ use Rattle.md_copy.specs.PassLaws.Passes.{PassView}
 use Rattle.md_state.specs.Members.{IsMember}
 use Rattle.md_state.specs.View.{MirrorView}
 use Rattle.md_array.specs.Consistency.{IsConsistent}
-use Rattle.md_array.specs.Steps.Enrol.{Enrols, FailsToEnrol}
+use Rattle.md_array.specs.Steps.Enrol.{EnrolsChunks, FailsToEnrolChunks}
 use Rattle.md_rebuild_table.specs.declared.fault.RebuildFault.{RebuildFault}
 use Rattle.md_rebuild_table.specs.declared.fault.RebuildFault.TheVariants.{Halted, NotSpare, Dirty, InFlight, LogFull, NoMemory, TargetFault, MetadataFault, EventsFull}
 use Rattle.md_rebuild_table.specs.Beginning.{CannotRebuild, MayBeginRebuild}
@@ -49,7 +49,7 @@ pub record EnrolsBy (target : ℕ) (m : MemberView) (passes : List PassView) (no
   pub filled : MirrorView
   pub fills : FillsBy target m passes none copied kept orphans chunks ready filled
   pub enrolled : MirrorView
-  pub enrols : Enrols target kept orphans filled enrolled
+  pub enrols : EnrolsChunks target kept orphans filled enrolled
   pub sound : IsConsistent enrolled
   pub stores_until_done : StoresUntilDone enrolled new
 
@@ -97,7 +97,7 @@ abbrev pub LosesTarget : ℕ → MemberView → Bitmap → MirrorView → Mirror
 LosesTarget target m none ready new =
     EndsBetween target m none ready (λ left copied now. BreaksOffPass target left copied now new)
     ⊎ (EndsBetween target m none ready (λ left copied now. FailsRecording target left copied now new)
-    ⊎ EndsFilled target m none ready (λ kept orphans filled. FailsToEnrol target kept orphans filled new))
+    ⊎ EndsFilled target m none ready (λ kept orphans filled. FailsToEnrolChunks target kept orphans filled new))
 
 abbrev pub EndsAfterReady : ℕ → MemberView → Bitmap → Bitmap → MirrorView → MirrorView → RebuildFault → Type 0
 EndsAfterReady target m none after ready stopped NoMemory = LacksMemoryToRebuild target m none after ready stopped

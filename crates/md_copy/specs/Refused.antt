@@ -13,7 +13,7 @@ use Rattle.md_members.specs.Reading.{BitmapStartsAt}
 use Rattle.md_super.specs.declared.superblock.Superblock.{Superblock}
 use Rattle.md_state.specs.Steps.Checkpoint.{EndsCheckpoint}
 use Rattle.md_state.specs.DiskWrites.{AtDevice}
-use Rattle.md_state.specs.Steps.Enrol.{HasFullLog, HasRoomInLog}
+use Rattle.md_state.specs.Steps.Enrol.{HasFullLogChunks, HasRoomInLogChunks}
 use Rattle.md_state.specs.Members.{IsInSync, IsMember}
 use Rattle.md_state.specs.Steps.NoteBad.{HasFullLogFor}
 use Rattle.md_state.specs.View.{ArrayView, Disk, MirrorView, of_disks}
@@ -172,12 +172,12 @@ pub record MakesAllPasses (s : Ending) (old : ArrayView) : Type 0 where
 -- All passes are made, and for its list the target's log has no room.
 pub record LacksOwnRoomFor (target : ℕ) (s : Ending) (old new : ArrayView) : Type 0 where
   pub all : MakesAllPasses s old
-  pub full : HasFullLog target all.kept all.orphans new
+  pub full : HasFullLogChunks target all.kept all.orphans new
 
 -- All passes are made, and for its list the target's log has room.
 pub record HasOwnRoomFor (target : ℕ) (s : Ending) (old new : ArrayView) : Type 0 where
   pub all : MakesAllPasses s old
-  pub room : HasRoomInLog target all.kept all.orphans new
+  pub room : HasRoomInLogChunks target all.kept all.orphans new
 
 -- No pass was planned that was not made, and all that failed is listed.
 pub record IsBetweenPasses (s : Ending) : Type 0 where

@@ -4,7 +4,7 @@ ghost use Rattle.md_kept_members.specs.View.{MemberView};
 ghost use Rattle.md_state.specs.Members.{IsMember};
 ghost use Rattle.md_state.specs.Steps.Rise.{HasSpentEvents};
 ghost use Rattle.md_array.specs.Consistency.{IsConsistent};
-ghost use Rattle.md_array.specs.Steps.Enrol.{Enrols, MayEnrol};
+ghost use Rattle.md_array.specs.Steps.Enrol.{EnrolsChunks, MayEnrol};
 ghost use Rattle.md_copy.specs.Enrolled.{AreNoOrphans, EnrolsCopied, FailsCopied, RefusesFilledTarget};
 ghost use Rattle.md_copy.specs.Held.{AreHeld};
 ghost use Rattle.md_copy.specs.Leaving.{MayRecordAtEnd};
@@ -64,7 +64,7 @@ fn enrol_filled<D: Device + Drop>(
     requires running { mirror.old.array.halted ≡ false }
     requires unspent { HasSpentEvents mirror.old.array → ⊥ }
     requires may { MayEnrol target copied.now orphans.now mirror.old }
-    ensures gives { MatchResult result (λ _. Enrols target copied.now orphans.now mirror.old mirror.new)
+    ensures gives { MatchResult result (λ _. EnrolsChunks target copied.now orphans.now mirror.old mirror.new)
         (RefusesFilledTarget target copied.now orphans.now mirror.old mirror.new) }
     ensures sound { IsConsistent mirror.new }
 {

@@ -16,3 +16,5 @@ pub mod Members
 pub mod MembershipLemmas
 -- All of a member but its data, stored on its device.
 pub mod OnDeviceLemmas
+-- Sets of the array's sectors as tests, and lists to which such sectors are added.
+pub mod SectorSets

@@ -20,6 +20,8 @@ pub mod TakingBack
 pub mod Spares
 -- What is kept in memory of a member that was rebuilt, and comes into sync: its list, and its own fields (this project's own).
 pub mod Enrolling
+-- Sets of the array's sectors, and the lists of a member to which such sectors are added, or of which they are taken.
+pub mod SectorLists
 -- How many entries a member's log takes for a list that is not made.
 pub mod Entries
 -- What an array's superblock and its members say of device numbers and roles.

@@ -1,5 +1,5 @@
 -- What a crash within a call leaves of a mirror's devices.
-use Rattle.std.specs.Prelude.{◌≡◌, ◌≢◌, ◌⊎◌, ℕ, ◌+◌, ◌<◌, true, List, [], ◌∷◌, ◌++◌, drop, length, map, slice_get, Some}
+use Rattle.std.specs.Prelude.{Bool, ◌≡◌, ◌≢◌, ◌⊎◌, ℕ, ◌+◌, ◌<◌, true, List, [], ◌∷◌, ◌++◌, drop, length, map, slice_get, Some}
 use Rattle.std.specs.List.{insert}
 use Rattle.md_badblocks.specs.Log.{log_bytes}
 use Rattle.md_bitmap.specs.Marks.{Bitmap}
@@ -153,7 +153,7 @@ CrashesAsPrepared =
 -- of its writes done and the next one cut short.
 abbrev pub CrashesAtEnrol : Type 0
 CrashesAtEnrol =
-    (k : ℕ) (copied orphans : Bitmap) (old new : MirrorView) (left : List (List ℕ)) → AreHonest old.disks → (r : Enrols k copied orphans old new)
+    (k : ℕ) (copied lost : ℕ → Bool) (old new : MirrorView) (left : List (List ℕ)) → AreHonest old.disks → (r : Enrols k copied lost old new)
     → MayAllBeLeft old.disks new.disks left → IsLeftBut k (λ was c. IsCutShort was r.writes c) old.disks left
 
 -- A crash within an `enrol` of which a write fails leaves every other device as it was. It leaves that of the
@@ -161,7 +161,7 @@ CrashesAtEnrol =
 -- range.
 abbrev pub CrashesAtFailedEnrol : Type 0
 CrashesAtFailedEnrol =
-    (k : ℕ) (copied orphans : Bitmap) (old new : MirrorView) (left : List (List ℕ)) → AreHonest old.disks → FailsToEnrol k copied orphans old new
+    (k : ℕ) (copied lost : ℕ → Bool) (old new : MirrorView) (left : List (List ℕ)) → AreHonest old.disks → FailsToEnrol k copied lost old new
     → MayAllBeLeft old.disks new.disks left
     → IsLeftBut k (λ was c. (done : List Write) × (tried : Write) × IsLeftFailing done tried was c) old.disks left
 
@@ -223,7 +223,7 @@ IsLeftBy (Event.Enrol k role listed) before after w left = Unit {0}
 IsLeftBy (Event.Admit k role listed) before after once left = (w : Write) × IsWritten k w before after × IsLeftBut k (λ old c. IsCutShort old (w ∷ []) c) before left
 IsLeftBy (Event.Checkpoint k sure listed) before after once left = (w : Write) × IsWritten k w before after × IsLeftBut k (λ old c. IsCutShort old (w ∷ []) c) before left
 IsLeftBy (Event.LowerOffset k s) before after w left = left ≡ map (λ d. d.content) before
-IsLeftBy (Event.NoteBad k c) before after w left = left ≡ map (λ d. d.content) before
+IsLeftBy (Event.NoteBad k more) before after w left = left ≡ map (λ d. d.content) before
 IsLeftBy (Event.StoreLog k listed) before after once left =
     (left ≡ map (λ d. d.content) before) ⊎ ((w : Write) × IsWritten k w before after × IsLeftBut k (λ old c. IsCutShort old (w ∷ []) c) before left)
 

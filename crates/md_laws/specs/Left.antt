@@ -18,7 +18,7 @@ use Rattle.md_array.specs.Steps.Admit.{Admits, FailsToAdmit}
 use Rattle.md_array.specs.Steps.Checkpoint.{Checkpoints, FailsToCheckpoint}
 use Rattle.md_array.specs.Events.{IsOldNewOrNone}
 use Rattle.md_array.specs.Consistency.{IsConsistent}
-use Rattle.md_array.specs.Steps.Enrol.{Enrols, MayEnrol}
+use Rattle.md_array.specs.Steps.Enrol.{Enrols, MayEnrolSectors}
 use Rattle.md_array.specs.Steps.EnrolEvents.{Prepares}
 use Rattle.md_array.specs.Steps.Fill.{Fills}
 use Rattle.md_array.specs.ReadAsKept.{AreReadAsKept}
@@ -100,11 +100,11 @@ pub record IsLeftPreparing (t : Moment) (left : List Disk) : Type 0 where
 -- log are being stored.
 pub record IsLeftEnrolling (t : Moment) (left : List Disk) : Type 0 where
   pub on : ℕ
-  pub copied : Bitmap
-  pub orphans : Bitmap
-  pub may : MayEnrol on copied orphans t.mirror
+  pub copied : ℕ → Bool
+  pub lost : ℕ → Bool
+  pub may : MayEnrolSectors on copied lost t.mirror
   pub next : MirrorView
-  pub call : Enrols on copied orphans t.mirror next
+  pub call : Enrols on copied lost t.mirror next
   pub within : IsLeftWithin t next left
   pub super : AtDevice on t.mirror.disks left (λ d e. block_on e.content ≡ block_on d.content)
 
@@ -124,8 +124,8 @@ pub record IsLeftTakingBack (t : Moment) (left : List Disk) : Type 0 where
 -- `read_as_kept`): of one whose superblock was spoiled, the new one may have stood there from the first.
 pub record IsLeftEnrolled (t : Moment) (left : List Disk) : Type 0 where
   pub on : ℕ
-  pub copied : Bitmap
-  pub orphans : Bitmap
+  pub copied : ℕ → Bool
+  pub lost : ℕ → Bool
   pub before : MirrorView
   pub sound : IsConsistent before
   pub honest : AreHonest before.disks
@@ -133,7 +133,7 @@ pub record IsLeftEnrolled (t : Moment) (left : List Disk) : Type 0 where
   pub spoiled : ℕ → Bool
   pub read : AreReadAsKept before failed_at spoiled
   pub unspoiled : spoiled on ≡ false
-  pub call : Enrols on copied orphans before t.mirror
+  pub call : Enrols on copied lost before t.mirror
   pub within : MayAllBeLeft before.disks t.mirror.disks (contents_of left)
   pub super : AtDevice on t.mirror.disks left (λ now e. block_on e.content ≡ block_on now.content)
 

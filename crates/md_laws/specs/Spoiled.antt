@@ -1,12 +1,12 @@
 -- What a crash leaves within a call by which a member that is rebuilt tells of it, whatever stands in place of the superblock.
-use Rattle.std.specs.Prelude.{◌≡◌, ◌⊎◌, ℕ, true, List, map}
+use Rattle.std.specs.Prelude.{Bool, ◌≡◌, ◌⊎◌, ℕ, true, List, map}
 use Rattle.md_bitmap.specs.Marks.{Bitmap}
 use Rattle.md_kept_members.specs.View.{MemberView}
 use Rattle.md_state.specs.Members.{IsMember}
 use Rattle.md_state.specs.Missing.{is_rebuilt}
 use Rattle.md_state.specs.View.{MirrorView}
 use Rattle.md_array.specs.Consistency.{IsConsistent}
-use Rattle.md_array.specs.Steps.Enrol.{Enrols, FailsToEnrol, MayEnrol}
+use Rattle.md_array.specs.Steps.Enrol.{Enrols, FailsToEnrol, MayEnrolSectors}
 use Rattle.md_array.specs.Steps.EnrolEvents.{FailsAtSuper, Prepares}
 use Rattle.md_array.specs.Steps.Record.{Records}
 use Rattle.md_array.specs.Steps.RecordTarget.{LeavesUnrecorded}
@@ -34,14 +34,14 @@ CrashesAsSpoiled =
 -- superblock.
 abbrev pub CrashesAtEnrolAsSpoiled : Type 0
 CrashesAtEnrolAsSpoiled =
-    (k : ℕ) (copied orphans : Bitmap) (old new : MirrorView) (left : List (List ℕ)) → IsConsistent old → AreHonest old.disks → MayEnrol k copied orphans old
-    → Enrols k copied orphans old new → MayAllBeLeft old.disks new.disks left
+    (k : ℕ) (copied lost : ℕ → Bool) (old new : MirrorView) (left : List (List ℕ)) → IsConsistent old → AreHonest old.disks → MayEnrolSectors k copied lost old
+    → Enrols k copied lost old new → MayAllBeLeft old.disks new.disks left
     → (mid : MirrorView) × Prepares k old mid × ((map (λ d. d.content) mid.disks ≡ left) ⊎ IsLeftSpoiled k mid left)
 
 -- A crash within an `enrol` of which the write of the superblock fails is one after a preparing, or after that
 -- and such a write.
 abbrev pub CrashesAtFailedEnrolAsSpoiled : Type 0
 CrashesAtFailedEnrolAsSpoiled =
-    (k : ℕ) (copied orphans : Bitmap) (old new : MirrorView) (left : List (List ℕ)) → IsConsistent old → AreHonest old.disks → MayEnrol k copied orphans old
-    → (f : FailsToEnrol k copied orphans old new) → FailsAtSuper f → MayAllBeLeft old.disks new.disks left
+    (k : ℕ) (copied lost : ℕ → Bool) (old new : MirrorView) (left : List (List ℕ)) → IsConsistent old → AreHonest old.disks → MayEnrolSectors k copied lost old
+    → (f : FailsToEnrol k copied lost old new) → FailsAtSuper f → MayAllBeLeft old.disks new.disks left
     → (mid : MirrorView) × Prepares k old mid × ((map (λ d. d.content) mid.disks ≡ left) ⊎ IsLeftSpoiled k mid left)

@@ -1,5 +1,5 @@
 -- What is done by a call that is a list of events.
-use Rattle.std.specs.Prelude.{◌≡◌, ℕ, true, List, [], ◌∷◌, ◌++◌, Option}
+use Rattle.std.specs.Prelude.{Bool, ◌≡◌, ℕ, true, List, [], ◌∷◌, ◌++◌, Option}
 use Rattle.md_assembly.specs.States.{is_in_sync, is_recovering, is_spare}
 use Rattle.md_badblocks.specs.Runs.{IsCanonical}
 use Rattle.md_bitmap.specs.Marks.{Bitmap}
@@ -14,13 +14,13 @@ use Rattle.md_array.specs.Steps.Add.{Adds, add_event}
 use Rattle.md_array.specs.Steps.Admit.{Admits, FailsToAdmit, admit_event}
 use Rattle.md_array.specs.Steps.Checkpoint.{Checkpoints, FailsToCheckpoint, checkpoint_event}
 use Rattle.md_array.specs.Consistency.{IsConsistent}
-use Rattle.md_array.specs.Steps.Enrol.{Enrols, FailsToEnrol, MayEnrol}
+use Rattle.md_array.specs.Steps.Enrol.{Enrols, FailsToEnrol, MayEnrolSectors}
 use Rattle.md_array.specs.Steps.EnrolEvents.{FailsAtSuper, Prepares, enrol_event}
 use Rattle.md_array.specs.Events.{listed_on}
 use Rattle.md_array.specs.Steps.Fill.{Fills}
 use Rattle.md_array.specs.InTurn.{AllLeftWhole, Leads, Requests}
 use Rattle.md_array.specs.Steps.StoreLog.{FailsToStoreLog, StoresLog}
-use Rattle.md_array.specs.Steps.NoteBad.{IsBelowListLimit, NotesChunk}
+use Rattle.md_array.specs.Steps.NoteBad.{AreBelowListLimit, AreSectorsOf, NotesSectors}
 use Rattle.md_array.specs.Steps.ReAdd.{ReAdds, re_add_event}
 use Rattle.md_array.specs.Steps.RecordTarget.{FailsOnTarget}
 use Rattle.md_array.specs.Spoiling.{SpoilsTarget}
@@ -87,8 +87,8 @@ PrepareIsACall =
 -- lack.
 abbrev pub EnrolIsACall : Type 0
 EnrolIsACall =
-    (k : ℕ) (copied orphans : Bitmap) (old new : MirrorView) → IsConsistent old → IsConsistent new → MayEnrol k copied orphans old
-    → (r : Enrols k copied orphans old new)
+    (k : ℕ) (copied lost : ℕ → Bool) (old new : MirrorView) → IsConsistent old → IsConsistent new → MayEnrolSectors k copied lost old
+    → (r : Enrols k copied lost old new)
     → (previous : Option Event) (requests : Requests) → AreInFlight old.array requests
     → Leads previous old requests (Event.Prepare k ∷ enrol_event r ∷ []) new requests
 
@@ -96,8 +96,8 @@ EnrolIsACall =
 -- whatever that write left.
 abbrev pub FailedEnrolIsACall : Type 0
 FailedEnrolIsACall =
-    (k : ℕ) (copied orphans : Bitmap) (old new : MirrorView) → IsConsistent old → MayEnrol k copied orphans old
-    → (f : FailsToEnrol k copied orphans old new) → FailsAtSuper f
+    (k : ℕ) (copied lost : ℕ → Bool) (old new : MirrorView) → IsConsistent old → MayEnrolSectors k copied lost old
+    → (f : FailsToEnrol k copied lost old new) → FailsAtSuper f
     → (previous : Option Event) (requests : Requests) → AreInFlight old.array requests
     → Leads previous old requests (Event.Prepare k ∷ Event.SpoilTarget k ∷ []) new requests
 
@@ -134,9 +134,9 @@ FailedCheckpointIsACall =
 -- A list of bad blocks grows in memory by one event, of a member in sync of a resynced array.
 abbrev pub NoteBadIsACall : Type 0
 NoteBadIsACall =
-    (k chunk : ℕ) (old new : MirrorView) → IsConsistent old → NotesChunk k chunk old new → ((m : MemberView) → IsMember old.array k m → is_in_sync m.state ≡ true)
-    → old.array.resynced ≡ true → IsBelowListLimit k chunk old
-    → (previous : Option Event) (requests : Requests) → AreInFlight old.array requests → Leads previous old requests (Event.NoteBad k chunk ∷ []) new requests
+    (k : ℕ) (more : ℕ → Bool) (old new : MirrorView) → IsConsistent old → NotesSectors k more old new → ((m : MemberView) → IsMember old.array k m → is_in_sync m.state ≡ true)
+    → old.array.resynced ≡ true → AreSectorsOf old more → AreBelowListLimit k more old
+    → (previous : Option Event) (requests : Requests) → AreInFlight old.array requests → Leads previous old requests (Event.NoteBad k more ∷ []) new requests
 
 -- A log is stored by one event, where it was read without a shift or stored since.
 abbrev pub StoreLogIsACall : Type 0

@@ -5,9 +5,13 @@ use Rattle.std.specs.Prelude.{◌≡◌, ℕ, Bool, true, ◌&&◌, ◌||◌, eq
 use Rattle.md_model.specs.Sectors.{Geometry, chunk_of, put}
 use Rattle.md_model.specs.Worlds.{World, IsInSync}
 
--- note_bad: the sectors of a chunk are listed, in memory alone
-abbrev pub noted_bad : Geometry → World → ℕ → ℕ → World
-noted_bad g w k c = record w { bad = put k (λ s. w.bad k s || (nat_lt s g.size && eqb (chunk_of g s) c)) w.bad }
+-- note_bad_sectors: these sectors of the array are listed too, in memory alone
+abbrev pub noted_bad : Geometry → World → ℕ → (ℕ → Bool) → World
+noted_bad g w k more = record w { bad = put k (λ s. w.bad k s || (nat_lt s g.size && more s)) w.bad }
+
+-- note_bad: they are those of a chunk
+abbrev pub of_chunk : Geometry → ℕ → ℕ → Bool
+of_chunk g c s = eqb (chunk_of g s) c
 
 pub record MayNoteBad (w : World) (k : ℕ) : Type 0 where
   pub in_sync : IsInSync w k

@@ -51,7 +51,7 @@ settles g w (Event.SpoilTarget k) u of step r = ap is step.1.1.2 ∙ r
 settles g w (Event.Enrol k role listed) u of step r = ap is step.1.3 ∙ r
 settles g w (Event.Admit k role listed) u of step r = ap is step.1.3 ∙ r
 settles g w (Event.Checkpoint k sure listed) u of step r = ap is step.1.1 ∙ r
-settles g w (Event.NoteBad k c) u of step r = ap is step.1.1 ∙ r
+settles g w (Event.NoteBad k more) u of step r = ap is step.1.1 ∙ r
 settles g w (Event.StoreLog k listed) u of step r = ap is step.1.2 ∙ r
 
 -- or nothing changes on the devices

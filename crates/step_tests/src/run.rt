@@ -9,6 +9,7 @@ use crate::open::open;
 use crate::shown::{Shown, listed_in, stored_on, what_shows};
 use crate::step::{Answer, Step};
 use md_array::{AddFault, BeginFault, Mirror, Pending, ReAddFault, RemoveFault, StoreFault};
+use md_badblocks::BadSet;
 use md_kept_members::log_room;
 use md_metadata::stop;
 use md_resync::{ResyncFault, resync};
@@ -150,6 +151,7 @@ impl Run {
             Step::AddUsed => self.add_used(alloc),
             Step::Admit => Ok(self.admit_last(alloc)),
             Step::NoteBad(k, chunk) => Ok(self.note_bad(alloc, k, chunk)),
+            Step::NoteSectors(k, runs) => self.note_sectors(alloc, k, runs),
             Step::StoreLog(k) => Ok(self.store_log(k)),
             Step::Show => Ok(Answer::Shows(self.shown_state())),
             Step::Member(k) => Ok(self.member(k)),
@@ -357,6 +359,34 @@ impl Run {
             return Answer::NotCalled;
         }
         match self.mirror.note_bad(alloc, k, chunk) {
+            Ok(()) => Answer::Done,
+            Err(fault) => Answer::NotNoted(fault),
+        }
+    }
+
+    fn note_sectors(
+        &mut self,
+        alloc: Global,
+        k: usize,
+        runs: &'static [(u64, u64)],
+    ) -> Result<Answer, Fail> {
+        let mut sectors = BadSet::new(alloc);
+        for (from, to) in runs {
+            sectors.add(*from, to.saturating_sub(*from))?;
+        }
+        Ok(self.note_set(alloc, k, &sectors))
+    }
+
+    fn note_set(&mut self, alloc: Global, k: usize, sectors: &BadSet) -> Answer {
+        let mirror = &self.mirror;
+        if k >= mirror.members() || !mirror.state(k).is_in_sync() || !mirror.resynced() {
+            return Answer::NotCalled;
+        }
+        // Each has to be a sector of the array.
+        if sectors.meets(mirror.chunks().size, u64::MAX) {
+            return Answer::NotCalled;
+        }
+        match self.mirror.note_bad_sectors(alloc, k, sectors) {
             Ok(()) => Answer::Done,
             Err(fault) => Answer::NotNoted(fault),
         }

@@ -42,6 +42,8 @@ pub(crate) enum Step {
     // Of the last member.
     Admit,
     NoteBad(usize, u32),
+    // Of runs of the array's sectors, each from one sector up to another.
+    NoteSectors(usize, &'static [(u64, u64)]),
     StoreLog(usize),
     // What is looked at.
     Show,
@@ -102,6 +104,7 @@ impl Step {
             Step::Add(_, _) | Step::AddUsed => "no memory: add",
             Step::Admit => "no memory: admit",
             Step::NoteBad(_, _) => "no memory: note_bad",
+            Step::NoteSectors(_, _) => "no memory: note_bad_sectors",
             Step::Lack(_) => "no memory: missing",
             _ => "no memory: another step",
         }

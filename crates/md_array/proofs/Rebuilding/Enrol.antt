@@ -1,12 +1,11 @@
 -- What `enrol` answers, by what was stored on the device.
-use Rattle.std.proofs.Common.{◌≡◌, ℕ, ◌+◌, ◌<◌, Bool, cond, List, get_or, length, length-set, map, set, slice_get, Some, refl, sym, ap, ◌∙◌, subst, arith}
+use Rattle.std.proofs.Common.{◌≡◌, ℕ, ◌+◌, ◌<◌, Bool, cond, List, Result, Ok, Err, get_or, length, length-set, map, set, slice_get, Some, refl, sym, ap, ◌∙◌, subst, arith}
 use Rattle.std.proofs.lemmas.List.{map-set}
 use Rattle.std.proofs.lemmas.Option.{slice_get_within}
 use Rattle.md_device.specs.declared.device.Device.{Ghosts}
 use Rattle.md_super.specs.declared.superblock.Superblock.{Superblock}
 use Rattle.md_super.specs.Merge.{merged}
 use Rattle.md_bitmap.specs.declared.header.BitmapHeader.{BitmapHeader}
-use Rattle.md_bitmap.specs.Marks.{Bitmap}
 use Rattle.md_bitmap.specs.Sound.{IsSoundHeader}
 use Rattle.md_members.specs.Reading.{BitmapStartsAt}
 use Rattle.md_members.specs.DeviceWrites.Writes.{DoesWrites, FailsInWrites, IsKeptByWrites, Write}
@@ -17,18 +16,21 @@ use Rattle.md_kept_members.specs.View.{MemberView}
 use Rattle.md_kept_members.specs.Membership.Joining.{joined_shared}
 use Rattle.md_kept_members.specs.OnDevices.Storing.{IsStorable, member_writes}
 use Rattle.md_kept_members.specs.OnDevices.Superblocks.{IsReadable}
+use Rattle.md_faults.specs.declared.enrol_fault.EnrolFault.{EnrolFault}
+use Rattle.md_faults.specs.declared.enrol_fault.EnrolFault.TheVariants as fault
 use Rattle.md_faults.specs.declared.enrol_fault.EnrolFault.TheVariants.{NoMemory}
+use Rattle.std.specs.Prelude.{MatchResult}
 use Rattle.md_state.specs.Steps.Enrol.{ComesWith, HasRoomInLog, MayTakeRole, enrolled, is_full_with}
 use Rattle.md_state.specs.Headers.{IsHeaderFor}
 use Rattle.md_state.specs.View.{ArrayView, Disk, MirrorView, disk_of, of_disks}
 use Rattle.md_array.specs.Consistency.{IsConsistent}
-use Rattle.md_array.specs.Steps.Enrol.{Enrols, FailsToEnrol, IsUsedAlone, KeepsData, RefusesEnrol}
+use Rattle.md_array.specs.Steps.Enrol.{Enrols, FailsToEnrol, IsUsedAlone, KeepsData, RefusesEnrol, RefusesEnrolBut, RefusesTaking}
 use Rattle.md_array.proofs.General.Indices.{got_other}
 use Rattle.md_array.proofs.Rebuilding.EnrolledArray.{storable}
 use Rattle.md_array.proofs.StepLemmas.OneWrite.{at_device, here}
 
 -- ---- before anything is written
-module _ (k role : ℕ) (copied orphans : Bitmap) (v : MirrorView) (c : IsConsistent v) (n : MemberView) (comes : ComesWith k role copied orphans v.array n) where
+module _ (k role : ℕ) (copied lost : ℕ → Bool) (v : MirrorView) (c : IsConsistent v) (n : MemberView) (comes : ComesWith k role copied lost v.array n) where
   -- the header that is stored is sound
   pub header_sound : IsSoundHeader v.array.shared.size n.header.chunksize
   header_sound =
@@ -41,18 +43,37 @@ module _ (k role : ℕ) (copied orphans : Bitmap) (v : MirrorView) (c : IsConsis
   can_store d found = storable v c k comes.member n comes.list d comes.at comes.comes.superblock comes.comes.stored.chunks
       (subst (HasRoomFor n.superblock) (sym comes.comes.bad) (subst (λ (o : Superblock). HasRoomFor o comes.list) (sym comes.comes.superblock) comes.room)) found
 
--- its log has room, and memory was refused
-pub short_of_memory : (k role : ℕ) (copied orphans : Bitmap) (v old : MirrorView) (n : MemberView) → v ≡ old → MayTakeRole k v.array role → ComesWith k role copied orphans v.array n
-    → RefusesEnrol k copied orphans old old NoMemory
-short_of_memory k role copied orphans v old n same may comes =
-    let room : HasRoomInLog k copied orphans v.array = record { member = comes.member; at = comes.at; list = comes.list; list_is = comes.list_is; room = comes.room } in
-    record {
-      unchanged = refl;
-      reason = (
-        (role, subst (λ (x : MirrorView). MayTakeRole k x.array role) same may),
-        subst (λ (x : MirrorView). HasRoomInLog k copied orphans x.array) same room,
-      );
-    }
+-- what it answers, once it is known how the member is kept
+module _ (k role : ℕ) (copied lost : ℕ → Bool) (old new : MirrorView) (n : MemberView) (may : MayTakeRole k old.array role) (comes : ComesWith k role copied lost old.array n) where
+  -- its log has room, and memory was refused
+  short_of_memory : new ≡ old → RefusesEnrol k copied lost old new NoMemory
+  short_of_memory unchanged =
+      let room : HasRoomInLog k copied lost old.array = record { member = comes.member; at = comes.at; list = comes.list; list_is = comes.list_is; room = comes.room } in
+      record { unchanged = unchanged; reason = ((role, may), room) }
+
+  pub refuses_taking : (f : EnrolFault) → RefusesTaking k copied lost old new f → RefusesEnrol k copied lost old new f
+  refuses_taking fault.Halted r = absurd r
+  refuses_taking fault.EventsFull r = absurd r
+  refuses_taking (fault.LogFull j) r = absurd r
+  refuses_taking fault.TargetFault r = r
+  refuses_taking fault.NoMemory r = short_of_memory r
+
+  pub refuses_taking_but : (f : EnrolFault) → RefusesTaking k copied lost old new f → RefusesEnrolBut k copied lost old new f
+  refuses_taking_but fault.Halted r = absurd r
+  refuses_taking_but fault.EventsFull r = absurd r
+  refuses_taking_but (fault.LogFull j) r = absurd r
+  refuses_taking_but fault.TargetFault r = r
+  refuses_taking_but fault.NoMemory r = record { unchanged = r; reason = (role, may) }
+
+  pub gives_taken : {T : Type 0} (r : Result T EnrolFault) → MatchResult r (λ _. Enrols k copied lost old new) (RefusesTaking k copied lost old new)
+      → MatchResult r (λ _. Enrols k copied lost old new) (RefusesEnrol k copied lost old new)
+  gives_taken (Ok x) is = is
+  gives_taken (Err f) is = refuses_taking f is
+
+  pub gives_taken_but : {T : Type 0} (r : Result T EnrolFault) → MatchResult r (λ _. Enrols k copied lost old new) (RefusesTaking k copied lost old new)
+      → MatchResult r (λ _. Enrols k copied lost old new) (RefusesEnrolBut k copied lost old new)
+  gives_taken_but (Ok x) is = is
+  gives_taken_but (Err f) is = refuses_taking_but f is
 
 -- ---- what is stored
 -- the count and events_cleared in the header are those that are to come
@@ -114,11 +135,11 @@ module _ {D : Type 0} (g : Ghosts D) (devices : List D) (k : ℕ) (was : D) (rea
       (record { kept = seen stops.kept; failed = stops.failed; done = stops.done; tried = stops.tried; rest = stops.rest; order = stops.order; tried_alone_failed = stops.tried_alone_failed; outside = stops.outside; within = stops.within }, kept)
 
 -- ---- the answers
-module _ (k role : ℕ) (copied orphans : Bitmap) (old new : MirrorView) (n : MemberView) (may : MayTakeRole k old.array role) (comes : ComesWith k role copied orphans old.array n)
+module _ (k role : ℕ) (copied lost : ℕ → Bool) (old new : MirrorView) (n : MemberView) (may : MayTakeRole k old.array role) (comes : ComesWith k role copied lost old.array n)
     (start : ℕ) (starts : BitmapStartsAt n.superblock start) (h : BitmapHeader) (header : IsHeaderFor (enrolled old.array k n role) n h)
     (shared : Superblock) (same : shared ≡ joined_shared old.array.shared old.array.members n.superblock.dev_number role) where
   pub enrols_by : new.array ≡ enrolled old.array k n role → IsReadable (merged shared n.superblock)
-      → IsUsedAlone k old.disks new.disks (λ d e. DoesWrites of_disks (member_writes start h shared n) d e × KeepsData n d e) → Enrols k copied orphans old new
+      → IsUsedAlone k old.disks new.disks (λ d e. DoesWrites of_disks (member_writes start h shared n) d e × KeepsData n d e) → Enrols k copied lost old new
   enrols_by array readable disks =
       let fields : shared ≡ new.array.shared = same ∙ sym (ap (λ (x : ArrayView). x.shared) array) in
       record {
@@ -140,7 +161,7 @@ module _ (k role : ℕ) (copied orphans : Bitmap) (old new : MirrorView) (n : Me
       }
 
   pub fails_by : new.array ≡ old.array → IsReadable (merged shared n.superblock)
-      → IsUsedAlone k old.disks new.disks (λ d e. FailsInWrites of_disks (member_writes start h shared n) d e × KeepsData n d e) → FailsToEnrol k copied orphans old new
+      → IsUsedAlone k old.disks new.disks (λ d e. FailsInWrites of_disks (member_writes start h shared n) d e × KeepsData n d e) → FailsToEnrol k copied lost old new
   fails_by array readable disks = record {
     role = role;
     may = may;

@@ -38,7 +38,7 @@ use Rattle.md_super.specs.Merge.{merged}
 use Rattle.md_super.proofs.Order.{sound_without_fault}
 use Rattle.md_super.proofs.RoleLists.{length-roles_in}
 use Rattle.md_array.specs.Consistency.{IsConsistent}
-use Rattle.md_array.specs.Steps.Enrol.{Enrols, MayEnrol}
+use Rattle.md_array.specs.Steps.Enrol.{Enrols, MayEnrolSectors}
 use Rattle.md_array.specs.Steps.EnrolEvents.{IsHeldBy, enrol_event, prepared}
 use Rattle.md_array.specs.Events.{Does}
 use Rattle.md_array.specs.InTurn.{Leads, Requests}
@@ -64,7 +64,7 @@ use Rattle.md_array.proofs.Worlds.Risen.{past_is_high}
 use Rattle.md_array.proofs.Worlds.Shown.{at_is, at_past, by_member}
 use Rattle.md_array.proofs.Worlds.States.{same_active}
 
-module _ (k : ℕ) (copied orphans : Bitmap) (old new : MirrorView) (c : IsConsistent old) (sound : IsConsistent new) (r : Enrols k copied orphans old new) where
+module _ (k : ℕ) (copied lost : ℕ → Bool) (old new : MirrorView) (c : IsConsistent old) (sound : IsConsistent new) (r : Enrols k copied lost old new) where
   abbrev array : ArrayView
   array = old.array
 
@@ -81,7 +81,7 @@ module _ (k : ℕ) (copied orphans : Bitmap) (old new : MirrorView) (c : IsConsi
   out = ap is_in_sync state_is
 
   its_number : n.superblock.dev_number ≡ it.superblock.dev_number
-  its_number = ap (λ (v : Superblock). v.dev_number) (superblock k copied orphans old new c r)
+  its_number = ap (λ (v : Superblock). v.dev_number) (superblock k copied lost old new c r)
 
   pub there : IsMember new.array k n
   there =
@@ -107,9 +107,9 @@ module _ (k : ℕ) (copied orphans : Bitmap) (old new : MirrorView) (c : IsConsi
             absurd (true≢false (sym (below-nat_lt r.role new.array.shared.raid_disks low) ∙ sym (ap (λ x. nat_lt x new.array.shared.raid_disks) given) ∙ high))
       ]
 
-  module _ (may : MayEnrol k copied orphans old) (honest : AreHonest old.disks) (d : Disk) (was : slice_get old.disks k ≡ Some d) (e : Disk) (is : slice_get new.disks k ≡ Some e) where
+  module _ (may : MayEnrolSectors k copied lost old) (honest : AreHonest old.disks) (d : Disk) (was : slice_get old.disks k ≡ Some d) (e : Disk) (is : slice_get new.disks k ≡ Some e) where
     abbrev then : Disk
-    then = then_disk k copied orphans old new c r d was
+    then = then_disk k copied lost old new c r d was
 
     abbrev now : List Disk
     now = set old.disks k then
@@ -121,7 +121,7 @@ module _ (k : ℕ) (copied orphans : Bitmap) (old new : MirrorView) (c : IsConsi
     listed = lists_of array n
 
     then_there : slice_get now k ≡ Some then
-    then_there = then_at k copied orphans old new c r d was
+    then_there = then_at k copied lost old new c r d was
 
     module _ (requests : ℕ → Option Request) (in_flight : AreInFlight array requests) where
       abbrev w : World
@@ -154,13 +154,13 @@ module _ (k : ℕ) (copied orphans : Bitmap) (old new : MirrorView) (c : IsConsi
       number_apart : (j : ℕ) → worlds.IsInSync w j → w.number j ≢ w.number k
       number_apart j on same =
           let y = in_sync_is now array requests j on in
-          another k copied orphans old new c r may honest d was j y.0 y.1
+          another k copied lost old new c r may honest d was j y.0 y.1
           (c.roles.numbers j k y.0 it y.1.member r.comes.at (sym (member_there array j y.0 0 (λ x. x.superblock.dev_number) y.1.member) ∙ same ∙ number_k))
 
       -- ---- its bitmap
       its_bits : (x : ℕ) → (w.stored k).bits x ≡ w.marks x
       its_bits x =
-          let holds = then_holds k copied orphans old new c r d was in
+          let holds = then_holds k copied lost old new c r d was in
           ap (λ (s : Stored). s.bits x) stored_k
           ∙ and_same (nat_lt x array.marks.chunks) _ (is_set array.marks.bytes x)
           (λ low.
@@ -169,12 +169,12 @@ module _ (k : ℕ) (copied orphans : Bitmap) (old new : MirrorView) (c : IsConsi
 
       its_events : (w.stored k).bitmap_events ≡ w.events + 1
       its_events =
-          let holds = then_holds k copied orphans old new c r d was in
+          let holds = then_holds k copied lost old new c r d was in
           ap (λ (s : Stored). s.bitmap_events) stored_k ∙ sym holds.header.events ∙ r.are.header_is.events ∙ ap (λ (x : ArrayView). x.shared.events) r.array
 
       its_fit : (w.stored k).bitmap_fits ≡ true
       its_fit =
-          let holds = then_holds k copied orphans old new c r d was in
+          let holds = then_holds k copied lost old new c r d was in
           let h = r.are.header_is in
           ap (λ (s : Stored). s.bitmap_fits) stored_k
           ∙ header_fits_there array r.are.header (header_on then.content (sector_from_super it.superblock.bitmap_offset)) holds.header
@@ -194,7 +194,7 @@ module _ (k : ℕ) (copied orphans : Bitmap) (old new : MirrorView) (c : IsConsi
             let low = slice_get_within array.members j y on.member in
             let many = c.fits.as_many in
             let z = got_within old.disks j (omega arith) in
-            let at = got_other old.disks k j then (another k copied orphans old new c r may honest d was j y on) ∙ z.1 in
+            let at = got_other old.disks k j then (another k copied lost old new c r may honest d was j y on) ∙ z.1 in
             record {
               disk = z.0;
               at_now = at;
@@ -214,7 +214,7 @@ module _ (k : ℕ) (copied orphans : Bitmap) (old new : MirrorView) (c : IsConsi
                   ap (λ (x : Stored). x.content s) o.stored
                   ∙ ap (λ b. cond b (part o.disk.content (512 * (y.0.superblock.data_offset + s)) 512) []) test
                   ∙ held.in_sync.held j o.disk y.0 o.at_now y.1 s low clear
-                  ∙ sym (it_holds k copied orphans old new c r may honest d was content held s low unlisted)
+                  ∙ sym (it_holds k copied lost old new c r may honest d was content held s low unlisted)
                   ∙ sym (ap (λ b. cond b (part then.content (512 * (it.superblock.data_offset + s)) 512) []) test)
                   ∙ sym (ap (λ (x : Stored). x.content s) stored_k)
               | inr past ↦
@@ -231,7 +231,7 @@ module _ (k : ℕ) (copied orphans : Bitmap) (old new : MirrorView) (c : IsConsi
 
         not_listed : (s : ℕ) → s < array.chunks.size → is_missing array it (s / array.chunks.sectors) ≡ true → listed s ≡ false → HasIt s
         not_listed s low here unlisted =
-            let x = one_has_it k copied orphans old new c r may honest d was content (had_content k copied orphans old new c r may honest d was content held.in_sync) s low here unlisted in
+            let x = one_has_it k copied lost old new c r may honest d was content (had_content k copied lost old new c r may honest d was content held.in_sync) s low here unlisted in
             let o = other x.index x.member x.in_sync in
             let same : x.disk ≡ o.disk = got_same old.disks x.index x.disk o.disk x.at_disk o.at_old in (
               x.index,
@@ -243,17 +243,17 @@ module _ (k : ℕ) (copied orphans : Bitmap) (old new : MirrorView) (c : IsConsi
 
         was_copied : (s : ℕ) → s < array.chunks.size → model.is_missing (geometry_of array) w k (s / array.chunks.sectors) ≡ true → listed s ≡ false → HasIt s
         was_copied s low missing unlisted =
-            not_listed s low (sym (same_missing k mid requests (may_rebuild_it k copied orphans old new c r may) (s / array.chunks.sectors) (chunk_low k copied orphans old new c r may honest d was s low)) ∙ missing) unlisted
+            not_listed s low (sym (same_missing k mid requests (may_rebuild_it k copied lost old new c r may) (s / array.chunks.sectors) (chunk_low k copied lost old new c r may honest d was s low)) ∙ missing) unlisted
 
         was_listed : (s : ℕ) → s < array.chunks.size → w.bad k s ≡ true → listed s ≡ false → HasIt s
         was_listed s low bad unlisted =
             let had : lists_of array it s ≡ true = sym (member_there array k it false (λ x. lists_of array x s) r.comes.at) ∙ bad in
             let is : IsBad it.bad (it.superblock.data_offset + s) = bad_from_test it.bad (it.superblock.data_offset + s) (and_parts (nat_lt s array.chunks.size) _ had).1 in
-            not_listed s low (was_missing k copied orphans old new c r may honest d was s low is unlisted) unlisted
+            not_listed s low (was_missing k copied lost old new c r may honest d was s low is unlisted) unlisted
 
         may_enrol : model.MayEnrol (geometry_of array) w k r.role listed
         may_enrol = record {
-          rebuild = may_rebuild k mid requests (may_rebuild_it k copied orphans old new c r may) in_flight;
+          rebuild = may_rebuild k mid requests (may_rebuild_it k copied lost old new c r may) in_flight;
           recovering = recovers;
           resynced = may.resynced;
           below = low_role;
@@ -273,10 +273,10 @@ module _ (k : ℕ) (copied orphans : Bitmap) (old new : MirrorView) (c : IsConsi
         step = (
           r.may.running,
           (
-            enrolled_world.full k copied orphans old new c sound r out small d was e is (honest k d was),
+            enrolled_world.full k copied lost old new c sound r out small d was e is (honest k d was),
             may_enrol,
-            enrolled_world.full_after k copied orphans old new c sound r out small d was e is (honest k d was) requests,
-            enrolled_world.world_enrolled k copied orphans old new c sound r out small d was e is (honest k d was) requests,
+            enrolled_world.full_after k copied lost old new c sound r out small d was e is (honest k d was) requests,
+            enrolled_world.world_enrolled k copied lost old new c sound r out small d was e is (honest k d was) requests,
           ),
         )
 
@@ -286,14 +286,14 @@ module _ (k : ℕ) (copied orphans : Bitmap) (old new : MirrorView) (c : IsConsi
 
     read_k : (failed_at : ℕ) (is_spoiled : Bool) → IsReadAsKept (enrolled array k n r.role) n failed_at is_spoiled e.content
     read_k failed_at is_spoiled =
-        let holds = then_holds k copied orphans old new c r d was in
-        let block = enrolled_world.block_is k copied orphans old new c sound r out small d was e is (honest k d was) in
-        let kept = header_beside_super (enrolled array k n r.role) n then.content e.content (enrolled_world.parts_then k copied orphans old new c sound r out small d was e is (honest k d was))
-        (enrolled_world.outside k copied orphans old new c sound r out small d was e is (honest k d was)) in
+        let holds = then_holds k copied lost old new c r d was in
+        let block = enrolled_world.block_is k copied lost old new c sound r out small d was e is (honest k d was) in
+        let kept = header_beside_super (enrolled array k n r.role) n then.content e.content (enrolled_world.parts_then k copied lost old new c sound r out small d was e is (honest k d was))
+        (enrolled_world.outside k copied lost old new c sound r out small d was e is (honest k d was)) in
         record {
           super = λ _. own_written (enrolled array k n r.role) n e.content readable (block ∙ ap (λ (x : ArrayView). (write_of x.shared n).bytes) r.array);
           header = λ _. inl (ap (λ (h : List ℕ). number_at 4 52 h / 512) kept
-              ∙ ap (λ (v : Superblock). number_at 4 52 (header_on then.content (sector_from_super v.bitmap_offset)) / 512) (superblock k copied orphans old new c r)
+              ∙ ap (λ (v : Superblock). number_at 4 52 (header_on then.content (sector_from_super v.bitmap_offset)) / 512) (superblock k copied lost old new c r)
               ∙ ap (λ (x : ℕ). x / 512) (sym holds.header.chunksize ∙ r.are.header_is.chunksize ∙ ap (λ (h : BitmapHeader). h.chunksize) r.comes.comes.header)
               ∙ c.chunks.member_width k it r.comes.at);
         }
@@ -319,7 +319,7 @@ module _ (k : ℕ) (copied orphans : Bitmap) (old new : MirrorView) (c : IsConsi
     -- ---- the write
     done : IsDone k (write_of new.array.shared n) now new.disks
     done =
-        let world = enrolled_world.outside k copied orphans old new c sound r out small d was e is (honest k d was) in
+        let world = enrolled_world.outside k copied lost old new c sound r out small d was e is (honest k d was) in
         let does = (r.disks.change d e was is).0 in
         let is_then : (x : Disk) → slice_get now k ≡ Some x → then ≡ x = λ x at. got_same now k then x then_there at in
         let is_new : (x : Disk) → slice_get new.disks k ≡ Some x → e ≡ x = λ x at. got_same new.disks k e x is at in
@@ -332,7 +332,7 @@ module _ (k : ℕ) (copied orphans : Bitmap) (old new : MirrorView) (c : IsConsi
                 (subst (λ (z : Disk). SameOutside (512 * 8) (length (write_of new.array.shared n).bytes) then.content z.content) (is_new y after)
                 (subst (λ (l : ℕ). SameOutside (512 * 8) l then.content e.content) (sym r.readable.size) world));
           };
-          done = λ x y before after _. sym (ap (λ (z : Disk). z.content) (is_new y after)) ∙ enrolled_world.written_then k copied orphans old new c sound r out small d was e is (honest k d was)
+          done = λ x y before after _. sym (ap (λ (z : Disk). z.content) (is_new y after)) ∙ enrolled_world.written_then k copied lost old new c sound r out small d was e is (honest k d was)
               ∙ ap (λ (z : Disk). written z.content 8 (write_of new.array.shared n).bytes) (is_then x before);
         }
 
@@ -362,17 +362,17 @@ module _ (k : ℕ) (copied orphans : Bitmap) (old new : MirrorView) (c : IsConsi
         }
 
 -- ---- the two events
-module _ (k : ℕ) (copied orphans : Bitmap) (old new : MirrorView) (c : IsConsistent old) (sound : IsConsistent new) (may : MayEnrol k copied orphans old)
-    (r : Enrols k copied orphans old new) where
+module _ (k : ℕ) (copied lost : ℕ → Bool) (old new : MirrorView) (c : IsConsistent old) (sound : IsConsistent new) (may : MayEnrolSectors k copied lost old)
+    (r : Enrols k copied lost old new) where
   honest_before : (d : Disk) → slice_get old.disks k ≡ Some d → AreHonest (prepared r).disks → AreHonest old.disks
   honest_before d was all j x found =
-      let now = set old.disks k (then_disk k copied orphans old new c r d was) in
-      let here : AreHonest now = subst (λ (v : MirrorView). AreHonest v.disks) (prepared_is k copied orphans old new c r d was) all in
+      let now = set old.disks k (then_disk k copied lost old new c r d was) in
+      let here : AreHonest now = subst (λ (v : MirrorView). AreHonest v.disks) (prepared_is k copied lost old new c r d was) all in
       by_same j k
       (λ same.
       let one : d ≡ x = got_same old.disks k d x was (sym (ap (slice_get old.disks) same) ∙ found) in
-      ap (λ (z : Disk). z.honest) (sym one) ∙ here k (then_disk k copied orphans old new c r d was) (then_at k copied orphans old new c r d was))
-      (λ apart. here j x (got_other old.disks k j (then_disk k copied orphans old new c r d was) apart ∙ found))
+      ap (λ (z : Disk). z.honest) (sym one) ∙ here k (then_disk k copied lost old new c r d was) (then_at k copied lost old new c r d was))
+      (λ apart. here j x (got_other old.disks k j (then_disk k copied lost old new c r d was) apart ∙ found))
 
   comes_in : (requests : ℕ → Option Request) → AreInFlight old.array requests → AreHonest (prepared r).disks → (held : (content : Content) × IsHeldBy k (lists_of old.array r.member) content (prepared r))
       → Does (prepared r) requests (enrol_event r) new requests
@@ -382,14 +382,14 @@ module _ (k : ℕ) (copied orphans : Bitmap) (old new : MirrorView) (c : IsConsi
       let more = r.disks.as_many in
       let d = got_within old.disks k (omega arith) in
       let e = got_within new.disks k (omega arith) in
-      let same = prepared_is k copied orphans old new c r d.0 d.1 in
+      let same = prepared_is k copied lost old new c r d.0 d.1 in
       subst (λ (v : MirrorView). Does v requests (enrol_event r) new requests) (sym same)
-      (does_enrol k copied orphans old new c sound r may (honest_before d.0 d.1 all) d.0 d.1 e.0 e.1 requests in_flight held.0
+      (does_enrol k copied lost old new c sound r may (honest_before d.0 d.1 all) d.0 d.1 e.0 e.1 requests in_flight held.0
       (subst (IsHeldBy k (lists_of old.array r.member) held.0) same held.1))
 
   pub enrol_leads : (previous : Option Event) (requests : Requests) → AreInFlight old.array requests → Leads previous old requests (Event.Prepare k ∷ enrol_event r ∷ []) new requests
   enrol_leads previous requests in_flight =
-      let first = prepares k copied orphans old new c r may in (
+      let first = prepares k copied lost old new c r may in (
         prepared r,
         requests,
         tt,
@@ -399,7 +399,7 @@ module _ (k : ℕ) (copied orphans : Bitmap) (old new : MirrorView) (c : IsConsi
           new,
           requests,
           tt,
-          (refl, record { index = k; copied = copied; orphans = orphans; old = old; enrols = r; prepared = refl; event = refl }),
+          (refl, record { index = k; copied = copied; lost = lost; old = old; enrols = r; prepared = refl; event = refl }),
           λ honest held. comes_in requests in_flight honest held,
           (refl, refl),
         ),

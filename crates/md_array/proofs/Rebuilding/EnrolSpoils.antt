@@ -3,7 +3,6 @@ use Rattle.std.proofs.Common.{◌≡◌, ◌≢◌, ℕ, ◌*◌, ◌<◌, Bool,
 use Rattle.std.proofs.lemmas.Option.{slice_get_within}
 use Rattle.md_assembly.proofs.Indices.{got_same}
 use Rattle.md_assembly.specs.States.{is_recovering}
-use Rattle.md_bitmap.specs.Marks.{Bitmap}
 use Rattle.md_device.specs.Splice.{SameOutside}
 use Rattle.md_device.proofs.Leaving.{leaves_none}
 use Rattle.md_kept_members.specs.View.{MemberView}
@@ -21,7 +20,7 @@ use Rattle.md_members.specs.DeviceWrites.Bitmaps.{bitmap_writes}
 use Rattle.md_members.proofs.DeviceWriteLemmas.Frames.{outside_none}
 use Rattle.md_members.specs.DeviceWrites.Writes.{DoesWrites, FailsInWrites, IsAnyIn, IsCutShort, Write, after}
 use Rattle.md_array.specs.Consistency.{IsConsistent}
-use Rattle.md_array.specs.Steps.Enrol.{Enrols, FailsToEnrol, KeepsData, MayEnrol}
+use Rattle.md_array.specs.Steps.Enrol.{Enrols, FailsToEnrol, KeepsData, MayEnrolSectors}
 use Rattle.md_array.specs.Steps.EnrolEvents.{FailsAtSuper, Prepares, before_last, prepared_only, with_first, writes_before}
 use Rattle.md_array.specs.Events.{IsChangedAlone, IsSameBesideMarks}
 use Rattle.md_array.specs.InTurn.{Leads, Requests}
@@ -53,7 +52,7 @@ ends_alike (w ∷ xs) (v ∷ ys) x y e =
     let rest = ends_alike xs ys x y others in
     ((λ i. first i ∷ rest.0 i), rest.1)
 
-module _ (k : ℕ) (copied orphans : Bitmap) (old new : MirrorView) (c : IsConsistent old) (f : FailsToEnrol k copied orphans old new) where
+module _ (k : ℕ) (copied lost : ℕ → Bool) (old new : MirrorView) (c : IsConsistent old) (f : FailsToEnrol k copied lost old new) where
   abbrev a : ArrayView
   a = old.array
 
@@ -72,7 +71,7 @@ module _ (k : ℕ) (copied orphans : Bitmap) (old new : MirrorView) (c : IsConsi
   -- ---- the enrolment, had that write not failed
   module _ (d : Disk) (was : slice_get old.disks k ≡ Some d) where
     storable : IsStorable n d.content
-    storable = can_store k f.role copied orphans old c n f.comes d was
+    storable = can_store k f.role copied lost old c n f.comes d was
 
     abbrev pub done : Disk
     done = record d { content = after d.content f.writes }
@@ -97,7 +96,7 @@ module _ (k : ℕ) (copied orphans : Bitmap) (old new : MirrorView) (c : IsConsi
       within = λ _. leaves_none d.crashes (IsCutShort d.content f.writes);
     }
 
-    abbrev pub enrols_instead : Enrols k copied orphans old instead
+    abbrev pub enrols_instead : Enrols k copied lost old instead
     enrols_instead = record {
       role = f.role;
       may = f.may;
@@ -134,7 +133,7 @@ module _ (k : ℕ) (copied orphans : Bitmap) (old new : MirrorView) (c : IsConsi
     mid_is : prepared_only f ≡ mid
     mid_is = λ i. record old { disks = with_first old.disks k (writes_before f) (s.is i) (s.left_is i) }
 
-    abbrev instead_done : Enrols k copied orphans old (instead d s.is)
+    abbrev instead_done : Enrols k copied lost old (instead d s.is)
     instead_done = enrols_instead d s.is
 
     as_then : d.honest ≡ true → then.content ≡ after d.content (writes_before f)
@@ -142,15 +141,15 @@ module _ (k : ℕ) (copied orphans : Bitmap) (old new : MirrorView) (c : IsConsi
 
     long : length then.content ≡ length d.content
     long = by_test d.honest
-        (λ on. ap length (as_then on) ∙ then_long k copied orphans old (instead d s.is) c instead_done d s.is)
+        (λ on. ap length (as_then on) ∙ then_long k copied lost old (instead d s.is) c instead_done d s.is)
         (λ off. ap (λ (t : Bool). length (cond t (after d.content (writes_before f)) e.content)) off ∙ fails.kept.size)
 
     mid_alone : IsChangedAlone k (IsSameBesideMarks m) old.disks mid.disks
     mid_alone = set_alone k old.disks d s.is then.content (IsSameBesideMarks m) long
-        (λ honest. subst (IsSameBesideMarks m d.content) (sym (as_then honest)) (then_beside k copied orphans old (instead d s.is) c instead_done d s.is))
+        (λ honest. subst (IsSameBesideMarks m d.content) (sym (as_then honest)) (then_beside k copied lost old (instead d s.is) c instead_done d s.is))
 
-    prepares_mid : MayEnrol k copied orphans old → Prepares k old mid
-    prepares_mid may = record { may = may_rebuild_it k copied orphans old (instead d s.is) c instead_done may; array = refl; disks = mid_alone }
+    prepares_mid : MayEnrolSectors k copied lost old → Prepares k old mid
+    prepares_mid may = record { may = may_rebuild_it k copied lost old (instead d s.is) c instead_done may; array = refl; disks = mid_alone }
 
     -- ---- the last write
     order : writes_before f ++ write ∷ [] ≡ fails.done ++ fails.tried ∷ []
@@ -205,7 +204,7 @@ module _ (k : ℕ) (copied orphans : Bitmap) (old new : MirrorView) (c : IsConsi
     }
 
     -- ---- the two events
-    pub prepares : MayEnrol k copied orphans old → Prepares k old (prepared_only f)
+    pub prepares : MayEnrolSectors k copied lost old → Prepares k old (prepared_only f)
     prepares may = subst (Prepares k old) (sym mid_is) (prepares_mid may)
 
     pub spoils : SpoilsTarget k (prepared_only f) new
@@ -214,7 +213,7 @@ module _ (k : ℕ) (copied orphans : Bitmap) (old new : MirrorView) (c : IsConsi
     prepared_sound : IsConsistent (prepared_only f)
     prepared_sound = subst IsConsistent (sym mid_is) (only_is_consistent k m old mid c f.comes.at rebuilt refl (changed_only k (IsSameBesideMarks m) old.disks mid.disks mid_alone))
 
-    pub unenrol_leads : MayEnrol k copied orphans old → (previous : Option Event) (requests : Requests) → AreInFlight a requests
+    pub unenrol_leads : MayEnrolSectors k copied lost old → (previous : Option Event) (requests : Requests) → AreInFlight a requests
         → Leads previous old requests (Event.Prepare k ∷ Event.SpoilTarget k ∷ []) new requests
     unenrol_leads may previous requests in_flight =
         let first = prepares may in

@@ -1,7 +1,6 @@
 -- A member doesn't come into sync: a write failed, or it was refused. The mirror stays consistent.
-use Rattle.std.proofs.Common.{◌≡◌, ℕ, ◌/◌, ◌≤◌, false, true≢false, length, slice_get, Some, None, sym, ap, ◌∙◌, subst, arith, ◌^◌}
+use Rattle.std.proofs.Common.{Bool, ◌≡◌, ℕ, ◌/◌, ◌≤◌, false, true≢false, length, slice_get, Some, None, sym, ap, ◌∙◌, subst, arith, ◌^◌}
 use Rattle.std.proofs.lemmas.Option.{slice_get_within}
-use Rattle.md_bitmap.specs.Marks.{Bitmap}
 use Rattle.md_members.specs.Areas.{AreAreasPlaced, bitmap_sectors}
 use Rattle.md_members.specs.Members.{sectors_of_device}
 use Rattle.md_model.proofs.Puts.{by_same}
@@ -41,7 +40,7 @@ fits_as_long a m d e long fit =
       told = fit.told;
     }
 
-module _ (k : ℕ) (copied orphans : Bitmap) (old new : MirrorView) (c : IsConsistent old) (r : FailsToEnrol k copied orphans old new) where
+module _ (k : ℕ) (copied lost : ℕ → Bool) (old new : MirrorView) (c : IsConsistent old) (r : FailsToEnrol k copied lost old new) where
   abbrev a : ArrayView
   a = old.array
 
@@ -68,12 +67,12 @@ module _ (k : ℕ) (copied orphans : Bitmap) (old new : MirrorView) (c : IsConsi
   })
 
 -- ---- whatever it answers
-module _ (k : ℕ) (copied orphans : Bitmap) (old new : MirrorView) (c : IsConsistent old) where
-  pub refused_is_consistent : (f : EnrolFault) → RefusesEnrol k copied orphans old new f → IsConsistent new
+module _ (k : ℕ) (copied lost : ℕ → Bool) (old new : MirrorView) (c : IsConsistent old) where
+  pub refused_is_consistent : (f : EnrolFault) → RefusesEnrol k copied lost old new f → IsConsistent new
   refused_is_consistent fault.Halted r = subst IsConsistent (sym r.unchanged) c
   refused_is_consistent fault.EventsFull r = subst IsConsistent (sym r.unchanged) c
   refused_is_consistent (fault.LogFull j) r = subst IsConsistent (sym r.unchanged) c
-  refused_is_consistent fault.TargetFault r = unenrolled_is_consistent k copied orphans old new c r
+  refused_is_consistent fault.TargetFault r = unenrolled_is_consistent k copied lost old new c r
   refused_is_consistent fault.NoMemory r = subst IsConsistent (sym r.unchanged) c
 
 -- nothing is in flight, so that no request is pending

@@ -53,7 +53,7 @@ use Rattle.md_members.specs.DeviceWrites.Bitmaps.{bitmap_writes}
 use Rattle.md_members.specs.DeviceWrites.Writes.{DoesWrites, Write, after}
 use Rattle.md_members.proofs.DeviceWriteLemmas.Runs.{after-append}
 
-module _ (k : ℕ) (copied orphans : Bitmap) (old new : MirrorView) (c : IsConsistent old) (sound : IsConsistent new) (r : Enrols k copied orphans old new)
+module _ (k : ℕ) (copied lost : ℕ → Bool) (old new : MirrorView) (c : IsConsistent old) (sound : IsConsistent new) (r : Enrols k copied lost old new)
     (out : is_in_sync r.comes.member.state ≡ false) (small : r.member.superblock.dev_number < 1920)
     (d : Disk) (was : slice_get old.disks k ≡ Some d) (e : Disk) (is : slice_get new.disks k ≡ Some e) (honest : d.honest ≡ true) where
   abbrev array : ArrayView
@@ -78,7 +78,7 @@ module _ (k : ℕ) (copied orphans : Bitmap) (old new : MirrorView) (c : IsConsi
   up = risen array full
 
   abbrev then : Disk
-  then = then_disk k copied orphans old new c r d was
+  then = then_disk k copied lost old new c r d was
 
   abbrev now : List Disk
   now = set old.disks k then
@@ -87,7 +87,7 @@ module _ (k : ℕ) (copied orphans : Bitmap) (old new : MirrorView) (c : IsConsi
   bytes = (write_of new.array.shared n).bytes
 
   same_super : n.superblock ≡ in_sync_superblock r.comes.list it.superblock
-  same_super = superblock k copied orphans old new c r
+  same_super = superblock k copied lost old new c r
 
   up_at : IsMember up k (made_due it)
   up_at = got_in_map made_due array.members k it r.comes.at
@@ -110,12 +110,12 @@ module _ (k : ℕ) (copied orphans : Bitmap) (old new : MirrorView) (c : IsConsi
       ∙ ap (after d.content) r.are.are
       ∙ after-append d.content first (log ++ write_of new.array.shared n ∷ [])
       ∙ after-append (after d.content first) log (write_of new.array.shared n ∷ [])
-      ∙ sym (ap (λ (xs : List ℕ). written xs 8 bytes) (in_two k copied orphans old new c r d was))
+      ∙ sym (ap (λ (xs : List ℕ). written xs 8 bytes) (in_two k copied lost old new c r d was))
 
   room : 512 * 8 + 4096 ≤ length then.content
   room =
       let long = (c.fits.each k d it was r.comes.at).long in
-      let same = then_long k copied orphans old new c r d was in
+      let same = then_long k copied lost old new c r d was in
       omega arith
 
   pub outside : SameOutside (512 * 8) 4096 then.content e.content
@@ -138,7 +138,7 @@ module _ (k : ℕ) (copied orphans : Bitmap) (old new : MirrorView) (c : IsConsi
 
   -- what it lists is its list
   listed_is : (sector : ℕ) → is_listed n.superblock e.content sector ≡ lies_in n.bad sector
-  listed_is sector = same_test (is_listed n.superblock e.content sector) (lies_in n.bad sector) (lists_now k copied orphans old new c r d e was is honest sector) (bad_from_test n.bad sector, test_from_bad n.bad sector)
+  listed_is sector = same_test (is_listed n.superblock e.content sector) (lies_in n.bad sector) (lists_now k copied lost old new c r d e was is honest sector) (bad_from_test n.bad sector, test_from_bad n.bad sector)
 
   same_number : n.superblock.dev_number ≡ it.superblock.dev_number
   same_number = ap (λ (v : Superblock). v.dev_number) same_super
@@ -180,7 +180,7 @@ module _ (k : ℕ) (copied orphans : Bitmap) (old new : MirrorView) (c : IsConsi
     stored_up : u.stored k ≡ stored_of array it then.content
     stored_up =
         ap (λ o. stored_on up o (slice_get now k)) up_at
-        ∙ ap (stored_on up (Some (made_due it))) (then_at k copied orphans old new c r d was)
+        ∙ ap (stored_on up (Some (made_due it))) (then_at k copied lost old new c r d was)
 
     device_is : stored_of b n e.content ≡ model.enrolled_device u k role listed
     device_is =

@@ -12,7 +12,7 @@ use Rattle.md_badblocks.specs.Runs.{IsBad}
 use Rattle.md_bitmap.specs.Chunks.{InChunk}
 use Rattle.md_bitmap.specs.Marks.{Bitmap, is_set}
 use Rattle.md_device.specs.Splice.{part}
-use Rattle.md_kept_members.specs.Enrolling.{IsOf}
+use Rattle.md_kept_members.specs.SectorLists.{IsPlaced}
 use Rattle.md_kept_members.specs.View.{MemberView}
 use Rattle.md_model.specs.Content.{Content}
 use Rattle.md_model.proofs.Cases.{by_test}
@@ -21,7 +21,7 @@ use Rattle.md_state.specs.Missing.{is_missing}
 use Rattle.md_state.specs.View.{ArrayView, Disk, MirrorView}
 use Rattle.md_super.specs.declared.superblock.Superblock.{Superblock}
 use Rattle.md_array.specs.Consistency.{IsConsistent}
-use Rattle.md_array.specs.Steps.Enrol.{Enrols, HoldsContent, MayEnrol}
+use Rattle.md_array.specs.Steps.Enrol.{Enrols, HoldsContent, MayEnrolSectors}
 use Rattle.md_array.specs.Steps.EnrolEvents.{IsHeldBy}
 use Rattle.md_array.specs.Worlds.{AreHonest, lies_in, lists_of}
 use Rattle.md_array.proofs.General.Indices.{got_other}
@@ -54,7 +54,7 @@ chunk_unique size width s c wide inside =
     let down : s / width < c + 1 = div_below s width (c + 1) wide inside.below in
     omega arith
 
-module _ (k : ℕ) (copied orphans : Bitmap) (old new : MirrorView) (c : IsConsistent old) (r : Enrols k copied orphans old new) (may : MayEnrol k copied orphans old)
+module _ (k : ℕ) (copied lost : ℕ → Bool) (old new : MirrorView) (c : IsConsistent old) (r : Enrols k copied lost old new) (may : MayEnrolSectors k copied lost old)
     (honest : AreHonest old.disks) (d : Disk) (was : slice_get old.disks k ≡ Some d) where
   abbrev array : ArrayView
   array = old.array
@@ -63,7 +63,7 @@ module _ (k : ℕ) (copied orphans : Bitmap) (old new : MirrorView) (c : IsConsi
   it = r.comes.member
 
   abbrev then : Disk
-  then = then_disk k copied orphans old new c r d was
+  then = then_disk k copied lost old new c r d was
 
   abbrev now : List Disk
   now = set old.disks k then
@@ -89,35 +89,31 @@ module _ (k : ℕ) (copied orphans : Bitmap) (old new : MirrorView) (c : IsConsi
   pub another : (j : ℕ) (y : MemberView) → IsInSync array j y → j ≢ k
   another j y on here =
       let same : y ≡ it = same_Some y it (sym on.member ∙ ap (slice_get array.members) here ∙ r.comes.at) in
-      let rebuilt = (may_rebuild_it k copied orphans old new c r may).rebuilt in
+      let rebuilt = (may_rebuild_it k copied lost old new c r may).rebuilt in
       true≢false (sym rebuilt ∙ unrebuilt it.state (sym (ap (λ (x : MemberView). is_in_sync x.state) same) ∙ on.in_sync))
 
-  -- a sector of an orphan is listed
-  orphan_listed : (s : ℕ) → s < array.chunks.size → is_set orphans.bytes (chunk s) ≡ true → listed s ≡ true
-  orphan_listed s low set =
-      let below : chunk s < orphans.chunks = subst (λ (x : ℕ). chunk s < x) (sym may.orphan_chunks) (chunk_low s low) in
+  -- a lost sector is listed
+  lost_listed : (s : ℕ) → s < array.chunks.size → lost s ≡ true → listed s ≡ true
+  lost_listed s low is =
       let bound = ends_below old c k it r.comes.at in
-      let of : IsOf array.chunks it.superblock.data_offset orphans (it.superblock.data_offset + s) =
-      record { chunk = chunk s; early = below; in_set = set; of_chunk = record { at = s; inside = its_chunk array.chunks.size array.chunks.sectors s c.chunks.wide low; is = refl } } in
-      let bad : IsBad r.comes.list (it.superblock.data_offset + s) = (r.comes.list_is.bad (it.superblock.data_offset + s)).1 (inr (of, omega arith)) in
+      let placed : IsPlaced lost it.superblock.data_offset (it.superblock.data_offset + s) = record { at = s; in_set = is; is = refl } in
+      let bad : IsBad r.comes.list (it.superblock.data_offset + s) = (r.comes.list_is.bad (it.superblock.data_offset + s)).1 (inr (placed, omega arith)) in
       let there : IsBad r.member.bad (r.member.superblock.data_offset + s) =
-      subst (λ (v : Superblock). IsBad r.member.bad (v.data_offset + s)) (sym (superblock k copied orphans old new c r)) (subst (λ (runs : List Run). IsBad runs (it.superblock.data_offset + s)) (sym r.comes.comes.bad) bad) in
+      subst (λ (v : Superblock). IsBad r.member.bad (v.data_offset + s)) (sym (superblock k copied lost old new c r)) (subst (λ (runs : List Run). IsBad runs (it.superblock.data_offset + s)) (sym r.comes.comes.bad) bad) in
       and_from (nat_lt s array.chunks.size) (lies_in r.member.bad (r.member.superblock.data_offset + s)) (lt-ltb s array.chunks.size low) (test_from_bad r.member.bad (r.member.superblock.data_offset + s) there)
 
-  -- the chunk of one that it lacked and does not list was copied
-  was_copied : (s : ℕ) → s < array.chunks.size → is_missing array it (chunk s) ≡ true → listed s ≡ false → is_set copied.bytes (chunk s) ≡ true
+  -- one that it lacked and does not list was copied
+  was_copied : (s : ℕ) → s < array.chunks.size → is_missing array it (chunk s) ≡ true → listed s ≡ false → copied s ≡ true
   was_copied s low missing unlisted =
-      elim (may.cover (chunk s) (chunk_low s low) (subst (λ (x : MemberView). is_missing array x (chunk s) ≡ true) (sym is_it) missing)) [
+      elim (may.cover s low (subst (λ (x : MemberView). is_missing array x (chunk s) ≡ true) (sym is_it) missing)) [
         | inl is ↦ is
-        | inr orphan ↦ absurd (true≢false (sym (orphan_listed s low orphan) ∙ unlisted))
+        | inr gone ↦ absurd (true≢false (sym (lost_listed s low gone) ∙ unlisted))
       ]
 
   -- there it holds any content that the members in sync hold
   holds_copied : (content : Content) → HoldsContent old.disks array content → (s : ℕ) → s < array.chunks.size → is_missing array it (chunk s) ≡ true → listed s ≡ false
       → part d.content (at s) 512 ≡ content s
-  holds_copied content has s low missing unlisted =
-      may.holds honest content has d it was r.comes.at (chunk s) s (subst (λ (x : ℕ). chunk s < x) (sym may.copied_chunks) (chunk_low s low)) (was_copied s low missing unlisted)
-      (its_chunk array.chunks.size array.chunks.sectors s c.chunks.wide low)
+  holds_copied content has s low missing unlisted = may.holds honest content has d it was r.comes.at s (was_copied s low missing unlisted)
 
   -- ---- the device of some member in sync does not list it either
   pub one_has_it : (content : Content) → HoldsContent old.disks array content → (s : ℕ) → s < array.chunks.size → is_missing array it (chunk s) ≡ true → listed s ≡ false → HasSector old.disks array s
@@ -126,17 +122,16 @@ module _ (k : ℕ) (copied orphans : Bitmap) (old new : MirrorView) (c : IsConsi
 
   -- One that it listed and does not list any more is of a chunk that was copied.
   pub was_missing : (s : ℕ) → s < array.chunks.size → IsBad it.bad (it.superblock.data_offset + s) → listed s ≡ false → is_missing array it (chunk s) ≡ true
-  was_missing s low bad unlisted = by_test (is_set copied.bytes (chunk s))
-      (λ set. subst (λ (x : MemberView). is_missing array x (chunk s) ≡ true) is_it (may.only (chunk s) (chunk_low s low) (inl set)))
+  was_missing s low bad unlisted = by_test (copied s)
+      (λ is. subst (λ (x : MemberView). is_missing array x (chunk s) ≡ true) is_it (may.only s (inl is)).1)
       (λ clear.
       let sector = it.superblock.data_offset + s in
-      let none : IsOf array.chunks it.superblock.data_offset copied sector → ⊥ = λ of.
-      (let same : of.of_chunk.at ≡ s = let e = of.of_chunk.is in omega arith in
-      let chunk_is : of.chunk ≡ chunk s = chunk_unique array.chunks.size array.chunks.sectors s of.chunk c.chunks.wide (subst (λ (i : ℕ). InChunk array.chunks.sectors array.chunks.size of.chunk i) same of.of_chunk.inside) in
-      true≢false (sym of.in_set ∙ ap (λ (i : ℕ). is_set copied.bytes i) chunk_is ∙ clear)) in
+      let none : IsPlaced copied it.superblock.data_offset sector → ⊥ = λ p.
+      (let same : p.at ≡ s = let e = p.is in omega arith in
+      true≢false (sym p.in_set ∙ ap copied same ∙ clear)) in
       let still : IsBad r.comes.list sector = (r.comes.list_is.bad sector).1 (inl (bad, none)) in
       let there : IsBad r.member.bad (r.member.superblock.data_offset + s) =
-      subst (λ (v : Superblock). IsBad r.member.bad (v.data_offset + s)) (sym (superblock k copied orphans old new c r)) (subst (λ (runs : List Run). IsBad runs sector) (sym r.comes.comes.bad) still) in
+      subst (λ (v : Superblock). IsBad r.member.bad (v.data_offset + s)) (sym (superblock k copied lost old new c r)) (subst (λ (runs : List Run). IsBad runs sector) (sym r.comes.comes.bad) still) in
       absurd (true≢false (sym (and_from (nat_lt s array.chunks.size) (lies_in r.member.bad (r.member.superblock.data_offset + s)) (lt-ltb s array.chunks.size low) (test_from_bad r.member.bad (r.member.superblock.data_offset + s) there)) ∙ unlisted)))
 
   -- ---- in the midst
@@ -147,10 +142,10 @@ module _ (k : ℕ) (copied orphans : Bitmap) (old new : MirrorView) (c : IsConsi
   }
 
   pub then_sector : (s : ℕ) → s < array.chunks.size → part then.content (at s) 512 ≡ part d.content (at s) 512
-  then_sector = sector_kept array it d.content then.content (parts_of old c k d it was r.comes.at) (then_beside k copied orphans old new c r d was)
+  then_sector = sector_kept array it d.content then.content (parts_of old c k d it was r.comes.at) (then_beside k copied lost old new c r d was)
 
   pub it_holds : (content : Content) → IsHeldBy k listed content (record old { disks = now }) → (s : ℕ) → s < array.chunks.size → listed s ≡ false
       → part then.content (at s) 512 ≡ content s
   it_holds content held s low unlisted = by_test (is_missing array it (chunk s))
       (λ missing. then_sector s low ∙ holds_copied content (had_content content held.in_sync) s low missing unlisted)
-      (λ had. held.told then it (then_at k copied orphans old new c r d was) r.comes.at s low had unlisted)
+      (λ had. held.told then it (then_at k copied lost old new c r d was) r.comes.at s low had unlisted)

@@ -1,12 +1,11 @@
 -- The mirror in the midst of an enrolment: marks and log are stored, and the superblock is not. No caller sees it.
-use Rattle.std.proofs.Common.{◌≡◌, ◌+◌, ℕ, ◌*◌, ◌<◌, ◌≤◌, inl, inr, true, List, length, length-set, set, slice_get, Option, Some, refl, sym, ap, ◌∙◌, subst, arith}
+use Rattle.std.proofs.Common.{Bool, ◌≡◌, ◌+◌, ℕ, ◌*◌, ◌<◌, ◌≤◌, inl, inr, true, List, length, length-set, set, slice_get, Option, Some, refl, sym, ap, ◌∙◌, subst, arith}
 use Rattle.std.specs.Prelude.{⊤}
 use Rattle.std.proofs.lemmas.Option.{same_Some, slice_get_within}
 use Rattle.md_assembly.specs.States.{is_recovering}
 use Rattle.md_assembly.specs.declared.state.MemberState.TheVariants.{InSync, Recovering, Stale, Spare, Faulty}
 use Rattle.md_assembly.specs.declared.state.MemberState.{MemberState}
 use Rattle.md_assembly.proofs.Indices.{got_same, got_within}
-use Rattle.md_bitmap.specs.Marks.{Bitmap}
 use Rattle.md_badblocks.specs.Log.{log_bytes}
 use Rattle.md_device.specs.Device.{written}
 use Rattle.md_device.specs.Splice.{SameOutside, part}
@@ -27,7 +26,7 @@ use Rattle.md_members.specs.DeviceWrites.Writes.{after}
 use Rattle.md_members.proofs.DeviceWriteLemmas.Frames.{outside_around}
 use Rattle.md_members.proofs.DeviceWriteLemmas.Runs.{after-append}
 use Rattle.md_array.specs.Consistency.{IsConsistent}
-use Rattle.md_array.specs.Steps.Enrol.{Enrols, MayEnrol}
+use Rattle.md_array.specs.Steps.Enrol.{Enrols, MayEnrolSectors}
 use Rattle.md_array.specs.Steps.EnrolEvents.{Prepares, first_writes, prepared, with_writes}
 use Rattle.md_array.specs.Events.{IsBesideArea, IsBesideMarks, IsChangedAlone, IsSameBesideMarks}
 use Rattle.md_array.specs.Steps.Fill.{MayRebuild}
@@ -69,7 +68,7 @@ set_alone k disks d was content Related long related =
       within = at_device disks k d then (λ x y. x.honest ≡ true → LeavesOn (Related x.content) x y) was (λ _. leaves_none d.crashes (Related d.content));
     }
 
-module _ (k : ℕ) (copied orphans : Bitmap) (old new : MirrorView) (c : IsConsistent old) (r : Enrols k copied orphans old new) where
+module _ (k : ℕ) (copied lost : ℕ → Bool) (old new : MirrorView) (c : IsConsistent old) (r : Enrols k copied lost old new) where
   abbrev pub a : ArrayView
   a = old.array
 
@@ -182,7 +181,7 @@ module _ (k : ℕ) (copied orphans : Bitmap) (old new : MirrorView) (c : IsConsi
     pub changes_then : IsChangedAlone k (IsSameBesideMarks m) old.disks (set old.disks k then_disk)
     changes_then = set_alone k old.disks d was content_then (IsSameBesideMarks m) then_long (λ _. then_beside)
 
-  abbrev pub may_rebuild_it : MayEnrol k copied orphans old → MayRebuild k a
+  abbrev pub may_rebuild_it : MayEnrolSectors k copied lost old → MayRebuild k a
   may_rebuild_it may = record {
     idle = record { running = r.may.running; none = may.idle };
     member = m;
@@ -190,7 +189,7 @@ module _ (k : ℕ) (copied orphans : Bitmap) (old new : MirrorView) (c : IsConsi
     rebuilt = subst (λ (x : MemberView). is_rebuilt x.state ≡ true) (got_same a.members k may.member m may.at r.comes.at) (recovers_rebuilt may.member.state may.recovering);
   }
 
-  pub prepares : MayEnrol k copied orphans old → Prepares k old (prepared r)
+  pub prepares : MayEnrolSectors k copied lost old → Prepares k old (prepared r)
   prepares may =
       let low = slice_get_within a.members k m r.comes.at in
       let many = c.fits.as_many in

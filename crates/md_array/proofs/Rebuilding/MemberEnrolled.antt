@@ -19,7 +19,6 @@ use Rattle.md_assembly.proofs.Indices.{got_same, got_within}
 use Rattle.md_super.specs.declared.superblock.Superblock.{Superblock}
 use Rattle.md_super.specs.Merge.{merged}
 use Rattle.md_bitmap.specs.declared.header.BitmapHeader.{BitmapHeader}
-use Rattle.md_bitmap.specs.Marks.{Bitmap}
 use Rattle.md_model.proofs.Puts.{by_same, put-miss}
 use Rattle.md_model.specs.Sectors.{put}
 use Rattle.md_members.specs.DeviceWrites.Writes.{after}
@@ -32,7 +31,7 @@ use Rattle.md_state.specs.Members.{is_degraded}
 use Rattle.md_state.specs.View.{ArrayView, Disk, MirrorView}
 
 -- ---- the mirror, once it is in sync
-module _ (k : ℕ) (copied orphans : Bitmap) (old new : MirrorView) (c : IsConsistent old) (r : Enrols k copied orphans old new) where
+module _ (k : ℕ) (copied lost : ℕ → Bool) (old new : MirrorView) (c : IsConsistent old) (r : Enrols k copied lost old new) where
   abbrev a : ArrayView
   a = old.array
 

@@ -1,5 +1,5 @@
 -- A member that was rebuilt comes into sync: its marks are stored, its log, and last its superblock (this project's own order).
-use Rattle.std.specs.Prelude.{◌≡◌, ◌≢◌, ◌⊎◌, ⊤, ℕ, ◌+◌, ◌*◌, ◌<◌, Bool, true, false, List, length, slice_get, Some, None, Result, MatchResult}
+use Rattle.std.specs.Prelude.{◌≡◌, ◌≢◌, ◌⊎◌, ⊤, ℕ, ◌+◌, ◌*◌, ◌/◌, ◌<◌, Bool, true, false, List, length, slice_get, Some, None, Result, MatchResult}
 use Rattle.md_device.specs.Splice.{part}
 use Rattle.md_super.specs.Merge.{merged}
 use Rattle.md_assembly.specs.States.{is_recovering}
@@ -14,6 +14,7 @@ use Rattle.md_kept_members.specs.View.{MemberView}
 use Rattle.md_faults.specs.declared.enrol_fault.EnrolFault.{EnrolFault}
 use Rattle.md_faults.specs.declared.enrol_fault.EnrolFault.TheVariants.{Halted, EventsFull, LogFull, TargetFault, NoMemory}
 use Rattle.md_state.specs.DiskWrites.{AtDevice}
+use Rattle.md_kept_members.specs.SectorLists.{in_chunks}
 use Rattle.md_state.specs.Steps.Enrol.{ComesWith, HasFullLog, HasRoomInLog, MayTakeRole, RefusesRole, enrolled}
 use Rattle.md_state.specs.Headers.{IsHeaderFor}
 use Rattle.md_state.specs.Steps.MakeClean.{first_number}
@@ -38,6 +39,26 @@ HoldsCopied disks a k copied =
     (content : Content) → HoldsContent disks a content
     → (d : Disk) (m : MemberView) → slice_get disks k ≡ Some d → IsMember a k m
     → (c s : ℕ) → c < copied.chunks → is_set copied.bytes c ≡ true → InChunk a.chunks.sectors a.chunks.size c s → part d.content (512 * (m.superblock.data_offset + s)) 512 ≡ content s
+
+-- The same of copied sectors.
+abbrev pub HoldsSectors : List Disk → ArrayView → ℕ → (ℕ → Bool) → Type 0
+HoldsSectors disks a k copied =
+    (content : Content) → HoldsContent disks a content
+    → (d : Disk) (m : MemberView) → slice_get disks k ≡ Some d → IsMember a k m
+    → (s : ℕ) → copied s ≡ true → part d.content (512 * (m.superblock.data_offset + s)) 512 ≡ content s
+
+-- Nothing is in flight, the array is resynced, and the member is recovering. Of the sectors of its missing chunks some were copied, and
+-- the others are lost.
+pub record MayEnrolSectors (k : ℕ) (copied lost : ℕ → Bool) (v : MirrorView) : Type 0 where
+  pub member : MemberView
+  pub at : IsMember v.array k member
+  pub recovering : is_recovering member.state ≡ true
+  pub resynced : v.array.resynced ≡ true
+  pub idle : first_number v.array ≡ None
+  pub disjoint : (s : ℕ) → copied s ≡ true → lost s ≡ false
+  pub cover : (s : ℕ) → s < v.array.chunks.size → is_missing v.array member (s / v.array.chunks.sectors) ≡ true → (copied s ≡ true) ⊎ (lost s ≡ true)
+  pub only : (s : ℕ) → (copied s ≡ true) ⊎ (lost s ≡ true) → (s < v.array.chunks.size) × (is_missing v.array member (s / v.array.chunks.sectors) ≡ true)
+  pub holds : AreHonest v.disks → HoldsSectors v.disks v.array k copied  -- what a device holds that isn't honest, no caller can know
 
 -- Nothing is in flight, the array is resynced, and the member is recovering. Of its missing chunks some were copied, and the others
 -- are the orphans.
@@ -76,11 +97,11 @@ pub record IsUsedAlone (k : ℕ) (before after : List Disk) (Change : Disk → D
 
 -- ---- what comes of it
 -- All was written. At each moment a crash leaves the first of the writes done, and the next one cut short (`DoesWrites.within`).
-pub record Enrols (k : ℕ) (copied orphans : Bitmap) (old new : MirrorView) : Type 0 where
+pub record Enrols (k : ℕ) (copied lost : ℕ → Bool) (old new : MirrorView) : Type 0 where
   pub role : ℕ
   pub may : MayTakeRole k old.array role
   pub member : MemberView  -- as it is then
-  pub comes : ComesWith k role copied orphans old.array member
+  pub comes : ComesWith k role copied lost old.array member
   pub array : new.array ≡ enrolled old.array k member role
   pub readable : IsReadable (merged new.array.shared member.superblock)  -- no condition: so it is of every superblock that is kept
   pub writes : List Write
@@ -89,23 +110,46 @@ pub record Enrols (k : ℕ) (copied orphans : Bitmap) (old new : MirrorView) : T
 
 -- A write of the enrolment failed, and none was made after it. In memory all is as before, and the superblock
 -- was not written but by the last of the writes.
-pub record FailsToEnrol (k : ℕ) (copied orphans : Bitmap) (old new : MirrorView) : Type 0 where
+pub record FailsToEnrol (k : ℕ) (copied lost : ℕ → Bool) (old new : MirrorView) : Type 0 where
   pub role : ℕ
   pub may : MayTakeRole k old.array role
   pub member : MemberView  -- as it would be
-  pub comes : ComesWith k role copied orphans old.array member
+  pub comes : ComesWith k role copied lost old.array member
   pub array : new.array ≡ old.array
   pub readable : IsReadable (merged (enrolled old.array k member role).shared member.superblock)  -- no condition, as above
   pub writes : List Write
   pub are : AreEnrolWrites (enrolled old.array k member role) member writes
   pub disks : IsUsedAlone k old.disks new.disks (λ d e. FailsInWrites of_disks writes d e × KeepsData member d e)
 
-abbrev pub RefusesEnrol : ℕ → Bitmap → Bitmap → MirrorView → MirrorView → EnrolFault → Type 0
-RefusesEnrol k copied orphans old new Halted = Refuses old new (RefusesRole old.array Halted)
-RefusesEnrol k copied orphans old new EventsFull = Refuses old new (RefusesRole old.array EventsFull)
-RefusesEnrol k copied orphans old new (LogFull j) = Refuses old new ((j ≡ k) × ((role : ℕ) × MayTakeRole k old.array role) × HasFullLog k copied orphans old.array)
-RefusesEnrol k copied orphans old new TargetFault = FailsToEnrol k copied orphans old new
-RefusesEnrol k copied orphans old new NoMemory = Refuses old new (((role : ℕ) × MayTakeRole k old.array role) × HasRoomInLog k copied orphans old.array)
+abbrev pub RefusesEnrol : ℕ → (ℕ → Bool) → (ℕ → Bool) → MirrorView → MirrorView → EnrolFault → Type 0
+RefusesEnrol k copied lost old new Halted = Refuses old new (RefusesRole old.array Halted)
+RefusesEnrol k copied lost old new EventsFull = Refuses old new (RefusesRole old.array EventsFull)
+RefusesEnrol k copied lost old new (LogFull j) = Refuses old new ((j ≡ k) × ((role : ℕ) × MayTakeRole k old.array role) × HasFullLog k copied lost old.array)
+RefusesEnrol k copied lost old new TargetFault = FailsToEnrol k copied lost old new
+RefusesEnrol k copied lost old new NoMemory = Refuses old new (((role : ℕ) × MayTakeRole k old.array role) × HasRoomInLog k copied lost old.array)
+
+-- why a member that may come into sync does not, once it is known how it is kept
+abbrev pub RefusesTaking : ℕ → (ℕ → Bool) → (ℕ → Bool) → MirrorView → MirrorView → EnrolFault → Type 0
+RefusesTaking k copied lost old new TargetFault = FailsToEnrol k copied lost old new
+RefusesTaking k copied lost old new NoMemory = new ≡ old
+RefusesTaking k copied lost old new Halted = ⊥
+RefusesTaking k copied lost old new EventsFull = ⊥
+RefusesTaking k copied lost old new (LogFull j) = ⊥
+
+-- The same where the list has to be made before it is known whether the log has room for it.
+abbrev pub RefusesEnrolBut : ℕ → (ℕ → Bool) → (ℕ → Bool) → MirrorView → MirrorView → EnrolFault → Type 0
+RefusesEnrolBut k copied lost old new NoMemory = Refuses old new ((role : ℕ) × MayTakeRole k old.array role)
+RefusesEnrolBut k copied lost old new fault = RefusesEnrol k copied lost old new fault
+
+-- ---- of chunks
+abbrev pub EnrolsChunks : ℕ → Bitmap → Bitmap → MirrorView → MirrorView → Type 0
+EnrolsChunks k copied orphans old new = Enrols k (in_chunks old.array.chunks copied) (in_chunks old.array.chunks orphans) old new
+
+abbrev pub FailsToEnrolChunks : ℕ → Bitmap → Bitmap → MirrorView → MirrorView → Type 0
+FailsToEnrolChunks k copied orphans old new = FailsToEnrol k (in_chunks old.array.chunks copied) (in_chunks old.array.chunks orphans) old new
+
+abbrev pub RefusesEnrolChunks : ℕ → Bitmap → Bitmap → MirrorView → MirrorView → EnrolFault → Type 0
+RefusesEnrolChunks k copied orphans old new fault = RefusesEnrol k (in_chunks old.array.chunks copied) (in_chunks old.array.chunks orphans) old new fault
 
 -- An opening would read of the devices what is kept of the members, as before, once it is in sync; and it is not spoiled any more.
 abbrev pub EnrolReads : ℕ → MirrorView → MirrorView → {T E : Type 0} → Result T E → Type 0

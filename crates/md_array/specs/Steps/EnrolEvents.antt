@@ -1,7 +1,6 @@
 -- An enrolment as events: the member is prepared, and then it comes into sync by one write, or is spoiled where that fails (this project's
 -- own).
 use Rattle.std.specs.Prelude.{◌≡◌, ℕ, ◌+◌, ◌*◌, ◌/◌, ◌<◌, Bool, false, cond, List, [], ◌++◌, set, slice_get, Option, Some, None}
-use Rattle.md_bitmap.specs.Marks.{Bitmap}
 use Rattle.md_device.specs.Splice.{part}
 use Rattle.md_kept_members.specs.View.{MemberView}
 use Rattle.md_members.specs.Areas.{bitmap_sectors}
@@ -32,24 +31,24 @@ with_writes disks k writes None = disks
 with_writes disks k writes (Some d) = set disks k (record d { content = after d.content writes })
 
 -- the writes of an enrolment but the last, which is that of the superblock
-abbrev pub first_writes : {k : ℕ} {copied orphans : Bitmap} {old new : MirrorView} → Enrols k copied orphans old new → List Write
+abbrev pub first_writes : {k : ℕ} {copied lost : ℕ → Bool} {old new : MirrorView} → Enrols k copied lost old new → List Write
 first_writes r = bitmap_writes r.are.start r.are.header r.member.stored (bitmap_sectors r.member.stored.chunks) ++ log_writes r.member.superblock r.member.bad
 
 -- The mirror once the writes of an enrolment before its last are done. Nothing is changed in memory.
-abbrev pub prepared : {k : ℕ} {copied orphans : Bitmap} {old new : MirrorView} → Enrols k copied orphans old new → MirrorView
-prepared {k} {copied} {orphans} {old} {new} r = record old { disks = with_writes old.disks k (first_writes r) (slice_get old.disks k) }
+abbrev pub prepared : {k : ℕ} {copied lost : ℕ → Bool} {old new : MirrorView} → Enrols k copied lost old new → MirrorView
+prepared {k} {copied} {lost} {old} {new} r = record old { disks = with_writes old.disks k (first_writes r) (slice_get old.disks k) }
 
 -- ---- the event
-abbrev pub enrol_event : {k : ℕ} {copied orphans : Bitmap} {old new : MirrorView} → Enrols k copied orphans old new → Event
-enrol_event {k} {copied} {orphans} {old} {new} r = Event.Enrol k r.role (lists_of old.array r.member)
+abbrev pub enrol_event : {k : ℕ} {copied lost : ℕ → Bool} {old new : MirrorView} → Enrols k copied lost old new → Event
+enrol_event {k} {copied} {lost} {old} {new} r = Event.Enrol k r.role (lists_of old.array r.member)
 
 -- By this event the member came into sync.
 pub record DidEnrol (e : Event) (mid new : MirrorView) : Type 0 where
   pub index : ℕ
-  pub copied : Bitmap
-  pub orphans : Bitmap
+  pub copied : ℕ → Bool
+  pub lost : ℕ → Bool
   pub old : MirrorView
-  pub enrols : Enrols index copied orphans old new
+  pub enrols : Enrols index copied lost old new
   pub prepared : mid ≡ prepared enrols
   pub event : e ≡ enrol_event enrols
 
@@ -63,7 +62,7 @@ pub record IsHeldBy (k : ℕ) (listed : ℕ → Bool) (content : Content) (v : M
 
 -- ---- an enrolment that fails by its last write
 -- The write that failed was that of the superblock: those before it are done.
-pub record FailsAtSuper {k : ℕ} {copied orphans : Bitmap} {old new : MirrorView} (f : FailsToEnrol k copied orphans old new) : Type 0 where
+pub record FailsAtSuper {k : ℕ} {copied lost : ℕ → Bool} {old new : MirrorView} (f : FailsToEnrol k copied lost old new) : Type 0 where
   pub disk : Disk
   pub is : slice_get old.disks k ≡ Some disk
   pub left : Disk
@@ -78,10 +77,10 @@ abbrev pub with_first : List Disk → ℕ → List Write → Option Disk → Opt
 with_first disks k writes (Some d) (Some e) = set disks k (before_last writes d e)
 with_first disks k writes _ _ = disks
 
-abbrev pub writes_before : {k : ℕ} {copied orphans : Bitmap} {old new : MirrorView} → FailsToEnrol k copied orphans old new → List Write
+abbrev pub writes_before : {k : ℕ} {copied lost : ℕ → Bool} {old new : MirrorView} → FailsToEnrol k copied lost old new → List Write
 writes_before f = bitmap_writes f.are.start f.are.header f.member.stored (bitmap_sectors f.member.stored.chunks) ++ log_writes f.member.superblock f.member.bad
 
 -- The mirror in between: the member is prepared. From there it is spoiled (`SpoilsTarget`).
-abbrev pub prepared_only : {k : ℕ} {copied orphans : Bitmap} {old new : MirrorView} → FailsToEnrol k copied orphans old new → MirrorView
-prepared_only {k} {copied} {orphans} {old} {new} f =
+abbrev pub prepared_only : {k : ℕ} {copied lost : ℕ → Bool} {old new : MirrorView} → FailsToEnrol k copied lost old new → MirrorView
+prepared_only {k} {copied} {lost} {old} {new} f =
     record old { disks = with_first old.disks k (writes_before f) (slice_get old.disks k) (slice_get new.disks k) }

@@ -1,8 +1,7 @@
 -- An enrolment at a moment of a run, by two events: the content stays what it is.
-use Rattle.std.proofs.Common.{◌≡◌, ◌∙◌, ℕ, ◌+◌, ◌*◌, cond, set, [], ◌∷◌, slice_get, Some, refl, sym, ap, subst, arith}
+use Rattle.std.proofs.Common.{Bool, ◌≡◌, ◌∙◌, ℕ, ◌+◌, ◌*◌, cond, set, [], ◌∷◌, slice_get, Some, refl, sym, ap, subst, arith}
 use Rattle.std.proofs.lemmas.Option.{slice_get_within}
 use Rattle.md_assembly.proofs.Indices.{got_within}
-use Rattle.md_bitmap.specs.Marks.{Bitmap}
 use Rattle.md_device.specs.Splice.{part}
 use Rattle.md_model.specs.Content.{Becomes, Content}
 use Rattle.md_model.specs.Devices.{Stored}
@@ -11,7 +10,7 @@ use Rattle.md_model.proofs.Cases.{below-nat_lt}
 use Rattle.md_state.specs.Requests.{AreInFlight}
 use Rattle.md_state.specs.View.{Disk, MirrorView, geometry_of}
 use Rattle.md_array.specs.Consistency.{IsConsistent}
-use Rattle.md_array.specs.Steps.Enrol.{Enrols, MayEnrol}
+use Rattle.md_array.specs.Steps.Enrol.{Enrols, MayEnrolSectors}
 use Rattle.md_array.specs.Steps.EnrolEvents.{IsHeldBy, Prepares, enrol_event, prepared}
 use Rattle.md_array.specs.Events.{Does}
 use Rattle.md_array.specs.Worlds.{AreHonest, lists_of, stored_of, world_of}
@@ -23,7 +22,7 @@ use Rattle.md_array.proofs.StepLemmas.OneMember.{stored_there}
 use Rattle.md_laws.specs.Runs.{MirrorRun, MirrorRunWith, Moment, RestsThenDoes, then_as}
 use Rattle.md_laws.proofs.Runs.Rests.{at_once, at_rest}
 
-module _ (target : ℕ) (copied orphans : Bitmap) (old new : MirrorView) (c : IsConsistent old) (sound : IsConsistent new) (r : Enrols target copied orphans old new) (may : MayEnrol target copied orphans old)
+module _ (target : ℕ) (copied lost : ℕ → Bool) (old new : MirrorView) (c : IsConsistent old) (sound : IsConsistent new) (r : Enrols target copied lost old new) (may : MayEnrolSectors target copied lost old)
     (honest : AreHonest old.disks) (content : Content) (held : IsHeldBy target (lists_of old.array r.member) content (prepared r)) (t : Moment) (there : t.mirror ≡ old)
     (in_flight : AreInFlight old.array t.requests) where
   -- the devices of the target, before and after
@@ -40,14 +39,14 @@ module _ (target : ℕ) (copied orphans : Bitmap) (old new : MirrorView) (c : Is
       got_within new.disks target (omega arith)
 
   abbrev then : Disk
-  then = then_disk target copied orphans old new c r was.0 was.1
+  then = then_disk target copied lost old new c r was.0 was.1
 
   -- in between
   abbrev mid : MirrorView
   mid = record old { disks = set old.disks target then }
 
   mid_is : prepared r ≡ mid
-  mid_is = prepared_is target copied orphans old new c r was.0 was.1
+  mid_is = prepared_is target copied lost old new c r was.0 was.1
 
   held_mid : IsHeldBy target (lists_of old.array r.member) content mid
   held_mid = subst (IsHeldBy target (lists_of old.array r.member) content) mid_is held
@@ -59,10 +58,10 @@ module _ (target : ℕ) (copied orphans : Bitmap) (old new : MirrorView) (c : Is
   second = enrol_event r
 
   does_first : Does old t.requests first mid t.requests
-  does_first = prepare_happens target old mid c (subst (Prepares target old) mid_is (prepares target copied orphans old new c r may)) honest t.requests in_flight
+  does_first = prepare_happens target old mid c (subst (Prepares target old) mid_is (prepares target copied lost old new c r may)) honest t.requests in_flight
 
   does_second : Does mid t.requests second new t.requests
-  does_second = does_enrol target copied orphans old new c sound r may honest was.0 was.1 is.0 is.1 t.requests in_flight content held_mid
+  does_second = does_enrol target copied lost old new c sound r may honest was.0 was.1 is.0 is.1 t.requests in_flight content held_mid
 
   -- the member holds the content in each sector that it does not list then
   becomes : Becomes (geometry_of mid.array) second (world_of mid t.requests) content content
@@ -71,10 +70,10 @@ module _ (target : ℕ) (copied orphans : Bitmap) (old new : MirrorView) (c : Is
     held = λ s low unlisted.
         (let it = r.comes.member in
         let stored : (world_of mid t.requests).stored target ≡ stored_of old.array it then.content =
-        stored_there (set old.disks target then) old.array target it then r.comes.at (then_at target copied orphans old new c r was.0 was.1) in
+        stored_there (set old.disks target then) old.array target it then r.comes.at (then_at target copied lost old new c r was.0 was.1) in
         ap (λ (x : Stored). x.content s) stored
         ∙ ap (λ b. cond b (part then.content (512 * (it.superblock.data_offset + s)) 512) []) (below-nat_lt s old.array.chunks.size low)
-        ∙ it_holds target copied orphans old new c r may honest was.0 was.1 content held_mid s low unlisted);
+        ∙ it_holds target copied lost old new c r may honest was.0 was.1 content held_mid s low unlisted);
   }
 
   abbrev pub at_end : Moment

@@ -1,6 +1,9 @@
 -- What the members in sync hold, and the target where it lacks nothing, they hold once the target is filled and prepared: some content is
 -- held, as an enrolment asks.
 use Rattle.std.proofs.Common.{◌≡◌, ◌∙◌, ℕ, ◌+◌, ◌*◌, ◌/◌, ◌<◌, inl, true, false, true≢false, nat_lt, set, List, slice_get, Some, sym, ap, subst, arith, lt-ltb}
+use Rattle.md_kept_members.proofs.SectorSets.{after_of}
+use Rattle.md_array.proofs.Rebuilding.ByChunks.{may_by_chunks}
+use Rattle.md_kept_members.specs.SectorLists.{in_chunks}
 use Rattle.std.specs.Int.{div_ceil}
 use Rattle.std.proofs.lemmas.Bool.{and_from}
 use Rattle.std.proofs.lemmas.Grind.{div_ceil_times}
@@ -24,7 +27,7 @@ use Rattle.md_state.specs.Missing.{is_missing}
 use Rattle.md_state.specs.View.{ArrayView, Disk, MirrorView}
 use Rattle.md_super.specs.declared.superblock.Superblock.{Superblock}
 use Rattle.md_array.specs.Consistency.{IsConsistent}
-use Rattle.md_array.specs.Steps.Enrol.{Enrols, HoldsContent}
+use Rattle.md_array.specs.Steps.Enrol.{EnrolsChunks, HoldsContent}
 use Rattle.md_array.specs.Steps.EnrolEvents.{IsHeldBy, prepared}
 use Rattle.md_array.specs.Worlds.{AreHonest, lies_in, lists_of}
 use Rattle.md_array.proofs.General.Indices.{got_other}
@@ -68,7 +71,7 @@ module _ (target : ℕ) (content : Content) (old v : MirrorView) (st : StartsAs 
       ∙ had x.0 l.0 x.1 l.1 s low_old lacks_not
       (λ bad. unlisted (subst (λ (runs : List Run). IsBad runs (m.superblock.data_offset + s)) (sym l.2.bad) (subst (λ (o : ℕ). IsBad l.0.bad (o + s)) (sym l.2.offset) bad)))
 
-module _ (target : ℕ) (kept orphans : Bitmap) (old filled new : MirrorView) (h : HasFilled target kept orphans old filled) (r : Enrols target kept orphans filled new)
+module _ (target : ℕ) (kept orphans : Bitmap) (old filled new : MirrorView) (h : HasFilled target kept orphans old filled) (r : EnrolsChunks target kept orphans filled new)
     (honest : AreHonest filled.disks) (content : Content) (has : HoldsContent filled.disks filled.array content) (had : HeldWhatItHad target content old) where
   abbrev v : MirrorView
   v = h.ready
@@ -113,7 +116,7 @@ module _ (target : ℕ) (kept orphans : Bitmap) (old filled new : MirrorView) (h
 
   module _ (d : Disk) (was : slice_get filled.disks target ≡ Some d) where
     abbrev then : Disk
-    then = then_disk target kept orphans filled new sound r d was
+    then = then_disk target (in_chunks filled.array.chunks kept) (in_chunks filled.array.chunks orphans) filled new sound r d was
 
     abbrev now : List Disk
     now = set filled.disks target then
@@ -122,7 +125,7 @@ module _ (target : ℕ) (kept orphans : Bitmap) (old filled new : MirrorView) (h
     has_now : HoldsContent now a content
     has_now = record {
       held = λ j z y there on s low unlisted.
-          (let apart = another target kept orphans filled new sound r h.fills.has.may honest d was j y on in
+          (let apart = another target (in_chunks filled.array.chunks kept) (in_chunks filled.array.chunks orphans) filled new sound r (may_by_chunks target kept orphans filled h.fills.sound h.fills.has.may) honest d was j y on in
           has.held j z y (sym (got_other filled.disks target j then apart) ∙ there) on s low unlisted);
     }
 
@@ -160,10 +163,10 @@ module _ (target : ℕ) (kept orphans : Bitmap) (old filled new : MirrorView) (h
       clear bad =
           let was_bad : IsBad r.comes.member.bad (r.comes.member.superblock.data_offset + s) = subst (λ (x : MemberView). IsBad x.bad (x.superblock.data_offset + s)) (sym it_is) bad in
           let listed : IsBad r.comes.list (r.comes.member.superblock.data_offset + s) =
-          (r.comes.list_is.bad (r.comes.member.superblock.data_offset + s)).1
+          ((after_of a.chunks kept orphans r.comes.member r.comes.list r.comes.list_is).bad (r.comes.member.superblock.data_offset + s)).1
           (inl (was_bad, subst (λ (x : MemberView). IsOf a.chunks x.superblock.data_offset kept (x.superblock.data_offset + s) → ⊥) (sym it_is) unkept)) in
           let there : IsBad r.member.bad (r.member.superblock.data_offset + s) =
-          subst (λ (o : Superblock). IsBad r.member.bad (o.data_offset + s)) (sym (superblock target kept orphans filled new sound r))
+          subst (λ (o : Superblock). IsBad r.member.bad (o.data_offset + s)) (sym (superblock target (in_chunks filled.array.chunks kept) (in_chunks filled.array.chunks orphans) filled new sound r))
           (subst (λ (runs : List Run). IsBad runs (r.comes.member.superblock.data_offset + s)) (sym r.comes.comes.bad) listed) in
           true≢false (sym (and_from (nat_lt s a.chunks.size) (lies_in r.member.bad (r.member.superblock.data_offset + s)) (lt-ltb s a.chunks.size low) (test_from_bad r.member.bad (r.member.superblock.data_offset + s) there)) ∙ unlisted)
 
@@ -203,17 +206,17 @@ module _ (target : ℕ) (kept orphans : Bitmap) (old filled new : MirrorView) (h
     told : (e : Disk) (y : MemberView) → slice_get now target ≡ Some e → IsMember a target y → (s : ℕ) → s < a.chunks.size → is_missing a y (s / a.chunks.sectors) ≡ false → lists_of a r.member s ≡ false
         → part e.content (512 * (y.superblock.data_offset + s)) 512 ≡ content s
     told e y at_e at_y s low present unlisted =
-        let device : then ≡ e = got_same now target then e (then_at target kept orphans filled new sound r d was) at_e in
+        let device : then ≡ e = got_same now target then e (then_at target (in_chunks filled.array.chunks kept) (in_chunks filled.array.chunks orphans) filled new sound r d was) at_e in
         let here : y ≡ r.comes.member = same_Some y r.comes.member (sym at_y ∙ r.comes.at) in
         let mine : y ≡ n = same_Some y n (sym at_y ∙ at_n) in
         sym (ap (λ (x : Disk). part x.content (512 * (y.superblock.data_offset + s)) 512) device)
         ∙ ap (λ (x : MemberView). part then.content (512 * (x.superblock.data_offset + s)) 512) here
-        ∙ then_sector target kept orphans filled new sound r h.fills.has.may honest d was s low
+        ∙ then_sector target (in_chunks filled.array.chunks kept) (in_chunks filled.array.chunks orphans) filled new sound r (may_by_chunks target kept orphans filled h.fills.sound h.fills.has.may) honest d was s low
         ∙ ap (λ (x : MemberView). part d.content (512 * (x.superblock.data_offset + s)) 512) (sym here ∙ mine)
         ∙ held_there s low (subst (λ (x : MemberView). is_missing a x (s / a.chunks.sectors) ≡ false) mine present) unlisted
 
     held_now : IsHeldBy target (lists_of a r.member) content (prepared r)
-    held_now = subst (IsHeldBy target (lists_of a r.member) content) (sym (prepared_is target kept orphans filled new sound r d was)) (record { in_sync = has_now; told = told })
+    held_now = subst (IsHeldBy target (lists_of a r.member) content) (sym (prepared_is target (in_chunks filled.array.chunks kept) (in_chunks filled.array.chunks orphans) filled new sound r d was)) (record { in_sync = has_now; told = told })
 
   pub is_held : IsHeldBy target (lists_of a r.member) content (prepared r)
   is_held =

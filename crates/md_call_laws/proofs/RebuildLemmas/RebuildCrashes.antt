@@ -1,5 +1,7 @@
 -- A crash within a rebuild is a crash of a run.
 use Rattle.std.proofs.Common.{◌≡◌, ◌∙◌, ◌⊎◌, ◌++◌, ℕ, true, false, true≢false, List, [], ◌∷◌, Option, Some, None, inl, inr, refl, sym, ap, subst}
+use Rattle.md_array.proofs.Rebuilding.ByChunks.{may_by_chunks}
+use Rattle.md_kept_members.specs.SectorLists.{in_chunks}
 use Rattle.std.proofs.lemmas.Option.{same_Some}
 use Rattle.md_assembly.specs.States.{is_in_sync, is_recorded, is_recovering, is_spare}
 use Rattle.md_bitmap.specs.Marks.{Bitmap}
@@ -14,7 +16,7 @@ use Rattle.md_state.specs.Missing.{is_rebuilt}
 use Rattle.md_state.specs.Requests.{AreInFlight}
 use Rattle.md_state.specs.View.{ArrayView, Disk, MirrorView}
 use Rattle.md_array.specs.Steps.Checkpoint.{Checkpoints, FailsToCheckpoint}
-use Rattle.md_array.specs.Steps.Enrol.{Enrols, FailsToEnrol}
+use Rattle.md_array.specs.Steps.Enrol.{EnrolsChunks, FailsToEnrolChunks}
 use Rattle.md_array.specs.Events.{Does}
 use Rattle.md_array.specs.Steps.Fill.{Fills}
 use Rattle.md_array.specs.InTurn.{AllLeftWhole, AllOf, Did, InTurn, IsInOrder, LeftWhole, Requests}
@@ -532,18 +534,18 @@ module _ (target : ℕ) (kept orphans : Bitmap) (t : Moment) (at : IsSteadyAt t)
   pub out_filled : IsOut target filled_at
   out_filled = recovering_is_out target filled_at (λ m there. ap (λ (x : MemberView). is_recovering x.state) (same_Some m h.fills.has.may.member (sym there ∙ h.fills.has.may.at)) ∙ h.fills.has.may.recovering)
 
-  pub enrolling_crash : (new : MirrorView) → Enrols target kept orphans filled_at new → (left : List Disk) → MayAllBeLeft filled_at.disks new.disks (contents_of left)
+  pub enrolling_crash : (new : MirrorView) → EnrolsChunks target kept orphans filled_at new → (left : List Disk) → MayAllBeLeft filled_at.disks new.disks (contents_of left)
       → AtDevice target filled_at.disks left (λ d e. block_on e.content ≡ block_on d.content) → IsCrashBefore target t left
   enrolling_crash new r left within super =
       later_crash target t all_filled left
       (at_crash target (end all_filled) out_filled left
-      (in_enrolling (end all_filled) left (record { on = target; copied = kept; orphans = orphans; may = h.fills.has.may; next = new; call = r; within = within; super = super })))
+      (in_enrolling (end all_filled) left (record { on = target; copied = in_chunks filled_at.array.chunks kept; lost = in_chunks filled_at.array.chunks orphans; may = may_by_chunks target kept orphans filled_at h.fills.sound h.fills.has.may; next = new; call = r; within = within; super = super })))
 
-  pub unenrolled_crash : (new : MirrorView) (f : FailsToEnrol target kept orphans filled_at new) → FailsAtMarks f → (left : List Disk) → MayAllBeLeft filled_at.disks new.disks (contents_of left) → IsCrashBefore target t left
+  pub unenrolled_crash : (new : MirrorView) (f : FailsToEnrolChunks target kept orphans filled_at new) → FailsAtMarks f → (left : List Disk) → MayAllBeLeft filled_at.disks new.disks (contents_of left) → IsCrashBefore target t left
   unenrolled_crash new f at_marks left within =
       later_crash target t all_filled left
       (at_crash target (end all_filled) out_filled left
-      (in_preparing (end all_filled) left (record { on = target; next = new; call = prepares target kept orphans filled_at new h.fills.sound f h.fills.has.may at_marks; within = within })))
+      (in_preparing (end all_filled) left (record { on = target; next = new; call = prepares target (in_chunks filled_at.array.chunks kept) (in_chunks filled_at.array.chunks orphans) filled_at new h.fills.sound f (may_by_chunks target kept orphans filled_at h.fills.sound h.fills.has.may) at_marks; within = within })))
 
   -- ---- within all of it until then
   -- by then a recovering target is to say no more that it has what it lacks

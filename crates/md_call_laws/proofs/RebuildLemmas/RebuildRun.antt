@@ -1,5 +1,7 @@
 -- A rebuild in the life of a mirror is a run, along which the content stays.
 use Rattle.std.proofs.Common.{◌≡◌, ℕ, List, [], ◌∷◌, ◌++◌, None, inl, inr, refl, sym, subst}
+use Rattle.md_array.proofs.Rebuilding.ByChunks.{may_by_chunks}
+use Rattle.md_kept_members.specs.SectorLists.{in_chunks}
 use Rattle.md_bitmap.specs.Marks.{Bitmap}
 use Rattle.md_model.specs.Content.{Becomes, Content, Holds}
 use Rattle.md_model.specs.Events.{Event}
@@ -9,7 +11,7 @@ use Rattle.md_state.specs.DiskWrites.{AtDevice}
 use Rattle.md_state.specs.Requests.{AreInFlight}
 use Rattle.md_state.specs.View.{Disk, MirrorView, geometry_of}
 use Rattle.md_array.specs.Consistency.{IsConsistent}
-use Rattle.md_array.specs.Steps.Enrol.{Enrols, HoldsContent}
+use Rattle.md_array.specs.Steps.Enrol.{EnrolsChunks, HoldsContent}
 use Rattle.md_array.specs.Steps.EnrolEvents.{IsHeldBy, enrol_event, prepared}
 use Rattle.md_array.specs.InTurn.{AllLeftWhole, AllOf, InTurn, Requests}
 use Rattle.md_array.specs.Worlds.{block_on, lists_of, none_in_flight, world_of}
@@ -57,7 +59,7 @@ stays_along target (Event.RecordTargetFails k ∷ es) t a last of run = (run.0, 
 stays_along target (Event.Admit k role listed ∷ es) t a last of run = (run.0, run.1, a, run.2, refl, stays_along target es (then_as t (Event.Admit k role listed) run.0 run.1) a last of.1 run.3)
 stays_along target (Event.Checkpoint k sure listed ∷ es) t a last of run =
     (run.0, run.1, a, run.2, refl, stays_along target es (then_as t (Event.Checkpoint k sure listed) run.0 run.1) a last of.1 run.3)
-stays_along target (Event.NoteBad k c ∷ es) t a last of run = (run.0, run.1, a, run.2, refl, stays_along target es (then_as t (Event.NoteBad k c) run.0 run.1) a last of.1 run.3)
+stays_along target (Event.NoteBad k more ∷ es) t a last of run = (run.0, run.1, a, run.2, refl, stays_along target es (then_as t (Event.NoteBad k more) run.0 run.1) a last of.1 run.3)
 stays_along target (Event.StoreLog k listed ∷ es) t a last of run = (run.0, run.1, a, run.2, refl, stays_along target es (then_as t (Event.StoreLog k listed) run.0 run.1) a last of.1 run.3)
 stays_along target (e ∷ es) t a last of run = absurd (of.0)
 
@@ -86,7 +88,7 @@ life_on m a es (x ∷ rest) final t b life more last c run =
 
 -- ---- all of it
 module _ (target : ℕ) (kept orphans : Bitmap) (t : Moment) (at : IsSteadyAt t) (filled : MirrorView) (h : HasFilled target kept orphans t.mirror filled) (new : MirrorView)
-    (r : Enrols target kept orphans filled new) (consistent : IsConsistent new) (content : Content) (held : IsHeldBy target (lists_of filled.array r.member) content (prepared r)) where
+    (r : EnrolsChunks target kept orphans filled new) (consistent : IsConsistent new) (content : Content) (held : IsHeldBy target (lists_of filled.array r.member) content (prepared r)) where
   abbrev until : Comes (IsBeforeEnrol target) t filled
   until = all_filled target kept orphans t at filled h
 
@@ -100,7 +102,7 @@ module _ (target : ℕ) (kept orphans : Bitmap) (t : Moment) (at : IsSteadyAt t)
   more = Event.Prepare target ∷ enrol_event r ∷ []
 
   abbrev last : Moment
-  last = at_end target kept orphans filled new h.fills.sound consistent r h.fills.has.may mid_steady.sound.honest content held mid refl mid_steady.sound.in_flight
+  last = at_end target (in_chunks filled.array.chunks kept) (in_chunks filled.array.chunks orphans) filled new h.fills.sound consistent r (may_by_chunks target kept orphans filled h.fills.sound h.fills.has.may) mid_steady.sound.honest content held mid refl mid_steady.sound.in_flight
 
   abbrev events : List Event
   events = until.events ++ more
@@ -111,7 +113,7 @@ module _ (target : ℕ) (kept orphans : Bitmap) (t : Moment) (at : IsSteadyAt t)
   run_with : MirrorRunWith t content events last content
   run_with =
       run_with_then until.events more t mid last content content content (stays_along target until.events t content mid until.steps until.run)
-      (enrolled_run_with target kept orphans filled new h.fills.sound consistent r h.fills.has.may mid_steady.sound.honest content held mid refl mid_steady.sound.in_flight)
+      (enrolled_run_with target (in_chunks filled.array.chunks kept) (in_chunks filled.array.chunks orphans) filled new h.fills.sound consistent r (may_by_chunks target kept orphans filled h.fills.sound h.fills.has.may) mid_steady.sound.honest content held mid refl mid_steady.sound.in_flight)
 
   run_alone : MirrorRun t events last
   run_alone = without_content events t content last content run_with
@@ -129,8 +131,8 @@ module _ (target : ℕ) (kept orphans : Bitmap) (t : Moment) (at : IsSteadyAt t)
       run = run_alone;
       is_left = in_enrolled last left (record {
         on = target;
-        copied = kept;
-        orphans = orphans;
+        copied = in_chunks filled.array.chunks kept;
+        lost = in_chunks filled.array.chunks orphans;
         before = filled;
         sound = h.fills.sound;
         honest = mid_steady.sound.honest;
@@ -190,7 +192,7 @@ module _ (target : ℕ) (kept orphans : Bitmap) (t : Moment) (at : IsSteadyAt t)
 -- the target holds the content as its enrolment asks
 module _ (before : List Disk) (m : MirrorView) (a : Content) (start : IsStart before m) (holds : Holds (geometry_of m.array) a (world_of m none_in_flight)) (es : List Event) (rest : List (List Event)) (final : MirrorView)
     (t : Moment) (b : Content) (life : MirrorLifeWith m a es rest final t b) (target : ℕ) (kept orphans : Bitmap) (filled new : MirrorView) (h : HasFilled target kept orphans t.mirror filled)
-    (r : Enrols target kept orphans filled new) (had : HeldWhatItHad target b t.mirror) where
+    (r : EnrolsChunks target kept orphans filled new) (had : HeldWhatItHad target b t.mirror) where
   at : IsSteadyAt t
   at = steady_with before m a start holds es rest final t b life
 

@@ -60,7 +60,7 @@ unfailing_records (Event.WriteFails k part ∷ es) of none = absurd none.0
 unfailing_records (e ∷ es) of none = absurd of.0
 
 noting_records : (e : Event) → IsNoting e → IsNoFailedRecord e
-noting_records (Event.NoteBad k c) of = tt
+noting_records (Event.NoteBad k more) of = tt
 noting_records e of = absurd of
 
 -- ---- what is stored first, and the admission of a spare

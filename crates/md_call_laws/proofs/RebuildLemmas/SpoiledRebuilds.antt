@@ -1,5 +1,7 @@
 -- A crash within a call by which the target of a rebuild tells of itself, whatever stands in place of its superblock.
 use Rattle.std.proofs.Common.{◌≡◌, ◌∙◌, ◌⊎◌, ℕ, true, false, List, [], ◌∷◌, ◌++◌, inl, inr, refl, sym, ap, slice_get}
+use Rattle.md_array.proofs.Rebuilding.ByChunks.{may_by_chunks}
+use Rattle.md_kept_members.specs.SectorLists.{in_chunks}
 use Rattle.std.proofs.lemmas.Option.{same_Some}
 use Rattle.md_assembly.specs.States.{is_in_sync, is_recovering}
 use Rattle.md_bitmap.specs.Marks.{Bitmap}
@@ -12,7 +14,7 @@ use Rattle.md_state.specs.Missing.{is_rebuilt}
 use Rattle.md_state.specs.Requests.{AreInFlight}
 use Rattle.md_state.specs.View.{ArrayView, Disk, MirrorView}
 use Rattle.md_array.specs.Steps.Checkpoint.{Checkpoints, FailsToCheckpoint}
-use Rattle.md_array.specs.Steps.Enrol.{Enrols, FailsToEnrol}
+use Rattle.md_array.specs.Steps.Enrol.{EnrolsChunks, FailsToEnrolChunks}
 use Rattle.md_array.specs.Steps.EnrolEvents.{FailsAtSuper, Prepares}
 use Rattle.md_array.proofs.Rebuilding.InBetween.{recovers_rebuilt}
 use Rattle.md_array.proofs.Rebuilding.PreparedEvent.{prepare_happens}
@@ -260,14 +262,14 @@ module _ (target : ℕ) (kept orphans : Bitmap) (t : Moment) (at : IsSteadyAt t)
     })
     prepared_stop left (inr spoiled) = later_anyhow target t comes_prepared left (spoiled_crash target (end comes_prepared) (end_steady comes_prepared at) left spoiled)
 
-  pub enrolling_anyhow : (new : MirrorView) → Enrols target kept orphans filled new → (left : List Disk) → MayAllBeLeft filled.disks new.disks (contents_of left) → IsCrashUnfinished target t left
+  pub enrolling_anyhow : (new : MirrorView) → EnrolsChunks target kept orphans filled new → (left : List Disk) → MayAllBeLeft filled.disks new.disks (contents_of left) → IsCrashUnfinished target t left
   enrolling_anyhow new r left may =
-      let x = crashes_at_enrol_as_spoiled target kept orphans filled new (contents_of left) h.fills.sound (end_steady done at).sound.honest h.fills.has.may r may in
+      let x = crashes_at_enrol_as_spoiled target (in_chunks filled.array.chunks kept) (in_chunks filled.array.chunks orphans) filled new (contents_of left) h.fills.sound (end_steady done at).sound.honest (may_by_chunks target kept orphans filled h.fills.sound h.fills.has.may) r may in
       prepared_stop x.0 x.1 left x.2
 
-  pub unenrolled_anyhow : (new : MirrorView) (f : FailsToEnrol target kept orphans filled new) → FailsAtSuper f → (left : List Disk) → MayAllBeLeft filled.disks new.disks (contents_of left) → IsCrashUnfinished target t left
+  pub unenrolled_anyhow : (new : MirrorView) (f : FailsToEnrolChunks target kept orphans filled new) → FailsAtSuper f → (left : List Disk) → MayAllBeLeft filled.disks new.disks (contents_of left) → IsCrashUnfinished target t left
   unenrolled_anyhow new f at_super left may =
-      let x = crashes_at_failed_enrol_as_spoiled target kept orphans filled new (contents_of left) h.fills.sound (end_steady done at).sound.honest h.fills.has.may f at_super may in
+      let x = crashes_at_failed_enrol_as_spoiled target (in_chunks filled.array.chunks kept) (in_chunks filled.array.chunks orphans) filled new (contents_of left) h.fills.sound (end_steady done at).sound.honest (may_by_chunks target kept orphans filled h.fills.sound h.fills.has.may) f at_super may in
       prepared_stop x.0 x.1 left x.2
 
 -- ---- in lives

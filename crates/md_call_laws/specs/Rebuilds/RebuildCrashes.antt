@@ -15,7 +15,7 @@ use Rattle.md_state.specs.Requests.{AreInFlight}
 use Rattle.md_state.specs.View.{Disk, MirrorView}
 use Rattle.md_array.specs.Steps.Checkpoint.{Checkpoints, FailsToCheckpoint}
 use Rattle.md_array.specs.Consistency.{IsConsistent}
-use Rattle.md_array.specs.Steps.Enrol.{Enrols, FailsToEnrol}
+use Rattle.md_array.specs.Steps.Enrol.{EnrolsChunks, FailsToEnrolChunks}
 use Rattle.md_array.specs.Steps.EnrolEvents.{FailsAtSuper}
 use Rattle.md_array.specs.InTurn.{AllLeftWhole, AllOf, Requests}
 use Rattle.md_array.specs.Worlds.{block_on}
@@ -199,7 +199,7 @@ pub record HasFilled (target : ℕ) (kept orphans : Bitmap) (old filled : Mirror
 abbrev pub CrashesEnrolling : Type 0
 CrashesEnrolling =
     AtMoments (λ t.
-    ((target : ℕ) (kept orphans : Bitmap) (filled new : MirrorView) → HasFilled target kept orphans t.mirror filled → Enrols target kept orphans filled new
+    ((target : ℕ) (kept orphans : Bitmap) (filled new : MirrorView) → HasFilled target kept orphans t.mirror filled → EnrolsChunks target kept orphans filled new
     → (left : List Disk) → MayAllBeLeft filled.disks new.disks (contents_of left) → AtDevice target filled.disks left (λ d e. block_on e.content ≡ block_on d.content)
     → IsCrashBefore target t left))
 
@@ -208,7 +208,7 @@ abbrev pub CrashesUnenrolled : Type 0
 CrashesUnenrolled =
     AtMoments (λ t.
     ((target : ℕ) (kept orphans : Bitmap) (filled new : MirrorView) → HasFilled target kept orphans t.mirror filled
-    → (f : FailsToEnrol target kept orphans filled new) → FailsAtMarks f
+    → (f : FailsToEnrolChunks target kept orphans filled new) → FailsAtMarks f
     → (left : List Disk) → MayAllBeLeft filled.disks new.disks (contents_of left) → IsCrashBefore target t left))
 
 -- A crash within the enrolment, where the target's superblock stands as after it: the target is in sync. Of
@@ -218,7 +218,7 @@ abbrev pub CrashesEnrolled : Type 0
 CrashesEnrolled =
     AtMomentsWith (λ t content.
     ((target : ℕ) (kept orphans : Bitmap) (filled new : MirrorView) → HasFilled target kept orphans t.mirror filled
-    → Enrols target kept orphans filled new → IsConsistent new → HeldWhatItHad target content t.mirror
+    → EnrolsChunks target kept orphans filled new → IsConsistent new → HeldWhatItHad target content t.mirror
     → (left : List Disk) → MayAllBeLeft filled.disks new.disks (contents_of left) → AtDevice target new.disks left (λ d e. block_on e.content ≡ block_on d.content)
     → IsCrashEnrolled target t content left))
 
@@ -275,7 +275,7 @@ CrashesAtCheckpointAnyhow =
 abbrev pub CrashesEnrollingAnyhow : Type 0
 CrashesEnrollingAnyhow =
     AtMoments (λ t.
-    ((target : ℕ) (kept orphans : Bitmap) (filled new : MirrorView) → HasFilled target kept orphans t.mirror filled → Enrols target kept orphans filled new
+    ((target : ℕ) (kept orphans : Bitmap) (filled new : MirrorView) → HasFilled target kept orphans t.mirror filled → EnrolsChunks target kept orphans filled new
     → (left : List Disk) → MayAllBeLeft filled.disks new.disks (contents_of left) → IsCrashUnfinished target t left))
 
 -- A crash where the last write of the enrolment fails, that of the superblock, whatever it left.
@@ -283,7 +283,7 @@ abbrev pub CrashesUnenrolledAnyhow : Type 0
 CrashesUnenrolledAnyhow =
     AtMoments (λ t.
     ((target : ℕ) (kept orphans : Bitmap) (filled new : MirrorView) → HasFilled target kept orphans t.mirror filled
-    → (f : FailsToEnrol target kept orphans filled new) → FailsAtSuper f
+    → (f : FailsToEnrolChunks target kept orphans filled new) → FailsAtSuper f
     → (left : List Disk) → MayAllBeLeft filled.disks new.disks (contents_of left) → IsCrashUnfinished target t left))
 
 -- ---- within all of a rebuild that is done

@@ -19,6 +19,7 @@ use Rattle.md_cert.specs.declared.slots.Slot.{Slot}
 use Rattle.md_collect.specs.Reading.{CountsFailure, FailsInChunk}
 use Rattle.md_device.specs.Splice.{part}
 use Rattle.md_kept_members.specs.Enrolling.{IsListAfter, IsOf, IsOfChunk}
+use Rattle.md_kept_members.proofs.SectorSets.{after_of}
 use Rattle.md_kept_members.specs.Members.{made_due}
 use Rattle.md_kept_members.specs.Permitting.{ListsAny}
 use Rattle.md_kept_members.specs.View.{MemberView}
@@ -278,7 +279,7 @@ module _ (target : ℕ) (m : MemberView) (none : Bitmap) (v new : MirrorView) (t
   list_now =
       let c = h.by.enrols.comes in
       let at_enrol : IsListAfter f.array.chunks mf h.kept orphans nx.bad =
-      subst (λ (n : MemberView). IsListAfter f.array.chunks n h.kept orphans nx.bad) comes_is (subst (IsListAfter f.array.chunks c.member h.kept orphans) (sym c.comes.bad) c.list_is) in
+      subst (λ (n : MemberView). IsListAfter f.array.chunks n h.kept orphans nx.bad) comes_is (subst (IsListAfter f.array.chunks c.member h.kept orphans) (sym c.comes.bad) (after_of f.array.chunks h.kept orphans c.member c.list c.list_is)) in
       list_alike a.chunks m mf copied h.kept orphans nx.bad (sym area_f.0) bad_same same_of (subst (λ (q : Chunks). IsListAfter q mf h.kept orphans nx.bad) f_chunks at_enrol)
     where
       -- a copied chunk that it lacks no more it does not list

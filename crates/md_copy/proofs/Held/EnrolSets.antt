@@ -11,7 +11,7 @@ use Rattle.md_pass.proofs.FilteredLists.{kept}
 use Rattle.md_plan.specs.declared.planner.Planned.{Planned}
 use Rattle.md_state.specs.Members.{IsMember}
 use Rattle.md_state.specs.View.{ArrayView, MirrorView}
-use Rattle.md_array.specs.Steps.Enrol.{Enrols, MayEnrol}
+use Rattle.md_array.specs.Steps.Enrol.{EnrolsChunks, MayEnrol}
 use Rattle.md_rebuild_table.specs.declared.fault.RebuildFault.{RebuildFault}
 use Rattle.md_rebuild_table.specs.declared.fault.RebuildFault.TheVariants.{Halted, NotSpare, Dirty, InFlight, LogFull, NoMemory, TargetFault, MetadataFault, EventsFull}
 use Rattle.md_rebuild_table.specs.Orphans.{is_in, uncopied_chunks}
@@ -113,7 +113,7 @@ module _ (target : ℕ) (v : MirrorView) (ready : IsReadyToCopy target v) (withi
     }
 
     -- ---- what comes of it
-    pub enrols_copied : (w : MirrorView) (told : Rebuilt) (plans : List Planned) → Enrols target kept_set orphans v w → told.orphans.items ≡ chunks → told.passes ≡ length plans → told.plans.items ≡ plans
+    pub enrols_copied : (w : MirrorView) (told : Rebuilt) (plans : List Planned) → EnrolsChunks target kept_set orphans v w → told.orphans.items ≡ chunks → told.passes ≡ length plans → told.plans.items ≡ plans
         → EnrolsCopied target plans copied v w told
     enrols_copied w told plans enrols chunks_is passes_is plans_is = record {
       kept = kept_set;

@@ -1,5 +1,7 @@
 -- A rebuild is a list of events of the array's model, one part after another.
 use Rattle.std.proofs.Common.{◌≡◌, ◌≢◌, ◌∙◌, ◌⊎◌, ℕ, Bool, ◌<◌, true, false, Option, List, [], ◌∷◌, ◌++◌, append_assoc, refl, sym, ap, subst, arith, inl, inr}
+use Rattle.md_array.proofs.Rebuilding.ByChunks.{may_by_chunks}
+use Rattle.md_kept_members.specs.SectorLists.{in_chunks}
 use Rattle.md_bitmap.specs.Marks.{Bitmap}
 use Rattle.md_cert.specs.declared.slots.Slot.{Slot}
 use Rattle.md_device.specs.Splice.{part}
@@ -20,7 +22,7 @@ use Rattle.md_state.specs.View.{ArrayView, MirrorView}
 use Rattle.md_array.specs.Steps.Admit.{admit_event}
 use Rattle.md_array.specs.Steps.Checkpoint.{Checkpoints, checkpoint_event}
 use Rattle.md_array.specs.Consistency.{IsConsistent}
-use Rattle.md_array.specs.Steps.Enrol.{Enrols}
+use Rattle.md_array.specs.Steps.Enrol.{EnrolsChunks}
 use Rattle.md_array.specs.Steps.EnrolEvents.{enrol_event}
 use Rattle.md_array.specs.Steps.Lend.{IsBesideMissing}
 use Rattle.md_array.specs.Events.{Does, IsChangedAlone, IsSameBesideUnsaid, listed_on}
@@ -64,7 +66,7 @@ storing_before target (Event.WriteFails k (MemberPart.BitmapSector b)) of = tt
 storing_before target e of = absurd of
 
 pub noting_before : (target : ℕ) (e : Event) → IsNoting e → IsBeforeEnrol target e
-noting_before target (Event.NoteBad k c) of = tt
+noting_before target (Event.NoteBad k more) of = tt
 noting_before target e of = absurd of
 
 pub listing_before : (target : ℕ) (e : Event) → IsStoringList e → IsBeforeEnrol target e
@@ -458,14 +460,14 @@ module _ (target : ℕ) (old ready : MirrorView) (none : Bitmap) (b : BeginsRebu
 
 -- ---- it comes into sync
 module _ (target : ℕ) (m : MemberView) (passes : List PassView) (none copied kept orphans : Bitmap) (chunks : List ℕ) (ready filled : MirrorView) (f : FillsBy target m passes none copied kept orphans chunks ready filled) where
-  module _ (enrolled : MirrorView) (sound : IsConsistent enrolled) (r : Enrols target kept orphans filled enrolled) where
+  module _ (enrolled : MirrorView) (sound : IsConsistent enrolled) (r : EnrolsChunks target kept orphans filled enrolled) where
     abbrev pub enrolling_events : List Event
     enrolling_events = Event.Prepare target ∷ enrol_event r ∷ []
 
     pub enrolling_leads : LeadsIn (IsOfRebuild target) enrolling_events filled enrolled
     enrolling_leads = record {
       steps = (refl, (refl, tt));
-      leads = λ previous others in_flight. enrol_leads target kept orphans filled enrolled f.sound sound f.has.may r previous others in_flight;
+      leads = λ previous others in_flight. enrol_leads target (in_chunks filled.array.chunks kept) (in_chunks filled.array.chunks orphans) filled enrolled f.sound sound (may_by_chunks target kept orphans filled f.sound f.has.may) r previous others in_flight;
       requests = ap (λ (a : ArrayView). a.requests) r.array;
       sound = sound;
       pending = λ o is. idle_pending filled.array o f.has.may.idle is;

@@ -1,5 +1,7 @@
 -- A rebuild that is refused is a list of events of the array's model, of which the last may spoil its target.
 use Rattle.std.proofs.Common.{◌≡◌, ◌≢◌, ◌∙◌, ◌⊎◌, ℕ, Bool, true, false, None, List, [], ◌∷◌, ◌++◌, append_assoc, slice_get, refl, sym, ap, subst, inl, inr}
+use Rattle.md_array.proofs.Rebuilding.ByChunks.{may_by_chunks}
+use Rattle.md_kept_members.specs.SectorLists.{in_chunks}
 use Rattle.std.proofs.lemmas.Bool.{both_ways}
 use Rattle.std.proofs.lemmas.List.{append-nil}
 use Rattle.md_assembly.specs.States.{is_in_sync, is_recovering}
@@ -16,7 +18,7 @@ use Rattle.md_state.specs.Requests.{IsPending}
 use Rattle.md_state.specs.View.{ArrayView, MirrorView}
 use Rattle.md_array.specs.Steps.Checkpoint.{FailsToCheckpoint, checkpoint_event}
 use Rattle.md_array.specs.Consistency.{IsConsistent}
-use Rattle.md_array.specs.Steps.Enrol.{FailsToEnrol}
+use Rattle.md_array.specs.Steps.Enrol.{FailsToEnrolChunks}
 use Rattle.md_array.specs.Steps.EnrolEvents.{FailsAtSuper}
 use Rattle.md_array.specs.Events.{listed_on}
 use Rattle.md_array.specs.InTurn.{AllOf}
@@ -506,14 +508,14 @@ module _ (target : ℕ) where
     pass_unrecorded new (inr (inr e)) fails = absurd fails
 
     abbrev NotEnrolled : MirrorView → Type 0
-    NotEnrolled new = EndsFilled target m none ready (λ kept orphans filled. FailsToEnrol target kept orphans filled new)
+    NotEnrolled new = EndsFilled target m none ready (λ kept orphans filled. FailsToEnrolChunks target kept orphans filled new)
 
     abbrev TellsEnrol : {new : MirrorView} → NotEnrolled new → List Event → Type 0
     TellsEnrol e events = (FailsAtMarks e.why × EventsEndWith (Event.Prepare target) events) ⊎ (FailsAtSuper e.why × EventsEndWith (Event.SpoilTarget target) events)
 
     not_enrolled : (new : MirrorView) (e : NotEnrolled new) → FailsAtMarks e.why ⊎ FailsAtSuper e.why → IsConsistent new → LeadsTo old new (TellsEnrol e)
     not_enrolled new e (inl f) after =
-        let prepared = prepares target e.kept e.orphans e.filled new e.fills.sound e.why e.fills.has.may f in
+        let prepared = prepares target (in_chunks e.filled.array.chunks e.kept) (in_chunks e.filled.array.chunks e.orphans) e.filled new e.fills.sound e.why (may_by_chunks target e.kept e.orphans e.filled e.fills.sound e.fills.has.may) f in
         let c = copied_comes e.passes e.copied e.filled e.filled e.fills.copies refl in
         leads_there old new (TellsEnrol e) (inl (f, (c.events, refl)))
         (both_lead (Before target) c.events (Event.Prepare target ∷ []) old e.filled new c.leads
@@ -524,7 +526,7 @@ module _ (target : ℕ) where
         let rest : LeadsIn Unfinished (Event.Prepare target ∷ Event.SpoilTarget target ∷ []) e.filled new =
         record {
           steps = (refl, (refl, tt));
-          leads = λ previous others in_flight. unenrol_leads target e.kept e.orphans e.filled new e.fills.sound e.why f e.fills.has.may previous others in_flight;
+          leads = λ previous others in_flight. unenrol_leads target (in_chunks e.filled.array.chunks e.kept) (in_chunks e.filled.array.chunks e.orphans) e.filled new e.fills.sound e.why f (may_by_chunks target e.kept e.orphans e.filled e.fills.sound e.fills.has.may) previous others in_flight;
           requests = ap (λ (a : ArrayView). a.requests) e.why.array;
           sound = after;
           pending = λ o is. subst (λ (a : ArrayView). IsPending a o) (sym e.why.array) is;
@@ -555,7 +557,7 @@ module _ (target : ℕ) where
         (both_lead (Before target) c.events (Event.Fill target ∷ []) old s.begun new c.leads
         (fill_leads target s.begun s.copied (so_begun Why e s.copied s.begun s.part) (slots_before s.round s.part.left) s.why.may new s.why.breaks.filling s.why.sound))
     loses_target new (inr (inl e)) after = not_recorded new e after
-    loses_target new (inr (inr e)) after = not_enrolled new e (fails_somewhere target e.kept e.orphans e.filled new e.fills.sound e.why) after
+    loses_target new (inr (inr e)) after = not_enrolled new e (fails_somewhere target (in_chunks e.filled.array.chunks e.kept) (in_chunks e.filled.array.chunks e.orphans) e.filled new e.fills.sound e.why) after
 
   -- ---- all of it
   module _ (old : MirrorView) (Why : MemberView → Bitmap → MirrorView → Type 0) (e : EndsReadied target old Why) where

@@ -1,12 +1,11 @@
 -- Where a write of the target's bitmap or of its log failed, nothing changed beside the two.
-use Rattle.std.proofs.Common.{◌≡◌, ◌≢◌, ◌∙◌, ◌⊎◌, ℕ, zero, suc, ◌+◌, ◌*◌, ◌<◌, ◌≤◌, true, false, if◌then◌else◌, List, [], ◌∷◌, ◌++◌, length, append_assoc, slice_get, Some, refl, sym, ap, subst, arith, inl, inr}
+use Rattle.std.proofs.Common.{Bool, ◌≡◌, ◌≢◌, ◌∙◌, ◌⊎◌, ℕ, zero, suc, ◌+◌, ◌*◌, ◌<◌, ◌≤◌, true, false, if◌then◌else◌, List, [], ◌∷◌, ◌++◌, length, append_assoc, slice_get, Some, refl, sym, ap, subst, arith, inl, inr}
 use Rattle.std.specs.Int.{div_ceil}
 use Rattle.std.proofs.lemmas.Grind.{div_ceil_times}
 use Rattle.std.proofs.lemmas.List.{append-nil}
 use Rattle.std.proofs.lemmas.Option.{same_Some, slice_get_within}
 use Rattle.md_assembly.proofs.Indices.{got_same, got_within}
 use Rattle.md_badblocks.specs.Log.{log_bytes}
-use Rattle.md_bitmap.specs.Marks.{Bitmap}
 use Rattle.md_bitmap.proofs.Blocks.{length-bitmap_sector}
 use Rattle.md_device.specs.Device.{written}
 use Rattle.md_device.proofs.Leaving.{leaves_less, leaves_none}
@@ -30,7 +29,7 @@ use Rattle.md_members.specs.DeviceWrites.Writes.{FailsInWrites, IsAnyIn, IsCutSh
 use Rattle.md_members.proofs.DeviceWriteLemmas.Frames.{outside_around, outside_none}
 use Rattle.md_members.proofs.DeviceWriteLemmas.Sectors.{length-bitmap_run, runs_from}
 use Rattle.md_array.specs.Consistency.{IsConsistent}
-use Rattle.md_array.specs.Steps.Enrol.{FailsToEnrol, MayEnrol}
+use Rattle.md_array.specs.Steps.Enrol.{FailsToEnrol, MayEnrolSectors}
 use Rattle.md_array.specs.Steps.EnrolEvents.{FailsAtSuper, Prepares}
 use Rattle.md_array.specs.Steps.Fill.{MayRebuild}
 use Rattle.md_array.specs.Events.{IsBesideArea, IsBesideMarks, IsChangedAlone, IsSameBesideMarks}
@@ -116,7 +115,7 @@ cut_aside m ws last done tried rest old left are order more cut = by_rest cut.re
         (order ∙ ap (λ xs. xs ++ tried ∷ rest) is ∙ append_assoc cut.done (w ∷ next) (tried ∷ rest)) (not_empty next tried rest) mixed.outside
 
 -- ---- the writes of an enrolment but the last
-module _ (k : ℕ) (copied orphans : Bitmap) (old new : MirrorView) (c : IsConsistent old) (r : FailsToEnrol k copied orphans old new) where
+module _ (k : ℕ) (copied lost : ℕ → Bool) (old new : MirrorView) (c : IsConsistent old) (r : FailsToEnrol k copied lost old new) where
   abbrev m : MemberView
   m = r.comes.member
 
@@ -137,7 +136,7 @@ module _ (k : ℕ) (copied orphans : Bitmap) (old new : MirrorView) (c : IsConsi
 
   module _ (d : Disk) (was : slice_get old.disks k ≡ Some d) where
     storable : IsStorable n d.content
-    storable = can_store k r.role copied orphans old c n r.comes d was
+    storable = can_store k r.role copied lost old c n r.comes d was
 
     -- the bitmap
     bitmap_room : 512 * (r.are.start + width) ≤ length d.content
@@ -217,7 +216,7 @@ module _ (k : ℕ) (copied orphans : Bitmap) (old new : MirrorView) (c : IsConsi
       left_aside left (inr any) = any_aside left any
 
   -- ---- the event
-  may_rebuild : MayEnrol k copied orphans old → MayRebuild k old.array
+  may_rebuild : MayEnrolSectors k copied lost old → MayRebuild k old.array
   may_rebuild may = record {
     idle = record { running = r.may.running; none = may.idle };
     member = m;
@@ -250,7 +249,7 @@ module _ (k : ℕ) (copied orphans : Bitmap) (old new : MirrorView) (c : IsConsi
             (IsSameBesideMarks m f.disk.content) (left_aside f.disk f.is f.left f.left_is f.more) (fails.within honest));
       }
 
-  pub prepares : MayEnrol k copied orphans old → FailsAtMarks r → Prepares k old new
+  pub prepares : MayEnrolSectors k copied lost old → FailsAtMarks r → Prepares k old new
   unfolding may_rebuild
   prepares may f = record { may = may_rebuild may; array = r.array; disks = changed_alone f }
 

@@ -1,5 +1,6 @@
 -- Along the passes of a rebuild each list that grew is stored on its device, and stands there to the end.
 use Rattle.std.proofs.Common.{◌≡◌, ◌≢◌, ◌∙◌, ◌⊎◌, ◌↔◌, ℕ, Bool, true, ◌||◌, List, [], ◌∷◌, ◌++◌, map, slice_get, Some, None, refl, sym, ap, subst, arith, inl, inr}
+use Rattle.md_kept_members.specs.SectorLists.{in_chunks}
 use Rattle.std.specs.Prelude.{All}
 use Rattle.std.specs.List.{Any, list_any}
 use Rattle.std.proofs.lemmas.Bool.{both_ways, cases_Bool}
@@ -251,8 +252,8 @@ module _ (target : ℕ) (m : MemberView) (none : Bitmap) (v new : MirrorView) (t
       let many = r.disks.as_many in
       let d = got_within f.disks target (omega (arith, low, many)) in
       let was = sym (r.disks.change d.0 e d.1 at_e).0.kept.honest_kept ∙ honest in
-      let holds = holds_enrolled target h.kept h.orphans f u h.by.fills.sound r d.0 e d.1 at_e was in
-      let lists = lists_now target h.kept h.orphans f u h.by.fills.sound r d.0 e d.1 at_e was in
+      let holds = holds_enrolled target (in_chunks f.array.chunks h.kept) (in_chunks f.array.chunks h.orphans) f u h.by.fills.sound r d.0 e d.1 at_e was in
+      let lists = lists_now target (in_chunks f.array.chunks h.kept) (in_chunks f.array.chunks h.orphans) f u h.by.fills.sound r d.0 e d.1 at_e was in
       let a : ArrayView = u.array in
       let block = holds.block ∙ ap (λ (b : ArrayView). (super_write b nu).bytes) (sym r.array) in
       let there = slice_get_within f.array.members target h.by.fills.has.may.member h.by.fills.has.may.at in

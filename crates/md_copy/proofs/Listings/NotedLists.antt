@@ -11,10 +11,12 @@ use Rattle.md_cert.specs.declared.slots.Slot.{Slot}
 use Rattle.md_faults.specs.declared.note_fault.NoteFault.TheVariants as note
 use Rattle.md_kept_members.specs.View.{MemberView}
 use Rattle.md_model.specs.Events.{Event}
+use Rattle.md_model.specs.Listing.{of_chunk}
+use Rattle.md_kept_members.proofs.SectorSets.{in_chunk_is}
 use Rattle.md_inflight.specs.Requests.Pending.{PendingView}
 use Rattle.md_state.specs.Members.{IsMember}
 use Rattle.md_state.specs.Requests.{IsPending}
-use Rattle.md_state.specs.View.{ArrayView, MirrorView}
+use Rattle.md_state.specs.View.{ArrayView, MirrorView, geometry_of}
 use Rattle.md_array.specs.Consistency.{IsConsistent}
 use Rattle.md_array.specs.Events.{Happens}
 use Rattle.md_array.specs.Steps.NoteBad.{IsBelowListLimit, NotesChunk, RefusesChunk}
@@ -75,9 +77,9 @@ module _ (k : ℕ) (slot : Slot) (a : MirrorView) (sound : IsConsistent a) (with
         (λ apart there. absurd (apart (alone m at j y there is))))
         (λ i d low. absurd (omega (arith, low)))
 
-    pub slot_noted : IsBelowListLimit k slot.chunk a → Happens a (Event.NoteBad k slot.chunk) b → IsConsistent b → ((o : PendingView) → IsPending a.array o → IsPending b.array o) → NotesLists (slot ∷ []) a b
+    pub slot_noted : IsBelowListLimit k slot.chunk a → Happens a (Event.NoteBad k (of_chunk (geometry_of a.array) slot.chunk)) b → IsConsistent b → ((o : PendingView) → IsPending a.array o → IsPending b.array o) → NotesLists (slot ∷ []) a b
     slot_noted whole happens after pending = record {
-      goes = goes_step only_others only_others IsNoting (Event.NoteBad k slot.chunk) a b
+      goes = goes_step only_others only_others IsNoting (Event.NoteBad k (of_chunk (geometry_of a.array) slot.chunk)) a b
           (record {
             of = tt;
             did = λ others. (refl, noted);
@@ -89,7 +91,7 @@ module _ (k : ℕ) (slot : Slot) (a : MirrorView) (sound : IsConsistent a) (with
           (λ previous. tt);
       disks = noted.disks;
       lists = lists_add.one k slot a.array b.array noted.notes (source_of m at)
-          (λ x there sector of. subst (λ s. s < 2 ^ 54) (sym of.is) (whole x there of.at of.inside));
+          (λ x there sector of. subst (λ s. s < 2 ^ 54) (sym of.is) (whole x there of.at ((in_chunk_is a.array.chunks slot.chunk of.at).1 of.inside)));
       members = changed;
       others = noted.notes.array ∙ ap (λ (xs : List MemberView). record a.array { members = xs }) (sym (ap (λ (v : ArrayView). v.members) noted.notes.array));
       room = has_room;

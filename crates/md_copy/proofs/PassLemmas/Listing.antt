@@ -8,6 +8,7 @@ use Rattle.md_bitmap.specs.declared.chunks.Chunks.{Chunks}
 use Rattle.md_assembly.specs.States.{is_in_sync_as}
 use Rattle.md_cert.specs.declared.slots.Slot.{Slot}
 use Rattle.md_kept_members.specs.Enrolling.{IsOfChunk}
+use Rattle.md_kept_members.proofs.SectorSets.{placed_chunk}
 use Rattle.md_kept_members.specs.View.{MemberView}
 use Rattle.md_state.specs.Members.{IsMember}
 use Rattle.md_state.specs.Steps.NoteBad.{NotesBad}
@@ -116,13 +117,13 @@ module _ (k : ℕ) (slot : Slot) (a b : ArrayView) (notes : NotesBad k slot.chun
     bad = λ sector. (
       λ bad. elim ((notes.may.list_is.bad sector).0 bad) [
         | inl was ↦ inl was
-        | inr of ↦ inr (record { slot = slot; there = (0, omega arith, refl); own = subst (λ (x : MemberView). is_in_sync_as slot.source x.state ≡ true) same source.in_sync; of_chunk = of.0 })
+        | inr of ↦ inr (record { slot = slot; there = (0, omega arith, refl); own = subst (λ (x : MemberView). is_in_sync_as slot.source x.state ≡ true) same source.in_sync; of_chunk = (placed_chunk a.chunks slot.chunk m.superblock.data_offset sector).0 of.0 })
       ],
       λ either. elim either [
         | inl was ↦ (notes.may.list_is.bad sector).1 (inl was)
         | inr of ↦
             let chunk : IsOfChunk a.chunks m.superblock.data_offset slot.chunk sector = subst (λ (x : Slot). IsOfChunk a.chunks m.superblock.data_offset x.chunk sector) (only of.slot of.there) of.of_chunk in
-            (notes.may.list_is.bad sector).1 (inr (chunk, listable m notes.may.at sector chunk))
+            (notes.may.list_is.bad sector).1 (inr ((placed_chunk a.chunks slot.chunk m.superblock.data_offset sector).1 chunk, listable m notes.may.at sector chunk))
       ],
     );
   }

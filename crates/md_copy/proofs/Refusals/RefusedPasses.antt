@@ -16,7 +16,9 @@ use Rattle.md_bitmap.specs.declared.chunks.Chunks.{Chunks}
 use Rattle.md_cert.specs.declared.slots.Slot.{Slot}
 use Rattle.md_collect.specs.Reading.{CountsFailure}
 use Rattle.md_device.specs.Splice.{part}
-use Rattle.md_kept_members.specs.Enrolling.{HasRoomFor, IsListAfter, IsListWith}
+use Rattle.md_kept_members.specs.Enrolling.{HasRoomFor, IsListAfter}
+use Rattle.md_kept_members.specs.SectorLists.{IsListMore, in_chunk}
+use Rattle.md_kept_members.proofs.SectorSets.{after_of, of_after}
 use Rattle.md_kept_members.specs.TakingBack.{admitted_member}
 use Rattle.md_kept_members.specs.Members.{recorded_member}
 use Rattle.md_kept_members.specs.View.{MemberView}
@@ -27,7 +29,7 @@ use Rattle.md_copy.specs.PassLaws.Listed.{AreCopiedBy, IsArrayPass, ListsFailed,
 use Rattle.md_copy.specs.PassLaws.Passes.{PassView, ServesAtMost, failed_chunks, slots_of_pass}
 use Rattle.md_state.specs.DiskWrites.{AtDevice}
 use Rattle.md_state.specs.Steps.Checkpoint.{checked}
-use Rattle.md_state.specs.Steps.Enrol.{HasFullLog, HasRoomInLog}
+use Rattle.md_state.specs.Steps.Enrol.{HasFullLogChunks, HasRoomInLogChunks}
 use Rattle.md_state.specs.Members.{IsInSync, IsMember}
 use Rattle.md_state.specs.Missing.{has_passed, is_missing}
 use Rattle.md_state.specs.View.{ArrayView, Disk, MirrorView, of_disks}
@@ -681,7 +683,7 @@ module _ (target : ℕ) (old ready : MirrorView) (none : Bitmap) (b : BeginsRebu
       record {
         s = ended c.listed (c.last ∷ []) [] e.copied;
         ends = subst (EndsAt target (ended c.listed (c.last ∷ []) [] e.copied) old) (sym e.why.unchanged) (ends_copied e.passes e.copied e.filled c);
-        when = inr (inr (inr (record { all = all_made Why e; room = subst (λ (v : MirrorView). HasRoomInLog target e.kept e.orphans v.array) (sym e.why.unchanged) e.why.room }), by_all e.passes e.copied e.filled c));
+        when = inr (inr (inr (record { all = all_made Why e; room = subst (λ (v : MirrorView). HasRoomInLogChunks target e.kept e.orphans v.array) (sym e.why.unchanged) e.why.room }), by_all e.passes e.copied e.filled c));
         left = left_of Why e after stopped e.why.unchanged e.why.left;
       }
 
@@ -701,7 +703,7 @@ module _ (target : ℕ) (old ready : MirrorView) (none : Bitmap) (b : BeginsRebu
       → LacksOwnRoomFor target (ended e.fills.copies.listed (e.fills.copies.last ∷ []) [] e.copied) old.array stopped.array
   own_full after stopped e = record {
     all = all_made (λ kept orphans filled. LacksOwnRoom target kept orphans after filled stopped) e;
-    full = subst (λ (v : MirrorView). HasFullLog target e.kept e.orphans v.array) (sym e.why.unchanged) e.why.full;
+    full = subst (λ (v : MirrorView). HasFullLogChunks target e.kept e.orphans v.array) (sym e.why.unchanged) e.why.full;
   }
 
   lacks_room : (k : ℕ) (after : Bitmap) (stopped : MirrorView) → LacksRoom k target b.now none after ready stopped → FullSo k after stopped
@@ -803,12 +805,12 @@ module _ (target : ℕ) (old ready : MirrorView) (none : Bitmap) (b : BeginsRebu
     so_far_then c to now there = record { recovering = recovers_then now there; to = to now there }
 
     -- the member whose log has no room
-    full_then : (kept orphans : Bitmap) → HasFullLog target kept orphans stopped.array → HasFullLog target kept orphans new.array
+    full_then : (kept orphans : Bitmap) → HasFullLogChunks target kept orphans stopped.array → HasFullLogChunks target kept orphans new.array
     full_then kept orphans full = by leaves
       where
-        by : RecordsAtEnd target copied stopped new → HasFullLog target kept orphans new.array
-        by (inl same) = subst (λ (v : MirrorView). HasFullLog target kept orphans v.array) (sym same.1) full
-        by (inr (inr f)) = subst (HasFullLog target kept orphans) (sym f.array) full
+        by : RecordsAtEnd target copied stopped new → HasFullLogChunks target kept orphans new.array
+        by (inl same) = subst (λ (v : MirrorView). HasFullLogChunks target kept orphans v.array) (sym same.1) full
+        by (inr (inr f)) = subst (HasFullLogChunks target kept orphans) (sym f.array) full
         by (inr (inl r)) =
             let n = rest_then.then target full.member full.at in
             let is = own_is target copied stopped new z.sound r full.member n.0 full.at n.1 in
@@ -816,19 +818,19 @@ module _ (target : ℕ) (old ready : MirrorView) (none : Bitmap) (b : BeginsRebu
               member = n.0;
               at = n.1;
               list = full.list;
-              list_is = subst (λ (l : MemberView). IsListAfter new.array.chunks l kept orphans full.list) (sym is)
+              list_is = of_after new.array.chunks kept orphans n.0 full.list (subst (λ (l : MemberView). IsListAfter new.array.chunks l kept orphans full.list) (sym is)
                   (subst (λ (q : Chunks). IsListAfter q (recorded_member (checked r.sure full.member)) kept orphans full.list) (sym (ap (λ (a : ArrayView). a.chunks) r.array))
-                  (list_with stopped.array.chunks r.sure full.member kept orphans full.list full.list_is));
+                  (list_with stopped.array.chunks r.sure full.member kept orphans full.list (after_of stopped.array.chunks kept orphans full.member full.list full.list_is))));
               full = subst (λ (l : MemberView). HasRoomFor l.superblock full.list → ⊥) (sym is) full.full;
             }
 
     -- or has room
-    has_room_then : (kept orphans : Bitmap) → HasRoomInLog target kept orphans stopped.array → HasRoomInLog target kept orphans new.array
+    has_room_then : (kept orphans : Bitmap) → HasRoomInLogChunks target kept orphans stopped.array → HasRoomInLogChunks target kept orphans new.array
     has_room_then kept orphans has = by leaves
       where
-        by : RecordsAtEnd target copied stopped new → HasRoomInLog target kept orphans new.array
-        by (inl same) = subst (λ (v : MirrorView). HasRoomInLog target kept orphans v.array) (sym same.1) has
-        by (inr (inr f)) = subst (HasRoomInLog target kept orphans) (sym f.array) has
+        by : RecordsAtEnd target copied stopped new → HasRoomInLogChunks target kept orphans new.array
+        by (inl same) = subst (λ (v : MirrorView). HasRoomInLogChunks target kept orphans v.array) (sym same.1) has
+        by (inr (inr f)) = subst (HasRoomInLogChunks target kept orphans) (sym f.array) has
         by (inr (inl r)) =
             let n = rest_then.then target has.member has.at in
             let is = own_is target copied stopped new z.sound r has.member n.0 has.at n.1 in
@@ -836,9 +838,9 @@ module _ (target : ℕ) (old ready : MirrorView) (none : Bitmap) (b : BeginsRebu
               member = n.0;
               at = n.1;
               list = has.list;
-              list_is = subst (λ (l : MemberView). IsListAfter new.array.chunks l kept orphans has.list) (sym is)
+              list_is = of_after new.array.chunks kept orphans n.0 has.list (subst (λ (l : MemberView). IsListAfter new.array.chunks l kept orphans has.list) (sym is)
                   (subst (λ (q : Chunks). IsListAfter q (recorded_member (checked r.sure has.member)) kept orphans has.list) (sym (ap (λ (a : ArrayView). a.chunks) r.array))
-                  (list_with stopped.array.chunks r.sure has.member kept orphans has.list has.list_is));
+                  (list_with stopped.array.chunks r.sure has.member kept orphans has.list (after_of stopped.array.chunks kept orphans has.member has.list has.list_is))));
               room = subst (λ (l : MemberView). HasRoomFor l.superblock has.list) (sym is) has.room;
             }
 
@@ -871,7 +873,7 @@ module _ (target : ℕ) (old ready : MirrorView) (none : Bitmap) (b : BeginsRebu
               member = full.member;
               at = still.0 k other ∙ full.at;
               list = full.list;
-              list_is = subst (λ (q : Chunks). IsListWith q some.next.chunk full.member full.list) (sym still.1) full.list_is;
+              list_is = subst (λ (q : Chunks). IsListMore (in_chunk q some.next.chunk) full.member full.list) (sym still.1) full.list_is;
               full = full.full;
             };
             own = some.why.own;

@@ -26,7 +26,7 @@ use Rattle.md_state.specs.View.{ArrayView, Disk, MirrorView, of_disks}
 use Rattle.md_collect.specs.Reading.{FailsInChunk}
 use Rattle.md_array.specs.Steps.Checkpoint.{Checkpoints, FailsToCheckpoint}
 use Rattle.md_array.specs.Consistency.{IsConsistent}
-use Rattle.md_array.specs.Steps.Enrol.{FailsToEnrol, KeepsData}
+use Rattle.md_array.specs.Steps.Enrol.{FailsToEnrolChunks, KeepsData}
 use Rattle.md_array.specs.Steps.Record.{super_write}
 use Rattle.md_array.proofs.StepLemmas.FailedParts.{halted_array, halted_then}
 use Rattle.md_super.specs.declared.superblock.Superblock.{Superblock}
@@ -444,7 +444,7 @@ rest_left target copied v w sound (inr (inl r)) = rest_recorded target copied v 
 rest_left target copied v w sound (inr (inr f)) = rest_unrecordable target copied v w (sound f.running) f
 
 -- the target does not come into sync
-pub rest_unenrolled : (target : ℕ) (kept orphans : Bitmap) (v w : MirrorView) → FailsToEnrol target kept orphans v w → KeepsRest target v w
+pub rest_unenrolled : (target : ℕ) (kept orphans : Bitmap) (v w : MirrorView) → FailsToEnrolChunks target kept orphans v w → KeepsRest target v w
 rest_unenrolled target kept orphans v w f =
     rest_alone target target v w (ap (λ (a : ArrayView). a.members) f.array) f.disks.as_many f.disks.others (λ d e at_d at_e. (let kept = (f.disks.change d e at_d at_e).0.kept in stays_grown d e (λ f. f.writes ≡ true) kept.honest_kept kept.counted kept.grown))
     (λ d e m at_d at_e at_m i n from to.

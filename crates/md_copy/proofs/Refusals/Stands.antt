@@ -15,7 +15,7 @@ use Rattle.md_state.specs.Members.{IsMember}
 use Rattle.md_state.specs.View.{ArrayView, Disk, MirrorView}
 use Rattle.md_array.specs.Steps.Checkpoint.{Checkpoints, FailsToCheckpoint}
 use Rattle.md_array.specs.Consistency.{IsConsistent}
-use Rattle.md_array.specs.Steps.Enrol.{FailsToEnrol}
+use Rattle.md_array.specs.Steps.Enrol.{FailsToEnrolChunks}
 use Rattle.md_array.specs.ReadAsKept.{IsSuperOn}
 use Rattle.md_array.specs.Worlds.{is_listed}
 use Rattle.md_copy.specs.Filling.{IsFilling}
@@ -136,7 +136,7 @@ module _ (target : ℕ) (stored : List Slot) (old : ArrayView) where
   Knows v = (k : ℕ) (m z : MemberView) → k ≢ target → IsMember old k m → IsMember v.array k z → (sector : ℕ) → IsListedOrFailed old stored m sector → IsBad z.bad sector
 
   -- it does not come into sync
-  pub stand_unenrolled : (kept orphans : Bitmap) (v w : MirrorView) → FailsToEnrol target kept orphans v w → Stand v → Stand w
+  pub stand_unenrolled : (kept orphans : Bitmap) (v w : MirrorView) → FailsToEnrolChunks target kept orphans v w → Stand v → Stand w
   stand_unenrolled kept orphans v w f = stand_same v w (λ k other. ap (λ (a : ArrayView). slice_get a.members k) f.array) f.disks.others
 
   -- more is listed in memory

@@ -1,5 +1,5 @@
 -- What a crash leaves where one device alone is written: of a member that is rebuilt, what another such change leaves at its end.
-use Rattle.std.proofs.Common.{◌≡◌, ◌∙◌, ⊎_elim, inl, ℕ, zero, suc, List, [], ◌∷◌, length, map, slice_get, Some, sym, ap, refl, subst, arith}
+use Rattle.std.proofs.Common.{Bool, ◌≡◌, ◌∙◌, ⊎_elim, inl, ℕ, zero, suc, List, [], ◌∷◌, length, map, slice_get, Some, sym, ap, refl, subst, arith}
 use Rattle.std.proofs.lemmas.Option.{none-some, same_Some, slice_get_within}
 use Rattle.md_assembly.proofs.Indices.{got_within}
 use Rattle.md_device.proofs.Leaving.{leaves_none}
@@ -8,7 +8,7 @@ use Rattle.md_state.specs.View.{Disk, MirrorView}
 use Rattle.md_members.specs.DeviceWrites.Writes.{IsCutShort, Write}
 use Rattle.md_bitmap.specs.Marks.{Bitmap}
 use Rattle.md_array.specs.Consistency.{IsConsistent}
-use Rattle.md_array.specs.Steps.Enrol.{Enrols, IsUsedAlone, MayEnrol}
+use Rattle.md_array.specs.Steps.Enrol.{Enrols, IsUsedAlone, MayEnrolSectors}
 use Rattle.md_array.specs.Steps.EnrolEvents.{Prepares}
 use Rattle.md_array.specs.Events.{IsChangedAlone, IsSameBesideMarks, IsSameBesideUnsaid}
 use Rattle.md_array.specs.Worlds.{AreHonest, block_on}
@@ -132,13 +132,13 @@ used_alone k before after left Change P is may this =
     }
 
 pub crashes_at_enrol : CrashesAtEnrol
-crashes_at_enrol k copied orphans old new left honest r may =
+crashes_at_enrol k copied lost old new left honest r may =
     used_alone k old.disks new.disks left _ (λ was c. IsCutShort was r.writes c) r.disks may
     (λ d e c was change left_so. ⊎_elim (λ kept. subst (IsCutShort d.content r.writes) (sym kept) (cut_none d.content r.writes))
     (λ found. new_has d.crashes e.crashes (IsCutShort d.content r.writes) (change.0.within (honest k d was)) found.0 c found.1) left_so)
 
 pub crashes_at_failed_enrol : CrashesAtFailedEnrol
-crashes_at_failed_enrol k copied orphans old new left honest r may =
+crashes_at_failed_enrol k copied lost old new left honest r may =
     used_alone k old.disks new.disks left _ (λ was c. (done : List Write) × (tried : Write) × IsLeftFailing done tried was c) r.disks may
     (λ d e c was change left_so. (
       change.0.done,
@@ -148,19 +148,19 @@ crashes_at_failed_enrol k copied orphans old new left honest r may =
     ))
 
 -- devices that were left so, where the superblock stands as before: those of a preparing
-pub left_prepared : (k : ℕ) (copied orphans : Bitmap) (old new : MirrorView) → IsConsistent old → (r : Enrols k copied orphans old new) → MayEnrol k copied orphans old
+pub left_prepared : (k : ℕ) (copied lost : ℕ → Bool) (old new : MirrorView) → IsConsistent old → (r : Enrols k copied lost old new) → MayEnrolSectors k copied lost old
     → (left : List (List ℕ)) → IsLeftBut k (λ was c. IsCutShort was r.writes c) old.disks left
     → ((d : Disk) (c : List ℕ) → slice_get old.disks k ≡ Some d → slice_get left k ≡ Some c → block_on c ≡ block_on d.content)
     → (other : MirrorView) × Prepares k old other × (map (λ d. d.content) other.disks ≡ left)
-left_prepared k copied orphans old new c r may left but super =
+left_prepared k copied lost old new c r may left but super =
     let m = r.comes.member in
     let Related : List ℕ → List ℕ → Type 0 = IsSameBesideMarks m in
     let as_prepared : IsLeftBut k Related old.disks left = record {
       as_many = but.as_many;
       others = but.others;
-      this = λ d b was found. cut_with_super k copied orphans old new c r d was b (but.this d b was found) (super d b was found);
+      this = λ d b was found. cut_with_super k copied lost old new c r d was b (but.this d b was found) (super d b was found);
     } in (
       record { disks = with_contents old.disks left; array = old.array },
-      record { may = may_rebuild_it k copied orphans old new c r may; array = refl; disks = found_alone k Related old.disks left as_prepared (λ d b is. is.size) },
+      record { may = may_rebuild_it k copied lost old new c r may; array = refl; disks = found_alone k Related old.disks left as_prepared (λ d b is. is.size) },
       contents_with old.disks left but.as_many,
     )

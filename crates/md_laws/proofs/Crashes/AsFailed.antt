@@ -266,7 +266,7 @@ crashes_at_events (Event.SpoilTarget k) before after left honest writes may = tt
 crashes_at_events (Event.Enrol k role listed) before after left honest writes may = tt
 crashes_at_events (Event.Admit k role listed) before after left honest writes may = (writes.0, writes.1, crashes_at_write k writes.0 before after left honest writes.1 may)
 crashes_at_events (Event.Checkpoint k sure listed) before after left honest writes may = (writes.0, writes.1, crashes_at_write k writes.0 before after left honest writes.1 may)
-crashes_at_events (Event.NoteBad k c) before after left honest writes may = in_memory before after left writes may
+crashes_at_events (Event.NoteBad k more) before after left honest writes may = in_memory before after left writes may
 crashes_at_events (Event.StoreLog k listed) before after left honest (inl same) may = inl (in_memory before after left same may)
 crashes_at_events (Event.StoreLog k listed) before after left honest (inr writes) may = inr (writes.0, writes.1, crashes_at_write k writes.0 before after left honest writes.1 may)
 

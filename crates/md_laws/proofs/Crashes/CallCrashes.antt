@@ -173,7 +173,7 @@ module _ (previous : Option Event) (t : Moment) (at : IsSoundAt t) (mid : Mirror
   within_event (Event.LowerOffset k s) order did happens whole unshifted asked = in_memory (Event.LowerOffset k s) (happens at.honest tt).writes
   within_event Event.Resynced order did happens whole unshifted asked = in_memory Event.Resynced (happens at.honest tt).writes
   within_event Event.Unresynced order did happens whole unshifted asked = in_memory Event.Unresynced (happens at.honest tt).writes
-  within_event (Event.NoteBad k c) order did happens whole unshifted asked = in_memory (Event.NoteBad k c) (happens at.honest tt).writes
+  within_event (Event.NoteBad k more) order did happens whole unshifted asked = in_memory (Event.NoteBad k more) (happens at.honest tt).writes
   within_event (Event.Copy from k s) order did happens whole unshifted asked = beside (Event.Copy from k s) did happens asked
   within_event (Event.Remove k) order did happens whole unshifted asked = beside (Event.Remove k) did happens asked
   within_event (Event.Add number device) order did happens whole unshifted asked = beside (Event.Add number device) did happens asked

@@ -26,7 +26,7 @@ use Rattle.md_laws.specs.CrashesWithin.{IsLeftBut}
 outside_both : (at n : ℕ) (xs ys zs : List ℕ) → SameOutside at n xs ys → SameOutside at n xs zs → SameOutside at n ys zs
 outside_both at n xs ys zs a b = record { size = b.size ∙ sym a.size; before = b.before ∙ sym a.before; after = b.after ∙ sym a.after }
 
-module _ (k : ℕ) (copied orphans : Bitmap) (old new : MirrorView) (c : IsConsistent old) (sound : IsConsistent new) (r : Enrols k copied orphans old new) (honest : AreHonest old.disks)
+module _ (k : ℕ) (copied lost : ℕ → Bool) (old new : MirrorView) (c : IsConsistent old) (sound : IsConsistent new) (r : Enrols k copied lost old new) (honest : AreHonest old.disks)
     (failed_at : ℕ) (spoiled : ℕ → Bool) (read : AreReadAsKept old failed_at spoiled) (clear : spoiled k ≡ false) where
   abbrev n : MemberView
   n = r.member
@@ -34,7 +34,7 @@ module _ (k : ℕ) (copied orphans : Bitmap) (old new : MirrorView) (c : IsConsi
   pub may_record_new : MayRecord k new.array n
   may_record_new = record {
     running = ap (λ (x : ArrayView). x.halted) r.array ∙ r.may.running;
-    at = there k copied orphans old new c sound r;
+    at = there k copied lost old new c sound r;
     active = ap is_recorded r.comes.comes.state;
     readable = r.readable;
   }
@@ -42,7 +42,7 @@ module _ (k : ℕ) (copied orphans : Bitmap) (old new : MirrorView) (c : IsConsi
   -- the superblock of before is not the new one: its count is no higher than the array's was
   not_before : (d e : Disk) → slice_get old.disks k ≡ Some d → slice_get new.disks k ≡ Some e → block_on d.content ≡ block_on e.content → ⊥
   not_before d e was is same =
-      let block = same ∙ block_is k copied orphans old new c sound r (out k copied orphans old new c sound r) (small k copied orphans old new c sound r) d was e is (honest k d was) in
+      let block = same ∙ block_is k copied lost old new c sound r (out k copied lost old new c sound r) (small k copied lost old new c sound r) d was e is (honest k d was) in
       let own = (read k d r.comes.member was r.comes.at).super clear (record (merged new.array.shared n.superblock) { sb_csum = r.readable.sum })
       (record { fields = subst (λ (b : List ℕ). IsSuper b (record (merged new.array.shared n.superblock) { sb_csum = r.readable.sum })) (sym block) r.readable.fields; sound = subst NoSuperFault (sym block) r.readable.sound }) in
       let low : new.array.shared.events ≤ old.array.shared.events = own.no_newer in
@@ -59,8 +59,8 @@ module _ (k : ℕ) (copied orphans : Bitmap) (old new : MirrorView) (c : IsConsi
         let inside = slice_get_within new.disks k e is in
         let many = r.disks.as_many in
         let d = got_within old.disks k (omega arith) in
-        let whole = outside k copied orphans old new c sound r (out k copied orphans old new c sound r) (small k copied orphans old new c sound r) d.0 d.1 e is (honest k d.0 d.1) in
-        elim (cut_enrol k copied orphans old new c r d.0 d.1 x (but.this d.0 x d.1 found)) [
+        let whole = outside k copied lost old new c sound r (out k copied lost old new c sound r) (small k copied lost old new c sound r) d.0 d.1 e is (honest k d.0 d.1) in
+        elim (cut_enrol k copied lost old new c r d.0 d.1 x (but.this d.0 x d.1 found)) [
           | inl early ↦
               let stays = block_kept old.array r.comes.member d.0.content x (parts_of old c k d.0 r.comes.member d.1 r.comes.at) early in
               absurd (not_before d.0 e d.1 is (sym stays ∙ super e x is found))

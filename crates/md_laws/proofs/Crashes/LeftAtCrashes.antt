@@ -692,8 +692,8 @@ module _ (Beside : ℕ → Type 0) (t : Moment) (at : IsSoundAt t) where
   -- and within `enrol`, before the superblock is written
   enrolling : (left : List Disk) (l : IsLeftEnrolling t left) → (Beside l.on → ⊥) → IsSortedBeside Beside t left
   enrolling left l none =
-      let but = crashes_at_enrol l.on l.copied l.orphans v l.next (contents_of left) at.honest l.call l.within in
-      let x = left_prepared l.on l.copied l.orphans v l.next at.sound l.call l.may (contents_of left) but
+      let but = crashes_at_enrol l.on l.copied l.lost v l.next (contents_of left) at.honest l.call l.within in
+      let x = left_prepared l.on l.copied l.lost v l.next at.sound l.call l.may (contents_of left) but
       (λ d e was is.
       let found = got_content left l.on e is in
       ap block_on (sym found.2) ∙ l.super d found.0 was found.1) in
@@ -708,9 +708,9 @@ module _ (Beside : ℕ → Type 0) (t : Moment) (at : IsSoundAt t) where
   enrolled : (left : List Disk) → IsLeftEnrolled t left → IsSortedBeside Beside t left
   enrolled left l =
       let m = l.call.member in
-      let may = may_record_new l.on l.copied l.orphans l.before v l.sound at.sound l.call l.honest l.failed_at l.spoiled l.read l.unspoiled in
-      let but = crashes_at_enrol l.on l.copied l.orphans l.before v (contents_of left) l.honest l.call l.within in
-      let since = left_since l.on l.copied l.orphans l.before v l.sound at.sound l.call l.honest l.failed_at l.spoiled l.read l.unspoiled (contents_of left) but
+      let may = may_record_new l.on l.copied l.lost l.before v l.sound at.sound l.call l.honest l.failed_at l.spoiled l.read l.unspoiled in
+      let but = crashes_at_enrol l.on l.copied l.lost l.before v (contents_of left) l.honest l.call l.within in
+      let since = left_since l.on l.copied l.lost l.before v l.sound at.sound l.call l.honest l.failed_at l.spoiled l.read l.unspoiled (contents_of left) but
       (λ e x is found. let y = got_content left l.on x found in ap block_on (sym y.2) ∙ l.super e y.0 is y.1) in
       let f = left_as_tried l.on (super_write a m) v.disks (contents_of left) since in
       let low = slice_get_within a.members l.on m may.at in

@@ -1,5 +1,5 @@
 -- What a crash leaves within a call by which a member that is rebuilt tells of it, the write of its superblock might leave that failed.
-use Rattle.std.proofs.Common.{◌≡◌, ◌≢◌, ◌⊎◌, ℕ, zero, suc, ◌+◌, ◌*◌, ◌<◌, inl, inr, true, List, [], ◌∷◌, ◌++◌, append_assoc, length, length-set, map, set, slice_get, Some, false, refl, sym, ap, ◌∙◌, subst, arith}
+use Rattle.std.proofs.Common.{Bool, ◌≡◌, ◌≢◌, ◌⊎◌, ℕ, zero, suc, ◌+◌, ◌*◌, ◌<◌, inl, inr, true, List, [], ◌∷◌, ◌++◌, append_assoc, length, length-set, map, set, slice_get, Some, false, refl, sym, ap, ◌∙◌, subst, arith}
 use Rattle.std.proofs.lemmas.Option.{none-some, same_Some, slice_get_within}
 use Rattle.md_assembly.proofs.Indices.{got_same, got_within}
 use Rattle.md_bitmap.specs.Marks.{Bitmap}
@@ -16,7 +16,7 @@ use Rattle.md_members.specs.Areas.{bitmap_sectors}
 use Rattle.md_members.specs.DeviceWrites.Bitmaps.{bitmap_writes}
 use Rattle.md_members.specs.DeviceWrites.Writes.{FailsInWrites, IsAnyIn, IsCutShort, Write, after}
 use Rattle.md_array.specs.Consistency.{IsConsistent}
-use Rattle.md_array.specs.Steps.Enrol.{Enrols, FailsToEnrol, MayEnrol}
+use Rattle.md_array.specs.Steps.Enrol.{Enrols, FailsToEnrol, MayEnrolSectors}
 use Rattle.md_array.specs.Steps.EnrolEvents.{FailsAtSuper, Prepares, prepared, writes_before}
 use Rattle.md_array.specs.Events.{HasWriteFailed, IsSameBesideMarks}
 use Rattle.md_array.specs.Worlds.{AreHonest}
@@ -116,14 +116,14 @@ crashes_as_spoiled k m old new left honest at rebuilt call may =
     ]
 
 -- ---- within an enrolment
-module _ (k : ℕ) (copied orphans : Bitmap) (old new : MirrorView) (left : List (List ℕ)) (c : IsConsistent old) (may : MayEnrol k copied orphans old) (r : Enrols k copied orphans old new)
+module _ (k : ℕ) (copied lost : ℕ → Bool) (old new : MirrorView) (left : List (List ℕ)) (c : IsConsistent old) (may : MayEnrolSectors k copied lost old) (r : Enrols k copied lost old new)
     (P : List ℕ → List ℕ → Type 0) (but : IsLeftBut k P old.disks left) where
   -- before the superblock is written
   early : IsLeftBut k (IsSameBesideMarks r.comes.member) old.disks left → (mid : MirrorView) × Prepares k old mid × (map (λ (d : Disk). d.content) mid.disks ≡ left)
   early same = (
     record { disks = with_contents old.disks left; array = old.array },
     record {
-      may = may_rebuild_it k copied orphans old new c r may;
+      may = may_rebuild_it k copied lost old new c r may;
       array = refl;
       disks = found_alone k (IsSameBesideMarks r.comes.member) old.disks left same (λ d b is. is.size);
     },
@@ -132,29 +132,29 @@ module _ (k : ℕ) (copied orphans : Bitmap) (old new : MirrorView) (left : List
 
   module _ (d : Disk) (was : slice_get old.disks k ≡ Some d) (x : List ℕ) (there : slice_get left k ≡ Some x) where
     abbrev then : Disk
-    then = then_disk k copied orphans old new c r d was
+    then = then_disk k copied lost old new c r d was
 
     late : SameOutside (512 * 8) 4096 then.content x → IsLeftSpoiled k (prepared r) left
     late outside =
         let w : Write = write_of new.array.shared r.member in
-        let is = prepared_is k copied orphans old new c r d was in
+        let is = prepared_is k copied lost old new c r d was in
         let mid : MirrorView = record old { disks = set old.disks k then } in
         let since : IsLeftBut k (IsAnyIn w) mid.disks left = record {
           as_many = but.as_many ∙ sym (length-set old.disks k then);
           others = λ j apart e y found here. but.others j apart e y (sym (got_other old.disks k j then apart) ∙ found) here;
           this = λ e y found here.
-              let one : e ≡ then = got_same mid.disks k e then found (then_at k copied orphans old new c r d was) in
+              let one : e ≡ then = got_same mid.disks k e then found (then_at k copied lost old new c r d was) in
               let two : y ≡ x = same_Some y x (sym here ∙ there) in
               subst (λ (z : List ℕ). IsAnyIn w e.content z) (sym two)
               (subst (λ (z : Disk). IsAnyIn w z.content x) (sym one) (subst (λ (n : ℕ). SameOutside (512 * 8) n then.content x) (sym r.readable.size) outside));
         } in
         let f = left_as_tried k w mid.disks left since in
         subst (λ (v : MirrorView). IsLeftSpoiled k v left) (sym is)
-        (spoiled_by k r.comes.member mid w.bytes left r.comes.at (may_rebuild_it k copied orphans old new c r may).rebuilt r.may.running r.readable.size f.0 f.1 f.2)
+        (spoiled_by k r.comes.member mid w.bytes left r.comes.at (may_rebuild_it k copied lost old new c r may).rebuilt r.may.running r.readable.size f.0 f.1 f.2)
 
   -- of member k its bitmap and its log may be other than before, or its superblock than after them
   by_write : ((d : Disk) (was : slice_get old.disks k ≡ Some d) (x : List ℕ) → P d.content x
-      → IsSameBesideMarks r.comes.member d.content x ⊎ SameOutside (512 * 8) 4096 (then_disk k copied orphans old new c r d was).content x)
+      → IsSameBesideMarks r.comes.member d.content x ⊎ SameOutside (512 * 8) 4096 (then_disk k copied lost old new c r d was).content x)
       → (mid : MirrorView) × Prepares k old mid × ((map (λ (d : Disk). d.content) mid.disks ≡ left) ⊎ IsLeftSpoiled k mid left)
   by_write cut =
       let low = slice_get_within old.array.members k r.comes.member r.comes.at in
@@ -173,22 +173,22 @@ module _ (k : ℕ) (copied orphans : Bitmap) (old new : MirrorView) (left : List
                   rw (one, two) same;
             }) in
             (p.0, p.1, inl p.2)
-        | inr outside ↦ (prepared r, prepares k copied orphans old new c r may, inr (late d.0 d.1 x.0 x.1 outside))
+        | inr outside ↦ (prepared r, prepares k copied lost old new c r may, inr (late d.0 d.1 x.0 x.1 outside))
       ]
 
 pub crashes_at_enrol_as_spoiled : CrashesAtEnrolAsSpoiled
-crashes_at_enrol_as_spoiled k copied orphans old new left c honest may r left_so =
-    by_write k copied orphans old new left c may r (λ was x. IsCutShort was r.writes x) (crashes_at_enrol k copied orphans old new left honest r left_so) (cut_enrol k copied orphans old new c r)
+crashes_at_enrol_as_spoiled k copied lost old new left c honest may r left_so =
+    by_write k copied lost old new left c may r (λ was x. IsCutShort was r.writes x) (crashes_at_enrol k copied lost old new left honest r left_so) (cut_enrol k copied lost old new c r)
 
 -- ---- within one of which the last write failed
-module _ (k : ℕ) (copied orphans : Bitmap) (old new : MirrorView) (left : List (List ℕ)) (c : IsConsistent old) (honest : AreHonest old.disks) (f : FailsToEnrol k copied orphans old new) (s : FailsAtSuper f)
+module _ (k : ℕ) (copied lost : ℕ → Bool) (old new : MirrorView) (left : List (List ℕ)) (c : IsConsistent old) (honest : AreHonest old.disks) (f : FailsToEnrol k copied lost old new) (s : FailsAtSuper f)
     (left_so : MayAllBeLeft old.disks new.disks left) where
   -- what it would be, had that not failed
   abbrev other : MirrorView
-  other = instead k copied orphans old new c f s.disk s.is
+  other = instead k copied lost old new c f s.disk s.is
 
-  abbrev r : Enrols k copied orphans old other
-  r = enrols_instead k copied orphans old new c f s.disk s.is
+  abbrev r : Enrols k copied lost old other
+  r = enrols_instead k copied lost old new c f s.disk s.is
 
   abbrev w : Write
   w = write_of other.array.shared f.member
@@ -206,7 +206,7 @@ module _ (k : ℕ) (copied orphans : Bitmap) (old new : MirrorView) (left : List
 
   failing : (x : List ℕ) → IsCutShort s.disk.content fails.done x ⊎ IsAnyIn fails.tried (after s.disk.content fails.done) x → Failing s.disk.content x
   failing x (inl cut) =
-      inl (cut_first k copied orphans old other c r s.disk s.is x (subst (λ (ws : List Write). IsCutShort s.disk.content ws x) (sym (ends_alike (writes_before f) fails.done w fails.tried order).0) cut))
+      inl (cut_first k copied lost old other c r s.disk s.is x (subst (λ (ws : List Write). IsCutShort s.disk.content ws x) (sym (ends_alike (writes_before f) fails.done w fails.tried order).0) cut))
   failing x (inr any) =
       let same = ends_alike (writes_before f) fails.done w fails.tried order in
       inr (subst (λ (n : ℕ). SameOutside (512 * 8) n (after s.disk.content (writes_before f)) x) f.readable.size
@@ -229,8 +229,8 @@ module _ (k : ℕ) (copied orphans : Bitmap) (old new : MirrorView) (left : List
         this = λ d x was found. subst (λ (y : Disk). Failing y.content x) (got_same old.disks k s.disk d s.is was) (left_failing x found);
       }
 
-  pub crashes_failing : MayEnrol k copied orphans old → (mid : MirrorView) × Prepares k old mid × ((map (λ (d : Disk). d.content) mid.disks ≡ left) ⊎ IsLeftSpoiled k mid left)
-  crashes_failing may = by_write k copied orphans old other left c may r Failing but (λ d was x is. is)
+  pub crashes_failing : MayEnrolSectors k copied lost old → (mid : MirrorView) × Prepares k old mid × ((map (λ (d : Disk). d.content) mid.disks ≡ left) ⊎ IsLeftSpoiled k mid left)
+  crashes_failing may = by_write k copied lost old other left c may r Failing but (λ d was x is. is)
 
 pub crashes_at_failed_enrol_as_spoiled : CrashesAtFailedEnrolAsSpoiled
-crashes_at_failed_enrol_as_spoiled k copied orphans old new left c honest may f s left_so = crashes_failing k copied orphans old new left c honest f s left_so may
+crashes_at_failed_enrol_as_spoiled k copied lost old new left c honest may f s left_so = crashes_failing k copied lost old new left c honest f s left_so may

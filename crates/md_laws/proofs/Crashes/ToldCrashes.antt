@@ -70,7 +70,7 @@ module _ (before after : List Disk) (honest : AreHonest before) where
   grows (Event.ClearIdle c) told same = grows_same before after same
   grows (Event.Fail k) told same = grows_same before after same
   grows (Event.LowerOffset k s) told same = grows_same before after same
-  grows (Event.NoteBad k c) told same = grows_same before after same
+  grows (Event.NoteBad k more) told same = grows_same before after same
   grows e told w = absurd told
 
 -- ---- along a list

@@ -18,7 +18,7 @@ use Rattle.md_array.specs.Worlds.{AreHonest}
 use Rattle.md_array.proofs.General.Indices.{at_set_same}
 use Rattle.md_array.proofs.Rebuilding.Admit.{admit_spoils}
 use Rattle.md_array.proofs.Rebuilding.AdmitEvent.{admit_happens}
-use Rattle.md_array.proofs.Rebuilding.NoteBad.{note_happens}
+use Rattle.md_array.proofs.Rebuilding.NoteBad.{note_happens, notes_within}
 use Rattle.md_array.proofs.Rebuilding.Checkpoint.{checkpoint_spoils}
 use Rattle.md_array.proofs.Rebuilding.CheckpointEvent.{checkpoint_happens}
 use Rattle.md_array.proofs.Rebuilding.EnrolSpoils.{unenrol_leads}
@@ -148,8 +148,8 @@ failed_checkpoint_is_a_call k copied old new sound f recovers = spoil_is_a_call 
 
 -- ---- a list that grows
 pub note_bad_is_a_call : NoteBadIsACall
-note_bad_is_a_call k chunk old new sound notes in_sync resynced all previous requests listed =
-    (new, requests, tt, (refl, notes), λ honest whole. note_happens k chunk old new sound notes (in_sync notes.notes.may.member notes.notes.may.at) resynced all honest requests listed, (refl, refl))
+note_bad_is_a_call k more old new sound notes in_sync resynced of all previous requests listed =
+    (new, requests, tt, (refl, notes_within k more old new of notes), λ honest whole. note_happens k more old new sound notes (in_sync notes.notes.may.member notes.notes.may.at) resynced all more (λ s _. refl) honest requests listed, (refl, refl))
 
 pub store_log_is_a_call : StoreLogIsACall
 store_log_is_a_call k old new sound r canonical previous requests listed =

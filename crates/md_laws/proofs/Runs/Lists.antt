@@ -130,10 +130,10 @@ module _ (g : Geometry) (u : ℕ → Bool) (w : World) (t : ListsAreIn u w) wher
       (sym (ap (λ (f : ℕ → Bool). f s) (put-miss k (w.bad k) w.bad j apart)) ∙ bad))
 
   -- the list of a member in sync grows
-  when_noted : (k c : ℕ) → IsInSync w k → ListsAreIn u (noted_bad g w k c)
-  when_noted k c on j known target s bad = by_same j k
+  when_noted : (k : ℕ) (more : ℕ → Bool) → IsInSync w k → ListsAreIn u (noted_bad g w k more)
+  when_noted k more on j known target s bad = by_same j k
       (λ here. absurd (not_target (w.state k) on (subst (λ (i : ℕ). is_target (w.state i) ≡ true) here target)))
-      (λ apart. t j known target s (sym (ap (λ (f : ℕ → Bool). f s) (put-miss k (λ x. w.bad k x || (nat_lt x g.size && eqb (chunk_of g x) c)) w.bad j apart)) ∙ bad))
+      (λ apart. t j known target s (sym (ap (λ (f : ℕ → Bool). f s) (put-miss k (λ x. w.bad k x || (nat_lt x g.size && more x)) w.bad j apart)) ∙ bad))
 
 -- ---- an event
 list_step : (g : Geometry) (w : World) (u : ℕ → Bool) → ListsAreIn u w → (e : Event) (w' : World) → Happens g w e w' → KeepsLists e w w' → ListsAreIn (log_unknown_after e w u) w'
@@ -161,7 +161,7 @@ list_step g w u t (Event.Enrol k role listed) w' h l = subst (ListsAreIn (put k 
 list_step g w u t (Event.Admit k role listed) w' h l = subst (ListsAreIn u) (sym h.3) (when_admitted g u (risen g w h.0) t k role listed h.1.spare (subst (ListsStill k w) h.3 l))
 list_step g w u t (Event.Checkpoint k sure listed) w' h l =
     subst (ListsAreIn u) (sym h.1) (when_told u w t k (recorded_device (with_offset w k sure) k listed) (subst (ListsStill k w) h.1 l))
-list_step g w u t (Event.NoteBad k c) w' h l = subst (ListsAreIn u) (sym h.1) (when_noted g u w t k c h.0.in_sync)
+list_step g w u t (Event.NoteBad k more) w' h l = subst (ListsAreIn u) (sym h.1) (when_noted g u w t k more h.0.in_sync)
 list_step g w u t (Event.StoreLog k listed) w' h l = subst (ListsAreIn u) (sym h.2) (when_in_sync u w t k (record (w.stored k) { listed = listed }) h.0)
 
 -- ---- over runs, and at crashes

@@ -147,7 +147,7 @@ offset_step g w s t u (Event.Checkpoint k sure listed) w' h = subst (OffsetsIn (
     let most : sure ≤ max (w.offset k) sure = omega arith in
     subst (λ (v : Super). v.offset ≤ max (w.offset k) sure) (same_Some (super_for (with_offset w k sure) k) own is)
     (subst (λ (x : ℕ). x ≤ max (w.offset k) sure) (sym (put-hit k sure w.sure_offset)) most)))
-offset_step g w s t u (Event.NoteBad k c) w' h = subst (OffsetsIn s) (sym h.1) t
+offset_step g w s t u (Event.NoteBad k more) w' h = subst (OffsetsIn s) (sym h.1) t
 offset_step g w s t u (Event.StoreLog k listed) w' h = subst (OffsetsIn s) (sym h.2) (still s w t u k (record (w.stored k) { listed = listed }) refl)
 
 -- ---- what superblocks are to have
@@ -211,7 +211,7 @@ sure_step g w u (Event.SpoilTarget k) w' h = subst SuresIn (sym h.1.2) u
 sure_step g w u (Event.Enrol k role listed) w' h = subst SuresIn (sym h.3) (put_sures w u k 0 0 (omega arith))
 sure_step g w u (Event.Admit k role listed) w' h = subst SuresIn (sym h.3) (put_sures w u k 0 0 (omega arith))
 sure_step g w u (Event.Checkpoint k sure listed) w' h = subst SuresIn (sym h.1) (put_sures w u k sure (max (w.offset k) sure) (omega arith))
-sure_step g w u (Event.NoteBad k c) w' h = subst SuresIn (sym h.1) u
+sure_step g w u (Event.NoteBad k more) w' h = subst SuresIn (sym h.1) u
 sure_step g w u (Event.StoreLog k listed) w' h = subst SuresIn (sym h.2) u
 
 -- ---- over runs, and at crashes

@@ -107,7 +107,7 @@ module _ (g : Geometry) (d : Stored) where
       (behind_fewer a w (admitted g w k role listed s.0) (fewer_admitted g w k role listed s.0 (spare_target (w.state k) s.1.spare)) t))
   behind_step a b w (Event.Checkpoint k offset listed) w' _ _ t s c = behind_as a b w' c (subst (IsBehind g a d) (sym s.1)
       (behind_fewer a w (checkpointed w k offset listed) (fewer_checkpointed w k offset listed (recovering_target (w.state k) s.0.recovering)) t))
-  behind_step a b w (Event.NoteBad k x) w' _ _ t s c = behind_as a b w' c (subst (IsBehind g a d) (sym s.1) (behind_fewer a w (noted_bad g w k x) (fewer_noted_bad g w k x) t))
+  behind_step a b w (Event.NoteBad k more) w' _ _ t s c = behind_as a b w' c (subst (IsBehind g a d) (sym s.1) (behind_fewer a w (noted_bad g w k more) (fewer_noted_bad g w k more) t))
   behind_step a b w (Event.StoreLog k listed) w' _ _ t s c = behind_as a b w' c (subst (IsBehind g a d) (sym s.2) (behind_fewer a w (log_stored w k listed) (fewer_log_stored w k listed s.1) t))
 
 -- A member that fails is behind by what is marked.

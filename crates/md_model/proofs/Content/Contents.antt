@@ -114,7 +114,7 @@ module _ (g : Geometry) (a : Content) where
       (unmarked_fewer w (admitted g w k role listed s.0) (fewer_admitted g w k role listed s.0 (spare_target (w.state k) s.1.spare)) t.unmarked))
   unmarked_step b w (Event.Checkpoint k offset listed) w' _ t s c = same b w' c (subst (HoldsUnmarked g a) (sym s.1)
       (unmarked_fewer w (checkpointed w k offset listed) (fewer_checkpointed w k offset listed (recovering_target (w.state k) s.0.recovering)) t.unmarked))
-  unmarked_step b w (Event.NoteBad k x) w' _ t s c = same b w' c (subst (HoldsUnmarked g a) (sym s.1) (unmarked_fewer w (noted_bad g w k x) (fewer_noted_bad g w k x) t.unmarked))
+  unmarked_step b w (Event.NoteBad k more) w' _ t s c = same b w' c (subst (HoldsUnmarked g a) (sym s.1) (unmarked_fewer w (noted_bad g w k more) (fewer_noted_bad g w k more) t.unmarked))
   unmarked_step b w (Event.StoreLog k listed) w' _ t s c = same b w' c (subst (HoldsUnmarked g a) (sym s.2) (unmarked_fewer w (log_stored w k listed) (fewer_log_stored w k listed s.1) t.unmarked))
 
 pub holds_step : (g : Geometry) (a b : Content) (w : World) (e : Event) (w' : World) → IsTracked g w → Holds g a w → Step g w e w' → Becomes g e w a b → Holds g b w'

@@ -314,11 +314,11 @@ module _ (g : Geometry) (wide : 0 < g.width) (a : Content) (w : World) (tracked 
   late_before (Event.Enrol k role listed) w' s _ = subst AreLate (sym s.3) (taking_in_sync k (as_in_sync (risen g w s.0) role listed) s.0 refl)
   late_before (Event.Admit k role listed) w' s _ = subst AreLate (sym s.3) (taking_first k (as_recovering w k role listed) s.0 refl (degraded_free g w role s.1.below s.1.free))
   late_before (Event.Checkpoint k offset listed) w' s _ = subst AreLate (sym s.1) (checkpoint_old k offset listed s.0)
-  late_before (Event.NoteBad k c) w' s _ = subst AreLate (sym s.1) (all_old (noted_bad g w k c) refl (λ _ _ _. refl) (λ j x. noted j x) refl)
+  late_before (Event.NoteBad k more) w' s _ = subst AreLate (sym s.1) (all_old (noted_bad g w k more) refl (λ _ _ _. refl) (λ j x. noted j x) refl)
     where
-      noted : (j x : ℕ) → (noted_bad g w k c).bad j x ≡ false → w.bad j x ≡ false
-      noted j x = put-at k (λ y. w.bad k y || (nat_lt y g.size && eqb (chunk_of g y) c)) w.bad j (λ (f : ℕ → Bool). f x ≡ false → w.bad j x ≡ false)
-          (λ here off. ap (λ i. w.bad i x) here ∙ (or_parts (w.bad k x) (nat_lt x g.size && eqb (chunk_of g x) c) off).0) (λ _ off. off)
+      noted : (j x : ℕ) → (noted_bad g w k more).bad j x ≡ false → w.bad j x ≡ false
+      noted j x = put-at k (λ y. w.bad k y || (nat_lt y g.size && more y)) w.bad j (λ (f : ℕ → Bool). f x ≡ false → w.bad j x ≡ false)
+          (λ here off. ap (λ i. w.bad i x) here ∙ (or_parts (w.bad k x) (nat_lt x g.size && more x) off).0) (λ _ off. off)
   late_before (Event.StoreLog k listed) w' s _ = subst AreLate (sym s.2) (all_old (log_stored w k listed) refl
       (λ j x _. put-same (λ (d : Stored). d.content x) k (record (w.stored k) { listed = listed }) w.stored j refl) (λ _ _ off. off) refl)
 

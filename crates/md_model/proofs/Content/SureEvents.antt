@@ -440,12 +440,12 @@ module _ (g : Geometry) (wide : 0 < g.width) (spoiled : ℕ → Bool) (a : Conte
           (λ lacked. let y = may.copied s low lacked below in y.same ∙ holds y.from s low y.in_sync y.unlisted (quiet s) (inl may.resynced))
           (λ there. differs_in_missing g a w late k s low may.recovering bad there)
 
-  sure_noted_bad : (k c : ℕ) → Sure spoiled (noted_bad g w k c)
-  sure_noted_bad k c = sure_same g spoiled a w t (noted_bad g w k c) refl refl (λ _. omega arith) (λ _ _ e. e) (λ j s _. noted j s) (λ _ _ _. refl) (λ _ _ _ off. off) same_requests
+  sure_noted_bad : (k : ℕ) (more : ℕ → Bool) → Sure spoiled (noted_bad g w k more)
+  sure_noted_bad k more = sure_same g spoiled a w t (noted_bad g w k more) refl refl (λ _. omega arith) (λ _ _ e. e) (λ j s _. noted j s) (λ _ _ _. refl) (λ _ _ _ off. off) same_requests
     where
-      noted : (j x : ℕ) → (noted_bad g w k c).bad j x ≡ false → w.bad j x ≡ false
-      noted j x = put-at k (λ y. w.bad k y || (nat_lt y g.size && eqb (chunk_of g y) c)) w.bad j (λ (f : ℕ → Bool). f x ≡ false → w.bad j x ≡ false)
-          (λ here off. ap (λ i. w.bad i x) here ∙ (or_parts (w.bad k x) (nat_lt x g.size && eqb (chunk_of g x) c) off).0) (λ _ off. off)
+      noted : (j x : ℕ) → (noted_bad g w k more).bad j x ≡ false → w.bad j x ≡ false
+      noted j x = put-at k (λ y. w.bad k y || (nat_lt y g.size && more y)) w.bad j (λ (f : ℕ → Bool). f x ≡ false → w.bad j x ≡ false)
+          (λ here off. ap (λ i. w.bad i x) here ∙ (or_parts (w.bad k x) (nat_lt x g.size && more x) off).0) (λ _ off. off)
 
   -- ---- all of them
   becomes_same : (spoiled' : ℕ → Bool) (b : Content) (w' v : World) → b ≡ a → w' ≡ v → Sure spoiled' v → IsSure g spoiled' b w'
@@ -494,7 +494,7 @@ module _ (g : Geometry) (wide : 0 < g.width) (spoiled : ℕ → Bool) (a : Conte
   sure_event b (Event.Enrol k role listed) w' s c _ = becomes_same (put k false spoiled) b w' (enrolled g w k role listed s.0) c.same s.3 (sure_enrolled k role listed s.0 b s.1 c)
   sure_event b (Event.Admit k role listed) w' s c _ = becomes_same (put k false spoiled) b w' (admitted g w k role listed s.0) c s.3 (sure_admitted k role listed s.0 (spare_target (w.state k) s.1.spare))
   sure_event b (Event.Checkpoint k sure listed) w' s c _ = becomes_same (put k false spoiled) b w' (checkpointed w k sure listed) c s.1 (sure_checkpointed k sure listed s.0)
-  sure_event b (Event.NoteBad k x) w' s c _ = becomes_same spoiled b w' (noted_bad g w k x) c s.1 (sure_noted_bad k x)
+  sure_event b (Event.NoteBad k more) w' s c _ = becomes_same spoiled b w' (noted_bad g w k more) c s.1 (sure_noted_bad k more)
   sure_event b (Event.StoreLog k listed) w' s c _ = becomes_same spoiled b w' (log_stored w k listed) c s.2 (sure_still (log_stored w k listed) refl refl refl refl
       (λ j. put-same (λ (d : Stored). d.super) k (record (w.stored k) { listed = listed }) w.stored j refl)
       (λ j x _. put-same (λ (d : Stored). d.content x) k (record (w.stored k) { listed = listed }) w.stored j refl)

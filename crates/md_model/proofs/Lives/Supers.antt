@@ -106,7 +106,7 @@ module _ (g : Geometry) (small : IsWithinLimits g) (opened : Super) (Q : Super �
     all_step (Event.Checkpoint k sure listed) w' s = subst (OfAll Q (put k false h.spoiled)) (sym s.1)
         (put_anew k (recorded_device (with_offset w k sure) k listed) false (λ own e. subst Q
         (some-injective (super_for (with_offset w k sure) k) own e) (moved h t k (put k sure w.sure_offset k) (target_recorded (w.state k) (recovering_target (w.state k) s.0.recovering)))))
-    all_step (Event.NoteBad k c) w' s = subst Still (sym s.1) all
+    all_step (Event.NoteBad k more) w' s = subst Still (sym s.1) all
     all_step (Event.StoreLog k listed) w' s = subst Still (sym s.2) (put_all k (record (w.stored k) { listed = listed }) (all k))
 
   pub all_run : (es : List Event) (h last : History) → IsKept g opened h → OfAll Q h.spoiled h.now → Run g h es last → OfAll Q last.spoiled last.now

@@ -179,7 +179,7 @@ module _ (g : Geometry) (a : Content) where
       (between_fewer w (admitted g w k role listed s.0) (fewer_admitted g w k role listed s.0 (spare_target (w.state k) s.1.spare)) t))
   between b w (Event.Checkpoint k offset listed) w' s c t = same b w' c (subst (HoldsBetween g a) (sym s.1)
       (between_fewer w (checkpointed w k offset listed) (fewer_checkpointed w k offset listed (recovering_target (w.state k) s.0.recovering)) t))
-  between b w (Event.NoteBad k x) w' s c t = same b w' c (subst (HoldsBetween g a) (sym s.1) (between_fewer w (noted_bad g w k x) (fewer_noted_bad g w k x) t))
+  between b w (Event.NoteBad k more) w' s c t = same b w' c (subst (HoldsBetween g a) (sym s.1) (between_fewer w (noted_bad g w k more) (fewer_noted_bad g w k more) t))
   between b w (Event.StoreLog k listed) w' s c t = same b w' c (subst (HoldsBetween g a) (sym s.2) (between_fewer w (log_stored w k listed) (fewer_log_stored w k listed s.1) t))
 
 -- what was written of the requests in flight goes along by itself
@@ -228,7 +228,7 @@ module _ (g : Geometry) where
       (in_flight_fewer w (admitted g w k role listed s.0) (fewer_admitted g w k role listed s.0 (spare_target (w.state k) s.1.spare)) t)
   flight w (Event.Checkpoint k offset listed) w' s t = subst HoldsInFlight (sym s.1)
       (in_flight_fewer w (checkpointed w k offset listed) (fewer_checkpointed w k offset listed (recovering_target (w.state k) s.0.recovering)) t)
-  flight w (Event.NoteBad k x) w' s t = subst HoldsInFlight (sym s.1) (in_flight_fewer w (noted_bad g w k x) (fewer_noted_bad g w k x) t)
+  flight w (Event.NoteBad k more) w' s t = subst HoldsInFlight (sym s.1) (in_flight_fewer w (noted_bad g w k more) (fewer_noted_bad g w k more) t)
   flight w (Event.StoreLog k listed) w' s t = subst HoldsInFlight (sym s.2) (in_flight_fewer w (log_stored w k listed) (fewer_log_stored w k listed s.1) t)
 
 pub in_flight_step : KeepsInFlight

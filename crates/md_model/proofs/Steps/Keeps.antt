@@ -109,7 +109,7 @@ module _ (g : Geometry) (small : IsWithinLimits g) where
       (tracked_fewer g w (admitted g w k role listed s.0) (fewer_admitted g w k role listed s.0 (spare_target (w.state k) s.1.spare)) t)
   tracked_step w u (Event.Checkpoint k offset listed) w' t s = subst (IsTracked g) (sym s.1)
       (tracked_fewer g w (checkpointed w k offset listed) (fewer_checkpointed w k offset listed (recovering_target (w.state k) s.0.recovering)) t)
-  tracked_step w u (Event.NoteBad k c) w' t s = subst (IsTracked g) (sym s.1) (tracked_fewer g w (noted_bad g w k c) (fewer_noted_bad g w k c) t)
+  tracked_step w u (Event.NoteBad k more) w' t s = subst (IsTracked g) (sym s.1) (tracked_fewer g w (noted_bad g w k more) (fewer_noted_bad g w k more) t)
   tracked_step w u (Event.StoreLog k listed) w' t s = subst (IsTracked g) (sym s.2) (tracked_fewer g w (log_stored w k listed) (fewer_log_stored w k listed s.1) t)
 
 module _ (g : Geometry) (small : IsWithinLimits g) (opened : Super) (away : ℕ → Bool) where
@@ -368,7 +368,7 @@ module _ (g : Geometry) (small : IsWithinLimits g) (opened : Super) (away : ℕ 
         (stored_anew (checkpointed w k offset listed) k (recorded_device (with_offset w k offset) k listed)
         (recorded_recorded g small.few opened h.failed_at h.tried away (with_offset seen_now k offset) k listed
         (target_recorded (w.state k) (recovering_target (w.state k) s.0.recovering)) t.recorded))
-    recorded_step (Event.NoteBad k c) w' gone s = as_seen w' (noted_bad g w k c) s.1 t.recorded
+    recorded_step (Event.NoteBad k more) w' gone s = as_seen w' (noted_bad g w k more) s.1 t.recorded
     recorded_step (Event.StoreLog k listed) w' gone s = as_seen w' (log_stored w k listed) s.2
         (due_again h.failed_at h.tried (seen h.spoiled (with_device w k (record (w.stored k) { listed = listed }))) k
         (stored_same w k (record (w.stored k) { listed = listed }) refl t.recorded))
@@ -417,7 +417,7 @@ module _ (g : Geometry) (small : IsWithinLimits g) (opened : Super) (away : ℕ 
   alone_step w here (Event.Admit k role listed) w' gone then t s = subst (IsAlone g away) (sym s.3) (λ m q d _ off low. put-at (w.number k) role (role_at_rise g w) d (λ x. x < g.raid_disks → ⊥)
       (λ same _. true≢false (sym (here k (target_recorded (w.state k) (spare_target (w.state k) s.1.spare))) ∙ sym (ap w.present same) ∙ gone d off)) (λ _ l. absent_none g w d small.few (gone d off) l) low)
   alone_step w here (Event.Checkpoint k offset listed) w' gone then t s = subst (IsAlone g away) (sym s.1) t
-  alone_step w here (Event.NoteBad k c) w' gone then t s = subst (IsAlone g away) (sym s.1) t
+  alone_step w here (Event.NoteBad k more) w' gone then t s = subst (IsAlone g away) (sym s.1) t
   alone_step w here (Event.StoreLog k listed) w' gone then t s = subst (IsAlone g away) (sym s.2) t
 
 -- what stays away was away
@@ -472,7 +472,7 @@ gone_step g w (Event.SpoilTarget k) w' before gone s d x = ap (λ (v : World). v
 gone_step g w (Event.Enrol k role listed) w' before gone s d x = ap (λ (v : World). v.present d) s.3 ∙ gone d x
 gone_step g w (Event.Admit k role listed) w' before gone s d x = ap (λ (v : World). v.present d) s.3 ∙ gone d x
 gone_step g w (Event.Checkpoint k offset listed) w' before gone s d x = ap (λ (v : World). v.present d) s.1 ∙ gone d x
-gone_step g w (Event.NoteBad k c) w' before gone s d x = ap (λ (v : World). v.present d) s.1 ∙ gone d x
+gone_step g w (Event.NoteBad k more) w' before gone s d x = ap (λ (v : World). v.present d) s.1 ∙ gone d x
 gone_step g w (Event.StoreLog k listed) w' before gone s d x = ap (λ (v : World). v.present d) s.2 ∙ gone d x
 
 -- fewer devices stay away

@@ -191,7 +191,7 @@ module _ (g : Geometry) (wide : 0 < g.width) where
       (noted_fewer w (admitted g w k role listed s.0) (fewer_admitted g w k role listed s.0 (spare_target (w.state k) s.1.spare)) t)
   noted_step w (Event.Checkpoint k offset listed) w' _ t s = subst (HasNoted g) (sym s.1)
       (noted_fewer w (checkpointed w k offset listed) (fewer_checkpointed w k offset listed (recovering_target (w.state k) s.0.recovering)) t)
-  noted_step w (Event.NoteBad k c) w' _ t s = subst (HasNoted g) (sym s.1) (noted_fewer w (noted_bad g w k c) (fewer_noted_bad g w k c) t)
+  noted_step w (Event.NoteBad k more) w' _ t s = subst (HasNoted g) (sym s.1) (noted_fewer w (noted_bad g w k more) (fewer_noted_bad g w k more) t)
   noted_step w (Event.StoreLog k listed) w' _ t s = subst (HasNoted g) (sym s.2) (noted_fewer w (log_stored w k listed) (fewer_log_stored w k listed s.1) t)
 
 noted_opened : (g : Geometry) (first : Super) (w : World) → IsStart g first w → HasNoted g w

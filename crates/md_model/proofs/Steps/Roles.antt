@@ -253,7 +253,7 @@ module _ (g : Geometry) (small : IsWithinLimits g) (opened : Super) (h : History
   roles_step (Event.Admit k role listed) w' s = subst (HasRoles g) (sym s.3)
       (roles_taking k (as_recovering w k role listed) s.0 (kept.recorded.there k (spare_recorded (w.state k) s.1.spare)) s.1.below (λ j _ on. s.1.free j on))
   roles_step (Event.Checkpoint k offset listed) w' s = subst (HasRoles g) (sym s.1) (as_was g w _ refl refl refl t)
-  roles_step (Event.NoteBad k c) w' s = subst (HasRoles g) (sym s.1) (as_was g w _ refl refl refl t)
+  roles_step (Event.NoteBad k more) w' s = subst (HasRoles g) (sym s.1) (as_was g w _ refl refl refl t)
   roles_step (Event.StoreLog k listed) w' s = subst (HasRoles g) (sym s.2) (as_was g w _ refl refl refl t)
 
 -- an opening finds them so

@@ -148,10 +148,10 @@ module _ (g : Geometry) where
             (λ _. may.agrees i s old clear) (λ old_j. u.agree i j s old old_j (sym (bad_there i s apart) ∙ at) q clear) off') off);
       }
 
-  unstored_noted_bad : (w : World) (k c : ℕ) → w.resynced ≡ true → IsTracked g w → IsUnstored w → IsUnstored (noted_bad g w k c)
-  unstored_noted_bad w k c r t u = record {
-    listed = λ j s on off. u.listed j s on (put-at k (λ y. w.bad k y || (nat_lt y g.size && eqb (chunk_of g y) c)) w.bad j (λ (f : ℕ → Bool). f s ≡ false → w.bad j s ≡ false)
-        (λ here e. ap (λ i. w.bad i s) here ∙ (or_parts (w.bad k s) (nat_lt s g.size && eqb (chunk_of g s) c) e).0) (λ _ e. e) off);
+  unstored_noted_bad : (w : World) (k : ℕ) (more : ℕ → Bool) → w.resynced ≡ true → IsTracked g w → IsUnstored w → IsUnstored (noted_bad g w k more)
+  unstored_noted_bad w k more r t u = record {
+    listed = λ j s on off. u.listed j s on (put-at k (λ y. w.bad k y || (nat_lt y g.size && more y)) w.bad j (λ (f : ℕ → Bool). f s ≡ false → w.bad j s ≡ false)
+        (λ here e. ap (λ i. w.bad i s) here ∙ (or_parts (w.bad k s) (nat_lt s g.size && more s) e).0) (λ _ e. e) off);
     agree = λ i j s a b _ q. t.quiet r i j s a b q;
   }
 
@@ -190,7 +190,7 @@ module _ (g : Geometry) where
   unstored_step w (Event.Checkpoint k offset listed) w' t u s = subst IsUnstored (sym s.1)
       (unstored_same w (checkpointed w k offset listed) (fewer_checkpointed w k offset listed (recovering_target (w.state k) s.0.recovering)) (λ _ _ _. refl)
       (λ j x on. ap (λ (d : Stored). d.listed x) (put-miss k (recorded_device (with_offset w k offset) k listed) w.stored j (not_target w k (recovering_target (w.state k) s.0.recovering) j on))) u)
-  unstored_step w (Event.NoteBad k c) w' t u s = subst IsUnstored (sym s.1) (unstored_noted_bad w k c s.0.resynced t u)
+  unstored_step w (Event.NoteBad k more) w' t u s = subst IsUnstored (sym s.1) (unstored_noted_bad w k more s.0.resynced t u)
   unstored_step w (Event.StoreLog k listed) w' t u s = subst IsUnstored (sym s.2)
       (unstored_fewer w (log_stored w k listed) (fewer_log_stored w k listed s.1) (λ _ _ _. refl)
       (λ j x on off. put-at k (record (w.stored k) { listed = listed }) w.stored j (λ (d : Stored). d.listed x ≡ false)

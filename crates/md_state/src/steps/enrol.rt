@@ -5,15 +5,19 @@ ghost use Rattle.std.specs.Int.{div_ceil};
 ghost use Rattle.md_assembly.specs.States.{is_in_sync, is_recovering};
 ghost use Rattle.md_assembly.specs.declared.state.MemberState.TheVariants as state;
 ghost use Rattle.md_kept_members.specs.Members.{made_due};
+ghost use Rattle.md_kept_members.specs.SectorLists.{in_chunks, in_chunks_but, in_runs};
 ghost use Rattle.md_kept_members.specs.View.{MemberView};
-ghost use Rattle.md_state.specs.Steps.Enrol.{ComesWith, MayTakeRole, RefusesEnrolledMember, RefusesRole, is_full_with};
+ghost use Rattle.md_state.specs.Steps.Enrol.{ComesWith, MayTakeRole, RefusesEnrolledMember, RefusesMadeMember, RefusesRole, is_full_with};
 ghost use Rattle.md_state.specs.Members.{IsMember, is_filled};
 
 use crate::array::Array;
 use md_assembly::MemberState;
+use md_badblocks::BadSet;
 use md_bitmap::Marks;
 use md_faults::EnrolFault;
-use md_kept_members::{Member, entries_after, in_sync, list_after, log_room, make_due};
+use md_kept_members::{
+    Member, entries_after, in_sync, list_after, list_but_for, log_room, make_due,
+};
 use md_super::Superblock;
 use std::alloc::Global;
 
@@ -50,7 +54,8 @@ impl Array {
         requires within { k < length self.now.members }
         requires copied { copied.now.chunks ≡ div_ceil self.now.chunks.size self.now.chunks.sectors }
         requires orphans { orphans.now.chunks ≡ div_ceil self.now.chunks.size self.now.chunks.sectors }
-        ensures { MatchResult result (ComesWith k role copied.now orphans.now self.now) (RefusesEnrolledMember k copied.now orphans.now self.now) }
+        ensures { MatchResult result (ComesWith k role (in_chunks self.now.chunks copied.now) (in_chunks self.now.chunks orphans.now) self.now)
+            (RefusesEnrolledMember k (in_chunks self.now.chunks copied.now) (in_chunks self.now.chunks orphans.now) self.now) }
     {
         let member = &self.members[k];
         if entries_after(member, self.chunks, copied, orphans) > log_room(&member.superblock) {
@@ -59,6 +64,35 @@ impl Array {
         let Ok(list) = list_after(alloc, member, self.chunks, copied, orphans) else {
             return Err(EnrolFault::NoMemory);
         };
+        match in_sync(alloc, member, role, list, &self.marks) {
+            Ok(member) => Ok(member),
+            Err(_) => Err(EnrolFault::NoMemory),
+        }
+    }
+
+    /// Member k as it is kept once it is in sync in this role, with the missing chunks but for the lost
+    /// sectors of the array. Nothing is changed yet. Its list is made first: `NoMemory` may come before
+    /// `LogFull`.
+    pub fn member_but_for(
+        &self,
+        alloc: Global,
+        k: usize,
+        role: u16,
+        missing: &Marks,
+        lost: &BadSet,
+    ) -> Result<Member, EnrolFault>
+        requires within { k < length self.now.members }
+        requires missing { missing.now.chunks ≡ div_ceil self.now.chunks.size self.now.chunks.sectors }
+        ensures { MatchResult result (ComesWith k role (in_chunks_but self.now.chunks missing.now lost.now) (in_runs lost.now) self.now)
+            (RefusesMadeMember k (in_chunks_but self.now.chunks missing.now lost.now) (in_runs lost.now) self.now) }
+    {
+        let member = &self.members[k];
+        let Ok(list) = list_but_for(alloc, member, self.chunks, missing, lost) else {
+            return Err(EnrolFault::NoMemory);
+        };
+        if list.entries_needed() > log_room(&member.superblock) {
+            return Err(EnrolFault::LogFull(k));
+        }
         match in_sync(alloc, member, role, list, &self.marks) {
             Ok(member) => Ok(member),
             Err(_) => Err(EnrolFault::NoMemory),

@@ -1,14 +1,15 @@
-// A chunk that a member could not be read in is listed as bad, in memory alone.
+// Sectors that a member could not give are listed as bad, in memory alone.
 ghost use Rattle.std.specs.Prelude.{◌≡◌, ◌<◌, MatchResult, length, set};
 ghost use Rattle.std.specs.Int.{div_ceil};
 ghost use Rattle.md_kept_members.specs.View.{MemberView};
 ghost use Rattle.md_state.specs.Members.{IsMember};
-ghost use Rattle.md_state.specs.Steps.NoteBad.{MayNote, NotesBad, RefusesNote, WhyUnlisted};
+ghost use Rattle.md_kept_members.specs.SectorLists.{in_runs};
+ghost use Rattle.md_state.specs.Steps.NoteBad.{MayNote, MayNoteMore, NotesBad, NotesMore, RefusesNote, RefusesNoteMore, WhyMoreUnlisted, WhyUnlisted};
 
 use crate::array::Array;
 use md_badblocks::BadSet;
 use md_faults::NoteFault;
-use md_kept_members::{entries_with, list_with, log_room};
+use md_kept_members::{entries_with, list_with, list_with_sectors, log_room};
 use std::alloc::Global;
 
 impl Array {
@@ -20,6 +21,22 @@ impl Array {
         ensures { MatchResult result (λ _. NotesBad k chunk self.old self.new) (RefusesNote k chunk self.old self.new) }
     {
         let list = self.list_noted(alloc, k, chunk)?;
+        self.set_list(k, list);
+        Ok(())
+    }
+
+    /// Member k lists these sectors of the array as bad too. `store_log` stores that. Nothing is changed at
+    /// a fault. A list that the log has no room for is made first: `NoMemory` may come before `LogFull`.
+    pub fn note_bad_sectors(
+        &mut self,
+        alloc: Global,
+        k: usize,
+        sectors: &BadSet,
+    ) -> Result<(), NoteFault>
+        requires { k < length self.old.members }
+        ensures { MatchResult result (λ _. NotesMore k (in_runs sectors.now) self.old self.new) (RefusesNoteMore k (in_runs sectors.now) self.old self.new) }
+    {
+        let list = self.list_noted_more(alloc, k, sectors)?;
         self.set_list(k, list);
         Ok(())
     }
@@ -40,6 +57,29 @@ impl Array {
         let Ok(list) = list_with(alloc, member, self.chunks, chunk) else {
             return Err(NoteFault::NoMemory);
         };
+        Ok(list)
+    }
+
+    // The list of member k with the sectors, if its log has room for that.
+    fn list_noted_more(
+        &self,
+        alloc: Global,
+        k: usize,
+        sectors: &BadSet,
+    ) -> Result<BadSet, NoteFault>
+        requires { k < length self.now.members }
+        ensures { MatchResult result (MayNoteMore k (in_runs sectors.now) self.now) (WhyMoreUnlisted k (in_runs sectors.now) self.now) }
+    {
+        if self.halted {
+            return Err(NoteFault::Halted);
+        }
+        let member = &self.members[k];
+        let Ok(list) = list_with_sectors(alloc, member, sectors) else {
+            return Err(NoteFault::NoMemory);
+        };
+        if list.entries_needed() > log_room(&member.superblock) {
+            return Err(NoteFault::LogFull(k));
+        }
         Ok(list)
     }
 

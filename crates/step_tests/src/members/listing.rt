@@ -231,7 +231,64 @@ const LIMITS: [Chapter; 4] = [
     },
 ];
 
-const ROWS: [&[Chapter]; 1] = [&LIMITS];
+// The last two sectors of chunk 2 and the first of chunk 3, and one of chunk 5.
+const TWO_RUNS: Step = Step::NoteSectors(0, &[(22, 25), (41, 42)]);
+
+// Sectors are listed alone, beside what is listed, and with it where they touch. The whole set is listed or none of it.
+const SECTORS: [Chapter; 3] = [
+    Chapter {
+        images: &[WITH_LOG, SECOND_WITH_LOG],
+        steps: &[&[
+            (Step::NoteSectors(0, &[]), Answer::Done),
+            (Step::List(0), NO_LIST),
+            (TWO_RUNS, Answer::Done),
+            (Step::List(0), Answer::Lists(2, 2070, 3)),
+            (Step::List(1), NO_LIST),
+            (Step::Permit(1), Answer::Permits(3)),
+            (Step::Permit(2), Answer::Permits(2)),
+            (Step::Permit(3), Answer::Permits(2)),
+            (Step::Permit(4), Answer::Permits(3)),
+            (Step::Permit(5), Answer::Permits(2)),
+            (Step::Show, Answer::Shows(CLEAN)),
+            (Step::NoteBad(0, 1), Answer::Done),
+            (Step::List(0), Answer::Lists(3, 2056, 8)),
+            (Step::NoteSectors(0, &[(16, 22), (63, 64)]), Answer::Done),
+            (Step::List(0), Answer::Lists(3, 2056, 17)),
+            (Step::NoteSectors(0, &[(63, 65)]), Answer::NotCalled),
+            (Step::StoreLog(0), Answer::Done),
+            (Step::Record(0), Answer::Done),
+        ]],
+        stored: &[
+            Stored {
+                features: 9,
+                listed: (3, 2056, 17),
+                ..ON_FIRST
+            },
+            ON_SECOND,
+        ],
+    },
+    Chapter {
+        images: &[FULL, SECOND_WITH_LOG],
+        steps: &[&[
+            (TWO_RUNS, LOG_FULL),
+            (Step::List(0), Answer::Lists(64, 4096, 1)),
+            (Step::NoteSectors(0, &[]), Answer::Done),
+        ]],
+        stored: &[],
+    },
+    Chapter {
+        images: &[NEARLY_FULL, SECOND_WITH_LOG],
+        steps: &[&[
+            (TWO_RUNS, LOG_FULL),
+            (Step::List(0), Answer::Lists(63, 4096, 1)),
+            (Step::NoteSectors(0, &[(22, 25)]), Answer::Done),
+            (Step::List(0), Answer::Lists(64, 2070, 3)),
+        ]],
+        stored: &[],
+    },
+];
+
+const ROWS: [&[Chapter]; 2] = [&LIMITS, &SECTORS];
 
 const LIVES: [&[Chapter]; 3] = [&GROWS, &ONLY_NOTED, &ONLY_LOGGED];
 

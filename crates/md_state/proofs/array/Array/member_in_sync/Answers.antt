@@ -2,6 +2,7 @@ use Rattle.std.proofs.Common.{ap, arith, refl, subst}
 use Rattle.md_kept_members.specs.Enrolling.{ComesIntoSync, IsListAfter, log_room}
 use Rattle.md_kept_members.specs.Entries.{TakeEntries}
 use Rattle.md_kept_members.specs.View.{MemberView}
+use Rattle.md_kept_members.proofs.SectorSets.{of_after}
 use Rattle.md_state.specs.View.{ArrayView}
 use Rattle.md_state.proofs.Members.At.{member_read}
 use Rattle.md_state.proofs.array.Array.member_in_sync.Goals as goal
@@ -19,7 +20,7 @@ returns-then-entries_after-log_room c =
         member = m;
         at = member_read a _ c.args.k m c.self.view_is c.requires.within c.index-member.ensures;
         list = taken.list;
-        list_is = taken.is;
+        list_is = of_after a.chunks c.args.copied.now c.args.orphans.now m taken.list taken.is;
         full = λ fits. let f = c.log_room.ensures in absurd (omega arith);
       },
     )
@@ -36,7 +37,7 @@ returns-in_default c =
       member = m;
       at = member_read a _ c.args.k m c.self.view_is c.requires.within c.index-member.ensures;
       list = taken.list;
-      list_is = taken.is;
+      list_is = of_after a.chunks c.args.copied.now c.args.orphans.now m taken.list taken.is;
       room = let f = c.log_room.ensures in omega arith;
     }
 
@@ -51,7 +52,8 @@ returns-in-Ok-in_sync c =
       member = m;
       at = member_read a _ c.args.k m c.self.view_is c.requires.within c.index-member.ensures;
       list = c.in-Ok.list;
-      list_is = subst (λ (x : ArrayView). IsListAfter x.chunks m c.args.copied.now c.args.orphans.now c.in-Ok.list) c.self.view_is c.in-Ok.ensures;
+      list_is = of_after a.chunks c.args.copied.now c.args.orphans.now m c.in-Ok.list
+          (subst (λ (x : ArrayView). IsListAfter x.chunks m c.args.copied.now c.args.orphans.now c.in-Ok.list) c.self.view_is c.in-Ok.ensures);
       room = let f = c.log_room.ensures in omega arith;
       comes = subst (λ (x : ArrayView). ComesIntoSync c.args.role c.in-Ok.list x.marks m c.in-Ok-in_sync.member) c.self.view_is c.in-Ok-in_sync.ensures;
     }
@@ -67,6 +69,7 @@ returns-in-Err c =
       member = m;
       at = member_read a _ c.args.k m c.self.view_is c.requires.within c.index-member.ensures;
       list = c.in-Ok.list;
-      list_is = subst (λ (x : ArrayView). IsListAfter x.chunks m c.args.copied.now c.args.orphans.now c.in-Ok.list) c.self.view_is c.in-Ok.ensures;
+      list_is = of_after a.chunks c.args.copied.now c.args.orphans.now m c.in-Ok.list
+          (subst (λ (x : ArrayView). IsListAfter x.chunks m c.args.copied.now c.args.orphans.now c.in-Ok.list) c.self.view_is c.in-Ok.ensures);
       room = let f = c.log_room.ensures in omega arith;
     }
