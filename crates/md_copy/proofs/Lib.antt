@@ -24,3 +24,5 @@ pub mod Leads
 pub mod Refusals
 -- The passes of a rebuild, as plans one after another.
 pub mod PassLemmas
+-- A salvage, which loses sectors and no chunk for a sector.
+pub mod SalvageLemmas

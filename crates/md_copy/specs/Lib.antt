@@ -34,3 +34,5 @@ pub mod RebuildEvents
 pub mod PassLaws
 -- What a gate is told of a rebuild.
 pub mod Told
+-- A salvage, which loses sectors and no chunk for a sector (this project's own).
+pub mod Salvaging

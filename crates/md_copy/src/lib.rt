@@ -4,7 +4,8 @@
 //! copy, and why a member is not rebuilt, is in `md_rebuild_table`. What holds of a rebuild that is done is
 //! `HasRebuilt` in `specs/Rebuilt.antt`.
 //!
-//! `pass_laws/`: the passes of a rebuild, as plans one after another.
+//! `pass_laws/`: the passes of a rebuild, as plans one after another. `salvaging/`: a rebuild that loses sectors, and no
+//! chunk for a sector.
 //!
 //! ```
 //! let rebuilt = rebuild(rt, alloc, &mut mirror, 1, &gate)?;
@@ -23,6 +24,7 @@ mod pass_laws;
 mod passes;
 mod readying;
 mod rebuilt;
+mod salvaging;
 mod sources;
 mod storing;
 mod stretches;
@@ -32,4 +34,5 @@ mod whole_rebuild;
 pub use md_pass::Gate;
 pub use pass_laws::{copies_add, lists_add, passes_end, passes_go_on};
 pub use rebuilt::Rebuilt;
+pub use salvaging::{Salvaged, salvage, salvage_events, salvaged_by_call};
 pub use whole_rebuild::rebuild;
