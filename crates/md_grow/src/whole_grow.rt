@@ -49,6 +49,7 @@ fn read_members<D: Device>(alloc: Global, devices: &mut [D]) -> Result<Vec<Membe
 {
     let mut infos = Vec::with_capacity(alloc, devices.len())?;
     for k in 0..devices.len() {
+        // For the proof: a device has at most 2^54 sectors.
         let _sectors = devices[k].sectors();
         match read_member(alloc, &mut devices[k]) {
             Ok(info) => infos.push_reserved(info),
