@@ -80,9 +80,11 @@ class Step:
 
 
 def verbose(step):
-    """The step with --verbose, by which nothing more is told of a command that is done."""
+    """The step with --verbose, by which nothing more is told of a command that is done, but for a rebuild that does not begin anew."""
     if isinstance(step, Step):
         step = copy.copy(step)
+        if step.words[0] == "re-add":
+            step.errors += GOES_ON
         step.words = step.words[:1] + ["--verbose"] + step.words[1:]
     return step
 
@@ -308,6 +310,14 @@ Marked Chunks   : 0 of 8
      1      0      0 in sync
 """
 
+
+def far(report, images, told):
+    """The report with --verbose of an array whose second member is recovering, and of which this is told."""
+    lines = report.splitlines()
+    members = ["%s  %s" % both for both in zip(lines[8:], images.split())]
+    return "\n".join(lines[:8] + ["Recovering      : member 1 has " + told, " Index Number   Role State  Image"] + members) + "\n"
+
+
 # The same with the images, and a line over those of the members.
 DETAIL_WITH_IMAGES = """\
 Array UUID      : 00112233-4455-6677-8899-aabbccddeeff
@@ -349,6 +359,8 @@ Marked Chunks   : 0 of 8
      0      0      0 in sync
      1      1      1 re-added
 """
+# Or those from one on, too.
+DETAIL_OF_ONE_FROM_20 = DETAIL_OF_RE_ADDED.replace("re-added", "recovering")
 
 # Two sectors of data, and what two sectors of a new array hold.
 DATA = b"first sector".ljust(SECTOR, b".") + b"second sector".ljust(SECTOR, b".")
@@ -365,6 +377,7 @@ WRITTEN = "in sync 2 of 2, events 3, marked 0\n"
 MARKED = "in sync 1 of 2, events 10, marked 8\n"
 FAILED = "in sync 1 of 2, events 4, marked 0\n"
 ALONE = "in sync 1 of 2, events 6, marked 1\n"
+GOES_ON = "mdcli: the rebuild of member 1 goes on from chunk 2, chunks missing: 1 of 8\n"
 AGREE = "mismatched chunks: 0\n"
 DIFFER = "mismatched chunks: 1\n"
 STORED = "mdcli: a: its bitmap did not tell of the array, so all chunks are marked in it now\n"
@@ -637,6 +650,17 @@ CASES = [
             Step("grow --bitmap internal --bitmap-chunk 3 a", fault="BadChunk"),
             Step("grow --bitmap internal a", "in sync 1 of 2, events 11, marked 0\n", changes="a"),
             Step("grow --bitmap internal a", fault="HasBitmap"),
+        ],
+    ),
+    (
+        "looked at as grown",
+        {"a": WITHOUT_BITMAP},
+        [
+            Step("assemble --readonly a", fault="Assemble NoBitmap 0"),
+            Step("assemble --readonly --bitmap external a", fault="BadBitmap"),
+            Step("assemble --readonly --bitmap internal a", "in sync 1 of 2, events 11, marked 0\n", told=UNNAMED % (1, 1)),
+            Step("grow --bitmap internal a", "in sync 1 of 2, events 11, marked 0\n", changes="a"),
+            Step("assemble --readonly --bitmap internal a", "in sync 1 of 2, events 11, marked 0\n", told=UNNAMED % (1, 1)),
         ],
     ),
     (
@@ -1015,7 +1039,7 @@ CASES = [
             Step("check --readonly --exit-code --list b a", "           8 for 8 sectors, members 0!=1\n" + DIFFER, status=DIFFERS),
             Step("check --exit-code --json a b", CHECKED, status=DIFFERS),
             Step("assemble --json --readonly a b", SHORT_OBJECT),
-            Step("detail --json --readonly a b", ('{"report":"detail","array_uuid":"', '}],"missing_roles":[],"used_apart":[],"bad_sectors":[[],[]]}\n')),
+            Step("detail --json --readonly a b", ('{"report":"detail","array_uuid":"', '}],"missing_roles":[],"used_apart":[],"bad_sectors":[[],[]],"recovering":[]}\n')),
             # In a further chunk the member lists the sector that differs as bad.
             Made("b", "b", lambda image: members.with_bad_blocks(members.with_data(image, 43, DATA[:SECTOR]), [(2048 + 43, 1)])),
             Step("check a b", DIFFER),
@@ -1331,7 +1355,14 @@ CASES = [
             Made("a", "a", lambda image: members.with_data(image, 40, DATA)),
             Made("b", "b", rebuilt_up_to(64)),
             Step("detail a b", DETAIL_OF_RE_ADDED),
+            Step("detail --verbose a b", far(DETAIL_OF_RE_ADDED, "a b", "8 of 8 chunks (100 %), all before sector 64 but 0 marked")),
+            SaysTheSame("detail a b"),
             Made("b", "b", rebuilt_up_to(20)),
+            Step("detail --verbose a b", far(DETAIL_OF_ONE_FROM_20, "a b", "2 of 8 chunks (25 %), all before sector 20 but 0 marked")),
+            # Of the marked chunks 1 and 5 it has passed the first.
+            Made("c", "a", lambda image: members.with_marks(image, [1, 5])),
+            Step("detail --verbose c b", far(DETAIL_OF_ONE_FROM_20.replace("0 of 8", "2 of 8"), "c b", "1 of 8 chunks (12 %), all before sector 20 but 1 marked")),
+            SaysTheSame("detail c b"),
             Step("rebuild --member 1 a b", REBUILT_FROM_SECTOR_20, changes="a b"),
             Holds("b", "a", as_role(1, 1)),
             Step("stop a b", "in sync 2 of 2, events 2, marked 0\n"),

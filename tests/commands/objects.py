@@ -255,6 +255,21 @@ def roles_and_apart(found, raid_devices, told):
     }
 
 
+FAR = re.compile(r"Recovering      : member (\d+) has (\d+) of (\d+) chunks \((\d+) %\), all before sector (\d+) but (\d+) marked")
+
+
+def recovering(lines):
+    """How far each recovering member is, as the report with --verbose has it."""
+    found = [FAR.fullmatch(line) for line in lines if line.startswith("Recovering ")]
+    numbers = [[int(number) for number in one.groups()] for one in found]
+    if any(percent != 100 * has // chunks for _, has, chunks, percent, *_ in numbers):
+        raise ValueError("per cent: %r" % lines)
+    return [
+        {"index": index, "recovery_offset": offset, "missing_chunks": chunks - has, "marked_before": marked}
+        for index, has, chunks, _, offset, marked in numbers
+    ]
+
+
 class SaysTheSame:
     """A report as text and as JSON, which says the same: at the same status, with the same on standard error, and no image is
     changed. It is the object alone in its line, its fields in their order. So is the one that says why it is refused."""
@@ -297,6 +312,7 @@ class SaysTheSame:
         if command == "detail":
             wanted.update(roles_and_apart(found, wanted["raid_devices"], told.splitlines()))
             wanted["bad_sectors"] = [runs(run(["examine-badblocks", image])[1].splitlines()) for image in images]
+            wanted["recovering"] = recovering(run(["detail", "--verbose", "--readonly"] + images)[1].splitlines())
         return wanted
 
 

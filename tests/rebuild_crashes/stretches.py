@@ -1,7 +1,9 @@
 """A rebuild of three stretches, of 16 rounds of 16 MiB each but the last, that is killed in each of them, and where it records how
 far each came. What stands on the member then is read by md_p.h alone: its offset is that of the last stretch that was recorded. Run
-again, the rebuild copies what comes after that, and no chunk before it, and the member equals the array."""
+again, the rebuild says from which chunk it goes on, copies what comes after that, and no chunk before it, and the member equals the
+array. `detail` says how far it is."""
 
+import json
 import struct
 
 import members
@@ -50,7 +52,19 @@ class Life:
             raise ValueError("%s: %s" % (words[0], answer.errors))
 
     def rebuild(self, **settings):
-        return self.scratch.run(["rebuild", "--member", 1], [0, 1], **settings)
+        return self.scratch.run(["rebuild", "--verbose", "--member", 1], [0, 1], **settings)
+
+    def against_far(self, chunks):
+        """The reasons against what `detail` says of the new member, which has these first chunks alone."""
+        answer = self.scratch.run(["detail", "--verbose"], [0, 1])
+        line = "Recovering      : member 1 has %d of %d chunks (%d %%), all before sector %d but 0 marked"
+        wanted = line % (chunks, CHUNKS, 100 * chunks // CHUNKS, chunks * CHUNK // members.SECTOR)
+        reasons = [] if wanted in answer.output.decode().splitlines() else ["of %d chunks it says %r" % (chunks, answer.output)]
+        answer = self.scratch.run(["detail", "--json"], [0, 1])
+        wanted = {"index": 1, "recovery_offset": chunks * CHUNK // members.SECTOR, "missing_chunks": CHUNKS - chunks, "marked_before": 0}
+        if json.loads(answer.output)["recovering"] != [wanted]:
+            reasons.append("of %d chunks it says %r" % (chunks, answer.output))
+        return reasons
 
     def chunks_passed(self):
         """How many chunks lie before the offset that the new member says."""
@@ -85,18 +99,30 @@ def checkpoints(answer):
     return numbers
 
 
+def going_on(first):
+    """What a rebuild says before it copies that begins with this chunk: nothing where it begins anew."""
+    if first == 0:
+        return ""
+    return "mdcli: the rebuild of member 1 goes on from chunk %d, chunks missing: %d of %d\n" % (first, CHUNKS - first, CHUNKS)
+
+
 def killed_at(life, number):
     """The reasons against a rebuild that is killed at this call."""
     life.begin()
     before = life.rebuild(STOPPED_CALL=str(number), STOPPED_HOW="before")
     if before.status != KILLED:
         return ["the process ended with status %d" % before.status]
+    if before.errors:
+        return ["before it was killed it said %r" % before.errors]
     copied = len(set(data_chunks(before)))
     # The call at which it is killed is seen, and not made.
     recorded = STRETCH * sum(made_at < number for made_at in checkpoints(before))
     passed = life.chunks_passed()
     reasons = [] if passed == recorded else ["the member says that it has %d chunks, and %d were recorded" % (passed, recorded)]
+    reasons += life.against_far(recorded)
     again = life.rebuild()
+    if again.errors != going_on(recorded):
+        reasons.append("run again it says %r" % again.errors)
     if again.status != 0 or not again.output.endswith(b"rebuilt member 1, passes 1, orphans 0\n"):
         reasons.append("run again it answers %r, %r" % (again.output[-80:], again.errors))
     if set(data_chunks(again)) != set(range(recorded, CHUNKS)):
@@ -115,7 +141,7 @@ def killed_past_gap(life, number):
     blocks = [(0, gap, "+"), (gap, members.SECTOR, "-"), (gap + members.SECTOR, size - gap - members.SECTOR, "+")]
     lost = life.scratch.path(0).with_name("lost.map")
     lost.write_text("0 + 1\n" + "".join("%d %d %s\n" % block for block in blocks))
-    masked = ["rebuild", "--member", 1, "--map", "%s=%s" % (life.scratch.path(0), lost)]
+    masked = ["rebuild", "--verbose", "--member", 1, "--map", "%s=%s" % (life.scratch.path(0), lost)]
     before = life.scratch.run(masked, [0, 1], STOPPED_CALL=str(number), STOPPED_HOW="before")
     reasons = [] if before.status == KILLED else ["the process ended with status %d" % before.status]
     if len(set(data_chunks(before))) <= STRETCH:
@@ -123,6 +149,8 @@ def killed_past_gap(life, number):
     if life.chunks_passed() != GAP:
         reasons.append("the member says that it has %d chunks" % life.chunks_passed())
     again = life.scratch.run(masked, [0, 1])
+    if not again.errors.startswith(going_on(GAP)):
+        reasons.append("run again it says %r" % again.errors)
     if again.status != 0 or not again.output.endswith(b"rebuilt member 1, passes 2, orphans 1\n"):
         reasons.append("run again it answers %r, %r" % (again.output[-80:], again.errors))
     if set(data_chunks(again)) != set(range(GAP + 1, CHUNKS)):

@@ -25,11 +25,11 @@ WITHIN = {
     "md_kept_members::list_with_sectors": "md_array::Mirror::note_bad_sectors",
     "md_kept_members::list_but_for": "md_array::Mirror::enrol_but_for",
     "md_kept_members::members_of": "md_array::Mirror::open",
-    "md_masks::read_map": "md_masks::mask_images",
-    "md_masks::write_map": "md_masks::write_map_of_read",
+    "md_files::read_map": "md_files::mask_images",
+    "md_files::write_map": "md_files::write_map_of_read",
     "md_nbd::answer_requests": "md_nbd::serve_client",
-    "md_masks::MaskedImages::add": "md_masks::mask_images",
-    "md_masks::MaskedImages::lacking": "md_masks::mask_images",
+    "md_files::MaskedImages::add": "md_files::mask_images",
+    "md_files::MaskedImages::lacking": "md_files::mask_images",
     "md_members::read_super": "md_members::read_member",
     "md_kept_members::joined_superblock": "md_array::Mirror::re_add",
     "md_messages::ask_first": "md_cli::run",
@@ -119,14 +119,14 @@ ANSWERS = {
     "md_commands::stop_array_json": "stop --json",
     "md_commands::write_array": "write",
     "md_create::create": "create",
-    "md_grow::grow": "grow",
+    "md_metadata::grow": "grow",
     "md_examine_commands::examine_images": "examine-bitmap",
     "md_examine_commands::look_at_each": "scan",
     "md_notices::held_on_each": "create",
     "md_images::take_images": "assemble",
     "md_images::image_list": "assemble",
     # It is made after all else is said.
-    "md_masks::write_map_of_read": "read --map-out",
+    "md_files::write_map_of_read": "read --map-out",
     "md_members::read_member": "examine-bitmap",
     "md_metadata::come_back": "re-add --full",
     "md_read_commands::read_array": "read",
@@ -141,8 +141,8 @@ ANSWERS = {
 # A command that answers `NoMemory' and is refused with all memory, later than another one that makes the calls before this one alone: so
 # more of its runs answer so. The names of the images come before the list of maps, and the texts of the maps before the masks.
 LATER = {
-    "md_masks::map_list": ("detail: BadMap 1 NotListed", "detail: BadMap 0 NotListed"),
-    "md_masks::mask_images": ("read: OutputFileExists", "detail: BadMap 0 Line 4 Cut"),
+    "md_files::map_list": ("detail: BadMap 1 NotListed", "detail: BadMap 0 NotListed"),
+    "md_files::mask_images": ("read: OutputFileExists", "detail: BadMap 0 Line 4 Cut"),
 }
 
 # These take no memory: one says so where a count is spent, one gives a list of faults, which may be that a decoding found none, and of two
@@ -153,6 +153,13 @@ TAKES_NONE = {
     "md_examine_commands::show_scan",
     "md_raw_reports::super_faults_of",
     "md_rebuild_table::check_rebuild",
+    # Their fault, `StoreFault' of md_faults, has the name of that of a store which is served (md_nbd), and that one may have no memory.
+    "md_array::Mirror::record",
+    "md_array::Mirror::store_log",
+    "md_array::Mirror::store_marks",
+    "md_state::Array::check_active",
+    "md_state::Array::check_in_sync",
+    "md_state::Array::store_failed",
 }
 
 # No whole call makes these yet, and no test: what is asked of their callers is not shown of one.

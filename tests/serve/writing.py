@@ -34,6 +34,8 @@ from scene import (
 )
 
 KILLED = -9
+# In seconds, and some more than after which the marks are cleared.
+REST = 6
 # A chunk of these arrays has 128 sectors.
 FLUSH = nbd.request(nbd.FLUSH, 0, 0, 5)
 
@@ -85,8 +87,10 @@ def check_all(tally, scratch):
     pair = Pair(folder, ["a.img", "b.img"])
     check_words(tally, pair)
     check_session(tally, pair)
+    check_refused(tally, pair)
     check_cuts(tally, pair, folder)
     check_streams(tally, pair)
+    check_rest(tally, pair)
     check_beside(tally, pair)
     check_other_arrays(tally, folder)
     check_memory(tally, folder)
@@ -173,6 +177,28 @@ def check_session(tally, pair):
     tally.judge("writing: where nothing is written images stay", judged(pair, answer, stream) + changed)
 
 
+# What is said of the script with -v.
+REFUSED = [
+    "write of 512 bytes from byte 1: empty, or not of whole sectors",
+    "write of 513 bytes from byte 0: empty, or not of whole sectors",
+    "write of 0 bytes from byte 0: empty, or not of whole sectors",
+    "write of sectors 255 to 256: past the end of the array",
+    "write of sector 36028797018963967: past the end of the array",
+    "write of sector 4: its flags are not known",
+    "trim of sector 0: the server does no such request",
+    "write-zeroes of sector 0: the server does no such request",
+]
+
+
+def check_refused(tally, pair):
+    """With -v standard error has a line for each refused request, and the images are what they are without."""
+    stream = OPENING + b"".join(SCRIPT) + LEAVE
+    answer = Answer(["serve", "-v", *pair.fresh().paths], stream)
+    server, output, _ = answers(pair, stream)
+    told = "".join("mdcli: refused: %s\n" % line for line in REFUSED)
+    tally.judge("writing: a line for each refused request", answer.against(0, output, told) + pair.against(server.data))
+
+
 def check_cuts(tally, pair, folder):
     """A session cut at each byte but in the middle of what is written, where it is cut now and then."""
     stream = OPENING + b"".join(CALLS) + LEAVE
@@ -219,6 +245,42 @@ def check_streams(tally, pair):
     got = (done.returncode, done.stdout, done.stderr)
     reasons = [] if got == (1, nbd.GREETING, b"mdcli: InputFault\n") else [repr(got)]
     tally.judge("writing: an input that can't be read", reasons + pair.against(pair.data))
+
+
+def check_rest(tally, pair):
+    """The first request after a rest clears the marks of what was written before, while the server runs on, and not those of a client
+    that is not silent."""
+    reasons = []
+    for seconds, flushed, wanted in ((0, FLUSH, {0}), (REST, FLUSH, set()), (REST, b"", set())):
+        served = Served(["serve", *pair.fresh().paths])
+        stream = OPENING + write_of(7, new(1)) + flushed
+        got = served.tell(stream, len(answers(pair, stream)[1]))
+        time.sleep(seconds)
+        last = read_of(7)
+        got += served.tell(last, len(answers(pair, stream + last)[1]) - len(got))
+        running = [Path(path).read_bytes() for path in pair.paths]
+        served.process.kill()
+        served.leave()
+        reasons += ["after %d seconds: %s" % (seconds, reason) for reason in marks_against(pair, running, wanted)]
+        if got != answers(pair, stream + last)[1]:
+            reasons.append("other bytes after %d seconds" % seconds)
+        found = pair.found()
+        if found.marks != wanted:
+            reasons.append("%r are marked after %d seconds" % (sorted(found.marks), seconds))
+        data = pair.data[: 7 * SECTOR] + new(1) + pair.data[8 * SECTOR :]
+        reasons += ["member %d has other bytes" % member.number for member in found.in_sync if member.data() != data]
+    tally.judge("writing: a client that is silent", reasons)
+
+
+def marks_against(pair, contents, wanted):
+    """What is wrong with how many chunks `examine-bitmap' shows as marked in these images, which the server has locked: it sees copies."""
+    reasons, copy = [], pair.folder / "running.img"
+    for number, content in enumerate(contents):
+        copy.write_bytes(content)
+        done = Answer(["examine-bitmap", str(copy)])
+        if b" chunks, %d marked\n" % len(wanted) not in done.output:
+            reasons.append("image %d: %r" % (number, done.output + done.errors.encode()))
+    return reasons
 
 
 def check_beside(tally, pair):
@@ -325,9 +387,18 @@ def calls_of(pair, library, log):
     return sum(not line.startswith(b"read ") for line in log.read_bytes().splitlines())
 
 
-def stopped(pair, library, how, number):
+def stopped(pair, library, how, number, *options):
     settings = {"LD_PRELOAD": str(library), "STOPPED_CALL": str(number), "STOPPED_HOW": how}
-    return pair.fresh().serve(OPENING + b"".join(CALLS) + LEAVE, **settings)
+    return Answer(["serve", *options, *pair.fresh().paths], OPENING + b"".join(CALLS) + LEAVE, **settings)
+
+
+def refused_line(request, why):
+    """What is said with -v of a request of whole sectors, or of a flush."""
+    kind, offset, length = struct.unpack(">H8xQI", request[6:28])
+    first, count = offset // SECTOR, length // SECTOR
+    sectors = " of sector %d" % first if count == 1 else " of sectors %d to %d" % (first, first + count - 1)
+    word = {nbd.READ: "read", nbd.WRITE: "write", nbd.FLUSH: "flush"}[kind]
+    return "mdcli: refused: %s%s: %s\n" % (word, "" if kind == nbd.FLUSH else sectors, why)
 
 
 def check_failed(tally, folder, library):
@@ -353,18 +424,19 @@ def check_failed(tally, folder, library):
 
 
 def check_halted(tally, folder, library):
-    """Once a write fails to the last member in sync, all further requests are errors."""
+    """Once a write fails to the last member in sync, all further requests are errors, and -v says of each why."""
     pair = Pair(folder, ["g.img", "missing"])
     for how in ("fail", "torn"):
         reasons, halted = [], 0
         for number in range(1, calls_of(pair, library, folder / "calls") + 1):
-            answer = stopped(pair, library, how, number)
-            if answer.errors.startswith("mdcli: BadImage "):
+            answer = stopped(pair, library, how, number, "-v")
+            if "mdcli: BadImage " in answer.errors:
                 continue
             errors = errors_in(answer.output, CALLS)
             done = errors.index(nbd.EIO) if nbd.EIO in errors else len(errors)
             halted += done < len(errors)
-            wrong = [] if (answer.status, answer.errors) == (1, "mdcli: Halted\n") else ["%d, %r" % (answer.status, answer.errors)]
+            told = "".join(refused_line(request, "the array is halted") for request in CALLS[done:]) + "mdcli: Halted\n"
+            wrong = [] if answer.status == 1 and answer.errors.startswith(told) else ["%d, %r" % (answer.status, answer.errors)]
             if errors != [0] * done + [nbd.EIO] * (len(CALLS) - done):
                 wrong.append("the answers are %r" % errors)
             wrong += against_told(pair, Path(pair.paths[0]).read_bytes(), done)

@@ -1,4 +1,4 @@
-// How many reads of members fail while sectors of the array are read, where some can't be read on one of them.
+// How many reads of members fail while sectors of the array are read or copied, where some can't be read on one of them.
 ghost use Rattle.std.specs.Prelude.{[], IfOk, false, length, refl};
 ghost use Rattle.md_array.specs.Consistency.{IsConsistent};
 
@@ -9,6 +9,7 @@ use crate::open::open;
 use md_array::Mirror;
 use md_device::{Device, Fault, FaultDevice, FaultList, MemDevice, ReadFault, WriteFault};
 use md_read::read;
+use md_resync::{ResyncFault, resync};
 use std::alloc::Global;
 use std::process::Abort;
 use std::test::Fail;
@@ -56,14 +57,15 @@ impl Device for Counted {
     }
 }
 
-// A member that is filled with its number, and can't be read in these sectors of the array.
-fn failing_member(alloc: Global, number: u8, bad: &[u64]) -> Result<Counted, Fail> {
+// A member that is filled with its number, has these bits in its bitmap, and can't be read in these sectors of the array.
+fn failing_member(alloc: Global, number: u8, marks: u8, bad: &[u64]) -> Result<Counted, Fail> {
     let mut sectors = Vec::new(alloc);
     for sector in bad {
         sectors.push(DATA.saturating_add(*sector))?;
     }
     let member = Member {
         number: u32::from(number),
+        marks,
         data: Data(Filling::Same(number), NONE_OTHER, NONE_OTHER),
         ..FIRST
     };
@@ -103,13 +105,13 @@ const ROWS: [Row; 4] = [
     },
 ];
 
-fn mirror_of(alloc: Global, row: &Row) -> Result<Mirror<Counted>, Fail>
+fn mirror_of(alloc: Global, marks: u8, bad: &[&[u64]; 2]) -> Result<Mirror<Counted>, Fail>
     ensures { IfOk result (λ mirror. IsConsistent mirror) }
 {
     let mut devices = Vec::new(alloc);
-    let first = failing_member(alloc, 0, row.bad[0])?;
+    let first = failing_member(alloc, 0, marks, bad[0])?;
     devices.push(first)?;
-    let second = failing_member(alloc, 1, row.bad[1])?;
+    let second = failing_member(alloc, 1, marks, bad[1])?;
     devices.push(second)?;
     open(alloc, devices)
 }
@@ -139,7 +141,7 @@ fn failed_of(mirror: Mirror<Counted>) -> [u64; 2] {
 }
 
 fn expect_row(rt: &impl Abort, alloc: Global, row: &Row) -> Result<(), Fail> {
-    let mut mirror = mirror_of(alloc, row)?;
+    let mut mirror = mirror_of(alloc, 0, &row.bad)?;
     let mut buf = [9; WHOLE];
     let answer = read(&mut mirror, 0, &mut buf);
     let failed = failed_of(mirror);
@@ -156,6 +158,29 @@ fn expect_row(rt: &impl Abort, alloc: Global, row: &Row) -> Result<(), Fail> {
 fn a_bad_area_takes_few_failing_reads(rt: HostRuntime) -> Result<(), Fail> {
     for row in &ROWS {
         expect_row(&rt, rt.alloc(), row)?;
+    }
+    Ok(())
+}
+
+// Each chunk is marked, and this sector of the member that gives all can't be read: all chunks are read together, and
+// then one by one up to that of the sector.
+fn expect_unread(rt: &impl Abort, alloc: Global, sector: u32) -> Result<(), Fail> {
+    let mut mirror = mirror_of(alloc, 0xff, &[&[u64::from(sector)], &[]])?;
+    let answer = resync(alloc, &mut mirror);
+    let failed = failed_of(mirror);
+    let fault = ResyncFault::ReadFault(0, sector / 8);
+    holds(
+        rt,
+        &(answer, failed),
+        answer == Err(fault) && failed == [2, 0],
+    );
+    Ok(())
+}
+
+#[test]
+fn a_bad_sector_is_read_twice_by_a_resync(rt: HostRuntime) -> Result<(), Fail> {
+    for sector in [0, 37, 63] {
+        expect_unread(&rt, rt.alloc(), sector)?;
     }
     Ok(())
 }

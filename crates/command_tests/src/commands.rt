@@ -77,6 +77,7 @@ pub(crate) fn give<R: Abort + Threads + Wait + Sync>(
         random_bytes: None,
         gaps: None,
         is_all_out: false,
+        stands: 0,
         mismatched: None,
     };
     let status = runs(&mut session, case.words, images, case.messages, case.says)?;

@@ -1,9 +1,11 @@
-// A rebuild, a check, a read or a write that nobody watches, and a question that nobody sees.
+// A rebuild, a check, a read, a write or a refused request that nobody watches, and a question that nobody sees.
 ghost use Rattle.std.specs.Prelude.{⊤, false};
 
-use md_cli::ReadWatch;
+use md_badblocks::Run;
+use md_cli::{FillWatch, ReadWatch};
 use md_commands::{Gate, Watch};
 use md_messages::Asker;
+use md_nbd::{ClientWatch, RefusedRequest};
 
 /// Is told of a rebuild, a check, a read or a write, and says nothing of it.
 pub(crate) struct Silent;
@@ -21,6 +23,8 @@ impl Gate for Silent {
 impl Watch for Silent {
     ghost lacks = { λ _ _ _. ⊤ };
 
+    ghost taken_up = { λ _ _ _ _ _. ⊤ };
+
     ghost compares = { λ _ _. ⊤ };
 
     ghost writes = { λ _ _. ⊤ };
@@ -29,11 +33,33 @@ impl Watch for Silent {
 
     fn begins(&self, _chunks: u32, _first: Option<u32>) {}
 
+    fn takes_up(&self, _member: usize, _missing: u32, _first: Option<u32>, _chunks: u32) {}
+
     fn begins_check(&self, _sectors: u64) {}
 
     fn begins_write(&self, _sectors: u64) {}
 
     fn wrote(&self, _sectors: u64) {}
+}
+
+impl ClientWatch for Silent {
+    ghost has_refused = { λ _ _. ⊤ };
+
+    ghost says_rested = { λ _ _. ⊤ };
+
+    fn refuses(&self, _refused: RefusedRequest) {}
+
+    fn has_rested(&self) -> bool {
+        false
+    }
+}
+
+impl FillWatch for Silent {
+    ghost misses = { λ _ _. ⊤ };
+
+    ghost takes = { λ _ _. ⊤ };
+
+    fn lacks(&self, _missing: &[Run], _others: &[Run]) {}
 }
 
 impl ReadWatch for Silent {

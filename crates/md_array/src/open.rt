@@ -79,6 +79,7 @@ pub(crate) fn read_members<D: Device>(
 {
     let mut infos = Vec::with_capacity(alloc, devices.len())?;
     for k in 0..devices.len() {
+        // For the proof: a device has at most 2^54 sectors.
         let _sectors = devices[k].sectors();
         match read_member(alloc, &mut devices[k]) {
             Ok(info) => infos.push_reserved(info),

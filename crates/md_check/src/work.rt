@@ -367,6 +367,7 @@ fn read_run<D: Device>(
     ensures failed { OnErr result (CountsFailure D.Device device.old device.new) }
     ensures there { AddsItself result (failed_read (offset + sector) (length buf.old)) (D.faults device.old) (D.faults device.new) }
 {
+    // For the proof: a device has at most 2^54 sectors, so the sum fits.
     let _limit = device.sectors();
     device.read(offset + sector, buf)
 }

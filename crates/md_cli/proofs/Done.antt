@@ -8,11 +8,11 @@ use Rattle.md_images.specs.declared.images.Images.{Ghosts as ImagesGhosts}
 use Rattle.md_words.specs.Asks.{Ask, opens_array, examines, examines_bitmap, examines_badblocks, scans, creates, grows}
 use Rattle.md_commands.specs.declared.fault.CommandFault.{CommandFault}
 use Rattle.md_messages.specs.declared.asker.Asker.{Ghosts as AskerGhosts}
-use Rattle.md_cli.specs.Running.{Obeys, OpensArray}
+use Rattle.md_cli.specs.Running.{Obeys, OpensWithBitmap}
 use Rattle.md_cli.specs.Streams.{Told}
 
-module _ {I D R S A : Type 0} (i : ImagesGhosts I D) (g : DeviceGhosts D) (r : SourceGhosts R) (s : SinkGhosts S) (asker : AskerGhosts A) (random : Option (List ℕ)) (words : List Text) (before after : I) (old new : Told R S A) (result : Result (Unit {0}) CommandFault) where
-  pub does_by : (ask : Ask) → opens_array ask ≡ true → OpensArray i g r s asker ask words before after old new result → Obeys i g r s asker random ask words before after old new result
+module _ {I D R S A : Type 0} (i : ImagesGhosts I D) (g : DeviceGhosts D) (r : SourceGhosts R) (s : SinkGhosts S) (asker : AskerGhosts A) (random : Option (List ℕ)) (bitmap : Option Text) (words : List Text) (before after : I) (old new : Told R S A) (result : Result (Unit {0}) CommandFault) where
+  pub does_by : (ask : Ask) → opens_array ask ≡ true → OpensWithBitmap i g r s asker bitmap ask words before after old new result → Obeys i g r s asker random bitmap ask words before after old new result
   does_by (examines form) e h = absurd (true≢false (sym e))
   does_by (examines_bitmap form) e h = absurd (true≢false (sym e))
   does_by (examines_badblocks form) e h = absurd (true≢false (sym e))

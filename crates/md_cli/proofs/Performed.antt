@@ -1,6 +1,6 @@
 -- No command wins or loses a device: all come back from an opened array, and from beside it.
 use Rattle.md_device.specs.declared.device.Device.{Ghosts}
-use Rattle.std.proofs.Common.{◌≡◌, ◌∙◌, ◌+◌, ◌<◌, ◌≤◌, ℕ, true, false, List, ◌∷◌, ◌++◌, drop, take, length, map, Option, None, Some, option_map, Result, Ok, Err, inl, inr, ap, ap₂, refl, sym, subst, arith, true≢false}
+use Rattle.std.proofs.Common.{◌≡◌, ◌∙◌, ◌+◌, ◌-◌, ◌<◌, ◌≤◌, ℕ, Bool, true, false, List, ◌∷◌, ◌++◌, drop, take, length, map, Option, None, Some, option_map, Result, Ok, Err, inl, inr, ap, ap₂, refl, sym, subst, arith, true≢false}
 use Rattle.std.specs.List.{insert}
 use Rattle.std.proofs.lemmas.List.{drop-map, length-map, map-append, take-map}
 use Rattle.std.proofs.lemmas.List.Edits.{length-insert}
@@ -24,7 +24,7 @@ use Rattle.md_messages.specs.Question.{Question}
 use Rattle.md_messages.specs.declared.notices.Notices.{Notices}
 use Rattle.md_cli.specs.Asking.{PerformsOrDeclines}
 use Rattle.md_cli.specs.Opened.{OpenedView, count, moves_device, beside_place, with_beside}
-use Rattle.md_cli.specs.Performing.{Performs, rebuilt_told, sectors_asked}
+use Rattle.md_cli.specs.Performing.{Performs, PerformsRead, PutsRest, rebuilt_told, rest_from, sectors_asked}
 use Rattle.md_cli.specs.Streams.{Streams}
 
 -- Where there was a device beside the array only if the command brought one: as many devices as before come back, the one beside
@@ -64,6 +64,17 @@ left_within k before after None h e = absurd (true≢false (sym e))
 left_within k before after (Some d) h e = let place = slice_get_within before k d h.0 in omega (arith, place, h.1)
 
 module _ {R S A : Type 0} (r : SourceGhosts R) (s : SinkGhosts S) (names : List Text) (before after : OpenedView) (old new : Streams R S A) where
+  -- of a read, whatever of it stands already
+  part_kept : (sector count : ℕ) (fill readonly : Bool) (result : Result (Unit {0}) CommandFault) → PerformsRead s sector count fill readonly before after old new result → AsMany before.mirror after.mirror
+  part_kept sector count true readonly result h = fills_as_many s readonly sector count before.mirror after.mirror old.output new.output h.0.told h.0.part h.0.reads
+  part_kept sector count false false (Ok v) h = done_read s before.mirror after.mirror old.output new.output sector count h
+  part_kept sector count false false (Err f) h = reads_as_many s before.mirror after.mirror old.output new.output sector count f h
+  part_kept sector count false true (Ok v) h = done_readonly s before.mirror after.mirror old.output new.output sector count h
+  part_kept sector count false true (Err f) h = reads_readonly_as_many s before.mirror after.mirror old.output new.output sector count f h
+
+  rest_kept : (sector count : ℕ) (fill readonly : Bool) (result : Result (Unit {0}) CommandFault) → PutsRest s sector count fill readonly before after old new result → AsMany before.mirror after.mirror
+  rest_kept sector count fill readonly result rest = part_kept (rest_from sector old.stands) (count - old.stands) fill readonly result rest.reads
+
   pub all_kept : (ask : Ask) (result : Result (Unit {0}) CommandFault) → is_some before.beside ≡ is_some (device_to_add ask) → Performs r s names ask before after old new result → AllBack ask before.mirror.disks after.mirror.disks before.beside after.beside
   all_kept (examines form) result brings h = absurd h
   all_kept (examines_bitmap form) result brings h = absurd h
@@ -74,16 +85,10 @@ module _ {R S A : Type 0} (r : SourceGhosts R) (s : SinkGhosts S) (names : List 
   all_kept (assembles json readonly) result brings h = kept _ before after brings (ap (λ (o : OpenedView). o.beside) h.0) (ap (λ (o : OpenedView). length o.mirror.disks) h.0)
   all_kept (details form readonly) result brings h = kept _ before after brings (ap (λ (o : OpenedView). o.beside) h.0) (ap (λ (o : OpenedView). length o.mirror.disks) h.0)
   all_kept (plans k json readonly) result brings h = kept _ before after brings (ap (λ (o : OpenedView). o.beside) h.0) (ap (λ (o : OpenedView). length o.mirror.disks) h.0)
-  all_kept (reads sector count true readonly) result brings h =
-      kept _ before after brings h.0 (fills_as_many s readonly sector (sectors_asked before.mirror.array sector count) before.mirror after.mirror old.output new.output new.gaps result h.2.0)
-  all_kept (reads sector count false false) (Ok v) brings h =
-      kept _ before after brings h.0 (done_read s before.mirror after.mirror old.output new.output sector (sectors_asked before.mirror.array sector count) h.2)
-  all_kept (reads sector count false false) (Err f) brings h =
-      kept _ before after brings h.0 (reads_as_many s before.mirror after.mirror old.output new.output sector (sectors_asked before.mirror.array sector count) f h.2)
-  all_kept (reads sector count false true) (Ok v) brings h =
-      kept _ before after brings h.0 (done_readonly s before.mirror after.mirror old.output new.output sector (sectors_asked before.mirror.array sector count) h.2)
-  all_kept (reads sector count false true) (Err f) brings h =
-      kept _ before after brings h.0 (reads_readonly_as_many s before.mirror after.mirror old.output new.output sector (sectors_asked before.mirror.array sector count) f h.2)
+  all_kept (reads sector count fill readonly) result brings h = elim h.2 [
+    | inl rest ↦ kept _ before after brings h.0 (rest_kept sector (sectors_asked before.mirror.array sector count) fill readonly result rest)
+    | inr none ↦ kept _ before after brings h.0 (ap (λ (o : OpenedView). length o.mirror.disks) none.same)
+  ]
   all_kept (serves fill) result brings h = kept _ before after brings h.0 h.1.rests.disks.same.as_many
   all_kept serves_writable result brings h =
       kept _ before after brings h.0 (serves_as_many r s before.mirror after.mirror old.input new.input old.output new.output result h.1)
@@ -130,6 +135,13 @@ module _ {R S A : Type 0} (r : SourceGhosts R) (s : SinkGhosts S) (names : List 
 
 -- Of who is asked nothing is said there: what is done after a question is done as without it.
 module _ {R S A : Type 0} (r : SourceGhosts R) (s : SinkGhosts S) (names : List Text) (before after : OpenedView) (old new : Streams R S A) (asker : A) (result : Result (Unit {0}) CommandFault) where
+  part_asked : (sector count : ℕ) (fill readonly : Bool) → PerformsRead s sector count fill readonly before after (record old { asker = asker }) new result → PerformsRead s sector count fill readonly before after old new result
+  part_asked sector count true readonly h = h
+  part_asked sector count false readonly h = h
+
+  rest_asked : (sector count : ℕ) (fill readonly : Bool) → PutsRest s sector count fill readonly before after (record old { asker = asker }) new result → PutsRest s sector count fill readonly before after old new result
+  rest_asked sector count fill readonly rest = record { left = rest.left; reads = part_asked (rest_from sector old.stands) (count - old.stands) fill readonly rest.reads }
+
   pub performs_asked : (ask : Ask) → Performs r s names ask before after (record old { asker = asker }) new result → Performs r s names ask before after old new result
   performs_asked (examines form) h = h
   performs_asked (examines_bitmap form) h = h
@@ -140,8 +152,7 @@ module _ {R S A : Type 0} (r : SourceGhosts R) (s : SinkGhosts S) (names : List 
   performs_asked (assembles json readonly) h = h
   performs_asked (details form readonly) h = h
   performs_asked (plans k json readonly) h = h
-  performs_asked (reads sector count true readonly) h = h
-  performs_asked (reads sector count false readonly) h = h
+  performs_asked (reads sector count fill readonly) h = (h.0, h.1, elim h.2 [ inl rest ↦ inl (rest_asked sector (sectors_asked before.mirror.array sector count) fill readonly rest) | inr none ↦ inr (record { some = none.some; all = none.all; same = none.same; gaps = none.gaps; answer = none.answer }) ])
   performs_asked (serves fill) h = (h.0, record { gaps = h.1.gaps; serves = h.1.serves; rests = h.1.rests; noted = h.1.noted })
   performs_asked serves_writable h = h
   performs_asked (checks form exit_code readonly) h = h

@@ -11,7 +11,9 @@ use Rattle.md_commands.specs.Output.{ShowsText}
 use Rattle.md_commands.specs.declared.source.Source.{Ghosts as SourceGhosts}
 use Rattle.md_commands.specs.Faults.{of_images}
 use Rattle.md_commands.specs.declared.fault.CommandFault.{CommandFault}
-use Rattle.md_commands.specs.declared.fault.CommandFault.TheVariants.{NoMemory, Open}
+use Rattle.md_commands.specs.declared.fault.CommandFault.TheVariants.{Grow, NoMemory, Open}
+use Rattle.md_metadata.specs.declared.bitmap_grow.fault.GrowFault.{GrowFault}
+use Rattle.md_metadata.specs.declared.bitmap_grow.fault.GrowFault.TheVariants as grow_fault
 use Rattle.md_examine.specs.declared.sink.Sink.{Ghosts as SinkGhosts}
 use Rattle.md_images.specs.declared.access.Access.{Access}
 use Rattle.md_images.specs.declared.fault.ImagesFault.{ImagesFault}
@@ -24,6 +26,7 @@ use Rattle.md_messages.specs.Noticed.{NotesOpening, with_dropped, without_stored
 use Rattle.md_messages.specs.Question.{Question}
 use Rattle.md_messages.specs.declared.notices.Notices.{Notices}
 use Rattle.md_cli.specs.Asking.{PerformsOrDeclines}
+use Rattle.md_cli.specs.InMemory.{GetsBitmapInMemory, GetsNoBitmap}
 use Rattle.md_cli.specs.Opened.{OpenedView, moves_device, with_beside, with_last}
 use Rattle.md_cli.specs.Streams.{Told}
 
@@ -58,6 +61,7 @@ module _ {S : Type 0} (s : SinkGhosts S) (text_of : ArrayView → List ℕ) wher
 -- An overlay refuses a write only where there is no memory for it: then that is the fault.
 abbrev pub answer_of_overlays : Result (Unit {0}) CommandFault → Result (Unit {0}) CommandFault
 answer_of_overlays (Err (Open (MetadataFault k))) = Err NoMemory
+answer_of_overlays (Err (Grow (grow_fault.MetadataFault k))) = Err NoMemory
 answer_of_overlays result = result
 
 module _ {R S A : Type 0} (r : SourceGhosts R) (s : SinkGhosts S) (q : Question A) (names : List Text)
@@ -116,14 +120,18 @@ module _ {R S A : Type 0} (r : SourceGhosts R) (s : SinkGhosts S) (q : Question 
   OpensDevices before after old new result =
       OpensAll before after old new result ⊎ RefusesList before after old new result
 
-  -- The devices are only looked at, and what is written is kept in memory over them. They are opened so as a mirror, and the
-  -- command is done with it. Of what is noticed it is forgotten what was stored, and which writes failed.
+module _ {R S A : Type 0} (r : SourceGhosts R) (s : SinkGhosts S) (q : Question A) (names : List Text)
+    (ask : Ask) (chunk : Option ℕ) where
+  -- The devices are only looked at, and what is written is kept in memory over them, a bitmap first, where one is asked for. They are
+  -- opened so as a mirror, and the command is done with it. Of what is noticed it is forgotten what was stored, and which writes failed.
   pub record LooksAtMirror (devices : List Disk) (old new : Told R S A)
       (result : Result (Unit {0}) CommandFault) : Type 0 where
+    pub given : List Disk
+    pub gets : GetsBitmapInMemory chunk (map overlaid devices) given
     pub seen : List Disk
     pub noted : Notices
     pub answer : Result (Unit {0}) CommandFault
-    pub opened : OpensDevices (map overlaid devices) seen old (record new { notices = noted }) answer
+    pub opened : OpensDevices r s q names ask given seen old (record new { notices = noted }) answer
     pub forgotten : new.notices ≡ without_stored noted
     pub told : result ≡ answer_of_overlays answer
 
@@ -132,14 +140,24 @@ module _ {R S A : Type 0} (r : SourceGhosts R) (s : SinkGhosts S) (q : Question 
     pub is : result ≡ Err NoMemory
     pub unused : new ≡ old
 
+  -- the members do not get the bitmap, and they are not opened
+  pub record LooksWithoutBitmap (devices : List Disk) (old new : Told R S A)
+      (result : Result (Unit {0}) CommandFault) : Type 0 where
+    pub why : GrowFault
+    pub none : GetsNoBitmap chunk (map overlaid devices) why
+    pub is : result ≡ answer_of_overlays (Err (Grow why))
+    pub unused : new ≡ old
+
   abbrev pub LooksAtDevices : List Disk → Told R S A → Told R S A → Result (Unit {0}) CommandFault → Type 0
-  LooksAtDevices devices old new result = LooksAtMirror devices old new result ⊎ LooksAtNothing old new result
+  LooksAtDevices devices old new result =
+      LooksAtMirror devices old new result ⊎ LooksAtNothing old new result
+      ⊎ LooksWithoutBitmap devices old new result
 
   -- whether the devices are only looked at
   abbrev pub WorksBy : Bool → List Disk → List Disk → Told R S A → Told R S A → Result (Unit {0}) CommandFault
       → Type 0
   WorksBy true before after old new result = (after ≡ before) × LooksAtDevices before old new result
-  WorksBy false before after old new result = OpensDevices before after old new result
+  WorksBy false before after old new result = OpensDevices r s q names ask before after old new result
 
   abbrev pub WorksOn : List Disk → List Disk → Told R S A → Told R S A
       → Result (Unit {0}) CommandFault → Type 0

@@ -8,8 +8,8 @@ use Rattle.md_images.specs.declared.images.Images.{Ghosts as ImagesGhosts}
 use Rattle.md_images.specs.Taking.{image_list}
 use Rattle.md_examine.specs.declared.sink.Sink.{Ghosts as SinkGhosts}
 use Rattle.md_state.specs.View.{Disk}
-use Rattle.md_grow.specs.Growing.{Grows, RefusesToGrow}
-use Rattle.md_grow.specs.declared.fault.GrowFault.{GrowFault}
+use Rattle.md_metadata.specs.Grow.Growing.{Grows, RefusesToGrow}
+use Rattle.md_metadata.specs.declared.bitmap_grow.fault.GrowFault.{GrowFault}
 use Rattle.md_commands.specs.declared.fault.CommandFault.{CommandFault}
 use Rattle.md_commands.specs.declared.fault.CommandFault.TheVariants as fault
 use Rattle.md_commands.specs.declared.option_fault.OptionFault.TheVariants.{BadBitmap, BadChunk}
@@ -27,6 +27,15 @@ abbrev pub chunk_asked : Text → ℕ → Result ℕ CommandFault
 chunk_asked bitmap kib =
     if bytes_eq bitmap (codes "internal") then chunk_or_fault (bytes_of_kib kib)
     else Err (fault.Options BadBitmap)
+
+abbrev pub some_chunk : Result ℕ CommandFault → Result (Option ℕ) CommandFault
+some_chunk (Ok chunk_bytes) = Ok (Some chunk_bytes)
+some_chunk (Err why) = Err why
+
+-- what the option of a command asks for that only looks at images: nothing, or a bitmap with chunks of 64 MiB
+abbrev pub chunk_in_memory : Option Text → Result (Option ℕ) CommandFault
+chunk_in_memory None = Ok None
+chunk_in_memory (Some bitmap) = some_chunk (chunk_asked bitmap 65536)
 
 module _ {S : Type 0} (s : SinkGhosts S) (chunk_bytes : ℕ) where
   -- The members get their bitmaps, and the devices are opened and shown in a line.

@@ -8,6 +8,8 @@ pub mod CreateOptions
 pub mod Creating
 -- What `grow` does with the devices of the images.
 pub mod Growing
+-- A bitmap that members get in memory, where their images are only looked at.
+pub mod InMemory
 -- An opened array, and a device beside it.
 pub mod Opened
 -- What commands do with an opened array.

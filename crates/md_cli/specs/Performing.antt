@@ -1,5 +1,6 @@
 -- What commands do with an opened array.
-use Rattle.std.specs.Prelude.{◌≡◌, ◌-◌, ℕ, Bool, true, false, codes, List, Option, Some, None, Result, Ok, Err, MatchResult, if◌then◌else◌}
+use Rattle.std.specs.Prelude.{◌≡◌, ◌⊎◌, ◌<◌, ◌≤◌, ◌+◌, ◌-◌, ◌^◌, ℕ, Bool, true, false, codes, List, [], Option, Some, None, Result, Ok, Err, MatchResult, if◌then◌else◌, min, unwrap_or}
+use Rattle.std.specs.List.{All as Each}
 use Rattle.md_metadata.specs.declared.coming_back.extent_of_rebuild.RebuildExtent.{RebuildExtent}
 use Rattle.md_metadata.specs.declared.coming_back.extent_of_rebuild.RebuildExtent.TheVariants.{All, Marked}
 use Rattle.md_commands.specs.declared.source.Source.{Ghosts as SourceGhosts}
@@ -7,7 +8,7 @@ use Rattle.md_commands.specs.Adding.{AddsDevice, KeepsDevice, RefusesJoining}
 use Rattle.md_commands.specs.Checking.{ChecksMembers, ListsMismatches, RefusesToCheck, RefusesToList}
 use Rattle.md_commands.specs.Failing.{RefusesToFail}
 use Rattle.md_commands.specs.Objects.{checked_line, detail_line, plan_shown, rebuilt_object_line, summary_shown}
-use Rattle.md_commands.specs.Output.{ShowsText}
+use Rattle.md_commands.specs.Output.{PutsOut, ShowsText}
 use Rattle.md_commands.specs.Planning.{RefusesToPlan, ShowsPlan}
 use Rattle.md_commands.specs.ReAdding.{ReAddsDevice, RefusesToReAdd}
 use Rattle.md_commands.specs.Rebuilding.{RebuildsArray, RebuiltText, RefusesToRebuild, rebuilt_shown}
@@ -16,7 +17,10 @@ use Rattle.md_commands.specs.Resyncing.{RefusesToResync, ResyncsArray}
 use Rattle.md_commands.specs.Stopping.{RefusesToStop, StopsArray, StopsArrayAfter}
 use Rattle.md_commands.specs.Writing.{RefusesToWrite, WritesArray}
 use Rattle.md_commands.specs.declared.fault.CommandFault.{CommandFault}
-use Rattle.md_read_commands.specs.Filling.{ReadsFilled, has_put_all}
+use Rattle.md_commands.specs.declared.fault.CommandFault.TheVariants.{NoMemory, OutputFault, Read}
+use Rattle.md_read.specs.declared.fault.UnreadFault.{UnreadFault}
+use Rattle.md_read_commands.specs.Filling.{IsFirstGap, ReadsFilled, has_put_all}
+use Rattle.md_read_commands.specs.Gaps.{HasBothGaps, HasNoGaps, no_gaps}
 use Rattle.md_read_commands.specs.Reading.{ReadsArray, ReadsReadonly, RefusesReadonly, RefusesToRead}
 use Rattle.md_read_commands.specs.Serving.{ServesArray}
 use Rattle.md_serve_commands.specs.Writable.{ServesWritable}
@@ -26,10 +30,11 @@ use Rattle.md_report.specs.CheckReport.{list_text}
 use Rattle.md_report.specs.DetailReport.{detail_text}
 use Rattle.md_report.specs.SummaryReport.{summary_text}
 use Rattle.md_report.specs.VerboseReport.{verbose_text}
+use Rattle.md_badblocks.specs.declared.run.Run.{Run}
 use Rattle.md_read_commands.specs.declared.gaps.Gaps.{Gaps}
 use Rattle.md_state.specs.Rests.{Rests}
 use Rattle.md_state.specs.Steps.Fail.{FailsMember}
-use Rattle.md_state.specs.View.{ArrayView, Disk}
+use Rattle.md_state.specs.View.{ArrayView, Disk, MirrorView}
 use Rattle.md_words.specs.Asks.{Ask, assembles, details, plans, reads, serves, serves_writable, checks, writes, resyncs, stops, fails, removes, adds, re_adds, rebuilds}
 use Rattle.md_words.specs.declared.form.CheckForm.{CheckForm}
 use Rattle.md_words.specs.declared.form.CheckForm.TheVariants as check_form
@@ -61,7 +66,53 @@ abbrev pub sectors_asked : ArrayView → ℕ → Option ℕ → ℕ
 sectors_asked array sector None = array.chunks.size - sector
 sectors_asked array sector (Some count) = count
 
+-- where a read goes on of which so many sectors stand already; no array has the last sector of all numbers
+abbrev pub rest_from : ℕ → ℕ → ℕ
+rest_from sector stands = min (sector + stands) (2 ^ 64 - 1)
+
+-- runs that end where a set of sectors may
+abbrev pub AreWithin : List Run → Type 0
+AreWithin runs = Each (λ run. run.start + run.len ≤ 2 ^ 54) runs
+
+-- What is answered once all sectors are put out, of which these were not given: the first, if there are some.
+abbrev pub AnswersGaps : Gaps → Result (Unit {0}) CommandFault → Type 0
+AnswersGaps gaps result =
+    MatchResult result
+    (λ _. HasNoGaps gaps)
+    (λ fault. (unread : UnreadFault) × (fault ≡ Read unread) × IsFirstGap gaps unread)
+
+-- What was not given to a read and to the one before it, and what is answered: where all is put out, the first of all.
+pub record JoinsGaps (was now : Gaps) (part : Result (Unit {0}) CommandFault) (all : Option Gaps)
+    (result : Result (Unit {0}) CommandFault) : Type 0 where
+  pub gaps : Gaps
+  pub is : all ≡ Some gaps
+  pub both : HasBothGaps was now gaps
+  pub put : has_put_all part ≡ true → AnswersGaps gaps result
+  pub cut : has_put_all part ≡ false → result ≡ part
+
+-- Where nothing stands before it a read says itself what was not given. Else it is joined, unless there is no memory for that.
+abbrev pub JoinsEarlier : Option Gaps → Option Gaps → Result (Unit {0}) CommandFault → Option Gaps
+    → Result (Unit {0}) CommandFault → Type 0
+JoinsEarlier None told part all result = (all ≡ told) × (result ≡ part)
+JoinsEarlier (Some was) None part all result = (all ≡ None) × (result ≡ part)
+JoinsEarlier (Some was) (Some now) part all result =
+    JoinsGaps was now part all result ⊎ (all ≡ Some now) × (result ≡ Err NoMemory)
+
 module _ {S : Type 0} (s : SinkGhosts S) where
+  -- The output holds nothing back, and then this is answered; or it failed.
+  abbrev pub EndsOutput : S → S → (Result (Unit {0}) CommandFault → Type 0) → Result (Unit {0}) CommandFault
+      → Type 0
+  EndsOutput old new Answers result =
+      PutsOut s old new [] × Answers result ⊎ (result ≡ Err OutputFault) × (s.failed new ≡ true)
+
+  -- Sectors are put out, and those that are not given are filled. Which these are is told with those that were not given before them.
+  pub record ReadsFilledOn (readonly : Bool) (sector count : ℕ) (old new : MirrorView) (before after : S)
+      (was all : Option Gaps) (result : Result (Unit {0}) CommandFault) : Type 0 where
+    pub told : Option Gaps
+    pub part : Result (Unit {0}) CommandFault
+    pub reads : ReadsFilled s readonly sector count old new before after told part
+    pub goes_on : JoinsEarlier was told part all result
+
   -- Sectors of the array are put out: after a resync where one is needed or, where no image may be changed, as they would be after it.
   abbrev pub ShowsSectors : ℕ → ℕ → Bool → OpenedView → OpenedView → S → S → Result (Unit {0}) CommandFault
       → Type 0
@@ -74,14 +125,38 @@ module _ {S : Type 0} (s : SinkGhosts S) where
       (λ _. ReadsReadonly s sector count before.mirror after.mirror old new)
       (RefusesReadonly s sector count before.mirror after.mirror old new)
 
-  -- the same, or sectors that are not given are filled; then it is noted which these are, and whether all sectors are put out
+  -- the same, or sectors that are not given are filled; then it is noted which these are, beside those that were not given before the
+  -- first one, and whether all sectors are put out
   abbrev pub PerformsRead : {R A : Type 0} → ℕ → ℕ → Bool → Bool → OpenedView → OpenedView → Streams R S A
       → Streams R S A → Result (Unit {0}) CommandFault → Type 0
   PerformsRead sector count false readonly before after old new result =
       ShowsSectors sector count readonly before after old.output new.output result
   PerformsRead sector count true readonly before after old new result =
-      ReadsFilled s readonly sector count before.mirror after.mirror old.output new.output new.gaps result
+      ReadsFilledOn readonly sector count before.mirror after.mirror old.output new.output old.gaps new.gaps
+      result
       × (new.all_out ≡ has_put_all result)
+
+  -- What is left of the sectors that are asked for is put out, where so many of them stand already: all behind these.
+  pub record PutsRest {R A : Type 0} (sector count : ℕ) (fill readonly : Bool) (before after : OpenedView)
+      (old new : Streams R S A) (result : Result (Unit {0}) CommandFault) : Type 0 where
+    pub left : (old.stands ≡ 0) ⊎ (old.stands < count)
+    pub reads : PerformsRead (rest_from sector old.stands) (count - old.stands) fill readonly before after
+        old new result
+
+  -- All of them stand: nothing is read. Which were not given is told.
+  pub record HasNoRest {R A : Type 0} (count : ℕ) (before after : OpenedView) (old new : Streams R S A)
+      (result : Result (Unit {0}) CommandFault) : Type 0 where
+    pub some : 0 < old.stands
+    pub all : count ≤ old.stands
+    pub same : after ≡ before
+    pub gaps : new.gaps ≡ old.gaps
+    pub answer : EndsOutput old.output new.output (AnswersGaps (unwrap_or old.gaps no_gaps)) result
+
+  abbrev pub PerformsReadOn : {R A : Type 0} → ℕ → ℕ → Bool → Bool → OpenedView → OpenedView
+      → Streams R S A → Streams R S A → Result (Unit {0}) CommandFault → Type 0
+  PerformsReadOn sector count fill readonly before after old new result =
+      PutsRest sector count fill readonly before after old new result
+      ⊎ HasNoRest count before after old new result
 
   -- The members in sync are compared, and in how many chunks two differ is put out, or which these are. The answer is how many.
   abbrev pub ShowsMismatches : CheckForm → List Text → OpenedView → OpenedView → S → S
@@ -190,8 +265,8 @@ module _ {R S A : Type 0} (r : SourceGhosts R) (s : SinkGhosts S) (names : List 
       (RefusesToPlan s before.mirror.array k old.output new.output)
   Performs (reads sector count fill readonly) before after old new result =
       (after.beside ≡ before.beside) × (new.input ≡ old.input)
-      × PerformsRead s sector (sectors_asked before.mirror.array sector count) fill readonly before after old
-      new result
+      × PerformsReadOn s sector (sectors_asked before.mirror.array sector count) fill readonly before after
+      old new result
   Performs (serves fill) before after old new result =
       (after.beside ≡ before.beside) × PerformsServe r s fill before after old new result
   Performs serves_writable before after old new result =

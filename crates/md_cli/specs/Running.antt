@@ -1,6 +1,6 @@
 -- What one run gives.
 use Rattle.md_device.specs.declared.device.Device.{Ghosts as DeviceGhosts}
-use Rattle.std.specs.Prelude.{◌≡◌, ◌≢◌, ◌⊎◌, ◌&&◌, ℕ, Bool, true, false, nat_lt, if◌then◌else◌, List, [], ◌∷◌, length, map, Option, Some, None, Result, Ok, Err}
+use Rattle.std.specs.Prelude.{◌≡◌, ◌≢◌, ◌⊎◌, ◌&&◌, ℕ, Bool, true, false, nat_lt, if◌then◌else◌, List, [], ◌∷◌, length, map, Option, Some, None, Result, Ok, Err, MatchResult}
 use Rattle.clap.specs.Words.{Text}
 use Rattle.md_images.specs.declared.access.Access.TheVariants.{Change}
 use Rattle.md_images.specs.declared.images.Images.{Ghosts as ImagesGhosts}
@@ -21,7 +21,7 @@ use Rattle.md_messages.specs.declared.notices.Notices.{Notices}
 use Rattle.md_cli.specs.Arrays.{KeepsImages, UsesImages, WorksOn, names_with}
 use Rattle.md_cli.specs.CreateOptions.{AreParamsOf, create_option_fault}
 use Rattle.md_cli.specs.Creating.{CreatesOn}
-use Rattle.md_cli.specs.Growing.{GrowsArray}
+use Rattle.md_cli.specs.Growing.{GrowsArray, chunk_in_memory}
 use Rattle.md_cli.specs.Refusing.{ShowsIfRefused}
 use Rattle.md_cli.specs.Scanning.{ScansImages}
 use Rattle.md_cli.specs.Streams.{OnlyPutsOut, Streams, Told}
@@ -77,18 +77,27 @@ module _ {I D R S A : Type 0} (i : ImagesGhosts I D) (g : DeviceGhosts D) (s : S
 
 module _ {I D R S A : Type 0} (i : ImagesGhosts I D) (g : DeviceGhosts D) (r : SourceGhosts R)
     (s : SinkGhosts S) (asker : AskerGhosts A) where
-  -- A command with the array that the images make. Of one that may change none each of them stays as it is.
-  pub record OpensArray (ask : Ask) (words : List Text) (before after : I) (old new : Told R S A)
-      (result : Result (Unit {0}) CommandFault) : Type 0 where
+  -- A command with the array that the images make. Of one that may change none each of them stays as it is; the members may get a
+  -- bitmap in memory there, with chunks of so many bytes.
+  pub record OpensArray (chunk : Option ℕ) (ask : Ask) (words : List Text) (before after : I)
+      (old new : Told R S A) (result : Result (Unit {0}) CommandFault) : Type 0 where
     pub kept : is_readonly ask ≡ true → KeepsImages i before after
     pub done : UsesImages i g
-        (WorksOn r s (question asker ask (names_with ask words)) (names_with ask words) ask)
+        (WorksOn r s (question asker ask (names_with ask words)) (names_with ask words) ask chunk)
         (access_of ask) (image_list false (names_with ask words)) before after old new result
 
+  -- the same, where the kind of that bitmap is taken; else nothing is done
+  abbrev pub OpensWithBitmap : Option Text → Ask → List Text → I → I → Told R S A → Told R S A
+      → Result (Unit {0}) CommandFault → Type 0
+  OpensWithBitmap bitmap ask words before after old new result =
+      MatchResult (chunk_in_memory bitmap)
+      (λ chunk. OpensArray chunk ask words before after old new result)
+      (λ why. (result ≡ Err why) × DoesNothing before after old new)
+
 module _ {I D R S A : Type 0} (i : ImagesGhosts I D) (g : DeviceGhosts D) (r : SourceGhosts R)
-    (s : SinkGhosts S) (asker : AskerGhosts A) (random : Option (List ℕ)) where
-  -- What each command does with the images that its words name. The input is read by `write` and `serve` alone, and random bytes
-  -- are used by `create` alone.
+    (s : SinkGhosts S) (asker : AskerGhosts A) (random : Option (List ℕ)) (bitmap : Option Text) where
+  -- What each command does with the images that its words name, and perhaps a bitmap. The input is read by `write` and `serve` alone,
+  -- and random bytes are used by `create` alone.
   abbrev pub Obeys : Ask → List Text → I → I → Told R S A → Told R S A
       → Result (Unit {0}) CommandFault → Type 0
   Obeys (examines form) words before after old new result =
@@ -106,7 +115,8 @@ module _ {I D R S A : Type 0} (i : ImagesGhosts I D) (g : DeviceGhosts D) (r : S
       OnlyPutsOut old new
       × GrowsArray i g s bitmap kib words before after old.streams.output new.streams.output result
   Obeys (scans json) words before after old new result = ⊥
-  Obeys ask words before after old new result = OpensArray i g r s asker ask words before after old new result
+  Obeys ask words before after old new result =
+      OpensWithBitmap i g r s asker bitmap ask words before after old new result
 
   -- The command's own answer, whose status this is, and the output as it left it; where it is refused and its report was to be a
   -- JSON object, an object that says why comes after that. And what it noticed, which is told beside it.

@@ -10,10 +10,11 @@ use Rattle.md_cli.specs.declared.session.Session.{Session}
 pub record Streams (R S A : Type 0) : Type 0 where
   pub input : R
   pub output : S
-  pub gaps : Option Gaps  -- the sectors for which zeros were put out, or what another member has
+  pub gaps : Option Gaps  -- the sectors for which zeros were put out, or what another member has; before a read those that stand already
   pub mismatched : Option ℕ  -- in how many chunks a check found members to differ
   pub asker : A  -- who is asked, and was
   pub all_out : Bool  -- whether all sectors of a read that was to put out zeros are put out
+  pub stands : ℕ  -- how many of the sectors that a read is to put out stand already, from the first on
 
 abbrev pub streams_of : {T R S W A : Type 0} → Session T R S W A → Streams R S A
 streams_of session = record {
@@ -23,6 +24,7 @@ streams_of session = record {
   mismatched = session.mismatched;
   asker = session.asker;
   all_out = session.is_all_out;
+  stands = session.stands;
 }
 
 -- The streams of a command that is done, and what was noticed of the array beside them.

@@ -20,7 +20,8 @@ use std::sync::Wait;
 use std::thread::Threads;
 
 /// Does a command with the array that images make, and puts them back; the image that is to join it counts after the
-/// others. `notices` gets what is noticed of the array.
+/// others. `notices` gets what is noticed of the array. Where no image may be changed, the members may get a bitmap in memory,
+/// with chunks of so many bytes.
 pub(crate) fn with_array<
     I: Images,
     T: Threads + Wait + Sync,
@@ -31,6 +32,7 @@ pub(crate) fn with_array<
 >(
     session: &mut Session<'_, T, R, S, W, A>,
     command: Command<'_>,
+    chunk: Option<u32>,
     images: &mut I,
     names: &[&str],
     notices: &mut Notices,
@@ -39,7 +41,7 @@ pub(crate) fn with_array<
     ensures gives { UsesImages I.Images I.Dev.Device
         (WorksOn R.Source S.Sink (question A.Asker (ask_of command.entry)
         (names_with (ask_of command.entry) (texts names.now)))
-        (names_with (ask_of command.entry) (texts names.now)) (ask_of command.entry))
+        (names_with (ask_of command.entry) (texts names.now)) (ask_of command.entry) chunk)
         (access_of (ask_of command.entry))
         (image_list false (names_with (ask_of command.entry) (texts names.now)))
         images.old images.new (told_of session.old notices.old) (told_of session.new notices.new) result }
@@ -47,12 +49,12 @@ pub(crate) fn with_array<
     ensures flushed { IfOk result (λ _. S.is_flushed session.new.out) }
 {
     match command.device() {
-        None => with_images(session, command, images, names, notices),
+        None => with_images(session, command, chunk, images, names, notices),
         Some(device) => {
             let Ok(all) = with_name(session.alloc, names, device) else {
                 return Err(CommandFault::NoMemory);
             };
-            with_images(session, command, images, all.as_slice(), notices)
+            with_images(session, command, chunk, images, all.as_slice(), notices)
         }
     }
 }
@@ -81,6 +83,7 @@ fn with_images<
 >(
     session: &mut Session<'_, T, R, S, W, A>,
     command: Command<'_>,
+    chunk: Option<u32>,
     images: &mut I,
     names: &[&str],
     notices: &mut Notices,
@@ -90,7 +93,7 @@ fn with_images<
     ensures gives { UsesImages I.Images I.Dev.Device
         (WorksOn R.Source S.Sink
         (question A.Asker (ask_of command.entry) (texts names.now)) (texts names.now)
-        (ask_of command.entry))
+        (ask_of command.entry) chunk)
         (access_of (ask_of command.entry)) (image_list false (texts names.now))
         images.old images.new (told_of session.old notices.old) (told_of session.new notices.new) result }
     ensures kept { is_readonly (ask_of command.entry) ≡ true → KeepsImages I.Images images.old images.new }
@@ -101,7 +104,7 @@ fn with_images<
     };
     let words = list.as_slice();
     let devices = take_images(session.alloc, command.access(), images, words)?;
-    let (devices, result) = with_devices(session, command, devices, notices, names);
+    let (devices, result) = with_devices(session, command, chunk, devices, notices, names);
     put_back(images, words, devices);
     result
 }

@@ -9,6 +9,7 @@ ghost use Rattle.md_cli.specs.Opened.{count, moves_device};
 ghost use Rattle.md_cli.specs.Streams.{told_of};
 
 use crate::asking::perform_asked;
+use crate::in_memory::with_bitmap;
 use crate::opened::{Opened, all_back, room_for};
 use crate::read_watch::ReadWatch;
 use crate::session::Session;
@@ -18,12 +19,14 @@ use md_device::Device;
 use md_examine::Sink;
 use md_images::{SharedRead, lay_over};
 use md_messages::{Asker, Notices};
+use md_metadata::GrowFault;
 use md_words::Command;
 use std::sync::Wait;
 use std::thread::Threads;
 
 /// Does a command with the array that devices make, of which the last is the one that is to join it. They come back in
-/// their order. `notices` gets what is noticed of the array. The names are those of the devices' images.
+/// their order. `notices` gets what is noticed of the array. The names are those of the devices' images. Of devices that are only
+/// looked at the members may get a bitmap in memory.
 pub(crate) fn with_devices<
     D: SharedRead + Drop + Send + Sync,
     T: Threads + Wait + Sync,
@@ -34,6 +37,7 @@ pub(crate) fn with_devices<
 >(
     session: &mut Session<'_, T, R, S, W, A>,
     command: Command<'_>,
+    chunk: Option<u32>,
     devices: Vec<D>,
     notices: &mut Notices,
     names: &[&str],
@@ -44,19 +48,20 @@ pub(crate) fn with_devices<
     ensures kept { is_readonly (ask_of command.entry) ≡ true → result.0.items ≡ devices.items }
     ensures gives { WorksOn R.Source S.Sink
         (question A.Asker (ask_of command.entry) (texts names.now)) (texts names.now)
-        (ask_of command.entry)
+        (ask_of command.entry) chunk
         (disks D.Device devices.items) (disks D.Device result.0.items)
         (told_of session.old notices.old) (told_of session.new notices.new) result.1 }
     ensures flushed { IfOk result.1 (λ _. S.is_flushed session.new.out) }
 {
     if command.is_readonly() {
-        let result = look_at_devices(session, command, &devices, notices, names);
+        let result = look_at_devices(session, command, chunk, &devices, notices, names);
         return (devices, result);
     }
     open_devices(session, command, devices, notices, names)
 }
 
-// Does a command with devices that are only looked at: what is written to the array is kept in memory.
+// Does a command with devices that are only looked at: what is written to the array is kept in memory. So is a bitmap that
+// its members get first, where one is asked for.
 fn look_at_devices<
     D: SharedRead + Drop + Sync,
     T: Threads + Wait + Sync,
@@ -67,6 +72,7 @@ fn look_at_devices<
 >(
     session: &mut Session<'_, T, R, S, W, A>,
     command: Command<'_>,
+    chunk: Option<u32>,
     devices: &[D],
     notices: &mut Notices,
     names: &[&str],
@@ -75,7 +81,7 @@ fn look_at_devices<
     requires brings { is_some (device_to_add (ask_of command)) ≡ true → 0 < length devices.now }
     ensures gives { LooksAtDevices R.Source S.Sink
         (question A.Asker (ask_of command.entry) (texts names.now)) (texts names.now)
-        (ask_of command.entry)
+        (ask_of command.entry) chunk
         (disks D.Device devices.now)
         (told_of session.old notices.old) (told_of session.new notices.new) result }
     ensures flushed { IfOk result (λ _. S.is_flushed session.new.out) }
@@ -83,7 +89,11 @@ fn look_at_devices<
     let Ok(overlays) = lay_over(session.alloc, devices) else {
         return Err(CommandFault::NoMemory);
     };
-    let (overlays, result) = open_devices(session, command, overlays, notices, names);
+    let given = match with_bitmap(session.alloc, overlays, chunk) {
+        Ok(given) => given,
+        Err(fault) => return answer_of_overlays(Err(CommandFault::Grow(fault))),
+    };
+    let (overlays, result) = open_devices(session, command, given, notices, names);
     drop(overlays);
     // Nothing was stored but in memory.
     notices.forget_stored();
@@ -98,6 +108,7 @@ fn answer_of_overlays(answer: Result<(), CommandFault>) -> Result<(), CommandFau
     match answer {
         Ok(()) => Ok(()),
         Err(CommandFault::Open(OpenFault::MetadataFault(_))) => Err(CommandFault::NoMemory),
+        Err(CommandFault::Grow(GrowFault::MetadataFault(_))) => Err(CommandFault::NoMemory),
         Err(fault) => Err(fault),
     }
 }

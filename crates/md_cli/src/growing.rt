@@ -1,18 +1,21 @@
 // The command that gives an array a bitmap.
-ghost use Rattle.std.specs.Prelude.{◌≡◌, IfOk, false, length};
+ghost use Rattle.std.specs.Prelude.{◌≡◌, IfOk, false, length, option_map};
 ghost use Rattle.md_images.specs.Taking.{image_list};
 ghost use Rattle.md_messages.specs.Telling.{texts};
 ghost use Rattle.md_cli.specs.Arrays.{UsesImages, disks};
-ghost use Rattle.md_cli.specs.Growing.{GrowsArray, GrowsOn, chunk_asked};
+ghost use Rattle.md_cli.specs.Growing.{GrowsArray, GrowsOn, chunk_asked, chunk_in_memory};
 
 use crate::create_options::bytes_of;
 use crate::show_devices::show_devices;
 use md_commands::{CommandFault, OptionFault};
 use md_device::Device;
 use md_examine::Sink;
-use md_grow::grow;
 use md_images::{Access, Images, image_list, put_back, take_images};
+use md_metadata::grow;
 use std::alloc::Global;
+
+// The KiB of a chunk of a bitmap in memory, which is what `grow` takes by default.
+const CHUNK_IN_MEMORY: u32 = 65536;
 
 // The bytes of a chunk that the options ask for.
 fn chunk_asked(bitmap: &str, kib: u32) -> Result<u32, CommandFault>
@@ -24,6 +27,16 @@ fn chunk_asked(bitmap: &str, kib: u32) -> Result<u32, CommandFault>
     match bytes_of(kib) {
         Some(bytes) => Ok(bytes),
         None => Err(CommandFault::Options(OptionFault::BadChunk)),
+    }
+}
+
+/// The bytes of a chunk of the bitmap that members get in memory, where one is asked for.
+pub(crate) fn chunk_in_memory(bitmap: Option<&str>) -> Result<Option<u32>, CommandFault>
+    ensures { result ≡ chunk_in_memory (option_map (λ s. s.now) bitmap.entry) }
+{
+    match bitmap {
+        Some(kind) => Ok(Some(chunk_asked(kind, CHUNK_IN_MEMORY)?)),
+        None => Ok(None),
     }
 }
 

@@ -9,14 +9,15 @@ ghost use Rattle.md_commands.specs.Output.{ShowsText};
 ghost use Rattle.md_commands.specs.Planning.{RefusesToPlan, ShowsPlan};
 ghost use Rattle.md_commands.specs.Rebuilding.{RebuildsArray, RefusesToRebuild};
 ghost use Rattle.md_commands.specs.Stopping.{StopsArrayAfter};
-ghost use Rattle.md_read_commands.specs.Filling.{ReadsFilled, has_put_all};
+ghost use Rattle.md_read_commands.specs.Filling.{has_put_all};
 ghost use Rattle.md_messages.specs.Telling.{texts};
 ghost use Rattle.md_cli.specs.Opened.{opened_view};
-ghost use Rattle.md_cli.specs.Performing.{PerformsAdd, PerformsCheck, Performs, PerformsReAdd, PerformsRead, PerformsRemove, PerformsServe, PerformsStop, PerformsWrite, ShowsMismatches, ShowsSectors, detail_shown, rebuilt_told, sectors_asked};
+ghost use Rattle.md_cli.specs.Performing.{PerformsAdd, PerformsCheck, Performs, PerformsReAdd, PerformsReadOn, PerformsRemove, PerformsServe, PerformsStop, PerformsWrite, ReadsFilledOn, ShowsMismatches, ShowsSectors, detail_shown, rebuilt_told, sectors_asked};
 ghost use Rattle.md_cli.specs.Streams.{streams_of};
 
 use crate::opened::Opened;
 use crate::read_watch::ReadWatch;
+use crate::reading_on::{end_output, rest_from, with_earlier};
 use crate::session::Session;
 use crate::show_short::show_short;
 use md_array::Mirror;
@@ -28,8 +29,9 @@ use md_commands::{
 };
 use md_device::Device;
 use md_examine::Sink;
+use md_nbd::ClientWatch;
 use md_read_commands::{
-    has_put_all, read_array, read_array_filled, read_array_readonly, serve_array,
+    FillWatch, has_put_all, read_array, read_array_filled, read_array_readonly, serve_array,
 };
 use md_serve_commands::serve_writable;
 use md_words::{CheckForm, Command, DetailForm, RebuildForm};
@@ -38,7 +40,8 @@ use std::sync::Wait;
 use std::thread::Threads;
 
 /// Does a command with an opened array; the names are those of its images. The input is read by `Write`, `Serve` and
-/// `ServeWritable` alone. `Check`, `Rebuild` and `ReAdd` alone start threads, and tell the session's `watch` of their reads.
+/// `ServeWritable` alone, and these two tell the session's `watch` of each request that they refuse. `Check`, `Rebuild` and `ReAdd` alone
+/// start threads, and tell it of their reads.
 pub(crate) fn perform<
     D: Device + Drop + Send,
     T: Threads + Wait + Sync,
@@ -87,8 +90,8 @@ pub(crate) fn perform<
         } => { read_sectors(session, opened, sector, count, fill, readonly) }
         Command::Serve { fill } => serve(session, opened, fill),
         Command::ServeWritable => {
-            let input = &mut session.input;
-            serve_writable(alloc, &mut opened.mirror, input, &mut session.out)
+            let (mirror, input) = (&mut opened.mirror, &mut session.input);
+            serve_writable(alloc, mirror, watch, input, &mut session.out)
         }
         Command::Check { form, .. } => check(session, opened, form, names),
         Command::Write { sector, count } => {
@@ -181,7 +184,7 @@ fn sectors_asked<D: Device + Drop>(mirror: &Mirror<D>, sector: u64, count: Optio
     }
 }
 
-// Puts out sectors of the array, and perhaps fills those that are not given.
+// Puts out sectors of the array, those behind the ones that stand already, and perhaps fills those that are not given.
 fn read_sectors<D: Device + Drop, T, R: Source + Drop, S: Sink + Drop, W: ReadWatch, A: Drop>(
     session: &mut Session<'_, T, R, S, W, A>,
     opened: &mut Opened<D>,
@@ -193,7 +196,7 @@ fn read_sectors<D: Device + Drop, T, R: Source + Drop, S: Sink + Drop, W: ReadWa
     requires sound { IsConsistent opened.old.mirror }
     ensures kept { (opened_view D.Device opened.new).beside ≡ (opened_view D.Device opened.old).beside }
     ensures input { session.new.input ≡ session.old.input }
-    ensures reads { PerformsRead S.Sink sector
+    ensures reads { PerformsReadOn S.Sink sector
         (sectors_asked (opened_view D.Device opened.old).mirror.array sector count) fill readonly
         (opened_view D.Device opened.old) (opened_view D.Device opened.new)
         (streams_of session.old) (streams_of session.new) result }
@@ -206,6 +209,13 @@ fn read_sectors<D: Device + Drop, T, R: Source + Drop, S: Sink + Drop, W: ReadWa
 {
     let count = sectors_asked(&opened.mirror, sector, count);
     session.watch.begins_read(count);
+    let stands = session.stands;
+    if stands > 0 && count <= stands {
+        session.is_all_out = true;
+        return end_output(&session.gaps, &mut session.out);
+    }
+    let sector = rest_from(sector, stands);
+    let count = count - stands;
     if fill {
         return read_filled(session, opened, sector, count, readonly);
     }
@@ -235,8 +245,9 @@ fn read<D: Device + Drop, S: Sink>(
     Ok(read_array(alloc, mirror, sector, count, out)?)
 }
 
-// Puts out sectors, and fills those that are not given. Which these are is noted, and whether all sectors were put out.
-fn read_filled<D: Device + Drop, T, R: Source + Drop, S: Sink + Drop, W, A: Drop>(
+// Puts out sectors, and fills those that are not given. Which these are is noted, beside those that were not given before them, and
+// whether all sectors were put out.
+fn read_filled<D: Device + Drop, T, R: Source + Drop, S: Sink + Drop, W: FillWatch, A: Drop>(
     session: &mut Session<'_, T, R, S, W, A>,
     opened: &mut Opened<D>,
     sector: u64,
@@ -246,23 +257,24 @@ fn read_filled<D: Device + Drop, T, R: Source + Drop, S: Sink + Drop, W, A: Drop
     requires sound { IsConsistent opened.old.mirror }
     ensures kept { (opened_view D.Device opened.new).beside ≡ (opened_view D.Device opened.old).beside }
     ensures input { session.new.input ≡ session.old.input }
-    ensures reads { ReadsFilled S.Sink readonly sector count opened.old.mirror opened.new.mirror
-        session.old.out session.new.out session.new.gaps result }
+    ensures reads { ReadsFilledOn S.Sink readonly sector count opened.old.mirror opened.new.mirror
+        session.old.out session.new.out session.old.gaps session.new.gaps result }
     ensures all_out { session.new.is_all_out ≡ has_put_all result }
     ensures counted { session.new.mismatched ≡ session.old.mismatched }
     ensures unasked { session.new.asker ≡ session.old.asker }
     ensures flushed { IfOk result (λ _. S.is_flushed session.new.out) }
 {
-    let (alloc, mirror) = (session.alloc, &mut opened.mirror);
+    let (alloc, watch, mirror) = (session.alloc, session.watch, &mut opened.mirror);
     let out = &mut session.out;
-    let (gaps, done) = read_array_filled(alloc, mirror, sector, count, readonly, out);
+    let (gaps, done) = read_array_filled(alloc, mirror, sector, count, readonly, watch, out);
+    let (gaps, done) = with_earlier(session.gaps.take(), gaps, done);
     session.gaps = gaps;
     session.is_all_out = has_put_all(&done);
-    Ok(done?)
+    done
 }
 
 // Serves the array to a client. Which sectors were filled for it is noted, where they were to be.
-fn serve<D: Device + Drop, T, R: Source + Drop, S: Sink + Drop, W, A: Drop>(
+fn serve<D: Device + Drop, T, R: Source + Drop, S: Sink + Drop, W: ClientWatch, A: Drop>(
     session: &mut Session<'_, T, R, S, W, A>,
     opened: &mut Opened<D>,
     fill: bool,
@@ -277,9 +289,9 @@ fn serve<D: Device + Drop, T, R: Source + Drop, S: Sink + Drop, W, A: Drop>(
     ensures unasked { session.new.asker ≡ session.old.asker }
     ensures flushed { IfOk result (λ _. S.is_flushed session.new.out) }
 {
-    let (alloc, mirror) = (session.alloc, &mut opened.mirror);
+    let (alloc, watch, mirror) = (session.alloc, session.watch, &mut opened.mirror);
     let (input, out) = (&mut session.input, &mut session.out);
-    let (gaps, served) = serve_array(alloc, mirror, fill, input, out);
+    let (gaps, served) = serve_array(alloc, mirror, fill, watch, input, out);
     if fill {
         session.gaps = Some(gaps);
     }

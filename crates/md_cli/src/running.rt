@@ -1,16 +1,16 @@
 // One command.
-ghost use Rattle.std.specs.Prelude.{◌≡◌, ◌≢◌, ◌⊎◌, Bool, [], IfOk, None, Some, false, is_err, true};
+ghost use Rattle.std.specs.Prelude.{◌≡◌, ◌≢◌, ◌⊎◌, Bool, [], IfOk, None, Some, false, is_err, option_map, true};
 ghost use Rattle.clap.specs.Words.{FailsBy};
-ghost use Rattle.md_words.specs.Parsing.{asked, image_words, words_fault};
-ghost use Rattle.md_words.specs.Asks.{ask_of, options_of, scan_form, tells_by_status};
+ghost use Rattle.md_words.specs.Parsing.{asked, bitmap_word, image_words, words_fault};
+ghost use Rattle.md_words.specs.Asks.{ask_of, opens_array, options_of, scan_form, tells_by_status};
 ghost use Rattle.md_messages.specs.Telling.{PutsTold, TellsNoticed, TellsRefusal, has_advice, refused_text, texts};
-ghost use Rattle.md_cli.specs.Running.{Obeys, DoesCommand, DoesNothing, DoesScan, MakesArray, differs, status_of};
+ghost use Rattle.md_cli.specs.Running.{Obeys, DoesCommand, DoesNothing, DoesScan, MakesArray, OpensWithBitmap, differs, status_of};
 ghost use Rattle.md_cli.specs.Streams.{audience_of, streams_of, told_of};
 
 use crate::arrays::with_array;
 use crate::create_options::params_of;
 use crate::creating::create_images;
-use crate::growing::grow_array;
+use crate::growing::{chunk_in_memory, grow_array};
 use crate::read_watch::ReadWatch;
 use crate::refusing::show_if_refused;
 use crate::scanning::{ScanOptions, scan};
@@ -59,8 +59,9 @@ pub(crate) const REFUSED: u8 = 1;
 /// By `scan` the images are looked at one after another, and `err` gets a line for each that shows no member: what it shows is
 /// `ScansImages` (`specs/Scanning.antt`).
 ///
-/// The session's watch is told of a rebuild, by `rebuild` and `re-add`, and of a check, whose workers its `rt` starts. It is
-/// asked before a command overwrites what perhaps should stay; where the answer is not yes the command is refused.
+/// The session's watch is told of a rebuild, by `rebuild` and `re-add`, of a check, whose workers its `rt` starts, and of each
+/// request that `serve` answers with an error. The asker is asked before a command overwrites what perhaps should stay; where the answer
+/// is not yes the command is refused.
 pub fn run<
     'a,
     I: Images,
@@ -80,6 +81,7 @@ pub fn run<
 ) -> u8
     requires asks { IfOk parsed (λ r. ask_of r.command ≡ asked (texts words.now)) }
     requires images { IfOk parsed (λ r. texts r.images.items ≡ image_words (texts words.now)) }
+    requires bitmap { IfOk parsed (λ r. option_map (λ s. s.now) r.bitmap ≡ bitmap_word (texts words.now)) }
     requires fails { FailsBy (words_fault (texts words.now)) parsed }
     ensures refused { words_fault (texts words.entry.now) ≢ [] →
         (result ≡ 2) × DoesNothing images.old images.new (streams_of session.old) (streams_of session.new) }
@@ -88,6 +90,7 @@ pub fn run<
         ((is_err parsed.entry ≡ true) × (result ≡ 2)
         × DoesNothing images.old images.new (streams_of session.old) (streams_of session.new))
         ⊎ DoesCommand I.Images I.Dev.Device R.Source S.Sink A.Asker session.old.random_bytes
+        (bitmap_word (texts words.entry.now))
         (TellsNoticed E.Sink (audience_of A.Asker session.old messages) (asked (texts words.entry.now))
         (image_words (texts words.entry.now)) (streams_of session.new).gaps err.old err.new)
         (asked (texts words.entry.now)) (image_words (texts words.entry.now))
@@ -125,7 +128,14 @@ pub fn run<
         messages,
         was_shown: session.asker.is_told_first(),
     };
-    let outcome = act(session, request.command, images, names, &mut notices);
+    let outcome = act(
+        session,
+        request.command,
+        request.bitmap,
+        images,
+        names,
+        &mut notices,
+    );
     let out = &mut session.out;
     show_if_refused(session.alloc, &outcome, request.command, names, out);
     let gaps = &session.gaps;
@@ -141,7 +151,7 @@ pub fn run<
     outcome_status(&outcome, request.command, session.mismatched)
 }
 
-// Does a command on the images that are named. `notices` gets what their array tells as it is opened.
+// Does a command on the images that are named, and with the bitmap. `notices` gets what their array tells as it is opened.
 fn act<
     I: Images,
     T: Threads + Wait + Sync,
@@ -152,18 +162,19 @@ fn act<
 >(
     session: &mut Session<'_, T, R, S, W, A>,
     command: Command<'_>,
+    bitmap: Option<&str>,
     images: &mut I,
     names: &[&str],
     notices: &mut Notices,
 ) -> Result<(), CommandFault>
     requires other { scan_form (ask_of command) ≡ None }
     ensures gives { Obeys I.Images I.Dev.Device R.Source S.Sink A.Asker session.old.random_bytes
-        (ask_of command.entry) (texts names.now)
+        (option_map (λ s. s.now) bitmap.entry) (ask_of command.entry) (texts names.now)
         images.old images.new (told_of session.old notices.old) (told_of session.new notices.new) result }
     ensures flushed { IfOk result (λ _. S.is_flushed session.new.out) }
 {
     if command.opens_array() {
-        return with_array(session, command, images, names, notices);
+        return open_array(session, command, bitmap, images, names, notices);
     }
     let alloc = session.alloc;
     match command {
@@ -185,6 +196,32 @@ fn act<
         // The others open an array, but for `scan`.
         _ => unreachable!(),
     }
+}
+
+// Does a command with the array that the images make. No image is touched before the kind of a bitmap is accepted.
+fn open_array<
+    I: Images,
+    T: Threads + Wait + Sync,
+    R: Source + Drop,
+    S: Sink + Drop,
+    W: ReadWatch + Sync,
+    A: Asker + Drop,
+>(
+    session: &mut Session<'_, T, R, S, W, A>,
+    command: Command<'_>,
+    bitmap: Option<&str>,
+    images: &mut I,
+    names: &[&str],
+    notices: &mut Notices,
+) -> Result<(), CommandFault>
+    requires opens { opens_array (ask_of command) ≡ true }
+    ensures gives { OpensWithBitmap I.Images I.Dev.Device R.Source S.Sink A.Asker
+        (option_map (λ s. s.now) bitmap.entry) (ask_of command.entry) (texts names.now)
+        images.old images.new (told_of session.old notices.old) (told_of session.new notices.new) result }
+    ensures flushed { IfOk result (λ _. S.is_flushed session.new.out) }
+{
+    let chunk = chunk_in_memory(bitmap)?;
+    with_array(session, command, chunk, images, names, notices)
 }
 
 // Makes an array. No image is touched before the options are accepted.

@@ -6,6 +6,9 @@ use std::alloc::Global;
 /// who is told of a rebuild or a check, who is asked, and random bytes for a UUID, where there are any. And, of a read that was to
 /// fill sectors that are not given, which sectors these are, also where it ended before all were put out, and whether all
 /// were. And, of a check, in how many chunks it found members to differ.
+///
+/// Of the sectors that a read is to put out so many stand already, from the first on, where an earlier one was interrupted:
+/// the read goes on behind them. `gaps` has those of them then that were not given to that one.
 #[derive(Drop)]
 pub struct Session<'a, T, R: Drop, S: Drop, W, A: Drop> {
     pub rt: &'a T,
@@ -17,5 +20,6 @@ pub struct Session<'a, T, R: Drop, S: Drop, W, A: Drop> {
     pub random_bytes: Option<[u8; 16]>,
     pub gaps: Option<Gaps>,
     pub is_all_out: bool,
+    pub stands: u64,
     pub mismatched: Option<u32>,
 }

@@ -118,6 +118,7 @@ impl Collector {
             return Err(why);
         }
         if let Some(bytes) = &report.bytes {
+            // For the proof: a device has at most 2^54 sectors, so the sum fits.
             let _limit = target.sectors();
             let (start, _) = self.chunks.range(report.chunk);
             if target.write(self.offset + start, bytes.as_slice()).is_err() {

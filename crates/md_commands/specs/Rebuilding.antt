@@ -1,5 +1,7 @@
 -- The command that rebuilds a member.
-use Rattle.std.specs.Prelude.{◌≡◌, ℕ, Bool, List, Option, true, false, length, slice_get}
+use Rattle.std.specs.Prelude.{◌≡◌, ◌<◌, ℕ, Bool, List, Option, true, false, length, slice_get}
+use Rattle.std.specs.Int.{div_ceil}
+use Rattle.md_assembly.specs.States.{is_recovering}
 use Rattle.md_rebuild_table.specs.declared.fault.RebuildFault.{RebuildFault}
 use Rattle.md_copy.specs.declared.rebuilt.Rebuilt.{Rebuilt}
 use Rattle.md_copy.specs.Rebuilding.{Rebuilds, RefusesRebuild}
@@ -21,9 +23,24 @@ pub record IsToRebuild (a : ArrayView) (m : MemberView) (chunks : ℕ) (first : 
   pub count : chunks ≡ length (missing_chunks a m)
   pub first_is : first ≡ slice_get (missing_chunks a m) 0
 
+-- how many chunks the array has
+abbrev pub chunks_in_all : ArrayView → ℕ
+chunks_in_all a = div_ceil a.chunks.size a.chunks.sectors
+
 -- a watch is told of these totals
 abbrev pub IsToldOfTotals : {W : Type 0} → (W → ℕ → Option ℕ → Type 0) → W → ArrayView → MemberView → Type 0
 IsToldOfTotals lacks watch a m = lacks watch (length (missing_chunks a m)) (slice_get (missing_chunks a m) 0)
+
+-- The rebuild of a member is taken up: it is recovering, and has some chunk.
+pub record IsTakenUp (a : ArrayView) (m : MemberView) : Type 0 where
+  pub recovering : is_recovering m.state ≡ true
+  pub some : length (missing_chunks a m) < chunks_in_all a
+
+module _ {W : Type 0} (taken_up : W → ℕ → ℕ → Option ℕ → ℕ → Type 0) (watch : W) where
+  -- a watch is told of that, and of these totals
+  abbrev pub IsToldOfTakingUp : ArrayView → ℕ → MemberView → Type 0
+  IsToldOfTakingUp a k m =
+      taken_up watch k (length (missing_chunks a m)) (slice_get (missing_chunks a m) 0) (chunks_in_all a)
 
 -- the array is resynced where it has to be, and then member k is rebuilt, and this is told of it
 pub record RebuildsResynced (k : ℕ) (told : Rebuilt) (old new : MirrorView) : Type 0 where

@@ -6,10 +6,9 @@ use md_array::{AddFault, BeginFault, FailFault, OpenFault, ReAddFault, RemoveFau
 use md_check::CheckFault;
 use md_create::CreateFault;
 use md_examine::SinkFault;
-use md_grow::GrowFault;
 use md_images::{ImageRefusal, ImagesFault};
 use md_members::MemberFault;
-use md_metadata::StopFault;
+use md_metadata::{GrowFault, StopFault};
 use md_read::UnreadFault;
 use md_rebuild_table::RebuildFault;
 use md_resync::ResyncFault;

@@ -7,7 +7,7 @@ ghost use Rattle.md_state.specs.Requests.{IsPending};
 ghost use Rattle.md_array.specs.Consistency.{IsConsistent};
 ghost use Rattle.md_copy.specs.Rebuilding.{Rebuilds, RefusesRebuild};
 ghost use Rattle.md_commands.specs.Objects.{rebuilt_object_line};
-ghost use Rattle.md_commands.specs.Rebuilding.{IsToRebuild, IsToldOfTotals, RebuildsArray, RebuildsResynced, RefusesReadied, RefusesToRebuild, rebuilt_shown};
+ghost use Rattle.md_commands.specs.Rebuilding.{IsTakenUp, IsToRebuild, IsToldOfTakingUp, IsToldOfTotals, RebuildsArray, RebuildsResynced, RefusesReadied, RefusesToRebuild, rebuilt_shown};
 ghost use Rattle.md_commands.specs.Stopping.{StopsAfter};
 
 use crate::fault::CommandFault;
@@ -28,7 +28,7 @@ use std::thread::Threads;
 
 /// Rebuilds the member with this index from all others at once, then stops the array, and puts out the plan of
 /// each pass, unless `quiet`, and how many passes and orphans there were. A degraded array that is not resynced is resynced
-/// first. `watch` is told how many chunks the member lacks, and of each read.
+/// first. `watch` is told how many chunks the member lacks, whether its rebuild is taken up, and of each read.
 ///
 /// In memory stand two chunks of the array for each member that is read.
 ///
@@ -104,7 +104,7 @@ fn rebuild_and_stop<D: Device + Drop + Send, W: Watch + Sync, T: Threads + Wait 
     Ok(rebuilt)
 }
 
-/// Rebuilds member k. `watch` is told how many chunks it lacks and which is the first, and of each read.
+/// Rebuilds member k. `watch` is told how many chunks it lacks and which is the first, whether its rebuild is taken up, and of each read.
 pub(crate) fn rebuild_watched<D: Device + Drop + Send, W: Watch + Sync, T: Threads + Wait + Sync>(
     rt: &T,
     alloc: Global,
@@ -119,12 +119,35 @@ pub(crate) fn rebuild_watched<D: Device + Drop + Send, W: Watch + Sync, T: Threa
         (RefusesRebuild k mirror.old mirror.new) }
     ensures begins { (m : MemberView) → IsMember mirror.old.array k m
         → IsToldOfTotals W.lacks watch.now mirror.old.array m }
+    ensures taken_up { (m : MemberView) → IsMember mirror.old.array k m → IsTakenUp mirror.old.array m
+        → IsToldOfTakingUp W.taken_up watch.now mirror.old.array k m }
     ensures sound { IsConsistent mirror.new }
     ensures pending { (p : PendingView) → IsPending mirror.old.array p → IsPending mirror.new.array p }
 {
     let lacked = chunks_lacked(mirror, k);
     watch.begins(lacked.0, lacked.1);
+    tell_if_taken_up(mirror, k, lacked.0, lacked.1, watch);
     rebuild(rt, alloc, mirror, k, watch)
+}
+
+// Tells the watch that the rebuild of member k is taken up, where it is: it lacks so many chunks, of which this is the first.
+fn tell_if_taken_up<D: Device + Drop, W: Watch>(
+    mirror: &Mirror<D>,
+    k: usize,
+    missing: u32,
+    first: Option<u32>,
+    watch: &W,
+)
+    requires member { k < length mirror.now.array.members }
+    requires missing { (m : MemberView) → IsMember mirror.now.array k m
+        → IsToRebuild mirror.now.array m missing first }
+    ensures { (m : MemberView) → IsMember mirror.now.array k m → IsTakenUp mirror.now.array m
+        → IsToldOfTakingUp W.taken_up watch.now mirror.now.array k m }
+{
+    let chunks = mirror.chunks().count();
+    if mirror.state(k).is_recovering() && missing < chunks {
+        watch.takes_up(k, missing, first, chunks);
+    }
 }
 
 // How many chunks member k lacks, and the first of them. It takes no memory.

@@ -1,5 +1,5 @@
 // What is told of a rebuild, of a check and of a write.
-ghost use Rattle.std.specs.Prelude.{ℕ, Option};
+ghost use Rattle.std.specs.Prelude.{◌<◌, ℕ, Option};
 
 use md_copy::Gate;
 
@@ -9,6 +9,10 @@ pub trait Watch: Gate {
     /// It was told that the member which is rebuilt lacks so many chunks, of which this is the first. Only `begins` says
     /// it, so that a call of which a contract says it has told the watch.
     ghost lacks: { Self → ℕ → Option ℕ → Type 0 };
+
+    /// It was told that the rebuild of this member is taken up: it lacks so many chunks, of which this is the first, of so many that there
+    /// are. Only `takes_up` says it.
+    ghost taken_up: { Self → ℕ → ℕ → Option ℕ → ℕ → Type 0 };
 
     /// It was told that the members which are compared have so many sectors in all. Only `begins_check` says it.
     ghost compares: { Self → ℕ → Type 0 };
@@ -23,6 +27,12 @@ pub trait Watch: Gate {
     /// read: some may be on no other member. One that can't be read on a member may be read again from another.
     fn begins(&self, chunks: u32, first: Option<u32>)
         ensures { lacks self.now chunks first };
+
+    /// The rebuild of this member is taken up: it is recovering, and lacks so many chunks, of which this is the first, but not all that
+    /// there are.
+    fn takes_up(&self, member: usize, missing: u32, first: Option<u32>, chunks: u32)
+        requires { missing < chunks }
+        ensures { taken_up self.now member missing first chunks };
 
     /// The members in sync that are compared have so many sectors of the array in all. Not each of them need be
     /// read: some may be listed as bad, and a single member is not read.

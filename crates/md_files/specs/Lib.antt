@@ -4,3 +4,5 @@ pub mod File
 pub mod Sparse
 -- Sinks between what commands put out and the streams of the system.
 pub mod Streams
+-- Copies of disks that lack sectors.
+pub mod Masks

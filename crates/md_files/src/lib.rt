@@ -6,6 +6,7 @@
 //!
 //! `sparse/`: a sink into a new file in which blocks of zeros become holes, and why such a file is not made.
 //! `streams/`: sinks that pass on what they take, in codes or as it is.
+//! `masks/`: copies of disks that lack sectors.
 //!
 //! ```
 //! let mut device = FileDevice::open(rt, "sda.img", Access::Look)?;
@@ -18,6 +19,7 @@ mod backing;
 mod block_device;
 mod file;
 mod in_use;
+mod masks;
 mod mounts;
 mod sparse;
 mod streams;
@@ -26,5 +28,10 @@ mod zeros;
 
 pub use backing::Backing;
 pub use file::FileDevice;
+pub use masks::{
+    Block, LackingFault, LineFault, MapFault, MapOutFault, MapRefusal, MapText, MapWord, MapsFault,
+    MaskedDevice, MaskedImages, command_of, map_advice, map_list, map_out_advice, mask_images,
+    mask_of, read_map, strange_command, write_map, write_map_of_read,
+};
 pub use sparse::{HoleFile, OutputFileFault, Sparse, output_file_advice};
 pub use streams::{Cleared, CodedJson, Destination, Line, put_coded};

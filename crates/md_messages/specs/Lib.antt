@@ -10,5 +10,7 @@ pub mod Question
 pub mod Telling
 -- What a terminal is shown and asked.
 pub mod Terminal
+-- What is said of a rebuild that goes on.
+pub mod GoingOn
 -- What is said of sectors for which zeros were put out.
 pub mod Missing

@@ -7,6 +7,8 @@
 //! `Questions` (`src/terminal.rt`). The rules by which a member gets a line, and the text of each line, are those of
 //! `md_notices`.
 //!
+//! `put_going_on` (`src/going_on.rt`) says before a rebuild copies that it goes on where an earlier one ended.
+//!
 //! `fault_text/`: what standard error is told of a fault. `advice/`: what a terminal's second line says of a command that is refused.
 //!
 //! ```
@@ -20,6 +22,7 @@
 mod advice;
 mod asker;
 mod fault_text;
+mod going_on;
 mod messages;
 mod missing;
 mod notices;
@@ -30,6 +33,7 @@ mod terminal;
 pub use advice::{advice_words, advise};
 pub use asker::Asker;
 pub use fault_text::{fault_words, put_fault_line, put_member, refusal_words};
+pub use going_on::put_going_on;
 pub use messages::{Audience, Messages};
 pub use missing::put_gap_lines;
 pub use notices::Notices;

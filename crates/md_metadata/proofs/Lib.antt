@@ -11,3 +11,5 @@ pub mod StoredLists
 pub mod Stopped
 pub mod StaleFlag
 pub mod ComingBack
+-- A write-intent bitmap for an array that has none.
+pub mod GrowLemmas

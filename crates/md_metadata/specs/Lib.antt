@@ -12,3 +12,5 @@ pub mod ComingBack
 pub mod Stopping
 -- Recovering members are to say no more that they have data which are about to change, one after another.
 pub mod Lowering
+-- A write-intent bitmap for an array that has none.
+pub mod Grow

@@ -4,6 +4,8 @@
 //! The contract of each part says which events it does, and what holds after them; where a member fails on
 //! the way, the caller chooses whether to begin again.
 //!
+//! `bitmap_grow/`: a write-intent bitmap for an array that has none.
+//!
 //! Start with `stop` (`whole_stop.rt`), which does most of the parts, one after another. A whole call of
 //! another crate stores what is due so:
 //!
@@ -15,6 +17,7 @@
 #![tactic(auto)]
 
 mod all_marks;
+mod bitmap_grow;
 mod coming_back;
 mod fault;
 mod idle_marks;
@@ -26,6 +29,7 @@ mod stop_fault;
 mod whole_stop;
 
 pub use all_marks::store_all_marks;
+pub use bitmap_grow::{GrowFault, grow, keeps_data, reads_back, stays_in_sync};
 pub use coming_back::{RebuildExtent, come_back};
 pub use fault::PartFault;
 pub use idle_marks::clear_marks;

@@ -3,6 +3,7 @@ pub mod FrontFilled
 pub mod Exchanges
 pub mod RequestsTaken
 pub mod Told
+pub mod Refusals
 pub mod Transmission
 pub mod OptionsTaken
 pub mod OptionsAnswered

@@ -20,13 +20,13 @@ pub enum Task {
     Refuse(ErrorCode),
 }
 
-fn has_whole_sectors(request: &Request) -> bool
+pub(crate) fn has_whole_sectors(request: &Request) -> bool
     ensures { result ≡ has_whole_sectors request.now }
 {
     request.offset % 512 == 0 && request.length % 512 == 0 && 0 < request.length
 }
 
-fn is_past_end(export: &Export, request: &Request) -> bool
+pub(crate) fn is_past_end(export: &Export, request: &Request) -> bool
     ensures { result ≡ is_past_end export.now request.now }
 {
     // Read first: its range is known once it is.
@@ -37,7 +37,7 @@ fn is_past_end(export: &Export, request: &Request) -> bool
     }
 }
 
-fn has_known_flags(export: &Export, request: &Request) -> bool
+pub(crate) fn has_known_flags(export: &Export, request: &Request) -> bool
     ensures { result ≡ has_known_flags export.now request.now }
 {
     let limit = if export.readonly { 1 } else { 2 };

@@ -25,6 +25,7 @@ pub(crate) fn pull(
     requires parent { length parent.now ≡ 32 }
     ensures { OnOk result (Lightens bound cells.old.items cells.new.items loads.old loads.new) }
 {
+    // For the proof, which alone goes by `reach`.
     let _kept = reach.len();
     let mut to = light;
     while order[to as usize] > 0 {

@@ -37,7 +37,8 @@ use Rattle.md_read_commands.specs.declared.way.Way.TheVariants.{Resynced, Unresy
 use Rattle.md_read_commands.specs.Filling.{FillsBlock, FillsContent, FillsFront, FillsMore, IsClear, IsFilled, IsGivenByRead, IsNotGiven, NotesOne, zeros}
 use Rattle.md_read_commands.specs.Gaps.{AreFit, AreFitGaps, HasBothGaps, IsGap, IsKeptAt, IsSameAt, no_gaps}
 use Rattle.md_read_commands.specs.Others.{IsTakenFromOther}
-use Rattle.md_read_commands.specs.Serving.{LacksSector}
+use Rattle.md_nbd.specs.declared.server.store.StoreFault.TheVariants.{Lacks}
+use Rattle.md_read_commands.specs.Serving.{LacksAsTold, LacksSector}
 use Rattle.md_read_commands.specs.Ways.{EndsReading, ReadsBy}
 use Rattle.md_read_commands.proofs.Noted.{bad_both}
 use Rattle.md_read_commands.proofs.OtherMembers.{gives_other_earlier, no_other_earlier, nobody_gives, source_fails_later}
@@ -531,21 +532,26 @@ module _ (old new : MirrorView) (sound : IsConsistent old) (sector s : ℕ) (pie
   ends_with way fault h = absurd h
 
   -- it is one of these sectors, and was asked for after devices were read
-  pub not_given : (way : Way) (fault : CommandFault) → EndsReading way sector s piece old new fault → (sectors : ℕ) → length piece / 512 ≡ sectors → LacksSector way sector sectors old new
-  not_given way fault ends sectors many =
+  pub lacks_as_told : (way : Way) (fault : CommandFault) → EndsReading way sector s piece old new fault → (sectors : ℕ) → length piece / 512 ≡ sectors → LacksAsTold way sector sectors old new (Lacks s)
+  lacks_as_told way fault ends sectors many =
       let there = ends_with way fault ends in
-      let below = there.below in
-      record {
-        s = s;
-        from = there.from;
-        below = omega arith;
-        asked = there.mid;
-        over = new;
-        before = there.before;
-        within = there.asked;
-        after = rests_same new;
-        lost = not_given_by way fault s there.mid new there.why;
-      }
+      let below = there.below in (
+        record {
+          s = s;
+          from = there.from;
+          below = omega arith;
+          asked = there.mid;
+          over = new;
+          before = there.before;
+          within = there.asked;
+          after = rests_same new;
+          lost = not_given_by way fault s there.mid new there.why;
+        },
+        refl,
+      )
+
+  pub not_given : (way : Way) (fault : CommandFault) → EndsReading way sector s piece old new fault → (sectors : ℕ) → length piece / 512 ≡ sectors → LacksSector way sector sectors old new
+  not_given way fault ends sectors many = (lacks_as_told way fault ends sectors many).0
 
 -- ---- such a sector is filled
 pub block_rests : (fault : CommandFault) (s : ℕ) (block : List ℕ) (was gaps : Gaps) (old new : MirrorView) → FillsBlock fault s block was gaps old new → Rests old new

@@ -11,4 +11,5 @@ pub mod ReadReadied
 pub mod ResyncedData
 pub mod Rooms
 pub mod Served
+pub mod Told
 pub mod Ways

@@ -1,6 +1,6 @@
 -- An array that is served is only read.
 use Rattle.std.proofs.Common.{◌≡◌, ◌∙◌, ◌⊎◌, inl, inr, ℕ, ◌+◌, ◌*◌, ◌-◌, ◌/◌, ◌%◌, ◌<◌, Bool, true, false, true≢false, List, [], ◌∷◌, length, Result, Ok, Err, refl, sym, ap, subst, arith}
-use Rattle.std.specs.Prelude.{MatchResult}
+use Rattle.std.specs.Prelude.{IfErr, MatchResult}
 use Rattle.md_bitmap.specs.declared.chunks.Chunks.{Chunks}
 use Rattle.md_device.specs.Device.{held}
 use Rattle.md_laws.proofs.Runs.Rests.{rests_same, rests_then}
@@ -34,9 +34,10 @@ use Rattle.md_read_commands.specs.Gaps.{IsGap, capacity_of, no_gaps}
 use Rattle.md_read_commands.specs.Others.{IsTakenFromOther}
 use Rattle.md_read_commands.specs.Ways.{ReadsBy}
 use Rattle.md_nbd.specs.declared.server.store.StoreFault.{StoreFault}
+use Rattle.md_nbd.specs.declared.server.store.StoreFault.TheVariants.{NoMemory}
 use Rattle.md_read_commands.proofs.Filled.{filled, read_fills}
 use Rattle.md_read_commands.proofs.Noted.{nothing_noted}
-use Rattle.md_read_commands.specs.Serving.{GivesRequest, LacksSector, ReadsRequest, RefusesRequest, ServesClient, StopsServing, export_of, reader_store}
+use Rattle.md_read_commands.specs.Serving.{GivesRequest, LacksAsTold, LacksSector, ReadsRequest, RefusesRequest, ServesClient, StopsServing, WhyRefused, export_of, reader_store}
 use Rattle.md_read_commands.proofs.Ways.{reads_rests}
 
 -- ---- a sector that is not given
@@ -98,6 +99,17 @@ served_given (Err e) p old new sector bytes sectors whole why rests lacks = (
   lacks,
   λ fills within. elim why [ inl off ↦ absurd (true≢false (sym fills ∙ off)) | inr more ↦ absurd (omega arith) ],
 )
+
+-- why it was not
+pub why_given : (r : Result (Unit {0}) StoreFault) (p q : ArrayReader × MirrorView) (sector sectors : ℕ) → IfErr r (LacksAsTold p.0.way sector sectors p.1 q.1)
+    → IfErr r (λ why. WhyRefused p q sector sectors why)
+why_given (Ok x) p q sector sectors h = tt
+why_given (Err e) p q sector sectors h = inl h
+
+pub why_filled : (r : Result (Unit {0}) StoreFault) (p q : ArrayReader × MirrorView) (sector sectors : ℕ) → p.0.fill ≡ true → IfErr r (λ why. why ≡ NoMemory)
+    → IfErr r (λ why. WhyRefused p q sector sectors why)
+why_filled (Ok x) p q sector sectors fills h = tt
+why_filled (Err e) p q sector sectors fills h = inr (fills, h)
 
 given_rests : (fill : Bool) (way : Way) (sector : ℕ) (bytes : List ℕ) (was now : Gaps) (old new : MirrorView) → ReadsRequest way fill sector bytes was now old new → Rests old new
 given_rests true way sector bytes was now old new h = h.filled.fills.rests

@@ -52,6 +52,11 @@ abbrev pub HasSomeGapsOf : Gaps → Gaps → Gaps → Type 0
 HasSomeGapsOf was more now =
     HasSomeOf was.missing more.missing now.missing × HasSomeOf was.others more.others now.others
 
+-- each of these sectors was told, with its kind
+abbrev pub AreTold : (ℕ → Type 0) → (ℕ → Type 0) → Gaps → Type 0
+AreTold Misses Takes gaps =
+    ((s : ℕ) → IsBad gaps.missing s → Misses s) × ((s : ℕ) → IsBad gaps.others s → Takes s)
+
 -- ---- before they are noted
 abbrev pub gaps_of : Holes → Gaps
 gaps_of holes = record { missing = holes.missing.items; others = holes.others.items }

@@ -14,6 +14,8 @@ use Rattle.md_nbd.specs.declared.server.session.SessionEnd.{SessionEnd}
 use Rattle.md_nbd.specs.declared.server.session.SessionFault.{SessionFault}
 use Rattle.md_nbd.specs.declared.server.session.SessionFault.TheVariants as session
 use Rattle.md_nbd.specs.declared.server.store.Store.{Ghosts as Stores}
+use Rattle.md_nbd.specs.declared.server.store.StoreFault.{StoreFault}
+use Rattle.md_nbd.specs.declared.server.store.StoreFault.TheVariants.{Lacks, NoMemory, NotWritten}
 use Rattle.md_nbd.specs.Export.{most_bytes, sector_bytes}
 use Rattle.md_nbd.specs.Server.Sessions.{BreaksSession, EndsSession, is_orderly}
 use Rattle.md_read_commands.specs.declared.gaps.Gaps.{Gaps}
@@ -37,6 +39,10 @@ module _ (way : Way) where
     pub within : Rests asked over
     pub after : Rests over new
     pub lost : IsNotGiven way s asked over
+
+  -- The sector that is told of is such a one.
+  abbrev pub LacksAsTold : ℕ → ℕ → MirrorView → MirrorView → StoreFault → Type 0
+  LacksAsTold sector sectors old new why = (h : LacksSector sector sectors old new) × (why ≡ Lacks h.s)
 
   -- These bytes were read, with zeros in the place of sectors that nobody gives, and those that were not given were noted beside those before.
   pub record FillsRequest (sector : ℕ) (bytes : List ℕ) (was now : Gaps)
@@ -87,6 +93,11 @@ RefusesRequest old new sector sectors =
     × (old.0.fill ≡ true → sectors ≤ capacity_of old.0.holes
     → FillsUnnotedRequest old.0.way sector sectors old.1 new.1)
 
+-- A sector is not given, and which it is; or there is no memory to note those that were filled.
+abbrev pub WhyRefused : ArrayReader × MirrorView → ArrayReader × MirrorView → ℕ → ℕ → StoreFault → Type 0
+WhyRefused old new sector sectors why =
+    LacksAsTold old.0.way sector sectors old.1 new.1 why ⊎ ((old.0.fill ≡ true) × (why ≡ NoMemory))
+
 -- No write is done, and none is waited for.
 abbrev pub reader_store : Stores ArrayReader MirrorView
 reader_store = record {
@@ -94,10 +105,14 @@ reader_store = record {
   sectors = λ p. p.1.array.chunks.size;
   reads = λ p q sector bytes. GivesRequest p q sector bytes;
   unread = λ p q sector sectors. RefusesRequest p q sector sectors;
+  why_unread = λ p q sector sectors why. WhyRefused p q sector sectors why;
   writes = λ p q sector bytes through. ⊥;
   unwritten = λ p q sector bytes. q ≡ p;
+  why_unwritten = λ p q sector bytes why. why ≡ NotWritten;
   flushes = λ p q. q ≡ p;
   unflushed = λ p q. ⊥;
+  why_unflushed = λ p q why. ⊥;
+  rests = λ p q. q ≡ p;
 }
 
 -- what clients are told of it: all of it, only to be read

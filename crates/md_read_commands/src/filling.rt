@@ -4,12 +4,14 @@ ghost use Rattle.std.specs.Prelude.{◌≡◌, ◌+◌, ◌*◌, ◌/◌, ◌%�
 ghost use Rattle.md_inflight.specs.Requests.Pending.{PendingView};
 ghost use Rattle.md_state.specs.Requests.{IsPending};
 ghost use Rattle.md_array.specs.Consistency.{IsConsistent};
+ghost use Rattle.md_examine.specs.Sink.{PutsOrFails};
 ghost use Rattle.md_read_commands.specs.Filling.{FillsBlock, FillsFront, FillsMore, IsClear, NotesOne, PutsFilled, PutsFilledPiece, RefusesFilled, RefusesFilledPiece};
-ghost use Rattle.md_read_commands.specs.Gaps.{AreFitGaps, HasFewMore, HasNoGaps, HasRoomForMore, HasSameRoom, capacity_of, gaps_of};
+ghost use Rattle.md_read_commands.specs.Gaps.{AreFitGaps, AreTold, HasFewMore, HasNoGaps, HasRoomForMore, HasSameRoom, capacity_of, gaps_of};
 ghost use Rattle.md_read_commands.specs.Pieces.{piece_sectors};
 ghost use Rattle.md_read_commands.specs.Ways.{MayReadBy};
 
 use crate::buffer::buffer;
+use crate::fill_watch::FillWatch;
 use crate::gaps::{Gaps, Holes};
 use crate::noting::add_holes;
 use crate::others::read_other;
@@ -19,79 +21,97 @@ use md_array::Mirror;
 use md_badblocks::Run;
 use md_commands::CommandFault;
 use md_device::Device;
-use md_examine::Sink;
+use md_examine::{Sink, SinkFault};
 use std::alloc::Global;
 
-/// Puts out `count` sectors of an array, from this one on, read in this way, through one buffer. Each that is not given is added
+/// Puts out sectors of an array, read in this way, through one buffer. Each that is not given is added
 /// to `gaps`, and what another member has, or else zeros, is put out in its place. To read a piece takes no memory, to add what is
 /// not given of it may.
-pub(crate) fn put_filled<D: Device + Drop, S: Sink>(
+pub(crate) fn put_filled<D: Device + Drop, W: FillWatch, S: Sink>(
     alloc: Global,
     mirror: &mut Mirror<D>,
     way: Way,
-    sector: u64,
-    count: u64,
+    sectors: Sectors,
     gaps: &mut Gaps,
+    watch: &W,
     out: &mut S,
 ) -> Result<(), CommandFault>
-    requires may { MayReadBy way mirror.old.array sector count }
-    requires fits { sector + count < 2 ^ 64 }
+    requires may { MayReadBy way mirror.old.array sectors.sector sectors.count }
+    requires fits { sectors.sector + sectors.count < 2 ^ 64 }
     requires sound { IsConsistent mirror.old }
     requires none { HasNoGaps gaps.old }
     ensures gives { MatchResult result
-        (λ _. PutsFilled S.Sink way sector count gaps.new mirror.old mirror.new out.old out.new)
-        (RefusesFilled S.Sink way sector count gaps.new mirror.old mirror.new out.old out.new) }
+        (λ _. PutsFilled S.Sink way sectors.sector sectors.count gaps.new mirror.old mirror.new
+        out.old out.new)
+        (RefusesFilled S.Sink way sectors.sector sectors.count gaps.new mirror.old mirror.new
+        out.old out.new) }
+    ensures told { AreTold (W.misses watch.now) (W.takes watch.now) gaps.new }
     ensures sound { IsConsistent mirror.new }
     ensures pending { (p : PendingView) → IsPending mirror.old.array p → IsPending mirror.new.array p }
 {
+    let Sectors { sector, count } = sectors;
     let mut piece = buffer(alloc, count.min(PIECE_SECTORS))?;
     let mut holes = Holes::with_capacity(alloc, PIECE_SECTORS as usize)?;
-    let asked = Sectors { sector, count };
-    put_filled_pieces(mirror, way, asked, &mut piece, &mut holes, gaps, out)
+    let asked = Asked { way, sector, count };
+    put_filled_pieces(mirror, asked, &mut piece, &mut holes, gaps, watch, out)
 }
 
-// So many sectors of the array, from this one on.
+/// So many sectors of the array, from this one on.
 #[derive(Clone, Copy)]
-struct Sectors {
+pub(crate) struct Sectors {
+    pub(crate) sector: u64,
+    pub(crate) count: u64,
+}
+
+// So many sectors of the array, from this one on, read in this way.
+#[derive(Clone, Copy)]
+struct Asked {
+    way: Way,
     sector: u64,
     count: u64,
 }
 
 // Puts them out through this buffer, of a piece, or of all of them where these are fewer. `holes` is room for those of a piece that are
 // not given.
-fn put_filled_pieces<D: Device + Drop, S: Sink>(
+fn put_filled_pieces<D: Device + Drop, W: FillWatch, S: Sink>(
     mirror: &mut Mirror<D>,
-    way: Way,
-    asked: Sectors,
+    asked: Asked,
     buffer: &mut [u8],
     holes: &mut Holes,
     gaps: &mut Gaps,
+    watch: &W,
     out: &mut S,
 ) -> Result<(), CommandFault>
     requires room { length buffer.old ≡ 512 * min asked.count piece_sectors }
     requires holes { piece_sectors ≤ capacity_of holes.old }
-    requires may { MayReadBy way mirror.old.array asked.sector asked.count }
+    requires may { MayReadBy asked.way mirror.old.array asked.sector asked.count }
     requires fits { asked.sector + asked.count < 2 ^ 64 }
     requires sound { IsConsistent mirror.old }
     requires none { HasNoGaps gaps.old }
     ensures gives { MatchResult result
-        (λ _. PutsFilled S.Sink way asked.sector asked.count gaps.new mirror.old mirror.new
+        (λ _. PutsFilled S.Sink asked.way asked.sector asked.count gaps.new mirror.old mirror.new
         out.old out.new)
-        (RefusesFilled S.Sink way asked.sector asked.count gaps.new mirror.old mirror.new
+        (RefusesFilled S.Sink asked.way asked.sector asked.count gaps.new mirror.old mirror.new
         out.old out.new) }
+    ensures told { AreTold (W.misses watch.now) (W.takes watch.now) gaps.new }
     ensures sound { IsConsistent mirror.new }
     ensures pending { (p : PendingView) → IsPending mirror.old.array p → IsPending mirror.new.array p }
 {
     let mut done = 0;
     while done < asked.count {
         let sectors = PIECE_SECTORS.min(asked.count - done);
+        let part = Asked {
+            way: asked.way,
+            sector: asked.sector + done,
+            count: sectors,
+        };
         put_filled_piece(
             mirror,
-            way,
-            asked.sector + done,
+            part,
             &mut buffer[..512 * sectors as usize],
             holes,
             gaps,
+            watch,
             out,
         )?;
         done += sectors;
@@ -100,35 +120,51 @@ fn put_filled_pieces<D: Device + Drop, S: Sink>(
     Ok(())
 }
 
-// Fills a piece, adds what is not given of it, and puts it out.
-fn put_filled_piece<D: Device + Drop, S: Sink>(
+// Fills a piece with the sectors that are asked for, tells what is not given of it and adds that, and puts the piece out.
+fn put_filled_piece<D: Device + Drop, W: FillWatch, S: Sink>(
     mirror: &mut Mirror<D>,
-    way: Way,
-    sector: u64,
+    asked: Asked,
     piece: &mut [u8],
     holes: &mut Holes,
     gaps: &mut Gaps,
+    watch: &W,
     out: &mut S,
 ) -> Result<(), CommandFault>
     requires whole { length piece.old % 512 ≡ 0 }
     requires holes { length piece.old / 512 ≤ capacity_of holes.old }
-    requires may { MayReadBy way mirror.old.array sector (length piece.old / 512) }
+    requires may { MayReadBy asked.way mirror.old.array asked.sector (length piece.old / 512) }
     requires sound { IsConsistent mirror.old }
-    requires clear { IsClear gaps.old sector }
+    requires clear { IsClear gaps.old asked.sector }
+    requires told { AreTold (W.misses watch.now) (W.takes watch.now) gaps.old }
     ensures gives { MatchResult result
-        (λ _. PutsFilledPiece S.Sink way sector piece.new gaps.old gaps.new mirror.old mirror.new
-        out.old out.new)
-        (RefusesFilledPiece S.Sink way sector (length piece.old / 512) gaps.old gaps.new
-        mirror.old mirror.new out.old out.new) }
+        (λ _. PutsFilledPiece S.Sink asked.way asked.sector piece.new gaps.old gaps.new
+        mirror.old mirror.new out.old out.new)
+        (RefusesFilledPiece S.Sink asked.way asked.sector (length piece.old / 512) gaps.old
+        gaps.new mirror.old mirror.new out.old out.new) }
+    ensures told { AreTold (W.misses watch.now) (W.takes watch.now) gaps.new }
     ensures holes { HasSameRoom holes.old holes.new }
     ensures sound { IsConsistent mirror.new }
     ensures pending { (p : PendingView) → IsPending mirror.old.array p → IsPending mirror.new.array p }
 {
     holes.clear();
-    fill_piece(mirror, way, sector, piece, holes);
+    fill_piece(mirror, asked.way, asked.sector, piece, holes);
+    watch.lacks(&holes.missing, &holes.others);
     add_holes(gaps, holes)?;
-    out.put(piece)?;
+    put_told(piece, holes, watch, out)?;
     Ok(())
+}
+
+// Puts a piece out, once the watch is told what is not given of it: whoever keeps the piece knows of these sectors by then.
+fn put_told<W: FillWatch, S: Sink>(
+    piece: &[u8],
+    _holes: &Holes,
+    _watch: &W,
+    out: &mut S,
+) -> Result<(), SinkFault>
+    requires told { AreTold (W.misses _watch.now) (W.takes _watch.now) (gaps_of _holes.now) }
+    ensures { PutsOrFails S.contents S.failed out.old out.new piece.now result }
+{
+    out.put(piece)
 }
 
 /// Fills a piece with what is read. In the place of each sector that is not given, which is added to `holes`, comes what another member

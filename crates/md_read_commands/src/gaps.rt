@@ -14,7 +14,8 @@ pub struct Gaps {
 }
 
 impl Gaps {
-    pub(crate) fn none(alloc: Global) -> Gaps
+    /// No sector of either kind.
+    pub fn none(alloc: Global) -> Gaps
         ensures { HasNoGaps result }
     {
         Gaps {

@@ -9,11 +9,12 @@
 //!
 //! ```
 //! read_array(alloc, &mut mirror, 8, 16, &mut out)?;
-//! let (gaps, done) = read_array_filled(alloc, &mut mirror, 0, 32, true, &mut out);
+//! let (gaps, done) = read_array_filled(alloc, &mut mirror, 0, 32, true, &watch, &mut out);
 //! ```
 #![tactic(auto)]
 
 mod buffer;
+mod fill_watch;
 mod filling;
 mod gaps;
 pub mod laws;
@@ -26,6 +27,7 @@ mod reading;
 mod serving;
 mod way;
 
+pub use fill_watch::FillWatch;
 pub use gaps::Gaps;
-pub use reading::{has_put_all, read_array, read_array_filled, read_array_readonly};
+pub use reading::{first_gap, has_put_all, read_array, read_array_filled, read_array_readonly};
 pub use serving::serve_array;

@@ -3,7 +3,8 @@ ghost use Rattle.std.specs.Prelude.{◌≡◌, ◌/◌, ◌%◌, ◌≤◌, IfEr
 ghost use Rattle.md_array.specs.Consistency.{IsConsistent};
 ghost use Rattle.md_state.specs.Rests.{Rests};
 ghost use Rattle.md_read_commands.specs.Gaps.{HasSameRoom, capacity_of};
-ghost use Rattle.md_read_commands.specs.Serving.{FillsRequest, FillsUnnotedRequest, LacksSector};
+ghost use Rattle.md_nbd.specs.declared.server.store.StoreFault.TheVariants.{NoMemory as NoMemoryFault};
+ghost use Rattle.md_read_commands.specs.Serving.{FillsRequest, FillsUnnotedRequest, LacksAsTold, LacksSector};
 ghost use Rattle.md_read_commands.specs.Ways.{MayReadBy, ReadsBy};
 
 use crate::filling::fill_piece;
@@ -40,12 +41,13 @@ fn read_given<D: Device + Drop>(
     ensures gives { MatchResult result
         (λ _. ReadsBy way sector buf.new mirror.old mirror.new)
         (λ _. LacksSector way sector (length buf.old / 512) mirror.old mirror.new) }
+    ensures why { IfErr result (LacksAsTold way sector (length buf.old / 512) mirror.old mirror.new) }
     ensures rests { Rests mirror.old mirror.new }
     ensures sound { IsConsistent mirror.new }
 {
     match read_by(mirror, way, sector, buf) {
         Ok(()) => Ok(()),
-        Err(_) => Err(StoreFault),
+        Err(unread) => Err(StoreFault::Lacks(unread.sector)),
     }
 }
 
@@ -69,6 +71,7 @@ fn read_filled<D: Device + Drop>(
         (λ _. FillsUnnotedRequest way sector (length buf.old / 512) mirror.old mirror.new
         × (noted.new ≡ noted.old)) }
     ensures lacks { IfErr result (λ _. LacksSector way sector (length buf.old / 512) mirror.old mirror.new) }
+    ensures why { IfErr result (λ why. why ≡ NoMemoryFault) }
     ensures room { HasSameRoom holes.old holes.new }
     ensures rests { Rests mirror.old mirror.new }
     ensures sound { IsConsistent mirror.new }
@@ -77,13 +80,14 @@ fn read_filled<D: Device + Drop>(
     fill_piece(mirror, way, sector, buf, holes);
     match note_all(alloc, noted, holes) {
         Ok(()) => Ok(()),
-        Err(AllocError) => Err(StoreFault),
+        Err(AllocError) => Err(StoreFault::NoMemory),
     }
 }
 
 impl<D: Device + Drop> Store<Mirror<D>> for ArrayReader {
     ghost use Rattle.std.specs.Prelude.{◌≡◌};
-    ghost use Rattle.md_read_commands.specs.Serving.{GivesRequest, MayBeServed, RefusesRequest};
+    ghost use Rattle.md_nbd.specs.declared.server.store.StoreFault.TheVariants.{NotWritten};
+    ghost use Rattle.md_read_commands.specs.Serving.{GivesRequest, MayBeServed, RefusesRequest, WhyRefused};
 
     ghost is_sound = { λ p. MayBeServed p.0.way p.1 };
 
@@ -93,13 +97,21 @@ impl<D: Device + Drop> Store<Mirror<D>> for ArrayReader {
 
     ghost unread = { λ p q sector sectors. RefusesRequest p q sector sectors };
 
+    ghost why_unread = { λ p q sector sectors why. WhyRefused p q sector sectors why };
+
     ghost writes = { λ _ _ _ _ _. ⊥ };
 
     ghost unwritten = { λ p q _ _. q ≡ p };
 
+    ghost why_unwritten = { λ _ _ _ _ why. why ≡ NotWritten };
+
     ghost flushes = { λ p q. q ≡ p };
 
     ghost unflushed = { λ _ _. ⊥ };
+
+    ghost why_unflushed = { λ _ _ _. ⊥ };
+
+    ghost rests = { λ p q. q ≡ p };
 
     fn read(
         &mut self,
@@ -117,10 +129,14 @@ impl<D: Device + Drop> Store<Mirror<D>> for ArrayReader {
 
     // The export says that it is only read, so that none comes here.
     fn write(&mut self, _: &mut Mirror<D>, _: u64, _: &[u8], _: bool) -> Result<(), StoreFault> {
-        Err(StoreFault)
+        Err(StoreFault::NotWritten)
     }
 
     fn flush(&mut self, _: &mut Mirror<D>) -> Result<(), StoreFault> {
+        Ok(())
+    }
+
+    fn rest(&mut self, _: &mut Mirror<D>) -> Result<(), StoreFault> {
         Ok(())
     }
 }

@@ -1,14 +1,16 @@
 // The command that reads an array.
-ghost use Rattle.std.specs.Prelude.{◌≡◌, ◌+◌, ◌^◌, ◌<◌, IfOk, MatchOption, MatchResult, [], false, true};
+ghost use Rattle.std.specs.Prelude.{◌≡◌, ◌+◌, ◌^◌, ◌<◌, IfOk, MatchOption, MatchResult, Some, [], false, true};
 ghost use Rattle.md_inflight.specs.Requests.Pending.{PendingView};
 ghost use Rattle.md_state.specs.Requests.{IsPending};
 ghost use Rattle.md_array.specs.Consistency.{IsConsistent};
 ghost use Rattle.md_read_commands.specs.Filling.{FillsArray, IsFirstGap, IsLeastOf, ReadsFilled, RefusesToFill, has_put_all};
-ghost use Rattle.md_read_commands.specs.Gaps.{HasNoGaps};
+ghost use Rattle.md_read_commands.specs.Gaps.{AreTold, HasNoGaps};
+ghost use Rattle.md_read_commands.specs.declared.gaps.Gaps.{Gaps as GapsView};
 ghost use Rattle.md_read_commands.specs.Reading.{IsReadyTo, MayReadArray, ReadsArray, ReadsReadonly, RefusesRange, RefusesReadonly, RefusesReady, RefusesToRead};
 ghost use Rattle.md_read_commands.specs.Ways.{MayReadBy};
 
-use crate::filling::put_filled;
+use crate::fill_watch::FillWatch;
+use crate::filling::{Sectors, put_filled};
 use crate::gaps::Gaps;
 use crate::pieces::put_sectors;
 use crate::way::Way;
@@ -88,24 +90,30 @@ pub fn read_array_readonly<D: Device + Drop, S: Sink>(
 /// `NoPieceMemory` may also come after some were put out: each run of such sectors takes memory. There and at `OutputFault`
 /// those of the last piece come back too, though not all of it was put out.
 ///
+/// The watch is told of each such sector before anything is put out in its place.
+///
 ///     let mut out = Output::new(rt.stdout());
-///     let (gaps, done) = read_array_filled(rt.alloc(), &mut mirror, 8, 2, true, &mut out); // puts out 1024 bytes
-pub fn read_array_filled<D: Device + Drop, S: Sink>(
+///     let (gaps, done) = read_array_filled(rt.alloc(), &mut mirror, 8, 2, true, &watch, &mut out); // puts out 1024 bytes
+pub fn read_array_filled<D: Device + Drop, W: FillWatch, S: Sink>(
     alloc: Global,
     mirror: &mut Mirror<D>,
     sector: u64,
     count: u64,
     readonly: bool,
+    watch: &W,
     out: &mut S,
 ) -> (Option<Gaps>, Result<(), CommandFault>)
     requires sound { IsConsistent mirror.old }
     ensures gives { ReadsFilled S.Sink readonly sector count mirror.old mirror.new
         out.old out.new result.0 result.1 }
+    ensures told { (gaps : GapsView) → result.0 ≡ Some gaps
+        → AreTold (W.misses watch.now) (W.takes watch.now) gaps }
     ensures sound { IsConsistent mirror.new }
     ensures pending { (p : PendingView) → IsPending mirror.old.array p → IsPending mirror.new.array p }
 {
     let mut gaps = Gaps::none(alloc);
-    match fill_array(alloc, mirror, sector, count, readonly, &mut gaps, out) {
+    let sectors = Sectors { sector, count };
+    match fill_array(alloc, mirror, sectors, readonly, &mut gaps, watch, out) {
         Ok(()) => (Some(gaps), Ok(())),
         Err(CommandFault::Read(UnreadFault::Unreadable(s))) => {
             let fault = CommandFault::Read(UnreadFault::Unreadable(s));
@@ -128,31 +136,34 @@ pub fn has_put_all(answer: &Result<(), CommandFault>) -> bool
 }
 
 // Puts out sectors, and fills those that are not given. Which these are is noted, also where not all sectors are put out.
-fn fill_array<D: Device + Drop, S: Sink>(
+fn fill_array<D: Device + Drop, W: FillWatch, S: Sink>(
     alloc: Global,
     mirror: &mut Mirror<D>,
-    sector: u64,
-    count: u64,
+    sectors: Sectors,
     readonly: bool,
     gaps: &mut Gaps,
+    watch: &W,
     out: &mut S,
 ) -> Result<(), CommandFault>
     requires none { HasNoGaps gaps.old }
     requires sound { IsConsistent mirror.old }
     ensures gives { MatchResult result
-        (λ _. FillsArray S.Sink readonly sector count gaps.new mirror.old mirror.new out.old out.new)
-        (RefusesToFill S.Sink readonly sector count gaps.new mirror.old mirror.new out.old out.new) }
+        (λ _. FillsArray S.Sink readonly sectors.sector sectors.count gaps.new mirror.old mirror.new
+        out.old out.new)
+        (RefusesToFill S.Sink readonly sectors.sector sectors.count gaps.new mirror.old mirror.new
+        out.old out.new) }
+    ensures told { AreTold (W.misses watch.now) (W.takes watch.now) gaps.new }
     ensures sound { IsConsistent mirror.new }
     ensures pending { (p : PendingView) → IsPending mirror.old.array p → IsPending mirror.new.array p }
 {
-    let way = ready(alloc, mirror, sector, count, readonly)?;
-    put_filled(alloc, mirror, way, sector, count, gaps, out)?;
+    let way = ready(alloc, mirror, sectors.sector, sectors.count, readonly)?;
+    put_filled(alloc, mirror, way, sectors, gaps, watch, out)?;
     first_gap(gaps).map_err(CommandFault::Read)?;
     Ok(())
 }
 
 /// Says which sector is the first that was not given, if one was not.
-pub(crate) fn first_gap(gaps: &Gaps) -> Result<(), UnreadFault>
+pub fn first_gap(gaps: &Gaps) -> Result<(), UnreadFault>
     ensures { MatchResult result (λ _. HasNoGaps gaps.now) (IsFirstGap gaps.now) }
 {
     match (first_of(&gaps.missing), first_of(&gaps.others)) {

@@ -14,7 +14,7 @@ use md_array::Mirror;
 use md_commands::{CommandFault, Source};
 use md_device::Device;
 use md_examine::Sink;
-use md_nbd::{Export, MOST_BYTES, SessionFault, serve_client};
+use md_nbd::{ClientWatch, Export, MOST_BYTES, SessionFault, serve_client};
 use std::alloc::Global;
 
 // The room for requests at first, in sectors: what a client's options need, and the requests of most clients.
@@ -26,7 +26,8 @@ const MOST_SECTORS: usize = MOST_BYTES as usize / 512;
 /// Serves an array to a client of the NBD protocol until it goes, and writes nothing. Its sectors are those that
 /// `read_array_readonly` puts out. A request of which a sector is not given is answered with EIO, and no other is; or, with
 /// `fill`, with what another member has, or zeros, in the place of such sectors, as `read_array_filled` has them: they come back. They
-/// take memory, and where there is none the answer is EIO.
+/// take memory, and where there is none the answer is EIO. The watch is told of each request that is
+/// answered with an error.
 ///
 /// That the mirror is halted, or members in sync may differ, is looked for before memory for requests is taken, which is 1 MiB, with
 /// `fill` 2 MiB more, and that before the client is greeted. It grows with a client's requests, to 32 MiB at most.
@@ -34,10 +35,11 @@ const MOST_SECTORS: usize = MOST_BYTES as usize / 512;
 /// `InputFault` says that the input failed, or that the client did not go between two messages, `OutputFault` that the output
 /// failed. `Read` with `Unreadable` says that sectors were filled so, and which was the first of them: the client has gone in order
 /// then.
-pub fn serve_array<D: Device + Drop, I: Source, S: Sink>(
+pub fn serve_array<D: Device + Drop, W: ClientWatch, I: Source, S: Sink>(
     alloc: Global,
     mirror: &mut Mirror<D>,
     fill: bool,
+    watch: &W,
     input: &mut I,
     out: &mut S,
 ) -> (Gaps, Result<(), CommandFault>)
@@ -51,7 +53,7 @@ pub fn serve_array<D: Device + Drop, I: Source, S: Sink>(
 {
     match begin(alloc, mirror, fill) {
         Ok((mut reader, mut room)) => {
-            let served = serve(alloc, mirror, &mut reader, &mut room, input, out);
+            let served = serve(alloc, mirror, &mut reader, watch, &mut room, input, out);
             (reader.gaps, served)
         }
         Err(fault) => (Gaps::none(alloc), Err(fault)),
@@ -86,10 +88,11 @@ fn begin<D: Device + Drop>(
 }
 
 // Serves a client.
-fn serve<D: Device + Drop, I: Source, S: Sink>(
+fn serve<D: Device + Drop, W: ClientWatch, I: Source, S: Sink>(
     alloc: Global,
     mirror: &mut Mirror<D>,
     reader: &mut ArrayReader,
+    watch: &W,
     room: &mut Vec<u8>,
     input: &mut I,
     out: &mut S,
@@ -106,7 +109,7 @@ fn serve<D: Device + Drop, I: Source, S: Sink>(
         size: 512 * mirror.chunks().size,
         readonly: true,
     };
-    match serve_client(alloc, &export, reader, mirror, room, input, out) {
+    match serve_client(alloc, &export, reader, mirror, watch, room, input, out) {
         Ok(end) if end.is_orderly() => {}
         Ok(_) => return Err(CommandFault::InputFault),
         Err(SessionFault::Source) => return Err(CommandFault::InputFault),

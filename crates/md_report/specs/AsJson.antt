@@ -10,6 +10,8 @@ pub mod BadblocksObject
 pub mod MemberObjects
 -- The lists of a report in detail.
 pub mod StandingLists
+-- How far recovering members are rebuilt.
+pub mod RecoveringList
 -- The objects of a whole array.
 pub mod ArrayObjects
 -- The object of a check.

@@ -10,5 +10,7 @@ pub mod PlanReport
 pub mod RebuiltReport
 -- The report of a check, as text, in a form of this project's own.
 pub mod CheckReport
+-- How far recovering members are rebuilt, as text, in a form of this project's own.
+pub mod Recovery
 -- Reports as JSON.
 pub mod AsJson

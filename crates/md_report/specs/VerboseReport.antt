@@ -1,5 +1,5 @@
--- The report of an array with the images of its members, as text: as without them, but for a line over those of the members, and
--- the image at the end of each of these.
+-- The report of an array with the images of its members, as text: as without them, but for a line for each recovering member, a line
+-- over those of the members, and the image at the end of each of these.
 use Rattle.std.specs.Prelude.{ℕ, ◌+◌, Bool, List, [], ◌∷◌, ◌++◌, codes, decimal, unwrap_or}
 use Rattle.std.specs.List.{slice_get}
 use Rattle.md_assembly.specs.declared.state.MemberState.{MemberState}
@@ -10,6 +10,7 @@ use Rattle.md_state.specs.Missing.{is_re_added}
 use Rattle.md_state.specs.View.{ArrayView}
 use Rattle.md_examine.specs.ShownNames.Shown.{shown}
 use Rattle.md_report.specs.DetailReport.{condition_lines, place_text, role_text_or_dash, shared_lines, standing_text, text_where}
+use Rattle.md_report.specs.Recovery.{recovery_lines}
 
 -- the line over those of the members
 abbrev pub over_members_text : List ℕ
@@ -39,4 +40,4 @@ named_lines a images index (m ∷ ms) =
 -- the whole report
 unfoldable pub verbose_text : ArrayView → List (List ℕ) → List ℕ
 verbose_text a images =
-    shared_lines a.shared ++ condition_lines a ++ over_members_text ++ named_lines a images 0 a.members
+    shared_lines a.shared ++ condition_lines a ++ recovery_lines a ++ over_members_text ++ named_lines a images 0 a.members

@@ -17,6 +17,7 @@ mod detail_report;
 mod member_lines;
 mod plan_lines;
 mod rebuilt_lines;
+mod recovery;
 mod summary_report;
 mod verbose_report;
 
@@ -28,5 +29,6 @@ pub use check_line::{check_list_report, check_report};
 pub use detail_report::detail;
 pub use plan_lines::plan_report;
 pub use rebuilt_lines::{rebuilt_line_report, rebuilt_report};
+pub use recovery::Recovery;
 pub use summary_report::{members_in_sync, summary};
 pub use verbose_report::verbose_detail;

@@ -8,14 +8,15 @@ ghost use Rattle.md_report.specs.AsJson.MemberObjects.{texts_of};
 use crate::as_json::member_objects::image_at;
 use crate::detail_report::{condition, shared_lines};
 use crate::member_lines::{flag, number, role, standing};
+use crate::recovery::recovery_lines;
 use md_array::Mirror;
 use md_assembly::MemberState;
 use md_device::Device;
 use md_examine::{Sink, SinkFault, put_name};
 use md_kept_members::is_write_mostly;
 
-/// Writes the report of an array, as `detail` does, with a line over those of the members, of which `images` are the names, and
-/// with the name of its image at the end of each of these. It takes no memory, and fails only where the sink has failed.
+/// Writes the report of an array, as `detail` does, with a line for each recovering member that says how far it is, a line over
+/// those of the members, of which `images` are the names, and the name of its image at the end of each of these. It takes no memory, and fails only where the sink has failed.
 pub fn verbose_detail<S: Sink, D: Device + Drop>(
     out: &mut S,
     mirror: &Mirror<D>,
@@ -26,6 +27,7 @@ pub fn verbose_detail<S: Sink, D: Device + Drop>(
 {
     shared_lines(out, mirror.shared())?;
     condition(out, mirror)?;
+    recovery_lines(out, mirror)?;
     out.put(b" Index Number   Role State  Image\n")?;
     named_lines(out, mirror, images)?;
     Ok(())

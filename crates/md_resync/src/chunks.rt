@@ -68,12 +68,15 @@ fn end_of_marked<D: Device + Drop>(mirror: &Mirror<D>, chunk: u32, most: u64) ->
     chunks.count()
 }
 
-// Copies the run that begins at this sector, also across the end of its chunk. Answers no end where it does not go
-// farther than the chunk, and where it could not be read: then nothing is copied.
+// Copies the run that begins at this sector, as far as marked chunks lie together. It may end within its own chunk,
+// where another member gives the next sector. Answers no end, and copies nothing, where there is no chunk to join, where
+// this one is to be copied alone, and where the run could not be read. Chunks below `alone` are copied alone: a run of
+// them could not be read, and each read of a bad sector may take a disk a minute.
 fn copy_across<D: Device + Drop>(
     mirror: &mut Mirror<D>,
     chunk: u32,
     sector: u64,
+    alone: &mut u32,
     buffer: &mut [u8],
     held: &mut [u8],
 ) -> Result<Option<u64>, ResyncFault>
@@ -88,6 +91,9 @@ fn copy_across<D: Device + Drop>(
         (λ next. MatchOption next (IsUncrossed mirror.old mirror.new) (λ next. CopiesFrom sector next mirror.old mirror.new))
         (GivingFails mirror.old mirror.new) }
 {
+    if chunk < *alone {
+        return Ok(None);
+    }
     let behind = end_of_marked(mirror, chunk, buffer.len() as u64 / 512);
     if behind == chunk + 1 {
         return Ok(None);
@@ -95,16 +101,20 @@ fn copy_across<D: Device + Drop>(
     let (start, sectors) = mirror.chunks().range(behind - 1);
     match copy_run(mirror, sector, start + sectors, buffer, held)? {
         Run::Copied(next) => Ok(Some(next)),
-        Run::Unread(_) => Ok(None),
+        Run::Unread(_) => {
+            *alone = behind;
+            Ok(None)
+        }
     }
 }
 
 // Copies the run that begins at this sector of a marked chunk. What can't be read together with further chunks is read
-// by itself, so that a fault names a chunk of which a read failed.
+// chunk by chunk, so that a fault names a chunk of which a read failed.
 fn copy_next<D: Device + Drop>(
     mirror: &mut Mirror<D>,
     chunk: u32,
     sector: u64,
+    alone: &mut u32,
     buffer: &mut [u8],
     held: &mut [u8],
 ) -> Result<u64, ResyncFault>
@@ -117,7 +127,7 @@ fn copy_next<D: Device + Drop>(
     requires may { MayCopyMarked mirror.old.array }
     ensures { MatchResult result (λ next. CopiesFrom sector next mirror.old mirror.new) (CopyingFails (IsMarkedFrom mirror.old.array sector) mirror.old mirror.new) }
 {
-    if let Some(next) = copy_across(mirror, chunk, sector, buffer, held)? {
+    if let Some(next) = copy_across(mirror, chunk, sector, alone, buffer, held)? {
         return Ok(next);
     }
     let (start, sectors) = mirror.chunks().range(chunk);
@@ -132,6 +142,7 @@ fn copy_next<D: Device + Drop>(
 fn copy_if_marked<D: Device + Drop>(
     mirror: &mut Mirror<D>,
     sector: u64,
+    alone: &mut u32,
     buffer: &mut [u8],
     held: &mut [u8],
 ) -> Result<u64, ResyncFault>
@@ -148,7 +159,7 @@ fn copy_if_marked<D: Device + Drop>(
         let (start, sectors) = chunks.range(chunk);
         return Ok(start + sectors);
     }
-    copy_next(mirror, chunk, sector, buffer, held)
+    copy_next(mirror, chunk, sector, alone, buffer, held)
 }
 
 /// Copies each chunk that is marked, where they lie together several at once. Takes no memory.
@@ -165,8 +176,9 @@ pub(crate) fn copy_marked<D: Device + Drop>(
 {
     let size = mirror.chunks().size;
     let mut sector = 0;
+    let mut alone = 0;
     while sector < size {
-        sector = copy_if_marked(mirror, sector, buffer, held)?;
+        sector = copy_if_marked(mirror, sector, &mut alone, buffer, held)?;
     }
     Ok(())
 }

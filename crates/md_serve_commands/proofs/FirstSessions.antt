@@ -1,5 +1,6 @@
 -- A new array that is resynced has a life in which sessions are told of.
-use Rattle.std.proofs.Common.{◌≡◌, ◌∙◌, inl, false, List, [], ◌∷◌, ◌++◌, refl, sym, ap, subst}
+use Rattle.std.proofs.Common.{◌≡◌, ◌∙◌, inl, true≢false, false, List, [], ◌∷◌, ◌++◌, refl, sym, ap, subst}
+use Rattle.std.proofs.lemmas.List.{append-nil}
 use Rattle.md_model.specs.Content.{Content}
 use Rattle.md_model.specs.Events.{Event}
 use Rattle.md_state.specs.View.{ArrayView, Disk, MirrorView, geometry_of}
@@ -16,7 +17,9 @@ use Rattle.md_nbd.specs.declared.export.Export.{Export}
 use Rattle.md_nbd.specs.declared.task.Task.{Task}
 use Rattle.md_nbd.specs.declared.task.Task.TheVariants as task
 use Rattle.md_nbd.specs.NbdTasks.{task_of}
-use Rattle.md_nbd.specs.Server.Exchanges.{DoesTask, Exchange}
+use Rattle.md_nbd.specs.SimpleReplies.{success_reply}
+use Rattle.md_nbd.specs.declared.server.refusal.RequestFault.{RequestFault}
+use Rattle.md_nbd.specs.Server.Exchanges.{AnswersFor, DoesTask, Exchange, IsWhyOf}
 use Rattle.md_serve_commands.specs.declared.writer.ArrayWriter.{ArrayWriter}
 use Rattle.md_serve_commands.specs.Waiting.{writer_store}
 use Rattle.md_serve_commands.specs.Calls.{AreNone}
@@ -86,9 +89,17 @@ module _ (new : MirrorView) (running : new.array.halted ≡ false) (none : AreNo
   done_so : Flushes (task_of e x.request)
   done_so = subst Flushes (sym flush.flush) as_flush
 
+  abbrev is_why : RequestFault → Type 0
+  is_why = IsWhyOf writer_store e x.request (task_of e x.request) x.payload (w, new) (w, new)
+
+  unrefused : AnswersFor is_why x.request.cookie x.reply x.fault
+  unrefused =
+      let told : x.reply ≡ success_reply x.request.cookie ++ [] = flush.told ∙ sym (append-nil (success_reply x.request.cookie)) in
+      subst (AnswersFor is_why x.request.cookie x.reply) (sym flush.unrefused) ([], told)
+
   flushed_alone : MayBeFlushed new none e w x
   flushed_alone = record {
-    answers = ((w, new), record { payload = flush.whole; does = done_so.0 }, refl);
+    answers = ((w, new), record { payload = flush.whole; does = done_so.0; rested = λ is. absurd (true≢false (sym is ∙ flush.asked)); why = λ _. unrefused }, refl);
     stands = (subst IsToStand (sym flush.flush) tt, flush.told);
     whole = (done_so.1, tt);
   }

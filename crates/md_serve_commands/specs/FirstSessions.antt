@@ -1,5 +1,5 @@
 -- What the laws of sessions ask can be met: at a new array that is resynced, with a client that flushes.
-use Rattle.std.specs.Prelude.{◌≡◌, true, false, List, [], ◌∷◌, length}
+use Rattle.std.specs.Prelude.{◌≡◌, true, false, None, List, [], ◌∷◌, length}
 use Rattle.md_model.specs.Content.{Content, Holds}
 use Rattle.md_model.specs.Events.{Event}
 use Rattle.md_state.specs.View.{Disk, MirrorView, geometry_of}
@@ -33,11 +33,13 @@ pub record HasComeTo (before : List Disk) (m new : MirrorView) : Type 0 where
   pub none : AreNone none_in_flight
   pub resynced : new.array.resynced ≡ true
 
--- The request is a flush, which came whole and was answered without an error.
+-- The request is a flush, which came whole and was answered without an error, and not refused.
 pub record IsFlushDone (e : Export) (x : Exchange) : Type 0 where
+  pub asked : x.at_rest ≡ false
   pub flush : task_of e x.request ≡ Flush
   pub whole : length x.payload ≡ payload_of x.request
   pub told : x.reply ≡ success_reply x.request.cookie
+  pub unrefused : x.fault ≡ None
 
 -- Where nothing waits, a session may be such a request alone, after which all is to stand.
 pub record MayBeFlushed (new : MirrorView) (none : AreNone none_in_flight) (e : Export) (w : ArrayWriter)

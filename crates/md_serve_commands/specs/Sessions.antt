@@ -372,7 +372,8 @@ module _ {I S : Type 0} (i : Sources I) (o : Sinks S) (first last : ArrayWriter)
   untold mid at before (inr h) = h.last ∷ []
 
   -- The client got the export, and then the source gave these requests, which were done one after another, and the sink took their replies,
-  -- in this order and no other byte. At most one more was done, of which the source gave all and the output failed. Nothing else was done.
+  -- in this order and no other byte. At most one more was done, of which the source gave all and the output failed. Nothing else was done,
+  -- but that the array rested between them.
   pub record HasExchanged : Type 0 where
     pub ready : I
     pub greeted : S

@@ -3,6 +3,7 @@
 use Rattle.std.specs.Prelude.{◌≡◌, ◌⊎◌, ℕ, ◌+◌, ◌*◌, ◌/◌, ◌%◌, ◌≤◌, Bool, true, false, List, [], ◌++◌, length}
 use Rattle.md_inflight.specs.Requests.Pending.{PendingView}
 use Rattle.md_faults.specs.declared.step_fault.BeginFault.{BeginFault}
+use Rattle.md_faults.specs.declared.step_fault.BeginFault.TheVariants as begin
 use Rattle.md_state.specs.Requests.{IsPending}
 use Rattle.md_state.specs.Trying.{RefusesHalted}
 use Rattle.md_state.specs.View.{MirrorView}
@@ -10,11 +11,14 @@ use Rattle.md_metadata.specs.declared.stop_fault.StopFault.{StopFault}
 use Rattle.md_metadata.specs.declared.stop_fault.StopFault.TheVariants as stop
 use Rattle.md_metadata.specs.Stopping.{RefusesStop, StopsMirror}
 use Rattle.md_read.specs.declared.fault.UnreadFault.{UnreadFault}
+use Rattle.md_read.specs.declared.fault.UnreadFault.TheVariants as unread
 use Rattle.md_read.specs.Reading.{Reads, RefusesRead}
 use Rattle.md_write.specs.Writing.{RefusesWrite, Writes}
 use Rattle.md_array.specs.Consistency.{IsConsistent}
 use Rattle.md_nbd.specs.Export.{sector_bytes}
 use Rattle.md_nbd.specs.declared.server.store.Store.{Ghosts as Stores}
+use Rattle.md_nbd.specs.declared.server.store.StoreFault.{StoreFault}
+use Rattle.md_nbd.specs.declared.server.store.StoreFault.TheVariants.{Halted, Lacks, NoMemory, NotRead, NotWritten}
 use Rattle.md_serve_commands.specs.declared.writer.ArrayWriter.{ArrayWriter}
 
 -- ---- what is done of the mirror
@@ -91,12 +95,28 @@ pub record RefusesWaiting (w : ArrayWriter) (old new : MirrorView) (fault : Begi
   pub refused : RefusesWrite w.start w.run.items old new fault
   pub pending : KeepsPending old new
 
+-- ---- what a client's server is told of a fault
+abbrev pub unwritten_fault : BeginFault → StoreFault
+unwritten_fault begin.Halted = Halted
+unwritten_fault begin.NoMemory = NoMemory
+unwritten_fault fault = NotWritten
+
+abbrev pub unread_fault : UnreadFault → StoreFault
+unread_fault unread.Halted = Halted
+unread_fault (unread.Unreadable sector) = Lacks sector
+unread_fault fault = NotRead
+
 module _ (p q : ArrayWriter × MirrorView) where
   -- What waited was not written, or not surely, and waits still.
   pub record FailsWaiting : Type 0 where
     pub fault : BeginFault
     pub refused : RefusesWaiting p.0 p.1 q.1 fault
     pub still : StillWaits p.0 q.0
+
+  -- What waited was not written for this reason, and waits still.
+  pub record FailsWaitingFor (why : StoreFault) : Type 0 where
+    pub fails : FailsWaiting
+    pub is : why ≡ unwritten_fault fails.fault
 
   -- Nothing was done, and what waited waits still.
   pub record LeavesAll : Type 0 where
@@ -130,6 +150,10 @@ module _ (p q : ArrayWriter × MirrorView) where
 
   abbrev pub FailsToRead : ℕ → ℕ → Type 0
   FailsToRead sector sectors = FailsWaiting ⊎ LacksSectors sector sectors
+
+  abbrev pub WhyUnread : ℕ → ℕ → StoreFault → Type 0
+  WhyUnread sector sectors why =
+      FailsWaitingFor why ⊎ ((h : LacksSectors sector sectors) × (why ≡ unread_fault h.refused.fault))
 
   -- ---- writes
   -- The bytes lie behind what waits, and wait with it.
@@ -170,6 +194,17 @@ module _ (p q : ArrayWriter × MirrorView) where
   abbrev pub FailsToTake : ℕ → List ℕ → Type 0
   FailsToTake sector bytes = LeavesAll ⊎ FailsWaiting ⊎ WritesNoMore ⊎ FailsBehind sector bytes
 
+  -- The mirror runs, but there is no memory for what is to wait.
+  pub record LacksMemory (why : StoreFault) : Type 0 where
+    pub running : p.1.array.halted ≡ false
+    pub left : LeavesAll ⊎ WritesNoMore
+    pub is : why ≡ NoMemory
+
+  abbrev pub WhyUntaken : ℕ → List ℕ → StoreFault → Type 0
+  WhyUntaken sector bytes why =
+      (LeavesHalted × (why ≡ Halted)) ⊎ LacksMemory why ⊎ FailsWaitingFor why
+      ⊎ ((h : FailsBehind sector bytes) × (why ≡ unwritten_fault h.refused.fault))
+
   -- ---- flushes
   -- What waited was written, and all stands. The marks of it are cleared, or kept for another flush.
   pub record FlushesAll : Type 0 where
@@ -178,6 +213,13 @@ module _ (p q : ArrayWriter × MirrorView) where
     pub waited : WritesWaiting p.0 p.1 mid
     pub none : q.0.run.items ≡ []
     pub marks : (q.1 ≡ mid) ⊎ ClearsMarks mid q.1
+
+  -- What waited was written, and all stands, as by a flush, but the marks of it are not kept.
+  pub record RestsAll : Type 0 where
+    pub mid : MirrorView
+    pub waited : WritesWaiting p.0 p.1 mid
+    pub none : q.0.run.items ≡ []
+    pub marks : ClearsMarks mid q.1
 
   pub record HaltsAtMarks : Type 0 where
     pub mid : MirrorView
@@ -188,6 +230,9 @@ module _ (p q : ArrayWriter × MirrorView) where
   abbrev pub FailsToFlush : Type 0
   FailsToFlush = LeavesHalted ⊎ FailsWaiting ⊎ HaltsAtMarks
 
+  abbrev pub WhyUnflushed : StoreFault → Type 0
+  WhyUnflushed why = (LeavesHalted × (why ≡ Halted)) ⊎ FailsWaitingFor why ⊎ (HaltsAtMarks × (why ≡ Halted))
+
 -- ---- the array as a store
 abbrev pub writer_store : Stores ArrayWriter MirrorView
 writer_store = record {
@@ -195,8 +240,12 @@ writer_store = record {
   sectors = λ p. p.0.sectors;
   reads = λ p q sector bytes. ReadsBehind p q sector bytes;
   unread = λ p q sector sectors. FailsToRead p q sector sectors;
+  why_unread = λ p q sector sectors why. WhyUnread p q sector sectors why;
   writes = λ p q sector bytes through. TakesWrite p q sector bytes through;
   unwritten = λ p q sector bytes. FailsToTake p q sector bytes;
+  why_unwritten = λ p q sector bytes why. WhyUntaken p q sector bytes why;
   flushes = λ p q. FlushesAll p q;
   unflushed = λ p q. FailsToFlush p q;
+  why_unflushed = λ p q why. WhyUnflushed p q why;
+  rests = λ p q. RestsAll p q;
 }

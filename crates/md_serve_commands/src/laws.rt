@@ -29,7 +29,8 @@ pub fn every_session()
 /// Whatever comes of a session, of any source and any sink, is a list of requests that were done, one after another. The source gave
 /// them once the client had the export, and the sink took their replies in this order and no other byte, unless it failed; but for the
 /// last, perhaps, of which nobody was told, as the output failed. Or no request was taken, and nothing was done. So the other laws speak
-/// of it, wherever the source ends or a stream fails.
+/// of it, wherever the source ends or a stream fails. Where the client was silent for long a rest stands in the list, as a flush for
+/// which no byte came, and of which nobody was told.
 pub fn session_exchanges<I: Source, S: Sink>()
     ensures { SessionsAreExchanges I.Source S.Sink }
 {}

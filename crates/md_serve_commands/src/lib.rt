@@ -5,7 +5,7 @@
 //! Start with `serve_writable` in `writable.rt`. `ArrayWriter` in `writer.rt` is the array as `md_nbd`'s store of sectors.
 //!
 //! ```
-//! serve_writable(alloc, &mut mirror, &mut input, &mut out)?;
+//! serve_writable(alloc, &mut mirror, &watch, &mut input, &mut out)?;
 //! ```
 #![tactic(auto)]
 

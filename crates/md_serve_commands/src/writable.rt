@@ -12,7 +12,7 @@ use md_commands::{CommandFault, Source, resync_if_needed};
 use md_device::Device;
 use md_examine::Sink;
 use md_metadata::stop;
-use md_nbd::{Export, SessionFault, serve_client};
+use md_nbd::{ClientWatch, Export, SessionFault, serve_client};
 use md_read::UnreadFault;
 use std::alloc::{AllocError, Global};
 
@@ -24,8 +24,10 @@ const LEAST_ROOM: usize = 0x100000;
 ///
 /// Writes that lie together wait in memory, 16 MiB at most, and are written at once: on a flush, before a read and before any other
 /// write, where one asks for it (FUA), and at the end. Bytes that were written are on stable storage of each member in sync. A flush
-/// clears the marks now and then, as far as `stop` does. A request that is not done is answered with EIO, and the session goes on;
-/// what waits then waits still. Once the mirror is halted no request is done any more.
+/// clears the marks now and then, as far as `stop` does, and so does a rest: where the watch says that the client was silent before a
+/// request, what waits is written and the marks are cleared first. A request that is not done is answered with EIO, and the session goes on;
+/// what waits then waits still. Once the mirror is halted no request is done any more. The watch is told of each request that is answered
+/// with an error.
 ///
 /// That the mirror is halted, or members in sync of an array that is not degraded may differ, is looked for before memory for
 /// requests is taken, 1 MiB, and for what waits, and that before the array is resynced. That of requests grows with them, to 32 MiB
@@ -37,10 +39,11 @@ const LEAST_ROOM: usize = 0x100000;
 ///
 ///     let mut input = Input::new(rt.stdin());
 ///     let mut out = Output::new(rt.stdout());
-///     serve_writable(rt.alloc(), &mut mirror, &mut input, &mut out)?;
-pub fn serve_writable<D: Device + Drop, I: Source, S: Sink>(
+///     serve_writable(rt.alloc(), &mut mirror, &watch, &mut input, &mut out)?;
+pub fn serve_writable<D: Device + Drop, W: ClientWatch, I: Source, S: Sink>(
     alloc: Global,
     mirror: &mut Mirror<D>,
+    watch: &W,
     input: &mut I,
     out: &mut S,
 ) -> Result<(), CommandFault>
@@ -53,7 +56,7 @@ pub fn serve_writable<D: Device + Drop, I: Source, S: Sink>(
 {
     let (mut room, run) = begin(alloc, mirror)?;
     let mut writer = ArrayWriter::new(run, mirror.chunks().size);
-    let served = serve(alloc, mirror, &mut writer, &mut room, input, out);
+    let served = serve(alloc, mirror, &mut writer, watch, &mut room, input, out);
     let late = writer.write_waiting(mirror);
     stop(mirror).map_err(CommandFault::Stop)?;
     late.map_err(CommandFault::Write)?;
@@ -120,10 +123,11 @@ fn check_may_serve<D: Device + Drop>(mirror: &Mirror<D>) -> Result<(), UnreadFau
 }
 
 // Serves a client.
-fn serve<D: Device + Drop, I: Source, S: Sink>(
+fn serve<D: Device + Drop, W: ClientWatch, I: Source, S: Sink>(
     alloc: Global,
     mirror: &mut Mirror<D>,
     writer: &mut ArrayWriter,
+    watch: &W,
     room: &mut Vec<u8>,
     input: &mut I,
     out: &mut S,
@@ -143,7 +147,7 @@ fn serve<D: Device + Drop, I: Source, S: Sink>(
         size: 512 * mirror.chunks().size,
         readonly: false,
     };
-    match serve_client(alloc, &export, writer, mirror, room, input, out) {
+    match serve_client(alloc, &export, writer, mirror, watch, room, input, out) {
         Ok(end) if end.is_orderly() => {}
         Ok(_) => return Err(CommandFault::InputFault),
         Err(SessionFault::Source) => return Err(CommandFault::InputFault),

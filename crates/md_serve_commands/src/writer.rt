@@ -1,16 +1,17 @@
 // An array as a store of sectors that are read and written.
-ghost use Rattle.std.specs.Prelude.{◌≡◌, [], ◌++◌, ◌*◌, ◌+◌, IfOk, MatchResult, OnErr, OnOk, length, true};
+ghost use Rattle.std.specs.Prelude.{◌≡◌, [], ◌++◌, ◌*◌, ◌+◌, IfErr, IfOk, MatchResult, OnErr, OnOk, length, true};
 ghost use Rattle.md_inflight.specs.Requests.Pending.{PendingView};
 ghost use Rattle.md_state.specs.Requests.{IsPending};
 ghost use Rattle.md_array.specs.Consistency.{IsConsistent};
 ghost use Rattle.md_nbd.specs.Export.{sector_bytes};
-ghost use Rattle.md_serve_commands.specs.Waiting.{ClearsMarks, FailsToClear, HasJoined, IsFreshWriter, RefusesWaiting, WritesWaiting, StillWaits, WaitsWithin};
+ghost use Rattle.md_nbd.specs.declared.server.store.StoreFault.TheVariants.{Halted as HaltedFault, NoMemory as NoMemoryFault};
+ghost use Rattle.md_serve_commands.specs.Waiting.{ClearsMarks, FailsToClear, FailsWaitingFor, HasJoined, IsFreshWriter, RefusesWaiting, WritesWaiting, StillWaits, WaitsWithin, unread_fault, unwritten_fault};
 
 use md_array::{BeginFault, Mirror};
 use md_device::Device;
 use md_metadata::{StopFault, stop};
 use md_nbd::{Store, StoreFault};
-use md_read::read;
+use md_read::{UnreadFault, read};
 use md_write::write;
 use std::alloc::{AllocError, Global};
 
@@ -74,12 +75,13 @@ impl ArrayWriter {
     fn join(&mut self, bytes: &[u8]) -> Result<(), StoreFault>
         ensures joined { OnOk result (HasJoined bytes.now self.old self.new) }
         ensures waits { OnErr result (StillWaits self.old self.new) }
+        ensures why { IfErr result (λ why. why ≡ NoMemoryFault) }
         ensures size { self.new.sectors ≡ self.old.sectors }
     {
         self.wrote = true;
         match self.run.extend_from_slice(bytes) {
             Ok(()) => Ok(()),
-            Err(AllocError) => Err(StoreFault),
+            Err(AllocError) => Err(StoreFault::NoMemory),
         }
     }
 
@@ -108,6 +110,25 @@ impl ArrayWriter {
         Ok(())
     }
 
+    // Writes what waits, before what a client asks for.
+    fn write_first<D: Device + Drop>(&mut self, mirror: &mut Mirror<D>) -> Result<(), StoreFault>
+        requires waits { WaitsWithin self.old }
+        requires sound { IsConsistent mirror.old }
+        ensures gives { MatchResult result
+            (λ _. WritesWaiting self.old mirror.old mirror.new)
+            (FailsWaitingFor (self.old, mirror.old) (self.new, mirror.new)) }
+        ensures none { OnOk result (self.new.run.items ≡ []) }
+        ensures still { OnErr result (StillWaits self.old self.new) }
+        ensures size { self.new.sectors ≡ self.old.sectors }
+        ensures start { self.new.start ≡ self.old.start }
+        ensures sound { IsConsistent mirror.new }
+    {
+        let Err(fault) = self.write_waiting(mirror) else {
+            return Ok(());
+        };
+        Err(unwritten(fault))
+    }
+
     // Whether a flush may leave the marks, which it notes then.
     fn keeps_marks(&mut self) -> bool
         ensures waits { StillWaits self.old self.new }
@@ -120,27 +141,50 @@ impl ArrayWriter {
     }
 }
 
+// Why what was to be written is not, or not surely.
+fn unwritten(fault: BeginFault) -> StoreFault
+    ensures { result ≡ unwritten_fault fault }
+{
+    match fault {
+        BeginFault::Halted => StoreFault::Halted,
+        BeginFault::NoMemory => StoreFault::NoMemory,
+        _ => StoreFault::NotWritten,
+    }
+}
+
+// Why sectors are not read.
+fn unread(fault: UnreadFault) -> StoreFault
+    ensures { result ≡ unread_fault fault }
+{
+    match fault {
+        UnreadFault::Halted => StoreFault::Halted,
+        UnreadFault::Unreadable(sector) => StoreFault::Lacks(sector),
+        _ => StoreFault::NotRead,
+    }
+}
+
 // Clears the marks of what was written, which stands. Where they aren't cleared it stands all the same, unless the mirror is halted.
 fn clear_marks<D: Device + Drop>(mirror: &mut Mirror<D>) -> Result<(), StoreFault>
     requires sound { IsConsistent mirror.old }
     ensures gives { MatchResult result
         (λ _. ClearsMarks mirror.old mirror.new)
         (λ _. FailsToClear mirror.old mirror.new) }
+    ensures why { IfErr result (λ why. why ≡ HaltedFault) }
     ensures sound { IsConsistent mirror.new }
 {
     if mirror.halted() {
-        return Err(StoreFault);
+        return Err(StoreFault::Halted);
     }
     match stop(mirror) {
         Ok(()) => Ok(()),
-        Err(StopFault::Halted) => Err(StoreFault),
+        Err(StopFault::Halted) => Err(StoreFault::Halted),
         Err(_) => Ok(()),
     }
 }
 
 impl<D: Device + Drop> Store<Mirror<D>> for ArrayWriter {
     ghost use Rattle.md_array.specs.Consistency.{IsConsistent};
-    ghost use Rattle.md_serve_commands.specs.Waiting.{FailsToFlush, FailsToRead, FailsToTake, FlushesAll, ReadsBehind, TakesWrite, WaitsWithin};
+    ghost use Rattle.md_serve_commands.specs.Waiting.{FailsToFlush, FailsToRead, FailsToTake, FlushesAll, ReadsBehind, RestsAll, TakesWrite, WaitsWithin, WhyUnflushed, WhyUnread, WhyUntaken};
 
     ghost is_sound = { λ p. IsConsistent p.1 × WaitsWithin p.0 };
 
@@ -150,13 +194,21 @@ impl<D: Device + Drop> Store<Mirror<D>> for ArrayWriter {
 
     ghost unread = { λ p q sector sectors. FailsToRead p q sector sectors };
 
+    ghost why_unread = { λ p q sector sectors why. WhyUnread p q sector sectors why };
+
     ghost writes = { λ p q sector bytes through. TakesWrite p q sector bytes through };
 
     ghost unwritten = { λ p q sector bytes. FailsToTake p q sector bytes };
 
+    ghost why_unwritten = { λ p q sector bytes why. WhyUntaken p q sector bytes why };
+
     ghost flushes = { λ p q. FlushesAll p q };
 
     ghost unflushed = { λ p q. FailsToFlush p q };
+
+    ghost why_unflushed = { λ p q why. WhyUnflushed p q why };
+
+    ghost rests = { λ p q. RestsAll p q };
 
     // What waits is written first.
     fn read(
@@ -165,14 +217,11 @@ impl<D: Device + Drop> Store<Mirror<D>> for ArrayWriter {
         sector: u64,
         buf: &mut [u8],
     ) -> Result<(), StoreFault> {
-        match self.write_waiting(lent) {
-            Ok(()) => {}
-            Err(_) => return Err(StoreFault),
-        }
-        match read(lent, sector, buf) {
-            Ok(()) => Ok(()),
-            Err(_) => Err(StoreFault),
-        }
+        self.write_first(lent)?;
+        let Err(fault) = read(lent, sector, buf) else {
+            return Ok(());
+        };
+        Err(unread(fault))
     }
 
     // Bytes that lie behind what waits wait with it; else that is written first.
@@ -184,21 +233,18 @@ impl<D: Device + Drop> Store<Mirror<D>> for ArrayWriter {
         through: bool,
     ) -> Result<(), StoreFault> {
         if lent.halted() {
-            return Err(StoreFault);
+            return Err(StoreFault::Halted);
         }
         if !through && self.is_followed(sector, bytes.len()) {
             return self.join(bytes);
         }
-        match self.write_waiting(lent) {
-            Ok(()) => {}
-            Err(_) => return Err(StoreFault),
-        }
+        self.write_first(lent)?;
         if through || bytes.len() > MOST_WAITING {
             self.wrote = true;
-            return match write(lent, sector, bytes) {
-                Ok(()) => Ok(()),
-                Err(_) => Err(StoreFault),
+            let Err(fault) = write(lent, sector, bytes) else {
+                return Ok(());
             };
+            return Err(unwritten(fault));
         }
         self.start = sector;
         self.join(bytes)
@@ -208,15 +254,23 @@ impl<D: Device + Drop> Store<Mirror<D>> for ArrayWriter {
     // each 64 that came after writes.
     fn flush(&mut self, lent: &mut Mirror<D>) -> Result<(), StoreFault> {
         if lent.halted() {
-            return Err(StoreFault);
+            return Err(StoreFault::Halted);
         }
-        match self.write_waiting(lent) {
-            Ok(()) => {}
-            Err(_) => return Err(StoreFault),
-        }
+        self.write_first(lent)?;
         if self.keeps_marks() {
             return Ok(());
         }
+        clear_marks(lent)
+    }
+
+    // As a flush that clears the marks.
+    fn rest(&mut self, lent: &mut Mirror<D>) -> Result<(), StoreFault> {
+        if lent.halted() {
+            return Err(StoreFault::Halted);
+        }
+        self.write_first(lent)?;
+        self.wrote = false;
+        self.kept = 0;
         clear_marks(lent)
     }
 }

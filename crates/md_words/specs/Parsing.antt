@@ -136,6 +136,14 @@ abbrev pub output_found : Option (Text × List Row) → Option Text
 output_found None = None
 output_found (Some p) = output_in p.1
 
+-- the kind of the bitmap that it names
+abbrev pub bitmap_in : List Row → Option Text
+bitmap_in rows = first_of (codes "bitmap") rows
+
+abbrev pub bitmap_found : Option (Text × List Row) → Option Text
+bitmap_found None = None
+bitmap_found (Some p) = bitmap_in p.1
+
 -- the place among images of the first of this name; 2^32 - 1 stands for all that are greater, at which no array has a member
 abbrev pub place_in : List Text → Text → Option ℕ
 place_in images name =
@@ -147,6 +155,14 @@ member_at images text = if fits_bits 32 text then Some (number_or_zero 32 text) 
 
 abbrev pub member_named : List Row → Option ℕ
 member_named rows = member_at (images_in rows) (text_in (codes "member") rows)
+
+-- whether a read that was interrupted is to go on
+abbrev pub resume_in : List Row → Bool
+resume_in rows = bytes_eq (text_in (codes "resume") rows) (codes "true")
+
+abbrev pub resume_found : Option (Text × List Row) → Bool
+resume_found None = false
+resume_found (Some p) = resume_in p.1
 
 -- whether nothing is to be asked
 abbrev pub run_in : List Row → Bool
@@ -242,6 +258,14 @@ map_out_word words = map_out_found (subcommand_of mdcli words)
 unfoldable pub output_word : List Text → Option Text
 output_word words = output_found (subcommand_of mdcli words)
 
+-- the kind of the bitmap that is named
+unfoldable pub bitmap_word : List Text → Option Text
+bitmap_word words = bitmap_found (subcommand_of mdcli words)
+
+-- whether the words ask that a read which was interrupted goes on
+unfoldable pub resumes : List Text → Bool
+resumes words = resume_found (subcommand_of mdcli words)
+
 -- whether the words ask that more is said of a refusal
 unfoldable pub is_verbose : List Text → Bool
 is_verbose words = verbose_found (subcommand_of mdcli words)
@@ -280,9 +304,14 @@ abbrev pub size_fault : Option (Text × List Row) → Kinds
 size_fault None = []
 size_fault (Some p) = if names_no_size p.1 then kind.ValueValidation ∷ [] else []
 
--- whether a map is to be made of a read that ends at what is not given
+-- whether a map is to be made of a read that ends at what is not given, and does not go on
 abbrev pub names_map_alone : List Row → Bool
-names_map_alone rows = is_some (map_out_in rows) && not (fill_in rows)
+names_map_alone rows = is_some (map_out_in rows) && not (fill_in rows) && not (resume_in rows)
+
+-- whether a read is to go on that changes images, or of which a file is not named
+abbrev pub resumes_alone : List Row → Bool
+resumes_alone rows =
+    resume_in rows && (not (readonly_in rows) || is_none (output_in rows) || is_none (map_out_in rows))
 
 -- whether what is only for reading is asked of an array that is served for writing
 abbrev pub has_maps : List Row → Bool
@@ -292,9 +321,15 @@ abbrev pub needs_readonly : Text → List Row → Bool
 needs_readonly name rows =
     bytes_eq name (codes "serve") && not (readonly_in rows) && (fill_in rows || has_maps rows)
 
+-- whether a bitmap is named for an array whose images may be changed; `grow` gives them one
+abbrev pub names_bitmap_alone : Text → List Row → Bool
+names_bitmap_alone name rows =
+    is_some (bitmap_in rows) && not (readonly_in rows) && not (bytes_eq name (codes "grow"))
+
 -- whether an option is named without one that it needs
 abbrev pub lacks_option : Text → List Row → Bool
-lacks_option name rows = names_map_alone rows || needs_readonly name rows
+lacks_option name rows =
+    names_map_alone rows || resumes_alone rows || names_bitmap_alone name rows || needs_readonly name rows
 
 abbrev pub option_fault : Option (Text × List Row) → Kinds
 option_fault None = []

@@ -68,9 +68,13 @@ examine_app name =
 abbrev pub scan_app : App
 scan_app = completed (with_readonly (with_json (new_app (codes "scan"))))
 
+-- A command that may be asked to look at an array as one that has a bitmap.
+abbrev pub with_bitmap_option : App → App
+with_bitmap_option a = with_rule a (value_rule (codes "bitmap"))
+
 -- A command that shows an array, the plan of a rebuild, or sectors, or compares the members.
 abbrev pub with_images : App → App
-with_images a = completed (with_map (with_readonly a))
+with_images a = completed (with_bitmap_option (with_map (with_readonly a)))
 
 abbrev pub array_app : Text → App
 array_app name = with_images (with_json (new_app name))
@@ -127,11 +131,13 @@ rebuild_app =
 abbrev pub with_sector : App → App
 with_sector a = with_rule a (required (value_rule (codes "sector")))
 
--- options for sectors that nobody gives, and for where the others go
+-- options for sectors that nobody gives, and for where the others go, also after an interruption
 abbrev pub with_fill : App → App
 with_fill a =
-    with_rule (with_rule (with_rule a (flag_rule (codes "fill"))) (value_rule (codes "map-out")))
-    (value_rule (codes "output"))
+    with_rule
+    (with_rule (with_rule (with_rule a (flag_rule (codes "fill"))) (value_rule (codes "map-out")))
+    (value_rule (codes "output")))
+    (flag_rule (codes "resume"))
 
 abbrev pub read_app : App
 read_app =

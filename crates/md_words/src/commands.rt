@@ -170,7 +170,7 @@ const FILL_SERVED: OptionWords = OptionWords {
 const MAP_OUT: OptionWords = OptionWords {
     name: "map-out",
     value: "FILE",
-    help: "With --fill: makes a new file, ddrescue's map of the array as far as it is read",
+    help: "With --fill or --resume: makes a file, ddrescue's map of the array as far as it is read",
     kind: Kind::Text,
     required: false,
     default: None,
@@ -179,8 +179,17 @@ const MAP_OUT: OptionWords = OptionWords {
 const OUTPUT: OptionWords = OptionWords {
     name: "output",
     value: "FILE",
-    help: "Makes a new file of the sectors, and writes nothing to standard output; blocks of zeros are holes in it",
+    help: "Makes a file of the sectors, a new one without --resume, and writes nothing to standard output; blocks of zeros are holes in it",
     kind: Kind::Text,
+    required: false,
+    default: None,
+};
+
+const RESUME: OptionWords = OptionWords {
+    name: "resume",
+    value: "",
+    help: "With --readonly, --output and --map-out: goes on with the files of a read that was interrupted, or begins one",
+    kind: Kind::Flag,
     required: false,
     default: None,
 };
@@ -236,6 +245,15 @@ const BITMAP: OptionWords = OptionWords {
     help: "The bitmap that the members get: one on each of them",
     kind: Kind::Text,
     required: true,
+    default: None,
+};
+
+const BITMAP_IN_MEMORY: OptionWords = OptionWords {
+    name: "bitmap",
+    value: "internal",
+    help: "With --readonly: reads an array without a bitmap as if `grow` had given it one, in memory alone",
+    kind: Kind::Text,
+    required: false,
     default: None,
 };
 
@@ -360,19 +378,19 @@ pub(crate) const ARRAY_COMMANDS: [CommandWords; 5] = [
         name: "assemble",
         about: "Shows in a line what array the images make; may store marks",
         after_help: help::ARRAY,
-        options: &[JSON, READONLY, MAP],
+        options: &[JSON, READONLY, MAP, BITMAP_IN_MEMORY],
     },
     CommandWords {
         name: "detail",
         about: "Shows the array that the images make; may store marks",
         after_help: help::DETAIL,
-        options: &[JSON, READONLY, MAP],
+        options: &[JSON, READONLY, MAP, BITMAP_IN_MEMORY],
     },
     CommandWords {
         name: "plan",
         about: "Shows the plan of a member's rebuild, in the fewest rounds; may store marks",
         after_help: help::PLAN,
-        options: &[MEMBER, JSON, READONLY, MAP],
+        options: &[MEMBER, JSON, READONLY, MAP, BITMAP_IN_MEMORY],
     },
 ];
 
@@ -382,13 +400,23 @@ pub(crate) const DATA_COMMANDS: [CommandWords; 6] = [
         name: "read",
         about: "Writes sectors of the array to standard output; may change images",
         after_help: help::READ,
-        options: &[SECTOR, COUNT, FILL, MAP_OUT, OUTPUT, READONLY, MAP],
+        options: &[
+            SECTOR,
+            COUNT,
+            FILL,
+            MAP_OUT,
+            OUTPUT,
+            RESUME,
+            READONLY,
+            MAP,
+            BITMAP_IN_MEMORY,
+        ],
     },
     CommandWords {
         name: "serve",
         about: "Serves the array as a network block device, and stops it",
         after_help: help::SERVE,
-        options: &[FILL_SERVED, ONLY_READ, MAP_SERVED],
+        options: &[FILL_SERVED, ONLY_READ, MAP_SERVED, BITMAP_IN_MEMORY],
     },
     CommandWords {
         name: "write",
@@ -400,7 +428,7 @@ pub(crate) const DATA_COMMANDS: [CommandWords; 6] = [
         name: "check",
         about: "Counts the chunks in which members in sync differ; may store marks",
         after_help: help::CHECK,
-        options: &[LIST, EXIT_CODE, JSON, READONLY, MAP],
+        options: &[LIST, EXIT_CODE, JSON, READONLY, MAP, BITMAP_IN_MEMORY],
     },
     CommandWords {
         name: "resync",

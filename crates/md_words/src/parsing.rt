@@ -4,7 +4,7 @@ ghost use Rattle.std.specs.Str.{bytes_eq};
 ghost use Rattle.clap.specs.Words.{FailsBy, fault_of, first_of, found_of, matched_of, raw_values, rows_of, subcommand_of, subcommand_rows_of};
 ghost use Rattle.md_words.specs.Words.{mdcli};
 ghost use Rattle.md_words.specs.Numbers.{number_or_zero};
-ghost use Rattle.md_words.specs.Parsing.{all_in, ask_found, ask_named, ask_to_change, asked, check_form_in, chunk_in, command_fault, count_in, detail_form_in, exit_code_in, fill_in, full_in, has_maps, image_form_in, image_words, images_found, is_no_size, is_verbose, json_in, lacks_option, list_in, map_out_found, map_out_in, map_out_word, map_words, maps_found, member_at, member_fault, member_in, member_named, names_map_alone, names_no_member, names_no_sectors, names_no_size, needs_readonly, option_fault, options_in, output_found, output_in, output_word, place_in, quiet_in, readonly_in, rebuild_form_in, run_found, run_in, runs, sector_in, sectors_or_zero, serve_in, size_fault, size_in, text_in, uuid_in, value_fault, verbose_found, verbose_in, words_fault};
+ghost use Rattle.md_words.specs.Parsing.{all_in, ask_found, ask_named, ask_to_change, asked, bitmap_found, bitmap_in, bitmap_word, check_form_in, chunk_in, command_fault, count_in, detail_form_in, exit_code_in, fill_in, full_in, has_maps, image_form_in, image_words, images_found, is_no_size, is_verbose, json_in, lacks_option, list_in, map_out_found, map_out_in, map_out_word, map_words, maps_found, member_at, member_fault, member_in, member_named, names_bitmap_alone, names_map_alone, names_no_member, names_no_sectors, names_no_size, needs_readonly, option_fault, options_in, output_found, output_in, output_word, place_in, quiet_in, readonly_in, rebuild_form_in, resume_found, resume_in, resumes, resumes_alone, run_found, run_in, runs, sector_in, sectors_or_zero, serve_in, size_fault, size_in, text_in, uuid_in, value_fault, verbose_found, verbose_in, words_fault};
 ghost use Rattle.md_words.specs.Asks.{ask_of, options_of};
 
 use crate::command::Command;
@@ -211,6 +211,20 @@ fn output_of<'a>(found: &ArgMatches<'a>) -> Option<&'a str>
     ensures { option_map (λ s. s.now) result ≡ output_in (rows_of (found_of found.now)) }
 {
     found.get_str("output")
+}
+
+// The kind of the bitmap that is named.
+fn bitmap_of<'a>(found: &ArgMatches<'a>) -> Option<&'a str>
+    ensures { option_map (λ s. s.now) result ≡ bitmap_in (rows_of (found_of found.now)) }
+{
+    found.get_str("bitmap")
+}
+
+// Whether a read that was interrupted is to go on.
+fn is_resume(found: &ArgMatches<'_>) -> bool
+    ensures { result ≡ resume_in (rows_of (found_of found.now)) }
+{
+    text_in(found, "resume") == "true"
 }
 
 // Whether nothing is to be asked.
@@ -426,6 +440,9 @@ fn request_of<'a>(alloc: Global, matches: &ArgMatches<'a>) -> Result<Request<'a>
         (λ r. option_map (λ s. s.now) r.map_out ≡ map_out_found (subcommand_rows_of matches.now)) }
     ensures output { IfOk result
         (λ r. option_map (λ s. s.now) r.output ≡ output_found (subcommand_rows_of matches.now)) }
+    ensures bitmap { IfOk result
+        (λ r. option_map (λ s. s.now) r.bitmap ≡ bitmap_found (subcommand_rows_of matches.now)) }
+    ensures resume { IfOk result (λ r. r.resume ≡ resume_found (subcommand_rows_of matches.now)) }
     ensures verbose { IfOk result (λ r. r.verbose ≡ verbose_found (subcommand_rows_of matches.now)) }
     ensures run { IfOk result (λ r. r.run ≡ run_found (subcommand_rows_of matches.now)) }
 {
@@ -438,6 +455,8 @@ fn request_of<'a>(alloc: Global, matches: &ArgMatches<'a>) -> Result<Request<'a>
             maps: Vec::new(alloc),
             map_out: None,
             output: None,
+            bitmap: None,
+            resume: false,
             verbose: false,
             run: false,
         });
@@ -450,6 +469,8 @@ fn request_of<'a>(alloc: Global, matches: &ArgMatches<'a>) -> Result<Request<'a>
         maps,
         map_out: map_out_of(found),
         output: output_of(found),
+        bitmap: bitmap_of(found),
+        resume: is_resume(found),
         verbose: is_verbose(found),
         run: is_run(found),
     })
@@ -562,7 +583,7 @@ fn check_values(alloc: Global, matches: &ArgMatches<'_>) -> Result<(), Error>
 fn names_map_alone(found: &ArgMatches<'_>) -> bool
     ensures { result ≡ names_map_alone (rows_of (found_of found.now)) }
 {
-    map_out_of(found).is_some() && !is_fill(found)
+    map_out_of(found).is_some() && !is_fill(found) && !is_resume(found)
 }
 
 // Whether maps of images are named.
@@ -579,11 +600,42 @@ fn needs_readonly(name: &str, found: &ArgMatches<'_>) -> bool
     name == "serve" && !is_readonly(found) && (is_fill(found) || has_maps(found))
 }
 
+// Whether a bitmap is named for an array whose images may be changed.
+fn names_bitmap_alone(name: &str, found: &ArgMatches<'_>) -> bool
+    ensures { result ≡ names_bitmap_alone name.now (rows_of (found_of found.now)) }
+{
+    bitmap_of(found).is_some() && !is_readonly(found) && name != "grow"
+}
+
+// Whether a read is to go on that changes images, or of which a file is not named.
+fn resumes_alone(found: &ArgMatches<'_>) -> bool
+    ensures { result ≡ resumes_alone (rows_of (found_of found.now)) }
+{
+    is_resume(found)
+        && (!is_readonly(found) || output_of(found).is_none() || map_out_of(found).is_none())
+}
+
 // Whether an option is named without one that it needs.
 fn lacks_option(name: &str, found: &ArgMatches<'_>) -> bool
     ensures { result ≡ lacks_option name.now (rows_of (found_of found.now)) }
 {
-    names_map_alone(found) || needs_readonly(name, found)
+    names_map_alone(found)
+        || resumes_alone(found)
+        || names_bitmap_alone(name, found)
+        || needs_readonly(name, found)
+}
+
+// What is said of the first that lacks one.
+fn option_message(name: &str, found: &ArgMatches<'_>) -> &'static str {
+    if names_map_alone(found) {
+        "the argument '--map-out <FILE>' requires '--fill' or '--resume'"
+    } else if resumes_alone(found) {
+        "the argument '--resume' requires '--readonly', '--output <FILE>' and '--map-out <FILE>'"
+    } else if names_bitmap_alone(name, found) {
+        "the argument '--bitmap <internal>' requires '--readonly'"
+    } else {
+        "the arguments '--fill' and '--map <IMAGE=FILE>' require '--readonly'"
+    }
 }
 
 // Refuses that, as the parser refuses an option without one that it requires.
@@ -596,13 +648,11 @@ fn check_options(alloc: Global, matches: &ArgMatches<'_>) -> Result<(), Error>
     if !lacks_option(name, found) {
         return Ok(());
     }
-    let message = if names_map_alone(found) {
-        "the argument '--map-out <FILE>' requires '--fill'"
-    } else {
-        "the arguments '--fill' and '--map <IMAGE=FILE>' require '--readonly'"
-    };
     let mut program = command_line(alloc)?;
-    Err(program.error(ErrorKind::MissingRequiredArgument, message)?)
+    Err(program.error(
+        ErrorKind::MissingRequiredArgument,
+        option_message(name, found),
+    )?)
 }
 
 // Refuses what the parser takes, and a command does not.
@@ -616,7 +666,7 @@ fn check_command(alloc: Global, matches: &ArgMatches<'_>) -> Result<(), Error>
 }
 
 /// What the words ask for, or why the words are not taken.
-#[tactic(auto, unfolding(crate::specs::Parsing::image_words, crate::specs::Parsing::map_words, crate::specs::Parsing::map_out_word, crate::specs::Parsing::output_word, crate::specs::Parsing::asked, crate::specs::Parsing::is_verbose, crate::specs::Parsing::runs, crate::specs::Parsing::words_fault))]
+#[tactic(auto, unfolding(crate::specs::Parsing::image_words, crate::specs::Parsing::map_words, crate::specs::Parsing::map_out_word, crate::specs::Parsing::output_word, crate::specs::Parsing::bitmap_word, crate::specs::Parsing::resumes, crate::specs::Parsing::asked, crate::specs::Parsing::is_verbose, crate::specs::Parsing::runs, crate::specs::Parsing::words_fault))]
 pub fn parse<'a>(alloc: Global, words: &'a [&'a str]) -> Result<Request<'a>, Error>
     ensures asks { IfOk result (λ r. ask_of r.command ≡ asked (map (λ s. s.now) words.entry.now)) }
     ensures images { IfOk result
@@ -627,6 +677,9 @@ pub fn parse<'a>(alloc: Global, words: &'a [&'a str]) -> Result<Request<'a>, Err
         (λ r. option_map (λ s. s.now) r.map_out ≡ map_out_word (map (λ s. s.now) words.entry.now)) }
     ensures output { IfOk result
         (λ r. option_map (λ s. s.now) r.output ≡ output_word (map (λ s. s.now) words.entry.now)) }
+    ensures bitmap { IfOk result
+        (λ r. option_map (λ s. s.now) r.bitmap ≡ bitmap_word (map (λ s. s.now) words.entry.now)) }
+    ensures resume { IfOk result (λ r. r.resume ≡ resumes (map (λ s. s.now) words.entry.now)) }
     ensures verbose { IfOk result (λ r. r.verbose ≡ is_verbose (map (λ s. s.now) words.entry.now)) }
     ensures run { IfOk result (λ r. r.run ≡ runs (map (λ s. s.now) words.entry.now)) }
     ensures fails { FailsBy (words_fault (map (λ s. s.now) words.entry.now)) result }

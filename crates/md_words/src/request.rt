@@ -12,6 +12,10 @@ pub struct Request<'a> {
     pub map_out: Option<&'a str>,
     /// The file that is to be made of what is put out.
     pub output: Option<&'a str>,
+    /// The kind of the bitmap that the members get; by a command that opens the array, only in memory, and where they have none.
+    pub bitmap: Option<&'a str>,
+    /// A read that was interrupted goes on, into the files that it made.
+    pub resume: bool,
     /// More is to be said of a refusal.
     pub verbose: bool,
     /// Nothing is to be asked.

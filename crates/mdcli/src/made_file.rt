@@ -1,5 +1,5 @@
 // A file that the program made itself.
-use std::fs::{self, File};
+use std::fs::{self, File, OpenOptions, TryLockError};
 use std::io::{self, ErrorKind};
 use std::os::unix::fs::{FileExt, MetadataExt};
 
@@ -15,6 +15,29 @@ impl MadeFile {
     pub fn make(rt: &HostRuntime, path: &str) -> io::Result<MadeFile> {
         let file = File::create_new(rt, path)?;
         Ok(MadeFile { file })
+    }
+
+    /// Opens one that was made before, to write it. The name, followed to no link's end, has to be that of a regular file.
+    pub fn open(rt: &HostRuntime, path: &str) -> io::Result<MadeFile> {
+        if !fs::symlink_metadata(rt, path)?.is_file() {
+            return Err(no_file());
+        }
+        let file = OpenOptions::new().read(true).write(true).open(rt, path)?;
+        let made = MadeFile { file };
+        made.lock()?;
+        if !made.file.metadata()?.is_file() || !made.has_name(rt, path)? {
+            return Err(no_file());
+        }
+        Ok(made)
+    }
+
+    /// Locks it against all others, as long as it is open. `WouldBlock` says that another has it.
+    pub fn lock(&self) -> io::Result<()> {
+        match self.file.try_lock() {
+            Ok(()) => Ok(()),
+            Err(TryLockError::WouldBlock) => Err(io::Error::from(ErrorKind::WouldBlock)),
+            Err(TryLockError::Error(error)) => Err(error),
+        }
     }
 
     pub fn file(&self) -> &File {
@@ -39,10 +62,14 @@ impl MadeFile {
         }
     }
 
-    // Whether the name, followed to no link's end, is that of this very file.
-    fn has_name(&self, rt: &HostRuntime, path: &str) -> io::Result<bool> {
+    /// Whether the name, followed to no link's end, is that of this very file.
+    pub fn has_name(&self, rt: &HostRuntime, path: &str) -> io::Result<bool> {
         let own = self.file.metadata()?;
         let named = fs::symlink_metadata(rt, path)?;
         Ok(named.dev() == own.dev() && named.ino() == own.ino())
     }
+}
+
+fn no_file() -> io::Error {
+    io::Error::new(ErrorKind::InvalidInput, "it is no regular file")
 }

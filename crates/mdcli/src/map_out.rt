@@ -2,11 +2,11 @@
 use crate::made_file::MadeFile;
 use md_badblocks::BadSet;
 use md_examine::{Sink, put_name};
-use md_masks::{MapOutFault, map_out_advice, write_map_of_read};
+use md_files::{MapOutFault, map_out_advice, write_map_of_read};
 use md_messages::Messages;
 use md_read_commands::Gaps;
 use md_words::{Command, Request};
-use std::io::{ErrorKind, Write};
+use std::io::{self, ErrorKind, Write};
 
 /// A file that a read makes: ddrescue's map of the array, up to the last sector that is read.
 #[derive(Clone, Copy)]
@@ -16,7 +16,7 @@ pub struct MapOut<'a> {
 }
 
 impl<'a> MapOut<'a> {
-    /// That of the words that were parsed, if they ask for one.
+    /// That of the words that were parsed, if they ask for one that is made at the end.
     pub fn of_parsed<E>(parsed: &Result<Request<'a>, E>) -> Option<MapOut<'a>> {
         let Ok(request) = parsed else {
             return None;
@@ -28,17 +28,16 @@ impl<'a> MapOut<'a> {
         let Command::Read { sector, .. } = request.command else {
             return None;
         };
+        if request.resume {
+            return None;
+        }
         let path = request.map_out?;
         Some(MapOut { path, sector })
     }
 
     // Makes the file, empty, before any image is opened to be changed. Nothing that is there is overwritten: it may be one of them.
     fn begin(&self, rt: &HostRuntime) -> Result<MadeFile, MapOutFault> {
-        match MadeFile::make(rt, self.path) {
-            Ok(file) => Ok(file),
-            Err(error) if error.kind() == ErrorKind::AlreadyExists => Err(MapOutFault::Exists),
-            Err(error) => Err(MapOutFault::Unwritten(error)),
-        }
+        MadeFile::make(rt, self.path).map_err(making_fault)
     }
 
     // Writes it once all sectors, so many, are put out, of which these are missing.
@@ -52,25 +51,47 @@ impl<'a> MapOut<'a> {
         let Ok(text) = write_map_of_read(rt.alloc(), self.sector, count, missing) else {
             return Err(MapOutFault::NoMemory);
         };
-        match file.write_whole(text.as_bytes()) {
-            Ok(()) => Ok(()),
-            Err(error) => Err(MapOutFault::Unwritten(error)),
-        }
+        file.write_whole(text.as_bytes())
+            .map_err(MapOutFault::Unwritten)
     }
+}
 
-    // Says why it is not made, as `run` says why a command is refused.
-    fn tell<E: Write + Sink>(&self, fault: MapOutFault, messages: Messages, err: &mut E) {
-        let _ = writeln!(err, "mdcli: {fault}");
-        if !messages.has_advice() {
-            return;
-        }
-        let _ = put_name(err, self.path);
-        let what_to_do = map_out_advice(&fault);
-        let _ = match fault {
-            MapOutFault::Unwritten(error) => writeln!(err, ": {error}; {what_to_do}"),
-            _ => writeln!(err, ": {what_to_do}"),
-        };
+// Why its file can't be made.
+fn making_fault(error: io::Error) -> MapOutFault {
+    if error.kind() == ErrorKind::AlreadyExists {
+        return MapOutFault::Exists;
     }
+    MapOutFault::Unwritten(error)
+}
+
+/// Says why a map under this name is not made, as `run` says why a command is refused.
+pub fn tell_map_out<E: Write + Sink>(
+    fault: MapOutFault,
+    path: &str,
+    messages: Messages,
+    err: &mut E,
+) {
+    let what_to_do = map_out_advice(&fault);
+    tell_map_with_advice(fault, what_to_do, path, messages, err);
+}
+
+/// Says why this map is not made, and what to do about it.
+pub fn tell_map_with_advice<E: Write + Sink>(
+    fault: MapOutFault,
+    what_to_do: &str,
+    path: &str,
+    messages: Messages,
+    err: &mut E,
+) {
+    let _ = writeln!(err, "mdcli: {fault}");
+    if !messages.has_advice() {
+        return;
+    }
+    let _ = put_name(err, path);
+    let _ = match fault {
+        MapOutFault::Unwritten(error) => writeln!(err, ": {error}; {what_to_do}"),
+        _ => writeln!(err, ": {what_to_do}"),
+    };
 }
 
 /// A map that was begun, if one is asked for. Its file stays open until it is made.
@@ -94,7 +115,7 @@ pub fn begun_map<'a, E: Write + Sink>(
             begun: Some((map, file)),
         }),
         Err(fault) => {
-            map.tell(fault, messages, err);
+            tell_map_out(fault, map.path, messages, err);
             None
         }
     }
@@ -120,7 +141,7 @@ pub fn is_map_made<E: Write + Sink>(
     match map.write(rt, &file, count, missing) {
         Ok(()) => true,
         Err(fault) => {
-            map.tell(fault, messages, err);
+            tell_map_out(fault, map.path, messages, err);
             file.take_away(rt, map.path);
             false
         }

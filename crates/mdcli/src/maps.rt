@@ -3,7 +3,7 @@ use crate::files::FileImages;
 use md_cli::show_why;
 use md_commands::CommandFault;
 use md_examine::{Output, Sink, put_name};
-use md_masks::{
+use md_files::{
     MapRefusal, MapText, MapWord, MapsFault, MaskedImages, map_advice, map_list, mask_images,
     strange_command,
 };
@@ -23,6 +23,23 @@ const PROGRAM: &str = "mdcli: ";
 // So much of a map's own line is shown.
 const SHOWN: usize = 400;
 
+/// Images under maps, and the texts of these.
+#[derive(Drop)]
+pub struct Masked<'a> {
+    pub images: MaskedImages<FileImages<'a>>,
+    pub texts: Vec<MapText>,
+}
+
+impl<'a> Masked<'a> {
+    /// Images of which none is named.
+    pub fn without_maps(alloc: Global, images: FileImages<'a>) -> Masked<'a> {
+        Masked {
+            images: MaskedImages::new(alloc, images),
+            texts: Vec::new(alloc),
+        }
+    }
+}
+
 /// The images that a command names, under the maps that it names: a map is read before any image is opened to be changed. Says on
 /// `err` where a map's own line names another copy than the one for which it is given.
 pub fn masked_images<'a, E: Write>(
@@ -30,19 +47,19 @@ pub fn masked_images<'a, E: Write>(
     request: &Request<'_>,
     images: FileImages<'a>,
     err: &mut E,
-) -> Result<MaskedImages<FileImages<'a>>, MapsFault> {
+) -> Result<Masked<'a>, MapsFault> {
     let Ok(names) = names_of(rt.alloc(), request) else {
         return Err(MapsFault::NoMemory);
     };
     let words = map_list(rt.alloc(), &request.images, &request.maps)?;
     let texts = map_texts(rt, &words)?;
-    let masked = mask_images(rt.alloc(), images, &names, &texts)?;
+    let images = mask_images(rt.alloc(), images, &names, &texts)?;
     for (word, text) in request.maps.iter().zip(&texts) {
         if let Some(command) = strange_command(&names, text) {
             let _ = tell_strange(word, command, err);
         }
     }
-    Ok(masked)
+    Ok(Masked { images, texts })
 }
 
 // The copy may have another name since, or the map be another's: who gave it knows.

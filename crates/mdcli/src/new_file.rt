@@ -21,16 +21,13 @@ pub struct NewFile<'a> {
 impl<'a> NewFile<'a> {
     /// Makes the file, empty. Nothing that is there is overwritten: it may be an image.
     pub fn make(rt: &'a HostRuntime, path: &str) -> Result<NewFile<'a>, OutputFileFault> {
-        match MadeFile::make(rt, path) {
-            Ok(made) => Ok(NewFile {
-                rt,
-                made,
-                at: 0,
-                fault: None,
-            }),
-            Err(error) if error.kind() == ErrorKind::AlreadyExists => Err(OutputFileFault::Exists),
-            Err(error) => Err(OutputFileFault::Unwritten(error)),
-        }
+        let made = MadeFile::make(rt, path).map_err(making_fault)?;
+        Ok(NewFile {
+            rt,
+            made,
+            at: 0,
+            fault: None,
+        })
     }
 
     /// Ends the file, which was made under this name: where nothing was written it is taken away, and else it is as long as what was written, and on its
@@ -50,9 +47,7 @@ impl<'a> NewFile<'a> {
             };
         }
         let length = made.file().set_len(at);
-        if let Err(error) = made.file().sync_data() {
-            return Err(OutputFileFault::Unwritten(error));
-        }
+        made.file().sync_data().map_err(OutputFileFault::Unwritten)?;
         match fault.or(length.err()) {
             Some(error) => Err(OutputFileFault::Cut(error)),
             None => Ok(()),
@@ -68,6 +63,14 @@ impl<'a> NewFile<'a> {
         }
         SinkFault
     }
+}
+
+// Why it can't be made.
+fn making_fault(error: io::Error) -> OutputFileFault {
+    if error.kind() == ErrorKind::AlreadyExists {
+        return OutputFileFault::Exists;
+    }
+    OutputFileFault::Unwritten(error)
 }
 
 impl<'a> HoleFile for NewFile<'a> {

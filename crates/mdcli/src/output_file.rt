@@ -6,11 +6,11 @@ use md_messages::Messages;
 use md_words::Request;
 use std::io::Write;
 
-/// The file that words which were parsed ask for, if they do.
+/// The new file that words which were parsed ask for, if they do.
 pub fn output_of<'a, E>(parsed: &Result<Request<'a>, E>) -> Option<&'a str> {
     match parsed {
-        Ok(request) => request.output,
-        Err(_) => None,
+        Ok(request) if !request.resume => request.output,
+        Ok(_) | Err(_) => None,
     }
 }
 
@@ -29,7 +29,7 @@ pub fn destination_of<'a, S: Sink + Drop, E: Write + Sink>(
     match NewFile::make(rt, path) {
         Ok(file) => Some(Destination::File(Sparse::new(file))),
         Err(fault) => {
-            tell(fault, path, messages, err);
+            tell_output(fault, path, messages, err);
             None
         }
     }
@@ -51,20 +51,36 @@ pub fn is_file_ended<'a, S: Drop, E: Write + Sink>(
     match file.into_inner().end(path) {
         Ok(()) => true,
         Err(fault) => {
-            tell(fault, path, messages, err);
+            tell_output(fault, path, messages, err);
             false
         }
     }
 }
 
-// Says why there is no file, or not all of it, as `run` says why a command is refused.
-fn tell<E: Write + Sink>(fault: OutputFileFault, path: &str, messages: Messages, err: &mut E) {
+/// Says why there is no file, or not all of it, as `run` says why a command is refused.
+pub fn tell_output<E: Write + Sink>(
+    fault: OutputFileFault,
+    path: &str,
+    messages: Messages,
+    err: &mut E,
+) {
+    let what_to_do = output_file_advice(&fault);
+    tell_with_advice(fault, what_to_do, path, messages, err);
+}
+
+/// Says why this file is not whole, and what to do about it.
+pub fn tell_with_advice<E: Write + Sink>(
+    fault: OutputFileFault,
+    what_to_do: &str,
+    path: &str,
+    messages: Messages,
+    err: &mut E,
+) {
     let _ = writeln!(err, "mdcli: {fault}");
     if !messages.has_advice() {
         return;
     }
     let _ = put_name(err, path);
-    let what_to_do = output_file_advice(&fault);
     let _ = match fault {
         OutputFileFault::Cut(error) | OutputFileFault::Unwritten(error) => {
             writeln!(err, ": {error}; {what_to_do}")

@@ -3,12 +3,19 @@ ghost use Rattle.std.specs.Prelude.{⊤};
 
 use crate::comparing::Comparing;
 use crate::copying::Copying;
+use crate::lacking::Lacking;
 use crate::read_length::ReadLength;
+use crate::refused_requests::RefusedRequests;
+use crate::silence::Silence;
 use crate::write_progress::WriteProgress;
-use md_cli::ReadWatch;
+use md_badblocks::Run;
+use md_cli::{FillWatch, ReadWatch};
 use md_commands::{Gate, Watch};
-use md_files::Line;
+use md_examine::Output;
+use md_files::{Cleared, Line};
 use md_images::Traffic;
+use md_messages::{Messages, put_going_on};
+use md_nbd::{ClientWatch, RefusedRequest};
 use md_words::LongTask;
 use std::alloc::AllocError;
 use std::io::Write;
@@ -25,12 +32,14 @@ const MIB: u64 = 1 << 20;
 const CLEAR: &str = "\r\u{1b}[K";
 
 /// A line on a terminal that says how much a command has read of its images and written to them, or how far
-/// a rebuild, a check or a write is. It is drawn on standard error, at most ten times a second.
+/// a rebuild, a check or a write is. It is drawn on standard error, at most ten times a second. Where a person reads that, or more is
+/// to be told, a rebuild that is taken up says so first.
 #[derive(Drop)]
 pub struct Progress<'a> {
     rt: &'a HostRuntime,
     // Nothing is drawn where there is none.
     task: Option<LongTask>,
+    messages: Messages,
     began: Option<Instant>,
     read: AtomicU64,
     written: AtomicU64,
@@ -38,16 +47,26 @@ pub struct Progress<'a> {
     comparing: Comparing,
     read_length: ReadLength,
     write_progress: WriteProgress,
+    refused: RefusedRequests,
+    silence: Silence,
+    lacking: Lacking,
     // In milliseconds after the beginning, when the line may be drawn again.
     due: AtomicU64,
     is_shown: AtomicBool,
 }
 
 impl<'a> Progress<'a> {
-    pub fn new(rt: &'a HostRuntime, task: Option<LongTask>) -> Progress<'a> {
+    /// Refused requests are shown where `shows_refused` says so.
+    pub fn new(
+        rt: &'a HostRuntime,
+        task: Option<LongTask>,
+        messages: Messages,
+        shows_refused: bool,
+    ) -> Progress<'a> {
         Progress {
             rt,
             task,
+            messages,
             began: Instant::now(rt).ok(),
             read: AtomicU64::new(0),
             written: AtomicU64::new(0),
@@ -55,9 +74,17 @@ impl<'a> Progress<'a> {
             comparing: Comparing::new(),
             read_length: ReadLength::new(),
             write_progress: WriteProgress::new(),
+            refused: RefusedRequests::new(shows_refused),
+            silence: Silence::new(),
+            lacking: Lacking::new(rt.alloc()),
             due: AtomicU64::new(0),
             is_shown: AtomicBool::new(false),
         }
+    }
+
+    /// The sectors that a read does not get, as far as it came.
+    pub fn lacking(&self) -> &Lacking {
+        &self.lacking
     }
 
     /// How many sectors of the array are to be read; 0 before that is known.
@@ -207,6 +234,8 @@ impl<'a> Gate for Progress<'a> {
 impl<'a> Watch for Progress<'a> {
     ghost lacks = { λ _ _ _. ⊤ };
 
+    ghost taken_up = { λ _ _ _ _ _. ⊤ };
+
     ghost compares = { λ _ _. ⊤ };
 
     ghost writes = { λ _ _. ⊤ };
@@ -219,6 +248,14 @@ impl<'a> Watch for Progress<'a> {
         };
         let read = self.read.load(Ordering::SeqCst);
         self.copying.begin(chunks, first.unwrap_or(0), now, read);
+    }
+
+    fn takes_up(&self, member: usize, missing: u32, first: Option<u32>, chunks: u32) {
+        if self.messages.has_advice() {
+            self.clear();
+            let mut err = Output::new(self.rt.stderr());
+            let _ = put_going_on(&mut err, member, missing, first, chunks);
+        }
     }
 
     fn begins_check(&self, sectors: u64) {
@@ -238,6 +275,34 @@ impl<'a> Watch for Progress<'a> {
     fn wrote(&self, sectors: u64) {
         self.write_progress.go_on(sectors);
         self.draw_if_due();
+    }
+}
+
+impl<'a> ClientWatch for Progress<'a> {
+    ghost has_refused = { λ _ _. ⊤ };
+
+    ghost says_rested = { λ _ _. ⊤ };
+
+    fn refuses(&self, refused: RefusedRequest) {
+        let mut err = Cleared::new(self.rt.stderr(), self, true);
+        let _ = self.refused.tell(&mut err, &refused);
+    }
+
+    fn has_rested(&self) -> bool {
+        match self.milliseconds() {
+            Some(now) => self.silence.ends(now),
+            None => false,
+        }
+    }
+}
+
+impl<'a> FillWatch for Progress<'a> {
+    ghost misses = { λ _ _. ⊤ };
+
+    ghost takes = { λ _ _. ⊤ };
+
+    fn lacks(&self, missing: &[Run], others: &[Run]) {
+        self.lacking.add(missing, others);
     }
 }
 

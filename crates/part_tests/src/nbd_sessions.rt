@@ -4,7 +4,10 @@ ghost use Rattle.std.specs.Prelude.{◌/◌, None, false, length, ⊤};
 use crate::checks::{holds, same};
 use md_commands::{Source, SourceFault};
 use md_examine::{Sink, SinkFault};
-use md_nbd::{Export, Gone, Haggled, SessionEnd, Store, StoreFault, haggle, serve_client};
+use md_nbd::{
+    ClientWatch, Export, Gone, Haggled, RefusedRequest, SessionEnd, Store, StoreFault, haggle,
+    serve_client,
+};
 use std::test::Fail;
 
 // Gives these bytes, at most seven at a time.
@@ -101,13 +104,21 @@ impl Store<Vec<u8>> for Plain {
 
     ghost unread = { λ _ _ _ _. ⊤ };
 
+    ghost why_unread = { λ _ _ _ _ _. ⊤ };
+
     ghost writes = { λ _ _ _ _ _. ⊤ };
 
     ghost unwritten = { λ _ _ _ _. ⊤ };
 
+    ghost why_unwritten = { λ _ _ _ _ _. ⊤ };
+
     ghost flushes = { λ _ _. ⊤ };
 
     ghost unflushed = { λ _ _. ⊤ };
+
+    ghost why_unflushed = { λ _ _ _. ⊤ };
+
+    ghost rests = { λ _ _. ⊤ };
 
     fn read(&mut self, lent: &mut Vec<u8>, sector: u64, buf: &mut [u8]) -> Result<(), StoreFault> {
         let at = 512 * sector as usize;
@@ -129,6 +140,25 @@ impl Store<Vec<u8>> for Plain {
 
     fn flush(&mut self, _: &mut Vec<u8>) -> Result<(), StoreFault> {
         Ok(())
+    }
+
+    fn rest(&mut self, _: &mut Vec<u8>) -> Result<(), StoreFault> {
+        Ok(())
+    }
+}
+
+// Is told of refused requests, and says nothing of them.
+pub(crate) struct Silent;
+
+impl ClientWatch for Silent {
+    ghost has_refused = { λ _ _. ⊤ };
+
+    ghost says_rested = { λ _ _. ⊤ };
+
+    fn refuses(&self, _refused: RefusedRequest) {}
+
+    fn has_rested(&self) -> bool {
+        true
     }
 }
 
@@ -176,6 +206,7 @@ fn serves_a_client(rt: HostRuntime) -> Result<(), Fail> {
         &export,
         &mut Plain,
         &mut store,
+        &Silent,
         &mut buf,
         &mut input,
         &mut out,

@@ -78,10 +78,11 @@ pub use md_examine::{Output, Sink, SinkFault, examine, examine_badblocks, examin
 pub use md_report::{check_report, detail, plan_report, rebuilt_report, summary};
 
 // Commands, over images by name.
-pub use md_cli::{ReadWatch, Session, run};
+pub use md_cli::{FillWatch, ReadWatch, Session, run};
 pub use md_commands::{Input, Source, Watch};
 pub use md_images::{Images, MemImages};
 pub use md_messages::{Asker, Messages};
+pub use md_nbd::{ClientWatch, RefusedRequest};
 pub use md_read_commands::Gaps;
 pub use md_words::{Request, parse};
 

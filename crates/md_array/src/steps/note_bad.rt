@@ -31,6 +31,7 @@ impl<D: Device + Drop> Mirror<D> {
         ensures sound { IsConsistent self.new }
         ensures pending { (p : PendingView) → IsPending self.old.array p → IsPending self.new.array p }
     {
+        // For the proof: a device has at most 2^54 sectors.
         let _sectors = self.devices[k].sectors();
         self.array.note_bad(alloc, k, chunk)
     }

@@ -68,6 +68,7 @@ impl<D: Device + Drop> Mirror<D> {
         ensures { MatchResult result (λ k. RecordsLast k (disk_of D.Device device) info self.old self.new)
             (λ e. RefusesToRecordLast (disk_of D.Device device) (disk_of D.Device e.0) info self.old self.new e.1) }
     {
+        // For the proof: a device has at most 2^54 sectors.
         let _sectors = device.sectors();
         let number = info.superblock.dev_number;
         let role = info.superblock.role_of(number);

@@ -21,6 +21,7 @@ pub fn store_log<D: Device>(device: &mut D, member: &Member) -> Result<(), Write
     ensures untouched { has_bad_block_log member.now.superblock ≡ false → device.new ≡ device.old }
     ensures data { KeepsDataOn member.now (D.content device.old) (D.content device.new) }
 {
+    // For the proof: the list is canonical.
     let _runs = member.bad.runs();
     let own = &member.superblock;
     if !own.has_bad_block_log() {

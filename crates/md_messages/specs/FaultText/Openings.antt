@@ -8,8 +8,8 @@ use Rattle.md_commands.specs.declared.option_fault.OptionFault.{OptionFault}
 use Rattle.md_commands.specs.declared.option_fault.OptionFault.TheVariants as option
 use Rattle.md_create.specs.declared.fault.CreateFault.{CreateFault}
 use Rattle.md_create.specs.declared.fault.CreateFault.TheVariants as create
-use Rattle.md_grow.specs.declared.fault.GrowFault.{GrowFault}
-use Rattle.md_grow.specs.declared.fault.GrowFault.TheVariants as grow
+use Rattle.md_metadata.specs.declared.bitmap_grow.fault.GrowFault.{GrowFault}
+use Rattle.md_metadata.specs.declared.bitmap_grow.fault.GrowFault.TheVariants as grow
 use Rattle.md_messages.specs.FaultText.Members.{member_refusal_text}
 
 -- two devices of one number, by their places

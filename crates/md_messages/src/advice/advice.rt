@@ -5,9 +5,8 @@ use md_assembly::AssembleFault;
 use md_check::CheckFault;
 use md_commands::{CommandFault, OptionFault};
 use md_create::CreateFault;
-use md_grow::GrowFault;
 use md_members::MemberFault;
-use md_metadata::StopFault;
+use md_metadata::{GrowFault, StopFault};
 use md_read::UnreadFault;
 use md_rebuild_table::RebuildFault;
 use md_resync::ResyncFault;
@@ -235,7 +234,7 @@ fn grow_advice(fault: GrowFault) -> &'static str {
             "choose a power of two of KiB, and a larger one where the array would have more than 1,048,576 chunks"
         }
         GrowFault::NoRoom => {
-            "choose a larger chunk, for which the bitmap takes less room; else copy the data to a new array"
+            "choose a larger chunk for `grow`, for which the bitmap takes less room; else `losetup --find --show --read-only --offset BYTES` gives the data of one member, from its Data Offset on, which `examine` shows in sectors of 512 bytes"
         }
         GrowFault::Assemble(fault) => array_advice(fault),
         GrowFault::HasBitmap => "there is nothing to do",
@@ -307,7 +306,7 @@ fn array_advice(fault: AssembleFault) -> &'static str {
         AssembleFault::Stranger(_) => "leave it out; `examine` shows the UUID of the array",
         AssembleFault::DoubleNumber(_, _) => "leave one out: often one is a copy of the other",
         AssembleFault::NoBitmap(_) => {
-            "give the array one by `grow --bitmap internal`; or `losetup --find --show --read-only --offset BYTES` gives the data of one member, from its Data Offset on, which `examine` shows in sectors of 512 bytes"
+            "to read the array, and change nothing, look at it with `--readonly --bitmap internal`; to go on with it, give it one by `grow --bitmap internal`"
         }
         AssembleFault::Geometry(_) => "leave it out",
         AssembleFault::DoubleRole(_) => "leave one out: `examine` shows which has fewer events",

@@ -10,8 +10,8 @@ use md_assembly::AssembleFault;
 use md_commands::OptionFault;
 use md_create::CreateFault;
 use md_examine::{Sink, SinkFault, number_after};
-use md_grow::GrowFault;
 use md_members::MemberFault;
+use md_metadata::GrowFault;
 
 fn put_double_number<S: Sink>(out: &mut S, first: usize, second: usize) -> Result<(), SinkFault>
     ensures { PutsOrFails S.contents S.failed out.old out.new (double_number_text first second) result }

@@ -1,16 +1,23 @@
 -- Replies that are put out.
-use Rattle.std.proofs.Common.{◌≡◌, ℕ, Bool, true, Option, Some, None, Result, Ok, Err, List, [], ◌++◌, ap, sym, ◌∙◌, append_assoc, refl}
+use Rattle.std.proofs.Common.{◌≡◌, ℕ, Bool, true, Option, Some, None, Result, Ok, Err, List, [], ◌++◌, ap, sym, ◌∙◌, append_assoc, refl, subst}
 use Rattle.std.specs.Prelude.{MatchResult}
 use Rattle.std.specs.Io.KnownBytes.{Appends}
 use Rattle.std.proofs.lemmas.List.{append-nil}
 use Rattle.md_nbd.specs.declared.task.Task.{Task}
-use Rattle.md_nbd.specs.declared.task.Task.TheVariants.{Read}
+use Rattle.md_nbd.specs.declared.task.Task.TheVariants.{Refuse}
+use Rattle.md_nbd.specs.declared.export.Export.{Export}
+use Rattle.md_nbd.specs.declared.reply.ErrorCode.{ErrorCode}
+use Rattle.md_nbd.specs.declared.request.Request.{Request}
+use Rattle.md_nbd.specs.declared.server.refusal.RefusedRequest.{RefusedRequest}
+use Rattle.md_nbd.specs.declared.server.refusal.RequestFault.{RequestFault}
 use Rattle.md_nbd.specs.declared.server.store.Store.{Ghosts as Stores}
 use Rattle.md_examine.specs.declared.sink.Sink.{Ghosts as Sinks}
 use Rattle.md_commands.specs.Output.{PutsOut}
 use Rattle.md_examine.specs.Sink.{Puts}
-use Rattle.md_nbd.specs.Server.Exchanges.{DoesTask}
-use Rattle.md_nbd.specs.Server.Told.{TellsTask, TellsTaskOrFails}
+use Rattle.md_nbd.specs.NbdTasks.{task_of}
+use Rattle.md_nbd.specs.Server.Exchanges.{IsWhyOf}
+use Rattle.md_nbd.specs.Server.Refusals.{task_fault}
+use Rattle.md_nbd.specs.Server.Told.{AnswersTask, FailsToTell, TellsTask, TellsTaskOrFails}
 
 appends_both : (a b c : Option (List ℕ)) (xs ys : List ℕ) → Appends a b xs → Appends b c ys → Appends a c (xs ++ ys)
 appends_both None b c xs ys h k = tt
@@ -32,12 +39,22 @@ puts_nothing contents failed at = record { appends = appends_none (contents at);
 pub puts_as : {O : Type 0} (o : Sinks O) (old new : O) (xs ys : List ℕ) → xs ≡ ys → PutsOut o old new xs → PutsOut o old new ys
 puts_as o old new xs ys e p = rw (← e) p
 
-pub tells_as : {S M O T E : Type 0} (s : Stores S M) (o : Sinks O) (task : Task) (cookie : ℕ) (payload xs reply : List ℕ) (old new : S × M) (was now : O) (r : Result T E) → xs ≡ reply → DoesTask s task cookie payload old new reply
-    → MatchResult r (λ _. PutsOut o was now xs) (λ _. o.failed now ≡ true) → TellsTaskOrFails s o task cookie payload old new was now r
-tells_as s o task cookie payload xs reply old new was now (Ok x) e d h = record { reply = reply; does = d; puts = puts_as o was now xs reply e h }
-tells_as s o task cookie payload xs reply old new was now (Err x) e d h = record { reply = reply; does = d; failed = h }
+module _ {S M O : Type 0} (s : Stores S M) (o : Sinks O) (w : RefusedRequest → Type 0) where
+  pub tells_as : {T E : Type 0} (task : Task) (r : Request) (payload : List ℕ) (is_why : RequestFault → Type 0) (old new : S × M) (was now : O) (xs reply : List ℕ) (result : Result T E) → xs ≡ reply
+      → AnswersTask s o w task r payload is_why old new reply → MatchResult result (λ _. PutsOut o was now xs) (λ _. o.failed now ≡ true) → TellsTaskOrFails s o w task r payload is_why old new was now result
+  tells_as task r payload is_why old new was now xs reply (Ok x) e d h = record { reply = reply; done = d; puts = puts_as o was now xs reply e h }
+  tells_as task r payload is_why old new was now xs reply (Err x) e d h = record { reply = reply; done = d; failed = h }
 
--- what a read is told does not hang on what came with it
-pub tells_read : {S M O : Type 0} (s : Stores S M) (o : Sinks O) (t : Task) (sector sectors n cookie : ℕ) (payload : List ℕ) (old new : S × M) (was now : O) → Read sector sectors ≡ t → n ≡ sectors
-    → TellsTask s o (Read sector n) cookie [] old new was now → TellsTask s o t cookie payload old new was now
-tells_read s o t sector sectors n cookie payload old new was now e f h = rw (← e, ← f) (record { reply = h.reply; does = h.does; puts = h.puts })
+  -- a request that is refused for itself
+  module _ (e : Export) (r : Request) (error : ErrorCode) (why : RequestFault) (payload : List ℕ) (p : S × M) (is : Refuse error ≡ task_of e r) (same : why ≡ task_fault e r) where
+    as_asked : (reply : List ℕ) → AnswersTask s o w (Refuse error) r [] (λ f. f ≡ why) p p reply → AnswersTask s o w (task_of e r) r payload (IsWhyOf s e r (task_of e r) payload p p) p p reply
+    as_asked reply d =
+        let as_found : AnswersTask s o w (Refuse error) r [] (λ f. f ≡ task_fault e r) p p reply = subst (λ (x : RequestFault). AnswersTask s o w (Refuse error) r [] (λ f. f ≡ x) p p reply) same d in
+        subst (λ (t : Task). AnswersTask s o w t r payload (IsWhyOf s e r t payload p p) p p reply) is
+        (record { fault = as_found.fault; does = as_found.does; answers = as_found.answers; told = as_found.told })
+
+    pub tells_refused : (was now : O) → TellsTask s o w (Refuse error) r [] (λ f. f ≡ why) p p was now → TellsTask s o w (task_of e r) r payload (IsWhyOf s e r (task_of e r) payload p p) p p was now
+    tells_refused was now h = record { reply = h.reply; done = as_asked h.reply h.done; puts = h.puts }
+
+    pub fails_refused : (now : O) → FailsToTell s o w (Refuse error) r [] (λ f. f ≡ why) p p now → FailsToTell s o w (task_of e r) r payload (IsWhyOf s e r (task_of e r) payload p p) p p now
+    fails_refused now h = record { reply = h.reply; done = as_asked h.reply h.done; failed = h.failed }

@@ -2,6 +2,7 @@
 -- negotiation").
 use Rattle.std.specs.Prelude.{◌≡◌, ◌≢◌, ◌⊎◌, ℕ, ◌<◌, Bool, true, false, List, length, Option, Some, None, Result, MatchResult}
 use Rattle.std.specs.Int.{w32, to_be_bytes}
+use Rattle.std.proofs.Common.{inl, inr}
 use Rattle.std.specs.Io.KnownBytes.{IsAtEnd}
 use Rattle.md_examine.specs.declared.sink.Sink.{Ghosts as Sinks}
 use Rattle.md_commands.specs.Output.{PutsOut}
@@ -23,7 +24,9 @@ use Rattle.md_nbd.specs.declared.server.transmission.StreamFault.{StreamFault}
 use Rattle.md_nbd.specs.declared.server.transmission.StreamFault.TheVariants as stream
 use Rattle.md_nbd.specs.Handshake.{greeting_bytes, no_zeroes_of}
 use Rattle.md_nbd.specs.Server.OptionsAnswered.{BreaksHaggling, Haggles}
-use Rattle.md_nbd.specs.Server.Transmission.{BreaksOff, Transmits}
+use Rattle.md_nbd.specs.Server.Transmission.{BreaksOff, IsToldOfLast, Transmits}
+use Rattle.md_nbd.specs.Server.Told.{IsToldOfRefusals}
+use Rattle.md_nbd.specs.declared.server.refusal.RefusedRequest.{RefusedRequest}
 
 -- whether the client went as the protocol has it, between two of its messages
 abbrev pub is_orderly : SessionEnd → Bool
@@ -138,3 +141,27 @@ module _ {S M I O : Type 0} (s : Stores S M) (i : Sources I) (o : Sinks O) (e : 
   -- How a session goes that a fault ends.
   abbrev pub BreaksSession : SessionFault → Type 0
   BreaksSession f = BreaksAtGreeting f ⊎ BreaksAtOptions f ⊎ BreaksAtRequests f
+
+  -- ---- who looks on
+  module _ (has_refused : RefusedRequest → Type 0) where
+    -- The watch was told of each request that was refused.
+    abbrev pub IsToldBeforeEnd : (end : SessionEnd) → EndsSession end → Type 0
+    IsToldBeforeEnd NoFlags h = Unit {0}
+    IsToldBeforeEnd UnknownFlags h = Unit {0}
+    IsToldBeforeEnd (Unagreed why) h = Unit {0}
+    IsToldBeforeEnd (Gone why) h = IsToldOfRefusals has_refused h.transmits.exchanges
+
+    -- Also of one whose reply was not put out.
+    abbrev pub IsToldBeforeFault : (f : SessionFault) → BreaksSession f → Type 0
+    IsToldBeforeFault f (inl h) = Unit {0}
+    IsToldBeforeFault f (inr (inl h)) = Unit {0}
+    IsToldBeforeFault f (inr (inr h)) =
+        IsToldOfRefusals has_refused h.breaks.exchanges
+        × IsToldOfLast s i o e has_refused h.breaks.mid new h.breaks.at to h.breaks.before now h.why h.breaks.failed
+
+    -- A session ends so, and the watch was told of what was refused in it.
+    abbrev pub EndsToldSession : SessionEnd → Type 0
+    EndsToldSession end = (h : EndsSession end) × IsToldBeforeEnd end h
+
+    abbrev pub BreaksToldSession : SessionFault → Type 0
+    BreaksToldSession f = (h : BreaksSession f) × IsToldBeforeFault f h

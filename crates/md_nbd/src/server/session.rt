@@ -1,12 +1,13 @@
 // A whole session with a client: the greeting, the client's flags, its options, and its requests.
 ghost use Rattle.std.specs.Prelude.{◌≡◌, ◌*◌, ◌≤◌, MatchResult, length};
 ghost use Rattle.md_nbd.specs.Export.{sector_bytes};
-ghost use Rattle.md_nbd.specs.Server.Sessions.{BreaksSession, EndsSession, FailsToGreet, GreetsOrEnds, is_orderly};
+ghost use Rattle.md_nbd.specs.Server.Sessions.{BreaksSession, BreaksToldSession, EndsSession, EndsToldSession, FailsToGreet, GreetsOrEnds, is_orderly};
 
 use crate::export::Export;
 use crate::handshake_head::{greeting, no_zeroes_of};
 use crate::number_fields::u32_of;
 use crate::server::agreement::{HaggleFault, Haggled, haggle};
+use crate::server::client_watch::ClientWatch;
 use crate::server::filling_front::fill_front;
 use crate::server::putting::put;
 use crate::server::store::Store;
@@ -108,12 +109,14 @@ fn greet<I: Source, O: Sink>(
 }
 
 /// Serves one client, from the greeting on until it goes, and says how the session ended. What is read and written stands in
-/// `buf`, which gets room for it, and so do the options; an answer to an option takes memory while it is put out.
-pub fn serve_client<M, S: Store<M>, I: Source, O: Sink>(
+/// `buf`, which gets room for it, and so do the options; an answer to an option takes memory while it is put out. The watch is told of
+/// each request that is answered with an error, and why.
+pub fn serve_client<M, S: Store<M>, W: ClientWatch, I: Source, O: Sink>(
     alloc: Global,
     export: &Export,
     store: &mut S,
     lent: &mut M,
+    watch: &W,
     buf: &mut Vec<u8>,
     input: &mut I,
     out: &mut O,
@@ -126,6 +129,11 @@ pub fn serve_client<M, S: Store<M>, I: Source, O: Sink>(
         input.old input.new out.old out.new)
         (BreaksSession S.Store I.Source O.Sink export.now (store.old, lent.old) (store.new, lent.new)
         input.old input.new out.old out.new) }
+    ensures told { MatchResult result
+        (EndsToldSession S.Store I.Source O.Sink export.now (store.old, lent.old) (store.new, lent.new)
+        input.old input.new out.old out.new (W.has_refused watch.now))
+        (BreaksToldSession S.Store I.Source O.Sink export.now (store.old, lent.old) (store.new, lent.new)
+        input.old input.new out.old out.new (W.has_refused watch.now)) }
     ensures sound { S.is_sound (store.new, lent.new) }
     ensures size { S.sectors (store.new, lent.new) ≡ S.sectors (store.old, lent.old) }
 {
@@ -137,6 +145,6 @@ pub fn serve_client<M, S: Store<M>, I: Source, O: Sink>(
         Haggled::Agreed => {}
         why => return Ok(SessionEnd::Unagreed(why)),
     }
-    let gone = answer_requests(alloc, export, store, lent, buf, input, out)?;
+    let gone = answer_requests(alloc, export, store, lent, watch, buf, input, out)?;
     Ok(SessionEnd::Gone(gone))
 }

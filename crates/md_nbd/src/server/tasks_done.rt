@@ -2,11 +2,17 @@
 ghost use Rattle.std.specs.Prelude.{◌≡◌, ◌+◌, ◌/◌, ◌%◌, ◌<◌, ◌≤◌, ◌++◌, MatchResult, [], length, true};
 ghost use Rattle.md_nbd.specs.declared.task.Task.TheVariants.{Read as ReadTask, Write as WriteTask, Flush as FlushTask, Refuse as RefuseTask};
 ghost use Rattle.md_commands.specs.Output.{PutsOut};
+ghost use Rattle.md_nbd.specs.SimpleReplies.{error_reply};
+ghost use Rattle.md_nbd.specs.Server.Exchanges.{IsStoreFault};
+ghost use Rattle.md_nbd.specs.Server.Refusals.{refused_for};
 ghost use Rattle.md_nbd.specs.Server.Told.{TellsTaskOrFails};
 
 use crate::reply::{ErrorCode, error_reply, success_reply};
+use crate::request::Request;
+use crate::server::client_watch::ClientWatch;
 use crate::server::putting::put;
-use crate::server::store::{Store, StoreFault};
+use crate::server::refusal::{RefusedRequest, RequestFault};
+use crate::server::store::Store;
 use md_examine::{Sink, SinkFault};
 
 // Puts out the head of a reply, and the bytes after it.
@@ -20,12 +26,33 @@ fn put_with_bytes<O: Sink>(out: &mut O, head: &[u8], bytes: &[u8]) -> Result<(),
     Ok(())
 }
 
+// Tells the watch of a request, and answers it with an error.
+fn refuse<O: Sink, W: ClientWatch>(
+    watch: &W,
+    out: &mut O,
+    request: &Request,
+    fault: RequestFault,
+    error: ErrorCode,
+) -> Result<(), SinkFault>
+    ensures told { W.has_refused watch.now (refused_for request.now fault) }
+    ensures puts { MatchResult result
+        (λ _. PutsOut O.Sink out.old out.new (error_reply error request.now.cookie))
+        (λ _. O.failed out.new ≡ true) }
+{
+    watch.refuses(RefusedRequest {
+        request: *request,
+        fault,
+    });
+    put(out, &error_reply(error, request.cookie))
+}
+
 /// Reads sectors, as many as `buf` has room for, and answers with them.
-pub(crate) fn do_read<M, S: Store<M>, O: Sink>(
+pub(crate) fn do_read<M, S: Store<M>, W: ClientWatch, O: Sink>(
     store: &mut S,
     lent: &mut M,
+    watch: &W,
     out: &mut O,
-    cookie: u64,
+    request: &Request,
     sector: u64,
     buf: &mut [u8],
 ) -> Result<(), SinkFault>
@@ -33,23 +60,31 @@ pub(crate) fn do_read<M, S: Store<M>, O: Sink>(
     requires some { 0 < length buf.old }
     requires fits { sector + length buf.old / 512 ≤ S.sectors (store.old, lent.old) }
     requires sound { S.is_sound (store.old, lent.old) }
-    ensures tells { TellsTaskOrFails S.Store O.Sink (ReadTask sector (length buf.old / 512)) cookie []
+    ensures tells { TellsTaskOrFails S.Store O.Sink (W.has_refused watch.now) (ReadTask sector (length buf.old / 512)) request.now []
+        (IsStoreFault (S.why_unread (store.old, lent.old) (store.new, lent.new) sector (length buf.old / 512)))
         (store.old, lent.old) (store.new, lent.new) out.old out.new result }
     ensures sound { S.is_sound (store.new, lent.new) }
     ensures size { S.sectors (store.new, lent.new) ≡ S.sectors (store.old, lent.old) }
 {
     match store.read(lent, sector, buf) {
-        Ok(()) => put_with_bytes(out, &success_reply(cookie), buf),
-        Err(StoreFault) => put(out, &error_reply(ErrorCode::Io, cookie)),
+        Ok(()) => put_with_bytes(out, &success_reply(request.cookie), buf),
+        Err(fault) => refuse(
+            watch,
+            out,
+            request,
+            RequestFault::Store(fault),
+            ErrorCode::Io,
+        ),
     }
 }
 
 /// Writes sectors, which with `through` have to stand before the answer.
-pub(crate) fn do_write<M, S: Store<M>, O: Sink>(
+pub(crate) fn do_write<M, S: Store<M>, W: ClientWatch, O: Sink>(
     store: &mut S,
     lent: &mut M,
+    watch: &W,
     out: &mut O,
-    cookie: u64,
+    request: &Request,
     sector: u64,
     bytes: &[u8],
     through: bool,
@@ -58,44 +93,63 @@ pub(crate) fn do_write<M, S: Store<M>, O: Sink>(
     requires some { 0 < length bytes.now }
     requires fits { sector + length bytes.now / 512 ≤ S.sectors (store.old, lent.old) }
     requires sound { S.is_sound (store.old, lent.old) }
-    ensures tells { TellsTaskOrFails S.Store O.Sink (WriteTask sector (length bytes.now / 512) through) cookie bytes.now
+    ensures tells { TellsTaskOrFails S.Store O.Sink (W.has_refused watch.now) (WriteTask sector (length bytes.now / 512) through)
+        request.now bytes.now (IsStoreFault (S.why_unwritten (store.old, lent.old) (store.new, lent.new) sector bytes.now))
         (store.old, lent.old) (store.new, lent.new) out.old out.new result }
     ensures sound { S.is_sound (store.new, lent.new) }
     ensures size { S.sectors (store.new, lent.new) ≡ S.sectors (store.old, lent.old) }
 {
     match store.write(lent, sector, bytes, through) {
-        Ok(()) => put(out, &success_reply(cookie)),
-        Err(StoreFault) => put(out, &error_reply(ErrorCode::Io, cookie)),
+        Ok(()) => put(out, &success_reply(request.cookie)),
+        Err(fault) => refuse(
+            watch,
+            out,
+            request,
+            RequestFault::Store(fault),
+            ErrorCode::Io,
+        ),
     }
 }
 
 /// Makes what was written stand.
-pub(crate) fn do_flush<M, S: Store<M>, O: Sink>(
+pub(crate) fn do_flush<M, S: Store<M>, W: ClientWatch, O: Sink>(
     store: &mut S,
     lent: &mut M,
+    watch: &W,
     out: &mut O,
-    cookie: u64,
+    request: &Request,
 ) -> Result<(), SinkFault>
     requires sound { S.is_sound (store.old, lent.old) }
-    ensures tells { TellsTaskOrFails S.Store O.Sink FlushTask cookie [] (store.old, lent.old) (store.new, lent.new) out.old out.new result }
+    ensures tells { TellsTaskOrFails S.Store O.Sink (W.has_refused watch.now) FlushTask request.now []
+        (IsStoreFault (S.why_unflushed (store.old, lent.old) (store.new, lent.new)))
+        (store.old, lent.old) (store.new, lent.new) out.old out.new result }
     ensures sound { S.is_sound (store.new, lent.new) }
     ensures size { S.sectors (store.new, lent.new) ≡ S.sectors (store.old, lent.old) }
 {
     match store.flush(lent) {
-        Ok(()) => put(out, &success_reply(cookie)),
-        Err(StoreFault) => put(out, &error_reply(ErrorCode::Io, cookie)),
+        Ok(()) => put(out, &success_reply(request.cookie)),
+        Err(fault) => refuse(
+            watch,
+            out,
+            request,
+            RequestFault::Store(fault),
+            ErrorCode::Io,
+        ),
     }
 }
 
 /// Answers with an error, and does nothing.
-pub(crate) fn do_refuse<M, S: Store<M>, O: Sink>(
+pub(crate) fn do_refuse<M, S: Store<M>, W: ClientWatch, O: Sink>(
     _store: &S,
     _lent: &M,
+    watch: &W,
     out: &mut O,
-    cookie: u64,
+    request: &Request,
+    fault: RequestFault,
     error: ErrorCode,
 ) -> Result<(), SinkFault>
-    ensures { TellsTaskOrFails S.Store O.Sink (RefuseTask error) cookie [] (_store.now, _lent.now) (_store.now, _lent.now) out.old out.new result }
+    ensures tells { TellsTaskOrFails S.Store O.Sink (W.has_refused watch.now) (RefuseTask error) request.now [] (λ f. f ≡ fault)
+        (_store.now, _lent.now) (_store.now, _lent.now) out.old out.new result }
 {
-    put(out, &error_reply(error, cookie))
+    refuse(watch, out, request, fault, error)
 }

@@ -3,11 +3,14 @@ ghost use Rattle.std.specs.Prelude.{◌≡◌, ◌*◌, ◌≤◌, MatchResult, 
 ghost use Rattle.md_nbd.specs.Export.{most_bytes, sector_bytes};
 ghost use Rattle.md_nbd.specs.NbdRequests.{payload_of};
 ghost use Rattle.md_nbd.specs.NbdTasks.{task_of};
-ghost use Rattle.md_nbd.specs.Server.Told.{AnswersOrGoes, FailsToTell};
-ghost use Rattle.md_nbd.specs.Server.Transmission.{BreaksOff, Transmits};
+ghost use Rattle.md_nbd.specs.Server.Exchanges.{IsWhyOf};
+ghost use Rattle.md_nbd.specs.Server.Told.{AnswersOrGoes, FailsToTell, RestsIfSilent};
+ghost use Rattle.md_nbd.specs.Server.Transmission.{BreaksOffTold, TransmitsTold};
 
 use crate::export::Export;
 use crate::request::Request;
+use crate::server::client_watch::ClientWatch;
+use crate::server::refusal::task_fault;
 use crate::server::request_taken::take_request;
 use crate::server::store::Store;
 use crate::server::tasks_done::{do_flush, do_read, do_refuse, do_write};
@@ -44,11 +47,28 @@ pub enum StreamFault {
     NoMemory,
 }
 
+// Lets the store rest, where the client was silent for long. Nobody is told what comes of it: a later answer says whether the store
+// does anything still.
+fn rest_if_silent<M, S: Store<M>, W: ClientWatch>(store: &mut S, lent: &mut M, watch: &W)
+    requires sound { S.is_sound (store.old, lent.old) }
+    ensures rests { RestsIfSilent S.Store (W.says_rested watch.now) (store.old, lent.old) (store.new, lent.new) }
+    ensures sound { S.is_sound (store.new, lent.new) }
+    ensures size { S.sectors (store.new, lent.new) ≡ S.sectors (store.old, lent.old) }
+{
+    if watch.has_rested() {
+        match store.rest(lent) {
+            Ok(()) => {}
+            Err(_) => {}
+        }
+    }
+}
+
 // Does what a request asks for, and answers: false where it asks the server to go.
-fn answer<M, S: Store<M>, O: Sink>(
+fn answer<M, S: Store<M>, W: ClientWatch, O: Sink>(
     export: &Export,
     store: &mut S,
     lent: &mut M,
+    watch: &W,
     request: &Request,
     buf: &mut [u8],
     out: &mut O,
@@ -58,25 +78,29 @@ fn answer<M, S: Store<M>, O: Sink>(
     requires size { export.now.size ≤ sector_bytes * S.sectors (store.old, lent.old) }
     requires sound { S.is_sound (store.old, lent.old) }
     ensures answers { MatchResult result
-        (AnswersOrGoes S.Store O.Sink export.now request.now (take (payload_of request.now) buf.old)
+        (AnswersOrGoes S.Store O.Sink (W.has_refused watch.now) export.now request.now (take (payload_of request.now) buf.old)
         (store.old, lent.old) (store.new, lent.new) out.old out.new)
-        (λ _. FailsToTell S.Store O.Sink (task_of export.now request.now) request.now.cookie
-        (take (payload_of request.now) buf.old) (store.old, lent.old) (store.new, lent.new) out.new) }
+        (λ _. FailsToTell S.Store O.Sink (W.has_refused watch.now) (task_of export.now request.now) request.now
+        (take (payload_of request.now) buf.old) (IsWhyOf S.Store export.now request.now (task_of export.now request.now)
+        (take (payload_of request.now) buf.old) (store.old, lent.old) (store.new, lent.new))
+        (store.old, lent.old) (store.new, lent.new) out.new) }
     ensures sound { S.is_sound (store.new, lent.new) }
     ensures size { S.sectors (store.new, lent.new) ≡ S.sectors (store.old, lent.old) }
 {
-    let cookie = request.cookie;
     match task_of(export, request) {
         Task::Read(sector, sectors) => {
             let room = &mut buf[..512 * sectors as usize];
-            do_read(store, lent, out, cookie, sector, room)?;
+            do_read(store, lent, watch, out, request, sector, room)?;
         }
         Task::Write(sector, sectors, through) => {
             let bytes = &buf[..512 * sectors as usize];
-            do_write(store, lent, out, cookie, sector, bytes, through)?;
+            do_write(store, lent, watch, out, request, sector, bytes, through)?;
         }
-        Task::Flush => do_flush(store, lent, out, cookie)?,
-        Task::Refuse(error) => do_refuse(store, lent, out, cookie, error)?,
+        Task::Flush => do_flush(store, lent, watch, out, request)?,
+        Task::Refuse(error) => {
+            let fault = task_fault(export, request);
+            do_refuse(store, lent, watch, out, request, fault, error)?;
+        }
         Task::Disconnect => return Ok(false),
     }
     Ok(true)
@@ -85,12 +109,16 @@ fn answer<M, S: Store<M>, O: Sink>(
 /// Takes requests and answers them, one after another, until the client goes, and says why no more come. What is read and written
 /// stands in `buf`, which gets room for that, 32 MiB at most: the server takes no other memory.
 ///
+/// The watch is told of each request that is answered with an error, before the answer. Where it says that the client was silent for
+/// long before a request, the store rests first.
+///
 /// The export may be smaller than the store, and none of its requests goes past it. Where a stream fails no reply is made up for what was not told.
-pub fn answer_requests<M, S: Store<M>, I: Source, O: Sink>(
+pub fn answer_requests<M, S: Store<M>, W: ClientWatch, I: Source, O: Sink>(
     alloc: Global,
     export: &Export,
     store: &mut S,
     lent: &mut M,
+    watch: &W,
     buf: &mut Vec<u8>,
     input: &mut I,
     out: &mut O,
@@ -98,8 +126,8 @@ pub fn answer_requests<M, S: Store<M>, I: Source, O: Sink>(
     requires size { export.now.size ≤ sector_bytes * S.sectors (store.old, lent.old) }
     requires sound { S.is_sound (store.old, lent.old) }
     ensures answers { MatchResult result
-        (Transmits S.Store I.Source O.Sink export.now (store.old, lent.old) (store.new, lent.new) input.old input.new out.old out.new)
-        (BreaksOff S.Store I.Source O.Sink export.now (store.old, lent.old) (store.new, lent.new) input.old input.new out.old out.new) }
+        (TransmitsTold S.Store I.Source O.Sink export.now (W.has_refused watch.now) (store.old, lent.old) (store.new, lent.new) input.old input.new out.old out.new)
+        (BreaksOffTold S.Store I.Source O.Sink export.now (W.has_refused watch.now) (store.old, lent.old) (store.new, lent.new) input.old input.new out.old out.new) }
     ensures sound { S.is_sound (store.new, lent.new) }
     ensures size { S.sectors (store.new, lent.new) ≡ S.sectors (store.old, lent.old) }
 {
@@ -108,7 +136,8 @@ pub fn answer_requests<M, S: Store<M>, I: Source, O: Sink>(
             Ok(request) => request,
             Err(gone) => return Ok(gone),
         };
-        match answer(export, store, lent, &request, buf, out) {
+        rest_if_silent(store, lent, watch);
+        match answer(export, store, lent, watch, &request, buf, out) {
             Ok(true) => {}
             Ok(false) => return Ok(Gone::Disconnected),
             Err(SinkFault) => return Err(StreamFault::Sink),

@@ -10,6 +10,7 @@ use Rattle.md_examine.specs.SuperblockReport.{state_text}
 use Rattle.md_report.specs.SummaryReport.{in_sync_members, marked_chunks}
 use Rattle.md_report.specs.AsJson.MemberObjects.{member_list}
 use Rattle.md_report.specs.AsJson.Objects.{Field, field, report_of, whole}
+use Rattle.md_report.specs.AsJson.RecoveringList.{recovering_fields}
 use Rattle.md_report.specs.AsJson.StandingLists.{standing_fields}
 
 unfoldable pub members_fields : ArrayView → List (List ℕ) → List Field
@@ -49,4 +50,4 @@ abbrev pub summary_object : List ℕ → ArrayView → List (List ℕ) → Data
 summary_object kind a images = report_of kind (summary_fields a ∷ members_fields a images ∷ [])
 
 abbrev pub detail_object : ArrayView → List (List ℕ) → Data
-detail_object a images = report_of (codes "detail") (shared_fields a.shared ∷ condition_fields a ∷ members_fields a images ∷ standing_fields a ∷ [])
+detail_object a images = report_of (codes "detail") (shared_fields a.shared ∷ condition_fields a ∷ members_fields a images ∷ standing_fields a ∷ recovering_fields a ∷ [])

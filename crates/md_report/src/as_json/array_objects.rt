@@ -8,6 +8,7 @@ ghost use Rattle.md_report.specs.AsJson.MemberObjects.{texts_of};
 ghost use Rattle.md_report.specs.AsJson.Objects.{later_text, object_line};
 
 use crate::as_json::member_objects::members;
+use crate::as_json::recovering_list::recovering;
 use crate::as_json::standing_lists::standing_lists;
 use crate::as_json::values::{
     close, next_bool, next_cleanness, next_name, next_number, next_uuid, open,
@@ -37,7 +38,7 @@ pub fn summary_json<S: Sink, D: Device + Drop>(
 }
 
 /// Writes an array in detail as an object, alone in its line, with its members, of which `images` are the names, and then what
-/// `standing_lists` writes. It takes no memory, and fails only where the sink has failed.
+/// `standing_lists` and `recovering` write. It takes no memory, and fails only where the sink has failed.
 pub fn detail_json<S: Sink, D: Device + Drop>(
     out: &mut S,
     mirror: &Mirror<D>,
@@ -51,6 +52,7 @@ pub fn detail_json<S: Sink, D: Device + Drop>(
     condition(out, mirror)?;
     members(out, mirror, images)?;
     standing_lists(out, mirror)?;
+    recovering(out, mirror)?;
     close(out)?;
     Ok(())
 }

@@ -15,6 +15,7 @@ pub(crate) mod member_objects;
 mod plan_object;
 mod quoting;
 mod rebuilt_object;
+mod recovering_list;
 mod refusal_object;
 mod standing_lists;
 mod superblock_object;

@@ -4,7 +4,7 @@ ghost use Rattle.std.specs.Prelude.{◌≡◌};
 use crate::array::Array;
 
 impl Array {
-    /// Whether the array is resynced.
+    /// Notes whether the array is resynced.
     pub fn note_resynced(&mut self, is: bool)
         ensures { self.new ≡ record self.old { resynced = is } }
     {

@@ -6,7 +6,7 @@ mod drawn;
 mod judged;
 
 use crate::dice::Dice;
-use crate::nbd_sessions::{Given, Kept};
+use crate::nbd_sessions::{Given, Kept, Silent};
 use drawn::Said;
 use judged::{Counts, FLAW, SIZE, Wrong, judge};
 use md_nbd::{Export, SessionEnd, SessionFault, Store, StoreFault, serve_client};
@@ -36,17 +36,25 @@ impl Store<Vec<u8>> for Flawed {
 
     ghost unread = { λ _ _ _ _. ⊤ };
 
+    ghost why_unread = { λ _ _ _ _ _. ⊤ };
+
     ghost writes = { λ _ _ _ _ _. ⊤ };
 
     ghost unwritten = { λ _ _ _ _. ⊤ };
+
+    ghost why_unwritten = { λ _ _ _ _ _. ⊤ };
 
     ghost flushes = { λ _ _. ⊤ };
 
     ghost unflushed = { λ _ _. ⊤ };
 
+    ghost why_unflushed = { λ _ _ _. ⊤ };
+
+    ghost rests = { λ _ _. ⊤ };
+
     fn read(&mut self, lent: &mut Vec<u8>, sector: u64, buf: &mut [u8]) -> Result<(), StoreFault> {
         if has_flaw(sector, buf.len()) {
-            return Err(StoreFault);
+            return Err(StoreFault::Lacks(FLAW));
         }
         let at = 512 * sector as usize;
         buf.copy_from_slice(&lent[at..at + buf.len()]);
@@ -61,7 +69,7 @@ impl Store<Vec<u8>> for Flawed {
         _: bool,
     ) -> Result<(), StoreFault> {
         if has_flaw(sector, bytes.len()) {
-            return Err(StoreFault);
+            return Err(StoreFault::Lacks(FLAW));
         }
         let at = 512 * sector as usize;
         lent[at..at + bytes.len()].copy_from_slice(bytes);
@@ -69,6 +77,10 @@ impl Store<Vec<u8>> for Flawed {
     }
 
     fn flush(&mut self, _: &mut Vec<u8>) -> Result<(), StoreFault> {
+        Ok(())
+    }
+
+    fn rest(&mut self, _: &mut Vec<u8>) -> Result<(), StoreFault> {
         Ok(())
     }
 }
@@ -120,6 +132,7 @@ fn serve(rt: &impl Abort, alloc: Global, stage: &mut Stage) -> Result<SessionEnd
         &export,
         &mut Flawed,
         &mut stage.store,
+        &Silent,
         &mut stage.buf,
         &mut input,
         &mut stage.heard,

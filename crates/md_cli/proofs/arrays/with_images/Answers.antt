@@ -34,9 +34,9 @@ returns-clause-gives g c =
     let ask = ask_of c.args.command in
     let words_are : map word_of c.as_slice-words.result.now ≡ image_list false (texts c.args.names.now) = ap (map word_of) c.as_slice-words.ensures.value ∙ c.in-Ok.ensures in
     let Using : Access → List Word → Type 0 =
-    λ access words. UsesImages i g.I.Dev.Device (WorksOn g.R.Source g.S.Sink (question g.A.Asker (ask_of c.args.command) (texts c.args.names.now)) (texts c.args.names.now) ask) access words c.args.images.now c.put_back.new.images (told_of c.args.session.now c.args.notices.now) (told_of call.new.session call.new.notices) call.result.1 in
+    λ access words. UsesImages i g.I.Dev.Device (WorksOn g.R.Source g.S.Sink (question g.A.Asker (ask_of c.args.command) (texts c.args.names.now)) (texts c.args.names.now) ask c.args.chunk) access words c.args.images.now c.put_back.new.images (told_of c.args.session.now c.args.notices.now) (told_of call.new.session call.new.notices) call.result.1 in
     let done : Using c.access.result (map word_of c.as_slice-words.result.now) =
-    used i g.I.Dev.Device (WorksOn g.R.Source g.S.Sink (question g.A.Asker (ask_of c.args.command) (texts c.args.names.now)) (texts c.args.names.now) ask) c.access.result (map word_of c.as_slice-words.result.now) c.args.images.now c.take_images.new.images c.put_back.new.images c.in_ok-devices.devices.items call.result.0.items (told_of c.args.session.now c.args.notices.now) (told_of call.new.session call.new.notices) call.result.1 c.in_ok-devices.ensures.gives c.take_images.ensures.known call.ensures.as_many c.put_back.ensures.back call.ensures.gives in
+    used i g.I.Dev.Device (WorksOn g.R.Source g.S.Sink (question g.A.Asker (ask_of c.args.command) (texts c.args.names.now)) (texts c.args.names.now) ask c.args.chunk) c.access.result (map word_of c.as_slice-words.result.now) c.args.images.now c.take_images.new.images c.put_back.new.images c.in_ok-devices.devices.items call.result.0.items (told_of c.args.session.now c.args.notices.now) (told_of call.new.session call.new.notices) call.result.1 c.in_ok-devices.ensures.gives c.take_images.ensures.known call.ensures.as_many c.put_back.ensures.back call.ensures.gives in
     subst (λ (access : Access). Using access (image_list false (texts c.args.names.now))) c.access.ensures (subst (Using c.access.result) words_are done)
 
 pub returns-in_err-devices-clause-gives : goal.returns-in_err-devices-clause-gives

@@ -12,5 +12,5 @@ returns-then-is_readonly-clause-gives g c =
     let call = c.look_at_devices-result in
     let all = disks g.D.Device c.args.devices.items in
     let same : c.deref.result.now ≡ c.args.devices.items = search rules in
-    let looks = subst (λ items. LooksAtDevices g.R.Source g.S.Sink (question g.A.Asker (ask_of c.args.command) (texts c.args.names.now)) (texts c.args.names.now) ask (disks g.D.Device items) (told_of c.args.session.now c.args.notices.now) (told_of call.new.session call.new.notices) call.result) same call.ensures.gives in
-    subst (λ (b : Bool). WorksBy g.R.Source g.S.Sink (question g.A.Asker (ask_of c.args.command) (texts c.args.names.now)) (texts c.args.names.now) ask b all all (told_of c.args.session.now c.args.notices.now) (told_of call.new.session call.new.notices) call.result) (sym c.if-is_readonly.true ∙ c.is_readonly.ensures) (refl, looks)
+    let looks = subst (λ items. LooksAtDevices g.R.Source g.S.Sink (question g.A.Asker (ask_of c.args.command) (texts c.args.names.now)) (texts c.args.names.now) ask c.args.chunk (disks g.D.Device items) (told_of c.args.session.now c.args.notices.now) (told_of call.new.session call.new.notices) call.result) same call.ensures.gives in
+    subst (λ (b : Bool). WorksBy g.R.Source g.S.Sink (question g.A.Asker (ask_of c.args.command) (texts c.args.names.now)) (texts c.args.names.now) ask c.args.chunk b all all (told_of c.args.session.now c.args.notices.now) (told_of call.new.session call.new.notices) call.result) (sym c.if-is_readonly.true ∙ c.is_readonly.ensures) (refl, looks)

@@ -1,6 +1,6 @@
-use Rattle.std.proofs.Common.{◌≡◌, ap, ◌∙◌, Bool, inl, inr, IfOk, is_err, List, Option, None, Some, refl, subst, sym}
+use Rattle.std.proofs.Common.{◌≡◌, ap, ◌∙◌, Bool, inl, inr, IfOk, is_err, List, Option, None, Some, option_map, refl, subst, sym}
 use Rattle.clap.specs.Words.{FailsBy, Text}
-use Rattle.md_words.specs.Parsing.{asked, image_words, words_fault}
+use Rattle.md_words.specs.Parsing.{asked, bitmap_word, image_words, words_fault}
 use Rattle.md_words.specs.Asks.{Ask, ask_of, is_json, scan_form, tells_by_status}
 use Rattle.md_messages.specs.Noticed.{nothing}
 use Rattle.md_messages.specs.Telling.{TellsNoticed, texts}
@@ -71,7 +71,10 @@ returns-clause-taken g c taken other =
     let images : texts c.in-Ok.request.images.items ≡ image_words words = subst (λ parsed. IfOk parsed (λ r. texts r.images.items ≡ image_words words)) c.in-Ok.is c.requires.images in
     let names_are : texts c.as_slice-names.result.now ≡ image_words words = ap texts c.as_slice-names.ensures.value ∙ images in
     let Doing : Notices → Ask → List Text → Type 0 =
-    λ noticed ask names. Obeys g.I.Images g.I.Dev.Device g.R.Source g.S.Sink g.A.Asker c.args.session.now.random_bytes ask names c.args.images.now c.act-outcome.new.images (told_of c.args.session.now noticed) (told_of c.act-outcome.new.session c.act-outcome.new.notices) c.act-outcome.result in
+    λ noticed ask names. Obeys g.I.Images g.I.Dev.Device g.R.Source g.S.Sink g.A.Asker c.args.session.now.random_bytes (bitmap_word words) ask names c.args.images.now c.act-outcome.new.images (told_of c.args.session.now noticed) (told_of c.act-outcome.new.session c.act-outcome.new.notices) c.act-outcome.result in
+    let bitmap : option_map (λ s. s.now) c.in-Ok.request.bitmap ≡ bitmap_word words = subst (λ parsed. IfOk parsed (λ r. option_map (λ s. s.now) r.bitmap ≡ bitmap_word words)) c.in-Ok.is c.requires.bitmap in
+    let Kind : Option Text → Type 0 =
+    λ kind. Obeys g.I.Images g.I.Dev.Device g.R.Source g.S.Sink g.A.Asker c.args.session.now.random_bytes kind (ask_of c.in-Ok.request.command) (texts c.as_slice-names.result.now) c.args.images.now c.act-outcome.new.images (told_of c.args.session.now c.none-notices.result) (told_of c.act-outcome.new.session c.act-outcome.new.notices) c.act-outcome.result in
     let none : c.none-notices.result ≡ nothing = c.none-notices.ensures in
     let Telling : Bool → Ask → List Text → Type 0 =
     λ shown ask names. TellsNoticed g.E.Sink (record { messages = c.args.messages; was_shown = shown }) ask names (streams_of c.act-outcome.new.session).gaps c.args.err.now c.tell_outcome.new.err c.act-outcome.result c.act-outcome.new.notices in
@@ -82,7 +85,7 @@ returns-clause-taken g c taken other =
       status_is = subst (λ ask. c.outcome_status.result ≡ status_of (tells_by_status ask) c.act-outcome.new.session.mismatched c.act-outcome.result) asks c.outcome_status.ensures;
       noticed = c.act-outcome.new.notices;
       left = c.act-outcome.new.session.out;
-      does = subst (λ names. Doing nothing (asked words) names) names_are (subst (λ ask. Doing nothing ask (texts c.as_slice-names.result.now)) asks (subst (λ noticed. Doing noticed (ask_of c.in-Ok.request.command) (texts c.as_slice-names.result.now)) none c.act-outcome.ensures.gives));
+      does = subst (λ names. Doing nothing (asked words) names) names_are (subst (λ ask. Doing nothing ask (texts c.as_slice-names.result.now)) asks (subst (λ noticed. Doing noticed (ask_of c.in-Ok.request.command) (texts c.as_slice-names.result.now)) none (subst Kind bitmap c.act-outcome.ensures.gives)));
       shown = subst (λ ask. ShowsIfRefused g.S.Sink (is_json ask) c.act-outcome.new.session.out c.show_if_refused.new.out c.act-outcome.result) asks c.show_if_refused.ensures.shows;
       told = subst (λ names. Telling first (asked words) names) names_are (subst (λ ask. Telling first ask (texts c.as_slice-names.result.now)) asks told);
     })

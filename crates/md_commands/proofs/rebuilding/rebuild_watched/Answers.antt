@@ -12,3 +12,6 @@ returns-clause-begins g c m at =
     let is = c.chunks_lacked-lacked.ensures m at in
     subst (λ n. g.W.Watch.lacks c.args.watch.now n (slice_get missing 0)) is.count
     (subst (λ o. g.W.Watch.lacks c.args.watch.now c.chunks_lacked-lacked.result.0 o) is.first_is c.begins.ensures)
+
+pub returns-clause-taken_up : goal.returns-clause-taken_up
+returns-clause-taken_up g c m at is = c.tell_if_taken_up.ensures m at is

@@ -6,9 +6,9 @@ use Rattle.md_read_commands.proofs.filling.put_filled.Goals as goal
 pub returns-in_err-piece-clause-gives : goal.returns-in_err-piece-clause-gives
 returns-in_err-piece-clause-gives g c =
     let passed : c.from_residual.result ≡ Err NoPieceMemory = search rules in
-    rw passed (no_piece g.S.Sink c.args.way c.args.sector c.args.count c.args.gaps.now c.requires.none c.args.mirror.now c.args.out.now)
+    rw passed (no_piece g.S.Sink c.args.way c.args.sectors.sector c.args.sectors.count c.args.gaps.now c.requires.none c.args.mirror.now c.args.out.now)
 
 pub returns-in_err-holes-clause-gives : goal.returns-in_err-holes-clause-gives
 returns-in_err-holes-clause-gives g c =
     let passed : c.from_residual-in_err-holes.result ≡ Err NoPieceMemory = search rules in
-    rw passed (no_piece g.S.Sink c.args.way c.args.sector c.args.count c.args.gaps.now c.requires.none c.args.mirror.now c.args.out.now)
+    rw passed (no_piece g.S.Sink c.args.way c.args.sectors.sector c.args.sectors.count c.args.gaps.now c.requires.none c.args.mirror.now c.args.out.now)

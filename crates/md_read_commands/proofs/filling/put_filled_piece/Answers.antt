@@ -13,7 +13,7 @@ fill_piece-requires-clause-room g c =
     all_room c.args.holes.now c.clear.new.self (length c.args.piece.now / 512) c.clear.ensures.empty c.requires.holes
 
 pub fill_piece-requires-clause-clear : goal.fill_piece-requires-clause-clear
-fill_piece-requires-clause-clear g c = none_clear (gaps_of c.clear.new.self) (c.clear.ensures.missing, c.clear.ensures.others) c.args.sector
+fill_piece-requires-clause-clear g c = none_clear (gaps_of c.clear.new.self) (c.clear.ensures.missing, c.clear.ensures.others) c.args.asked.sector
 
 pub fill_piece-requires-clause-fit : goal.fill_piece-requires-clause-fit
 fill_piece-requires-clause-fit g c = (none_fit c.clear.new.self.missing.items c.clear.ensures.missing, none_fit c.clear.new.self.others.items c.clear.ensures.others)
@@ -22,7 +22,7 @@ pub returns-in_err-add_holes-clause-gives : goal.returns-in_err-add_holes-clause
 returns-in_err-add_holes-clause-gives g c =
     let passed : c.from_residual.result ≡ Err NoPieceMemory = search rules in
     let same = c.fill_piece.auto.piece in
-    let more = subst (λ (m : Gaps). FillsMore c.args.way c.args.sector c.fill_piece.new.piece m (gaps_of c.fill_piece.new.holes) c.args.mirror.now c.fill_piece.new.mirror) (no_gaps_is (gaps_of c.clear.new.self) (c.clear.ensures.missing, c.clear.ensures.others)) c.fill_piece.ensures.gives in
+    let more = subst (λ (m : Gaps). FillsMore c.args.asked.way c.args.asked.sector c.fill_piece.new.piece m (gaps_of c.fill_piece.new.holes) c.args.mirror.now c.fill_piece.new.mirror) (no_gaps_is (gaps_of c.clear.new.self) (c.clear.ensures.missing, c.clear.ensures.others)) c.fill_piece.ensures.gives in
     rw passed (
       record {
         bytes = c.fill_piece.new.piece;
@@ -36,26 +36,26 @@ returns-in_err-add_holes-clause-gives g c =
       refl,
     )
 
-pub returns-in_err-put-clause-gives : goal.returns-in_err-put-clause-gives
-returns-in_err-put-clause-gives g c =
-    let passed : c.from_residual-in_err-put.result ≡ Err OutputFault = search rules in
+pub returns-in_err-put_told-clause-gives : goal.returns-in_err-put_told-clause-gives
+returns-in_err-put_told-clause-gives g c =
+    let passed : c.from_residual-in_err-put_told.result ≡ Err OutputFault = search rules in
     let same = c.fill_piece.auto.piece in
-    let more = subst (λ (m : Gaps). FillsMore c.args.way c.args.sector c.fill_piece.new.piece m (gaps_of c.fill_piece.new.holes) c.args.mirror.now c.fill_piece.new.mirror) (no_gaps_is (gaps_of c.clear.new.self) (c.clear.ensures.missing, c.clear.ensures.others)) c.fill_piece.ensures.gives in
+    let more = subst (λ (m : Gaps). FillsMore c.args.asked.way c.args.asked.sector c.fill_piece.new.piece m (gaps_of c.fill_piece.new.holes) c.args.mirror.now c.fill_piece.new.mirror) (no_gaps_is (gaps_of c.clear.new.self) (c.clear.ensures.missing, c.clear.ensures.others)) c.fill_piece.ensures.gives in
     rw passed (
       record {
         bytes = c.fill_piece.new.piece;
         few = let whole = c.requires.whole in omega arith;
-        more = fills_noted c.args.way c.args.sector c.fill_piece.new.piece c.args.gaps.now (gaps_of c.fill_piece.new.holes) c.add_holes.new.noted c.args.mirror.now c.fill_piece.new.mirror
+        more = fills_noted c.args.asked.way c.args.asked.sector c.fill_piece.new.piece c.args.gaps.now (gaps_of c.fill_piece.new.holes) c.add_holes.new.noted c.args.mirror.now c.fill_piece.new.mirror
             more c.requires.clear c.in_ok-add_holes.ensures;
       },
-      c.in_err-put.ensures,
+      c.in_err-put_told.ensures,
     )
 
 pub returns-clause-gives : goal.returns-clause-gives
 returns-clause-gives g c =
-    let more = subst (λ (m : Gaps). FillsMore c.args.way c.args.sector c.fill_piece.new.piece m (gaps_of c.fill_piece.new.holes) c.args.mirror.now c.fill_piece.new.mirror) (no_gaps_is (gaps_of c.clear.new.self) (c.clear.ensures.missing, c.clear.ensures.others)) c.fill_piece.ensures.gives in
+    let more = subst (λ (m : Gaps). FillsMore c.args.asked.way c.args.asked.sector c.fill_piece.new.piece m (gaps_of c.fill_piece.new.holes) c.args.mirror.now c.fill_piece.new.mirror) (no_gaps_is (gaps_of c.clear.new.self) (c.clear.ensures.missing, c.clear.ensures.others)) c.fill_piece.ensures.gives in
     record {
-      more = fills_noted c.args.way c.args.sector c.fill_piece.new.piece c.args.gaps.now (gaps_of c.fill_piece.new.holes) c.add_holes.new.noted c.args.mirror.now c.fill_piece.new.mirror
+      more = fills_noted c.args.asked.way c.args.asked.sector c.fill_piece.new.piece c.args.gaps.now (gaps_of c.fill_piece.new.holes) c.add_holes.new.noted c.args.mirror.now c.fill_piece.new.mirror
           more c.requires.clear c.in_ok-add_holes.ensures;
-      puts = c.in_ok-put.ensures;
+      puts = c.in_ok-put_told.ensures;
     }

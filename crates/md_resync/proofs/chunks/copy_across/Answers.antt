@@ -4,6 +4,9 @@ use Rattle.md_resync.specs.Copying.{RunEnds}
 use Rattle.md_resync.proofs.CopiedChunks.{from_run, part_of_marked, range_of, uncrossed, uncrossed_none}
 use Rattle.md_resync.proofs.chunks.copy_across.Goals as goal
 
+pub returns-then-chunk-alone : goal.returns-then-chunk-alone
+returns-then-chunk-alone g c = uncrossed_none c.args.mirror.now c.requires.sound
+
 pub returns-then-behind-chunk : goal.returns-then-behind-chunk
 returns-then-behind-chunk g c = uncrossed_none c.args.mirror.now c.requires.sound
 

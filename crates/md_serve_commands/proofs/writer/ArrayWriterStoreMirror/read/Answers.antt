@@ -1,16 +1,33 @@
 use Rattle.std.proofs.Common.{arith, inr}
 use Rattle.md_serve_commands.proofs.writer.ArrayWriterStoreMirror.read.Goals as goal
 
-pub returns-in-Err-read-clause-gives : goal.returns-in-Err-read-clause-gives
-returns-in-Err-read-clause-gives g c = inr (record {
-  mid = c.write_waiting.new.mirror;
-  waited = c.in-Ok.ensures.gives;
-  none = c.in-Ok.ensures.none;
+pub returns-clause-gives : goal.returns-clause-gives
+returns-clause-gives g c = inr (record {
+  mid = c.write_first.new.mirror;
+  waited = c.in_ok-write_first.ensures.gives;
+  none = c.in_ok-write_first.ensures.none;
   refused = record {
-    fault = c.in-Err-read.field-0;
+    fault = c.in-Err.fault;
     bytes = c.read.new.buf;
     as_many = omega (arith, c.read.auto.buf, c.requires.whole);
-    refused = c.in-Err-read.ensures.gives;
-    pending = c.in-Err-read.ensures.pending;
+    refused = c.in-Err.ensures.gives;
+    pending = c.in-Err.ensures.pending;
   };
 })
+
+pub returns-clause-why : goal.returns-clause-why
+returns-clause-why g c = inr (
+  record {
+    mid = c.write_first.new.mirror;
+    waited = c.in_ok-write_first.ensures.gives;
+    none = c.in_ok-write_first.ensures.none;
+    refused = record {
+      fault = c.in-Err.fault;
+      bytes = c.read.new.buf;
+      as_many = omega (arith, c.read.auto.buf, c.requires.whole);
+      refused = c.in-Err.ensures.gives;
+      pending = c.in-Err.ensures.pending;
+    };
+  },
+  c.unread.ensures,
+)

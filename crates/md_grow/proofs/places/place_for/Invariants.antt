@@ -1,6 +1,0 @@
-use Rattle.std.proofs.Common.{ℕ, ◌<◌}
-use Rattle.md_grow.specs.Places.{HaveRoomAt, page_at}
-use Rattle.md_grow.proofs.places.place_for.Given as goal
-
-abbrev pub invariant-loop-page : goal.invariant-loop-page
-invariant-loop-page l = (before : ℕ) → before < l.page → HaveRoomAt (page_at before) l.sectors l.infos → ⊥

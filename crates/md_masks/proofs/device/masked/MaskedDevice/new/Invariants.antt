@@ -1,5 +1,0 @@
--- The hidden bytes are those that the caller has in mind.
-use Rattle.md_masks.proofs.device.masked.MaskedDevice.new.Given as goal
-
-abbrev pub ghost-any : goal.ghost-any
-ghost-any g a = g.disk

@@ -1,5 +1,0 @@
-use Rattle.md_masks.proofs.images.masked_images.mask_of.Given as goal
-
--- the disk's bytes are those that the caller has in mind
-abbrev pub ghost-new : goal.ghost-new
-ghost-new g a = g.disk

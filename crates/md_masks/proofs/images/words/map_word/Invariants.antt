@@ -1,6 +1,0 @@
-use Rattle.std.proofs.Common.{map}
-use Rattle.md_masks.specs.Images.Words.{NamesNone}
-use Rattle.md_masks.proofs.images.words.map_word.Given as goal
-
-abbrev pub invariant-loop-image : goal.invariant-loop-image
-invariant-loop-image l = NamesNone (map (λ s. s.now) l.names) l.image l.word

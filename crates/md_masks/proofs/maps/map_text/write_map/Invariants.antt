@@ -1,6 +1,0 @@
-use Rattle.std.proofs.Common.{string_bytes}
-use Rattle.md_masks.proofs.MapLemmas.Written.{IsWrittenUpTo}
-use Rattle.md_masks.proofs.maps.map_text.write_map.Given as goal
-
-abbrev pub invariant-loop-run : goal.invariant-loop-run
-invariant-loop-run l = IsWrittenUpTo l.size l.tried l.run-items l.run-index l.from (string_bytes l.text)

@@ -1,0 +1,14 @@
+use Rattle.std.proofs.Common.{◌≡◌, length, map}
+use Rattle.md_state.specs.View.{disk_of}
+use Rattle.md_metadata.specs.Grow.Growing.{OfMember}
+use Rattle.md_metadata.specs.Grow.Stored.{GetsSuperblock}
+use Rattle.md_metadata.proofs.GrowLemmas.StoredEach.{AreDoneTo}
+use Rattle.md_metadata.proofs.bitmap_grow.store.put_superblocks.Given as goal
+
+abbrev pub invariant-loop-k : goal.invariant-loop-k
+invariant-loop-k g l =
+    let disks = map (disk_of g.D.Device) in
+    record {
+      done : AreDoneTo (OfMember l.growth (GetsSuperblock l.growth)) (disks l.fn.devices) (disks l.devices) l.k;
+      size : length l.devices ≡ length l.fn.devices;
+    }
