@@ -167,6 +167,9 @@ fn a_bad_area_takes_few_failing_reads(rt: HostRuntime) -> Result<(), Fail> {
 fn expect_unread(rt: &impl Abort, alloc: Global, sector: u32) -> Result<(), Fail> {
     let mut mirror = mirror_of(alloc, 0xff, &[&[u64::from(sector)], &[]])?;
     let answer = resync(alloc, &mut mirror);
+    if answer == Err(ResyncFault::NoMemory) {
+        return Err(Fail::new("no memory"));
+    }
     let failed = failed_of(mirror);
     let fault = ResyncFault::ReadFault(0, sector / 8);
     holds(
