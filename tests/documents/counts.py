@@ -12,8 +12,11 @@ import re
 import sys
 from pathlib import Path
 
+import surface
+
 CRATES = Path(__file__).resolve().parent.parent.parent / "crates"
 BOUNDS = Path(__file__).resolve().with_name("counts.txt")
+CLAUSES = CRATES.parent / "docs" / "CLAUSES.md"
 
 # One thing in two crates: what a step asks of memory and changes there, and its write (docs/ARCHITECTURE.md, "Where a step
 # stands"); a word of the model, which is said of a world there, and of a mirror in one of the others (in md_laws of its life, in md_kept_members of its superblock and members) ("How a crate is laid out").
@@ -97,6 +100,28 @@ def names_with_several_meanings():
     return reasons
 
 
+def calls_nobody_makes():
+    """Functions that a library passes on, whose name stands in no other crate and in no row of CLAUSES. The surface of the library
+    is excepted, and so are laws, whose bodies are empty. Methods of one name count as one."""
+    texts = {}
+    for file in sources():
+        texts.setdefault(crate_of(file), {})[file] = code(file)
+    words = {crate: set(re.findall(r"\w+", " ".join(there.values()))) for crate, there in texts.items()}
+    known = {name.split("::")[-1] for name in surface.functions()}
+    known.update(re.findall(r"\w+", " ".join(re.findall(r"`[^`]+`", CLAUSES.read_text()))))
+    reasons = []
+    for crate, there in sorted(texts.items()):
+        passed_on = set(re.findall(r"\w+", " ".join(re.findall(r"pub use [^;]*;", there.get(CRATES / crate / "src" / "lib.rt", "")))))
+        called = known.union(*(names for other, names in words.items() if other != crate))
+        for file, text in there.items():
+            for found in re.finditer(r"(?m)^( *)pub (?:const )?fn (\w+)", text):
+                owner = IMPL.findall(text[: found.start()])[-1:] if found[1] else [found[2]]
+                is_law = re.match(r"[^;]*?\n\{\s*\}", text[found.end() :].partition("\npub ")[0])
+                if passed_on.intersection(owner) and not is_law and found[2] not in called:
+                    reasons.append("%s: %s" % (place(file), found[2]))
+    return reasons
+
+
 def bare_participles():
     reasons = []
     for file in sources():
@@ -137,6 +162,7 @@ COUNTS = {
     "gerunds that name sources of two crates": shared_gerunds,
     "names of several definitions": names_with_several_meanings,
     "functions named by a bare participle": bare_participles,
+    "public functions that nobody calls outside their crate": calls_nobody_makes,
     "places where ? is spelled out": lambda: matches(QUESTION),
     "places where From is spelled out": lambda: matches(FROM),
     "names with coined words": coined_words,

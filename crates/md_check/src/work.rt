@@ -117,7 +117,7 @@ fn follow<D: Device, G: Gate>(
     let answer = if was_alike && !reader.listed.meets(from, lead.len() as u64 / 512) {
         read_beside(gate, chunks, from, lead, role, reader)
     } else {
-        is_block_alike(gate, chunks, from, lead, role, reader)
+        compare_block(gate, chunks, from, lead, role, reader)
     };
     match answer {
         Ok(alike) => reader.alike = alike,
@@ -150,15 +150,15 @@ fn read_beside<D: Device, G: Gate>(
     ensures there { IfErr result (λ c. FailsUnlisted D.Device reader.old.device reader.new.device reader.old.offset chunks (IsBad reader.old.listed) c) }
     ensures told { OnOk result (IsToldOfSectors G.Gate gate.now role chunks reader.old.listed from (length lead.now / 512)) }
 {
-    if is_read_alike(gate, chunks, from, lead, role, reader)? {
+    if compare_reads(gate, chunks, from, lead, role, reader)? {
         return Ok(true);
     }
-    is_block_alike(gate, chunks, from, lead, role, reader)
+    compare_block(gate, chunks, from, lead, role, reader)
 }
 
 // Reads a window block by block, and answers whether these bytes were read. It ends at the first block that is not the
 // same.
-fn is_read_alike<D: Device, G: Gate>(
+fn compare_reads<D: Device, G: Gate>(
     gate: &G,
     chunks: Chunks,
     from: u64,
@@ -185,7 +185,7 @@ fn is_read_alike<D: Device, G: Gate>(
         let len = BLOCK.min(lead.len() - done);
         let sector = from + done as u64 / 512;
         let block = &lead[done..done + len];
-        let alike = is_block_alike(gate, chunks, sector, block, role, reader)?;
+        let alike = compare_block(gate, chunks, sector, block, role, reader)?;
         if !alike {
             return Ok(false);
         }
@@ -195,7 +195,7 @@ fn is_read_alike<D: Device, G: Gate>(
 }
 
 // Reads sectors at once, and answers whether these bytes were read. Where they were not, the buffer has what was read.
-fn is_block_alike<D: Device, G: Gate>(
+fn compare_block<D: Device, G: Gate>(
     gate: &G,
     chunks: Chunks,
     from: u64,

@@ -62,7 +62,7 @@ impl Questions {
                 true
             }
             Questions::Asked => match put_question(err, lines) {
-                Ok(()) => is_answered_yes(input),
+                Ok(()) => read_answer(input),
                 Err(_) => {
                     // Nobody saw what would be agreed to.
                     false
@@ -82,7 +82,7 @@ fn put_question<E: Sink>(err: &mut E, lines: &[u8]) -> Result<(), SinkFault>
 }
 
 // Whether what is read of the input next is a yes. A terminal gives a line at a time.
-fn is_answered_yes<R: Source>(input: &mut R) -> bool
+fn read_answer<R: Source>(input: &mut R) -> bool
     ensures { Answers R.Source input.old input.new result }
 {
     let mut answer = [0u8; ANSWER_BYTES];

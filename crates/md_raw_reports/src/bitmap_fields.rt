@@ -236,7 +236,7 @@ fn line_where_it_stands<S: Sink>(
 }
 
 /// What a fault of a header is called.
-pub fn bitmap_fault_name(fault: BitmapFault) -> &'static str
+pub(crate) fn bitmap_fault_name(fault: BitmapFault) -> &'static str
     ensures { result.now ≡ bitmap_fault_name fault }
 {
     match fault {

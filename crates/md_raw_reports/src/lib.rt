@@ -21,16 +21,11 @@ mod raw_members;
 mod super_faults;
 mod super_fields;
 
-pub use bitmap_fields::{
-    BITMAP_FAULTS, BITMAP_FIELDS, bitmap_fault_name, bitmap_fault_stands, examine_bitmap_all,
-};
+pub use bitmap_fields::{BITMAP_FAULTS, BITMAP_FIELDS, bitmap_fault_stands, examine_bitmap_all};
 pub use fields::{Field, Kind};
 pub use log_fields::{LOG_FIELDS, examine_badblocks_all};
 pub use raw_bitmap::{CountedMarks, RawBitmap, UnreadMarks};
 pub use raw_json::{raw_bitmap_json, raw_log_json, raw_super_json};
 pub use raw_members::{RawFault, RawLog, read_raw_bitmap, read_raw_log, read_raw_super};
-pub use super_faults::{
-    roles_read_in, super_fault_is_seen, super_fault_name, super_fault_stands, super_faults_of,
-    unsupported_features,
-};
+pub use super_faults::{super_fault_is_seen, super_fault_stands};
 pub use super_fields::{Found, SUPER_FIELDS, examine_all};

@@ -37,7 +37,7 @@ pub(crate) fn super_fault_lines<S: Sink>(
 }
 
 /// The faults that may stand in the bytes of a superblock, in the order in which it is refused by them.
-pub fn super_faults_of(bytes: &[u8; 4096]) -> [SuperFault; 8]
+pub(crate) fn super_faults_of(bytes: &[u8; 4096]) -> [SuperFault; 8]
     ensures { result ≡ faults_of bytes.now }
 {
     [
@@ -88,7 +88,7 @@ fn line_where_it_stands<S: Sink>(
 }
 
 /// The bits of the feature map that are no feature of this project.
-pub fn unsupported_features(bytes: &[u8; 4096]) -> u32
+pub(crate) fn unsupported_features(bytes: &[u8; 4096]) -> u32
     ensures { result ≡ unsupported_features (number_at 4 8 bytes.now) }
 {
     u32_at(bytes, 8) & UNSUPPORTED_FEATURES
@@ -115,7 +115,7 @@ fn is_told(read: u32, bytes: &[u8; 4096], fault: SuperFault) -> bool
 }
 
 /// How many roles the first so many sectors of a superblock have room for.
-pub fn roles_read_in(read: u32) -> u32
+pub(crate) fn roles_read_in(read: u32) -> u32
     requires some { 0 < read }
     requires few { read ≤ 8 }
     ensures { result ≡ roles_read_in read }
@@ -137,7 +137,7 @@ fn fault_name_line<S: Sink>(out: &mut S, label: &str, fault: SuperFault) -> Resu
 }
 
 /// What a fault of a superblock is called.
-pub fn super_fault_name(fault: SuperFault) -> &'static str
+pub(crate) fn super_fault_name(fault: SuperFault) -> &'static str
     ensures { result.now ≡ super_fault_name fault }
 {
     match fault {

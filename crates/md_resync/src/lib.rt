@@ -12,9 +12,9 @@
 
 mod buffer;
 mod chunks;
+mod compare_member;
 mod fault;
 mod giving_up;
-mod is_known_to_hold;
 pub mod laws;
 mod making_agree;
 mod marks;

@@ -3,8 +3,8 @@ ghost use Rattle.std.specs.Prelude.{◌<◌, ◌≤◌, MatchResult, length};
 ghost use Rattle.md_array.specs.Consistency.{IsConsistent};
 ghost use Rattle.md_resync.specs.Copying.{GivesAll, GivesWhereUnlike, GivingFails, IsRun};
 
+use crate::compare_member::compare_member;
 use crate::fault::ResyncFault;
-use crate::is_known_to_hold::is_known_to_hold;
 use md_array::{CopyFault, Mirror};
 use md_device::Device;
 
@@ -46,7 +46,7 @@ fn copy_to<D: Device + Drop>(
     if k == from || !mirror.state(k).is_in_sync() {
         return Ok(());
     }
-    if is_known_to_hold(mirror, k, sector, bytes, held) {
+    if compare_member(mirror, k, sector, bytes, held) {
         return Ok(());
     }
     match mirror.copy_data(k, sector, bytes) {

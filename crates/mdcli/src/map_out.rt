@@ -123,7 +123,7 @@ pub fn begun_map<'a, E: Write + Sink>(
 
 /// Writes the map, where one was begun and all sectors, so many, are put out; else there is none. In it those count as read that are
 /// another member's. Says on `err` why it can't.
-pub fn is_map_made<E: Write + Sink>(
+pub fn make_map<E: Write + Sink>(
     rt: &HostRuntime,
     map: BegunMap<'_>,
     count: u64,

@@ -36,7 +36,7 @@ pub fn destination_of<'a, S: Sink + Drop, E: Write + Sink>(
 }
 
 /// Ends the file that was asked for, if one was. Says on `err` why it can't, or why it was not written any more.
-pub fn is_file_ended<'a, S: Drop, E: Write + Sink>(
+pub fn end_file<'a, S: Drop, E: Write + Sink>(
     destination: Destination<S, Sparse<NewFile<'a>>>,
     path: Option<&str>,
     messages: Messages,

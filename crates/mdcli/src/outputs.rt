@@ -1,9 +1,7 @@
 // Where a command puts out, and how that ends.
-use crate::map_out::{
-    BegunMap, MapOut, begun_map, is_map_made, tell_map_out, tell_map_with_advice,
-};
+use crate::map_out::{BegunMap, MapOut, begun_map, make_map, tell_map_out, tell_map_with_advice};
 use crate::new_file::NewFile;
-use crate::output_file::{destination_of, is_file_ended, output_of, tell_output, tell_with_advice};
+use crate::output_file::{destination_of, end_file, output_of, tell_output, tell_with_advice};
 use crate::resume_fault::{Kept, ResumeFault, resume_advice};
 use crate::resumed_file::{KeepFault, ResumedFile};
 use crate::resuming::{Names, ResumeRefusal, Resumed};
@@ -104,7 +102,7 @@ impl<'a> Ending<'a> {
             map,
         } = self;
         let is_ended = is_output_ended(outputs, output, resumed, messages, err);
-        is_map_made(rt, map, count, of_all, messages, err) && is_ended
+        make_map(rt, map, count, of_all, messages, err) && is_ended
     }
 }
 
@@ -117,7 +115,7 @@ pub fn is_output_ended<S: Drop, E: Write + Sink>(
     err: &mut E,
 ) -> bool {
     match (outputs, names) {
-        (Destination::Standard(made), _) => is_file_ended(made, output, messages, err),
+        (Destination::Standard(made), _) => end_file(made, output, messages, err),
         (Destination::File(kept), Some(names)) => {
             is_resumed_ended(kept.into_inner().into_inner(), names, messages, err)
         }

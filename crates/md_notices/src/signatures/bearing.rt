@@ -4,7 +4,7 @@ ghost use Rattle.md_notices.specs.Signatures.Bearing.{bears_signature, has_super
 ghost use Rattle.md_notices.specs.Signatures.Reading.{Heeds, IsOnlySearched, TellsWhetherThere};
 ghost use Rattle.md_notices.specs.declared.signatures.signature.Signature.TheVariants.{Mbr};
 
-use crate::signatures::magic::{Magic, has_any, has_magic};
+use crate::signatures::magic::{Magic, look_for_any, look_for_magic};
 use crate::signatures::partitions::is_partition_table;
 use crate::signatures::read_sector::read_sector;
 use crate::signatures::signature::Signature;
@@ -40,7 +40,7 @@ fn md_10_place(sectors: u64) -> Option<u64>
 }
 
 // Whether an md superblock stands at a place of the device, where it has one.
-fn has_superblock<D: Device>(device: &mut D, place: Option<u64>, has_failed: &mut bool) -> bool
+fn look_for_superblock<D: Device>(device: &mut D, place: Option<u64>, has_failed: &mut bool) -> bool
     requires { IfSome place (λ p. p % 512 ≡ 0) }
     ensures only_read { IsOnlySearched D.Device device.old device.new }
     ensures heeds { Heeds D.Device device.old device.new has_failed.old has_failed.new }
@@ -49,7 +49,7 @@ fn has_superblock<D: Device>(device: &mut D, place: Option<u64>, has_failed: &mu
         result }
 {
     match place {
-        Some(place) => has_any(
+        Some(place) => look_for_any(
             device,
             &[Magic {
                 place,
@@ -62,7 +62,7 @@ fn has_superblock<D: Device>(device: &mut D, place: Option<u64>, has_failed: &mu
 }
 
 // Whether the first sector has a partition table.
-fn has_partition_table<D: Device>(device: &mut D, has_failed: &mut bool) -> bool
+fn look_for_partition_table<D: Device>(device: &mut D, has_failed: &mut bool) -> bool
     ensures only_read { IsOnlySearched D.Device device.old device.new }
     ensures heeds { Heeds D.Device device.old device.new has_failed.old has_failed.new }
     ensures tells { TellsWhetherThere D.Device device.old device.new
@@ -85,13 +85,13 @@ pub(crate) fn bears<D: Device>(device: &mut D, signature: Signature, has_failed:
     match signature {
         Signature::Md090 => {
             let place = md_090_place(device.sectors());
-            has_superblock(device, place, has_failed)
+            look_for_superblock(device, place, has_failed)
         }
         Signature::Md10 => {
             let place = md_10_place(device.sectors());
-            has_superblock(device, place, has_failed)
+            look_for_superblock(device, place, has_failed)
         }
-        Signature::Mbr => has_partition_table(device, has_failed),
-        _ => has_any(device, magics(signature), has_failed),
+        Signature::Mbr => look_for_partition_table(device, has_failed),
+        _ => look_for_any(device, magics(signature), has_failed),
     }
 }

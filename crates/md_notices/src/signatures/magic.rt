@@ -32,7 +32,11 @@ pub(crate) fn has_bytes(bytes: &[u8], place: usize, wanted: &[u8]) -> bool
 }
 
 /// Whether the magic number stands on the device. Its sector is read, once.
-pub(crate) fn has_magic<D: Device>(device: &mut D, magic: &Magic, has_failed: &mut bool) -> bool
+pub(crate) fn look_for_magic<D: Device>(
+    device: &mut D,
+    magic: &Magic,
+    has_failed: &mut bool,
+) -> bool
     requires { is_in_one_sector (sign_of magic.now) ≡ true }
     ensures only_read { IsOnlySearched D.Device device.old device.new }
     ensures heeds { Heeds D.Device device.old device.new has_failed.old has_failed.new }
@@ -47,7 +51,11 @@ pub(crate) fn has_magic<D: Device>(device: &mut D, magic: &Magic, has_failed: &m
 }
 
 /// Whether one of the magic numbers stands on the device. The sectors of no more than these are read.
-pub(crate) fn has_any<D: Device>(device: &mut D, magics: &[Magic], has_failed: &mut bool) -> bool
+pub(crate) fn look_for_any<D: Device>(
+    device: &mut D,
+    magics: &[Magic],
+    has_failed: &mut bool,
+) -> bool
     requires { list_all (λ m. is_in_one_sector (sign_of m)) magics.now ≡ true }
     ensures only_read { IsOnlySearched D.Device device.old device.new }
     ensures heeds { Heeds D.Device device.old device.new has_failed.old has_failed.new }
@@ -55,7 +63,7 @@ pub(crate) fn has_any<D: Device>(device: &mut D, magics: &[Magic], has_failed: &
         (list_any (λ m. has_sign (D.content device.old) (sign_of m)) magics.now) result }
 {
     for magic in magics {
-        if has_magic(device, magic, has_failed) {
+        if look_for_magic(device, magic, has_failed) {
             return true;
         }
     }

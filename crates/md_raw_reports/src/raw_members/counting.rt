@@ -74,7 +74,7 @@ fn count_chunks<D: Device>(
     let mut block = [0; 512];
     for k in 1..sectors {
         let at = start + u64::from(k);
-        if !is_read(device, at, &mut block) {
+        if !read_if_there(device, at, &mut block) {
             return CountedMarks {
                 chunks,
                 marked,
@@ -97,7 +97,7 @@ fn count_chunks<D: Device>(
 
 // Whether a sector is on the device, and was read.
 #[tactic(auto, using(md_device::proofs::Failing::fails_none, md_device::proofs::Failing::fails_then, md_device::proofs::Failing::fails_call))]
-fn is_read<D: Device>(device: &mut D, sector: u64, bytes: &mut [u8; 512]) -> bool
+fn read_if_there<D: Device>(device: &mut D, sector: u64, bytes: &mut [u8; 512]) -> bool
     ensures kept { D.content device.new ≡ D.content device.old }
     ensures honest { D.honest device.new ≡ D.honest device.old }
     ensures counted { D.failures device.old ≤ D.failures device.new }

@@ -28,25 +28,25 @@ returns-then-k-from g c =
           absurd cc
     ])
 
-pub is_known_to_hold-requires-clause-some : goal.is_known_to_hold-requires-clause-some
-is_known_to_hold-requires-clause-some g c = let long = c.requires.run.long in let some = c.requires.run.some in omega arith
+pub compare_member-requires-clause-some : goal.compare_member-requires-clause-some
+compare_member-requires-clause-some g c = let long = c.requires.run.long in let some = c.requires.run.some in omega arith
 
-pub is_known_to_hold-requires-clause-whole : goal.is_known_to_hold-requires-clause-whole
-is_known_to_hold-requires-clause-whole g c = let long = c.requires.run.long in omega arith
+pub compare_member-requires-clause-whole : goal.compare_member-requires-clause-whole
+compare_member-requires-clause-whole g c = let long = c.requires.run.long in omega arith
 
-pub is_known_to_hold-requires-clause-inside : goal.is_known_to_hold-requires-clause-inside
-is_known_to_hold-requires-clause-inside g c = let long = c.requires.run.long in let inside = c.requires.run.inside in omega arith
+pub compare_member-requires-clause-inside : goal.compare_member-requires-clause-inside
+compare_member-requires-clause-inside g c = let long = c.requires.run.long in let inside = c.requires.run.inside in omega arith
 
-pub returns-then-is_known_to_hold : goal.returns-then-is_known_to_hold
-returns-then-is_known_to_hold g c =
-    let read = c.is_known_to_hold.ensures in
-    only_read c.args.k c.args.sector c.args.bytes.now c.args.mirror.now c.is_known_to_hold.new.mirror c.requires.sound read.rests (read.holds c.if-is_known_to_hold.true)
+pub returns-then-compare_member : goal.returns-then-compare_member
+returns-then-compare_member g c =
+    let read = c.compare_member.ensures in
+    only_read c.args.k c.args.sector c.args.bytes.now c.args.mirror.now c.compare_member.new.mirror c.requires.sound read.rests (read.holds c.if-compare_member.true)
 
 pub copy_data-requires-clause-copy : goal.copy_data-requires-clause-copy
 copy_data-requires-clause-copy g c =
     let old = c.args.mirror.now in
-    let mid = c.is_known_to_hold.new.mirror in
-    let rests = c.is_known_to_hold.ensures.rests in
+    let mid = c.compare_member.new.mirror in
+    let rests = c.compare_member.ensures.rests in
     let m = member_at old.array c.args.k c.requires.within in
     let state = told (λ x. x.state) old.array c.args.k m.0 c.state.result c.state.ensures m.1 in
     let answer = c.is_in_sync.ensures in
@@ -59,17 +59,17 @@ copy_data-requires-clause-copy g c =
 pub returns-in-Ok : goal.returns-in-Ok
 returns-in-Ok g c =
     let e = c.in-Ok.ensures in
-    let read = c.is_known_to_hold.ensures in
-    let mid = c.is_known_to_hold.new.mirror in
-    given_unlike c.args.k c.args.sector c.args.bytes.now c.args.mirror.now mid c.copy_data.new.self c.requires.sound read.rests (read.unlike c.if-is_known_to_hold.false)
+    let read = c.compare_member.ensures in
+    let mid = c.compare_member.new.mirror in
+    given_unlike c.args.k c.args.sector c.args.bytes.now c.args.mirror.now mid c.copy_data.new.self c.requires.sound read.rests (read.unlike c.if-compare_member.false)
     (gives_to c.args.k c.args.sector c.args.bytes.now mid c.copy_data.new.self read.sound e.gives e.event)
 
 pub returns-in-Err-MemberFailed : goal.returns-in-Err-MemberFailed
 returns-in-Err-MemberFailed g c =
     let at = c.in-Err-MemberFailed in
     let old = c.args.mirror.now in
-    let read = c.is_known_to_hold.ensures in
-    let mid = c.is_known_to_hold.new.mirror in
+    let read = c.compare_member.ensures in
+    let mid = c.compare_member.new.mirror in
     let new = c.copy_data.new.self in
     let n = length c.args.bytes.now / 512 in
     let Among = IsAmong c.args.sector c.args.bytes.now in
@@ -81,8 +81,8 @@ pub returns-in-Err-Halted : goal.returns-in-Err-Halted
 returns-in-Err-Halted g c =
     let at = c.in-Err-Halted in
     let old = c.args.mirror.now in
-    let read = c.is_known_to_hold.ensures in
-    let mid = c.is_known_to_hold.new.mirror in
+    let read = c.compare_member.ensures in
+    let mid = c.compare_member.new.mirror in
     let new = c.copy_data.new.self in
     let n = length c.args.bytes.now / 512 in
     let Among = IsAmong c.args.sector c.args.bytes.now in

@@ -12,7 +12,7 @@ returns-in-Shown-clause-asked g c =
 
 pub returns-in-Ok-clause-asked : goal.returns-in-Ok-clause-asked
 returns-in-Ok-clause-asked g c =
-    let answer = c.is_answered_yes in
+    let answer = c.read_answer in
     subst (λ (q : Questions). IsAsked g.E.Sink g.R.Source c.args.lines.now q c.args.err.now c.put_question.new.err c.args.input.now answer.new.input answer.result) (sym c.in-Asked.is)
     (inl (c.in-Ok.ensures, answer.ensures))
 

@@ -50,17 +50,17 @@ loop-k-preserved g c =
     let done = so_far.done_is in
     let from = c.loop-k.auto.k in
     let calls = so_far.calls in
-    let later = c.is_read.ensures.counted in
-    let block = c.is_read.new.bytes in
+    let later = c.read_if_there.ensures.counted in
+    let block = c.read_if_there.new.bytes in
     let last : IsRead (d.content old) (d.honest old) (c.args.start + k) 512 block =
     subst (λ (n : ℕ). IsRead (d.content old) (d.honest old) (c.args.start + n) 512 block) c.from.ensures
     (subst (λ (b : List ℕ). IsRead b (d.honest old) (c.args.start + c.from.result) 512 block) so_far.kept
-    (subst (λ (h : Bool). IsRead (d.content c.loop-k.device) h (c.args.start + c.from.result) 512 block) so_far.honest (c.is_read.ensures.read c.if-not-is_read.false))) in
+    (subst (λ (h : Bool). IsRead (d.content c.loop-k.device) h (c.args.start + c.from.result) 512 block) so_far.honest (c.read_if_there.ensures.read c.if-not-read_if_there.false))) in
     record {
-      kept = c.is_read.ensures.kept ∙ so_far.kept;
-      honest = c.is_read.ensures.honest ∙ so_far.honest;
+      kept = c.read_if_there.ensures.kept ∙ so_far.kept;
+      honest = c.read_if_there.ensures.honest ∙ so_far.honest;
       calls = omega (arith, calls, later);
-      grown = fails_then (d.faults old) (d.faults c.loop-k.device) (d.faults c.is_read.new.device) (λ f. f.writes ≡ false) so_far.grown c.is_read.ensures.grown;
+      grown = fails_then (d.faults old) (d.faults c.loop-k.device) (d.faults c.read_if_there.new.device) (λ f. f.writes ≡ false) so_far.grown c.read_if_there.ensures.grown;
       done_is = omega (arith, least, done, from);
       counted = subst (λ (n : ℕ). AreCounted (d.content old) (d.honest old) c.args.start c.args.sector.now c.args.chunks (k + 1) (c.loop-k.marked + n)) (sym c.count_bits-marked-in-loop-k.ensures.count)
           (counted_more (d.content old) (d.honest old) c.args.start c.args.sector.now c.args.chunks k c.loop-k.done c.loop-k.marked c.min-more.result block from low done least so_far.counted last);
@@ -76,17 +76,17 @@ returns-clause-marks g c =
     let all : c.loop-k.k ≡ c.sectors_of_bitmap-sectors.result = omega (arith, past, end, some) in
     record { chunks_are = refl; sectors = c.loop-k.k; counted = so_far.counted; rest = all ∙ sectors }
 
-pub returns-then-not-is_read-clause-marks : goal.returns-then-not-is_read-clause-marks
-returns-then-not-is_read-clause-marks g c =
+pub returns-then-not-read_if_there-clause-marks : goal.returns-then-not-read_if_there-clause-marks
+returns-then-not-read_if_there-clause-marks g c =
     let d = g.D.Device in
     let old = c.args.device.now in
     let mid = c.loop-k.device in
-    let new = c.is_read.new.device in
+    let new = c.read_if_there.new.device in
     let so_far = c.loop-k.invariant in
     let at : ℕ = c.args.start + c.from.result in
     let failed : IsOn (d.content old) at → CallFails d old new (IsReadOf at 512) = λ on.
     fails_later d old mid new (IsReadOf at 512) (λ f. f.writes ≡ false) so_far.calls so_far.grown
-    (c.is_read.ensures.unread c.if-not-is_read.true (subst (λ (b : List ℕ). IsOn b at) (sym so_far.kept) on)) in
+    (c.read_if_there.ensures.unread c.if-not-read_if_there.true (subst (λ (b : List ℕ). IsOn b at) (sym so_far.kept) on)) in
     record {
       chunks_are = refl;
       sectors = c.loop-k.k;

@@ -8,14 +8,14 @@ use Rattle.md_check.proofs.ChunkFaults.{there_since}
 use Rattle.md_check.proofs.SectorsRead.{block_read}
 use Rattle.md_check.proofs.SectorsTold.{told_then}
 use Rattle.md_check.proofs.WindowsRead.{given_first, used_then}
-use Rattle.md_check.proofs.work.is_read_alike.Goals as goal
+use Rattle.md_check.proofs.work.compare_reads.Goals as goal
 
 pub loop-done-preserved : goal.loop-done-preserved
 loop-done-preserved g c =
     let inv = c.loop-done.invariant in
     let first = c.args.reader.now in
     let old = c.loop-done.reader in
-    let new = c.is_block_alike.new.reader in
+    let new = c.compare_block.new.reader in
     let done = c.loop-done.done in
     let lead = c.args.lead.now in
     let len = c.min-len.result in
@@ -31,7 +31,7 @@ loop-done-preserved g c =
     record {
       whole = omega arith;
       few = fits;
-      used = used_then first old new inv.used c.is_block_alike.ensures.used;
+      used = used_then first old new inv.used c.compare_block.ensures.used;
       unfailing = c.in_ok-alike.ensures.unfailing ∙ inv.unfailing;
       gave = λ honest.
           block_read (g.D.Device.content first.device) first.offset first.listed c.args.from done len lead whole blocks fits (inv.gave honest)
@@ -46,4 +46,4 @@ pub returns-in_err-alike-clause-there : goal.returns-in_err-alike-clause-there
 returns-in_err-alike-clause-there g c =
     let p = err_from_is_err_and c.from_residual.result c.from_residual.ensures.1 in
     rw (p.1, p.2)
-    (there_since g.D.Device c.args.reader.now c.loop-done.reader c.is_block_alike.new.reader c.args.chunks c.in_err-alike.field-0.0 c.loop-done.invariant.used c.in_err-alike.ensures.there)
+    (there_since g.D.Device c.args.reader.now c.loop-done.reader c.compare_block.new.reader c.args.chunks c.in_err-alike.field-0.0 c.loop-done.invariant.used c.in_err-alike.ensures.there)

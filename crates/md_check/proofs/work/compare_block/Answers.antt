@@ -1,6 +1,6 @@
 use Rattle.std.proofs.Common.{◌≡◌, ℕ, List, length, take, subst}
 use Rattle.md_check.proofs.SectorsRead.{alike_or_read}
-use Rattle.md_check.proofs.work.is_block_alike.Goals as goal
+use Rattle.md_check.proofs.work.compare_block.Goals as goal
 
 pub returns-clause-gave : goal.returns-clause-gave
 returns-clause-gave g c = λ honest.

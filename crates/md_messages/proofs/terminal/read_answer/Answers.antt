@@ -1,6 +1,6 @@
 use Rattle.std.proofs.Common.{◌≡◌, ℕ, arith, inl, inr, length, refl}
 use Rattle.std.proofs.lemmas.List.{length-replicate}
-use Rattle.md_messages.proofs.terminal.is_answered_yes.Goals as goal
+use Rattle.md_messages.proofs.terminal.read_answer.Goals as goal
 
 pub returns-in-Ok : goal.returns-in-Ok
 returns-in-Ok g c =

@@ -2,7 +2,7 @@ use Rattle.std.proofs.Common.{◌/◌, ◌∙◌}
 use Rattle.md_notices.specs.Signatures.Magics.{sign_of}
 use Rattle.md_notices.proofs.SignatureLemmas.Devices.{missed, tells_same}
 use Rattle.md_notices.proofs.SignatureLemmas.Signs.{in_its_sector, not_past}
-use Rattle.md_notices.proofs.signatures.magic.has_magic.Goals as goal
+use Rattle.md_notices.proofs.signatures.magic.look_for_magic.Goals as goal
 
 pub returns-in-Some-clause-tells : goal.returns-in-Some-clause-tells
 returns-in-Some-clause-tells g c =

@@ -2,7 +2,7 @@ use Rattle.std.proofs.Common.{◌≡◌, true, false, arith}
 use Rattle.md_laws.proofs.Runs.Rests.{rests_then}
 use Rattle.md_resync.proofs.Compared.{back_unlike, front_unlike, pieces_hold, size_fits}
 use Rattle.md_resync.proofs.CopiedRuns.{read_holds}
-use Rattle.md_resync.proofs.is_known_to_hold.is_known_to_hold.Goals as goal
+use Rattle.md_resync.proofs.compare_member.compare_member.Goals as goal
 
 pub holds-requires-clause-some : goal.holds-requires-clause-some
 holds-requires-clause-some g c =

@@ -2,7 +2,7 @@ use Rattle.std.proofs.Common.{◌≡◌, take, true, false}
 use Rattle.std.specs.List.{list_any}
 use Rattle.md_notices.specs.Signatures.Magics.{has_sign, sign_of}
 use Rattle.md_notices.specs.Signatures.Reading.{Heeds, IsOnlySearched}
-use Rattle.md_notices.proofs.signatures.magic.has_any.Given as goal
+use Rattle.md_notices.proofs.signatures.magic.look_for_any.Given as goal
 
 abbrev pub invariant-loop-magic : goal.invariant-loop-magic
 invariant-loop-magic g l = record {

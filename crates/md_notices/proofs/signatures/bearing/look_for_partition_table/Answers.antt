@@ -3,7 +3,7 @@ use Rattle.md_notices.specs.Signatures.Bearing.{bears_signature}
 use Rattle.md_notices.specs.Signatures.Partitions.{is_partition_table}
 use Rattle.md_notices.proofs.SignatureLemmas.Devices.{missed, tells_same}
 use Rattle.md_notices.proofs.SignatureLemmas.Tables.{no_table}
-use Rattle.md_notices.proofs.signatures.bearing.has_partition_table.Goals as goal
+use Rattle.md_notices.proofs.signatures.bearing.look_for_partition_table.Goals as goal
 
 pub returns-in-Some-clause-tells : goal.returns-in-Some-clause-tells
 unfolding bears_signature

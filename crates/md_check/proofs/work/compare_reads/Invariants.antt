@@ -2,7 +2,7 @@ use Rattle.std.proofs.Common.{◌≡◌, ◌-◌, ◌/◌, ◌%◌, ◌≤◌, l
 use Rattle.md_check.specs.Readings.{HasUnlisted}
 use Rattle.md_check.specs.Readers.{IsUsed}
 use Rattle.md_check.specs.Told.{IsToldOfSectors}
-use Rattle.md_check.proofs.work.is_read_alike.Given as goal
+use Rattle.md_check.proofs.work.compare_reads.Given as goal
 
 abbrev pub decreases-loop-done : goal.decreases-loop-done
 decreases-loop-done g l = length l.lead - l.done

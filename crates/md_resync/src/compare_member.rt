@@ -13,7 +13,7 @@ const FIRST_PIECE: usize = 16 * 1024;
 
 /// Whether member k holds these bytes from this sector of the array on, by a read of it: first of a piece of them, and
 /// where that is the same, of the rest. It is not known to hold what can't be read. Takes no memory.
-pub(crate) fn is_known_to_hold<D: Device + Drop>(
+pub(crate) fn compare_member<D: Device + Drop>(
     mirror: &mut Mirror<D>,
     k: usize,
     sector: u64,
