@@ -82,7 +82,7 @@ FAILS = {
     "md_collect::read_chunk": ("part_tests", "collector_reports::what_is_read_is_taken", "AllocError"),
     "md_collect::read_chunk_into": ("part_tests", "collector_reports::a_failed_read_keeps_its_memory", "AllocError"),
     "md_collect::Collector::new": ("part_tests", "collector_reports::each_planned_chunk_is_taken_once", "AllocError"),
-    "md_rebuild_table::table": ("call_tests", "rebuilds::rebuild_with_orphan", "no memory: table"),
+    "md_copy::table": ("call_tests", "rebuilds::rebuild_with_orphan", "no memory: table"),
     "md_copy::rebuild": ("call_tests", "rebuilds::rebuild_with_orphan", "no memory: rebuild"),
     "md_device::MemDevice::new": ("crash_tests", "fuses::data_are_torn", "AllocError"),
     "md_images::MemImages::add": ("command_tests", "faults_in_memory::images_and_inputs_that_fail", "AllocError"),
@@ -152,7 +152,7 @@ TAKES_NONE = {
     "md_device::Fuse::share",
     "md_examine_commands::show_scan",
     "md_raw_reports::super_faults_of",
-    "md_rebuild_table::check_rebuild",
+    "md_copy::check_rebuild",
     # Their fault, `StoreFault' of md_faults, has the name of that of a store which is served (md_nbd), and that one may have no memory.
     "md_array::Mirror::record",
     "md_array::Mirror::store_log",

@@ -4,9 +4,9 @@ use crate::told::{Planning, Told};
 use md_array::{BeginFault, FailFault, ReAddFault, RemoveFault};
 use md_assembly::MemberState;
 use md_check::CheckFault;
+use md_copy::RebuildFault;
 use md_metadata::StopFault;
 use md_read::{UnreadFault, UnresyncedFault};
-use md_rebuild_table::RebuildFault;
 use md_resync::ResyncFault;
 
 #[derive(Clone, Copy)]

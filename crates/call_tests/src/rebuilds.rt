@@ -7,8 +7,8 @@ use crate::play::{ROW, Row, play};
 use crate::run::WRITTEN;
 use crate::told::Told;
 use md_assembly::MemberState;
+use md_copy::RebuildFault;
 use md_metadata::StopFault;
-use md_rebuild_table::RebuildFault;
 use std::test::Fail;
 
 // What a new member holds before.

@@ -3,8 +3,8 @@ use Rattle.std.proofs.Common.{◌≡◌, ◌∙◌, ℕ, ◌+◌, ◌∷◌, ◌
 use Rattle.std.specs.Option.{option_or}
 use Rattle.md_kept_members.specs.View.{MemberView}
 use Rattle.md_state.specs.View.{ArrayView}
-use Rattle.md_rebuild_table.specs.Sources.{is_missing}
-use Rattle.md_rebuild_table.proofs.Rows.{missing_below, missing_more}
+use Rattle.md_copy.specs.Table.Sources.{is_missing}
+use Rattle.md_copy.proofs.TableLemmas.Rows.{missing_below, missing_more}
 
 front : (xs : List ℕ) (n : ℕ) → option_or (slice_get xs 0) (Some n) ≡ slice_get (xs ++ n ∷ []) 0
 front [] n = refl

@@ -11,10 +11,10 @@ use Rattle.md_plan.specs.declared.planner.Planned.{Planned}
 use Rattle.md_kept_members.specs.View.{MemberView}
 use Rattle.md_state.specs.View.{ArrayView}
 use Rattle.md_state.specs.Members.{IsMember}
-use Rattle.md_rebuild_table.specs.Sources.{IsTableOf}
-use Rattle.md_rebuild_table.specs.Targets.{IsTarget}
-use Rattle.md_rebuild_table.specs.declared.fault.RebuildFault.{RebuildFault}
-use Rattle.md_rebuild_table.specs.Beginning.{RefusesTable}
+use Rattle.md_copy.specs.Table.Sources.{IsTableOf}
+use Rattle.md_copy.specs.Table.Targets.{IsTarget}
+use Rattle.md_copy.specs.declared.table.fault.RebuildFault.{RebuildFault}
+use Rattle.md_copy.specs.Table.Beginning.{RefusesTable}
 use Rattle.md_examine.specs.declared.sink.Sink.{Ghosts}
 use Rattle.md_commands.specs.declared.fault.CommandFault.{CommandFault}
 use Rattle.md_commands.specs.declared.fault.CommandFault.TheVariants.{BadMember, OutputFault, Rebuild}

@@ -2,7 +2,7 @@
 use Rattle.std.specs.Prelude.{◌≡◌, ◌<◌, ℕ, Bool, List, Option, true, false, length, slice_get}
 use Rattle.std.specs.Int.{div_ceil}
 use Rattle.md_assembly.specs.States.{is_recovering}
-use Rattle.md_rebuild_table.specs.declared.fault.RebuildFault.{RebuildFault}
+use Rattle.md_copy.specs.declared.table.fault.RebuildFault.{RebuildFault}
 use Rattle.md_copy.specs.declared.rebuilt.Rebuilt.{Rebuilt}
 use Rattle.md_copy.specs.Rebuilding.{Rebuilds, RefusesRebuild}
 use Rattle.md_examine.specs.declared.sink.Sink.{Ghosts}
@@ -10,7 +10,7 @@ use Rattle.md_report.specs.RebuiltReport.{rebuilt_line, rebuilt_text}
 use Rattle.md_state.specs.Trying.{Refuses}
 use Rattle.md_state.specs.View.{ArrayView, MirrorView}
 use Rattle.md_kept_members.specs.View.{MemberView}
-use Rattle.md_rebuild_table.specs.Sources.{missing_chunks}
+use Rattle.md_copy.specs.Table.Sources.{missing_chunks}
 use Rattle.md_commands.specs.declared.fault.CommandFault.{CommandFault}
 use Rattle.md_commands.specs.declared.fault.CommandFault.TheVariants.{BadMember, OutputFault, Rebuild, Resync, Stop}
 use Rattle.md_commands.specs.Failing.{HasMember, LacksMember}

@@ -10,10 +10,10 @@ use crate::fault::CommandFault;
 use crate::objects::put_plan_json;
 use crate::output::put_plan;
 use md_array::Mirror;
+use md_copy::{RebuildFault, table};
 use md_device::Device;
 use md_examine::Sink;
 use md_plan::{Planned, plan};
-use md_rebuild_table::{RebuildFault, table};
 use std::alloc::Global;
 
 /// Puts out the plan of a rebuild of the member with this index: which chunk it would get from which other member, in as

@@ -24,3 +24,5 @@ pub mod Leads
 pub mod Refusals
 -- The passes of a rebuild, as plans one after another.
 pub mod PassLemmas
+-- What is known of a rebuild before anything is copied.
+pub mod TableLemmas

@@ -34,3 +34,5 @@ pub mod RebuildEvents
 pub mod PassLaws
 -- What a gate is told of a rebuild.
 pub mod Told
+-- What is known of a rebuild before anything is copied.
+pub mod Table

@@ -25,8 +25,8 @@ use Rattle.md_metadata.specs.Storing.{IsFailureOf, IsRecording}
 use Rattle.md_pass.specs.Readings.{is_of}
 use Rattle.md_copy.specs.PassLaws.Listed.{ArrayPasses, IsOfFailed, MayServe, ServesAs, most_failures}
 use Rattle.md_copy.specs.PassLaws.Passes.{IsCopiedIn, PassView}
-use Rattle.md_rebuild_table.specs.Orphans.{is_in, uncopied_chunks}
-use Rattle.md_rebuild_table.specs.Sources.{missing_chunks}
+use Rattle.md_copy.specs.Table.Orphans.{is_in, uncopied_chunks}
+use Rattle.md_copy.specs.Table.Sources.{missing_chunks}
 use Rattle.md_copy.specs.declared.rebuilt.Rebuilt.{Rebuilt}
 use Rattle.md_copy.specs.Filling.{CountsFailed, HaveFailedThere}
 use Rattle.md_copy.specs.Listing.{HasFailedSlot, HasListOn}

@@ -23,10 +23,10 @@ use Rattle.md_array.specs.ReadAsKept.{IsSuperOn}
 use Rattle.md_array.specs.Worlds.{is_listed}
 use Rattle.md_copy.specs.PassLaws.Listed.{AreCopiedBy, IsArrayPass, IsOfFailed, ListsFailed, MayServe, ServesAs, most_failures}
 use Rattle.md_copy.specs.PassLaws.Passes.{IsCopiedIn, PassView, failed_chunks}
-use Rattle.md_rebuild_table.specs.declared.fault.RebuildFault.{RebuildFault}
-use Rattle.md_rebuild_table.specs.declared.fault.RebuildFault.TheVariants.{Halted, NotSpare, Dirty, InFlight, LogFull, NoMemory, TargetFault, MetadataFault, EventsFull}
-use Rattle.md_rebuild_table.specs.Orphans.{is_in, uncopied_chunks}
-use Rattle.md_rebuild_table.specs.Sources.{missing_chunks}
+use Rattle.md_copy.specs.declared.table.fault.RebuildFault.{RebuildFault}
+use Rattle.md_copy.specs.declared.table.fault.RebuildFault.TheVariants.{Halted, NotSpare, Dirty, InFlight, LogFull, NoMemory, TargetFault, MetadataFault, EventsFull}
+use Rattle.md_copy.specs.Table.Orphans.{is_in, uncopied_chunks}
+use Rattle.md_copy.specs.Table.Sources.{missing_chunks}
 use Rattle.md_copy.specs.Filling.{CountsFailed, HaveFailedThere}
 use Rattle.md_copy.specs.Listing.{HasFailedSlot}
 use Rattle.md_copy.specs.Rebuilt.{KeepStates, ListsGrow, failed_of}

@@ -12,11 +12,11 @@ ghost use Rattle.md_copy.specs.Ready.{IsReadyToCopy};
 
 use crate::orphans::Orphans;
 use crate::rebuilt::Rebuilt;
+use crate::table::{RebuildFault, keep_missing, marks_of, uncopied_chunks};
 use md_array::{EnrolFault, Mirror};
 use md_bitmap::Marks;
 use md_device::Device;
 use md_plan::Planned;
-use md_rebuild_table::{RebuildFault, keep_missing, marks_of, uncopied_chunks};
 use std::alloc::Global;
 
 /// The target comes into sync with the chunks that were copied, and lists the others that it lacks. What is told

@@ -12,12 +12,12 @@ ghost use Rattle.md_copy.specs.RebuildSources.{AreSources, IsPlanOf};
 ghost use Rattle.md_copy.specs.Told.{IsToldOfSlots};
 
 use crate::one_pass::copy_beside;
+use crate::table::RebuildFault;
 use md_array::Mirror;
 use md_bitmap::Marks;
 use md_cert::Plan;
 use md_device::Device;
 use md_pass::{BoardCounts, Gate, PassFault, Source};
-use md_rebuild_table::RebuildFault;
 use std::alloc::Global;
 use std::sync::Wait;
 use std::thread::Threads;

@@ -5,10 +5,10 @@ ghost use Rattle.md_array.specs.Consistency.{IsConsistent};
 ghost use Rattle.md_bitmap.specs.Marks.{is_set};
 ghost use Rattle.md_copy.specs.Leaving.{RecordsAtEnd, LeavesSo, MayRecordAtEnd};
 
+use crate::table::RebuildFault;
 use md_array::Mirror;
 use md_bitmap::Marks;
 use md_device::Device;
-use md_rebuild_table::RebuildFault;
 
 /// Records how far the target, which is recovering, is rebuilt, before the fault is answered: there was no memory,
 /// or no room in a log, or a list could not be stored on a member. That this may fail, too, is not told. Takes no

@@ -1,10 +1,10 @@
 //! The rebuild of a member: what is copied to it, and from where.
 //!
-//! Start with `rebuild`, the whole call (`whole_rebuild.rt`), and `passes.rt`, its loop. What a rebuild would
-//! copy, and why a member is not rebuilt, is in `md_rebuild_table`. What holds of a rebuild that is done is
-//! `HasRebuilt` in `specs/Rebuilt.antt`.
+//! Start with `rebuild`, the whole call (`whole_rebuild.rt`), and `passes.rt`, its loop. What holds of a
+//! rebuild that is done is `HasRebuilt` in `specs/Rebuilt.antt`.
 //!
 //! `pass_laws/`: the passes of a rebuild, as plans one after another.
+//! `table/`: what a rebuild would copy, and why a member is not rebuilt, before anything is copied.
 //!
 //! ```
 //! let rebuilt = rebuild(rt, alloc, &mut mirror, 1, &gate)?;
@@ -26,10 +26,12 @@ mod rebuilt;
 mod sources;
 mod storing;
 mod stretches;
+mod table;
 mod until_done;
 mod whole_rebuild;
 
 pub use md_pass::Gate;
 pub use pass_laws::{copies_add, lists_add, passes_end, passes_go_on};
 pub use rebuilt::Rebuilt;
+pub use table::{RebuildFault, check_rebuild, keep_missing, marks_of, table, uncopied_chunks};
 pub use whole_rebuild::rebuild;

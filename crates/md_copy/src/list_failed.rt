@@ -11,17 +11,17 @@ ghost use Rattle.md_state.specs.Members.{AllInSync, IsMember};
 ghost use Rattle.md_state.specs.Steps.Rise.{HasSpentEvents};
 ghost use Rattle.md_state.specs.Steps.WriteMember.{IsNotDue};
 ghost use Rattle.md_array.specs.Consistency.{IsConsistent};
-ghost use Rattle.md_rebuild_table.specs.Sources.{IsInSyncAs};
+ghost use Rattle.md_copy.specs.Table.Sources.{IsInSyncAs};
 ghost use Rattle.md_copy.specs.Listing.{HasFailedSlot, HaveRoom, NotesLists, RefusesSlot, EndsNoting, EndsStoringLists, StoresListIf, StoresLists};
 
 use crate::sources::member_in;
+use crate::table::RebuildFault;
 use md_array::{Mirror, NoteFault};
 use md_assembly::MemberState;
 use md_bitmap::Marks;
 use md_cert::{Plan, Slot};
 use md_device::Device;
 use md_metadata::store_list;
-use md_rebuild_table::RebuildFault;
 use std::alloc::Global;
 
 /// Lists the chunk of each slot that failed on its source, in the order of the chunks, in memory alone:

@@ -4,14 +4,14 @@ ghost use Rattle.std.specs.Int.{div_ceil};
 ghost use Rattle.md_cert.specs.Plans.{SlotsRise};
 ghost use Rattle.md_cert.specs.Tables.{chunks_of_rows};
 ghost use Rattle.md_pass.specs.Copied.{failed_slots};
-ghost use Rattle.md_rebuild_table.specs.Sources.{HasSources};
+ghost use Rattle.md_copy.specs.Table.Sources.{HasSources};
 ghost use Rattle.md_copy.specs.Preparing.{IsNoMemory};
 
+use crate::table::RebuildFault;
 use md_array::Mirror;
 use md_bitmap::Marks;
 use md_cert::{Plan, Table};
 use md_device::Device;
-use md_rebuild_table::RebuildFault;
 use std::alloc::Global;
 
 /// The chunks of the plan that were not copied, each with the roles in which it may be read now.

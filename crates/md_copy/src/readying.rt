@@ -6,16 +6,16 @@ ghost use Rattle.md_state.specs.Members.{IsMember};
 ghost use Rattle.md_state.specs.Steps.Rise.{HasSpentEvents};
 ghost use Rattle.md_array.specs.Steps.Admit.{Admits};
 ghost use Rattle.md_array.specs.Consistency.{IsConsistent};
-ghost use Rattle.md_rebuild_table.specs.Beginning.{MayBeginRebuild};
-ghost use Rattle.md_rebuild_table.specs.Targets.{IsTarget};
-ghost use Rattle.md_rebuild_table.specs.Orphans.{IsSetOf};
+ghost use Rattle.md_copy.specs.Table.Beginning.{MayBeginRebuild};
+ghost use Rattle.md_copy.specs.Table.Targets.{IsTarget};
+ghost use Rattle.md_copy.specs.Table.Orphans.{IsSetOf};
 ghost use Rattle.md_copy.specs.Readying.{LowersTarget, Readies, RefusesAdmission, RefusesToReady};
 
 use crate::storing::store_first;
+use crate::table::RebuildFault;
 use md_array::{AdmitFault, Mirror};
 use md_bitmap::Marks;
 use md_device::Device;
-use md_rebuild_table::RebuildFault;
 use std::alloc::Global;
 
 /// The target, if it is recovering, is to say no more that it has what it lacks, which the passes fill: its superblock is due, if it says

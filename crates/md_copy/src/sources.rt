@@ -5,8 +5,8 @@ ghost use Rattle.md_assembly.specs.States.{is_in_sync_as};
 ghost use Rattle.md_kept_members.specs.View.{MemberView};
 ghost use Rattle.md_state.specs.Members.{IsMember};
 ghost use Rattle.md_array.specs.Consistency.{IsConsistent};
-ghost use Rattle.md_rebuild_table.specs.Sources.{IsInSyncAs};
-ghost use Rattle.md_rebuild_table.specs.Targets.{IsTarget};
+ghost use Rattle.md_copy.specs.Table.Sources.{IsInSyncAs};
+ghost use Rattle.md_copy.specs.Table.Targets.{IsTarget};
 ghost use Rattle.md_copy.specs.RebuildSources.{AreSources, IsPlanOf, IsRebuildSource, place_beside};
 
 use md_array::Mirror;

@@ -8,12 +8,12 @@ ghost use Rattle.md_copy.specs.Told.{IsToldOfSlots};
 
 use crate::fill::fill;
 use crate::sources::sources_of;
+use crate::table::RebuildFault;
 use md_array::{Mirror, TargetFault};
 use md_bitmap::{Chunks, Marks};
 use md_cert::{Plan, Slot, Slots};
 use md_device::Device;
 use md_pass::Gate;
-use md_rebuild_table::RebuildFault;
 use std::alloc::{AllocError, Global};
 use std::sync::Wait;
 use std::thread::Threads;

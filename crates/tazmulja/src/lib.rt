@@ -69,9 +69,8 @@ pub use md_cert::{
     Certificate, ChunkList, NoMemory, Plan, Row, Slot, Slots, Table, Verdict, check,
 };
 pub use md_collect::{Board, Collector, Refusal, Report, Share, read_chunk};
-pub use md_copy::{Gate, Rebuilt, rebuild};
+pub use md_copy::{Gate, RebuildFault, Rebuilt, rebuild, table};
 pub use md_plan::{Planned, plan};
-pub use md_rebuild_table::{RebuildFault, table};
 
 // Reports.
 pub use md_examine::{Output, Sink, SinkFault, examine, examine_badblocks, examine_bitmap};

@@ -34,7 +34,7 @@ use Rattle.md_array.proofs.General.Indices.{got_other}
 use Rattle.md_array.proofs.Rebuilding.HeldContent.{another, its_chunk, then_sector}
 use Rattle.md_array.proofs.Rebuilding.InBetween.{prepared_is, superblock, then_at, then_disk}
 use Rattle.md_array.proofs.Worlds.Bad.{test_from_bad}
-use Rattle.md_rebuild_table.specs.Sources.{missing_chunks}
+use Rattle.md_copy.specs.Table.Sources.{missing_chunks}
 use Rattle.md_copy.specs.Rebuilt.{failed_of}
 use Rattle.md_copy.proofs.Held.HeldChunks.{one_holds}
 use Rattle.md_copy.proofs.Passing.PassesKeep.{IsBesideSince, PassesKeep, all_keep}

@@ -45,7 +45,7 @@ use Rattle.md_laws.specs.CrashesWithin.{MayAllBeLeft, MayBeLeft}
 use Rattle.md_laws.proofs.Openings.Reopened.{super_on}
 use Rattle.md_laws.proofs.Crashes.AtSteps.{new_has, none_new}
 use Rattle.md_metadata.specs.Storing.{IsNoFailure, IsStoring, Stores}
-use Rattle.md_rebuild_table.specs.Sources.{missing_chunks}
+use Rattle.md_copy.specs.Table.Sources.{missing_chunks}
 use Rattle.md_copy.specs.Listing.{ListsAll, WritesMetadata}
 use Rattle.md_copy.specs.Passing.{AreListedPasses, RecordsPass}
 use Rattle.md_copy.specs.Rebuilding.{BeginsRebuild}

@@ -33,8 +33,8 @@ use Rattle.md_laws.proofs.Crashes.CallCrashes.{GoesSo, WritesWhole, sound_then, 
 use Rattle.md_laws.proofs.Crashes.WithinTarget.{recovering_recorded}
 use Rattle.md_metadata.specs.Going.{GoesOn, only_others}
 use Rattle.md_metadata.specs.Storing.{IsStoring}
-use Rattle.md_rebuild_table.specs.Beginning.{MayBeginRebuild}
-use Rattle.md_rebuild_table.specs.Sources.{missing_chunks}
+use Rattle.md_copy.specs.Table.Beginning.{MayBeginRebuild}
+use Rattle.md_copy.specs.Table.Sources.{missing_chunks}
 use Rattle.md_copy.specs.Listing.{IsStoringList, NotesLists}
 use Rattle.md_copy.specs.Passing.{AreListedPasses, CopiesAll, ListsPass, RecordsPass}
 use Rattle.md_copy.specs.Readying.{AdmitsAfter, AdmitsFirst, FailsAdmission, Readies}

@@ -21,7 +21,7 @@ use Rattle.md_laws.proofs.Runs.CallRuns.{admit_is_a_call, call_is_run, checkpoin
 use Rattle.md_laws.proofs.Runs.Moments.{run_then}
 use Rattle.md_metadata.specs.Going.{GoesOn, only_others}
 use Rattle.md_metadata.specs.Storing.{IsNoFailure, IsStoring}
-use Rattle.md_rebuild_table.specs.Sources.{missing_chunks}
+use Rattle.md_copy.specs.Table.Sources.{missing_chunks}
 use Rattle.md_copy.specs.Listing.{IsNoting, IsStoringList, NotesLists, StoresLists}
 use Rattle.md_copy.specs.Passing.{AreListedPasses, CopiesAll, ListsPass, RecordsPass}
 use Rattle.md_copy.specs.Readying.{AdmitsAfter, AdmitsFirst, LowersTarget, Readies}

@@ -27,8 +27,8 @@ use Rattle.md_laws.specs.CrashesWithin.{MayAllBeLeft}
 use Rattle.md_laws.proofs.Runs.Moments.{run_then}
 use Rattle.md_laws.proofs.Runs.Rests.{at_once, at_rest}
 use Rattle.md_laws.proofs.Crashes.Spoiled.{crashes_as_spoiled, crashes_at_enrol_as_spoiled, crashes_at_failed_enrol_as_spoiled}
-use Rattle.md_rebuild_table.specs.Beginning.{MayBeginRebuild}
-use Rattle.md_rebuild_table.specs.Sources.{missing_chunks}
+use Rattle.md_copy.specs.Table.Beginning.{MayBeginRebuild}
+use Rattle.md_copy.specs.Table.Sources.{missing_chunks}
 use Rattle.md_copy.specs.Passing.{AreListedPasses, CopiesAll, ListsPass, RecordsPass}
 use Rattle.md_copy.specs.Readying.{AdmitsAfter, FailsAdmission, Readies}
 use Rattle.md_copy.specs.RebuildEvents.{IsBeforeEnrol, IsOfUnfinished}

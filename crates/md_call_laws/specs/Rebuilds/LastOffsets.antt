@@ -14,7 +14,7 @@ use Rattle.md_array.specs.ReadAsKept.{IsSuperOn}
 use Rattle.md_array.specs.Worlds.{AreHonest}
 use Rattle.md_laws.specs.Left.{contents_of}
 use Rattle.md_laws.specs.CrashesWithin.{MayAllBeLeft}
-use Rattle.md_rebuild_table.specs.Sources.{missing_chunks}
+use Rattle.md_copy.specs.Table.Sources.{missing_chunks}
 use Rattle.md_copy.specs.Filling.{IsFilling}
 use Rattle.md_copy.specs.Listing.{ListsAll, NotesLists, EndsAtList}
 use Rattle.md_copy.specs.Passing.{AreListedPasses, MakesPart, RecordsPass}

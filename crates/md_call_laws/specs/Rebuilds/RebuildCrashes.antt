@@ -25,7 +25,7 @@ use Rattle.md_laws.specs.CallCrashes.{AtMoments, IsLeftWhole, CrashesIn}
 use Rattle.md_laws.specs.CrashesWithin.{MayAllBeLeft}
 use Rattle.md_metadata.specs.Going.{GoesOn, only_others}
 use Rattle.md_metadata.specs.Storing.{IsStoring}
-use Rattle.md_rebuild_table.specs.Sources.{missing_chunks}
+use Rattle.md_copy.specs.Table.Sources.{missing_chunks}
 use Rattle.md_copy.specs.declared.rebuilt.Rebuilt.{Rebuilt}
 use Rattle.md_copy.specs.Filling.{IsFilling}
 use Rattle.md_copy.specs.Listing.{IsStoringList, NotesLists}

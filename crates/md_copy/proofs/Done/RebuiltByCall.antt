@@ -18,8 +18,8 @@ use Rattle.md_copy.proofs.Failing.{there_since}
 use Rattle.md_array.specs.Consistency.{IsConsistent}
 use Rattle.md_array.specs.InTurn.{HaltsAt}
 use Rattle.md_array.proofs.StepLemmas.FailedParts.{halting_write}
-use Rattle.md_rebuild_table.specs.Orphans.{is_in}
-use Rattle.md_rebuild_table.specs.Sources.{missing_chunks}
+use Rattle.md_copy.specs.Table.Orphans.{is_in}
+use Rattle.md_copy.specs.Table.Sources.{missing_chunks}
 use Rattle.md_copy.specs.declared.rebuilt.Rebuilt.{Rebuilt}
 use Rattle.md_copy.specs.Filling.{CountsFailed, HaveFailedThere}
 use Rattle.md_copy.specs.Rebuilding.{Rebuilds, RebuildsReadied}

@@ -37,9 +37,9 @@ use Rattle.md_array.specs.Consistency.{IsConsistent}
 use Rattle.md_array.specs.Steps.Enrol.{HoldsContent, KeepsData}
 use Rattle.md_array.specs.Worlds.{AreHonest, is_listed}
 use Rattle.md_array.proofs.General.Indices.{at_set_same, got_in_map, got_other}
-use Rattle.md_rebuild_table.specs.Orphans.{is_in, uncopied_chunks}
-use Rattle.md_rebuild_table.specs.Sources.{LacksChunk, missing_chunks}
-use Rattle.md_rebuild_table.proofs.Served.{in_sync_as}
+use Rattle.md_copy.specs.Table.Orphans.{is_in, uncopied_chunks}
+use Rattle.md_copy.specs.Table.Sources.{LacksChunk, missing_chunks}
+use Rattle.md_copy.proofs.TableLemmas.Served.{in_sync_as}
 use Rattle.md_copy.specs.declared.rebuilt.Rebuilt.{Rebuilt}
 use Rattle.md_copy.specs.Held.{AreHeld}
 use Rattle.md_copy.specs.Ready.{IsReadyToCopy}

@@ -30,7 +30,7 @@ use Rattle.md_state.specs.Members.{IsMember}
 use Rattle.md_state.specs.Missing.{is_rebuilt}
 use Rattle.md_state.specs.View.{Disk, MirrorView}
 use Rattle.md_array.specs.Consistency.{IsConsistent}
-use Rattle.md_rebuild_table.proofs.Served.{in_sync_as}
+use Rattle.md_copy.proofs.TableLemmas.Served.{in_sync_as}
 use Rattle.md_copy.specs.Filling.{CopiesChunks, CountsFailed, FailsOnWrite, FillsPass, HaveFailedOnlyThere, HaveFailedThere, IsFilling, IsOfUncopiedSlot}
 use Rattle.md_copy.specs.RebuildSources.{AreSources, IsPlanOf, IsServedBy, IsSourceAt, place_beside}
 use Rattle.md_copy.proofs.Fills.Returned.{same_mirror, same_with}

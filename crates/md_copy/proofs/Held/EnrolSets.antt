@@ -12,10 +12,10 @@ use Rattle.md_plan.specs.declared.planner.Planned.{Planned}
 use Rattle.md_state.specs.Members.{IsMember}
 use Rattle.md_state.specs.View.{ArrayView, MirrorView}
 use Rattle.md_array.specs.Steps.Enrol.{EnrolsChunks, MayEnrol}
-use Rattle.md_rebuild_table.specs.declared.fault.RebuildFault.{RebuildFault}
-use Rattle.md_rebuild_table.specs.declared.fault.RebuildFault.TheVariants.{Halted, NotSpare, Dirty, InFlight, LogFull, NoMemory, TargetFault, MetadataFault, EventsFull}
-use Rattle.md_rebuild_table.specs.Orphans.{is_in, uncopied_chunks}
-use Rattle.md_rebuild_table.specs.Sources.{LacksChunk, is_missing, missing_chunks}
+use Rattle.md_copy.specs.declared.table.fault.RebuildFault.{RebuildFault}
+use Rattle.md_copy.specs.declared.table.fault.RebuildFault.TheVariants.{Halted, NotSpare, Dirty, InFlight, LogFull, NoMemory, TargetFault, MetadataFault, EventsFull}
+use Rattle.md_copy.specs.Table.Orphans.{is_in, uncopied_chunks}
+use Rattle.md_copy.specs.Table.Sources.{LacksChunk, is_missing, missing_chunks}
 use Rattle.md_copy.specs.declared.rebuilt.Rebuilt.{Rebuilt}
 use Rattle.md_copy.specs.Enrolled.{EnrolsCopied, FailsCopied, HasSets, RefusesFilledTarget}
 use Rattle.md_copy.specs.Held.{AreHeld}

@@ -39,7 +39,7 @@ use Rattle.md_array.proofs.StepLemmas.Turns.{all_on, all_such, turn_on, turn_the
 use Rattle.md_metadata.specs.Going.{GoesOn, LeadsBy, only_others}
 use Rattle.md_metadata.proofs.Going.{recording_stores}
 use Rattle.md_metadata.specs.Storing.{IsStoring}
-use Rattle.md_rebuild_table.specs.Sources.{LacksChunk, missing_chunks}
+use Rattle.md_copy.specs.Table.Sources.{LacksChunk, missing_chunks}
 use Rattle.md_copy.specs.declared.rebuilt.Rebuilt.{Rebuilt}
 use Rattle.md_copy.specs.Filling.{IsFilling}
 use Rattle.md_copy.specs.Listing.{IsNoting, IsStoringList}

@@ -29,7 +29,7 @@ use Rattle.md_array.proofs.Rebuilding.MemberEnrolled.{holds_enrolled, lists_now}
 use Rattle.md_array.proofs.StepLemmas.Record.{listed_written}
 use Rattle.md_metadata.specs.Going.{GoesOn, only_others}
 use Rattle.md_metadata.specs.Storing.{IsStoring}
-use Rattle.md_rebuild_table.specs.Sources.{missing_chunks}
+use Rattle.md_copy.specs.Table.Sources.{missing_chunks}
 use Rattle.md_copy.specs.declared.rebuilt.Rebuilt.{Rebuilt}
 use Rattle.md_copy.specs.Filling.{IsFilling}
 use Rattle.md_copy.specs.Listing.{HasFailedSlot, HasListOn, NotesLists}

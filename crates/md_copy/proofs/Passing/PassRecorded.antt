@@ -23,7 +23,7 @@ use Rattle.md_state.specs.Steps.Checkpoint.{checked}
 use Rattle.md_state.specs.View.{ArrayView, MirrorView}
 use Rattle.md_array.specs.Steps.Checkpoint.{Checkpoints}
 use Rattle.md_array.specs.Consistency.{IsConsistent}
-use Rattle.md_rebuild_table.specs.Sources.{LacksChunk}
+use Rattle.md_copy.specs.Table.Sources.{LacksChunk}
 use Rattle.md_copy.specs.Held.{AreHeld}
 use Rattle.md_copy.specs.Passing.{RecordsPass}
 use Rattle.md_copy.specs.Ready.{IsReadyToCopy}

@@ -29,11 +29,11 @@ use Rattle.md_state.specs.Members.{IsMember}
 use Rattle.md_state.specs.View.{ArrayView, MirrorView}
 use Rattle.md_array.specs.Consistency.{IsConsistent}
 use Rattle.md_array.proofs.StepLemmas.FailedParts.{halted_array}
-use Rattle.md_rebuild_table.specs.declared.fault.RebuildFault.{RebuildFault}
-use Rattle.md_rebuild_table.specs.declared.fault.RebuildFault.TheVariants.{Halted, NotSpare, Dirty, InFlight, LogFull, NoMemory, TargetFault, MetadataFault, EventsFull}
-use Rattle.md_rebuild_table.specs.Beginning.{RefusesTable}
-use Rattle.md_rebuild_table.specs.Orphans.{IsSetOf}
-use Rattle.md_rebuild_table.specs.Sources.{LacksChunk, IsTableOf, missing_chunks}
+use Rattle.md_copy.specs.declared.table.fault.RebuildFault.{RebuildFault}
+use Rattle.md_copy.specs.declared.table.fault.RebuildFault.TheVariants.{Halted, NotSpare, Dirty, InFlight, LogFull, NoMemory, TargetFault, MetadataFault, EventsFull}
+use Rattle.md_copy.specs.Table.Beginning.{RefusesTable}
+use Rattle.md_copy.specs.Table.Orphans.{IsSetOf}
+use Rattle.md_copy.specs.Table.Sources.{LacksChunk, IsTableOf, missing_chunks}
 use Rattle.md_copy.specs.declared.passes.Passed.{Passed}
 use Rattle.md_copy.specs.Held.{AreHeld}
 use Rattle.md_copy.specs.Leaving.{MayRecordAtEnd}

@@ -25,7 +25,7 @@ use Rattle.md_state.specs.Members.{IsMember}
 use Rattle.md_state.specs.View.{ArrayView, Disk, MirrorView, of_disks}
 use Rattle.md_array.specs.Steps.Enrol.{KeepsData}
 use Rattle.md_array.specs.Steps.Lend.{IsBesideChunk}
-use Rattle.md_rebuild_table.specs.Sources.{missing_chunks}
+use Rattle.md_copy.specs.Table.Sources.{missing_chunks}
 use Rattle.md_copy.specs.Filling.{HaveFailedThere}
 use Rattle.md_copy.proofs.Failing.{HasGrown, grown_by, grown_same, grown_then, none_there, there_since, there_still}
 use Rattle.md_copy.specs.Passing.{AreListedPasses, CopiesAll, ListsPass, RecordsPass}

@@ -15,7 +15,7 @@ use Rattle.md_copy.specs.PassLaws.Listed.{ArrayPasses, AreCopiedBy, IsArrayPass,
 use Rattle.md_copy.specs.PassLaws.Passes.{PassView, failed_chunks, slots_of_pass}
 use Rattle.md_state.specs.Members.{IsMember}
 use Rattle.md_state.specs.View.{ArrayView, MirrorView}
-use Rattle.md_rebuild_table.specs.Sources.{LacksChunk, missing_chunks}
+use Rattle.md_copy.specs.Table.Sources.{LacksChunk, missing_chunks}
 use Rattle.md_copy.specs.Held.{AreHeld}
 use Rattle.md_copy.specs.Passing.{AreListedPasses, CopiesAll, ListsPass, RecordsPass}
 use Rattle.md_copy.specs.Ready.{IsReadyToCopy}

@@ -9,7 +9,7 @@ use Rattle.md_cert.specs.declared.slots.Slot.{Slot}
 use Rattle.md_cert.specs.Plans.{SlotsRise}
 use Rattle.md_pass.specs.Beside.{has_chunk}
 use Rattle.md_state.specs.View.{MirrorView}
-use Rattle.md_rebuild_table.specs.Sources.{LacksChunk}
+use Rattle.md_copy.specs.Table.Sources.{LacksChunk}
 use Rattle.md_copy.proofs.PassLemmas.OnePass.{one_slot}
 use Rattle.md_copy.specs.Stretches.{MayCopySlots, is_after, is_before, slots_after}
 

@@ -15,8 +15,8 @@ use Rattle.md_state.specs.View.{ArrayView, Disk, MirrorView}
 use Rattle.md_state.specs.Members.{IsMember, IsPermitted}
 use Rattle.md_array.specs.Consistency.{IsConsistent}
 use Rattle.md_pass.specs.declared.source.Source.{Source}
-use Rattle.md_rebuild_table.specs.Targets.{IsTarget, MayBeRebuilt}
-use Rattle.md_rebuild_table.proofs.Served.{in_sync_as}
+use Rattle.md_copy.specs.Table.Targets.{IsTarget, MayBeRebuilt}
+use Rattle.md_copy.proofs.TableLemmas.Served.{in_sync_as}
 use Rattle.md_copy.specs.RebuildSources.{AreSources, IsServedBy, IsRebuildSource, IsSourceAt, place_beside}
 use Rattle.md_copy.proofs.Plans.Beside.{beside_is, beside_one, beside_within}
 use Rattle.md_copy.proofs.Plans.Planned.{IsAllowed}

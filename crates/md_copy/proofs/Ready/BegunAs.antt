@@ -14,7 +14,7 @@ use Rattle.md_state.specs.Members.{IsMember, IsServedPlainly, IsUnlisted}
 use Rattle.md_state.specs.Missing.{is_missing}
 use Rattle.md_state.specs.View.{MirrorView}
 use Rattle.md_array.specs.Consistency.{IsConsistent}
-use Rattle.md_rebuild_table.specs.Sources.{missing_chunks}
+use Rattle.md_copy.specs.Table.Sources.{missing_chunks}
 use Rattle.md_copy.proofs.Ready.StartedAs.{StartsAs}
 
 filter_same : (p q : ℕ → Bool) (xs : List ℕ) → ((c : ℕ) → Contains xs c → p c ≡ q c) → filter p xs ≡ filter q xs

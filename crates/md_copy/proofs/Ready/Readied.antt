@@ -18,8 +18,8 @@ use Rattle.md_array.specs.Steps.NoteResynced.{AreNoted}
 use Rattle.md_array.proofs.Rebuilding.AdmitEvent.{admitted_at}
 use Rattle.md_metadata.specs.Storing.{StaysReady}
 use Rattle.md_metadata.proofs.Going.{same_state}
-use Rattle.md_rebuild_table.specs.Beginning.{MayBeginRebuild, rises}
-use Rattle.md_rebuild_table.specs.Targets.{IsTarget, MayBeRebuilt}
+use Rattle.md_copy.specs.Table.Beginning.{MayBeginRebuild, rises}
+use Rattle.md_copy.specs.Table.Targets.{IsTarget, MayBeRebuilt}
 use Rattle.md_copy.specs.Rebuilding.{BeginsRebuild}
 use Rattle.md_copy.specs.Readying.{AdmitsAfter, AdmitsFirst, LowersTarget, Readies}
 use Rattle.md_copy.specs.Ready.{IsReadyToCopy, MayRebuildOn}

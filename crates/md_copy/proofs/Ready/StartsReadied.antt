@@ -27,7 +27,7 @@ use Rattle.md_array.proofs.General.Indices.{at_map, got_in_map, got_other}
 use Rattle.md_array.proofs.General.Replaced.{of_set}
 use Rattle.md_array.proofs.Rebuilding.AdmitEvent.{admit_happens, admitted_at}
 use Rattle.md_metadata.specs.Storing.{AllStayReady, StaysReady}
-use Rattle.md_rebuild_table.specs.Beginning.{MayBeginRebuild}
+use Rattle.md_copy.specs.Table.Beginning.{MayBeginRebuild}
 use Rattle.md_copy.specs.Readying.{AdmitsFirst, Readies}
 use Rattle.md_copy.specs.Rebuilding.{BeginsRebuild}
 use Rattle.md_copy.specs.Storing.{StoresFirst}

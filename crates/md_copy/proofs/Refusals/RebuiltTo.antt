@@ -17,7 +17,7 @@ use Rattle.md_state.specs.Missing.{has_passed, is_missing}
 use Rattle.md_state.specs.View.{ArrayView, MirrorView}
 use Rattle.md_array.specs.Steps.Checkpoint.{Checkpoints}
 use Rattle.md_array.specs.Consistency.{IsConsistent}
-use Rattle.md_rebuild_table.specs.Orphans.{IsSubset}
+use Rattle.md_copy.specs.Table.Orphans.{IsSubset}
 use Rattle.md_copy.specs.Refused.{IsRebuiltTo, rebuilt_offset}
 use Rattle.md_copy.proofs.Held.HeldRecorded.{first_low, lacks_so, target_same}
 use Rattle.md_copy.proofs.Refusals.Refused.{Preserves}

@@ -6,8 +6,8 @@ use Rattle.md_kept_members.specs.View.{MemberView}
 use Rattle.md_state.specs.Members.{IsMember}
 use Rattle.md_state.specs.View.{MirrorView}
 use Rattle.md_array.specs.Consistency.{IsConsistent}
-use Rattle.md_rebuild_table.specs.Beginning.{MayBeginRebuild}
-use Rattle.md_rebuild_table.specs.Orphans.{IsSetOf}
+use Rattle.md_copy.specs.Table.Beginning.{MayBeginRebuild}
+use Rattle.md_copy.specs.Table.Orphans.{IsSetOf}
 use Rattle.md_copy.specs.Ready.{IsReadyToCopy}
 use Rattle.md_copy.specs.Readying.{LowersTarget, Readies}
 use Rattle.md_copy.specs.Rebuilding.{BeginsRebuild}

@@ -13,7 +13,7 @@ use Rattle.md_state.specs.Missing.{is_rebuilt}
 use Rattle.md_state.specs.View.{ArrayView}
 use Rattle.md_metadata.specs.Storing.{AllStayReady, StaysReady}
 use Rattle.md_metadata.proofs.Going.{same_state}
-use Rattle.md_rebuild_table.specs.Targets.{HasFreeRole, IsTarget, MayBeRebuilt}
+use Rattle.md_copy.specs.Table.Targets.{HasFreeRole, IsTarget, MayBeRebuilt}
 
 -- ---- who is a target
 target_state : (a : ArrayView) (number : ℕ) (s : MemberState) → MayBeRebuilt a number s → is_rebuilt s ≡ true

@@ -4,11 +4,11 @@ use md_array::{AddFault, BeginFault, FailFault, OpenFault, ReAddFault, RemoveFau
 use md_assembly::AssembleFault;
 use md_check::CheckFault;
 use md_commands::{CommandFault, OptionFault};
+use md_copy::RebuildFault;
 use md_create::CreateFault;
 use md_members::MemberFault;
 use md_metadata::{GrowFault, StopFault};
 use md_read::UnreadFault;
-use md_rebuild_table::RebuildFault;
 use md_resync::ResyncFault;
 use md_super::SuperFault;
 

@@ -3,10 +3,10 @@ ghost use Rattle.md_examine.specs.Sink.{PutsOrFails};
 ghost use Rattle.md_messages.specs.FaultText.Calls.{check_refusal_text, rebuild_text, resync_text, stop_text, unread_chunk_text, unread_refusal_text};
 
 use md_check::CheckFault;
+use md_copy::RebuildFault;
 use md_examine::{Sink, SinkFault, number_after};
 use md_metadata::StopFault;
 use md_read::UnreadFault;
-use md_rebuild_table::RebuildFault;
 use md_resync::ResyncFault;
 
 /// Puts out why an array is not stopped.

@@ -1,7 +1,7 @@
 use Rattle.std.proofs.Common.{◌≡◌, ◌≤◌, length, slice_get}
 use Rattle.md_kept_members.specs.View.{MemberView}
 use Rattle.md_state.specs.Members.{IsMember}
-use Rattle.md_rebuild_table.proofs.Rows.{missing_below}
+use Rattle.md_copy.proofs.TableLemmas.Rows.{missing_below}
 use Rattle.md_commands.proofs.rebuilding.chunks_lacked.Given as goal
 
 abbrev pub invariant-loop-chunk : goal.invariant-loop-chunk

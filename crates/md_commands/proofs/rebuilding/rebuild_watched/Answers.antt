@@ -1,5 +1,5 @@
 use Rattle.std.proofs.Common.{slice_get, subst}
-use Rattle.md_rebuild_table.specs.Sources.{missing_chunks}
+use Rattle.md_copy.specs.Table.Sources.{missing_chunks}
 use Rattle.md_commands.proofs.RebuildPending.{rebuilt_or_not}
 use Rattle.md_commands.proofs.rebuilding.rebuild_watched.Goals as goal
 

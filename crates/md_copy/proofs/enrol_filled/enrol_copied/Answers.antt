@@ -1,7 +1,7 @@
 use Rattle.std.proofs.Common.{◌≡◌, ◌∙◌, ◌<◌, All, refl, sym, ap, subst, arith}
 use Rattle.std.proofs.lemmas.Result.{err_from_is_err_and}
 use Rattle.md_assembly.proofs.Indices.{got_within}
-use Rattle.md_rebuild_table.specs.Orphans.{is_in}
+use Rattle.md_copy.specs.Table.Orphans.{is_in}
 use Rattle.md_copy.proofs.Held.EnrolSets.{enrols_copied, fails_copied, leaves_copied, may, uncopied_low}
 use Rattle.md_copy.proofs.Plans.PlanChunks.{count}
 use Rattle.md_copy.proofs.enrol_filled.enrol_copied.Goals as goal

@@ -10,7 +10,7 @@ use Rattle.md_pass.specs.Copied.{BreaksOff, EndsPass, pass_state}
 use Rattle.md_pass.specs.Sources.{MayRead, copy_of}
 use Rattle.md_state.specs.View.{Disk, MirrorView, disk_of, of_disks}
 use Rattle.md_super.specs.declared.superblock.Superblock.{Superblock}
-use Rattle.md_rebuild_table.proofs.Observed.{field_of}
+use Rattle.md_copy.proofs.TableLemmas.Observed.{field_of}
 use Rattle.md_copy.proofs.Fills.Carried.{may_read_of, seen}
 use Rattle.md_copy.proofs.Fills.Filled.{passed}
 use Rattle.md_copy.proofs.Fills.LentBack.{are_planned, back, within}

@@ -1,6 +1,6 @@
 use Rattle.std.proofs.Common.{subst}
 use Rattle.md_array.specs.Steps.NoteBad.{RefusesChunk}
-use Rattle.md_rebuild_table.proofs.Served.{in_sync_as}
+use Rattle.md_copy.proofs.TableLemmas.Served.{in_sync_as}
 use Rattle.md_copy.proofs.Listings.NotedLists.{nothing_noted, one_noted, slot_failed, slot_full, slot_noted, slot_unnoted}
 use Rattle.md_copy.proofs.list_failed.note_if_failed.Goals as goal
 

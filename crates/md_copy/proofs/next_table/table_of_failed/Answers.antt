@@ -4,7 +4,7 @@ use Rattle.std.proofs.lemmas.List.Elements.{All-push, All-weaker}
 use Rattle.md_bitmap.specs.Marks.{is_set}
 use Rattle.md_cert.specs.declared.slots.Slot.{Slot}
 use Rattle.md_cert.specs.declared.table.Row.{Row}
-use Rattle.md_rebuild_table.specs.Sources.{HasSources}
+use Rattle.md_copy.specs.Table.Sources.{HasSources}
 use Rattle.md_copy.proofs.Plans.FailedRows.{rise_next, row_copied, row_failed}
 use Rattle.md_copy.proofs.next_table.table_of_failed.Goals as goal
 use Rattle.md_copy.proofs.next_table.table_of_failed.Goals.{then-not-is_marked+in_ok-push, else-not-is_marked}

@@ -3,7 +3,7 @@ use Rattle.md_cert.specs.Tables.{chunks_of_rows}
 use Rattle.md_cert.specs.declared.slots.Slot.{Slot}
 use Rattle.md_cert.specs.declared.table.Row.{Row}
 use Rattle.md_pass.specs.Copied.{failed_slots}
-use Rattle.md_rebuild_table.specs.Sources.{HasSources}
+use Rattle.md_copy.specs.Table.Sources.{HasSources}
 use Rattle.md_copy.proofs.next_table.table_of_failed.Given as goal
 
 abbrev pub invariant-loop-slot : goal.invariant-loop-slot

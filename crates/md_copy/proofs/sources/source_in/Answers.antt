@@ -3,7 +3,7 @@ use Rattle.md_assembly.proofs.Indices.{got_within}
 use Rattle.md_super.specs.declared.superblock.Superblock.{Superblock}
 use Rattle.md_kept_members.specs.View.{MemberView}
 use Rattle.md_pass.specs.declared.source.Source.{Source}
-use Rattle.md_rebuild_table.proofs.Observed.{field_of}
+use Rattle.md_copy.proofs.TableLemmas.Observed.{field_of}
 use Rattle.md_copy.proofs.Plans.SourcesChosen.{source_at}
 use Rattle.md_copy.proofs.sources.source_in.Goals as goal
 

@@ -4,7 +4,7 @@ use Rattle.std.proofs.lemmas.Option.{slice_get_within}
 use Rattle.md_assembly.proofs.Indices.{got_within}
 use Rattle.md_assembly.specs.States.{is_in_sync}
 use Rattle.md_kept_members.specs.View.{MemberView}
-use Rattle.md_rebuild_table.proofs.Observed.{field_of}
+use Rattle.md_copy.proofs.TableLemmas.Observed.{field_of}
 use Rattle.md_copy.proofs.storing.first_in_sync.Goals as goal
 
 pub returns-then-is_in_sync : goal.returns-then-is_in_sync

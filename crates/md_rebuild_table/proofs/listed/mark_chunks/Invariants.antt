@@ -1,6 +1,0 @@
-use Rattle.md_rebuild_table.specs.Sources.{KeepsMarks}
-use Rattle.md_rebuild_table.proofs.Covered.{AreMarked}
-use Rattle.md_rebuild_table.proofs.listed.mark_chunks.Given as goal
-
-abbrev pub invariant-loop-chunk : goal.invariant-loop-chunk
-invariant-loop-chunk l = record { kept : KeepsMarks l.initial.marks l.marks; marked : AreMarked l.marks l.first l.chunk }

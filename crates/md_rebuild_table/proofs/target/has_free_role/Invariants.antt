@@ -1,6 +1,0 @@
-use Rattle.std.proofs.Common.{◌<◌, ℕ}
-use Rattle.md_rebuild_table.specs.Targets.{IsRoleFree}
-use Rattle.md_rebuild_table.proofs.target.has_free_role.Given as goal
-
-abbrev pub invariant-loop-role : goal.invariant-loop-role
-invariant-loop-role g l = (r : ℕ) → r < l.role → IsRoleFree l.mirror.array r → ⊥
