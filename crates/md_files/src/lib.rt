@@ -4,6 +4,7 @@
 //! Start with `FileDevice::open`. The file is locked then, and what the system itself uses can only be looked
 //! at.
 //!
+//! `device/`: a device in a file or a block device.
 //! `sparse/`: a sink into a new file in which blocks of zeros become holes, and why such a file is not made.
 //! `streams/`: sinks that pass on what they take, in codes or as it is.
 //! `masks/`: copies of disks that lack sectors.
@@ -15,19 +16,13 @@
 //! ```
 #![tactic(auto)]
 
-mod backing;
-mod block_device;
-mod file;
-mod in_use;
+mod device;
 mod masks;
-mod mounts;
 mod sparse;
 mod streams;
-mod told;
 mod zeros;
 
-pub use backing::Backing;
-pub use file::FileDevice;
+pub use device::{Backing, FileDevice};
 pub use masks::{
     Block, LackingFault, LineFault, MapFault, MapOutFault, MapRefusal, MapText, MapWord, MapsFault,
     MaskedDevice, MaskedImages, command_of, map_advice, map_list, map_out_advice, mask_images,
