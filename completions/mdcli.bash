@@ -22,7 +22,7 @@ _mdcli_options() {
     stop) printf '%s\n' --json ;;
     fail | remove) printf '%s\n' --member= ;;
     add) printf '%s\n' --device= --json --run ;;
-    re-add) printf '%s\n' --device= --full --run ;;
+    re-add) printf '%s\n' --device= --full --json --run ;;
     rebuild) printf '%s\n' --member= --quiet --json --run --map= ;;
   esac
 }

@@ -30,7 +30,7 @@ complete -c mdcli -n __fish_use_subcommand -a help -d "Shows the help of a comma
 complete -c mdcli -n 'not __fish_use_subcommand; and not __fish_seen_subcommand_from help' -F
 
 complete -c mdcli -n '__fish_seen_subcommand_from examine examine-bitmap examine-badblocks' -l all -d "Shows what stands there, though it may be refused, with each fault in it"
-complete -c mdcli -n '__fish_seen_subcommand_from examine examine-bitmap examine-badblocks scan create assemble detail plan check stop add rebuild' -l json -d "Shows the report, or why the command is refused, as a JSON object, in one line"
+complete -c mdcli -n '__fish_seen_subcommand_from examine examine-bitmap examine-badblocks scan create assemble detail plan check stop add re-add rebuild' -l json -d "Shows the report, or why the command is refused, as a JSON object, in one line"
 complete -c mdcli -n '__fish_seen_subcommand_from examine examine-bitmap examine-badblocks scan assemble detail plan read check' -l readonly -d "Changes no image: what would be stored is kept in memory"
 complete -c mdcli -n '__fish_seen_subcommand_from create' -l level -x -a 'raid1 mirror 1' -d "The RAID level: 1, raid1 or mirror"
 complete -c mdcli -n '__fish_seen_subcommand_from create' -l raid-devices -x -d "The number of members"

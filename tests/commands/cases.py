@@ -586,6 +586,7 @@ OBJECTS_AROUND = ",".join(
 OBJECT_OF_SPARE = ',{"image":"c","index":2,"device_number":3,"role":null,"state":"spare","write_mostly":false}'
 MADE_OBJECT = '{"report":"create","in_sync":2,"raid_devices":3,"events":1,"marked_chunks":0,"members":[%s]}\n' % OBJECTS_AROUND
 ADDED_OBJECT = '{"report":"add","in_sync":2,"raid_devices":3,"events":2,"marked_chunks":0,"members":[%s]}\n' % (OBJECTS_AROUND + OBJECT_OF_SPARE)
+RE_ADDED_OBJECT = '{"report":"re-add","in_sync":2,"raid_devices":2,"events":4,"marked_chunks":0,"members":[%s]}\n' % OBJECTS_OF_TWO
 SHORT_OBJECT = '{"report":"assemble","in_sync":2,"raid_devices":2,"events":1,"marked_chunks":0,"members":[%s]}\n' % OBJECTS_OF_TWO
 EQUAL = '{"report":"check","mismatched_chunks":0,"mismatches":[],"members":[%s],"compared_members":[0,1]}\n' % OBJECTS_OF_TWO
 CHECKED = '{"report":"check","mismatched_chunks":1,"mismatches":[{"sector":8,"sectors":8,"pairs":[[0,1]]}],"members":[%s],"compared_members":[0,1]}\n' % OBJECTS_OF_TWO
@@ -638,6 +639,17 @@ CASES = [
     ("examine", {"a": VAULT}, [Step("examine a", REPORT)]),
     ("examine, a byte after the roles", {"a": PADDED}, [Step("examine a", REPORT)]),
     ("examine --json", {"a": VAULT}, [Step("examine --json a", OBJECT)]),
+    (
+        "mdadm's words for commands",
+        {"a": ZEROS, "b": ZEROS, "c": VAULT},
+        [
+            create("raid1", 2, 4, "--assume-clean a b", output=CLEAN, changes="a b"),
+            Step("--detail --readonly a b", DETAIL),
+            Step("-D a b", DETAIL),
+            Step("--examine c", REPORT),
+            Step("-E --json c", OBJECT),
+        ],
+    ),
     ("scan", {"a": VAULT, "b": ZEROS}, [Step("scan a b", SCANNED, told="b: Super Magic\n")]),
     ("examine-bitmap", {"a": LOGGED}, [Step("examine-bitmap a", BITMAP_REPORT)]),
     ("examine-bitmap, no bitmap", {"a": WITHOUT_BITMAP}, [Step("examine-bitmap a", fault="NoBitmap")]),
@@ -1203,6 +1215,18 @@ CASES = [
             Step("fail --member 1 a b", "in sync 1 of 2, events 2, marked 0\n", changes="a"),
             Step("remove --member 1 a b", "in sync 1 of 2, events 2, marked 0\n"),
             Step("re-add --device b a", "in sync 2 of 2, events 4, marked 0\n", changes="a b"),
+            Holds("b", "a", as_role(1, 1)),
+        ],
+    ),
+    (
+        "one that failed and left comes back, as JSON",
+        {"a": ZEROS, "b": ZEROS, "c": ZEROS},
+        [
+            create("raid1", 2, 4, "--assume-clean a b", output=CLEAN, changes="a b"),
+            Step("fail --member 1 a b", "in sync 1 of 2, events 2, marked 0\n", changes="a"),
+            Step("remove --member 1 a b", "in sync 1 of 2, events 2, marked 0\n"),
+            Step("re-add --json --device c a", ('{"fault":"Member Super Magic","text":"mdcli: Member Super Magic","advice":"', '"}\n'), fault="Member Super Magic"),
+            Step("re-add --json --device b a", RE_ADDED_OBJECT, changes="a b"),
             Holds("b", "a", as_role(1, 1)),
         ],
     ),

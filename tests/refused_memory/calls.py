@@ -105,6 +105,7 @@ ANSWERS = {
     "md_commands::fail_member": "fail",
     "md_commands::list_mismatches": "check --list",
     "md_commands::re_add_device": "re-add",
+    "md_commands::re_add_device_json": "re-add --json",
     "md_commands::rebuild_member": "rebuild",
     "md_commands::rebuild_member_json": "rebuild --json",
     "md_commands::remove_member": "remove",

@@ -127,7 +127,7 @@ module _ {R S A : Type 0} (r : SourceGhosts R) (s : SinkGhosts S) (names : List 
     within = λ _. le_refl _;
     moves = λ _. refl;
   }
-  all_kept (re_adds name full) result brings h = record {
+  all_kept (re_adds name full json) result brings h = record {
     as_many = joins_count before.mirror.disks after.mirror.disks after.beside h.1.kept ∙ ap (λ (n : ℕ). length before.mirror.disks + n) (sym (one_there before.beside h.1.device h.1.is));
     within = λ _. le_refl _;
     moves = λ _. refl;
@@ -162,7 +162,7 @@ module _ {R S A : Type 0} (r : SourceGhosts R) (s : SinkGhosts S) (names : List 
   performs_asked (fails k) h = h
   performs_asked (removes k) h = h
   performs_asked (adds name json) h = h
-  performs_asked (re_adds name full) h = h
+  performs_asked (re_adds name full json) h = h
   performs_asked (rebuilds k form) h = h
 
 -- one that is to join comes last

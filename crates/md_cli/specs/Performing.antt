@@ -217,13 +217,13 @@ module _ {S : Type 0} (s : SinkGhosts S) where
         (RefusesJoining s device after.beside before.mirror after.mirror old new)
 
   -- it comes back, and gets what it lacks
-  pub record PerformsReAdd (extent : RebuildExtent) (before after : OpenedView) (old new : S)
-      (result : Result (Unit {0}) CommandFault) : Type 0 where
+  pub record PerformsReAdd (text_of : ArrayView → List ℕ) (extent : RebuildExtent) (before after : OpenedView)
+      (old new : S) (result : Result (Unit {0}) CommandFault) : Type 0 where
     pub device : Disk
     pub is : before.beside ≡ Some device
     pub kept : KeepsDevice before.mirror.disks after.mirror.disks after.beside
     pub re_adds : MatchResult result
-        (λ _. StopsArrayAfter s summary_text (ReAddsDevice extent device before.mirror) after.mirror old new)
+        (λ _. StopsArrayAfter s text_of (ReAddsDevice extent device before.mirror) after.mirror old new)
         (RefusesToReAdd s extent device after.beside before.mirror after.mirror old new)
 
 module _ {R S A : Type 0} (r : SourceGhosts R) (s : SinkGhosts S) where
@@ -296,9 +296,10 @@ module _ {R S A : Type 0} (r : SourceGhosts R) (s : SinkGhosts S) (names : List 
   Performs (adds name json) before after old new result =
       (new.input ≡ old.input)
       × PerformsAdd s (summary_shown (codes "add") json names) before after old.output new.output result
-  Performs (re_adds name full) before after old new result =
+  Performs (re_adds name full json) before after old new result =
       (new.input ≡ old.input)
-      × PerformsReAdd s (rebuild_extent full) before after old.output new.output result
+      × PerformsReAdd s (summary_shown (codes "re-add") json names) (rebuild_extent full) before after
+      old.output new.output result
   Performs (rebuilds k form) before after old new result =
       (after.beside ≡ before.beside) × (new.input ≡ old.input)
       × MatchResult result

@@ -7,12 +7,13 @@ ghost use Rattle.md_commands.specs.Adding.{AddsDevice, KeepsDevice, RefusesJoini
 ghost use Rattle.md_commands.specs.Objects.{plan_shown, summary_shown};
 ghost use Rattle.md_commands.specs.Output.{ShowsText};
 ghost use Rattle.md_commands.specs.Planning.{RefusesToPlan, ShowsPlan};
+ghost use Rattle.md_commands.specs.ReAdding.{ReAddsDevice, RefusesToReAdd};
 ghost use Rattle.md_commands.specs.Rebuilding.{RebuildsArray, RefusesToRebuild};
 ghost use Rattle.md_commands.specs.Stopping.{StopsArrayAfter};
 ghost use Rattle.md_read_commands.specs.Filling.{has_put_all};
 ghost use Rattle.md_messages.specs.Telling.{texts};
 ghost use Rattle.md_cli.specs.Opened.{opened_view};
-ghost use Rattle.md_cli.specs.Performing.{PerformsAdd, PerformsCheck, Performs, PerformsReAdd, PerformsReadOn, PerformsRemove, PerformsServe, PerformsStop, PerformsWrite, ReadsFilledOn, ShowsMismatches, ShowsSectors, detail_shown, rebuilt_told, sectors_asked};
+ghost use Rattle.md_cli.specs.Performing.{PerformsAdd, PerformsCheck, Performs, PerformsReAdd, PerformsReadOn, PerformsRemove, PerformsServe, PerformsStop, PerformsWrite, ReadsFilledOn, ShowsMismatches, ShowsSectors, detail_shown, rebuild_extent, rebuilt_told, sectors_asked};
 ghost use Rattle.md_cli.specs.Streams.{streams_of};
 
 use crate::opened::Opened;
@@ -22,10 +23,11 @@ use crate::session::Session;
 use crate::show_short::show_short;
 use md_array::Mirror;
 use md_commands::{
-    CommandFault, RebuildExtent, Source, Watch, add_device, add_device_json, check_members,
-    check_members_json, fail_member, list_mismatches, re_add_device, rebuild_member,
-    rebuild_member_json, remove_member, resync_array, show_detail, show_detail_json, show_plan,
-    show_plan_json, show_verbose_detail, stop_array, stop_array_json, write_array,
+    CommandFault, RebuildExtent, Returning, Source, Watch, add_device, add_device_json,
+    check_members, check_members_json, fail_member, list_mismatches, re_add_device,
+    re_add_device_json, rebuild_member, rebuild_member_json, remove_member, resync_array,
+    show_detail, show_detail_json, show_plan, show_plan_json, show_verbose_detail, stop_array,
+    stop_array_json, write_array,
 };
 use md_device::Device;
 use md_examine::Sink;
@@ -105,14 +107,7 @@ pub(crate) fn perform<
         }
         Command::Remove { member } => remove(opened, member, &mut session.out),
         Command::Add { json, .. } => add(alloc, opened, json, names, &mut session.out),
-        Command::ReAdd { full: true, .. } => {
-            let out = &mut session.out;
-            re_add(rt, alloc, opened, RebuildExtent::All, watch, out)
-        }
-        Command::ReAdd { full: false, .. } => {
-            let out = &mut session.out;
-            re_add(rt, alloc, opened, RebuildExtent::Marked, watch, out)
-        }
+        Command::ReAdd { full, json, .. } => re_add(session, opened, full, json, names),
         Command::Rebuild { member, form } => {
             let (mirror, out) = (&mut opened.mirror, &mut session.out);
             rebuild(rt, alloc, mirror, member, form, watch, out)
@@ -479,32 +474,87 @@ fn rebuild<D: Device + Drop + Send, T: Threads + Wait + Sync, W: Watch + Sync, S
 }
 
 // Takes the device back that stands beside the array, and rebuilds it. If it does not join, it stands there again.
-fn re_add<D: Device + Drop + Send, T: Threads + Wait + Sync, W: Watch + Sync, S: Sink>(
-    rt: &T,
-    alloc: Global,
+fn re_add<
+    D: Device + Drop + Send,
+    T: Threads + Wait + Sync,
+    R: Source + Drop,
+    S: Sink + Drop,
+    W: Watch + Sync,
+    A: Drop,
+>(
+    session: &mut Session<'_, T, R, S, W, A>,
     opened: &mut Opened<D>,
-    extent: RebuildExtent,
-    watch: &W,
-    out: &mut S,
+    full: bool,
+    json: bool,
+    names: &[&str],
 ) -> Result<(), CommandFault>
     requires sound { IsConsistent opened.old.mirror }
     requires some { is_some opened.old.beside ≡ true }
-    ensures re_adds { PerformsReAdd S.Sink extent
-        (opened_view D.Device opened.old) (opened_view D.Device opened.new) out.old out.new result }
-    ensures flushed { IfOk result (λ _. S.is_flushed out.new) }
+    ensures input { session.new.input ≡ session.old.input }
+    ensures re_adds { PerformsReAdd S.Sink (summary_shown (codes "re-add") json (texts names.now))
+        (rebuild_extent full) (opened_view D.Device opened.old) (opened_view D.Device opened.new)
+        session.old.out session.new.out result }
+    ensures noted { session.new.gaps ≡ session.old.gaps }
+    ensures counted { session.new.mismatched ≡ session.old.mismatched }
+    ensures unasked { session.new.asker ≡ session.old.asker }
+    ensures flushed { IfOk result (λ _. S.is_flushed session.new.out) }
 {
     let Some(device) = opened.beside.take() else {
         unreachable!()
     };
-    let (device, re_added) = re_add_device(
-        rt,
-        alloc,
-        &mut opened.mirror,
-        device,
-        extent,
-        watch,
-        out,
-    );
+    let mirror = &mut opened.mirror;
+    let (device, re_added) = re_add_shown(session, mirror, device, full, json, names);
     opened.beside = device;
     Ok(re_added?)
+}
+
+// Takes a device back and rebuilds it, and puts out what the array is then.
+fn re_add_shown<
+    D: Device + Drop + Send,
+    T: Threads + Wait + Sync,
+    R: Source + Drop,
+    S: Sink + Drop,
+    W: Watch + Sync,
+    A: Drop,
+>(
+    session: &mut Session<'_, T, R, S, W, A>,
+    mirror: &mut Mirror<D>,
+    device: D,
+    full: bool,
+    json: bool,
+    names: &[&str],
+) -> (Option<D>, Result<(), CommandFault>)
+    requires sound { IsConsistent mirror.old }
+    ensures input { session.new.input ≡ session.old.input }
+    ensures gives { MatchResult result.1
+        (λ _. StopsArrayAfter S.Sink (summary_shown (codes "re-add") json (texts names.now))
+        (ReAddsDevice (rebuild_extent full) (disk_of D.Device device) mirror.old) mirror.new
+        session.old.out session.new.out)
+        (RefusesToReAdd S.Sink (rebuild_extent full) (disk_of D.Device device)
+        (option_map (disk_of D.Device) result.0) mirror.old mirror.new session.old.out session.new.out) }
+    ensures device { KeepsDevice mirror.old.disks mirror.new.disks (option_map (disk_of D.Device) result.0) }
+    ensures noted { session.new.gaps ≡ session.old.gaps }
+    ensures counted { session.new.mismatched ≡ session.old.mismatched }
+    ensures unasked { session.new.asker ≡ session.old.asker }
+    ensures flushed { IfOk result.1 (λ _. S.is_flushed session.new.out) }
+{
+    let extent = extent_of(full);
+    let returning = Returning { device, extent };
+    let (rt, alloc, watch) = (session.rt, session.alloc, session.watch);
+    let out = &mut session.out;
+    if json {
+        return re_add_device_json(rt, alloc, mirror, returning, names, watch, out);
+    }
+    re_add_device(rt, alloc, mirror, returning, watch, out)
+}
+
+// What a device that comes back gets.
+fn extent_of(full: bool) -> RebuildExtent
+    ensures { result ≡ rebuild_extent full }
+{
+    if full {
+        RebuildExtent::All
+    } else {
+        RebuildExtent::Marked
+    }
 }

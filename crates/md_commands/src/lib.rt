@@ -43,7 +43,7 @@ pub use md_copy::Gate;
 pub use md_metadata::RebuildExtent;
 pub use option_fault::OptionFault;
 pub use planning::{show_plan, show_plan_json};
-pub use re_adding::re_add_device;
+pub use re_adding::{Returning, re_add_device, re_add_device_json};
 pub use rebuilding::{rebuild_member, rebuild_member_json};
 pub use removing::remove_member;
 pub use resyncing::{resync_array, resync_if_needed};

@@ -1,19 +1,25 @@
 -- The command line as a value, and its image words.
-use Rattle.std.proofs.Common.{◌≡◌, ◌||◌, ◌∷◌, Bool, true, false, ap₂, List, [], Option, inl, inr, subst, Some, None, codes, refl, sym, ap, ◌∙◌, option_map, unwrap_or, IsSomeAnd}
+use Rattle.std.proofs.Common.{◌≡◌, ◌||◌, ◌++◌, ◌∷◌, Bool, true, false, map, ap₂, List, [], Option, inl, inr, subst, Some, None, codes, refl, sym, ap, ◌∙◌, option_map, unwrap_or, IsSomeAnd}
+use Rattle.std.proofs.lemmas.List.{map-append}
+use Rattle.std.proofs.lemmas.Simd.{map-map}
 use Rattle.std.specs.Box.{box_value}
 use Rattle.clap.proofs.OnLiterals.{clap_on_literals}
 use Rattle.clap.proofs.WalkLemmas.{raw_values-rows}
+use Rattle.clap.specs.Simple.{app_of_fields}
+use Rattle.clap.specs.Walk.{texts}
+use Rattle.clap.specs.declared.builder.command.Command.{Command}
+use Rattle.clap.specs.declared.builder.command.Command.TheOpen.{Command-F}
 use Rattle.clap.specs.declared.parser.matches.Found.{Found}
 use Rattle.clap.specs.declared.parser.matches.ArgMatches.{ArgMatches}
 use Rattle.clap.specs.declared.parser.matches.ArgMatches.TheViews.{out-ArgMatches, out-SubCommand}
 use Rattle.clap.specs.Kinds.{or_else}
 use Rattle.clap.specs.declared.error.Error.{Error}
-use Rattle.clap.specs.Words.{HasKind, Kinds, Row, Text, matched_of, raw_values, rule_of, rows_of, found_of, is_simple, is_simple_and_free, subcommand_name_of, subcommand_rows_of}
+use Rattle.clap.specs.Words.{App, HasKind, Kinds, Row, Text, matched_of, raw_values, rule_of, rows_of, found_of, is_simple, is_simple_and_free, subcommand_name_of, subcommand_rows_of}
 use Rattle.clap.specs.declared.builder.arg.Arg.{Arg}
 use Rattle.clap.specs.declared.builder.range.ValueRange.{ValueRange}
 use Rattle.std.specs.Borrow.{Bor}
 use Rattle.clap.specs.declared.builder.texts.Texts.TheVariants.{One}
-use Rattle.md_words.specs.Words.{mdcli}
+use Rattle.md_words.specs.Words.{mdcli, with_aliases}
 use Rattle.md_words.specs.Parsing.{ask_found, ask_named, bitmap_found, bitmap_in, images_found, map_out_found, map_out_in, maps_found, output_found, output_in, verbose_found, verbose_in}
 
 pub some_is : {X : Type 0} (o : Option X) (x : X) → IsSomeAnd o (λ r. r ≡ x) → o ≡ Some x
@@ -101,6 +107,17 @@ verbose_read m name f is = sym (ap verbose_found is)
 -- a command gets no global argument with one that is local
 pub no_globals : (old arg new : Bool) → new ≡ (old || arg) → old ≡ false → arg ≡ false → new ≡ false
 no_globals old arg new e first second = e ∙ ap₂ (λ a b. a || b) first second
+
+-- what a parse reads of a command under more names
+pub aliased : (old new : Command-F Command) (names : List (Bor Text)) → new ≡ record old { aliases = new.aliases }
+    → new.aliases.items ≡ old.aliases.items ++ map (λ n. (n, false)) names → app_of_fields new ≡ with_aliases (texts names) (app_of_fields old)
+aliased old new names rest more =
+    let text_of : Bor Text × Bool → Text = λ alias. alias.0.now in
+    let flagged : Bor Text → Bor Text × Bool = λ n. (n, false) in
+    let under : List Text → App = λ aliases. record (app_of_fields old) { top = record (app_of_fields old).top { aliases = aliases } } in
+    ap app_of_fields rest
+    ∙ ap under (ap (map text_of) more ∙ map-append text_of old.aliases.items (map flagged names)
+    ∙ ap (λ (t : List Text). map text_of old.aliases.items ++ t) (map-map text_of flagged names))
 
 -- what fails first decides, and what is looked at next only where nothing did
 pub first_fails : (first next : Kinds) (e : Error) → HasKind first e → HasKind (or_else first next) e

@@ -54,7 +54,7 @@ pub data Ask : Type 0 where
   fails : ℕ → Ask  -- the member with this index
   removes : ℕ → Ask  -- it leaves the array
   adds : Text → Bool → Ask  -- the image under this name joins it
-  re_adds : Text → Bool → Ask  -- the image under this name, which left it, comes back and gets what it lacks; whether that is all of it
+  re_adds : Text → Bool → Bool → Ask  -- the image under this name, which left it, comes back and gets what it lacks; whether that is all of it
   rebuilds : ℕ → RebuildForm → Ask  -- the member with this index gets what it lacks
 
 -- whether no image may be changed, by a command that else might change some
@@ -110,7 +110,7 @@ fills _ = false
 -- the image that is to join it
 abbrev pub device_to_add : Ask → Option Text
 device_to_add (adds name json) = Some name
-device_to_add (re_adds name full) = Some name
+device_to_add (re_adds name full json) = Some name
 device_to_add _ = None
 
 -- the member that it names
@@ -136,7 +136,7 @@ abbrev pub tells_parted : Ask → Bool
 tells_parted (assembles json readonly) = true
 tells_parted (details form readonly) = true
 tells_parted (plans k json readonly) = true
-tells_parted (re_adds name full) = true
+tells_parted (re_adds name full json) = true
 tells_parted (rebuilds k form) = true
 tells_parted _ = false
 
@@ -144,7 +144,7 @@ tells_parted _ = false
 abbrev pub overwritten_by : Ask → Overwritten
 overwritten_by (creates o) = overwritten.Images
 overwritten_by (adds name json) = overwritten.NewDevice
-overwritten_by (re_adds name full) = overwritten.ReturningDevice
+overwritten_by (re_adds name full json) = overwritten.ReturningDevice
 overwritten_by (rebuilds k form) = overwritten.Member k
 overwritten_by _ = overwritten.Nothing
 
@@ -178,6 +178,7 @@ is_json (checks form exit_code readonly) = is_json_of_check form
 is_json (creates o) = o.json
 is_json (stops json) = json
 is_json (adds name json) = json
+is_json (re_adds name full json) = json
 is_json (rebuilds k form) = is_json_of_rebuild form
 is_json _ = false
 
@@ -206,7 +207,7 @@ abbrev pub long_task_of : Ask → Option LongTask
 long_task_of (reads sector count fill readonly) = Some (long.Read count)
 long_task_of (checks form exit_code readonly) = Some long.Check
 long_task_of resyncs = Some long.Resync
-long_task_of (re_adds name full) = Some long.Rebuild
+long_task_of (re_adds name full json) = Some long.Rebuild
 long_task_of (rebuilds k form) = Some long.Rebuild
 long_task_of (writes sector count) = Some long.Write
 long_task_of _ = None
@@ -246,5 +247,5 @@ ask_of (command.Stop json) = stops json
 ask_of (command.Fail k) = fails k
 ask_of (command.Remove k) = removes k
 ask_of (command.Add device json) = adds device.now json
-ask_of (command.ReAdd device full) = re_adds device.now full
+ask_of (command.ReAdd device full json) = re_adds device.now full json
 ask_of (command.Rebuild k form) = rebuilds k form

@@ -3,7 +3,8 @@ use Rattle.std.specs.Prelude.{◌∷◌, [], Option, Some, None}
 use Rattle.std.specs.List.{fold}
 use Rattle.std.specs.Borrow.{Bor}
 use Rattle.clap.specs.Words.{App, Rule, Text, new_app, with_rule, with_subcommand}
-use Rattle.md_words.specs.Words.{completed, flag_rule, u32_rule, texts_rule, u64_rule, value_rule}
+use Rattle.clap.specs.Walk.{texts}
+use Rattle.md_words.specs.Words.{completed, flag_rule, u32_rule, texts_rule, u64_rule, value_rule, with_aliases}
 use Rattle.md_words.specs.declared.commands.CommandWords.{CommandWords}
 use Rattle.md_words.specs.declared.commands.Kind.{Kind}
 use Rattle.md_words.specs.declared.commands.Kind.TheVariants as kind
@@ -27,9 +28,11 @@ rule_in o = with_default o.default (record (rule_of_kind o.kind o.name.now) { re
 abbrev pub with_option : App → OptionWords → App
 with_option a o = with_rule a (rule_in o)
 
--- a command: its options, and then what every command has
+-- a command: its names, its options, and then what every command has
 abbrev pub app_in : CommandWords → App
-app_in w = completed (fold with_option (new_app w.name.now) w.options.now)
+app_in w =
+    completed
+    (fold with_option (with_aliases (texts w.aliases.now) (new_app w.name.now)) w.options.now)
 
 abbrev pub with_command : App → CommandWords → App
 with_command a w = with_subcommand a (app_in w).top

@@ -196,6 +196,7 @@ ask_to_change name rows =
     else if bytes_eq name (codes "remove") then removes (member_in rows)
     else if bytes_eq name (codes "add") then adds (text_in (codes "device") rows) (json_in rows)
     else if bytes_eq name (codes "re-add") then re_adds (text_in (codes "device") rows) (full_in rows)
+    (json_in rows)
     else if bytes_eq name (codes "rebuild") then rebuilds (member_in rows) (rebuild_form_in rows)
     else examines (image_form_in rows)
 

@@ -1,5 +1,5 @@
 -- The command line.
-use Rattle.std.specs.Prelude.{true, ◌∷◌, [], Some, codes, pos}
+use Rattle.std.specs.Prelude.{true, ◌∷◌, ◌++◌, [], List, Some, codes, pos}
 use Rattle.clap.specs.Lexer.{usize_max}
 use Rattle.clap.specs.Words.{App, Rule, Text, new_app, new_rule, with_rule, with_subcommand}
 use Rattle.clap.specs.declared.builder.action.ArgAction.TheVariants.{Append, SetTrue}
@@ -64,6 +64,10 @@ abbrev pub examine_app : Text → App
 examine_app name =
     completed (with_readonly (with_json (with_rule (new_app name) (flag_rule (codes "all")))))
 
+-- a command under more names
+abbrev pub with_aliases : List Text → App → App
+with_aliases names a = record a { top = record a.top { aliases = a.top.aliases ++ names } }
+
 -- A command that tells of which arrays images are members.
 abbrev pub scan_app : App
 scan_app = completed (with_readonly (with_json (new_app (codes "scan"))))
@@ -117,7 +121,8 @@ add_app = completed (with_run (with_json (with_device_option (new_app (codes "ad
 abbrev pub re_add_app : App
 re_add_app =
     completed
-    (with_run (with_rule (with_device_option (new_app (codes "re-add"))) (flag_rule (codes "full"))))
+    (with_run
+    (with_json (with_rule (with_device_option (new_app (codes "re-add"))) (flag_rule (codes "full")))))
 
 -- A command by which a member gets the data that it lacks. Its report may have no plan.
 abbrev pub rebuild_app : App
@@ -195,7 +200,9 @@ abbrev pub with_examine_commands : App → App
 with_examine_commands a =
     with_subcommand
     (with_subcommand
-    (with_subcommand (with_subcommand a (examine_app (codes "examine")).top)
+    (with_subcommand
+    (with_subcommand a
+    (with_aliases (codes "--examine" ∷ codes "-E" ∷ []) (examine_app (codes "examine"))).top)
     (examine_app (codes "examine-bitmap")).top)
     (examine_app (codes "examine-badblocks")).top)
     scan_app.top
@@ -206,7 +213,7 @@ with_array_commands a =
     (with_subcommand
     (with_subcommand (with_subcommand (with_subcommand a create_app.top) grow_app.top)
     (array_app (codes "assemble")).top)
-    (array_app (codes "detail")).top)
+    (with_aliases (codes "--detail" ∷ codes "-D" ∷ []) (array_app (codes "detail"))).top)
     plan_app.top
 
 abbrev pub with_data_commands : App → App

@@ -101,6 +101,7 @@ pub enum Command<'a> {
     ReAdd {
         device: &'a str,
         full: bool,
+        json: bool,
     },
     /// The member with this index gets what it lacks. The array is stopped then.
     Rebuild {
@@ -430,6 +431,7 @@ impl<'a> Command<'a> {
             Command::Create(options) => options.json,
             Command::Stop { json } => json,
             Command::Add { json, .. } => json,
+            Command::ReAdd { json, .. } => json,
             Command::Rebuild { form, .. } => form.is_json(),
             Command::Grow { .. }
             | Command::Read { .. }
@@ -438,8 +440,7 @@ impl<'a> Command<'a> {
             | Command::Write { .. }
             | Command::Resync
             | Command::Fail { .. }
-            | Command::Remove { .. }
-            | Command::ReAdd { .. } => false,
+            | Command::Remove { .. } => false,
         }
     }
 

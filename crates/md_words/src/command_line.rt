@@ -1,10 +1,11 @@
 // The command line, as clap is told of it.
 ghost use Rattle.std.specs.Prelude.{◌≡◌, IfOk, false};
 ghost use Rattle.std.specs.List.{fold};
+ghost use Rattle.clap.specs.Walk.{texts};
 ghost use Rattle.clap.specs.Words.{app_of, rule_of};
 ghost use Rattle.clap.specs.declared.builder.command.Command.TheViews.{out-Command as fields_of};
 ghost use Rattle.md_words.specs.Commands.{app_in, rule_in, with_command, with_option};
-ghost use Rattle.md_words.specs.Words.{flag_rule, image_rule, mdcli, texts_rule, u32_rule, u64_rule, value_rule, verbose_rule, with_array_commands, with_data_commands, with_examine_commands, with_member_commands, with_rebuild_commands};
+ghost use Rattle.md_words.specs.Words.{flag_rule, image_rule, mdcli, texts_rule, u32_rule, u64_rule, value_rule, verbose_rule, with_aliases, with_array_commands, with_data_commands, with_examine_commands, with_member_commands, with_rebuild_commands};
 
 use crate::commands::{
     ARRAY_COMMANDS, CommandWords, DATA_COMMANDS, EXAMINE_COMMANDS, Kind, MEMBER_COMMANDS,
@@ -115,7 +116,16 @@ fn with_options<'a>(
     Ok(command)
 }
 
-// A command with its options, those of every command, and its images.
+// A command under these names too, which help does not list.
+fn with_aliases<'a>(command: Command<'a>, names: &[&'a str]) -> Result<Command<'a>, AllocError>
+    ensures app { IfOk result (λ c. app_of c ≡ with_aliases (texts names.now) (app_of command.entry)) }
+    ensures local { IfOk result (λ c. (fields_of command.entry).has_globals ≡ false
+        → (fields_of c).has_globals ≡ false) }
+{
+    command.aliases(names)
+}
+
+// A command with its names, its options, those of every command, and its images.
 fn command_of<'a>(alloc: Global, words: &CommandWords<'a>) -> Result<Command<'a>, AllocError>
     ensures app { IfOk result (λ c. app_of c ≡ app_in words.now) }
     ensures local { IfOk result (λ c. (fields_of c).has_globals ≡ false) }
@@ -123,6 +133,7 @@ fn command_of<'a>(alloc: Global, words: &CommandWords<'a>) -> Result<Command<'a>
     let command = Command::new(alloc, words.name)
         .about(words.about)
         .after_help(words.after_help);
+    let command = with_aliases(command, words.aliases)?;
     let command = with_options(alloc, command, words.options)?;
     let command = command.arg(verbose_arg(alloc))?;
     command.arg(image_arg(alloc))

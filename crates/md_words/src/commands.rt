@@ -27,6 +27,8 @@ pub(crate) struct OptionWords<'a> {
 /// itself refuses it by name.
 pub(crate) struct CommandWords<'a> {
     pub(crate) name: &'a str,
+    /// Words of mdadm that stand for its name.
+    pub(crate) aliases: &'a [&'a str],
     pub(crate) about: &'a str,
     pub(crate) after_help: &'a str,
     pub(crate) options: &'a [OptionWords<'a>],
@@ -324,24 +326,28 @@ const MAP_SERVED: OptionWords = OptionWords {
 pub(crate) const EXAMINE_COMMANDS: [CommandWords; 4] = [
     CommandWords {
         name: "examine",
+        aliases: &["--examine", "-E"],
         about: "Shows the superblock of a member's image",
         after_help: help::EXAMINE,
         options: &[ALL, JSON, READONLY],
     },
     CommandWords {
         name: "examine-bitmap",
+        aliases: &[],
         about: "Shows the write-intent bitmap of a member's image",
         after_help: help::EXAMINE,
         options: &[ALL, JSON, READONLY],
     },
     CommandWords {
         name: "examine-badblocks",
+        aliases: &[],
         about: "Shows the bad block log of a member's image",
         after_help: help::EXAMINE,
         options: &[ALL, JSON, READONLY],
     },
     CommandWords {
         name: "scan",
+        aliases: &[],
         about: "Shows of which arrays the images are members, for mdadm.conf; none given: all block devices",
         after_help: help::SCAN,
         options: &[JSON, READONLY],
@@ -352,6 +358,7 @@ pub(crate) const EXAMINE_COMMANDS: [CommandWords; 4] = [
 pub(crate) const ARRAY_COMMANDS: [CommandWords; 5] = [
     CommandWords {
         name: "create",
+        aliases: &[],
         about: "Makes an array of the images; what they held is lost",
         after_help: help::CREATE,
         options: &[
@@ -370,24 +377,28 @@ pub(crate) const ARRAY_COMMANDS: [CommandWords; 5] = [
     },
     CommandWords {
         name: "grow",
+        aliases: &[],
         about: "Gives the members of an array a write-intent bitmap that it lacks",
         after_help: help::GROW,
         options: &[BITMAP, BITMAP_CHUNK],
     },
     CommandWords {
         name: "assemble",
+        aliases: &[],
         about: "Shows in a line what array the images make; may store marks",
         after_help: help::ARRAY,
         options: &[JSON, READONLY, MAP, BITMAP_IN_MEMORY],
     },
     CommandWords {
         name: "detail",
+        aliases: &["--detail", "-D"],
         about: "Shows the array that the images make; may store marks",
         after_help: help::DETAIL,
         options: &[JSON, READONLY, MAP, BITMAP_IN_MEMORY],
     },
     CommandWords {
         name: "plan",
+        aliases: &[],
         about: "Shows the plan of a member's rebuild, in the fewest rounds; may store marks",
         after_help: help::PLAN,
         options: &[MEMBER, JSON, READONLY, MAP, BITMAP_IN_MEMORY],
@@ -398,6 +409,7 @@ pub(crate) const ARRAY_COMMANDS: [CommandWords; 5] = [
 pub(crate) const DATA_COMMANDS: [CommandWords; 6] = [
     CommandWords {
         name: "read",
+        aliases: &[],
         about: "Writes sectors of the array to standard output; may change images",
         after_help: help::READ,
         options: &[
@@ -414,30 +426,35 @@ pub(crate) const DATA_COMMANDS: [CommandWords; 6] = [
     },
     CommandWords {
         name: "serve",
+        aliases: &[],
         about: "Serves the array as a network block device, and stops it",
         after_help: help::SERVE,
         options: &[FILL_SERVED, ONLY_READ, MAP_SERVED, BITMAP_IN_MEMORY],
     },
     CommandWords {
         name: "write",
+        aliases: &[],
         about: "Writes standard input to the array, and stops it",
         after_help: help::WRITE,
         options: &[SECTOR, INPUT_COUNT],
     },
     CommandWords {
         name: "check",
+        aliases: &[],
         about: "Counts the chunks in which members in sync differ; may store marks",
         after_help: help::CHECK,
         options: &[LIST, EXIT_CODE, JSON, READONLY, MAP, BITMAP_IN_MEMORY],
     },
     CommandWords {
         name: "resync",
+        aliases: &[],
         about: "Makes the members in sync agree where they may differ, and stops the array",
         after_help: help::RESYNC,
         options: &[MAP],
     },
     CommandWords {
         name: "stop",
+        aliases: &[],
         about: "Stops the array: it is clean then, unless its members may differ",
         after_help: help::STOP,
         options: &[JSON],
@@ -448,18 +465,21 @@ pub(crate) const DATA_COMMANDS: [CommandWords; 6] = [
 pub(crate) const MEMBER_COMMANDS: [CommandWords; 3] = [
     CommandWords {
         name: "fail",
+        aliases: &[],
         about: "Makes a member faulty, and stops the array",
         after_help: help::FAIL,
         options: &[MEMBER],
     },
     CommandWords {
         name: "remove",
+        aliases: &[],
         about: "Takes a member that is not in use out of the array, and stops it",
         after_help: help::REMOVE,
         options: &[MEMBER],
     },
     CommandWords {
         name: "add",
+        aliases: &[],
         about: "Adds an image to the array as a spare, and stops it; what the image held is lost",
         after_help: help::ADD,
         options: &[DEVICE, JSON, RUN],
@@ -470,12 +490,14 @@ pub(crate) const MEMBER_COMMANDS: [CommandWords; 3] = [
 pub(crate) const REBUILD_COMMANDS: [CommandWords; 2] = [
     CommandWords {
         name: "re-add",
+        aliases: &[],
         about: "Takes an image back that left the array, rebuilds what it lacks, and stops the array",
         after_help: help::RE_ADD,
-        options: &[DEVICE, FULL, RUN],
+        options: &[DEVICE, FULL, JSON, RUN],
     },
     CommandWords {
         name: "rebuild",
+        aliases: &[],
         about: "Rebuilds a member from all others at once by its plan, and stops the array",
         after_help: help::REBUILD,
         options: &[MEMBER, QUIET, JSON, RUN, MAP],

@@ -2,7 +2,7 @@
 
 /// Of a command that shows one image.
 pub(crate) const EXAMINE: &str =
-    "The image is only read, with --readonly and without it.\n\n--all shows what stands on the image though it is damaged, or no member at all: a line for each fault that stands in the superblock, and in the header or the log that it places, and every field as it stands. Of a superblock it also shows the checksum that its bytes have, and at which other places of the image a superblock starts, and of which array. Where a part can't be read, it says which, and shows the rest.\n\nThe status is 0 where the report is written, 1 where it is refused (standard error names the fault), and 2 where the words are not accepted.\n\nExample:\n  mdcli examine /dev/sda1";
+    "The image is only read, with --readonly and without it. In place of `examine` mdadm's words `--examine` and `-E` are taken too.\n\n--all shows what stands on the image though it is damaged, or no member at all: a line for each fault that stands in the superblock, and in the header or the log that it places, and every field as it stands. Of a superblock it also shows the checksum that its bytes have, and at which other places of the image a superblock starts, and of which array. Where a part can't be read, it says which, and shows the rest.\n\nThe status is 0 where the report is written, 1 where it is refused (standard error names the fault), and 2 where the words are not accepted.\n\nExample:\n  mdcli examine /dev/sda1";
 
 /// Of `scan`.
 pub(crate) const SCAN: &str =
@@ -14,7 +14,7 @@ pub(crate) const ARRAY: &str =
 
 /// Of `detail`.
 pub(crate) const DETAIL: &str =
-    "Name all images of the array, in any order (of those with the most events the first decides which members are in sync). Where the bitmap of a member in sync does not fit the array, all chunks are marked in it: the image is changed. Nothing else is written. --readonly prevents that: the images are only read, and the report is the same.\n\n--verbose shows how far each recovering member is, a line over those of the members, which says what their columns are, and the image of each.\n\nThe status is 0 where the report is written, 1 where it is refused (standard error names the fault), and 2 where the words are not accepted.\n\nExample:\n  mdcli detail --readonly a.img b.img";
+    "Name all images of the array, in any order (of those with the most events the first decides which members are in sync). Where the bitmap of a member in sync does not fit the array, all chunks are marked in it: the image is changed. Nothing else is written. --readonly prevents that: the images are only read, and the report is the same.\n\n--verbose shows how far each recovering member is, a line over those of the members, which says what their columns are, and the image of each. In place of `detail` mdadm's words `--detail` and `-D` are taken too.\n\nThe status is 0 where the report is written, 1 where it is refused (standard error names the fault), and 2 where the words are not accepted.\n\nExample:\n  mdcli detail --readonly a.img b.img";
 
 /// Of `plan`.
 pub(crate) const PLAN: &str =

@@ -417,6 +417,7 @@ fn command_that_changes<'a>(name: &str, found: &ArgMatches<'a>) -> Command<'a>
         Command::ReAdd {
             device: text_in(found, "device"),
             full: is_full(found),
+            json: is_json(found),
         }
     } else if name == "rebuild" {
         Command::Rebuild {
