@@ -13,7 +13,7 @@ CRATES = support.TOP / "crates"
 ADVICE = CRATES / "md_messages" / "src" / "advice" / "advice.rt"
 MAPS = CRATES / "md_files" / "src" / "masks" / "images" / "advice.rt"
 OUTPUT_FILES = CRATES / "md_files" / "src" / "sparse" / "fault.rt"
-RESUMED = CRATES / "mdcli" / "src" / "resume_fault.rt"
+RESUMED = CRATES / "md_outputs" / "src" / "map" / "resume_fault.rt"
 LIMITS = CRATES / "md_messages" / "src" / "advice" / "geometry_advice.rt"
 
 TEXT = re.compile(r'const (\w+): &str =\s*"((?:[^"\\]|\\.)*)"')

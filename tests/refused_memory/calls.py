@@ -166,7 +166,8 @@ TAKES_NONE = {
 # No whole call makes these yet, and no test: what is asked of their callers is not shown of one.
 UNPLAYED = {"md_array::Mirror::enrol_but_for", "md_array::Mirror::note_bad_sectors"}
 
-NOT_SHIPPED = re.compile(r"(.*_tests|example_members|bench_parts|mdcli)$")
+# The program too, and the files that it makes, which tests/resumed tries.
+NOT_SHIPPED = re.compile(r"(.*_tests|example_members|bench_parts|md_outputs|mdcli)$")
 TYPE = re.compile(r"^pub (?:enum|struct) (\w+)[^;{]*\{(.*?)^\}", re.M | re.S)
 # A block of functions of a type, or a public function up to its clauses or its body.
 IMPL = re.compile(r"^impl\b")

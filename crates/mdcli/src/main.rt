@@ -1,8 +1,12 @@
 //! The program: commands over images in files.
 //!
-//! Start with `main`. It has the words parsed (`md_words`), lays the maps of `--map` over the files (`maps.rt`,
-//! `files.rt`), makes the files of `--output` and `--map-out` (`output_file.rt`, `map_out.rt`) or goes on with them (`resuming.rt`),
-//! and leaves the rest to `run` of `md_cli`. Where `scan` is given no image, it goes over all block devices (`all_devices.rt`).
+//! Start with `main`. It has the words parsed (`md_words`), lays the maps of `--map` over the files, makes the files of `--output` and
+//! `--map-out` or goes on with them (`md_outputs`), and leaves the rest to `run` of `md_cli`. Where `scan` is given no image, it goes
+//! over all block devices.
+//!
+//! `images/`: images in files, and under the maps of those that lack sectors.
+//! `outputs/`: where a command puts out, and what is told of its files.
+//! `progress/`: how far a command is, and the line that a terminal is shown of it.
 //!
 //! ```
 //! mdcli detail --readonly --map sda.img=sda.map sda.img sdb.img
@@ -15,48 +19,22 @@ ghost use Rattle.md_words.specs.Parsing.{asked, bitmap_word, image_words, words_
 ghost use Rattle.md_words.specs.Asks.{ask_of};
 ghost use Rattle.md_messages.specs.Telling.{texts};
 
-mod all_devices;
 mod arguments;
-mod comparing;
-mod copying;
-mod file_end;
-mod files;
-mod identity;
-mod kept_map;
-mod lacking;
-mod made_file;
-mod map_out;
-mod maps;
-mod new_file;
-mod output_file;
+mod images;
 mod outputs;
-mod pace;
 mod person;
 mod progress;
 mod prompt;
 mod random;
-mod read_length;
-mod refused_requests;
-mod resume_fault;
-mod resumed_file;
-mod resumed_map;
-mod resuming;
-mod silence;
 mod standard_input;
-mod whole_puts;
-mod write_progress;
 
-use crate::all_devices::{scan_all, scan_of_all};
 use crate::arguments::arguments;
-use crate::files::FileImages;
-use crate::maps::{Masked, masked_images, tell_refusal};
-use crate::output_file::output_of;
-use crate::outputs::{Ending, Opened, Outputs, if_resumed, is_output_ended, opened_of};
+use crate::images::{FileImages, Masked, masked_images, scan_all, scan_of_all, tell_refusal};
+use crate::outputs::{Ending, Opened, Outputs, if_resumed, is_output_ended, opened_of, output_of};
 use crate::person::Person;
 use crate::progress::Progress;
 use crate::prompt::Prompt;
 use crate::random::bytes_if_needed;
-use crate::resuming::{Names, identity_of, resumed_of};
 use crate::standard_input::bytes_left_if_taken;
 use clap::Error;
 use md_cli::{Session, run};
@@ -64,6 +42,7 @@ use md_commands::{Input, Source};
 use md_examine::{Buffered, Sink};
 use md_files::{Cleared, CodedJson, Line, MapText, MaskedImages};
 use md_messages::{Asker, Messages};
+use md_outputs::{Names, identity_of, resumed_of};
 use md_read_commands::Gaps;
 use md_words::{LongTask, Request, parse};
 use std::alloc::{AllocError, Global};
@@ -249,6 +228,7 @@ fn run_into<'a, 'b, T: Threads + Wait + Sync, S: Sink + Drop, E: Write + Sink>(
         stands,
         earlier,
     } = opened;
+    progress.begin_behind(stands);
     let told = bytes_left_if_taken(rt, &parsed);
     let mut session = Session {
         rt: setting.threads,

@@ -1,5 +1,5 @@
 // Which file it is, and the end of what stands in it.
-use crate::identity::push_sum;
+use crate::map::identity::push_sum;
 use sha2::{Digest, Sha256};
 use std::alloc::{AllocError, Global};
 use std::fs::{File, Metadata};
@@ -11,14 +11,14 @@ use std::time::UNIX_EPOCH;
 const MOST: u64 = 1 << 20;
 
 /// What the line begins with that says which file it is.
-pub const FILE: &str = "# File: ";
+pub(crate) const FILE: &str = "# File: ";
 
 /// What the line begins with that has the sum.
-pub const END: &str = "# Sum of the last of them: ";
+pub(crate) const END: &str = "# Sum of the last of them: ";
 
 /// A line with the file's device and inode, and the second in which it was made: 0 where its file system doesn't tell. An inode that is
 /// free gets another file, which was made later.
-pub fn file_line(alloc: Global, file: &File) -> io::Result<String> {
+pub(crate) fn file_line(alloc: Global, file: &File) -> io::Result<String> {
     let metadata = file.metadata()?;
     let (device, inode, made) = (metadata.dev(), metadata.ino(), made_at(&metadata));
     let line = format!(in alloc; "{FILE}device {device}, inode {inode}, made {made}\n")?;
@@ -37,7 +37,7 @@ fn made_at(metadata: &Metadata) -> u64 {
 
 /// A line with a sum (SHA-256) over the last bytes of a file before this place: another file, or one that something else changed, has
 /// another, unless both have the same there, as zeros.
-pub fn end_line(alloc: Global, file: &File, end: u64) -> io::Result<String> {
+pub(crate) fn end_line(alloc: Global, file: &File, end: u64) -> io::Result<String> {
     let size = end.min(MOST);
     let mut bytes = vec![in alloc; 0; size as usize]?;
     file.read_exact_at(&mut bytes, end - size)?;

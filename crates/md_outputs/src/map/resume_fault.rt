@@ -58,7 +58,7 @@ pub enum ResumeFault {
 
 impl ResumeFault {
     /// Why one of the files could not be opened or read.
-    pub fn of_io(kept: Kept, error: io::Error) -> ResumeFault {
+    pub(crate) fn of_io(kept: Kept, error: io::Error) -> ResumeFault {
         match error.kind() {
             ErrorKind::OutOfMemory => ResumeFault::NoMemory,
             ErrorKind::WouldBlock => ResumeFault::InUse(kept),

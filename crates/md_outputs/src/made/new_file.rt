@@ -1,16 +1,17 @@
 // A new file that gets what is put out.
 ghost use Rattle.std.specs.Prelude.{◌≡◌, None, is_some, true, ⊤};
 
-use crate::made_file::MadeFile;
+use crate::made::made_file::MadeFile;
 use md_examine::SinkFault;
 use md_files::{HoleFile, OutputFileFault};
+use std::fs::{File, Files};
 use std::io::{self, ErrorKind};
 use std::os::unix::fs::FileExt;
 
 /// A new file that is written from its start to its end, with holes. What a file holds is not known.
 #[derive(Drop)]
-pub struct NewFile<'a> {
-    rt: &'a HostRuntime,
+pub struct NewFile<'a, R> {
+    rt: &'a R,
     made: MadeFile,
     // How far it is written.
     at: u64,
@@ -18,9 +19,9 @@ pub struct NewFile<'a> {
     fault: Option<io::Error>,
 }
 
-impl<'a> NewFile<'a> {
+impl<'a, R: Files<File = File>> NewFile<'a, R> {
     /// Makes the file, empty. Nothing that is there is overwritten: it may be an image.
-    pub fn make(rt: &'a HostRuntime, path: &str) -> Result<NewFile<'a>, OutputFileFault> {
+    pub fn make(rt: &'a R, path: &str) -> Result<NewFile<'a, R>, OutputFileFault> {
         let made = MadeFile::make(rt, path).map_err(making_fault)?;
         Ok(NewFile {
             rt,
@@ -73,7 +74,7 @@ fn making_fault(error: io::Error) -> OutputFileFault {
     OutputFileFault::Unwritten(error)
 }
 
-impl<'a> HoleFile for NewFile<'a> {
+impl<'a, R: Files<File = File>> HoleFile for NewFile<'a, R> {
     ghost contents = { λ _. None };
 
     ghost failed = { λ f. is_some f.fault };

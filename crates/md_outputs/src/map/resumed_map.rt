@@ -1,10 +1,10 @@
 // The text of the map of a read that may go on.
 ghost use Rattle.std.specs.Prelude.{◌^◌, ◌≤◌};
 
-use crate::file_end::{END, FILE};
-use crate::identity::Identity;
-use crate::lacking::copy_of;
-use crate::resume_fault::{Difference, ResumeFault};
+use crate::map::file_end::{END, FILE};
+use crate::map::identity::Identity;
+use crate::map::lacking::copy_of;
+use crate::map::resume_fault::{Difference, ResumeFault};
 use md_badblocks::BadSet;
 use md_files::{MapFault, read_map, write_map_of_read};
 use md_read_commands::Gaps;
@@ -15,7 +15,7 @@ use std::str;
 const MADE: &str = "# Mapfile. Created by mdcli\n";
 
 /// What each such map begins with.
-pub const HEADING: &str =
+pub(crate) const HEADING: &str =
     "# Mapfile. Created by mdcli\n# By mdcli read --resume, which goes on from here.\n";
 
 // What is said of a file that is not made yet, and before how many sectors stand in it.
@@ -32,32 +32,32 @@ const MOST_SECTORS: u64 = 1 << 54;
 
 /// What the map of a read is made for: the name of its file, and from what is read; and the first sector.
 #[derive(Drop)]
-pub struct Purpose {
-    pub alloc: Global,
-    pub output: String,
-    pub identity: Identity,
-    pub sector: u64,
+pub(crate) struct Purpose {
+    pub(crate) alloc: Global,
+    output: String,
+    identity: Identity,
+    sector: u64,
 }
 
 /// How far the read is: no file is there yet, or so many sectors stand in it.
 #[derive(Drop)]
-pub enum Progressed {
+pub(crate) enum Progressed {
     Unmade,
     Stands(Standing),
 }
 
 /// How many sectors stand, which of them were not given, and the lines of which file it is and how they end.
 #[derive(Drop)]
-pub struct Standing {
-    pub sectors: u64,
-    pub gaps: Gaps,
-    pub file_line: String,
-    pub end_line: String,
+pub(crate) struct Standing {
+    pub(crate) sectors: u64,
+    pub(crate) gaps: Gaps,
+    pub(crate) file_line: String,
+    pub(crate) end_line: String,
 }
 
 impl Purpose {
     /// The map of a read into a file of this name.
-    pub fn new(
+    pub(crate) fn new(
         alloc: Global,
         output: &str,
         identity: Identity,
@@ -72,12 +72,12 @@ impl Purpose {
     }
 
     /// The text before the file is made.
-    pub fn unmade(&self) -> Result<String, AllocError> {
+    pub(crate) fn unmade(&self) -> Result<String, AllocError> {
         self.text(UNMADE, 0, Gaps::none(self.alloc))
     }
 
     /// The text once so many sectors stand in the file of the one line, which end by the other, and of which these were not given.
-    pub fn standing(
+    pub(crate) fn standing(
         &self,
         sectors: u64,
         file_line: &str,
@@ -124,7 +124,7 @@ impl Purpose {
     }
 
     /// Reads such a text, which has to be just as it was written, and for this purpose.
-    pub fn read(&self, text: &[u8]) -> Result<Progressed, ResumeFault> {
+    pub(crate) fn read(&self, text: &[u8]) -> Result<Progressed, ResumeFault> {
         let Ok(text) = str::from_utf8(text) else {
             return Err(ResumeFault::NoMap);
         };

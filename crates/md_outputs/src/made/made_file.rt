@@ -1,5 +1,5 @@
 // A file that the program made itself.
-use std::fs::{self, File, OpenOptions, TryLockError};
+use std::fs::{self, File, Files, OpenOptions, TryLockError};
 use std::io::{self, ErrorKind};
 use std::os::unix::fs::{FileExt, MetadataExt};
 
@@ -12,13 +12,13 @@ pub struct MadeFile {
 
 impl MadeFile {
     /// Makes the file, empty. Nothing that is there is overwritten: it may be an image.
-    pub fn make(rt: &HostRuntime, path: &str) -> io::Result<MadeFile> {
+    pub fn make<R: Files<File = File>>(rt: &R, path: &str) -> io::Result<MadeFile> {
         let file = File::create_new(rt, path)?;
         Ok(MadeFile { file })
     }
 
     /// Opens one that was made before, to write it. The name, followed to no link's end, has to be that of a regular file.
-    pub fn open(rt: &HostRuntime, path: &str) -> io::Result<MadeFile> {
+    pub(crate) fn open<R: Files<File = File>>(rt: &R, path: &str) -> io::Result<MadeFile> {
         if !fs::symlink_metadata(rt, path)?.is_file() {
             return Err(no_file());
         }
@@ -32,7 +32,7 @@ impl MadeFile {
     }
 
     /// Locks it against all others, as long as it is open. `WouldBlock` says that another has it.
-    pub fn lock(&self) -> io::Result<()> {
+    pub(crate) fn lock(&self) -> io::Result<()> {
         match self.file.try_lock() {
             Ok(()) => Ok(()),
             Err(TryLockError::WouldBlock) => Err(io::Error::from(ErrorKind::WouldBlock)),
@@ -40,7 +40,8 @@ impl MadeFile {
         }
     }
 
-    pub fn file(&self) -> &File {
+    /// The file itself.
+    pub(crate) fn file(&self) -> &File {
         &self.file
     }
 
@@ -56,14 +57,14 @@ impl MadeFile {
 
     /// Takes it away, where it still has the name under which it was made. std removes by name alone: what comes under the
     /// name after that look goes in its place.
-    pub fn take_away(self, rt: &HostRuntime, path: &str) {
+    pub fn take_away<R: Files>(self, rt: &R, path: &str) {
         if self.has_name(rt, path).unwrap_or(false) {
             let _ = fs::remove_file(rt, path);
         }
     }
 
     /// Whether the name, followed to no link's end, is that of this very file.
-    pub fn has_name(&self, rt: &HostRuntime, path: &str) -> io::Result<bool> {
+    pub(crate) fn has_name<R: Files>(&self, rt: &R, path: &str) -> io::Result<bool> {
         let own = self.file.metadata()?;
         let named = fs::symlink_metadata(rt, path)?;
         Ok(named.dev() == own.dev() && named.ino() == own.ino())

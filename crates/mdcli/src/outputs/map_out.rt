@@ -1,9 +1,9 @@
 // The map that a read makes.
-use crate::made_file::MadeFile;
 use md_badblocks::BadSet;
 use md_examine::{Sink, put_name};
 use md_files::{MapOutFault, map_out_advice, write_map_of_read};
 use md_messages::Messages;
+use md_outputs::MadeFile;
 use md_read_commands::Gaps;
 use md_words::{Command, Request};
 use std::io::{self, ErrorKind, Write};

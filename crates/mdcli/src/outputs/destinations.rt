@@ -1,16 +1,19 @@
 // Where a command puts out, and how that ends.
-use crate::map_out::{BegunMap, MapOut, begun_map, make_map, tell_map_out, tell_map_with_advice};
-use crate::new_file::NewFile;
-use crate::output_file::{destination_of, end_file, output_of, tell_output, tell_with_advice};
-use crate::resume_fault::{Kept, ResumeFault, resume_advice};
-use crate::resumed_file::{KeepFault, ResumedFile};
-use crate::resuming::{Names, ResumeRefusal, Resumed};
-use crate::whole_puts::WholePuts;
+use crate::outputs::map_out::{
+    BegunMap, MapOut, begun_map, make_map, tell_map_out, tell_map_with_advice,
+};
+use crate::outputs::output_file::{
+    destination_of, end_file, output_of, tell_output, tell_with_advice,
+};
 use md_commands::CommandFault;
 use md_examine::{Sink, put_name};
 use md_files::{Destination, MapOutFault, Sparse};
 use md_images::ImageRefusal;
 use md_messages::{Messages, advise};
+use md_outputs::{
+    KeepFault, Kept, Names, NewFile, ResumeFault, ResumeRefusal, Resumed, ResumedFile, WholePuts,
+    resume_advice,
+};
 use md_read_commands::Gaps;
 use md_words::Request;
 use std::io::Write;
@@ -24,8 +27,8 @@ const MORE_MEMORY: &str =
 
 /// Standard output or a new file, or the file of a read that may go on.
 pub type Outputs<'a, S> = Destination<
-    Destination<S, Sparse<NewFile<'a>>>,
-    WholePuts<Sparse<ResumedFile<'a>>>,
+    Destination<S, Sparse<NewFile<'a, HostRuntime>>>,
+    WholePuts<Sparse<ResumedFile<'a, HostRuntime>>>,
 >;
 
 /// Where a command puts out, how many sectors stand there, and which of these were not given.
@@ -41,7 +44,7 @@ pub struct Opened<'a, S: Drop> {
 pub fn opened_of<'a, F, S: Sink + Drop, E: Write + Sink>(
     rt: &'a HostRuntime,
     parsed: &Result<Request<'_>, F>,
-    resumed: Option<Resumed<'a>>,
+    resumed: Option<Resumed<'a, HostRuntime>>,
     standard: S,
     messages: Messages,
     err: &mut E,
@@ -124,7 +127,7 @@ pub fn is_output_ended<S: Drop, E: Write + Sink>(
 }
 
 fn is_resumed_ended<E: Write + Sink>(
-    kept: ResumedFile<'_>,
+    kept: ResumedFile<'_, HostRuntime>,
     names: Names<'_>,
     messages: Messages,
     err: &mut E,

@@ -1,5 +1,5 @@
 // Images under the maps that words name.
-use crate::files::FileImages;
+use crate::images::files::FileImages;
 use md_cli::show_why;
 use md_commands::CommandFault;
 use md_examine::{Output, Sink, put_name};

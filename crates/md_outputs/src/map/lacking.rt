@@ -16,6 +16,7 @@ pub struct Lacking {
 }
 
 impl Lacking {
+    /// None is told yet.
     pub fn new(alloc: Global) -> Lacking {
         Lacking {
             alloc,
@@ -36,7 +37,7 @@ impl Lacking {
     }
 
     /// All that are told so far, unless there was no memory for one of them or is none now.
-    pub fn all(&self) -> Result<Gaps, AllocError> {
+    pub(crate) fn all(&self) -> Result<Gaps, AllocError> {
         if !self.is_whole.load(Ordering::SeqCst) {
             return Err(AllocError);
         }
@@ -48,7 +49,7 @@ impl Lacking {
 }
 
 /// A copy of these sectors.
-pub fn copy_of(alloc: Global, gaps: &Gaps) -> Result<Gaps, AllocError> {
+pub(crate) fn copy_of(alloc: Global, gaps: &Gaps) -> Result<Gaps, AllocError> {
     let mut copy = Gaps::none(alloc);
     add_gaps(&mut copy, gaps.missing.runs(), gaps.others.runs())?;
     Ok(copy)

@@ -1,69 +1,35 @@
 // Where a read goes on, or begins so that it can.
-use crate::file_end::{end_line, file_line};
-use crate::identity::{Identity, IdentityFault};
-use crate::kept_map::{KeptMap, sync_folder};
-use crate::lacking::Lacking;
-use crate::made_file::MadeFile;
-use crate::resume_fault::{Difference, Kept, ResumeFault};
-use crate::resumed_file::{MOST_BEHIND, ResumedFile};
-use crate::resumed_map::{HEADING, Progressed, Purpose, Standing};
-use md_files::{MapOutFault, MapText, OutputFileFault};
-use md_images::ImageFault;
+use crate::made::MadeFile;
+use crate::map::{
+    Difference, HEADING, Identity, IdentityFault, Kept, KeptMap, Lacking, Progressed, Purpose,
+    ResumeFault, Standing, end_line, file_line, sync_folder,
+};
+use crate::resuming::names::Names;
+use crate::resuming::refusal::{
+    ResumeRefusal, no_memory, unread_output, unwritten_map, unwritten_output,
+};
+use crate::resuming::resumed_file::{MOST_BEHIND, ResumedFile};
+use md_files::MapText;
 use md_read_commands::Gaps;
-use md_words::{Command, Request};
-use std::alloc::{AllocError, Global};
+use md_words::Request;
+use std::alloc::Global;
+use std::fs::{File, Files};
 use std::io::{self, ErrorKind, Read};
+use std::time::Clock;
 
 const SECTOR: u64 = 512;
 
-/// The names of the file and of its map, and the first sector, of words that ask for a read that may go on.
-#[derive(Clone, Copy)]
-pub struct Names<'a> {
-    pub output: &'a str,
-    pub map: &'a str,
-    pub sector: u64,
-}
-
-impl<'a> Names<'a> {
-    pub fn of_parsed<E>(parsed: &Result<Request<'a>, E>) -> Option<Names<'a>> {
-        let Ok(request) = parsed else {
-            return None;
-        };
-        let Command::Read { sector, .. } = request.command else {
-            return None;
-        };
-        if !request.resume {
-            return None;
-        }
-        Some(Names {
-            output: request.output?,
-            map: request.map_out?,
-            sector,
-        })
-    }
-}
-
-/// Why it does not go on and does not begin.
-#[derive(Drop)]
-pub enum ResumeRefusal {
-    /// The image with this index can't be looked at.
-    Image(usize, ImageFault),
-    Resume(ResumeFault),
-    Output(OutputFileFault),
-    Map(MapOutFault),
-}
-
 /// A file that a read goes on to write, how many sectors stand in it, and which of them were not given.
 #[derive(Drop)]
-pub struct Resumed<'a> {
-    pub file: ResumedFile<'a>,
+pub struct Resumed<'a, R> {
+    pub file: ResumedFile<'a, R>,
     pub stands: u64,
     pub gaps: Gaps,
 }
 
 /// Holds the images of a read that may go on, where the words that were parsed ask for one; these are the maps.
-pub fn identity_of<E>(
-    rt: &HostRuntime,
+pub fn identity_of<E, R: Files<File = File> + AllocGlobal>(
+    rt: &R,
     parsed: &Result<Request<'_>, E>,
     maps: &[MapText],
 ) -> Result<Option<Identity>, ResumeRefusal> {
@@ -79,12 +45,12 @@ pub fn identity_of<E>(
 }
 
 /// The file and the map under these names, where a read may go on that reads from this.
-pub fn resumed_of<'a>(
-    rt: &'a HostRuntime,
+pub fn resumed_of<'a, R: Files<File = File> + AllocGlobal + Clock>(
+    rt: &'a R,
     names: Option<Names<'_>>,
     identity: Option<Identity>,
     lacking: &'a Lacking,
-) -> Result<Option<Resumed<'a>>, ResumeRefusal> {
+) -> Result<Option<Resumed<'a, R>>, ResumeRefusal> {
     let Some(names) = names else {
         return Ok(None);
     };
@@ -112,16 +78,16 @@ enum MapWas {
 
 // Where a read goes on: the names of the file and of its map.
 #[derive(Drop)]
-struct Place<'a> {
-    rt: &'a HostRuntime,
+struct Place<'a, R> {
+    rt: &'a R,
     lacking: &'a Lacking,
     output: String,
     map: String,
 }
 
-impl<'a> Place<'a> {
+impl<'a, R: Files<File = File> + AllocGlobal + Clock> Place<'a, R> {
     // Opens the file and the map, or makes them, where neither is there. Nothing is changed where they are refused.
-    fn resume(self, purpose: Purpose) -> Result<Resumed<'a>, ResumeRefusal> {
+    fn resume(self, purpose: Purpose) -> Result<Resumed<'a, R>, ResumeRefusal> {
         // It is there before anything is made.
         let unmade = purpose.unmade()?;
         let map = open_if_there(self.rt, &self.map, Kept::Map)?;
@@ -148,7 +114,7 @@ impl<'a> Place<'a> {
         was: MapWas,
         purpose: Purpose,
         unmade: &str,
-    ) -> Result<Resumed<'a>, ResumeRefusal> {
+    ) -> Result<Resumed<'a, R>, ResumeRefusal> {
         let Place {
             rt,
             lacking,
@@ -178,7 +144,7 @@ impl<'a> Place<'a> {
         map: MadeFile,
         made: MadeFile,
         purpose: Purpose,
-    ) -> Result<Resumed<'a>, ResumeRefusal> {
+    ) -> Result<Resumed<'a, R>, ResumeRefusal> {
         let Place {
             rt,
             lacking,
@@ -203,14 +169,14 @@ impl<'a> Place<'a> {
 }
 
 // The file is made, and empty.
-fn begin_output<'a>(
-    rt: &'a HostRuntime,
+fn begin_output<'a, R: Files<File = File> + AllocGlobal + Clock>(
+    rt: &'a R,
     path: &str,
-    mut map: KeptMap<'a>,
+    mut map: KeptMap<'a, R>,
     made: MadeFile,
     purpose: Purpose,
     lacking: &'a Lacking,
-) -> Result<Resumed<'a>, ResumeRefusal> {
+) -> Result<Resumed<'a, R>, ResumeRefusal> {
     if let Err(refusal) = store_empty(rt, path, &made, &purpose, &mut map) {
         made.take_away(rt, path);
         map.take_away();
@@ -224,14 +190,14 @@ fn begin_output<'a>(
 }
 
 // Goes on behind the sectors that stand.
-fn go_on_behind<'a>(
-    rt: &'a HostRuntime,
-    map: KeptMap<'a>,
+fn go_on_behind<'a, R: Files<File = File> + AllocGlobal + Clock>(
+    rt: &'a R,
+    map: KeptMap<'a, R>,
     made: MadeFile,
     purpose: Purpose,
     standing: Standing,
     lacking: &'a Lacking,
-) -> Result<Resumed<'a>, ResumeRefusal> {
+) -> Result<Resumed<'a, R>, ResumeRefusal> {
     let Standing { sectors, gaps, .. } = standing;
     lacking.add(gaps.missing.runs(), gaps.others.runs());
     Ok(Resumed {
@@ -242,8 +208,8 @@ fn go_on_behind<'a>(
 }
 
 // A file that is there, locked.
-fn open_if_there(
-    rt: &HostRuntime,
+fn open_if_there<R: Files<File = File>>(
+    rt: &R,
     path: &str,
     kept: Kept,
 ) -> Result<Option<MadeFile>, ResumeFault> {
@@ -254,15 +220,15 @@ fn open_if_there(
     }
 }
 
-fn make_map(rt: &HostRuntime, path: &str) -> Result<MadeFile, ResumeRefusal> {
+fn make_map<R: Files<File = File>>(rt: &R, path: &str) -> Result<MadeFile, ResumeRefusal> {
     make_locked(rt, path).map_err(unwritten_map)
 }
 
-fn make_output(rt: &HostRuntime, path: &str) -> Result<MadeFile, ResumeRefusal> {
+fn make_output<R: Files<File = File>>(rt: &R, path: &str) -> Result<MadeFile, ResumeRefusal> {
     make_locked(rt, path).map_err(unwritten_output)
 }
 
-fn make_locked(rt: &HostRuntime, path: &str) -> io::Result<MadeFile> {
+fn make_locked<R: Files<File = File>>(rt: &R, path: &str) -> io::Result<MadeFile> {
     let file = MadeFile::make(rt, path)?;
     match file.lock() {
         Ok(()) => Ok(file),
@@ -306,12 +272,12 @@ fn length_of(output: &MadeFile) -> Result<u64, ResumeFault> {
 }
 
 // The map says that nothing stands in the file, which is empty, once it is on its disk that the file is there.
-fn store_empty(
-    rt: &HostRuntime,
+fn store_empty<R: Files<File = File> + AllocGlobal>(
+    rt: &R,
     path: &str,
     output: &MadeFile,
     purpose: &Purpose,
-    map: &mut KeptMap<'_>,
+    map: &mut KeptMap<'_, R>,
 ) -> Result<(), ResumeRefusal> {
     sync_folder(rt, path).map_err(unwritten_output)?;
     let alloc = purpose.alloc;
@@ -345,43 +311,4 @@ fn check_output(
         return Err(ResumeFault::BadOutput);
     }
     Ok(())
-}
-
-fn unread_output(error: io::Error) -> ResumeFault {
-    ResumeFault::of_io(Kept::Output, error)
-}
-
-fn unwritten_output(error: io::Error) -> ResumeRefusal {
-    match error.kind() {
-        ErrorKind::OutOfMemory => no_memory(),
-        // What came there since it was looked for may be its own map.
-        ErrorKind::WouldBlock | ErrorKind::AlreadyExists => {
-            ResumeRefusal::Resume(ResumeFault::InUse(Kept::Output))
-        }
-        _ => ResumeRefusal::Output(OutputFileFault::Unwritten(error)),
-    }
-}
-
-fn unwritten_map(error: io::Error) -> ResumeRefusal {
-    match error.kind() {
-        ErrorKind::OutOfMemory => no_memory(),
-        ErrorKind::WouldBlock => ResumeRefusal::Resume(ResumeFault::InUse(Kept::Map)),
-        _ => ResumeRefusal::Map(MapOutFault::Unwritten(error)),
-    }
-}
-
-fn no_memory() -> ResumeRefusal {
-    ResumeRefusal::Resume(ResumeFault::NoMemory)
-}
-
-impl From<AllocError> for ResumeRefusal {
-    fn from(_: AllocError) -> ResumeRefusal {
-        no_memory()
-    }
-}
-
-impl From<ResumeFault> for ResumeRefusal {
-    fn from(fault: ResumeFault) -> ResumeRefusal {
-        ResumeRefusal::Resume(fault)
-    }
 }

@@ -1,13 +1,12 @@
 // What a command that takes long shows of its progress.
 ghost use Rattle.std.specs.Prelude.{⊤};
 
-use crate::comparing::Comparing;
-use crate::copying::Copying;
-use crate::lacking::Lacking;
-use crate::read_length::ReadLength;
-use crate::refused_requests::RefusedRequests;
-use crate::silence::Silence;
-use crate::write_progress::WriteProgress;
+use crate::progress::comparing::Comparing;
+use crate::progress::copying::Copying;
+use crate::progress::read_length::ReadLength;
+use crate::progress::refused_requests::RefusedRequests;
+use crate::progress::silence::Silence;
+use crate::progress::write_progress::WriteProgress;
 use md_badblocks::Run;
 use md_cli::{FillWatch, ReadWatch};
 use md_commands::{Gate, Watch};
@@ -16,6 +15,7 @@ use md_files::{Cleared, Line};
 use md_images::Traffic;
 use md_messages::{Messages, put_going_on};
 use md_nbd::{ClientWatch, RefusedRequest};
+use md_outputs::Lacking;
 use md_words::LongTask;
 use std::alloc::AllocError;
 use std::io::Write;
@@ -85,6 +85,12 @@ impl<'a> Progress<'a> {
     /// The sectors that a read does not get, as far as it came.
     pub fn lacking(&self) -> &Lacking {
         &self.lacking
+    }
+
+    /// A read goes on behind so many sectors: they count as read.
+    pub fn begin_behind(&self, sectors: u64) {
+        self.read
+            .fetch_add(sectors.saturating_mul(512), Ordering::SeqCst);
     }
 
     /// How many sectors of the array are to be read; 0 before that is known.

@@ -1,17 +1,15 @@
 // A file of sectors that is kept with its map, so that a read can go on.
 ghost use Rattle.std.specs.Prelude.{◌≡◌, MatchResult, None, is_some, true, ⊤};
 
-use crate::file_end::{end_line, file_line};
-use crate::kept_map::KeptMap;
-use crate::lacking::Lacking;
-use crate::made_file::MadeFile;
-use crate::resumed_map::Purpose;
+use crate::made::MadeFile;
+use crate::map::{KeptMap, Lacking, Purpose, end_line, file_line};
 use md_examine::SinkFault;
 use md_files::{HoleFile, MapOutFault, OutputFileFault};
 use std::alloc::AllocError;
+use std::fs::{File, Files};
 use std::io::{self, ErrorKind};
 use std::os::unix::fs::FileExt;
-use std::time::Instant;
+use std::time::{Clock, Instant};
 
 // The map is written anew after so many bytes or, where a bad disk takes long to give them, after so many seconds.
 const BYTES: u64 = 64 << 20;
@@ -20,7 +18,7 @@ const BYTES: u64 = 64 << 20;
 const PIECE: u64 = 1 << 20;
 
 /// A read that is interrupted leaves no more bytes in its file behind those that its map counts.
-pub const MOST_BEHIND: u64 = BYTES + 2 * PIECE;
+pub(crate) const MOST_BEHIND: u64 = BYTES + 2 * PIECE;
 
 const SECONDS: u64 = 30;
 
@@ -37,10 +35,10 @@ pub enum KeepFault {
 /// The file, which is written from a place in it to its end, with holes; and its map, which says of no more sectors that they stand than
 /// are on the file's disk. It is asked after each piece whether the map is to say more. What a file holds is not known.
 #[derive(Drop)]
-pub struct ResumedFile<'a> {
-    rt: &'a HostRuntime,
+pub struct ResumedFile<'a, R> {
+    rt: &'a R,
     made: MadeFile,
-    map: KeptMap<'a>,
+    map: KeptMap<'a, R>,
     purpose: Purpose,
     lacking: &'a Lacking,
     // How far it is written, and how far the map says so.
@@ -56,16 +54,16 @@ pub struct ResumedFile<'a> {
     is_sure: bool,
 }
 
-impl<'a> ResumedFile<'a> {
+impl<'a, R: Files<File = File> + AllocGlobal + Clock> ResumedFile<'a, R> {
     /// A file in which so many sectors stand, by a map of this purpose.
-    pub fn new(
-        rt: &'a HostRuntime,
+    pub(crate) fn new(
+        rt: &'a R,
         made: MadeFile,
-        map: KeptMap<'a>,
+        map: KeptMap<'a, R>,
         purpose: Purpose,
         lacking: &'a Lacking,
         sectors: u64,
-    ) -> ResumedFile<'a> {
+    ) -> ResumedFile<'a, R> {
         let at = sectors.saturating_mul(SECTOR);
         ResumedFile {
             rt,
@@ -240,7 +238,7 @@ impl From<AllocError> for KeepFault {
     }
 }
 
-impl<'a> HoleFile for ResumedFile<'a> {
+impl<'a, R: Files<File = File> + AllocGlobal + Clock> HoleFile for ResumedFile<'a, R> {
     ghost contents = { λ _. None };
 
     ghost failed = { λ f. is_some f.fault };

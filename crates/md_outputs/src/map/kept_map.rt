@@ -1,31 +1,31 @@
 // The map of a read as it is kept while the read goes on.
-use crate::made_file::MadeFile;
-use std::fs::{self, File};
+use crate::made::MadeFile;
+use std::fs::{self, File, Files};
 use std::io::{self, ErrorKind};
 
 /// A map under its name, which is replaced at once: whoever looks there finds one whole map, and after a crash too. Its file is locked,
 /// so that no other program that locks files of this kind keeps a map there meanwhile.
 #[derive(Drop)]
-pub struct KeptMap<'a> {
-    rt: &'a HostRuntime,
+pub(crate) struct KeptMap<'a, R> {
+    rt: &'a R,
     path: String,
     file: MadeFile,
 }
 
-impl<'a> KeptMap<'a> {
+impl<'a, R: Files<File = File> + AllocGlobal> KeptMap<'a, R> {
     /// The map in a file that is locked, which has this name.
-    pub fn new(rt: &'a HostRuntime, path: String, file: MadeFile) -> KeptMap<'a> {
+    pub(crate) fn new(rt: &'a R, path: String, file: MadeFile) -> KeptMap<'a, R> {
         KeptMap { rt, path, file }
     }
 
     /// Writes the first text where the file is empty or has a part of that text.
-    pub fn begin(&self, text: &str) -> io::Result<()> {
+    pub(crate) fn begin(&self, text: &str) -> io::Result<()> {
         self.file.write_whole(text.as_bytes())?;
         sync_folder(self.rt, &self.path)
     }
 
     /// Puts this text in the place of the one that is there, once it is on its disk. That its name is stored is `store_name`'s.
-    pub fn replace(&mut self, text: &str) -> io::Result<()> {
+    pub(crate) fn replace(&mut self, text: &str) -> io::Result<()> {
         let (name, file) = new_beside(self.rt, &self.path)?;
         if let Err(error) = self.put_in_place(text, &name, &file) {
             file.take_away(self.rt, &name);
@@ -36,7 +36,7 @@ impl<'a> KeptMap<'a> {
     }
 
     /// Has it stored that the text which was put there last has the name.
-    pub fn store_name(&self) -> io::Result<()> {
+    pub(crate) fn store_name(&self) -> io::Result<()> {
         sync_folder(self.rt, &self.path)
     }
 
@@ -51,14 +51,17 @@ impl<'a> KeptMap<'a> {
     }
 
     /// Takes it away.
-    pub fn take_away(self) {
+    pub(crate) fn take_away(self) {
         let KeptMap { rt, path, file } = self;
         file.take_away(rt, &path);
     }
 }
 
 // A new file beside this one, and its name: the first that nothing has.
-fn new_beside(rt: &HostRuntime, path: &str) -> io::Result<(String, MadeFile)> {
+fn new_beside<R: Files<File = File> + AllocGlobal>(
+    rt: &R,
+    path: &str,
+) -> io::Result<(String, MadeFile)> {
     for number in 1..u64::MAX {
         let name = format!(in rt.alloc(); "{path}.{number}.new")?;
         match MadeFile::make(rt, &name) {
@@ -70,7 +73,7 @@ fn new_beside(rt: &HostRuntime, path: &str) -> io::Result<(String, MadeFile)> {
 }
 
 /// Stores on its disk which files the folder of this one has. Not every file system can do that.
-pub fn sync_folder(rt: &HostRuntime, path: &str) -> io::Result<()> {
+pub(crate) fn sync_folder<R: Files<File = File>>(rt: &R, path: &str) -> io::Result<()> {
     let folder = match path.rsplit_once('/') {
         Some(("", _)) => "/",
         Some((folder, _)) => folder,

@@ -11,6 +11,7 @@ pub struct WholePuts<S> {
 }
 
 impl<S: Sink> WholePuts<S> {
+    /// A sink over this one.
     pub fn new(sink: S) -> WholePuts<S>
         ensures { result.sink ≡ sink }
     {

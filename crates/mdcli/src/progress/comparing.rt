@@ -1,5 +1,5 @@
 // How far a check is.
-use crate::pace::Pace;
+use crate::progress::pace::Pace;
 use std::alloc::{AllocError, Global};
 use std::string::String;
 use std::sync::atomic::{AtomicU64, Ordering};

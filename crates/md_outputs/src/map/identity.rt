@@ -8,7 +8,7 @@ use md_members::{MemberFault, MemberInfo, read_member};
 use md_words::{Command, Request};
 use sha2::{Digest, Sha256};
 use std::alloc::AllocError;
-use std::fs;
+use std::fs::{self, File, Files};
 use std::io::ErrorKind;
 use std::os::unix::fs::MetadataExt;
 
@@ -19,7 +19,7 @@ const SUPER_BYTES: usize = 4096;
 
 /// Why it is not known from what is read.
 #[derive(Drop)]
-pub enum IdentityFault {
+pub(crate) enum IdentityFault {
     /// The image with this index can't be looked at.
     Image(usize, ImageFault),
     NoMemory,
@@ -31,13 +31,14 @@ pub enum IdentityFault {
 #[derive(Drop)]
 pub struct Identity {
     _held: Vec<FileDevice>,
-    pub options: String,
-    pub images: Vec<String>,
+    pub(crate) options: String,
+    pub(crate) images: Vec<String>,
 }
 
 impl Identity {
-    pub fn of(
-        rt: &HostRuntime,
+    /// That of the images that the words name; these are the maps.
+    pub(crate) fn of<R: Files<File = File> + AllocGlobal>(
+        rt: &R,
         request: &Request<'_>,
         maps: &[MapText],
     ) -> Result<Identity, IdentityFault> {
@@ -62,7 +63,7 @@ impl Identity {
     }
 }
 
-// The system's own want of memory is told as ours.
+// Where the system has no memory to open an image, that is `NoMemory` too.
 fn opening_fault(place: usize, fault: ImageFault) -> IdentityFault {
     match fault {
         ImageFault::Io(error) if error.kind() == ErrorKind::OutOfMemory => IdentityFault::NoMemory,
@@ -71,7 +72,7 @@ fn opening_fault(place: usize, fault: ImageFault) -> IdentityFault {
 }
 
 // What is asked for.
-fn options_line(rt: &HostRuntime, request: &Request<'_>) -> Result<String, AllocError> {
+fn options_line<R: AllocGlobal>(rt: &R, request: &Request<'_>) -> Result<String, AllocError> {
     let Command::Read {
         sector,
         count,
@@ -93,8 +94,8 @@ fn options_line(rt: &HostRuntime, request: &Request<'_>) -> Result<String, Alloc
 }
 
 // Which member an image shows, and sums over what decides from where its sectors are read.
-fn image_line(
-    rt: &HostRuntime,
+fn image_line<R: Files<File = File> + AllocGlobal>(
+    rt: &R,
     name: &str,
     place: usize,
     device: &mut FileDevice,
@@ -135,7 +136,7 @@ fn image_line(
 }
 
 // When its file was last written, whatever changed there. A disk does not tell.
-fn push_written(rt: &HostRuntime, name: &str, line: &mut String) -> Result<(), AllocError> {
+fn push_written<R: Files>(rt: &R, name: &str, line: &mut String) -> Result<(), AllocError> {
     match fs::metadata(rt, name) {
         Ok(metadata) if metadata.is_file() => write!(
             line,
@@ -195,7 +196,7 @@ fn add_runs(sum: &mut Sha256, bad: &BadSet) {
 }
 
 /// Puts a sum at the end of a line.
-pub fn push_sum(line: &mut String, sum: Sha256) -> Result<(), AllocError> {
+pub(crate) fn push_sum(line: &mut String, sum: Sha256) -> Result<(), AllocError> {
     for byte in &sum.finalize() {
         write!(line, "{byte:02x}")?;
     }

@@ -1,8 +1,8 @@
 // The file that a read makes of what it puts out.
-use crate::new_file::NewFile;
 use md_examine::{Sink, put_name};
 use md_files::{Destination, OutputFileFault, Sparse, output_file_advice};
 use md_messages::Messages;
+use md_outputs::NewFile;
 use md_words::Request;
 use std::io::Write;
 
@@ -22,7 +22,7 @@ pub fn destination_of<'a, S: Sink + Drop, E: Write + Sink>(
     standard: S,
     messages: Messages,
     err: &mut E,
-) -> Option<Destination<S, Sparse<NewFile<'a>>>> {
+) -> Option<Destination<S, Sparse<NewFile<'a, HostRuntime>>>> {
     let Some(path) = path else {
         return Some(Destination::Standard(standard));
     };
@@ -37,7 +37,7 @@ pub fn destination_of<'a, S: Sink + Drop, E: Write + Sink>(
 
 /// Ends the file that was asked for, if one was. Says on `err` why it can't, or why it was not written any more.
 pub fn end_file<'a, S: Drop, E: Write + Sink>(
-    destination: Destination<S, Sparse<NewFile<'a>>>,
+    destination: Destination<S, Sparse<NewFile<'a, HostRuntime>>>,
     path: Option<&str>,
     messages: Messages,
     err: &mut E,
